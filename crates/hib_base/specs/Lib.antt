@@ -1,0 +1,4 @@
+pub mod Types
+pub mod Keys
+pub mod Tables
+pub mod Fits

@@ -1,0 +1,32 @@
+//! The plain data of the product: keys, rows, changes, scripts and the entries of a journal, and what tables are.
+#![tactic(auto)]
+
+mod entries;
+mod instances;
+mod numbers;
+mod refusals;
+mod replies;
+mod rows;
+mod scripts;
+mod seq;
+
+pub use entries::{Act, Entry, Part};
+pub use instances::{Held, State};
+pub use numbers::{EntityNo, Key, QueryNo, SessionNo, Tick};
+pub use refusals::{Kind, Refused};
+pub use replies::{
+    Checked, Commit, Evicted, Inserted, Locked, Miss, Outcome, Put, Reply, Unlocked, Updated,
+};
+pub use rows::{
+    Bytes, Cell, Cells, Change, Changes, Listing, Names, Row, Rows, Sets, Text, copy_cells,
+    copy_names, copy_sets,
+};
+pub use scripts::{
+    ColumnDef, ColumnType, Columns, Cond, EntityDef, Mapping, Mode, Op, Order, Orders, Path,
+    Queries, Query, Script, Select, SessionDef, Sessions, Sort, Sorts, Statement, Statements,
+    Strategy, Target,
+};
+pub use seq::Seq;
+
+/// Acts that are due one after another.
+pub type Acts = Seq<Act>;

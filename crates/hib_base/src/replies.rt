@@ -1,0 +1,251 @@
+// What the parts answer.
+ghost use Rattle.std.specs.Prelude.{◌≡◌, IfOk};
+
+use crate::numbers::{EntityNo, Key, QueryNo, Tick};
+use crate::rows::{Listing, Row, copy_cells};
+use std::alloc::{AllocError, Global};
+
+/// How a transaction ended.
+#[derive(Clone, Copy, Debug, PartialEq, Eq)]
+pub enum Outcome {
+    /// Its changes are committed.
+    Committed,
+    /// It was rolled back by its own statement.
+    RolledBack,
+    /// A change met another version than it expected, or no row.
+    Stale,
+    /// An insert met a row.
+    Duplicate,
+    /// The keeper failed.
+    Fault,
+}
+
+/// The store's answer to a commit.
+#[derive(Clone, Copy, Debug, PartialEq, Eq)]
+pub enum Commit {
+    /// All changes were applied.
+    Committed,
+    /// The row of this key has another version than expected, or there is none; nothing was applied.
+    Stale {
+        /// The key of the first change that failed.
+        key: Key,
+        /// The version of the row that was found, or none.
+        found: Option<u32>,
+    },
+    /// A row of this key is there already; nothing was applied.
+    Duplicate {
+        /// The key of the first change that failed.
+        key: Key,
+    },
+    /// The keeper failed; nothing was applied.
+    Fault,
+}
+
+/// Whether a kept result may be used.
+#[derive(Clone, Copy, Debug, PartialEq, Eq)]
+pub enum Checked {
+    /// No table was updated since.
+    Fresh,
+    /// This table's stamp isn't before the result's time.
+    Stale {
+        /// The first such table in the mapping's order.
+        table: EntityNo,
+        /// Its stamp.
+        stamp: Tick,
+    },
+}
+
+/// Why a region answers no row.
+#[derive(Clone, Copy, Debug, PartialEq, Eq)]
+pub enum Miss {
+    /// The key has no entry.
+    Absent,
+    /// The key is locked.
+    Locked {
+        /// How many hold the lock.
+        holders: u64,
+    },
+    /// The key has a lock that nobody holds.
+    Released {
+        /// When the last holder let go.
+        unlock: Tick,
+    },
+    /// The item is younger than the reader.
+    Young {
+        /// When it was stored.
+        stamp: Tick,
+    },
+}
+
+/// A region's answer to a row that was loaded.
+#[derive(Clone, Copy, Debug, PartialEq, Eq)]
+pub enum Put {
+    /// The row is the key's item now.
+    Stored {
+        /// The identifier that had to leave, if one had to.
+        evicted: Option<u64>,
+        /// Whether it was stored over a lock whose time was over.
+        late: bool,
+    },
+    /// An item is there that isn't older.
+    Present {
+        /// Its version.
+        version: Option<u32>,
+    },
+    /// The key is locked.
+    Held {
+        /// How many hold the lock.
+        holders: u64,
+    },
+    /// The lock was let go after the reader began.
+    Early {
+        /// When that was.
+        unlock: Tick,
+    },
+    /// The lock stands for a row that isn't older.
+    Old {
+        /// The version of that row.
+        version: u32,
+    },
+    /// The region is full, and nothing in it may leave.
+    Crowded,
+}
+
+/// A soft lock that was taken.
+#[derive(Clone, Copy, Debug, PartialEq, Eq)]
+pub struct Locked {
+    /// The lock's number.
+    pub id: Tick,
+    /// When its time is over.
+    pub until: Tick,
+    /// The identifier that had to leave, if one had to.
+    pub evicted: Option<u64>,
+}
+
+/// A region's answer to a holder that gives its lock back.
+#[derive(Clone, Copy, Debug, PartialEq, Eq)]
+pub enum Unlocked {
+    /// It holds the lock no more.
+    Released {
+        /// How many hold it still.
+        holders: u64,
+    },
+    /// The lock wasn't there any more.
+    Expired,
+}
+
+/// A region's answer to a row whose insert was committed.
+#[derive(Clone, Copy, Debug, PartialEq, Eq)]
+pub enum Inserted {
+    /// The row is the key's item now.
+    Stored {
+        /// The identifier that had to leave, if one had to.
+        evicted: Option<u64>,
+    },
+    /// The key has an entry.
+    Present,
+    /// The region is full, and nothing in it may leave.
+    Crowded,
+}
+
+/// A region's answer to a row whose update was committed.
+#[derive(Clone, Copy, Debug, PartialEq, Eq)]
+pub enum Updated {
+    /// The row is the key's item now.
+    Stored,
+    /// Others have locked the key too: the lock was given back alone.
+    Shared {
+        /// How many hold it still.
+        holders: u64,
+    },
+    /// The lock wasn't there any more.
+    Expired,
+}
+
+/// A region's answer to an eviction from outside.
+#[derive(Clone, Copy, Debug, PartialEq, Eq)]
+pub enum Evicted {
+    /// The item is gone.
+    Gone,
+    /// The key is locked; the lock stays.
+    Held,
+    /// The key has no entry.
+    Absent,
+}
+
+/// What was answered to an act.
+#[derive(Drop)]
+pub enum Reply {
+    Began { floor: Tick },
+    Ended { outcome: Outcome },
+    Done,
+    Row(Option<Row>),
+    New,
+    Known,
+    Set,
+    Unknown,
+    ReadOnly,
+    Removed,
+    Cleared,
+    Listed(Listing),
+    Fault,
+    Written,
+    Commit(Commit),
+    Stamped { value: Tick },
+    Check(Checked),
+    Found { time: Tick, list: Listing },
+    Absent,
+    Kept { dropped: Option<QueryNo> },
+    Hit(Row),
+    Miss(Miss),
+    Put(Put),
+    Locked(Locked),
+    Unlocked(Unlocked),
+    Inserted(Inserted),
+    Updated(Updated),
+    Dropped,
+    Evicted(Evicted),
+}
+
+impl Reply {
+    /// An equal reply.
+    pub fn copy(&self, alloc: Global) -> Result<Reply, AllocError>
+        ensures { IfOk result (λ r. r ≡ self.now) }
+    {
+        match self {
+            Reply::Began { floor } => Ok(Reply::Began { floor: *floor }),
+            Reply::Ended { outcome } => Ok(Reply::Ended { outcome: *outcome }),
+            Reply::Done => Ok(Reply::Done),
+            Reply::Row(None) => Ok(Reply::Row(None)),
+            Reply::Row(Some(row)) => Ok(Reply::Row(Some(row.copy(alloc)?))),
+            Reply::New => Ok(Reply::New),
+            Reply::Known => Ok(Reply::Known),
+            Reply::Set => Ok(Reply::Set),
+            Reply::Unknown => Ok(Reply::Unknown),
+            Reply::ReadOnly => Ok(Reply::ReadOnly),
+            Reply::Removed => Ok(Reply::Removed),
+            Reply::Cleared => Ok(Reply::Cleared),
+            Reply::Listed(list) => Ok(Reply::Listed(copy_cells(alloc, list)?)),
+            Reply::Fault => Ok(Reply::Fault),
+            Reply::Written => Ok(Reply::Written),
+            Reply::Commit(commit) => Ok(Reply::Commit(*commit)),
+            Reply::Stamped { value } => Ok(Reply::Stamped { value: *value }),
+            Reply::Check(checked) => Ok(Reply::Check(*checked)),
+            Reply::Found { time, list } => Ok(Reply::Found {
+                time: *time,
+                list: copy_cells(alloc, list)?,
+            }),
+            Reply::Absent => Ok(Reply::Absent),
+            Reply::Kept { dropped } => Ok(Reply::Kept { dropped: *dropped }),
+            Reply::Hit(row) => Ok(Reply::Hit(row.copy(alloc)?)),
+            Reply::Miss(miss) => Ok(Reply::Miss(*miss)),
+            Reply::Put(put) => Ok(Reply::Put(*put)),
+            Reply::Locked(locked) => Ok(Reply::Locked(*locked)),
+            Reply::Unlocked(unlocked) => Ok(Reply::Unlocked(*unlocked)),
+            Reply::Inserted(inserted) => Ok(Reply::Inserted(*inserted)),
+            Reply::Updated(updated) => Ok(Reply::Updated(*updated)),
+            Reply::Dropped => Ok(Reply::Dropped),
+            Reply::Evicted(evicted) => Ok(Reply::Evicted(*evicted)),
+        }
+    }
+}

@@ -1,0 +1,166 @@
+// Cells, rows and changes.
+ghost use Rattle.std.specs.Prelude.{◌≡◌, IfOk};
+ghost use Rattle.hib_base.specs.Tables.{key_of};
+
+use crate::numbers::{EntityNo, Key};
+use crate::seq::Seq;
+use std::alloc::{AllocError, Global};
+
+/// Bytes, as they are read or written.
+pub type Bytes = Seq<u8>;
+
+/// A text or a name, as its bytes.
+pub type Text = Seq<u8>;
+
+/// A value in a column of a row.
+#[derive(Drop)]
+pub enum Cell {
+    /// A number, or the identifier of a row that is referred to.
+    Int(i64),
+    /// A text of at most 200 printable bytes.
+    Text(Text),
+    /// True or false.
+    Bool(bool),
+}
+
+/// The cells of a row, one for each column.
+pub type Cells = Seq<Cell>;
+
+/// What a query answers.
+pub type Listing = Seq<Cell>;
+
+/// A row of an entity.
+#[derive(Drop)]
+pub struct Row {
+    /// Its version, where its entity is versioned.
+    pub version: Option<u32>,
+    /// Its cells, one for each column.
+    pub cells: Cells,
+}
+
+/// Rows with their keys.
+pub type Rows = Seq<(Key, Row)>;
+
+/// What a transaction does to one row.
+#[derive(Drop)]
+pub enum Change {
+    /// A new row, where there is none.
+    Insert {
+        /// The row's key.
+        key: Key,
+        /// The new row.
+        row: Row,
+    },
+    /// Another row in the place of one.
+    Update {
+        /// The row's key.
+        key: Key,
+        /// The version that the row is expected to have.
+        expected: Option<u32>,
+        /// The new row.
+        row: Row,
+    },
+    /// No row in the place of one.
+    Delete {
+        /// The row's key.
+        key: Key,
+        /// The version that the row is expected to have.
+        expected: Option<u32>,
+    },
+}
+
+/// Changes in the order in which they were written.
+pub type Changes = Seq<Change>;
+
+/// The cells that a statement sets, by the places of their columns.
+pub type Sets = Seq<(u16, Cell)>;
+
+/// Entities, by number.
+pub type Names = Seq<EntityNo>;
+
+/// An equal list of cells.
+pub fn copy_cells(alloc: Global, cells: &Cells) -> Result<Cells, AllocError>
+    ensures { IfOk result (λ c. c ≡ cells.now) }
+{
+    let mut copy = Vec::with_capacity(alloc, cells.len())?;
+    for cell in cells.as_slice() {
+        copy.push(cell.copy(alloc)?)?;
+    }
+    Ok(Seq::from_vec(copy))
+}
+
+/// An equal list of sets.
+pub fn copy_sets(alloc: Global, sets: &Sets) -> Result<Sets, AllocError>
+    ensures { IfOk result (λ c. c ≡ sets.now) }
+{
+    let mut copy = Vec::with_capacity(alloc, sets.len())?;
+    for set in sets.as_slice() {
+        copy.push((set.0, set.1.copy(alloc)?))?;
+    }
+    Ok(Seq::from_vec(copy))
+}
+
+/// An equal list of names.
+pub fn copy_names(alloc: Global, names: &Names) -> Result<Names, AllocError>
+    ensures { IfOk result (λ n. n ≡ names.now) }
+{
+    Ok(Seq::from_vec(names.as_slice().to_vec(alloc)?))
+}
+
+impl Cell {
+    /// An equal cell.
+    pub fn copy(&self, alloc: Global) -> Result<Cell, AllocError>
+        ensures { IfOk result (λ c. c ≡ self.now) }
+    {
+        match self {
+            Cell::Int(n) => Ok(Cell::Int(*n)),
+            Cell::Text(t) => Ok(Cell::Text(Seq::from_vec(t.as_slice().to_vec(alloc)?))),
+            Cell::Bool(b) => Ok(Cell::Bool(*b)),
+        }
+    }
+}
+
+impl Row {
+    /// An equal row.
+    pub fn copy(&self, alloc: Global) -> Result<Row, AllocError>
+        ensures { IfOk result (λ r. r ≡ self.now) }
+    {
+        Ok(Row {
+            version: self.version,
+            cells: copy_cells(alloc, &self.cells)?,
+        })
+    }
+}
+
+impl Change {
+    /// The key of the row that it changes.
+    pub fn key(&self) -> Key
+        ensures { result ≡ key_of self.now }
+    {
+        match self {
+            Change::Insert { key, .. } | Change::Update { key, .. } | Change::Delete { key, .. } =>
+                *key,
+        }
+    }
+
+    /// An equal change.
+    pub fn copy(&self, alloc: Global) -> Result<Change, AllocError>
+        ensures { IfOk result (λ c. c ≡ self.now) }
+    {
+        match self {
+            Change::Insert { key, row } => Ok(Change::Insert {
+                key: *key,
+                row: row.copy(alloc)?,
+            }),
+            Change::Update { key, expected, row } => Ok(Change::Update {
+                key: *key,
+                expected: *expected,
+                row: row.copy(alloc)?,
+            }),
+            Change::Delete { key, expected } => Ok(Change::Delete {
+                key: *key,
+                expected: *expected,
+            }),
+        }
+    }
+}

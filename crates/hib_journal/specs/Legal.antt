@@ -1,0 +1,224 @@
+-- Legal journals: each entry is the next act of its session, in its part, with the reply that the parts give.
+use Rattle.std.specs.Prelude.{◌≡◌, ℕ, ◌+◌, ◌⊎◌, Bool, true, false, cond, not, ◌||◌, List, [], ◌∷◌, length, slice_get, IsSome, Some, None, Option}
+use Rattle.hib_base.specs.Types.{Key, Row, Change, Commit, Outcome, Strategy, Query, Script, Part, Act, Reply, Entry}
+use Rattle.hib_base.specs.Tables.{Tables, commit_answer}
+use Rattle.hib_journal.specs.Sessions.{Journal, own, floor, changes, is_open, was_killed, committed, views, view, IsTimely}
+use Rattle.hib_journal.specs.Slot.{slot, history}
+use Rattle.hib_journal.specs.Room.{room, item, oldest}
+use Rattle.hib_journal.specs.Regions
+use Rattle.hib_journal.specs.Stamps.{check}
+use Rattle.hib_journal.specs.Results.{result, found, dropped}
+use Rattle.hib_journal.specs.Query.{gives}
+use Rattle.hib_journal.specs.Held.{Instance, State, held}
+use Rattle.hib_journal.specs.Next.{next, strategy, is_cached, capacity, is_in, is_held, tables_of}
+
+-- own acts
+
+abbrev pub unless_removed : State → Row → Option Row
+unless_removed State.Removed r = None
+unless_removed _ r = Some r
+
+abbrev pub row_of : Option Instance → Option Row
+row_of None = None
+row_of (Some i) = unless_removed i.state i.row
+
+abbrev pub is_there : Option Row → Bool
+is_there None = false
+is_there (Some r) = true
+
+abbrev pub persisted : Bool → Reply
+persisted true = Reply.Known
+persisted false = Reply.New
+
+abbrev pub set_unless : Strategy → Reply
+set_unless Strategy.ReadOnly = Reply.ReadOnly
+set_unless _ = Reply.Set
+
+abbrev pub outcome_after : Act → Reply → Outcome → Outcome
+outcome_after Act.Rollback r o = Outcome.RolledBack
+outcome_after Act.Commit (Reply.Commit Commit.Committed) o = Outcome.Committed
+outcome_after Act.Commit (Reply.Commit (Commit.Stale k v)) o = Outcome.Stale
+outcome_after Act.Commit (Reply.Commit (Commit.Duplicate k)) o = Outcome.Duplicate
+outcome_after Act.Commit (Reply.Commit Commit.Fault) o = Outcome.Fault
+outcome_after _ r o = o
+
+-- the outcome of the last Commit or Rollback
+abbrev pub outcome : Journal → Outcome
+outcome [] = Outcome.RolledBack
+outcome (e ∷ m) = outcome_after e.act e.reply (outcome m)
+
+-- regions, by strategy
+
+abbrev pub get_reply : Strategy → Script → Journal → Key → ℕ → Reply
+get_reply Strategy.ReadWrite script h k t = Regions.got (slot script.timeout k h) t
+get_reply Strategy.ReadOnly script h k t = Regions.got_item true t (item (history k h))
+get_reply _ script h k t = Regions.got_item false t (item (history k h))
+
+abbrev pub room_for : Script → Journal → Key → ℕ → Option (Option ℕ)
+room_for script h k f = room script.timeout (capacity script k.entity) k.entity f h
+
+abbrev pub put_reply : Strategy → Script → Journal → Key → Row → ℕ → ℕ → Reply
+put_reply Strategy.ReadWrite script h k r t f =
+    Reply.Put (Regions.put (slot script.timeout k h) (room_for script h k f) t r.version)
+put_reply _ script h k r t f = Reply.Put (Regions.put_item (oldest (capacity script k.entity) k.entity h) (item (history k h)))
+
+abbrev pub insert_reply : Strategy → Script → Journal → Key → ℕ → Reply
+insert_reply Strategy.ReadWrite script h k f =
+    Reply.Inserted (Regions.after_insert (slot script.timeout k h) (room_for script h k f))
+insert_reply _ script h k f = Reply.Inserted (Regions.insert_item (oldest (capacity script k.entity) k.entity h) (item (history k h)))
+
+abbrev pub evict_reply : Strategy → Script → Journal → Key → Reply
+evict_reply Strategy.ReadWrite script h k = Reply.Evicted (Regions.evict (slot script.timeout k h))
+evict_reply _ script h k = Reply.Evicted (Regions.evict_item (item (history k h)))
+
+abbrev pub list_reply : Option Query → Tables → Reply
+list_reply None t = Reply.Fault
+list_reply (Some q) t = Reply.Listed (gives q t)
+
+-- the reply to an act of session s at a tick, over the journal before it
+abbrev pub reply_of : Script → Tables → Journal → ℕ → ℕ → Act → Reply
+reply_of script start h s now Act.Begin = Reply.Began (floor h now)
+reply_of script start h s now Act.End = Reply.Ended (outcome (own s h))
+reply_of script start h s now (Act.Kill n) = Reply.Done
+reply_of script start h s now Act.Restart = Reply.Done
+reply_of script start h s now (Act.Find k) = Reply.Row (row_of (held (own s h) k))
+reply_of script start h s now (Act.Persist k r) = persisted (is_held (held (own s h) k) || is_in k (changes s h))
+reply_of script start h s now (Act.Set k cells) =
+    cond (is_there (row_of (held (own s h) k))) (set_unless (strategy script k.entity)) Reply.Unknown
+reply_of script start h s now (Act.Remove k) = cond (is_there (row_of (held (own s h) k))) Reply.Removed Reply.Unknown
+reply_of script start h s now Act.Clear = Reply.Cleared
+reply_of script start h s now (Act.Load k) = Reply.Row (view start h s k)
+reply_of script start h s now (Act.List q) = list_reply (slice_get script.queries q) (views start h s)
+reply_of script start h s now (Act.Write c) = Reply.Written
+reply_of script start h s now Act.Commit = Reply.Commit (commit_answer (changes s h) (committed start h))
+reply_of script start h s now Act.Rollback = Reply.Done
+reply_of script start h s now (Act.Pre ts) = Reply.Stamped (now + script.timeout)
+reply_of script start h s now (Act.Stamp ts) = Reply.Stamped now
+reply_of script start h s now (Act.Check q t) = Reply.Check (check script.timeout t (tables_of script q) h)
+reply_of script start h s now (Act.Look q) = found (result script.results q h)
+reply_of script start h s now (Act.Keep q t l) = Reply.Kept (dropped script.results (length script.queries) q h)
+reply_of script start h s now (Act.Get k t) = get_reply (strategy script k.entity) script h k t
+reply_of script start h s now (Act.Put k r t f) = put_reply (strategy script k.entity) script h k r t f
+reply_of script start h s now (Act.Lock k v f) = Reply.Locked (Regions.lock script.timeout (slot script.timeout k h) (room_for script h k f) now)
+reply_of script start h s now (Act.Unlock k i) = Reply.Unlocked (Regions.unlock (slot script.timeout k h) i)
+reply_of script start h s now (Act.AfterInsert k r f) = insert_reply (strategy script k.entity) script h k f
+reply_of script start h s now (Act.AfterUpdate k i r) = Reply.Updated (Regions.after_update (slot script.timeout k h) i)
+reply_of script start h s now (Act.RegionRemove k) = Regions.remove_item (item (history k h))
+reply_of script start h s now (Act.Evict k) = evict_reply (strategy script k.entity) script h k
+
+abbrev pub fault_unless : Bool → Reply → Option Reply
+fault_unless true r = None
+fault_unless false r = Some r
+
+abbrev pub is_empty : List Change → Bool
+is_empty [] = true
+is_empty _ = false
+
+-- the fault that may be answered: to a Load of a key that the session has not changed, a List, a Commit of some changes
+abbrev pub fault_of : List Change → Act → Option Reply
+fault_of cs (Act.Load k) = fault_unless (is_in k cs) Reply.Fault
+fault_of cs (Act.List q) = Some Reply.Fault
+fault_of cs Act.Commit = fault_unless (is_empty cs) (Reply.Commit Commit.Fault)
+fault_of cs _ = None
+
+abbrev pub number : Option ℕ → ℕ
+number None = 0
+number (Some s) = s
+
+-- the replies that hang on the committed rows, by the session's changes
+abbrev pub is_told : List Change → Act → Bool
+is_told cs (Act.Load k) = not (is_in k cs)
+is_told cs (Act.List q) = true
+is_told cs Act.Commit = not (is_empty cs)
+is_told cs _ = false
+
+-- a reply of the kind that the store gives
+abbrev pub is_of_store : Act → Reply → Bool
+is_of_store (Act.Load k) (Reply.Row r) = true
+is_of_store (Act.Load k) Reply.Fault = true
+is_of_store (Act.Load k) _ = false
+is_of_store (Act.List q) (Reply.Listed l) = true
+is_of_store (Act.List q) Reply.Fault = true
+is_of_store (Act.List q) _ = false
+is_of_store Act.Commit (Reply.Commit c) = true
+is_of_store Act.Commit _ = false
+is_of_store _ r = true
+
+abbrev pub IsAnswer : Script → Tables → Journal → Entry → Type 0
+IsAnswer script start h e =
+    (e.reply ≡ reply_of script start h (number e.session) e.tick e.act)
+    ⊎ (fault_of (changes (number e.session) h) e.act ≡ Some e.reply)
+
+-- the reply that is due. Where the rows at the start are not told, the replies that hang on rows have their kind alone
+abbrev pub IsReply : Script → Option Tables → Journal → Entry → Type 0
+IsReply script (Some start) h e = IsAnswer script start h e
+IsReply script None h e =
+    (is_of_store e.act e.reply ≡ true) × (is_told (changes (number e.session) h) e.act ≡ false → IsAnswer script [] h e)
+
+-- the part of an act
+abbrev pub part_of : Act → ℕ → Part
+part_of Act.Begin s = Part.Registry
+part_of Act.End s = Part.Registry
+part_of (Act.Kill n) s = Part.Registry
+part_of Act.Restart s = Part.Registry
+part_of (Act.Find k) s = Part.Own s
+part_of (Act.Persist k r) s = Part.Own s
+part_of (Act.Set k cells) s = Part.Own s
+part_of (Act.Remove k) s = Part.Own s
+part_of Act.Clear s = Part.Own s
+part_of (Act.Load k) s = Part.Store
+part_of (Act.List q) s = Part.Store
+part_of (Act.Write c) s = Part.Store
+part_of Act.Commit s = Part.Store
+part_of Act.Rollback s = Part.Store
+part_of (Act.Pre ts) s = Part.Stamps
+part_of (Act.Stamp ts) s = Part.Stamps
+part_of (Act.Check q t) s = Part.Stamps
+part_of (Act.Look q) s = Part.Results
+part_of (Act.Keep q t l) s = Part.Results
+part_of (Act.Get k t) s = Part.Region k.entity
+part_of (Act.Put k r t f) s = Part.Region k.entity
+part_of (Act.Lock k v f) s = Part.Region k.entity
+part_of (Act.Unlock k i) s = Part.Region k.entity
+part_of (Act.AfterInsert k r f) s = Part.Region k.entity
+part_of (Act.AfterUpdate k i r) s = Part.Region k.entity
+part_of (Act.RegionRemove k) s = Part.Region k.entity
+part_of (Act.Evict k) s = Part.Region k.entity
+
+-- the acts that no session does
+abbrev pub is_outside : Act → Bool
+is_outside (Act.Kill n) = true
+is_outside Act.Restart = true
+is_outside (Act.Evict k) = true
+is_outside _ = false
+
+-- the act that is due: of a session its next one, unless it was killed; without a session any outside act
+abbrev pub due_by : Script → Journal → Option ℕ → Act → Option Act
+due_by script h (Some s) a = cond (was_killed s h) None (next script s (own s h))
+due_by script h None a = cond (is_outside a) (Some a) None
+
+abbrev pub due : Script → Journal → Entry → Option Act
+due script h e = due_by script h e.session e.act
+
+abbrev pub part_due : Option Act → ℕ → Option Part
+part_due None s = None
+part_due (Some a) s = Some (part_of a s)
+
+-- a kill names an open session, an evict a cached entity
+abbrev pub may_come : Script → Journal → Option Act → Option Act
+may_come script h (Some (Act.Kill n)) = cond (is_open n h) (Some (Act.Kill n)) None
+may_come script h (Some (Act.Evict k)) = cond (is_cached script k.entity) (Some (Act.Evict k)) None
+may_come script h a = a
+
+-- the five points of an entry, as the audit names them
+pub record IsStep (script : Script) (told : Option Tables) (h : Journal) (e : Entry) : Type 0 where
+  pub tick : IsTimely e h
+  pub session : IsSome (due script h e)
+  pub part : part_due (due script h e) (number e.session) ≡ Some e.part
+  pub act : may_come script h (due script h e) ≡ Some e.act
+  pub reply : IsReply script told h e
+
+-- the rows at the start are told, or they are not
+abbrev pub IsLegal : Script → Option Tables → Journal → Type 0
+IsLegal script told [] = Unit {0}
+IsLegal script told (e ∷ h) = IsLegal script told h × IsStep script told h e

@@ -1,0 +1,15 @@
+pub mod Sessions
+pub mod Slot
+pub mod Room
+pub mod Regions
+pub mod Stamps
+pub mod Results
+pub mod Query
+pub mod Held
+pub mod Plan
+pub mod Next
+pub mod Legal
+pub mod Sound
+pub mod Played
+pub mod Coherence
+pub mod Kept

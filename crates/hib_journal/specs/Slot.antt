@@ -1,0 +1,203 @@
+-- A key of a read-write region, by counting entries.
+use Rattle.std.specs.Prelude.{ℕ, zero, suc, ◌+◌, ◌-◌, Bool, true, false, cond, ◌&&◌, ◌==◌, List, [], ◌∷◌, Some, None, Option}
+use Rattle.hib_base.specs.Types.{Key, Row, Act, Reply, Entry, Put, Unlocked, Inserted, Updated, Evicted}
+use Rattle.hib_base.specs.Keys.{same_key}
+use Rattle.hib_journal.specs.Sessions.{Journal, is_restart}
+
+-- what an entry does to one key of a read-write region
+pub data Touch : Type 0 where
+  -- a row is stored in it; whether over a lock that was late
+  Stores : Row → Bool → Touch
+  -- a lock is taken, by a session that names the version of its base
+  Locks : Option ℕ → Touch
+  -- a lock is given back, and so many holders are left
+  Releases : ℕ → Touch
+  -- it is evicted
+  Evicts : Touch
+  -- a lock was to be given back that had expired
+  Expires : Touch
+  -- it leaves the region: another key takes its place, or it is removed
+  Leaves : Touch
+
+-- what an answer does to the key that its act names
+abbrev pub touch_here : Act → Reply → Option Touch
+touch_here (Act.Put k r t f) (Reply.Put (Put.Stored v late)) = Some (Stores r late)
+touch_here (Act.AfterInsert k r f) (Reply.Inserted (Inserted.Stored v)) = Some (Stores r false)
+touch_here (Act.AfterUpdate k i r) (Reply.Updated Updated.Stored) = Some (Stores r false)
+touch_here (Act.AfterUpdate k i r) (Reply.Updated (Updated.Shared n)) = Some (Releases n)
+touch_here (Act.AfterUpdate k i r) (Reply.Updated Updated.Expired) = Some Expires
+touch_here (Act.Lock k v f) (Reply.Locked l) = Some (Locks v)
+touch_here (Act.Unlock k i) (Reply.Unlocked (Unlocked.Released n)) = Some (Releases n)
+touch_here (Act.Unlock k i) (Reply.Unlocked Unlocked.Expired) = Some Expires
+touch_here (Act.Evict k) (Reply.Evicted Evicted.Gone) = Some Evicts
+touch_here (Act.RegionRemove k) Reply.Dropped = Some Leaves
+touch_here _ _ = None
+
+-- the key that an act of a region names
+abbrev pub key_in : Act → Option Key
+key_in (Act.Get k t) = Some k
+key_in (Act.Put k r t f) = Some k
+key_in (Act.AfterInsert k r f) = Some k
+key_in (Act.AfterUpdate k i r) = Some k
+key_in (Act.Lock k v f) = Some k
+key_in (Act.Unlock k i) = Some k
+key_in (Act.RegionRemove k) = Some k
+key_in (Act.Evict k) = Some k
+key_in _ = None
+
+-- the identifier that an answer names as evicted
+abbrev pub evicted_in : Reply → Option ℕ
+evicted_in (Reply.Put (Put.Stored v l)) = v
+evicted_in (Reply.Inserted (Inserted.Stored v)) = v
+evicted_in (Reply.Locked l) = l.evicted
+evicted_in _ = None
+
+abbrev pub is_victim : ℕ → Option ℕ → Bool
+is_victim i None = false
+is_victim i (Some v) = v == i
+
+abbrev pub touch_at : Key → Key → Act → Reply → Option Touch
+touch_at k here a r =
+    cond (same_key here k) (touch_here a r)
+    (cond ((here.entity == k.entity) && is_victim k.id (evicted_in r)) (Some Leaves) None)
+
+abbrev pub touch_of : Key → Option Key → Act → Reply → Option Touch
+touch_of k (Some here) a r = touch_at k here a r
+touch_of k None a r = None
+
+-- what an entry does to k, or none where it leaves k as it is
+abbrev pub touch : Key → Entry → Option Touch
+touch k e = touch_of k (key_in e.act) e.act e.reply
+
+abbrev pub History : Type 0
+History = List (Touch × ℕ)
+
+abbrev pub with_touch : Option Touch → ℕ → History → History
+with_touch None now s = s
+with_touch (Some t) now s = (t, now) ∷ s
+
+-- what was done to k since the restart, each with its tick, the newest first
+abbrev pub history : Key → Journal → History
+history k [] = []
+history k (e ∷ h) = cond (is_restart e.act) [] (with_touch (touch k e) e.tick (history k h))
+
+-- where a key stands before the locks of its stretch: nothing, a stored row, or a lock without holder
+pub data Base : Type 0 where
+  Nothing : Base
+  Stored : Row → ℕ → Base
+  -- since which tick, and whether by a lock that had expired
+  Barred : ℕ → Bool → Base
+
+-- what the last touch left that stored, evicted or lost the key, or found its lock expired
+abbrev pub base : History → Base
+base [] = Nothing
+base ((Stores r late, now) ∷ s) = Stored r now
+base ((Evicts, now) ∷ s) = Barred now false
+base ((Expires, now) ∷ s) = Barred now true
+base ((Leaves, now) ∷ s) = Nothing
+base ((Locks v, now) ∷ s) = base s
+base ((Releases n, now) ∷ s) = base s
+
+-- the touches after that one: locks and releases
+abbrev pub stretch : History → History
+stretch [] = []
+stretch ((Locks v, now) ∷ s) = (Locks v, now) ∷ stretch s
+stretch ((Releases n, now) ∷ s) = (Releases n, now) ∷ stretch s
+stretch ((_, now) ∷ s) = []
+
+abbrev pub locks : History → ℕ
+locks [] = 0
+locks ((Locks v, now) ∷ s) = suc (locks s)
+locks ((_, now) ∷ s) = locks s
+
+abbrev pub releases : History → ℕ
+releases [] = 0
+releases ((Releases n, now) ∷ s) = suc (releases s)
+releases ((_, now) ∷ s) = releases s
+
+abbrev pub first_of : ℕ → ℕ × Option ℕ → ℕ × Option ℕ → ℕ × Option ℕ
+first_of zero this earlier = this
+first_of (suc n) this earlier = earlier
+
+-- of the first lock its tick and the version that it names
+abbrev pub first_lock : History → ℕ × Option ℕ
+first_lock [] = (0, None)
+first_lock ((Locks v, now) ∷ s) = first_of (locks s) (now, v) (first_lock s)
+first_lock ((_, now) ∷ s) = first_lock s
+
+-- the tick of the last lock
+abbrev pub last_lock : History → ℕ
+last_lock [] = 0
+last_lock ((Locks v, now) ∷ s) = now
+last_lock ((_, now) ∷ s) = last_lock s
+
+-- the tick of the last release that left no holder, or else
+abbrev pub last_free : History → ℕ → ℕ
+last_free [] other = other
+last_free ((Releases zero, now) ∷ s) other = now
+last_free ((_, now) ∷ s) other = last_free s other
+
+pub record LockState : Type 0 where
+  pub id : ℕ
+  pub version : Option ℕ
+  pub timeout : ℕ
+  pub holders : ℕ
+  pub shared : Bool
+  pub unlock : ℕ
+
+pub data Slot : Type 0 where
+  Vacant : Slot
+  Item : Row → ℕ → Slot
+  Lock : LockState → Slot
+
+abbrev pub is_positive : ℕ → Bool
+is_positive zero = false
+is_positive (suc n) = true
+
+-- when a lock without holder ends
+abbrev pub bar_end : Bool → ℕ → ℕ → ℕ
+bar_end expired timeout since = cond expired (since + timeout) since
+
+-- the slot, by the base, the number of locks since then, and the touches since then
+abbrev pub slot_of : ℕ → Base → ℕ → History → Slot
+slot_of timeout Nothing zero s = Vacant
+slot_of timeout (Stored r t) zero s = Item r t
+slot_of timeout (Barred t x) zero s = Lock (record {
+  id = t;
+  version = None;
+  timeout = bar_end x timeout t;
+  holders = 0;
+  shared = false;
+  unlock = bar_end x timeout t;
+})
+slot_of timeout Nothing (suc n) s = Lock (record {
+  id = (first_lock s).0;
+  version = (first_lock s).1;
+  timeout = last_lock s + timeout;
+  holders = suc n - releases s;
+  shared = is_positive n;
+  unlock = last_free s 0;
+})
+slot_of timeout (Stored r t) (suc n) s = Lock (record {
+  id = (first_lock s).0;
+  version = r.version;
+  timeout = last_lock s + timeout;
+  holders = suc n - releases s;
+  shared = is_positive n;
+  unlock = last_free s 0;
+})
+slot_of timeout (Barred t x) (suc n) s = Lock (record {
+  id = t;
+  version = None;
+  timeout = last_lock s + timeout;
+  holders = suc n - releases s;
+  shared = true;
+  unlock = last_free s (bar_end x timeout t);
+})
+
+unfoldable pub slot_from : ℕ → History → Slot
+slot_from timeout s = slot_of timeout (base s) (locks (stretch s)) (stretch s)
+
+-- the slot of k at the end of a journal
+abbrev pub slot : ℕ → Key → Journal → Slot
+slot timeout k h = slot_from timeout (history k h)

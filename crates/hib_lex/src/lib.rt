@@ -1,0 +1,2 @@
+//! hib_lex
+#![tactic(auto)]

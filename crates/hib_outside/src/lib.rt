@@ -1,0 +1,2 @@
+//! hib_outside
+#![tactic(auto)]

@@ -1,0 +1,2 @@
+//! hib_report
+#![tactic(auto)]

@@ -1,0 +1,2 @@
+//! hib_script
+#![tactic(auto)]

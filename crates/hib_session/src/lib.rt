@@ -1,0 +1,2 @@
+//! hib_session
+#![tactic(auto)]

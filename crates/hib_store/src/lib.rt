@@ -1,0 +1,2 @@
+//! hib_store
+#![tactic(auto)]

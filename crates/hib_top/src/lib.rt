@@ -1,0 +1,2 @@
+//! hib_top
+#![tactic(auto)]
