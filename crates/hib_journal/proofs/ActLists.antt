@@ -2,7 +2,7 @@
 -- list holds of the plan.
 use Rattle.std.proofs.Common.{◌≡◌, ℕ, zero, suc, ◌+◌, Bool, true, false, cond, not, ◌&&◌, List, [], ◌∷◌, ◌++◌, length, reverse, slice_get, Some, None, Option, refl, ap, sym, ◌∙◌, subst}
 use Rattle.std.proofs.lemmas.List.{length-reverse, reverse-append}
-use Rattle.hib_base.specs.Types.{Key, Mode, Statement, Script, Act, Reply, Checked, Entry}
+use Rattle.hib_journal.specs.Types.{Key, Mode, Statement, Script, Act, Reply, Checked, Entry}
 use Rattle.hib_journal.specs.Sessions.{Journal, time_in, floor_in, changes_in}
 use Rattle.hib_journal.specs.Held.{held, pending}
 use Rattle.hib_journal.specs.Plan.{Plan, Block, one, each, after, left_of, first_act}

@@ -1,7 +1,7 @@
 -- All blocks together: in a legal journal each act of a session is allowed by what it did before.
 use Rattle.std.proofs.Common.{◌≡◌, ℕ, inl, inr, Bool, true, false, cond, ◌||◌, List, [], ◌∷◌, slice_get, Some, None, Option, refl, ap, sym, ◌∙◌, subst}
 use Rattle.std.proofs.lemmas.Bool.{or_parts}
-use Rattle.hib_base.specs.Types.{Key, Row, Strategy, Mode, Statement, Script, Act, Reply, Checked, Entry}
+use Rattle.hib_journal.specs.Types.{Key, Row, Strategy, Mode, Statement, Script, Act, Reply, Checked, Entry}
 use Rattle.hib_base.specs.Keys.{same_key}
 use Rattle.hib_base.specs.Tables.{Tables}
 use Rattle.hib_journal.specs.Sessions.{Journal, own, is_by, changes, changes_in, time_in}

@@ -3,7 +3,7 @@ use Rattle.std.proofs.Common.{◌≡◌, ℕ, ◌⊎◌, inl, inr, Bool, true, f
 use Rattle.std.proofs.lemmas.Bool.{true≢false, false≢true, and_parts, or_parts, or_right, not-true, ne_eqb}
 use Rattle.std.proofs.Common.{eq-eqb}
 use Rattle.std.specs.List.{list_any}
-use Rattle.hib_base.specs.Types.{Key, Row, Change, Commit, Strategy, Script, Act, Reply, Entry}
+use Rattle.hib_journal.specs.Types.{Key, Row, Change, Commit, Strategy, Script, Act, Reply, Entry}
 use Rattle.hib_base.specs.Keys.{same_key}
 use Rattle.hib_base.specs.Tables.{Tables, row_at, key_of, row_left, first_on, last_on, after_changes, commit_answer}
 use Rattle.hib_journal.specs.Sessions.{Journal, is_by, is_session, changes, is_open, open_after, is_restart, time, committed, committer}

@@ -2,7 +2,7 @@
 use Rattle.std.proofs.Common.{◌≡◌, ℕ, ◌+◌, inl, inr, Bool, true, false, cond, ◌||◌, ◌==◌, ltb, List, [], ◌∷◌, Some, None, Option, refl, ap, sym, ◌∙◌, subst, arith}
 use Rattle.std.proofs.lemmas.Bool.{true≢false, false≢true, eqb-true, ltb-false, le-ltb, or_right}
 use Rattle.std.specs.List.{list_any}
-use Rattle.hib_base.specs.Types.{Key, Row, Change, Commit}
+use Rattle.hib_journal.specs.Types.{Key, Row, Change, Commit}
 use Rattle.hib_base.specs.Keys.{same_key}
 use Rattle.hib_base.specs.Tables.{Tables, row_at, key_of, after_change, after_changes, refusal, unless_absent, unless_expected, same_version, commit_answer, or_answer, first_on}
 use Rattle.hib_journal.specs.Regions.{is_below}

@@ -2,7 +2,7 @@
 use Rattle.std.proofs.Common.{◌≡◌, ℕ, inl, inr, Bool, true, false, not, ◌&&◌, List, [], ◌∷◌, ◌++◌, Some, None, Option, refl, sym, ◌∙◌, subst}
 use Rattle.std.proofs.lemmas.Bool.{true≢false, or_parts, or_right}
 use Rattle.std.specs.List.{list_any, flat_map, filter}
-use Rattle.hib_base.specs.Types.{Key, Row, Change, Commit, Strategy, Mode, Script, Act, Reply, Entry}
+use Rattle.hib_journal.specs.Types.{Key, Row, Change, Commit, Strategy, Mode, Script, Act, Reply, Entry}
 use Rattle.hib_base.specs.Keys.{same_key}
 use Rattle.hib_base.specs.Tables.{key_of, first_on, last_on}
 use Rattle.hib_journal.specs.Sessions.{Journal, floor_in, changes_in}

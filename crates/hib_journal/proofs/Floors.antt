@@ -1,7 +1,7 @@
 -- The floor of an open session is no later than the time of any open session.
 use Rattle.std.proofs.Common.{◌≡◌, ℕ, ◌≤◌, min, inl, inr, Bool, true, false, cond, ◌&&◌, ◌||◌, ◌==◌, [], ◌∷◌, Some, None, Option, refl, sym, ◌∙◌, subst, arith, eq-eqb}
 use Rattle.std.proofs.lemmas.Bool.{true≢false, false≢true, and_parts}
-use Rattle.hib_base.specs.Types.{Script, Act, Reply, Entry}
+use Rattle.hib_journal.specs.Types.{Script, Act, Reply, Entry}
 use Rattle.hib_base.specs.Tables.{Tables}
 use Rattle.hib_journal.specs.Sessions.{Journal, is_by, is_session, own, time, floor, floor_in, floor_after, least_live, is_live, is_open, open_after, last_tick}
 use Rattle.hib_journal.specs.Held.{is_begin}

@@ -2,7 +2,7 @@
 use Rattle.std.proofs.Common.{◌≡◌, ℕ, ◌⊎◌, inl, inr, Bool, true, false, cond, List, [], ◌∷◌, ◌++◌, Some, None, Option, refl, ap, sym, ◌∙◌, subst}
 use Rattle.std.proofs.lemmas.Bool.{true≢false, false≢true, or_parts}
 use Rattle.std.specs.List.{filter_map, cons_option}
-use Rattle.hib_base.specs.Types.{Key, Row, Change, Strategy, Script, Act, Entry}
+use Rattle.hib_journal.specs.Types.{Key, Row, Change, Strategy, Script, Act, Entry}
 use Rattle.hib_base.specs.Keys.{same_key}
 use Rattle.hib_base.specs.Tables.{key_of, first_on}
 use Rattle.hib_journal.specs.Sessions.{Journal, floor_in, changes_in}

@@ -1,7 +1,7 @@
 -- No session does an outside act.
 use Rattle.std.proofs.Common.{◌≡◌, ℕ, Bool, true, false, cond, List, [], ◌∷◌, ◌++◌, Some, None, Option, refl, slice_get, ◌&&◌}
 use Rattle.std.specs.List.{flat_map}
-use Rattle.hib_base.specs.Types.{Key, Row, Change, Strategy, Mode, Statement, Script, Act, Reply, Checked, Entry}
+use Rattle.hib_journal.specs.Types.{Key, Row, Change, Strategy, Mode, Statement, Script, Act, Reply, Checked, Entry}
 use Rattle.hib_journal.specs.Sessions.{Journal, changes_in, floor_in, time_in}
 use Rattle.hib_base.specs.Tables.{first_on, last_on}
 use Rattle.hib_journal.specs.Held.{held, pending, is_fresh}

@@ -1,7 +1,7 @@
 -- A session that was not killed is open exactly where its own entries say so; and stamps are no earlier than their entries.
 use Rattle.std.proofs.Common.{◌≡◌, ℕ, ◌+◌, ◌≤◌, inl, inr, Bool, true, false, cond, ◌||◌, [], ◌∷◌, Some, None, Option, refl, ◌∙◌, arith}
 use Rattle.std.proofs.lemmas.Bool.{false≢true, or_parts}
-use Rattle.hib_base.specs.Types.{Act, Entry}
+use Rattle.hib_journal.specs.Types.{Act, Entry}
 use Rattle.hib_journal.specs.Sessions.{Journal, is_by, is_session, own, is_open, open_after, was_killed, killed_by}
 use Rattle.hib_journal.specs.Stamps.{stamp, stamp_after, names}
 use Rattle.hib_base.proofs.Tables.{Tested, tested}

@@ -2,7 +2,7 @@
 use Rattle.std.proofs.Common.{◌≡◌, inl, inr, Bool, true, false, cond, not, ◌&&◌, ◌||◌, List, [], ◌∷◌, Some, None, Option, refl, ap, sym, ◌∙◌, subst}
 use Rattle.std.proofs.lemmas.Bool.{or_parts}
 use Rattle.std.specs.List.{list_any}
-use Rattle.hib_base.specs.Types.{Key, Row, Change, Act, Reply}
+use Rattle.hib_journal.specs.Types.{Key, Row, Change, Act, Reply}
 use Rattle.hib_base.specs.Keys.{same_key}
 use Rattle.hib_base.specs.Tables.{key_of}
 use Rattle.hib_journal.specs.Sessions.{Journal, changes_in, changes_after}

@@ -2,7 +2,7 @@
 -- what sessions know of it, and what always holds. It speaks of no journal.
 use Rattle.std.proofs.Common.{◌≡◌, ℕ, zero, suc, ◌<◌, ◌≤◌, ◌⊎◌, inl, inr, Bool, true, false, cond, not, ◌||◌, ◌==◌, ltb, leb, List, [], ◌∷◌, length, Some, None, Option, refl, ap, sym, ◌∙◌, subst, arith}
 use Rattle.std.proofs.lemmas.Bool.{eqb-false, or_parts, and_parts, ltb-true, leb-false, true≢false, false≢true, le-ltb, cases_eq}
-use Rattle.hib_base.specs.Types.{Row, Put}
+use Rattle.hib_journal.specs.Types.{Row, Put}
 use Rattle.hib_journal.specs.Slot.{Touch, LockState, Slot, is_positive}
 use Rattle.hib_journal.specs.Room.{may_leave}
 use Rattle.hib_journal.specs.Regions.{is_below, free_answer, put}

@@ -1,7 +1,7 @@
 -- The laws of sessions over a journal: times, and what one more entry leaves as it is.
 use Rattle.std.proofs.Common.{◌≡◌, ℕ, ◌<◌, ◌≤◌, ◌⊎◌, inl, inr, Bool, true, false, ◌&&◌, [], ◌∷◌, Some, None, Option, refl, ap, subst, arith}
 use Rattle.std.proofs.lemmas.Bool.{eqb-true, true≢false, false≢true}
-use Rattle.hib_base.specs.Types.{Key, Row, Act, Entry}
+use Rattle.hib_journal.specs.Types.{Key, Row, Act, Entry}
 use Rattle.hib_base.specs.Tables.{Tables, row_at}
 use Rattle.hib_journal.specs.Sessions.{Journal, is_by, is_session, same_session, own, time, time_in, time_after, last_tick, committed, IsTimely}
 use Rattle.hib_journal.specs.Held.{is_begin}

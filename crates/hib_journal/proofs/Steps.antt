@@ -1,6 +1,6 @@
 -- A session's entries are, in a legal journal, the acts of its plan, each once and in order.
 use Rattle.std.proofs.Common.{◌≡◌, ℕ, inl, inr, Bool, true, false, cond, [], ◌∷◌, Some, None, Option, refl, subst}
-use Rattle.hib_base.specs.Types.{Script, Act, Entry}
+use Rattle.hib_journal.specs.Types.{Script, Act, Entry}
 use Rattle.hib_base.specs.Tables.{Tables}
 use Rattle.hib_journal.specs.Sessions.{Journal, own, is_by, is_open, was_killed}
 use Rattle.hib_journal.specs.Plan.{first_act, left_of}

@@ -2,7 +2,7 @@
 use Rattle.std.proofs.Common.{◌≡◌, ℕ, zero, suc, ◌⊎◌, inl, inr, Bool, true, false, cond, ◌&&◌, ◌||◌, ◌==◌, nat_lt, nat_le, List, [], ◌∷◌, Some, None, Option, refl, ap, sym, ◌∙◌}
 use Rattle.std.proofs.lemmas.Bool.{eqb-true, and_parts, false≢true}
 use Rattle.std.specs.List.{filter}
-use Rattle.hib_base.specs.Types.{Key, Act, Reply, Put, Unlocked, Inserted, Updated, Evicted}
+use Rattle.hib_journal.specs.Types.{Key, Act, Reply, Put, Unlocked, Inserted, Updated, Evicted}
 use Rattle.hib_base.specs.Keys.{same_key}
 use Rattle.hib_journal.specs.Sessions.{Journal}
 use Rattle.hib_journal.specs.Slot.{Touch, LockState, Slot, slot, history, touch_here, touch_at, evicted_in, is_victim, is_positive}

@@ -1,7 +1,7 @@
 -- A legal journal as seen from one read-write key: each entry is a move of the key's protocol.
 use Rattle.std.proofs.Common.{◌≡◌, ℕ, suc, ◌≤◌, ◌⊎◌, inl, inr, Bool, true, false, ◌∷◌, Some, None, Option, refl, ap, ◌∙◌, arith}
 use Rattle.std.proofs.lemmas.Bool.{false≢true}
-use Rattle.hib_base.specs.Types.{Key, Row, Change, Script, Act, Reply, Unlocked, Updated, Entry}
+use Rattle.hib_journal.specs.Types.{Key, Row, Change, Script, Act, Reply, Unlocked, Updated, Entry}
 use Rattle.hib_base.specs.Tables.{Tables, row_at, first_on}
 use Rattle.hib_journal.proofs.Commits.{AreSteps}
 use Rattle.hib_journal.specs.Sessions.{Journal, is_open, is_restart, time, changes, committed, committer}

@@ -1,6 +1,6 @@
 -- What the claims speak of besides the definitions: who holds a lock, who has committed, and what a session has seen.
 use Rattle.std.specs.Prelude.{◌≡◌, ℕ, ◌⊎◌, Bool, true, false, cond, ◌&&◌, ◌==◌, List, [], ◌∷◌, Some, None, Option}
-use Rattle.hib_base.specs.Types.{Key, Row, Change, Commit, Act, Reply}
+use Rattle.hib_journal.specs.Types.{Key, Row, Change, Commit, Act, Reply}
 use Rattle.hib_base.specs.Keys.{same_key}
 use Rattle.hib_base.specs.Tables.{Tables, row_at, row_left, last_on}
 use Rattle.hib_journal.specs.Sessions.{Journal, own, changes, committed, is_restart, is_by}

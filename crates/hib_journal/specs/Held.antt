@@ -1,7 +1,7 @@
 -- What a session holds of a key, by its own entries alone. They are the newest first, as in a journal.
 use Rattle.std.specs.Prelude.{ℕ, ◌+◌, Bool, true, false, cond, not, ◌&&◌, ◌||◌, ◌==◌, List, [], ◌∷◌, ◌++◌, set, Some, None, Option}
 use Rattle.std.specs.List.{filter, list_any, filter_map}
-use Rattle.hib_base.specs.Types.{Key, Row, Cell, Change, Commit, Act, Reply, Entry}
+use Rattle.hib_journal.specs.Types.{Key, Row, Cell, Change, Commit, Act, Reply, Entry}
 use Rattle.hib_base.specs.Keys.{same_key}
 use Rattle.hib_journal.specs.Query.{same_cell}
 use Rattle.hib_journal.specs.Sessions.{Journal}

@@ -1,3 +1,4 @@
+pub mod Types
 pub mod Sessions
 pub mod Slot
 pub mod Room

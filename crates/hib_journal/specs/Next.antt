@@ -1,7 +1,7 @@
 -- The acts of a session: Begin, and then a block for each statement.
 use Rattle.std.specs.Prelude.{ℕ, Bool, true, false, cond, not, ◌&&◌, ◌==◌, List, [], ◌∷◌, ◌++◌, length, slice_get, Some, None, Option}
 use Rattle.std.specs.List.{filter, flat_map, list_any, range_with_len}
-use Rattle.hib_base.specs.Types.{Key, Row, Change, Commit, Strategy, EntityDef, Mode, Query, Statement, SessionDef, Script, Act, Reply, Checked}
+use Rattle.hib_journal.specs.Types.{Key, Row, Change, Commit, Strategy, EntityDef, Mode, Query, Statement, SessionDef, Script, Act, Reply, Checked}
 use Rattle.hib_base.specs.Keys.{same_key}
 use Rattle.hib_base.specs.Tables.{key_of, row_left, last_on, first_on}
 use Rattle.hib_journal.specs.Sessions.{Journal, time_in, floor_in, changes_in}

@@ -1,7 +1,7 @@
 -- A run of a schedule: one piece for each order, and then one for each session.
 use Rattle.std.specs.Prelude.{ℕ, zero, suc, Bool, true, false, cond, not, ◌&&◌, ◌==◌, List, [], ◌∷◌, length, is_some, reverse, Some, None, Option}
 use Rattle.std.specs.List.{range_with_len}
-use Rattle.hib_base.specs.Types.{Key, Act, Order, Script, Entry}
+use Rattle.hib_journal.specs.Types.{Key, Act, Order, Script, Entry}
 use Rattle.hib_base.specs.Keys.{same_key}
 use Rattle.hib_journal.specs.Sessions.{Journal, own, is_by, is_open, was_killed}
 use Rattle.hib_journal.specs.Next.{next}

@@ -1,7 +1,7 @@
 -- What a query gives over tables.
 use Rattle.std.specs.Prelude.{ℕ, Bool, true, false, cond, not, ◌&&◌, ◌||◌, ◌==◌, nat_lt, List, [], ◌∷◌, length, map, take, drop, pos, int_lt, int_le, slice_get, Some, None, Option}
 use Rattle.std.specs.List.{filter, list_any, range_with_len}
-use Rattle.hib_base.specs.Types.{Key, Row, Cell, Op, Path, Target, Cond, Sort, Select, Query}
+use Rattle.hib_journal.specs.Types.{Key, Row, Cell, Op, Path, Target, Cond, Sort, Select, Query}
 use Rattle.hib_base.specs.Tables.{Tables, row_at}
 use Rattle.hib_journal.specs.Room.{key}
 

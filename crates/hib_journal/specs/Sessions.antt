@@ -1,6 +1,6 @@
 -- Sessions over a journal. A journal is a list of entries, the newest first: what stands behind an entry is the journal before it.
 use Rattle.std.specs.Prelude.{ℕ, ◌≤◌, ◌<◌, ◌^◌, min, Bool, true, false, cond, ◌&&◌, ◌||◌, ◌==◌, List, [], ◌∷◌, ◌++◌, Some, None, Option}
-use Rattle.hib_base.specs.Types.{Key, Row, Change, Commit, Act, Reply, Part, Entry}
+use Rattle.hib_journal.specs.Types.{Key, Row, Change, Commit, Act, Reply, Part, Entry}
 use Rattle.hib_base.specs.Tables.{Tables, after_changes, row_at}
 
 abbrev pub Journal : Type 0

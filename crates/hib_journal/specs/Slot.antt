@@ -1,6 +1,6 @@
 -- A key of a read-write region, by counting entries.
 use Rattle.std.specs.Prelude.{ℕ, zero, suc, ◌+◌, ◌-◌, Bool, true, false, cond, ◌&&◌, ◌==◌, List, [], ◌∷◌, Some, None, Option}
-use Rattle.hib_base.specs.Types.{Key, Row, Act, Reply, Entry, Put, Unlocked, Inserted, Updated, Evicted}
+use Rattle.hib_journal.specs.Types.{Key, Row, Act, Reply, Entry, Put, Unlocked, Inserted, Updated, Evicted}
 use Rattle.hib_base.specs.Keys.{same_key}
 use Rattle.hib_journal.specs.Sessions.{Journal, is_restart}
 

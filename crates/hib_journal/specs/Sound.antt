@@ -1,7 +1,7 @@
 -- Which keys the claims speak of, and what they say of queries.
 use Rattle.std.specs.Prelude.{ℕ, Bool, true, false, cond, not, ◌&&◌, ◌||◌, ◌==◌, List, [], ◌∷◌, Some, None, Option}
 use Rattle.std.specs.List.{list_any, filter}
-use Rattle.hib_base.specs.Types.{Key, Change, Act, Entry}
+use Rattle.hib_journal.specs.Types.{Key, Change, Act, Entry}
 use Rattle.hib_base.specs.Keys.{same_key}
 use Rattle.hib_journal.specs.Sessions.{Journal, changes, committer, is_restart, is_by}
 use Rattle.hib_journal.specs.Slot.{Touch, History, history}

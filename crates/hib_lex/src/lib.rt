@@ -1,2 +1,6 @@
-//! hib_lex
+//! The tokens of a line of a script.
 #![tactic(auto)]
+
+mod tokens;
+
+pub use tokens::{MOST_BYTES, MOST_TEXT, Token, Tokens, is_lexical, is_skipped, tokens};
