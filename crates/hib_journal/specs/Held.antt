@@ -1,7 +1,7 @@
 -- What a session holds of a key, by its own entries alone. They are the newest first, as in a journal.
 use Rattle.std.specs.Prelude.{ℕ, ◌+◌, Bool, true, false, cond, not, ◌&&◌, ◌||◌, ◌==◌, List, [], ◌∷◌, ◌++◌, set, Some, None, Option}
 use Rattle.std.specs.List.{filter, list_any, filter_map}
-use Rattle.hib_journal.specs.Types.{Key, Row, Cell, Change, Commit, Act, Reply, Entry}
+use Rattle.hib_journal.specs.Types.{Key, Row, Cell, Change, Commit, State, Act, Reply, Entry}
 use Rattle.hib_base.specs.Keys.{same_key}
 use Rattle.hib_journal.specs.Query.{same_cell}
 use Rattle.hib_journal.specs.Sessions.{Journal}
@@ -110,11 +110,6 @@ cells_set k (e ∷ m) cs = cells_after k e.act e.reply (cells_set k m cs)
 abbrev pub version_of : Option Row → Row → Option ℕ
 version_of None made = made.version
 version_of (Some base) made = base.version
-
-pub data State : Type 0 where
-  New : State
-  Managed : State
-  Removed : State
 
 abbrev pub state_of : Option Row → Bool → State
 state_of None removed = State.New

@@ -1,6 +1,6 @@
 -- Legal journals: each entry is the next act of its session, in its part, with the reply that the parts give.
 use Rattle.std.specs.Prelude.{◌≡◌, ℕ, ◌+◌, ◌⊎◌, Bool, true, false, cond, not, ◌||◌, List, [], ◌∷◌, length, slice_get, IsSome, Some, None, Option}
-use Rattle.hib_journal.specs.Types.{Key, Row, Change, Commit, Outcome, Strategy, Query, Script, Part, Act, Reply, Entry}
+use Rattle.hib_journal.specs.Types.{Key, Row, Change, Commit, State, Outcome, Strategy, Query, Script, Part, Act, Reply, Entry}
 use Rattle.hib_base.specs.Tables.{Tables, commit_answer}
 use Rattle.hib_journal.specs.Sessions.{Journal, own, floor, changes, is_open, was_killed, committed, views, view, IsTimely}
 use Rattle.hib_journal.specs.Slot.{slot, history}
@@ -9,7 +9,7 @@ use Rattle.hib_journal.specs.Regions
 use Rattle.hib_journal.specs.Stamps.{check}
 use Rattle.hib_journal.specs.Results.{result, found, dropped}
 use Rattle.hib_journal.specs.Query.{gives}
-use Rattle.hib_journal.specs.Held.{Instance, State, held}
+use Rattle.hib_journal.specs.Held.{Instance, held}
 use Rattle.hib_journal.specs.Next.{next, strategy, is_cached, capacity, is_in, is_held, tables_of}
 
 -- own acts

@@ -33,3 +33,5 @@ pub use Rattle.hib_base.specs.declared.replies.Evicted.{Evicted}
 pub use Rattle.hib_base.specs.declared.replies.Reply.{Reply}
 pub use Rattle.hib_base.specs.declared.entries.Entry.{Entry}
 pub use Rattle.hib_base.specs.declared.scripts.ColumnType.{ColumnType}
+pub use Rattle.hib_base.specs.declared.instances.State.{State}
+pub use Rattle.hib_base.specs.declared.instances.Held.{Held}

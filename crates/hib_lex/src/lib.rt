@@ -1,6 +1,6 @@
 //! The tokens of a line of a script.
 #![tactic(auto)]
 
-mod tokens;
+mod lexer;
 
-pub use tokens::{MOST_BYTES, MOST_TEXT, Token, Tokens, is_lexical, is_skipped, tokens};
+pub use lexer::{MOST_BYTES, MOST_TEXT, Token, Tokens, is_lexical, is_skipped, tokens};

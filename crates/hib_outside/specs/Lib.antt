@@ -1,0 +1,5 @@
+pub mod Causes
+pub mod Verdicts
+pub mod Keeps
+pub mod Hears
+pub mod Places

@@ -1,5 +1,6 @@
 // The tokens of a line, and which lines are skipped.
-ghost use Rattle.std.specs.Prelude.{◌≡◌, ◌^◌, ◌<◌, IfOk, SomeIff, IsTrue};
+ghost use Rattle.std.specs.List.{list_all};
+ghost use Rattle.std.specs.Prelude.{◌≡◌, ◌==◌, ◌^◌, ◌<◌, ◌≤◌, pos, neg_ℤ, IfOk, SomeIff, position};
 ghost use Rattle.hib_lex.specs.Tokens as lines;
 
 use hib_base::{Seq, Text};
@@ -57,10 +58,17 @@ struct Scan {
 pub fn is_lexical(line: &[u8]) -> bool
     ensures { result ≡ lines.is_lexical line.now }
 {
-    line.len() <= MOST_BYTES && line.iter().all(|byte| (32..=126).contains(byte))
+    line.len() <= MOST_BYTES && is_printable(line)
+}
+
+fn is_printable(line: &[u8]) -> bool
+    ensures { result ≡ list_all lines.is_printable line.now }
+{
+    line.iter().all(|byte| *byte >= 32 && *byte <= 126)
 }
 
 /// Whether a line says nothing: spaces alone, no byte at all, or a comment.
+#[tactic(auto, using(crate::proofs::Lines::blank_next))]
 pub fn is_skipped(line: &[u8]) -> bool
     ensures { result ≡ lines.is_blank line.now }
 {
@@ -74,6 +82,7 @@ pub fn is_skipped(line: &[u8]) -> bool
 
 /// The tokens of a line, or none where a byte, its length or a part of it is against the rules. A comment isn't told
 /// from other lines here: ask `is_skipped` first.
+#[tactic(auto, using(crate::proofs::Lines::scan_next, crate::proofs::Lines::scan_done))]
 pub fn tokens(alloc: Global, line: &[u8]) -> Result<Option<Tokens>, AllocError>
     ensures { IfOk result (λ t. t ≡ lines.tokens_of line.now) }
 {
@@ -90,8 +99,7 @@ pub fn tokens(alloc: Global, line: &[u8]) -> Result<Option<Tokens>, AllocError>
             None => return Ok(None),
         };
     }
-    let Scan { tokens, place } = scan;
-    ended(tokens, place)
+    ended(alloc, scan)
 }
 
 /// The scan after one more byte, or none where the line is bad.
@@ -104,7 +112,7 @@ fn step(alloc: Global, scan: Scan, byte: u8) -> Result<Option<Scan>, AllocError>
         Place::Escaped(text) => step_escaped(tokens, text, byte),
         Place::Between => step_between(alloc, tokens, byte),
         Place::Bare(bytes) => step_bare(alloc, tokens, bytes, byte),
-        Place::Closed => step_closed(tokens, byte),
+        Place::Closed => step_closed(alloc, tokens, byte),
     }
 }
 
@@ -189,7 +197,7 @@ fn step_bare(
             place: Place::Bare(bytes),
         }));
     }
-    match with_bare(tokens, bytes)? {
+    match with_bare(alloc, tokens, bytes)? {
         Some(tokens) => step_between(alloc, tokens, byte),
         None => Ok(None),
     }
@@ -211,4 +219,179 @@ fn is_end(byte: u8) -> bool
     ensures { result ≡ lines.is_end byte }
 {
     byte == b' ' || byte == b'(' || byte == b')'
+}
+
+/// The tokens at the end of a line, or none where a text isn't closed or the last part is no token.
+fn ended(alloc: Global, scan: Scan) -> Result<Option<Tokens>, AllocError>
+    ensures { IfOk result (λ t. t ≡ lines.ended scan) }
+{
+    let Scan { tokens, place } = scan;
+    match place {
+        Place::Between | Place::Closed => Ok(Some(tokens)),
+        Place::Bare(bytes) => with_bare(alloc, tokens, bytes),
+        Place::Quoted(_) | Place::Escaped(_) => Ok(None),
+    }
+}
+
+/// The tokens with one more, of these bytes; none where they are no token.
+fn with_bare(alloc: Global, mut tokens: Tokens, bytes: Text) -> Result<Option<Tokens>, AllocError>
+    ensures { IfOk result (λ t. t ≡ lines.with_bare tokens bytes) }
+{
+    match bare(alloc, bytes)? {
+        Some(token) => {
+            tokens.push(token)?;
+            Ok(Some(tokens))
+        }
+        None => Ok(None),
+    }
+}
+
+/// The word, path or number of these bytes.
+fn bare(alloc: Global, bytes: Text) -> Result<Option<Token>, AllocError>
+    ensures { IfOk result (λ t. t ≡ lines.bare_of bytes) }
+{
+    if is_word(bytes.as_slice()) {
+        return Ok(Some(Token::Word(bytes)));
+    }
+    match number(bytes.as_slice()) {
+        Some(n) => Ok(Some(Token::Number(n))),
+        None => path(alloc, bytes.as_slice()),
+    }
+}
+
+/// The path of these bytes.
+fn path(alloc: Global, bytes: &[u8]) -> Result<Option<Token>, AllocError>
+    ensures { IfOk result (λ t. t ≡ lines.path_of bytes.now) }
+{
+    let Some(dot) = first_dot(bytes) else {
+        return Ok(None);
+    };
+    let (first, second) = (&bytes[..dot], &bytes[dot + 1..]);
+    if !is_word(first) || !is_word(second) {
+        return Ok(None);
+    }
+    Ok(Some(Token::Path(
+        Seq::from_vec(first.to_vec(alloc)?),
+        Seq::from_vec(second.to_vec(alloc)?),
+    )))
+}
+
+fn first_dot(bytes: &[u8]) -> Option<usize>
+    ensures { result ≡ position (λ b. b == lines.dot) bytes.now }
+{
+    bytes.iter().position(|byte| *byte == b'.')
+}
+
+/// Whether these bytes are a word.
+fn is_word(bytes: &[u8]) -> bool
+    ensures { result ≡ lines.is_word bytes.now }
+{
+    match bytes {
+        [] => false,
+        [first, rest @ ..] => is_letter(*first) && rest.len() < 32 && are_word_bytes(rest),
+    }
+}
+
+fn is_letter(byte: u8) -> bool
+    ensures { result ≡ lines.is_letter byte }
+{
+    byte.is_ascii_alphabetic()
+}
+
+fn are_word_bytes(bytes: &[u8]) -> bool
+    ensures { result ≡ list_all lines.is_word_byte bytes.now }
+{
+    bytes.iter().all(|byte| is_word_byte(*byte))
+}
+
+fn is_word_byte(byte: u8) -> bool
+    ensures { result ≡ lines.is_word_byte byte }
+{
+    is_letter(byte) || byte.is_ascii_digit() || byte == b'_' || byte == b'-'
+}
+
+/// The number of these bytes.
+fn number(bytes: &[u8]) -> Option<i64>
+    ensures { result ≡ lines.number_of bytes.now }
+{
+    match bytes {
+        [b'-', digits @ ..] => negative(digits),
+        _ => natural(bytes),
+    }
+}
+
+/// The number that digits stand for: `0`, or digits that don't begin with 0.
+fn natural(digits: &[u8]) -> Option<i64>
+    ensures { result ≡ lines.natural_of digits.now }
+{
+    if !is_zero(digits) && !is_positive(digits) {
+        return None;
+    }
+    let size = size(digits)?;
+    if size < 1 << 63 {
+        Some(size as i64)
+    } else {
+        None
+    }
+}
+
+/// The number that digits stand for behind a minus: they don't begin with 0.
+#[tactic(auto, using(crate::proofs::Lines::positive_size))]
+fn negative(digits: &[u8]) -> Option<i64>
+    ensures { result ≡ lines.negative_of digits.now }
+{
+    if !is_positive(digits) {
+        return None;
+    }
+    let size = size(digits)?;
+    if size <= 1 << 63 {
+        Some(negated(size))
+    } else {
+        None
+    }
+}
+
+/// The number of this size below 0.
+fn negated(size: u64) -> i64
+    requires more { 0 < size }
+    requires fits { size ≤ 2 ^ 63 }
+    ensures { result ≡ neg_ℤ (pos size) }
+{
+    -((size - 1) as i64) - 1
+}
+
+fn is_zero(digits: &[u8]) -> bool
+    ensures { result ≡ lines.is_zero digits.now }
+{
+    matches!(digits, [b'0'])
+}
+
+/// Whether these bytes are digits that don't begin with 0.
+fn is_positive(digits: &[u8]) -> bool
+    ensures { result ≡ lines.is_positive digits.now }
+{
+    match digits {
+        [] => false,
+        [first, ..] => *first != b'0' && are_digits(digits),
+    }
+}
+
+fn are_digits(bytes: &[u8]) -> bool
+    ensures { result ≡ list_all lines.is_digit bytes.now }
+{
+    bytes.iter().all(|byte| byte.is_ascii_digit())
+}
+
+/// What digits add up to, each with the weight of its place; none from 2^64 on.
+#[tactic(auto, using(crate::proofs::Lines::digit_next, crate::proofs::Lines::size_grows, crate::proofs::Lines::size_done))]
+fn size(digits: &[u8]) -> Option<u64>
+    ensures { SomeIff result (lines.size_of digits.now < 2 ^ 64) (lines.size_of digits.now) }
+{
+    let mut size: u64 = 0;
+    for digit in digits {
+        size = size
+            .checked_mul(10)?
+            .checked_add(u64::from(digit.saturating_sub(b'0')))?;
+    }
+    Some(size)
 }

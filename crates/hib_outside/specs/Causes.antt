@@ -1,0 +1,39 @@
+-- Counts of faults, answers that come only where one rose, and the calls that are to fail.
+use Rattle.std.specs.Prelude.{◌≡◌, ℕ, zero, suc, ◌+◌, ◌-◌, ◌^◌, ◌≤◌, min, Bool, cond, ◌&&◌, List, nat_eq, nat_lt, Result, OnErr, IfErr}
+use Rattle.std.specs.List.{list_any}
+use Rattle.hib_outside.specs.declared.keeper.KeepFault.{KeepFault}
+use Rattle.hib_outside.specs.declared.keeper.KeepFault.TheVariants.{Failed}
+
+-- the count has risen, or stands at the last value of a u64
+abbrev pub Rose : ℕ → ℕ → Type 0
+Rose before now = min (before + 1) (2 ^ 64 - 1) ≤ now
+
+-- the count has not fallen, and an error comes only where it rose
+pub record HasCause {T E : Type 0} (before now : ℕ) (result : Result T E) : Type 0 where
+  pub later : before ≤ now
+  pub failed : OnErr result (Rose before now)
+
+-- the count has not fallen, and Failed comes only where it rose
+pub record FailsByCause {T : Type 0} (before now : ℕ) (result : Result T KeepFault) : Type 0 where
+  pub later : before ≤ now
+  pub failed : IfErr result (λ e. e ≡ Failed → Rose before now)
+
+abbrev pub is_among : ℕ → List ℕ → Bool
+is_among n fail = list_any (λ m. nat_eq m n) fail
+
+-- the call after n calls is to fail; no number names a call after the 4294967295th
+abbrev pub is_due : List ℕ → ℕ → Bool
+is_due fail n = nat_lt n 4294967295 && is_among (n + 1) fail
+
+-- the number of calls after one more; it stays at 4294967295
+abbrev pub next_call : ℕ → ℕ
+next_call n = cond (nat_lt n 4294967295) (n + 1) n
+
+-- how many of the first n calls were to fail
+abbrev pub failed_calls : List ℕ → ℕ → ℕ
+failed_calls fail zero = 0
+failed_calls fail (suc n) = failed_calls fail n + cond (is_among (suc n) fail) 1 0
+
+-- one more, up to the last value of a u64
+abbrev pub one_more : ℕ → ℕ
+one_more n = min (n + 1) (2 ^ 64 - 1)

@@ -1,0 +1,27 @@
+-- What a keeper's tables are after a call, and what it lists.
+use Rattle.std.specs.Prelude.{ℕ, ⊤, Bool, cond, nat_eq, List, [], ◌∷◌, Result, Ok, Err, Some, None, Option}
+use Rattle.std.specs.List.{list_any}
+use Rattle.std.specs.Option.{option_map}
+use Rattle.hib_base.specs.Types.{Change, Row}
+use Rattle.hib_base.specs.Tables.{Tables, start}
+use Rattle.hib_outside.specs.Verdicts.{after_applied}
+use Rattle.hib_outside.specs.declared.keeper.Applied.{Applied}
+use Rattle.hib_outside.specs.declared.keeper.KeepFault.{KeepFault}
+
+-- after rows were placed where a key has none
+abbrev pub tables_seeded : Result ⊤ KeepFault → Tables → Option Tables → Option Tables
+tables_seeded (Ok a) rows told = option_map (λ m. start m rows) told
+tables_seeded (Err e) rows told = told
+
+-- after a batch of changes
+abbrev pub tables_after : Result Applied KeepFault → List Change → Option Tables → Option Tables
+tables_after (Ok a) batch told = option_map (after_applied a batch) told
+tables_after (Err e) batch told = told
+
+abbrev pub is_listed : ℕ → List ℕ → Bool
+is_listed entity entities = list_any (λ e. nat_eq e entity) entities
+
+-- the rows of these entities, in order of keys
+abbrev pub rows_of : List ℕ → Tables → Tables
+rows_of entities [] = []
+rows_of entities (e ∷ es) = cond (is_listed e.0.entity entities) (e ∷ rows_of entities es) (rows_of entities es)

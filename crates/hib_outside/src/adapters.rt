@@ -1,0 +1,77 @@
+// The source and the sink over std's reader and writer. They count their failures and tell nothing.
+ghost use Rattle.std.specs.Prelude.{◌≡◌, ◌+◌, length};
+ghost use Rattle.std.specs.declared.option.Option.TheVariants.{None};
+
+use crate::{Failed, Sink, Source};
+use std::io::{Read, Write};
+
+/// Bytes from a reader of std.
+#[derive(Drop)]
+pub struct StdSource<R> {
+    /// The reader.
+    pub inner: R,
+    /// How often it has failed, or the last value of the type where that is more.
+    pub faults: u64,
+}
+
+impl<R> StdSource<R> {
+    /// The source over a reader that hasn't failed yet.
+    pub fn new(inner: R) -> StdSource<R>
+        ensures inner { result.inner ≡ inner }
+        ensures faults { result.faults ≡ 0 }
+    {
+        StdSource { inner, faults: 0 }
+    }
+}
+
+impl<R: Read> Source for StdSource<R> {
+    ghost left = { λ _. None };
+
+    ghost faults = { λ s. s.faults };
+
+    fn read(&mut self, buf: &mut [u8]) -> Result<usize, Failed> {
+        match self.inner.read(buf) {
+            Ok(count) => Ok(count),
+            Err(_) => {
+                self.faults = self.faults.saturating_add(1);
+                Err(Failed)
+            }
+        }
+    }
+}
+
+/// Bytes into a writer of std.
+#[derive(Drop)]
+pub struct StdSink<W> {
+    /// The writer.
+    pub inner: W,
+    /// How often it has failed, or the last value of the type where that is more.
+    pub faults: u64,
+}
+
+impl<W> StdSink<W> {
+    /// The sink over a writer that hasn't failed yet.
+    pub fn new(inner: W) -> StdSink<W>
+        ensures inner { result.inner ≡ inner }
+        ensures faults { result.faults ≡ 0 }
+    {
+        StdSink { inner, faults: 0 }
+    }
+}
+
+impl<W: Write> Sink for StdSink<W> {
+    ghost taken = { λ _. None };
+
+    ghost faults = { λ s. s.faults };
+
+    /// A writer that takes nothing of a piece that isn't empty has failed.
+    fn write(&mut self, bytes: &[u8]) -> Result<usize, Failed> {
+        match self.inner.write(bytes) {
+            Ok(count) if count > 0 || bytes.is_empty() => Ok(count),
+            _ => {
+                self.faults = self.faults.saturating_add(1);
+                Err(Failed)
+            }
+        }
+    }
+}

@@ -1,0 +1,6 @@
+use Rattle.std.proofs.Common.{◌≡◌, ◌++◌, take, flat_map, codes}
+use Rattle.hib_report.specs.Lines.{escaped, cell_text, names_text, sets_text}
+use Rattle.hib_report.proofs.rows.put_names.Given as goal
+
+abbrev pub invariant-loop-name : goal.invariant-loop-name
+invariant-loop-name l = l.out.items ≡ l.fn.out.items ++ names_text l.script (take l.name-index l.name-items)

@@ -1,0 +1,6 @@
+use Rattle.std.proofs.Common.{◌≡◌, ◌++◌, take, flat_map, codes}
+use Rattle.hib_report.specs.Lines.{escaped, cell_text, names_text, sets_text}
+use Rattle.hib_report.proofs.rows.put_sets.Given as goal
+
+abbrev pub invariant-loop-set : goal.invariant-loop-set
+invariant-loop-set l = l.out.items ≡ l.fn.out.items ++ sets_text l.script l.entity (take l.set-index l.set-items)

@@ -1,0 +1,6 @@
+use Rattle.std.proofs.Common.{◌≡◌, ◌++◌, take, flat_map, codes}
+use Rattle.hib_report.specs.Lines.{escaped, cell_text, names_text, sets_text}
+use Rattle.hib_report.proofs.rows.put_text.Given as goal
+
+abbrev pub invariant-loop-b : goal.invariant-loop-b
+invariant-loop-b l = l.out.items ≡ l.fn.out.items ++ codes "\"" ++ flat_map escaped (take l.b-index l.bytes)
