@@ -5,11 +5,11 @@ use Rattle.hib_journal.specs.Types.{Key, Row, Change, Strategy, Mode, Statement,
 use Rattle.hib_journal.specs.Sessions.{Journal, changes_in, floor_in, time_in}
 use Rattle.hib_base.specs.Tables.{first_on, last_on}
 use Rattle.hib_journal.specs.Held.{held, pending, is_fresh}
-use Rattle.hib_journal.specs.Plan.{Block, one, left_of}
+use Rattle.hib_journal.specs.Plan.{Block, one, left_of, InOrder}
 use Rattle.hib_journal.specs.Next
 use Rattle.hib_journal.specs.Next.{strategy, plan_of, next, statements}
 use Rattle.hib_journal.specs.Legal.{is_outside}
-use Rattle.hib_journal.proofs.Plans.{Good, Runs, Allows, runs_each, runs_if, allows_join, InOrder, AllRight, good_left, allowed_first}
+use Rattle.hib_journal.proofs.Plans.{Good, Runs, Allows, runs_each, runs_if, allows_join, AllRight, good_left, allowed_first}
 
 abbrev Ok : Journal → Act → Type 0
 Ok m a = is_outside a ≡ false

@@ -2,18 +2,8 @@
 use Rattle.std.proofs.Common.{◌≡◌, ℕ, inl, inr, Bool, true, false, cond, ◌||◌, [], ◌∷◌, Option, refl, ◌∙◌}
 use Rattle.std.proofs.lemmas.Bool.{or_parts}
 use Rattle.hib_journal.specs.Types.{Act}
-use Rattle.hib_journal.specs.Sessions.{Journal, is_by, is_session, own, is_open, open_after, was_killed, killed_by}
+use Rattle.hib_journal.specs.Sessions.{Journal, is_by, is_session, own, is_open, open_after, is_begun, begun_after, was_killed, killed_by}
 use Rattle.hib_base.proofs.Tables.{Tested, tested}
-
--- whether one session's entries have a Begin without an End after it
-abbrev pub begun_after : Act → Bool → Bool
-begun_after Act.Begin x = true
-begun_after Act.End x = false
-begun_after _ x = x
-
-abbrev pub is_begun : Journal → Bool
-is_begun [] = false
-is_begun (e ∷ m) = begun_after e.act (is_begun m)
 
 open_step : (s : ℕ) (by : Option ℕ) (a : Act) (o : Bool) → killed_by s a o ≡ false → open_after s by a o ≡ cond (is_session s by) (begun_after a o) o
 open_step s by Act.Begin o p = begun (is_session s by)

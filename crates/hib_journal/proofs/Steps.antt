@@ -3,10 +3,9 @@ use Rattle.std.proofs.Common.{◌≡◌, ℕ, inl, inr, Bool, true, false, cond,
 use Rattle.hib_journal.specs.Types.{Script, Act, Entry}
 use Rattle.hib_base.specs.Tables.{Tables}
 use Rattle.hib_journal.specs.Sessions.{Journal, own, is_by, is_open, was_killed}
-use Rattle.hib_journal.specs.Plan.{first_act, left_of}
+use Rattle.hib_journal.specs.Plan.{first_act, left_of, InOrder}
 use Rattle.hib_journal.specs.Next.{plan_of, next, is_cached}
 use Rattle.hib_journal.specs.Legal.{IsLegal, IsStep, due, due_by, may_come}
-use Rattle.hib_journal.proofs.Plans.{InOrder}
 use Rattle.hib_base.proofs.Tables.{Tested, tested}
 use Rattle.hib_journal.proofs.Sessions.{is_some_session}
 

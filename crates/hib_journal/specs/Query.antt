@@ -1,6 +1,7 @@
 -- What a query gives over tables.
 use Rattle.std.specs.Prelude.{ℕ, Bool, true, false, cond, not, ◌&&◌, ◌||◌, ◌==◌, nat_lt, List, [], ◌∷◌, length, map, take, drop, pos, int_lt, int_le, slice_get, Some, None, Option}
 use Rattle.std.specs.List.{filter, list_any, range_with_len}
+use Rattle.std.specs.Str.{bytes_eq}
 use Rattle.hib_journal.specs.Types.{Key, Row, Cell, Op, Path, Target, Cond, Sort, Select, Query}
 use Rattle.hib_base.specs.Tables.{Tables, row_at}
 use Rattle.hib_journal.specs.Room.{key}
@@ -18,15 +19,9 @@ is_below_cell (Cell.Text a) (Cell.Text b) = is_below_text a b
 is_below_cell (Cell.Bool false) (Cell.Bool true) = true
 is_below_cell _ _ = false
 
-abbrev pub same_text : List ℕ → List ℕ → Bool
-same_text [] [] = true
-same_text [] (y ∷ ys) = false
-same_text (x ∷ xs) [] = false
-same_text (x ∷ xs) (y ∷ ys) = (x == y) && same_text xs ys
-
 abbrev pub same_cell : Cell → Cell → Bool
 same_cell (Cell.Int a) (Cell.Int b) = int_le a b && int_le b a
-same_cell (Cell.Text a) (Cell.Text b) = same_text a b
+same_cell (Cell.Text a) (Cell.Text b) = bytes_eq a b
 same_cell (Cell.Bool true) (Cell.Bool b) = b
 same_cell (Cell.Bool false) (Cell.Bool b) = not b
 same_cell _ _ = false

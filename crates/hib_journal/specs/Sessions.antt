@@ -52,6 +52,27 @@ changes_in (e ∷ m) = changes_after e.act (changes_in m)
 abbrev pub changes : ℕ → Journal → List Change
 changes s h = changes_in (own s h)
 
+abbrev pub deferred_after : Act → List Change → List Change
+deferred_after (Act.Write c) cs = cs ++ c ∷ []
+deferred_after Act.Commit cs = []
+deferred_after Act.Rollback cs = []
+deferred_after _ cs = cs
+
+-- the changes of one session that the store defers: written, and since then neither committed nor rolled back
+abbrev pub deferred : Journal → List Change
+deferred [] = []
+deferred (e ∷ m) = deferred_after e.act (deferred m)
+
+abbrev pub begun_after : Act → Bool → Bool
+begun_after Act.Begin x = true
+begun_after Act.End x = false
+begun_after _ x = x
+
+-- whether one session's entries have a Begin without an End after it
+abbrev pub is_begun : Journal → Bool
+is_begun [] = false
+is_begun (e ∷ m) = begun_after e.act (is_begun m)
+
 -- whether s is open after an act by `by`, where it was or was not before
 abbrev pub open_after : ℕ → Option ℕ → Act → Bool → Bool
 open_after s by Act.Begin o = is_session s by || o

@@ -1,11 +1,10 @@
 -- One byte more of a line.
-use Rattle.std.proofs.Common.{◌≡◌, ℕ, suc, ◌+◌, ◌-◌, ◌*◌, ◌<◌, ◌≤◌, List, [], ◌∷◌, length, drop, get_or, cond, ◌==◌, Option, Some, None, refl, Bool, true, false, not, ◌&&◌, arith, add-one, drop-cons}
+use Rattle.std.proofs.Common.{◌≡◌, ℕ, ◌+◌, ◌-◌, ◌*◌, ◌<◌, ◌≤◌, List, [], ◌∷◌, length, drop, get_or, cond, ◌==◌, Some, refl, Bool, true, false, not, ◌&&◌, arith, add-one, drop-cons}
 use Rattle.std.specs.List.{list_all}
 use Rattle.std.proofs.lemmas.List.{drop_all}
 use Rattle.std.proofs.lemmas.Bool.Decides.{nat_tests}
 use Rattle.hib_lex.specs.Tokens.{is_positive, is_digit, size_of, space, hash, zero_digit, is_blank, size_after, tokens_from, step, ended}
 use Rattle.hib_lex.specs.declared.lexer.Scan.{Scan}
-use Rattle.hib_lex.specs.declared.lexer.Token.{Token}
 
 pub blank_next : (bs : List ℕ) (i : ℕ) → i < length bs → is_blank (drop i bs) ≡ cond (get_or bs i 0 == space) (is_blank (drop (i + 1) bs)) (get_or bs i 0 == hash)
 blank_next bs i h = rw (add-one, drop-cons bs i 0) refl

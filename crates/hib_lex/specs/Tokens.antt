@@ -1,6 +1,7 @@
 -- The tokens of a line, and which lines say nothing.
-use Rattle.std.specs.Prelude.{ℕ, suc, ◌+◌, ◌-◌, ◌*◌, ◌^◌, Bool, true, false, cond, not, ◌&&◌, ◌||◌, ◌==◌, nat_lt, nat_le, List, [], ◌∷◌, ◌++◌, length, take, drop, position, ℤ, pos, neg_ℤ, Option, Some, None, option_map, option_and_then}
+use Rattle.std.specs.Prelude.{ℕ, ◌+◌, ◌-◌, ◌*◌, ◌^◌, Bool, true, false, cond, not, ◌&&◌, ◌||◌, ◌==◌, nat_lt, nat_le, List, [], ◌∷◌, ◌++◌, length, take, drop, position, ℤ, pos, neg_ℤ, Option, Some, None, option_map, option_and_then}
 use Rattle.std.specs.List.{list_all}
+use Rattle.hib_base.specs.Fits.{is_printable}
 use Rattle.hib_lex.specs.declared.lexer.Token.{Token}
 use Rattle.hib_lex.specs.declared.lexer.Place.{Place}
 use Rattle.hib_lex.specs.declared.lexer.Scan.{Scan}
@@ -37,9 +38,6 @@ abbrev pub underscore : ℕ
 underscore = 95
 
 -- ---- lines
-abbrev pub is_printable : ℕ → Bool
-is_printable b = nat_le 32 b && nat_le b 126
-
 -- what every line has to be, a skipped one too
 abbrev pub is_lexical : List ℕ → Bool
 is_lexical line = nat_le (length line) 4096 && list_all is_printable line

@@ -1,6 +1,7 @@
 // The tokens of a line, and which lines are skipped.
 ghost use Rattle.std.specs.List.{list_all};
 ghost use Rattle.std.specs.Prelude.{◌≡◌, ◌==◌, ◌^◌, ◌<◌, ◌≤◌, pos, neg_ℤ, IfOk, SomeIff, position};
+ghost use Rattle.hib_base.specs.Fits.{is_printable};
 ghost use Rattle.hib_lex.specs.Tokens as lines;
 
 use hib_base::{Seq, Text};
@@ -62,7 +63,7 @@ pub fn is_lexical(line: &[u8]) -> bool
 }
 
 fn is_printable(line: &[u8]) -> bool
-    ensures { result ≡ list_all lines.is_printable line.now }
+    ensures { result ≡ list_all is_printable line.now }
 {
     line.iter().all(|byte| *byte >= 32 && *byte <= 126)
 }

@@ -1,3 +1,5 @@
+pub mod Calls
 pub mod Orders
 pub mod Places
+pub mod Searches
 pub mod Commits

@@ -23,7 +23,7 @@ is_among n fail = list_any (λ m. nat_eq m n) fail
 
 -- the call after n calls is to fail; no number names a call after the 4294967295th
 abbrev pub is_due : List ℕ → ℕ → Bool
-is_due fail n = nat_lt n 4294967295 && is_among (n + 1) fail
+is_due fail n = is_among (n + 1) fail && nat_lt n 4294967295
 
 -- the number of calls after one more; it stays at 4294967295
 abbrev pub next_call : ℕ → ℕ

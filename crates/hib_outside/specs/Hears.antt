@@ -1,7 +1,7 @@
 -- What a listener has heard, and when it leaves.
 use Rattle.std.specs.Prelude.{◌≡◌, ◌≢◌, ◌↔◌, ◌≤◌, ℕ, ◌-◌, List, [], ◌∷◌, ◌++◌, ⊤, slice_get, Some, None, Option}
 use Rattle.std.specs.Option.{option_map}
-use Rattle.hib_base.specs.Types.{Entry}
+use Rattle.hib_outside.specs.Types.{Entry}
 use Rattle.hib_outside.specs.declared.listener.Heard.{Heard}
 
 -- the list heard, with the entry at its end unless memory ran out

@@ -1,8 +1,8 @@
 -- What a keeper's tables are after a call, and what it lists.
-use Rattle.std.specs.Prelude.{ℕ, ⊤, Bool, cond, nat_eq, List, [], ◌∷◌, Result, Ok, Err, Some, None, Option}
+use Rattle.std.specs.Prelude.{ℕ, ⊤, Bool, cond, nat_eq, List, [], ◌∷◌, Result, Ok, Err, Option}
 use Rattle.std.specs.List.{list_any}
 use Rattle.std.specs.Option.{option_map}
-use Rattle.hib_base.specs.Types.{Change, Row}
+use Rattle.hib_outside.specs.Types.{Change}
 use Rattle.hib_base.specs.Tables.{Tables, start}
 use Rattle.hib_outside.specs.Verdicts.{after_applied}
 use Rattle.hib_outside.specs.declared.keeper.Applied.{Applied}

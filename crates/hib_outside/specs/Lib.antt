@@ -1,3 +1,4 @@
+pub mod Types
 pub mod Causes
 pub mod Verdicts
 pub mod Keeps

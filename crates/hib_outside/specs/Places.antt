@@ -1,6 +1,6 @@
 -- Where a key's row stands in tables in order of keys, or where it would.
-use Rattle.std.specs.Prelude.{ℕ, suc, cond, List, [], ◌∷◌, Result, Ok, Err}
-use Rattle.hib_base.specs.Types.{Key}
+use Rattle.std.specs.Prelude.{ℕ, suc, cond, [], ◌∷◌, Result, Ok, Err}
+use Rattle.hib_outside.specs.Types.{Key}
 use Rattle.hib_base.specs.Keys.{same_key, is_before}
 use Rattle.hib_base.specs.Tables.{Tables}
 

@@ -1,6 +1,6 @@
 -- Verdicts: what a keeper answers to a batch of changes.
-use Rattle.std.specs.Prelude.{ℕ, ◌+◌, ◌<◌, Bool, true, false, cond, List, [], ◌∷◌, slice_get, Some, None, Option}
-use Rattle.hib_base.specs.Types.{Key, Row, Change, Commit}
+use Rattle.std.specs.Prelude.{ℕ, ◌+◌, ◌<◌, true, false, cond, List, [], ◌∷◌, slice_get, Some, None, Option}
+use Rattle.hib_outside.specs.Types.{Row, Change, Commit}
 use Rattle.hib_base.specs.Tables.{Tables, row_at, after_change, after_changes, key_of, same_version}
 use Rattle.hib_outside.specs.declared.keeper.Applied.{Applied}
 

@@ -16,6 +16,6 @@ pub use failing::{Failing, Numbers};
 pub use gate::{Gate, OpenGate};
 pub use keeper::{Applied, KeepFault, Keeper};
 pub use listener::{Heard, Listener};
-// pub use mem_keeper::MemKeeper;
+pub use mem_keeper::MemKeeper;
 pub use mem_streams::{MemSink, MemSource};
 pub use streams::{Failed, Sink, Source};

@@ -1,39 +1,272 @@
 // Rows in order of keys, and what is done to them in place.
-ghost use Rattle.std.specs.Prelude.{◌≡◌, ◌+◌, ◌≤◌, ◌<◌, ℕ, true, length, List, MatchResult, IfOk, vec_len, vec_capacity, option_copied};
+ghost use Rattle.std.specs.Prelude.{◌≡◌, ◌+◌, ◌≤◌, ◌<◌, ℕ, true, length, List, cond, Some, None, MatchResult, IfOk, IfSome, vec_len, vec_capacity, option_copied};
 ghost use Rattle.hib_base.specs.Keys.{same_key, is_before};
-ghost use Rattle.hib_base.specs.Tables.{in_order, row_at, with_row, without_row, after_changes, start};
+ghost use Rattle.hib_base.specs.Tables.{in_order, row_at, with_row, without_row, row_left, same_version, after_change, after_changes, unless_there, start};
 ghost use Rattle.hib_outside.specs.Places.{place_in};
-ghost use Rattle.hib_outside.specs.Keeps.{rows_of};
+ghost use Rattle.hib_outside.specs.Keeps.{rows_of, is_listed};
 ghost use Rattle.hib_outside.specs.Verdicts.{refused_at, verdict, IsPlace};
 
 use crate::Applied;
 use hib_base::{Change, EntityNo, Key, Row};
 use std::alloc::{AllocError, Global};
 
-fn is_same(a: Key, b: Key) -> bool
-    ensures { result ≡ same_key a b }
+fn is_same(a: &Key, b: &Key) -> bool
+    ensures { result ≡ same_key a.now b.now }
 {
-    a.entity.0 == b.entity.0 && a.id == b.id
+    a == b
 }
 
-fn comes_before(a: Key, b: Key) -> bool
-    ensures { result ≡ is_before a b }
+fn comes_before(a: &Key, b: &Key) -> bool
+    ensures { result ≡ is_before a.now b.now }
 {
     a.entity.0 < b.entity.0 || (a.entity.0 == b.entity.0 && a.id < b.id)
 }
 
-/// The place of a key's row, or else the place where it belongs.
-fn find(rows: &[(Key, Row)], key: Key) -> Result<usize, usize>
-    ensures place { result ≡ place_in rows.now key }
+/// The place of a key's row, or else the place where it belongs. A search by halves.
+fn find(rows: &[(Key, Row)], key: &Key) -> Result<usize, usize>
+    requires { in_order rows.now ≡ true }
+    ensures place { result ≡ place_in rows.now key.now }
     ensures within { MatchResult result (λ i. i < length rows.now) (λ i. i ≤ length rows.now) }
 {
-    for (at, entry) in rows.iter().enumerate() {
-        if is_same(entry.0, key) {
-            return Ok(at);
+    let mut low = 0;
+    let mut high = rows.len();
+    while low < high {
+        let middle = low + (high - low) / 2;
+        let here = &rows[middle].0;
+        if is_same(here, key) {
+            return Ok(middle);
         }
-        if comes_before(key, entry.0) {
-            return Err(at);
+        if comes_before(here, key) {
+            low = middle + 1;
+        } else {
+            high = middle;
         }
     }
-    Err(rows.len())
+    Err(low)
+}
+
+/// The row of a key.
+pub fn row_of<'a>(rows: &'a [(Key, Row)], key: &Key) -> Option<&'a Row>
+    requires { in_order rows.now ≡ true }
+    ensures { option_copied result ≡ row_at rows.now key.now }
+{
+    match find(rows, key) {
+        Ok(at) => Some(&rows[at].1),
+        Err(_) => None,
+    }
+}
+
+/// Gives a key a row. There is room for one more.
+fn put(rows: &mut Vec<(Key, Row)>, key: Key, row: Row)
+    requires ordered { in_order rows.old.items ≡ true }
+    requires room { vec_len rows.old < vec_capacity rows.old }
+    ensures rows { rows.new.items ≡ with_row rows.old.items key row }
+    ensures len { vec_len rows.new ≤ vec_len rows.old + 1 }
+    ensures capacity { vec_capacity rows.new ≡ vec_capacity rows.old }
+{
+    match find(rows.as_slice(), &key) {
+        Ok(at) => rows[at] = (key, row),
+        Err(at) => {
+            if rows.insert(at, (key, row)).is_err() {
+                unreachable!();
+            }
+        }
+    }
+}
+
+/// Takes a key's row out.
+fn take_out(rows: &mut Vec<(Key, Row)>, key: &Key)
+    requires { in_order rows.old.items ≡ true }
+    ensures rows { rows.new.items ≡ without_row rows.old.items key.now }
+    ensures len { vec_len rows.new ≤ vec_len rows.old }
+    ensures capacity { vec_capacity rows.new ≡ vec_capacity rows.old }
+{
+    if let Ok(at) = find(rows.as_slice(), key) {
+        rows.remove(at);
+    }
+}
+
+/// The row that a change leaves.
+fn row_left_by(change: &Change) -> Option<&Row>
+    ensures { option_copied result ≡ row_left change.now }
+{
+    match change {
+        Change::Insert { row, .. } | Change::Update { row, .. } => Some(row),
+        Change::Delete { .. } => None,
+    }
+}
+
+/// The row of a key once changes are done.
+fn row_after<'a>(rows: &'a [(Key, Row)], done: &'a [Change], key: &Key) -> Option<&'a Row>
+    requires { in_order rows.now ≡ true }
+    ensures { option_copied result ≡ row_at (after_changes done.now rows.now) key.now }
+{
+    let mut at = done.len();
+    while at > 0 {
+        at -= 1;
+        let change = &done[at];
+        if is_same(&change.key(), key) {
+            return row_left_by(change);
+        }
+    }
+    row_of(rows, key)
+}
+
+/// The answer to a change that meets this row and doesn't apply; none where it applies.
+fn refused(at: usize, change: &Change, found: Option<&Row>) -> Option<Applied>
+    ensures value { result ≡ refused_at at change.now (option_copied found.entry) }
+    ensures place { (n : ℕ) → at < n → IfSome result (λ a. IsPlace a n) }
+{
+    match (change, found) {
+        (Change::Insert { .. }, Some(_)) => Some(Applied::Duplicate { at }),
+        (Change::Insert { .. }, None) => None,
+        (Change::Update { expected, .. } | Change::Delete { expected, .. }, Some(row)) => {
+            unless_expected(at, *expected, row.version)
+        }
+        (Change::Update { .. } | Change::Delete { .. }, None) => Some(Applied::Stale {
+            at,
+            found: None,
+            there: false,
+        }),
+    }
+}
+
+/// The answer to a change that expects another version than the row has.
+fn unless_expected(at: usize, expected: Option<u32>, found: Option<u32>) -> Option<Applied>
+    ensures value { result ≡ cond (same_version expected found) None (Some (Applied.Stale at found true)) }
+    ensures place { (n : ℕ) → at < n → IfSome result (λ a. IsPlace a n) }
+{
+    match (expected, found) {
+        (None, None) => None,
+        (Some(a), Some(b)) if a == b => None,
+        _ => Some(Applied::Stale {
+            at,
+            found,
+            there: true,
+        }),
+    }
+}
+
+/// What is answered to a batch: the first change that doesn't apply decides.
+pub fn judge(rows: &[(Key, Row)], batch: &[Change]) -> Applied
+    requires { in_order rows.now ≡ true }
+    ensures value { result ≡ verdict rows.now batch.now 0 }
+    ensures place { IsPlace result (length batch.now) }
+{
+    for at in 0..batch.len() {
+        let change = &batch[at];
+        let found = row_after(rows, &batch[..at], &change.key());
+        if let Some(applied) = refused(at, change, found) {
+            return applied;
+        }
+    }
+    Applied::Done
+}
+
+/// Equal changes.
+pub fn copy_changes(alloc: Global, changes: &[Change]) -> Result<Vec<Change>, AllocError>
+    ensures { IfOk result (λ c. c.items ≡ changes.now) }
+{
+    let mut copy = Vec::with_capacity(alloc, changes.len())?;
+    for change in changes {
+        copy.push(change.copy(alloc)?)?;
+    }
+    Ok(copy)
+}
+
+/// Equal rows.
+pub fn copy_rows(alloc: Global, rows: &[(Key, Row)]) -> Result<Vec<(Key, Row)>, AllocError>
+    ensures { IfOk result (λ c. c.items ≡ rows.now) }
+{
+    let mut copy = Vec::with_capacity(alloc, rows.len())?;
+    for row in rows {
+        copy.push((row.0, row.1.copy(alloc)?))?;
+    }
+    Ok(copy)
+}
+
+/// Copies of the rows of these entities.
+pub fn listed(
+    alloc: Global,
+    rows: &[(Key, Row)],
+    entities: &[EntityNo],
+) -> Result<Vec<(Key, Row)>, AllocError>
+    ensures { IfOk result (λ c. c.items ≡ rows_of entities.now rows.now) }
+{
+    let mut copy = Vec::new(alloc);
+    for row in rows {
+        if is_of(&row.0, entities) {
+            copy.push((row.0, row.1.copy(alloc)?))?;
+        }
+    }
+    Ok(copy)
+}
+
+/// Whether a key is of one of these entities.
+fn is_of(key: &Key, entities: &[EntityNo]) -> bool
+    ensures { result ≡ is_listed key.now.entity entities.now }
+{
+    entities.contains(&key.entity)
+}
+
+/// The row that a change leaves, without its change.
+fn into_row(change: Change) -> Option<Row>
+    ensures { result ≡ row_left change }
+{
+    match change {
+        Change::Insert { row, .. } | Change::Update { row, .. } => Some(row),
+        Change::Delete { .. } => None,
+    }
+}
+
+/// Does a change. There is room for one row more.
+fn change_one(rows: &mut Vec<(Key, Row)>, change: Change)
+    requires ordered { in_order rows.old.items ≡ true }
+    requires room { vec_len rows.old < vec_capacity rows.old }
+    ensures rows { rows.new.items ≡ after_change change rows.old.items }
+    ensures len { vec_len rows.new ≤ vec_len rows.old + 1 }
+    ensures capacity { vec_capacity rows.new ≡ vec_capacity rows.old }
+{
+    let key = change.key();
+    match into_row(change) {
+        Some(row) => put(rows, key, row),
+        None => take_out(rows, &key),
+    }
+}
+
+/// Does changes one after another. There is room for as many rows more.
+#[tactic(auto, using(crate::proofs::Commits::after_changes_push, crate::proofs::Orders::in_order_change))]
+pub fn change_all(rows: &mut Vec<(Key, Row)>, changes: Vec<Change>)
+    requires ordered { in_order rows.old.items ≡ true }
+    requires room { vec_len rows.old + vec_len changes ≤ vec_capacity rows.old }
+    ensures { rows.new.items ≡ after_changes changes.items rows.old.items }
+{
+    for change in changes {
+        change_one(rows, change);
+    }
+}
+
+/// Adds a row, unless its key has one. There is room for one row more.
+fn add_one(rows: &mut Vec<(Key, Row)>, key: Key, row: Row)
+    requires ordered { in_order rows.old.items ≡ true }
+    requires room { vec_len rows.old < vec_capacity rows.old }
+    ensures rows { rows.new.items ≡ unless_there rows.old.items key row (row_at rows.old.items key) }
+    ensures len { vec_len rows.new ≤ vec_len rows.old + 1 }
+    ensures capacity { vec_capacity rows.new ≡ vec_capacity rows.old }
+{
+    if row_of(rows.as_slice(), &key).is_none() {
+        put(rows, key, row);
+    }
+}
+
+/// Adds each row whose key has none, one after another. There is room for as many rows more.
+#[tactic(auto, using(crate::proofs::Commits::start_push, crate::proofs::Orders::in_order_unless_there))]
+pub fn add_all(rows: &mut Vec<(Key, Row)>, more: Vec<(Key, Row)>)
+    requires ordered { in_order rows.old.items ≡ true }
+    requires room { vec_len rows.old + vec_len more ≤ vec_capacity rows.old }
+    ensures { rows.new.items ≡ start rows.old.items more.items }
+{
+    for (key, row) in more {
+        add_one(rows, key, row);
+    }
 }

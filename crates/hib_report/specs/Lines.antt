@@ -155,11 +155,11 @@ abbrev pub checked_text : Script → Checked → List ℕ
 checked_text script Checked.Fresh = codes "fresh"
 checked_text script (Checked.Stale n t) = codes "stale " ++ entity_text script n ++ codes " " ++ decimal t
 
-abbrev pub miss_text : Miss → List ℕ
-miss_text Miss.Absent = codes "miss absent"
-miss_text (Miss.Locked n) = codes "miss locked " ++ decimal n
-miss_text (Miss.Released t) = codes "miss released " ++ decimal t
-miss_text (Miss.Young t) = codes "miss young " ++ decimal t
+abbrev pub reason_text : Miss → List ℕ
+reason_text Miss.Absent = codes "absent"
+reason_text (Miss.Locked n) = codes "locked " ++ decimal n
+reason_text (Miss.Released t) = codes "released " ++ decimal t
+reason_text (Miss.Young t) = codes "young " ++ decimal t
 
 abbrev pub evicted_id_text : Option ℕ → List ℕ
 evicted_id_text None = []
@@ -203,9 +203,9 @@ abbrev pub read_text : Option Row → List ℕ
 read_text None = codes "none"
 read_text (Some r) = codes "row " ++ row_text r
 
-abbrev pub kept_text : Script → Option ℕ → List ℕ
-kept_text script None = codes "kept"
-kept_text script (Some q) = codes "kept dropped " ++ query_text script q
+abbrev pub dropped_text : Script → Option ℕ → List ℕ
+dropped_text script None = []
+dropped_text script (Some q) = codes " dropped " ++ query_text script q
 
 abbrev pub reply_text : Script → Reply → List ℕ
 reply_text script (Reply.Began f) = codes "floor " ++ decimal f
@@ -227,9 +227,9 @@ reply_text script (Reply.Stamped t) = decimal t
 reply_text script (Reply.Check c) = checked_text script c
 reply_text script (Reply.Found t l) = codes "found at " ++ decimal t ++ codes " " ++ list_text l
 reply_text script Reply.Absent = codes "absent"
-reply_text script (Reply.Kept q) = kept_text script q
+reply_text script (Reply.Kept q) = codes "kept" ++ dropped_text script q
 reply_text script (Reply.Hit r) = codes "hit " ++ row_text r
-reply_text script (Reply.Miss m) = miss_text m
+reply_text script (Reply.Miss m) = codes "miss " ++ reason_text m
 reply_text script (Reply.Put p) = put_reply_text p
 reply_text script (Reply.Locked l) = locked_text l
 reply_text script (Reply.Unlocked u) = unlocked_text u

@@ -2,6 +2,17 @@
 #![tactic(auto)]
 
 mod acts;
+mod counts;
 mod lines;
+mod regions;
 mod replies;
+mod report;
 mod rows;
+mod sessions;
+mod unsound;
+
+pub use lines::line;
+pub use report::{summary, text};
+
+#[cfg(test)]
+mod tests;

@@ -1,0 +1,4 @@
+pub mod Memory
+pub mod Built
+pub mod Control
+pub mod Session

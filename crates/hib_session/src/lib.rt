@@ -1,2 +1,9 @@
-//! hib_session
+//! A session: which act is due, what it answers itself, and what it remembers of its own entries.
 #![tactic(auto)]
+
+mod control;
+mod memory;
+mod modes;
+mod session;
+
+pub use session::Session;

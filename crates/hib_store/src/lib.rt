@@ -1,2 +1,9 @@
-//! hib_store
+//! The store: read-committed rows of a keeper, with each session's changes deferred to its commit.
 #![tactic(auto)]
+
+mod asking;
+mod store;
+mod written;
+
+pub use asking::Loaded;
+pub use store::Store;

@@ -1,4 +1,4 @@
-use Rattle.std.proofs.Common.{◌≡◌, drop, Some}
+use Rattle.std.proofs.Common.{◌≡◌, drop}
 use Rattle.hib_lex.specs.Tokens as lines
 use Rattle.hib_lex.proofs.lexer.is_skipped.Given as goal
 

@@ -1,5 +1,5 @@
-use Rattle.std.proofs.Common.{◌≡◌, ◌++◌, take, flat_map, codes}
-use Rattle.hib_report.specs.Lines.{escaped, cell_text, names_text, sets_text}
+use Rattle.std.proofs.Common.{◌≡◌, ◌++◌, take}
+use Rattle.hib_report.specs.Lines.{sets_text}
 use Rattle.hib_report.proofs.rows.put_sets.Given as goal
 
 abbrev pub invariant-loop-set : goal.invariant-loop-set

@@ -1,5 +1,5 @@
 use Rattle.std.proofs.Common.{◌≡◌, ◌++◌, take, flat_map, codes}
-use Rattle.hib_report.specs.Lines.{escaped, cell_text, names_text, sets_text}
+use Rattle.hib_report.specs.Lines.{escaped}
 use Rattle.hib_report.proofs.rows.put_text.Given as goal
 
 abbrev pub invariant-loop-b : goal.invariant-loop-b

@@ -1,0 +1,75 @@
+-- Loops over a journal from its oldest entry on: what they know is what the definitions say of the entries behind them.
+use Rattle.std.proofs.Common.{◌≡◌, refl, ℕ, ◌+◌, ◌<◌, Bool, true, false, not, cond, ◌&&◌, ◌||◌, Some, None, Option, List, [], ◌∷◌, reverse, take, length, get_or, ◌∙◌, ap}
+use Rattle.std.specs.List.{list_any}
+use Rattle.std.proofs.Math.Bool.{or_comm, or-false}
+use Rattle.std.proofs.lemmas.List.{take_more, reverse-append}
+use Rattle.std.proofs.lemmas.List.Folds.{list_any-append}
+use Rattle.hib_journal.specs.Types.{Key, Change, Outcome, Act, Reply, Put, Unlocked, Inserted, Updated, Evicted, Entry}
+use Rattle.hib_journal.specs.Sessions.{Journal, is_by, is_open, was_killed, own, changes_after, changes_in, changes, is_restart}
+use Rattle.hib_journal.specs.Slot.{Touch, History, touch_here, touch, with_touch, history}
+use Rattle.hib_journal.specs.Sound.{all_calm, was_deleted, was_reused}
+use Rattle.hib_journal.specs.Legal.{outcome}
+use Rattle.hib_report.specs.Unsound.{leaves_calm, is_upset}
+
+-- one more entry stands at the head of the past
+pub reverse_more : {X : Type 0} → (xs : List X) (i : ℕ) (d : X) → i < length xs → reverse (take (i + 1) xs) ≡ get_or xs i d ∷ reverse (take i xs)
+reverse_more xs i d h = ap reverse (take_more xs i d h) ∙ reverse-append (take i xs) (get_or xs i d ∷ [])
+
+-- what is known of a session behind these entries
+pub record Fated (s : ℕ) (past : Journal) (opened killed : Bool) (last : Outcome) : Type 0 where
+  pub open_now : opened ≡ is_open s past
+  pub killed_once : killed ≡ was_killed s past
+  pub last_outcome : last ≡ outcome (own s past)
+
+-- only an answer that says so upsets a key
+pub calm_here : (a : Act) (r : Reply) → leaves_calm (touch_here a r) ≡ not (is_upset a r)
+calm_here (Act.Put k r t f) (Reply.Put (Put.Stored v late)) = refl
+calm_here (Act.AfterInsert k r f) (Reply.Inserted (Inserted.Stored v)) = refl
+calm_here (Act.AfterUpdate k i r) (Reply.Updated Updated.Stored) = refl
+calm_here (Act.AfterUpdate k i r) (Reply.Updated (Updated.Shared n)) = refl
+calm_here (Act.AfterUpdate k i r) (Reply.Updated Updated.Expired) = refl
+calm_here (Act.Lock k v f) (Reply.Locked l) = refl
+calm_here (Act.Unlock k i) (Reply.Unlocked (Unlocked.Released n)) = refl
+calm_here (Act.Unlock k i) (Reply.Unlocked Unlocked.Expired) = refl
+calm_here (Act.Evict k) (Reply.Evicted Evicted.Gone) = refl
+calm_here (Act.RegionRemove k) Reply.Dropped = refl
+calm_here _ _ = refl
+
+abbrev calm_touched : (restarted : Bool) (o : Option Touch) (now : ℕ) (s : History) → Type 0
+calm_touched restarted o now s = all_calm (cond restarted [] (with_touch o now s)) ≡ cond restarted true (leaves_calm o && all_calm s)
+
+calm_by : (restarted : Bool) (o : Option Touch) (now : ℕ) (s : History) → calm_touched restarted o now s
+calm_by true o now s = refl
+calm_by false None now s = refl
+calm_by false (Some t) now s = refl
+
+-- a key is calm behind one more entry
+pub calm_more : (k : Key) (e : Entry) (h : Journal) → all_calm (history k (e ∷ h)) ≡ cond (is_restart e.act) true (leaves_calm (touch k e) && all_calm (history k h))
+calm_more k e h = calm_by (is_restart e.act) (touch k e) e.tick (history k h)
+
+-- what is known of a key behind these entries
+pub record Sounded (k : Key) (past : Journal) (calm deleted reused : Bool) : Type 0 where
+  pub calm_now : calm ≡ all_calm (history k past)
+  pub deleted_once : deleted ≡ was_deleted k past
+  pub reused_once : reused ≡ was_reused k past
+
+-- what a session wrote, behind one more entry of any session
+
+abbrev pub wrote_by : (Change → Bool) → Act → Bool → Bool
+wrote_by p Act.Begin b = false
+wrote_by p (Act.Write c) b = p c || b
+wrote_by p _ b = b
+
+wrote_after : (p : Change → Bool) (a : Act) (cs : List Change) → list_any p (changes_after a cs) ≡ wrote_by p a (list_any p cs)
+wrote_after p (Act.Write c) cs = list_any-append p cs (c ∷ []) ∙ or_comm (list_any p cs) (p c || false) ∙ ap (λ b. b || list_any p cs) (or-false (p c))
+wrote_after p Act.Begin cs = refl
+wrote_after p _ cs = refl
+
+wrote_in : (p : Change → Bool) (mine : Bool) (e : Entry) (own : Journal) →
+    list_any p (changes_in (cond mine (e ∷ own) own)) ≡ cond mine (wrote_by p e.act (list_any p (changes_in own))) (list_any p (changes_in own))
+wrote_in p true e own = wrote_after p e.act (changes_in own)
+wrote_in p false e own = refl
+
+pub wrote_more : (p : Change → Bool) (s : ℕ) (e : Entry) (h : Journal) →
+    list_any p (changes s (e ∷ h)) ≡ cond (is_by s e) (wrote_by p e.act (list_any p (changes s h))) (list_any p (changes s h))
+wrote_more p s e h = wrote_in p (is_by s e) e (own s h)

@@ -1,0 +1,74 @@
+-- The read-write keys that a journal names and of which the claims on the cache do not speak.
+use Rattle.std.specs.Prelude.{ℕ, Bool, true, false, cond, not, List, [], ◌∷◌, ◌++◌, length, codes, flat_map, Some, None, Option}
+use Rattle.std.specs.List.{filter}
+use Rattle.std.specs.Fmt.{decimal}
+use Rattle.hib_base.specs.Keys.{same_key, is_before}
+use Rattle.hib_base.specs.Tables.{key_of}
+use Rattle.hib_journal.specs.Types.{Key, Change, Strategy, Act, Put, Unlocked, Updated, Reply, Script}
+use Rattle.hib_journal.specs.Sessions.{Journal}
+use Rattle.hib_journal.specs.Slot.{Touch, key_in}
+use Rattle.hib_journal.specs.Next.{strategy}
+use Rattle.hib_journal.specs.Sound.{is_calm, is_sound, inserts_key, deletes_key}
+use Rattle.hib_report.specs.declared.unsound.Edit.{Edit}
+use Rattle.hib_report.specs.Lines.{key_text}
+
+-- the key that an act names, in a region or in a change of the store
+abbrev pub named : Act → Option Key
+named (Act.Write c) = Some (key_of c)
+named a = key_in a
+
+abbrev pub is_read_write : Strategy → Bool
+is_read_write Strategy.ReadWrite = true
+is_read_write _ = false
+
+-- sorted keys with one more, which stands there once
+abbrev pub with_key : Key → List Key → List Key
+with_key k [] = k ∷ []
+with_key k (j ∷ js) = cond (same_key j k) (j ∷ js) (cond (is_before k j) (k ∷ j ∷ js) (j ∷ with_key k js))
+
+abbrev pub with_named : Script → Option Key → List Key → List Key
+with_named script None ks = ks
+with_named script (Some k) ks = cond (is_read_write (strategy script k.entity)) (with_key k ks) ks
+
+-- the read-write keys that a journal's acts name, in order of entity and identifier, each once
+abbrev pub keys_in : Script → Journal → List Key
+keys_in script [] = []
+keys_in script (e ∷ h) = with_named script (named e.act) (keys_in script h)
+
+abbrev pub unsound : Script → Journal → List Key
+unsound script past = filter (λ k. not (is_sound k past)) (keys_in script past)
+
+abbrev pub unsound_text : Script → Journal → List ℕ
+unsound_text script past =
+    codes "unsound " ++ decimal (length (unsound script past)) ++ codes "\n" ++ flat_map (λ k. key_text script k ++ codes "\n") (unsound script past)
+
+-- steps on the way to a key's soundness
+
+abbrev pub is_late : Reply → Bool
+is_late (Reply.Put (Put.Stored i late)) = late
+is_late _ = false
+
+abbrev pub is_release_expired : Reply → Bool
+is_release_expired (Reply.Unlocked Unlocked.Expired) = true
+is_release_expired _ = false
+
+abbrev pub is_update_expired : Reply → Bool
+is_update_expired (Reply.Updated Updated.Expired) = true
+is_update_expired _ = false
+
+-- whether an answer on a key is Expired, or Stored with the late mark
+abbrev pub is_upset : Act → Reply → Bool
+is_upset (Act.Put k r t f) reply = is_late reply
+is_upset (Act.Unlock k i) reply = is_release_expired reply
+is_upset (Act.AfterUpdate k i r) reply = is_update_expired reply
+is_upset _ reply = false
+
+-- whether what an entry does to a key, if anything, leaves it sound
+abbrev pub leaves_calm : Option Touch → Bool
+leaves_calm None = true
+leaves_calm (Some t) = is_calm t
+
+-- whether a change inserts the key, or deletes it
+abbrev pub is_edit : Edit → Key → Change → Bool
+is_edit Edit.Inserts k c = inserts_key k c
+is_edit Edit.Deletes k c = deletes_key k c

@@ -1,0 +1,51 @@
+// The report of a journal.
+ghost use Rattle.std.specs.Prelude.{◌≡◌, ◌++◌, OnOk, IfOk};
+ghost use Rattle.hib_report.specs.Report.{journal_text, report, summary};
+
+use crate::lines::put_lines;
+use crate::regions::put_counts;
+use crate::rows::put_labelled;
+use crate::sessions::put_sessions;
+use crate::unsound::put_unsound;
+use hib_base::{Bytes, Entry, Script, Seq};
+use hib_journal::journal::Journal;
+use std::alloc::{AllocError, Global};
+
+fn put_journal(alloc: Global, out: &mut Vec<u8>, entries: &[Entry]) -> Result<(), AllocError>
+    ensures { OnOk result (out.new.items ≡ out.old.items ++ journal_text entries.now) }
+{
+    put_labelled(alloc, out, b"journal ", entries.len() as u64)?;
+    out.extend_from_slice(b"\n")
+}
+
+/// The report of a journal, with a line feed after each line: the number of entries and a line for
+/// each, the sessions with their outcomes, the unsound keys, the counts of each region, of the
+/// store and of the queries, and `end`.
+///
+/// A session that was killed prints as `killed`, and another with the outcome of its last commit or
+/// rollback. So a session that is still open prints as its last transaction ended, or as
+/// `rolled-back` where it has ended none. Fails for want of memory alone.
+pub fn text(alloc: Global, script: &Script, journal: &Journal) -> Result<Bytes, AllocError>
+    ensures { IfOk result (λ b. b ≡ report script.now journal.now.list) }
+{
+    let entries = journal.as_slice();
+    let mut out = Vec::new(alloc);
+    put_journal(alloc, &mut out, entries)?;
+    put_lines(alloc, &mut out, script, entries)?;
+    put_sessions(alloc, &mut out, script, entries)?;
+    put_unsound(alloc, &mut out, script, entries)?;
+    put_counts(alloc, &mut out, script, entries)?;
+    Ok(Seq::from_vec(out))
+}
+
+/// The report without the lines of the entries and of the sessions. Fails for want of memory alone.
+pub fn summary(alloc: Global, script: &Script, journal: &Journal) -> Result<Bytes, AllocError>
+    ensures { IfOk result (λ b. b ≡ summary script.now journal.now.list) }
+{
+    let entries = journal.as_slice();
+    let mut out = Vec::new(alloc);
+    put_journal(alloc, &mut out, entries)?;
+    put_unsound(alloc, &mut out, script, entries)?;
+    put_counts(alloc, &mut out, script, entries)?;
+    Ok(Seq::from_vec(out))
+}

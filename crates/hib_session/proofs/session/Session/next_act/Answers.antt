@@ -1,0 +1,6 @@
+use Rattle.hib_session.proofs.Taking.{if_allowed}
+use Rattle.hib_session.proofs.session.Session.next_act.Goals as goal
+
+pub returns-clause-allowed : goal.returns-clause-allowed
+returns-clause-allowed c = λ mine f.
+    if_allowed c.args.script.now c.args.self.now mine c.in_ok-act.act f (c.in_ok-act.ensures mine f.knows f.stands f.settled)

@@ -1,0 +1,42 @@
+-- What a session stands for, and what it answers itself.
+use Rattle.std.specs.Prelude.{◌≡◌, ℕ, Bool, true, false, cond, ◌||◌, List, [], ◌∷◌, Some, None, Option}
+use Rattle.hib_journal.specs.Types.{Key, Script, Act, Reply, Entry}
+use Rattle.hib_journal.specs.Sessions.{Journal, changes_in}
+use Rattle.hib_journal.specs.Held.{held}
+use Rattle.hib_journal.specs.Plan.{InOrder}
+use Rattle.hib_journal.specs.Next.{strategy, is_in, is_held, plan_of, next}
+use Rattle.hib_journal.specs.Legal.{outcome, row_of, is_there, persisted, set_unless}
+use Rattle.hib_session.specs.declared.session.Session.{Session}
+use Rattle.hib_session.specs.Memory.{IsBuilt, Knows}
+use Rattle.hib_session.specs.Control.{Stands, is_settled, weight}
+
+-- which session it is
+abbrev pub number_of : Session → ℕ
+number_of s = s.control.number
+
+-- how much of it is left: a number that falls with each entry
+abbrev pub left_in : Script → Session → ℕ
+left_in script s = weight script s.control
+
+-- it has come so far by these entries, the newest first, each of which was due in its turn
+pub record Follows (script : Script) (s : Session) (mine : Journal) : Type 0 where
+  pub built : IsBuilt script
+  pub order : InOrder (plan_of script s.control.number) mine
+  pub knows : Knows s.memory mine
+  pub stands : Stands script s.control mine
+  pub settled : is_settled script s.control ≡ true
+
+-- the reply to an own act or to End, by the session's own entries; none to another act
+abbrev pub own_reply : Script → Journal → Act → Option Reply
+own_reply script mine Act.End = Some (Reply.Ended (outcome mine))
+own_reply script mine (Act.Find k) = Some (Reply.Row (row_of (held mine k)))
+own_reply script mine (Act.Persist k r) = Some (persisted (is_held (held mine k) || is_in k (changes_in mine)))
+own_reply script mine (Act.Set k cells) = Some (cond (is_there (row_of (held mine k))) (set_unless (strategy script k.entity)) Reply.Unknown)
+own_reply script mine (Act.Remove k) = Some (cond (is_there (row_of (held mine k))) Reply.Removed Reply.Unknown)
+own_reply script mine Act.Clear = Some Reply.Cleared
+own_reply script mine _ = None
+
+-- an entry of the act that is due, which has the session's own reply where the act has one
+pub record IsTaken (script : Script) (s : ℕ) (mine : Journal) (e : Entry) : Type 0 where
+  pub due : next script s mine ≡ Some e.act
+  pub own : (r : Reply) → own_reply script mine e.act ≡ Some r → e.reply ≡ r

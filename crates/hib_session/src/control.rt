@@ -1,0 +1,542 @@
+// The control of a session: which act is due.
+ghost use Rattle.std.specs.Prelude.{◌≡◌, ◌≢◌, ◌∷◌, [], ◌+◌, ◌*◌, ◌<◌, ◌≤◌, ◌^◌, length, slice_get, IfOk, OnOk, OnErr, List, true, false, Some, drop, IsTrue, ◌↔◌};
+ghost use Rattle.hib_base.specs.declared.entries.Entry.{Entry};
+ghost use Rattle.hib_base.specs.declared.entries.Act.{Act};
+ghost use Rattle.hib_base.specs.declared.replies.Reply.{Reply};
+ghost use Rattle.hib_base.specs.declared.scripts.Script.{Script};
+ghost use Rattle.hib_base.specs.declared.scripts.Mode.{Mode};
+ghost use Rattle.hib_journal.specs.Sessions.{Journal};
+ghost use Rattle.hib_journal.specs.Plan.{Plan, after, each};
+ghost use Rattle.hib_journal.specs.Next.{mode_reads, mode_puts, is_versioned_in, find, list, load_unless_hit, put_loaded, check_found, list_unless_fresh, keep_listed, block, mode_after, ends, first_version, statements, next};
+ghost use Rattle.hib_session.specs.Memory.{Knows, Remembers};
+ghost use Rattle.hib_session.specs.Control.{staged, queued, untaken, decided, is_answering, is_due, is_resting, rank, begin_at, act_staged, Stands, weight};
+
+use crate::memory::Memory;
+use crate::modes::{does_put, does_read};
+use hib_base::{
+    Act, Acts, Cells, Checked, Commit, EntityNo, Entry, Key, Mode, QueryNo, Reply, Row, Script,
+    Seq, SessionNo, Statement, Tick, copy_cells, copy_sets,
+};
+use std::alloc::{AllocError, Global};
+
+/// What is left of a block after the acts that are queued.
+#[derive(Clone, Copy, Debug, PartialEq, Eq)]
+pub enum Stage {
+    Idle,
+    Getting(Key),
+    Loading(Key),
+    Answering(QueryNo),
+    Looking(QueryNo),
+    Checking(QueryNo, Tick),
+    Listing(QueryNo),
+    Committing,
+    RollingBack,
+}
+
+/// How far a session is in its statements.
+#[derive(Drop)]
+pub struct Control {
+    /// The session.
+    pub number: SessionNo,
+    /// How many of its statements were taken.
+    pub place: usize,
+    /// The cache mode that is on.
+    pub mode: Mode,
+    /// Whether a transaction is to begin before the next statement.
+    pub begins: bool,
+    /// Acts that are due one after another.
+    pub queue: Acts,
+    /// What is left of the statement's block after them.
+    pub stage: Stage,
+}
+
+/// A list of one act.
+fn only(alloc: Global, act: Act) -> Result<Acts, AllocError>
+    ensures { IfOk result (λ q. q ≡ act ∷ []) }
+{
+    let mut queue = Seq::new(alloc);
+    queue.push(act)?;
+    Ok(queue)
+}
+
+/// What follows the answer to a Get.
+fn got(key: Key, reply: &Reply) -> Stage
+    ensures follows { (script : Script) (mode : Mode) (done : Journal) (go : Journal → Plan) →
+        staged script mode result done go ≡ load_unless_hit script mode key reply.now done go }
+    ensures less { rank result < rank (Stage.Getting key) }
+{
+    match reply {
+        Reply::Hit(_) => Stage::Idle,
+        _ => Stage::Loading(key),
+    }
+}
+
+/// The put of a row that was loaded, if it may come.
+fn put_row(
+    alloc: Global,
+    script: &Script,
+    memory: &Memory,
+    mode: Mode,
+    key: Key,
+    row: &Row,
+) -> Result<Acts, AllocError>
+    ensures { IfOk result (λ q. (mine : Journal) (go : Journal → Plan) → Remembers script.now memory.now mine →
+        each q mine go ≡ put_loaded script.now mode key (Reply.Row (Some row.now)) mine go) }
+{
+    if !memory.puts(script, mode, key) {
+        return Ok(Seq::new(alloc));
+    }
+    let time = memory.time;
+    let floor = memory.floor;
+    let act = Act::Put {
+        key,
+        row: row.copy(alloc)?,
+        time,
+        floor,
+    };
+    only(alloc, act)
+}
+
+/// What follows the answer to a Load.
+fn loaded(
+    alloc: Global,
+    script: &Script,
+    memory: &Memory,
+    mode: Mode,
+    key: Key,
+    reply: &Reply,
+) -> Result<Acts, AllocError>
+    ensures { IfOk result (λ q. (mine : Journal) (go : Journal → Plan) → Remembers script.now memory.now mine →
+        each q mine go ≡ put_loaded script.now mode key reply.now mine go) }
+{
+    match reply {
+        Reply::Row(Some(row)) => put_row(alloc, script, memory, mode, key, row),
+        _ => Ok(Seq::new(alloc)),
+    }
+}
+
+/// What follows the answer to a Look.
+fn looked(query: QueryNo, reply: &Reply) -> Stage
+    ensures follows { (script : Script) (mode : Mode) (done : Journal) (go : Journal → Plan) →
+        staged script mode result done go ≡ check_found script mode query reply.now done go }
+    ensures less { rank result < rank (Stage.Looking query) }
+{
+    match reply {
+        Reply::Found { time, .. } => Stage::Checking(query, *time),
+        _ => Stage::Listing(query),
+    }
+}
+
+/// What follows the answer to a Check.
+fn checked(query: QueryNo, reply: &Reply) -> Stage
+    ensures follows { (script : Script) (mode : Mode) (done : Journal) (go : Journal → Plan) →
+        staged script mode result done go ≡ list_unless_fresh script mode query reply.now done go }
+    ensures less { rank result < 2 }
+{
+    match reply {
+        Reply::Check(Checked::Fresh) => Stage::Idle,
+        _ => Stage::Listing(query),
+    }
+}
+
+/// What follows the answer to a List.
+fn listed(
+    alloc: Global,
+    script: &Script,
+    memory: &Memory,
+    mode: Mode,
+    query: QueryNo,
+    reply: &Reply,
+) -> Result<Acts, AllocError>
+    ensures { IfOk result (λ q. (mine : Journal) (go : Journal → Plan) → Remembers script.now memory.now mine →
+        each q mine go ≡ keep_listed script.now mode query reply.now mine go) }
+{
+    match reply {
+        Reply::Listed(list) => {
+            if !memory.frees(script, query, does_put(mode)) {
+                return Ok(Seq::new(alloc));
+            }
+            let list = copy_cells(alloc, list)?;
+            let time = memory.time;
+            only(alloc, Act::Keep { query, time, list })
+        }
+        _ => Ok(Seq::new(alloc)),
+    }
+}
+
+/// What follows an entry of the act that a stage has.
+fn answered(
+    alloc: Global,
+    script: &Script,
+    memory: &Memory,
+    mode: Mode,
+    stage: Stage,
+    entry: &Entry,
+) -> Result<(Acts, Stage), AllocError>
+    ensures less { is_due stage ≡ true → IfOk result (λ r. rank r.1 < rank stage) }
+    ensures follows { IfOk result (λ r. (done : Journal) (go : Journal → Plan) → is_due stage ≡ true → Remembers script.now memory.now (entry.now ∷ done) →
+        queued script.now mode r.0 r.1 (entry.now ∷ done) go ≡ after (staged script.now mode stage done go) entry.now) }
+{
+    match stage {
+        Stage::Getting(key) => Ok((Seq::new(alloc), got(key, &entry.reply))),
+        Stage::Loading(key) => Ok((
+            loaded(alloc, script, memory, mode, key, &entry.reply)?,
+            Stage::Idle,
+        )),
+        Stage::Looking(query) => Ok((Seq::new(alloc), looked(query, &entry.reply))),
+        Stage::Checking(query, _) => Ok((Seq::new(alloc), checked(query, &entry.reply))),
+        Stage::Listing(query) => Ok((
+            listed(alloc, script, memory, mode, query, &entry.reply)?,
+            Stage::Idle,
+        )),
+        Stage::Committing => Ok((memory.completion(alloc, script)?, Stage::Idle)),
+        Stage::RollingBack => Ok((memory.completion(alloc, script)?, Stage::Idle)),
+        Stage::Idle | Stage::Answering(_) => Ok((Seq::new(alloc), stage)),
+    }
+}
+
+fn is_versioned(script: &Script, entity: EntityNo) -> bool
+    ensures { result ≡ is_versioned_in (slice_get script.now.mapping entity) }
+{
+    match script.mapping.as_slice().get(entity.0 as usize) {
+        Some(def) => def.versioned,
+        None => false,
+    }
+}
+
+fn version_at_first(script: &Script, entity: EntityNo) -> Option<u32>
+    ensures { result ≡ first_version script.now entity }
+{
+    if is_versioned(script, entity) {
+        Some(0)
+    } else {
+        None
+    }
+}
+
+/// The acts and the stage of a find.
+fn find_taken(
+    alloc: Global,
+    script: &Script,
+    memory: &Memory,
+    mode: Mode,
+    key: Key,
+) -> Result<(Acts, Stage), AllocError>
+    ensures { IfOk result (λ r. (mine : Journal) (go : Journal → Plan) → Remembers script.now memory.now mine →
+        queued script.now mode r.0 r.1 mine go ≡ find script.now mode key mine go) }
+{
+    if memory.holds(key) {
+        return Ok((only(alloc, Act::Find { key })?, Stage::Idle));
+    }
+    if memory.reads(script, mode, key) {
+        return Ok((Seq::new(alloc), Stage::Getting(key)));
+    }
+    Ok((Seq::new(alloc), Stage::Loading(key)))
+}
+
+/// The acts and the stage of a list.
+fn list_taken(
+    alloc: Global,
+    script: &Script,
+    memory: &Memory,
+    query: QueryNo,
+) -> Result<(Acts, Stage), AllocError>
+    ensures { IfOk result (λ r. (mine : Journal) (mode : Mode) (go : Journal → Plan) → Remembers script.now memory.now mine →
+        queued script.now mode r.0 r.1 mine go ≡ list script.now mode query mine go) }
+{
+    if memory.must_flush(script, query) {
+        return Ok((memory.flush(alloc, script)?, Stage::Answering(query)));
+    }
+    Ok((Seq::new(alloc), Stage::Answering(query)))
+}
+
+/// The act of a persist.
+fn persist_taken(
+    alloc: Global,
+    script: &Script,
+    key: Key,
+    cells: &Cells,
+) -> Result<Acts, AllocError>
+    ensures { IfOk result (λ q. q ≡ Act.Persist key (record { version = first_version script.now key.entity; cells = cells.now }) ∷ []) }
+{
+    let version = version_at_first(script, key.entity);
+    let row = Row {
+        version,
+        cells: copy_cells(alloc, cells)?,
+    };
+    only(alloc, Act::Persist { key, row })
+}
+
+/// The acts and the stage of a statement.
+fn taken(
+    alloc: Global,
+    script: &Script,
+    memory: &Memory,
+    mode: Mode,
+    statement: &Statement,
+) -> Result<(Acts, Stage), AllocError>
+    ensures { IfOk result (λ r. (mine : Journal) (go : Journal → Plan) → Remembers script.now memory.now mine →
+        queued script.now (mode_after statement.now mode) r.0 r.1 mine go ≡ block script.now mode statement.now mine go) }
+{
+    match statement {
+        Statement::Find { key } => find_taken(alloc, script, memory, mode, *key),
+        Statement::Persist { key, cells } => Ok((
+            persist_taken(alloc, script, *key, cells)?,
+            Stage::Idle,
+        )),
+        Statement::Set { key, cells } => {
+            let cells = copy_sets(alloc, cells)?;
+            Ok((only(alloc, Act::Set { key: *key, cells })?, Stage::Idle))
+        }
+        Statement::Remove { key } => Ok((only(alloc, Act::Remove { key: *key })?, Stage::Idle)),
+        Statement::List { query } => list_taken(alloc, script, memory, *query),
+        Statement::Flush => Ok((memory.flush(alloc, script)?, Stage::Idle)),
+        Statement::Clear => Ok((only(alloc, Act::Clear)?, Stage::Idle)),
+        Statement::Mode { .. } => Ok((Seq::new(alloc), Stage::Idle)),
+        Statement::Commit => Ok((memory.flush(alloc, script)?, Stage::Committing)),
+        Statement::Rollback => Ok((Seq::new(alloc), Stage::RollingBack)),
+    }
+}
+
+fn mode_from(statement: &Statement, mode: Mode) -> Mode
+    ensures { result ≡ mode_after statement.now mode }
+{
+    match statement {
+        Statement::Mode { mode } => *mode,
+        _ => mode,
+    }
+}
+
+fn is_end(statement: &Statement) -> bool
+    ensures { result ≡ ends statement.now }
+{
+    match statement {
+        Statement::Commit | Statement::Rollback => true,
+        _ => false,
+    }
+}
+
+/// The statements of a session.
+fn statements_of(script: &Script, number: SessionNo) -> &[Statement]
+    ensures { result.now ≡ statements (slice_get script.now.sessions number) }
+{
+    match script.sessions.as_slice().get(number.0 as usize) {
+        Some(def) => def.statements.as_slice(),
+        None => &[],
+    }
+}
+
+/// Whether no statement stands at a place.
+fn is_over(list: &[Statement], place: usize) -> bool
+    ensures { IsTrue result ↔ (drop place list.now ≡ []) }
+{
+    match list.get(place) {
+        Some(_) => false,
+        None => true,
+    }
+}
+
+fn answering(script: &Script, memory: &Memory, mode: Mode, stage: Stage) -> Stage
+    ensures decided { (mine : Journal) → Remembers script.now memory.now mine → result ≡ decided script.now mode mine stage }
+    ensures less { is_answering stage ≡ true → rank result < rank stage }
+{
+    match stage {
+        Stage::Answering(query) => {
+            if memory.frees(script, query, does_read(mode)) {
+                Stage::Looking(query)
+            } else {
+                Stage::Listing(query)
+            }
+        }
+        _ => stage,
+    }
+}
+
+fn is_answering_stage(stage: Stage) -> bool
+    ensures { result ≡ is_answering stage }
+{
+    match stage {
+        Stage::Answering(_) => true,
+        _ => false,
+    }
+}
+
+fn is_idle(stage: Stage) -> bool
+    ensures { result ≡ is_resting stage }
+{
+    match stage {
+        Stage::Idle => true,
+        _ => false,
+    }
+}
+
+/// The act of a stage.
+fn act_of(memory: &Memory, stage: Stage) -> Option<Act>
+    ensures { (mine : Journal) → Knows memory.now mine → result ≡ act_staged stage mine }
+{
+    match stage {
+        Stage::Getting(key) => Some(Act::Get {
+            key,
+            time: memory.time,
+        }),
+        Stage::Loading(key) => Some(Act::Load { key }),
+        Stage::Looking(query) => Some(Act::Look { query }),
+        Stage::Checking(query, time) => Some(Act::Check { query, time }),
+        Stage::Listing(query) => Some(Act::List { query }),
+        Stage::Committing => Some(Act::Commit),
+        Stage::RollingBack => Some(Act::Rollback),
+        Stage::Idle | Stage::Answering(_) => None,
+    }
+}
+
+impl Control {
+    /// The control of a session that has done nothing.
+    pub fn start(alloc: Global, number: SessionNo) -> Control
+        ensures number { result.number ≡ number }
+        ensures stands { (script : Script) → Stands script result [] }
+        ensures settled { (script : Script) → Rattle.hib_session.specs.Control.is_settled script result ≡ true }
+    {
+        Control {
+            number,
+            place: 0,
+            mode: Mode::Normal,
+            begins: true,
+            queue: Seq::new(alloc),
+            stage: Stage::Idle,
+        }
+    }
+
+    /// Whether all statements were taken.
+    fn is_through(&self, script: &Script) -> bool
+        ensures { IsTrue result ↔ (untaken script.now self.now ≡ []) }
+    {
+        is_over(statements_of(script, self.number), self.place)
+    }
+
+    /// The Begin of a transaction, if one is to begin.
+    fn begin_due(&self, script: &Script) -> Option<Act>
+        ensures { result ≡ begin_at self.now.begins (untaken script.now self.now) }
+    {
+        if !self.begins || self.is_through(script) {
+            return None;
+        }
+        Some(Act::Begin)
+    }
+
+    /// Whether an act is due, or nothing is left.
+    fn is_settled(&self, script: &Script) -> bool
+        ensures { result ≡ Rattle.hib_session.specs.Control.is_settled script.now self.now }
+    {
+        if !self.queue.is_empty() {
+            return true;
+        }
+        match self.stage {
+            Stage::Idle => self.begins || self.is_through(script),
+            Stage::Answering(_) => false,
+            _ => true,
+        }
+    }
+
+    /// Takes the next statement.
+    fn take(&mut self, alloc: Global, script: &Script, memory: &Memory) -> Result<(), AllocError>
+        requires empty { self.old.queue ≡ [] }
+        requires idle { self.old.stage ≡ Stage.Idle }
+        requires begun { self.old.begins ≡ false }
+        requires there { self.old.place < length (statements (slice_get script.now.sessions self.old.number)) }
+        ensures number { self.new.number ≡ self.old.number }
+        ensures stands { (mine : Journal) → Remembers script.now memory.now mine → Stands script.now self.old mine → Stands script.now self.new mine }
+        ensures weight { OnOk result (weight script.now self.new < weight script.now self.old) }
+    {
+        let statement = &statements_of(script, self.number)[self.place];
+        let (queue, stage) = taken(alloc, script, memory, self.mode, statement)?;
+        let _few = queue.len();
+        self.mode = mode_from(statement, self.mode);
+        self.begins = is_end(statement);
+        self.queue = queue;
+        self.stage = stage;
+        self.place += 1;
+        Ok(())
+    }
+
+    /// One step towards an act that is due.
+    fn go_on(&mut self, alloc: Global, script: &Script, memory: &Memory) -> Result<(), AllocError>
+        requires { Rattle.hib_session.specs.Control.is_settled script.now self.old ≡ false }
+        ensures number { self.new.number ≡ self.old.number }
+        ensures stands { (mine : Journal) → Remembers script.now memory.now mine → Stands script.now self.old mine → Stands script.now self.new mine }
+        ensures weight { OnOk result (weight script.now self.new < weight script.now self.old) }
+    {
+        if is_answering_stage(self.stage) {
+            self.stage = answering(script, memory, self.mode, self.stage);
+            return Ok(());
+        }
+        self.take(alloc, script, memory)
+    }
+
+    /// Goes on until an act is due or nothing is left.
+    pub fn settle(
+        &mut self,
+        alloc: Global,
+        script: &Script,
+        memory: &Memory,
+    ) -> Result<(), AllocError>
+        ensures number { self.new.number ≡ self.old.number }
+        ensures stands { (mine : Journal) → Remembers script.now memory.now mine → Stands script.now self.old mine → Stands script.now self.new mine }
+        ensures settled { OnOk result (Rattle.hib_session.specs.Control.is_settled script.now self.new ≡ true) }
+        ensures weight { OnOk result (weight script.now self.new ≤ weight script.now self.old) }
+    {
+        while !self.is_settled(script) {
+            self.go_on(alloc, script, memory)?;
+        }
+        Ok(())
+    }
+
+    /// The act that is due, or none where nothing is left.
+    pub fn next_act(
+        &self,
+        alloc: Global,
+        script: &Script,
+        memory: &Memory,
+    ) -> Result<Option<Act>, AllocError>
+        ensures { IfOk result (λ a. (mine : Journal) → Knows memory.now mine → Stands script.now self.now mine
+            → Rattle.hib_session.specs.Control.is_settled script.now self.now ≡ true → a ≡ next script.now self.now.number mine) }
+    {
+        if !self.queue.is_empty() {
+            let act = self.queue.at(0).copy(alloc)?;
+            return Ok(Some(act));
+        }
+        if is_idle(self.stage) {
+            return Ok(self.begin_due(script));
+        }
+        Ok(act_of(memory, self.stage))
+    }
+
+    /// Takes one more entry, which the memory has noted.
+    pub fn step(
+        &mut self,
+        alloc: Global,
+        script: &Script,
+        memory: &Memory,
+        entry: &Entry,
+    ) -> Result<(), AllocError>
+        ensures number { self.new.number ≡ self.old.number }
+        ensures stands { OnOk result ((done : Journal) → Remembers script.now memory.now (entry.now ∷ done) → Stands script.now self.old done
+            → Rattle.hib_session.specs.Control.is_settled script.now self.old ≡ true → Stands script.now self.new (entry.now ∷ done)) }
+        ensures weight { OnOk result (Rattle.hib_session.specs.Control.is_settled script.now self.old ≡ true
+            → Rattle.hib_session.specs.Control.is_over script.now self.old ≡ false → weight script.now self.new < weight script.now self.old) }
+        ensures err { OnErr result (self.new ≡ self.old) }
+    {
+        if !self.queue.is_empty() {
+            self.queue.take_first();
+            return Ok(());
+        }
+        if is_idle(self.stage) {
+            self.begins = false;
+            return Ok(());
+        }
+        let (queue, stage) = answered(alloc, script, memory, self.mode, self.stage, entry)?;
+        let _few = queue.len();
+        self.queue = queue;
+        self.stage = stage;
+        Ok(())
+    }
+}

@@ -1,0 +1,194 @@
+// A session of a script.
+ghost use Rattle.std.specs.Prelude.{◌≡◌, ◌∷◌, ◌<◌, ◌||◌, cond, [], IfOk, IfSome, OnOk, Some};
+ghost use Rattle.hib_base.specs.declared.replies.Reply.{Reply};
+ghost use Rattle.hib_base.specs.declared.scripts.Script.{Script};
+ghost use Rattle.hib_journal.specs.Sessions.{Journal, changes_in};
+ghost use Rattle.hib_journal.specs.Held.{held};
+ghost use Rattle.hib_journal.specs.Legal.{unless_removed, is_there, set_unless};
+ghost use Rattle.hib_journal.specs.Next.{next, is_held, is_in, strategy};
+ghost use Rattle.hib_session.specs.Memory.{IsBuilt, Knows};
+ghost use Rattle.hib_session.specs.Built.{IsAllowed};
+ghost use Rattle.hib_session.specs.Session.{Follows, IsTaken, number_of, left_in, own_reply};
+
+use crate::control::Control;
+use crate::memory::Memory;
+use hib_base::{Act, EntityNo, Entry, Held, Key, Reply, Row, Script, SessionNo, State, Strategy};
+use std::alloc::{AllocError, Global};
+
+/// A session: how far it is in its statements, and what it remembers of its own entries.
+#[derive(Drop)]
+pub struct Session {
+    control: Control,
+    memory: Memory,
+}
+
+/// The row of an instance, as the session sees it.
+fn row_of(alloc: Global, held: &Held) -> Result<Option<Row>, AllocError>
+    ensures { IfOk result (λ r. r ≡ unless_removed held.now.state held.now.row) }
+{
+    match held.state {
+        State::New | State::Managed => {
+            let row = held.row.copy(alloc)?;
+            Ok(Some(row))
+        }
+        State::Removed => Ok(None),
+    }
+}
+
+/// Whether the session sees the row of an instance.
+fn is_shown(held: &Held) -> bool
+    ensures { result ≡ is_there (unless_removed held.now.state held.now.row) }
+{
+    match held.state {
+        State::New | State::Managed => true,
+        State::Removed => false,
+    }
+}
+
+/// The answer to a persist, by whether the key is known.
+fn persist_reply(known: bool) -> Reply
+    ensures { result ≡ Rattle.hib_journal.specs.Legal.persisted known }
+{
+    if known { Reply::Known } else { Reply::New }
+}
+
+/// The answer to a set of cells of a row that the session sees.
+fn set_reply(script: &Script, entity: EntityNo) -> Reply
+    ensures { result ≡ set_unless (strategy script.now entity) }
+{
+    match script.mapping.as_slice().get(entity.0 as usize) {
+        Some(def) => match def.strategy {
+            Strategy::ReadOnly => Reply::ReadOnly,
+            _ => Reply::Set,
+        },
+        None => Reply::Set,
+    }
+}
+
+impl Session {
+    /// The session of this number, which has done nothing.
+    pub fn open(alloc: Global, number: SessionNo) -> Session
+        ensures number { number_of result ≡ number }
+        ensures follows { (script : Script) → IsBuilt script → Follows script result [] }
+    {
+        Session {
+            control: Control::start(alloc, number),
+            memory: Memory::new(alloc),
+        }
+    }
+
+    /// Which session it is.
+    pub fn number(&self) -> SessionNo
+        ensures { result ≡ number_of self.now }
+    {
+        self.control.number
+    }
+
+    /// The act that is due, or none where the session is at its end.
+    pub fn next_act(&self, alloc: Global, script: &Script) -> Result<Option<Act>, AllocError>
+        ensures act { IfOk result (λ a. (mine : Journal) → Follows script.now self.now mine → a ≡ next script.now (number_of self.now) mine) }
+        ensures allowed { IfOk result (λ a. (mine : Journal) → Follows script.now self.now mine → IfSome a (IsAllowed mine)) }
+    {
+        let act = self.control.next_act(alloc, script, &self.memory)?;
+        Ok(act)
+    }
+
+    /// The answer to a find of what is held.
+    fn found(&self, alloc: Global, key: Key) -> Result<Reply, AllocError>
+        ensures { IfOk result (λ r. (mine : Journal) → Knows self.now.memory mine → r ≡ Reply.Row (Rattle.hib_journal.specs.Legal.row_of (held mine key))) }
+    {
+        match self.memory.find(key) {
+            Some(held) => {
+                let row = row_of(alloc, held)?;
+                Ok(Reply::Row(row))
+            }
+            None => Ok(Reply::Row(None)),
+        }
+    }
+
+    /// The answer to a persist.
+    fn persisted(&self, key: Key) -> Reply
+        ensures { (mine : Journal) → Knows self.now.memory mine → result ≡ Rattle.hib_journal.specs.Legal.persisted (is_held (held mine key) || is_in key (changes_in mine)) }
+    {
+        persist_reply(self.memory.knows(key))
+    }
+
+    /// Whether the session sees a row of a key.
+    fn shows(&self, key: Key) -> bool
+        ensures { (mine : Journal) → Knows self.now.memory mine → result ≡ is_there (Rattle.hib_journal.specs.Legal.row_of (held mine key)) }
+    {
+        match self.memory.find(key) {
+            Some(held) => is_shown(held),
+            None => false,
+        }
+    }
+
+    /// The answer to a set.
+    fn set(&self, script: &Script, key: Key) -> Reply
+        ensures { (mine : Journal) → Knows self.now.memory mine
+            → result ≡ cond (is_there (Rattle.hib_journal.specs.Legal.row_of (held mine key))) (set_unless (strategy script.now key.entity)) Reply.Unknown }
+    {
+        let entity = key.entity;
+        if self.shows(key) {
+            set_reply(script, entity)
+        } else {
+            Reply::Unknown
+        }
+    }
+
+    /// The answer to a remove.
+    fn removed(&self, key: Key) -> Reply
+        ensures { (mine : Journal) → Knows self.now.memory mine
+            → result ≡ cond (is_there (Rattle.hib_journal.specs.Legal.row_of (held mine key))) Reply.Removed Reply.Unknown }
+    {
+        if self.shows(key) {
+            Reply::Removed
+        } else {
+            Reply::Unknown
+        }
+    }
+
+    /// The session's own answer to an act of its own and to End; none to another act.
+    pub fn reply_to(
+        &self,
+        alloc: Global,
+        script: &Script,
+        act: &Act,
+    ) -> Result<Option<Reply>, AllocError>
+        ensures { IfOk result (λ r. (mine : Journal) → Follows script.now self.now mine → r ≡ own_reply script.now mine act.now) }
+    {
+        match act {
+            Act::End => Ok(Some(Reply::Ended {
+                outcome: self.memory.outcome,
+            })),
+            Act::Find { key } => {
+                let reply = self.found(alloc, *key)?;
+                Ok(Some(reply))
+            }
+            Act::Persist { key, .. } => Ok(Some(self.persisted(*key))),
+            Act::Set { key, .. } => Ok(Some(self.set(script, *key))),
+            Act::Remove { key } => Ok(Some(self.removed(*key))),
+            Act::Clear => Ok(Some(Reply::Cleared)),
+            _ => Ok(None),
+        }
+    }
+
+    /// Takes the entry of the act that was due. Where memory runs out nothing is said of the session any more.
+    pub fn advance(
+        &mut self,
+        alloc: Global,
+        script: &Script,
+        entry: &Entry,
+    ) -> Result<(), AllocError>
+        ensures number { number_of self.new ≡ number_of self.old }
+        ensures follows { OnOk result ((mine : Journal) → Follows script.now self.old mine → IsTaken script.now (number_of self.old) mine entry.now
+            → Follows script.now self.new (entry.now ∷ mine)) }
+        ensures less { OnOk result ((mine : Journal) → Follows script.now self.old mine → IsTaken script.now (number_of self.old) mine entry.now
+            → left_in script.now self.new < left_in script.now self.old) }
+    {
+        self.memory.note(alloc, entry)?;
+        self.control.step(alloc, script, &self.memory, entry)?;
+        self.control.settle(alloc, script, &self.memory)?;
+        Ok(())
+    }
+}

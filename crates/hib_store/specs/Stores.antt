@@ -1,0 +1,69 @@
+-- The store: what its keeper tells, and each session's written changes.
+use Rattle.std.specs.Prelude.{◌≡◌, ℕ, Bool, true, cond, ◌==◌, List, [], ◌∷◌, ◌++◌, Some, None, Option, Result, Ok, Err}
+use Rattle.std.specs.List.{list_any}
+use Rattle.std.specs.Option.{option_map}
+use Rattle.std.specs.declared.alloc.AllocError.{AllocError}
+use Rattle.hib_base.specs.Keys.{same_key}
+use Rattle.hib_base.specs.Tables.{Tables, row_at, after_changes, key_of}
+use Rattle.hib_store.specs.Types.{Key, Change, Commit}
+use Rattle.hib_store.specs.declared.asking.Loaded.{Loaded}
+
+-- the changes that sessions have written, by session
+abbrev pub Written : Type 0
+Written = List (ℕ × List Change)
+
+-- what contracts see of a store
+pub record StoreState : Type 0 where
+  -- the committed rows, where the keeper tells them
+  pub tables : Option Tables
+  -- how often the keeper has failed
+  pub faults : ℕ
+  -- how often the keeper was asked for rows
+  pub asked : ℕ
+  pub written : Written
+
+abbrev pub changes_in : Written → ℕ → List Change
+changes_in [] s = []
+changes_in (w ∷ ws) s = cond (w.0 == s) w.1 (changes_in ws s)
+
+-- the changes that a session has written
+abbrev pub changes_of : StoreState → ℕ → List Change
+changes_of store s = changes_in store.written s
+
+-- a change more at the end of a session's
+abbrev pub with_change : Written → ℕ → Change → Written
+with_change [] s c = (s, c ∷ []) ∷ []
+with_change (w ∷ ws) s c = cond (w.0 == s) ((w.0, w.1 ++ c ∷ []) ∷ ws) (w ∷ with_change ws s c)
+
+-- without a session's changes
+abbrev pub without_session : Written → ℕ → Written
+without_session [] s = []
+without_session (w ∷ ws) s = cond (w.0 == s) (without_session ws s) (w ∷ without_session ws s)
+
+-- whether a change is on the key
+abbrev pub is_in : Key → List Change → Bool
+is_in k cs = list_any (λ c. same_key (key_of c) k) cs
+
+-- a row that is loaded is what the changes leave of the committed rows, where they are told
+abbrev pub IsView : Option Tables → List Change → Key → Loaded → Type 0
+IsView None cs k loaded = Unit {0}
+IsView (Some m) cs k (Loaded.Row row) = row ≡ row_at (after_changes cs m) k
+IsView (Some m) cs k Loaded.Fault = Unit {0}
+
+-- the key that an answer to a commit names is that of a change
+abbrev pub names_change : List Change → Commit → Bool
+names_change cs Commit.Committed = true
+names_change cs (Commit.Stale k found) = is_in k cs
+names_change cs (Commit.Duplicate k) = is_in k cs
+names_change cs Commit.Fault = true
+
+abbrev pub tables_answered : Commit → List Change → Option Tables → Option Tables
+tables_answered Commit.Committed cs told = option_map (after_changes cs) told
+tables_answered (Commit.Stale k found) cs told = told
+tables_answered (Commit.Duplicate k) cs told = told
+tables_answered Commit.Fault cs told = told
+
+-- the committed rows after a commit: changed exactly where it was answered Committed
+abbrev pub tables_committed : Result Commit AllocError → List Change → Option Tables → Option Tables
+tables_committed (Ok answer) cs told = tables_answered answer cs told
+tables_committed (Err e) cs told = told

@@ -1,0 +1,76 @@
+// What the store asks its keeper.
+ghost use Rattle.std.specs.Prelude.{◌≡◌, ◌≢◌, ◌+◌, ◌≤◌, ℕ, length, true, [], Ok, IfOk, IfSome};
+ghost use Rattle.hib_base.specs.Tables.{row_at, commit_answer};
+ghost use Rattle.hib_outside.specs.Causes.{Rose};
+ghost use Rattle.hib_outside.specs.Verdicts.{commit_of, IsPlace};
+ghost use Rattle.hib_store.specs.Stores.{IsView, names_change, tables_committed};
+ghost use Rattle.hib_store.specs.declared.asking.Loaded.{Loaded};
+ghost use Rattle.hib_store.specs.Types.{Commit};
+
+use hib_base::{Change, Commit, Key, Row};
+use hib_outside::{Applied, KeepFault, Keeper};
+use std::alloc::{AllocError, Global};
+
+/// The store's answer to a load.
+#[derive(Drop)]
+pub enum Loaded {
+    /// The session's view of the key: its row, or none.
+    Row(Option<Row>),
+    /// The keeper failed.
+    Fault,
+}
+
+/// Asks a keeper for the row of a key.
+pub fn read<K: Keeper>(alloc: Global, keeper: &mut K, key: Key) -> Result<Loaded, AllocError>
+    ensures view { IfOk result (IsView (K.tables keeper.old) [] key) }
+    ensures fault { result ≡ Ok Loaded.Fault → Rose (K.faults keeper.old) (K.faults keeper.new) }
+    ensures faults { K.faults keeper.old ≤ K.faults keeper.new }
+    ensures asked { (K.asked keeper.old ≤ K.asked keeper.new) × (K.asked keeper.new ≤ K.asked keeper.old + 1) }
+    ensures tables { K.tables keeper.new ≡ K.tables keeper.old }
+{
+    match keeper.read(alloc, key) {
+        Ok(row) => Ok(Loaded::Row(row)),
+        Err(KeepFault::NoMemory) => Err(AllocError),
+        Err(KeepFault::Failed) => Ok(Loaded::Fault),
+    }
+}
+
+/// Applies changes to a keeper's rows.
+#[tactic(auto, using(crate::proofs::Answers::answer_told))]
+pub fn apply<K: Keeper>(
+    alloc: Global,
+    keeper: &mut K,
+    changes: &[Change],
+) -> Result<Commit, AllocError>
+    ensures answer { IfOk result (λ answer. answer ≢ Commit.Fault → IfSome (K.tables keeper.old) (λ m. answer ≡ commit_answer changes.now m)) }
+    ensures named { IfOk result (λ answer. names_change changes.now answer ≡ true) }
+    ensures fault { result ≡ Ok Commit.Fault → Rose (K.faults keeper.old) (K.faults keeper.new) }
+    ensures faults { K.faults keeper.old ≤ K.faults keeper.new }
+    ensures asked { K.asked keeper.new ≡ K.asked keeper.old }
+    ensures tables { K.tables keeper.new ≡ tables_committed result changes.now (K.tables keeper.old) }
+{
+    match keeper.apply(alloc, changes) {
+        Ok(applied) => Ok(answer(changes, applied)),
+        Err(KeepFault::NoMemory) => Err(AllocError),
+        Err(KeepFault::Failed) => Ok(Commit::Fault),
+    }
+}
+
+/// The answer to a commit that the keeper's answer makes.
+fn answer(changes: &[Change], applied: Applied) -> Commit
+    requires { IsPlace applied (length changes.now) }
+    ensures value { result ≡ commit_of changes.now applied }
+    ensures named { names_change changes.now result ≡ true }
+    ensures no_fault { result ≢ Commit.Fault }
+{
+    match applied {
+        Applied::Done => Commit::Committed,
+        Applied::Stale { at, found, .. } => Commit::Stale {
+            key: changes[at].key(),
+            found,
+        },
+        Applied::Duplicate { at } => Commit::Duplicate {
+            key: changes[at].key(),
+        },
+    }
+}

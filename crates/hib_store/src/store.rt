@@ -1,0 +1,154 @@
+// The store over a keeper.
+ghost use Rattle.std.specs.Prelude.{◌≡◌, ◌≢◌, ◌+◌, ◌≤◌, ℕ, [], ◌∷◌, ◌++◌, true, false, Ok, IfOk, IfSome, OnOk, OnErr};
+ghost use Rattle.hib_base.specs.Tables.{Tables, row_at, row_left, last_on, after_changes, commit_answer, in_order};
+ghost use Rattle.hib_outside.specs.Causes.{Rose};
+
+use crate::asking::{self, Loaded};
+use crate::written;
+use hib_base::{Change, Changes, Commit, Key, SessionNo};
+use hib_outside::Keeper;
+use std::alloc::{AllocError, Global};
+use std::marker::Model;
+
+/// A keeper's rows, and the changes that each session has written and not yet committed. Contracts see what the
+/// keeper tells, its counts and the changes.
+pub struct Store<K: Keeper> {
+    keeper: K,
+    written: Vec<(SessionNo, Changes)>,
+}
+
+impl<K: Keeper> Model for Store<K> {
+    ghost use Rattle.hib_store.specs.Stores.{StoreState};
+
+    ghost Value = { StoreState };
+
+    ghost view = { λ s. record {
+      tables = K.tables s.keeper;
+      faults = K.faults s.keeper;
+      asked = K.asked s.keeper;
+      written = s.written.items;
+    } };
+}
+
+impl<K: Keeper> Store<K> {
+    ghost use Rattle.hib_store.specs.Stores.{changes_of, is_in, IsView, names_change, tables_committed};
+    ghost use Rattle.hib_store.specs.declared.asking.Loaded.{Loaded};
+    ghost use Rattle.hib_store.specs.Types.{Commit};
+
+    /// The store over a keeper, in which no session has written. It asks the keeper for nothing.
+    pub fn open(alloc: Global, keeper: K) -> Store<K>
+        ensures tables { result.tables ≡ K.tables keeper }
+        ensures faults { result.faults ≡ K.faults keeper }
+        ensures asked { result.asked ≡ K.asked keeper }
+        ensures written { result.written ≡ [] }
+        ensures ordered { IfSome result.tables (λ m. in_order m ≡ true) }
+    {
+        Store {
+            keeper,
+            written: Vec::new(alloc),
+        }
+    }
+
+    /// The keeper, with what it tells and its counts. Changes that aren't committed are dropped.
+    pub fn close(self) -> K
+        ensures tables { K.tables result ≡ self.tables }
+        ensures faults { K.faults result ≡ self.faults }
+        ensures asked { K.asked result ≡ self.asked }
+    {
+        let Store { keeper, written: _ } = self;
+        keeper
+    }
+
+    /// The changes that a session has written since its last commit, in order.
+    pub fn changes(&self, session: SessionNo) -> &[Change]
+        ensures { result.now ≡ changes_of self.now session }
+    {
+        written::changes_of(self.written.as_slice(), session)
+    }
+
+    /// A session's view of a key: what its last change on the key leaves, or else the committed row. A key that
+    /// the session has changed doesn't ask the keeper, and is never answered by Fault. At every answer and error
+    /// the rows and the changes stay; the keeper's counts may have risen.
+    #[tactic(auto, using(hib_base::proofs::Tables::row_at_changes, crate::proofs::Sessions::is_in_last))]
+    pub fn load(
+        &mut self,
+        alloc: Global,
+        session: SessionNo,
+        key: Key,
+    ) -> Result<Loaded, AllocError>
+        ensures view { IfOk result (IsView self.old.tables (changes_of self.old session) key) }
+        ensures last { IfOk result (λ loaded. IfSome (last_on key (changes_of self.old session))
+            (λ change. loaded ≡ Loaded.Row (row_left change))) }
+        ensures own { is_in key (changes_of self.old session) ≡ true → (t : Tables)
+            → IfOk result (λ loaded. loaded ≡ Loaded.Row (row_at (after_changes (changes_of self.old session) t) key)) }
+        ensures quiet { is_in key (changes_of self.old session) ≡ true → self.new ≡ self.old }
+        ensures no_fault { is_in key (changes_of self.old session) ≡ true → result ≢ Ok Loaded.Fault }
+        ensures fault { result ≡ Ok Loaded.Fault → Rose self.old.faults self.new.faults }
+        ensures faults { self.old.faults ≤ self.new.faults }
+        ensures asked { (self.old.asked ≤ self.new.asked) × (self.new.asked ≤ self.old.asked + 1) }
+        ensures tables { self.new.tables ≡ self.old.tables }
+        ensures written { self.new.written ≡ self.old.written }
+    {
+        let changes = written::changes_of(self.written.as_slice(), session);
+        if let Some(change) = written::last_change(changes, &key) {
+            return Ok(Loaded::Row(written::copy_left(alloc, change)?));
+        }
+        asking::read(alloc, &mut self.keeper, key)
+    }
+
+    /// Adds a change to a session's, which no other session sees. At an error nothing has changed.
+    #[tactic(auto, using(crate::proofs::Sessions::Changed))]
+    pub fn write(
+        &mut self,
+        alloc: Global,
+        session: SessionNo,
+        change: Change,
+    ) -> Result<(), AllocError>
+        ensures own { OnOk result (changes_of self.new session ≡ changes_of self.old session ++ change ∷ []) }
+        ensures others { (s : ℕ) → s ≢ session → changes_of self.new s ≡ changes_of self.old s }
+        ensures err { OnErr result (self.new ≡ self.old) }
+        ensures tables { self.new.tables ≡ self.old.tables }
+        ensures faults { self.new.faults ≡ self.old.faults }
+        ensures asked { self.new.asked ≡ self.old.asked }
+    {
+        written::add_change(alloc, &mut self.written, session, change)
+    }
+
+    /// Drops the changes that a session has written. It takes no memory.
+    #[tactic(auto, using(crate::proofs::Sessions::Changed))]
+    pub fn drop_changes(&mut self, session: SessionNo)
+        ensures own { changes_of self.new session ≡ [] }
+        ensures others { (s : ℕ) → s ≢ session → changes_of self.new s ≡ changes_of self.old s }
+        ensures tables { self.new.tables ≡ self.old.tables }
+        ensures faults { self.new.faults ≡ self.old.faults }
+        ensures asked { self.new.asked ≡ self.old.asked }
+    {
+        written::drop_session(&mut self.written, session);
+    }
+
+    /// Applies a session's changes to the committed rows, all of them or none, and drops them. The first change
+    /// that doesn't apply decides. Without changes the answer is Committed, and the keeper isn't asked. At an
+    /// error rows and changes stay.
+    #[tactic(auto, using(crate::proofs::Sessions::Changed))]
+    pub fn commit(&mut self, alloc: Global, session: SessionNo) -> Result<Commit, AllocError>
+        ensures answer { IfOk result (λ answer. answer ≢ Commit.Fault → IfSome self.old.tables
+            (λ m. answer ≡ commit_answer (changes_of self.old session) m)) }
+        ensures named { IfOk result (λ answer. names_change (changes_of self.old session) answer ≡ true) }
+        ensures none { changes_of self.old session ≡ [] → (result ≡ Ok Commit.Committed) × (self.new ≡ self.old) }
+        ensures fault { result ≡ Ok Commit.Fault → Rose self.old.faults self.new.faults }
+        ensures faults { self.old.faults ≤ self.new.faults }
+        ensures asked { self.new.asked ≡ self.old.asked }
+        ensures tables { self.new.tables ≡ tables_committed result (changes_of self.old session) self.old.tables }
+        ensures own { OnOk result (changes_of self.new session ≡ []) }
+        ensures others { (s : ℕ) → s ≢ session → changes_of self.new s ≡ changes_of self.old s }
+        ensures err { OnErr result (self.new.written ≡ self.old.written) }
+    {
+        let changes = written::changes_of(self.written.as_slice(), session);
+        if changes.is_empty() {
+            return Ok(Commit::Committed);
+        }
+        let commit = asking::apply(alloc, &mut self.keeper, changes)?;
+        written::drop_session(&mut self.written, session);
+        Ok(commit)
+    }
+}
