@@ -1,14 +1,14 @@
 -- The unsound keys of a report are all that there are: each read-write key that is not sound is among them.
-use Rattle.std.proofs.Common.{◌≡◌, refl, sym, ◌⊎◌, inl, inr, ℕ, Bool, true, false, not, cond, ◌&&◌, ◌||◌, ◌==◌, Some, None, Option, List, [], ◌∷◌}
+use Rattle.std.proofs.Common.{◌≡◌, refl, inl, inr, ℕ, Bool, true, false, not, cond, ◌&&◌, ◌||◌, ◌==◌, Some, None, Option, List, [], ◌∷◌}
 use Rattle.std.specs.List.{list_any}
 use Rattle.std.proofs.lemmas.Bool.{or_parts}
 use Rattle.std.proofs.lemmas.Map.Views.{any-filter_same}
 use Rattle.hib_base.specs.Keys.{same_key, is_before}
 use Rattle.hib_base.specs.Tables.{key_of}
 use Rattle.hib_base.proofs.Tables.{Tested, tested, same_key_eq, same_key_refl}
-use Rattle.hib_journal.specs.Types.{Key, Change, Act, Reply, Entry, Script}
+use Rattle.hib_journal.specs.Types.{Key, Change, Act, Reply, Script}
 use Rattle.hib_journal.specs.Sessions.{Journal, is_by, changes, committer, is_restart}
-use Rattle.hib_journal.specs.Slot.{Touch, key_in, is_victim, evicted_in, touch_here, touch_at, touch_of, touch, history}
+use Rattle.hib_journal.specs.Slot.{Touch, key_in, is_victim, evicted_in, touch_of, history}
 use Rattle.hib_journal.specs.Next.{strategy}
 use Rattle.hib_journal.specs.Sound.{all_calm, deletes_key, inserts_key, with_change, commits, was_deleted, was_reused, is_sound}
 use Rattle.hib_report.specs.Unsound.{named, is_read_write, with_key, with_named, keys_in, unsound, leaves_calm}
@@ -95,7 +95,7 @@ calm_unnamed k [] h = refl
 calm_unnamed k (e ∷ past) h =
     let p : (names k (named e.act) ≡ false) × (is_named k past ≡ false) = or_parts (names k (named e.act)) (is_named k past) h in
     rw (calm_more k e past, calm_elsewhere k (key_in e.act) e.act e.reply (unnamed_here k e.act p.0), calm_unnamed k past p.1)
-        (cond_same (is_restart e.act) true true refl)
+    (cond_same (is_restart e.act) true true refl)
 
 -- and no commit deleted it
 
@@ -133,7 +133,7 @@ never_reused k [] h = refl
 never_reused k (e ∷ past) h =
     let p : (names k (named e.act) ≡ false) × (is_named k past ≡ false) = or_parts (names k (named e.act)) (is_named k past) h in
     rw (never_deleted k past p.1, never_reused k past p.1)
-        (cond_same (is_restart e.act) _ false (not_both (commits (inserts_key k) past e)))
+    (cond_same (is_restart e.act) _ false (not_both (commits (inserts_key k) past e)))
 
 sound_unnamed : (k : Key) (past : Journal) → is_named k past ≡ false → is_sound k past ≡ true
 unfolding is_sound
@@ -146,6 +146,7 @@ unsound_there script k past w h = at_test (tested (is_named k past))
   where
     same_test : (j : Key) → same_key j k ≡ true → not (is_sound j past) ≡ true
     same_test j e = rw (same_key_eq j k e, h)
+
     at_test : Tested (is_named k past) → is_there k (unsound script past) ≡ true
     at_test (inl p) = rw (any-filter_same (λ j. same_key j k) (λ j. not (is_sound j past)) true same_test (keys_in script past)) (there script k past w p)
     at_test (inr p) = absurd (let s : is_sound k past ≡ true = sound_unnamed k past p in cc)

@@ -8,7 +8,7 @@ use crate::rows::put_labelled;
 use crate::sessions::put_sessions;
 use crate::unsound::put_unsound;
 use hib_base::{Bytes, Entry, Script, Seq};
-use hib_journal::journal::Journal;
+use hib_journal::Journal;
 use std::alloc::{AllocError, Global};
 
 fn put_journal(alloc: Global, out: &mut Vec<u8>, entries: &[Entry]) -> Result<(), AllocError>

@@ -3,7 +3,7 @@ use hib_base::{
     Act, Cell, Change, ColumnDef, ColumnType, Commit, EntityDef, EntityNo, Entry, Key, Names,
     Outcome, Part, Reply, Row, Script, Seq, SessionDef, SessionNo, Strategy, Text, Tick,
 };
-use hib_journal::journal::Journal;
+use hib_journal::Journal;
 use std::alloc::{AllocError, Global};
 use std::test::Fail;
 

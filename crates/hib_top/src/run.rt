@@ -1,0 +1,2 @@
+// The run of a session.
+ghost use Rattle.std.specs.Prelude.{◌≡◌};
