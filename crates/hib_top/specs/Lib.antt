@@ -1,1 +1,4 @@
 pub mod Run
+pub mod Streams
+pub mod Words
+pub mod Play

@@ -49,3 +49,10 @@ pub record IsAnswered (script : Script) (told : Option Tables) (h : Journal) (s 
   pub reply : IsReply script told h (entry_of h s act answer)
   pub mine : (r : Reply) → own_reply script (own s h) act ≡ Some r → answer ≡ r
   pub keeps : Keeps told (entry_of h s act answer ∷ h) store
+
+-- an act was served: the journal has its entry, with the reply that the session has for it where it is the session's own
+pub record Serves (script : Script) (told : Option Tables) (session : Session) (act : Act) (old new : Journal) (store : StoreState) : Type 0 where
+  pub answer : Reply
+  pub grown : new ≡ entry_of old (number_of session) act answer ∷ old
+  pub run : IsRun script told (number_of session) new store
+  pub mine : (r : Reply) → own_reply script (own (number_of session) old) act ≡ Some r → answer ≡ r

@@ -1,0 +1,79 @@
+// What comes of a row.
+use crate::row::Row;
+use hib_base::Seq;
+use hib_outside::{Listener, MemKeeper, MemSink, MemSource};
+use hib_top::{Ended, Status, play_words};
+use std::alloc::{AllocError, Global};
+
+/// What the top call left.
+#[derive(Drop)]
+struct Came {
+    status: u32,
+    says: String,
+    output: Vec<u8>,
+    keeps: usize,
+}
+
+/// The line that the program prints on standard error, or nothing where all is done.
+fn said(alloc: Global, status: Status) -> Result<String, AllocError> {
+    match status {
+        Status::Done => Ok(String::new(alloc)),
+        _ => format!(in alloc; "hib: {status}"),
+    }
+}
+
+/// Runs the top call on a row, over objects in memory.
+fn play(alloc: Global, row: &Row) -> Result<Came, AllocError> {
+    let input = row.input.as_slice().to_vec(alloc)?;
+    let source_fails = row.source_fails.as_slice().to_vec(alloc)?;
+    let sink_fails = row.sink_fails.as_slice().to_vec(alloc)?;
+    let keeper_fails = row.keeper_fails.as_slice().to_vec(alloc)?;
+    let mut source = MemSource::new(Seq::from_vec(input), Seq::from_vec(source_fails));
+    let mut sink = MemSink::new(alloc, row.room, Seq::from_vec(sink_fails))?;
+    let keeper = MemKeeper::new(alloc, Seq::from_vec(keeper_fails));
+    let listeners: Vec<Box<dyn Listener>> = Vec::new(alloc);
+    let Ended {
+        status,
+        keeper,
+        journal: _,
+        listeners: _,
+    } = play_words(
+        alloc,
+        row.words.as_slice(),
+        &mut source,
+        &mut sink,
+        keeper,
+        listeners,
+    );
+    Ok(Came {
+        status: u32::from(status.number()),
+        says: said(alloc, status)?,
+        output: sink.bytes().to_vec(alloc)?,
+        keeps: keeper.rows.len(),
+    })
+}
+
+/// How many bytes two texts have in common at their heads.
+fn common(a: &[u8], b: &[u8]) -> usize {
+    a.iter().zip(b.iter()).take_while(|(x, y)| *x == *y).count()
+}
+
+/// The line of a row: that it is as it must be, or the first thing that differs.
+pub fn report(alloc: Global, row: Row) -> Result<String, AllocError> {
+    let came = play(alloc, &row)?;
+    let name = row.name.as_str();
+    if came.status != row.status {
+        return format!(in alloc; "row {name}: its status is {}, and not {}", came.status, row.status);
+    }
+    if came.says.as_str() != row.says.as_str() {
+        return format!(in alloc; "row {name}: it says {}, and not {}", came.says.as_str(), row.says.as_str());
+    }
+    if came.output.as_slice() != row.output.as_slice() {
+        let at = common(came.output.as_slice(), row.output.as_slice());
+        return format!(in alloc; "row {name}: its output differs at byte {at}");
+    }
+    if came.keeps != row.keeps as usize {
+        return format!(in alloc; "row {name}: the keeper has {} rows, and not {}", came.keeps, row.keeps);
+    }
+    format!(in alloc; "row {name}: ok")
+}

@@ -1,0 +1,57 @@
+//! Runs rows through the top call: each is an input of the program, with what must come of it. The rows come on
+//! standard input, in the form that the head of the file `stdin` describes, so that a row more is no code more.
+//! A line is printed for each row.
+#![tactic(auto)]
+
+mod check;
+mod row;
+
+use row::Row;
+use std::alloc::Global;
+use std::io;
+
+/// The word and the text behind it.
+fn split(line: &str) -> (&str, &str) {
+    line.split_once(' ').unwrap_or((line, ""))
+}
+
+/// Runs a row and prints its line.
+fn finish(rt: &impl Print, alloc: Global, row: Row) -> io::Result<()> {
+    let report = check::report(alloc, row)?;
+    rt.println(report.as_str())
+}
+
+/// Prints a line that says nothing of a row.
+fn complain(rt: &impl Print, line: &str) -> io::Result<()> {
+    println!(rt; "no form: {line}")
+}
+
+fn main(rt: HostRuntime) -> io::Result<()> {
+    let alloc = rt.alloc();
+    let mut open: Option<Row> = None;
+    for line in rt.lines(alloc) {
+        let line = line?;
+        let (word, text) = split(line.as_str());
+        if word.is_empty() || word == "#" {
+            continue;
+        }
+        if word == "row" {
+            let row = Row::new(alloc, text)?;
+            if let Some(done) = open.replace(row) {
+                finish(&rt, alloc, done)?;
+            }
+            continue;
+        }
+        let taken = match &mut open {
+            Some(row) => row.take(alloc, word, text)?,
+            None => false,
+        };
+        if !taken {
+            complain(&rt, line.as_str())?;
+        }
+    }
+    match open {
+        Some(row) => finish(&rt, alloc, row),
+        None => Ok(()),
+    }
+}

@@ -1,0 +1,106 @@
+// A row, from the lines that describe it.
+use std::alloc::{AllocError, Global};
+
+/// The bytes that a sink takes where a row says nothing of its room.
+const ROOM: usize = 65536;
+
+/// What goes into the top call, and what must come of it.
+#[derive(Drop)]
+pub struct Row {
+    /// The row's name.
+    pub name: String,
+    /// The words of the command line.
+    pub words: Vec<String>,
+    /// The bytes of the source.
+    pub input: Vec<u8>,
+    /// How many bytes the sink takes.
+    pub room: usize,
+    /// The numbers of the source's calls that fail.
+    pub source_fails: Vec<u32>,
+    /// The numbers of the sink's calls that fail.
+    pub sink_fails: Vec<u32>,
+    /// The numbers of the keeper's calls that fail.
+    pub keeper_fails: Vec<u32>,
+    /// The number of the status that is wanted.
+    pub status: u32,
+    /// What the program is to say on standard error, without the line's end.
+    pub says: String,
+    /// The bytes that are to be written.
+    pub output: Vec<u8>,
+    /// How many rows the keeper is to have at the end.
+    pub keeps: u32,
+}
+
+impl Row {
+    /// A row of which nothing but the name is known: no words, no input, and nothing wanted but status 0.
+    pub fn new(alloc: Global, name: &str) -> Result<Row, AllocError> {
+        Ok(Row {
+            name: String::from_str(alloc, name)?,
+            words: Vec::new(alloc),
+            input: Vec::new(alloc),
+            room: ROOM,
+            source_fails: Vec::new(alloc),
+            sink_fails: Vec::new(alloc),
+            keeper_fails: Vec::new(alloc),
+            status: 0,
+            says: String::new(alloc),
+            output: Vec::new(alloc),
+            keeps: 0,
+        })
+    }
+
+    /// Takes a line of the row's description, and answers whether it has a form.
+    pub fn take(&mut self, alloc: Global, word: &str, text: &str) -> Result<bool, AllocError> {
+        match word {
+            "words" => add_words(alloc, &mut self.words, text)?,
+            "in" => add_line(&mut self.input, text)?,
+            "part" => self.input.extend_from_slice(text.as_bytes())?,
+            "out" => add_line(&mut self.output, text)?,
+            "piece" => self.output.extend_from_slice(text.as_bytes())?,
+            "says" => self.says.push_str(text)?,
+            _ => return self.take_number(word, text),
+        }
+        Ok(true)
+    }
+
+    fn take_number(&mut self, word: &str, text: &str) -> Result<bool, AllocError> {
+        let Ok(number) = text.parse::<u32>() else {
+            return Ok(false);
+        };
+        match word {
+            "status" => self.status = number,
+            "keeps" => self.keeps = number,
+            "room" => self.room = number as usize,
+            "fill" => fill(&mut self.input, number as usize)?,
+            "source-fails" => self.source_fails.push(number)?,
+            "sink-fails" => self.sink_fails.push(number)?,
+            "keeper-fails" => self.keeper_fails.push(number)?,
+            _ => return Ok(false),
+        }
+        Ok(true)
+    }
+}
+
+fn add_line(bytes: &mut Vec<u8>, text: &str) -> Result<(), AllocError> {
+    bytes.extend_from_slice(text.as_bytes())?;
+    bytes.push(b'\n')?;
+    Ok(())
+}
+
+fn add_words(alloc: Global, words: &mut Vec<String>, text: &str) -> Result<(), AllocError> {
+    for word in text.split(' ') {
+        if !word.is_empty() {
+            words.push(String::from_str(alloc, word)?)?;
+        }
+    }
+    Ok(())
+}
+
+/// Adds lines of comment, up to this number of bytes.
+fn fill(bytes: &mut Vec<u8>, size: usize) -> Result<(), AllocError> {
+    for at in bytes.len()..size {
+        let is_end = at % 1000 == 999;
+        bytes.push(if is_end { b'\n' } else { b'#' })?;
+    }
+    Ok(())
+}

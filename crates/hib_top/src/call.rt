@@ -1,0 +1,36 @@
+// The call that main makes.
+ghost use Rattle.std.specs.Prelude.{◌≡◌, ◌<◌, ◌↔◌, length, IfSome};
+ghost use Rattle.hib_outside.specs.Causes.{Rose};
+ghost use Rattle.hib_top.specs.Words.{IsPlay};
+ghost use Rattle.hib_top.specs.Play.{Plays};
+
+use crate::play::{Ended, play_words};
+use crate::status::Status;
+use crate::streams::LIMIT;
+use hib_outside::{Gate, Keeper, Listener, Sink, Source};
+use std::alloc::Global;
+use std::sync::Wait;
+use std::thread::Threads;
+
+/// Does what the words say. Where they ask for workers it may start threads and wait for them; none do yet, so the gate
+/// isn't asked.
+pub fn top<R: Threads + Wait + Sync, S: Source, W: Sink, K: Keeper, G: Gate, L: Listener>(
+    _rt: &R,
+    alloc: Global,
+    words: &[String],
+    script: &mut S,
+    out: &mut W,
+    keeper: K,
+    _gate: &G,
+    listeners: Vec<L>,
+) -> Ended<K, L>
+    ensures run { Plays result.status (S.left script.old) (K.tables keeper) (K.tables result.keeper) result.journal (W.taken out.old) (W.taken out.new) }
+    ensures usage { (result.status ≡ Status.Usage) ↔ (IsPlay words.now → ⊥) }
+    ensures read { result.status ≡ Status.ReadFault → Rose (S.faults script.old) (S.faults script.new) }
+    ensures write { result.status ≡ Status.WriteFault → Rose (W.faults out.old) (W.faults out.new) }
+    ensures long { result.status ≡ Status.TooLong → IfSome (S.left script.old) (λ bytes. LIMIT < length bytes) }
+    // The listeners are handed back untold.
+    ensures listeners { result.listeners ≡ listeners }
+{
+    play_words(alloc, words, script, out, keeper, listeners)
+}

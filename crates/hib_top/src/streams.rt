@@ -1,0 +1,83 @@
+// Reading to the end, and writing whole.
+ghost use Rattle.std.specs.Prelude.{◌≡◌, ◌+◌, ◌<◌, ◌≤◌, ◌^◌, ◌++◌, take, length, IfOk, OnOk, OnErr, IfErr, IfSome, ℕ, List};
+ghost use Rattle.std.specs.Io.KnownBytes.{Appends, Keeps};
+ghost use Rattle.hib_outside.specs.Causes.{Rose, HasCause};
+ghost use Rattle.hib_top.specs.Streams.{TakesFront};
+
+use hib_outside::{Failed, Sink, Source};
+use std::alloc::{AllocError, AllocFailed, Global};
+use thiserror::Error;
+
+/// Why nothing was read.
+#[derive(Clone, Copy, Debug, PartialEq, Eq, Error)]
+pub enum ReadStop {
+    /// Memory ran out.
+    #[error("no memory")]
+    NoMemory,
+    /// The source failed.
+    #[error("read fault")]
+    Failed,
+    /// There is more than may be read.
+    #[error("too long")]
+    TooLong,
+}
+
+impl From<AllocError> for ReadStop {
+    ghost use Rattle.hib_top.specs.declared.streams.ReadStop.TheVariants.{NoMemory};
+
+    ghost from_gives = { λ _ e. e ≡ NoMemory };
+
+    fn from(_: AllocError) -> Self {
+        ReadStop::NoMemory
+    }
+}
+
+impl From<Failed> for ReadStop {
+    ghost use Rattle.hib_top.specs.declared.streams.ReadStop.TheVariants as stops;
+
+    ghost from_gives = { λ _ e. e ≡ stops.Failed };
+
+    fn from(_: Failed) -> Self {
+        ReadStop::Failed
+    }
+}
+
+/// The most bytes that are read.
+pub const LIMIT: usize = 1_048_576;
+
+/// All that the source has left, up to the limit.
+pub fn read_all<S: Source>(alloc: Global, source: &mut S) -> Result<Vec<u8>, ReadStop>
+    ensures bytes { IfOk result (λ v. IfSome (S.left source.old) (λ bytes. bytes ≡ v.items)) }
+    ensures few { IfOk result (λ v. length v.items ≤ LIMIT) }
+    ensures long { result ≡ Err ReadStop.TooLong → IfSome (S.left source.old) (λ bytes. LIMIT < length bytes) }
+    ensures later { S.faults source.old ≤ S.faults source.new }
+    ensures failed { result ≡ Err ReadStop.Failed → Rose (S.faults source.old) (S.faults source.new) }
+{
+    let mut text = Vec::new(alloc);
+    let mut piece = [0u8; 4096];
+    // Each turn takes a byte at least.
+    for turn in 0..LIMIT + 1 {
+        let n = source.read(&mut piece)?;
+        if n == 0 {
+            return Ok(text);
+        }
+        text.extend_from_slice(&piece[..n])?;
+        if text.len() > LIMIT {
+            return Err(ReadStop::TooLong);
+        }
+    }
+    Err(ReadStop::TooLong)
+}
+
+/// Writes all the bytes.
+pub fn write_all<W: Sink>(sink: &mut W, bytes: &[u8]) -> Result<(), Failed>
+    ensures whole { OnOk result (Appends (W.taken sink.old) (W.taken sink.new) bytes.now) }
+    ensures front { OnErr result (TakesFront (W.taken sink.old) (W.taken sink.new) bytes.now) }
+    ensures cause { HasCause (W.faults sink.old) (W.faults sink.new) result }
+{
+    let mut at = 0;
+    while at < bytes.len() {
+        at += sink.write(&bytes[at..])?;
+    }
+    Ok(())
+}
