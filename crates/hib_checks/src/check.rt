@@ -2,7 +2,7 @@
 use crate::row::Row;
 use hib_base::Seq;
 use hib_outside::{Listener, MemKeeper, MemSink, MemSource};
-use hib_top::{Ended, Status, play_words};
+use hib_top::{Status, play_words};
 use std::alloc::{AllocError, Global};
 
 /// What the top call left.
@@ -32,12 +32,7 @@ fn play(alloc: Global, row: &Row) -> Result<Came, AllocError> {
     let mut sink = MemSink::new(alloc, row.room, Seq::from_vec(sink_fails))?;
     let keeper = MemKeeper::new(alloc, Seq::from_vec(keeper_fails));
     let listeners: Vec<Box<dyn Listener>> = Vec::new(alloc);
-    let Ended {
-        status,
-        keeper,
-        journal: _,
-        listeners: _,
-    } = play_words(
+    let ended = play_words(
         alloc,
         row.words.as_slice(),
         &mut source,
@@ -46,10 +41,10 @@ fn play(alloc: Global, row: &Row) -> Result<Came, AllocError> {
         listeners,
     );
     Ok(Came {
-        status: u32::from(status.number()),
-        says: said(alloc, status)?,
+        status: u32::from(ended.status.number()),
+        says: said(alloc, ended.status)?,
         output: sink.bytes().to_vec(alloc)?,
-        keeps: keeper.rows.len(),
+        keeps: ended.keeper.rows.len(),
     })
 }
 
@@ -63,17 +58,27 @@ pub fn report(alloc: Global, row: Row) -> Result<String, AllocError> {
     let came = play(alloc, &row)?;
     let name = row.name.as_str();
     if came.status != row.status {
-        return format!(in alloc; "row {name}: its status is {}, and not {}", came.status, row.status);
+        return format!(in alloc;
+            "row {name}: its status is {}, and not {}",
+            came.status, row.status
+        );
     }
     if came.says.as_str() != row.says.as_str() {
-        return format!(in alloc; "row {name}: it says {}, and not {}", came.says.as_str(), row.says.as_str());
+        return format!(in alloc;
+            "row {name}: it says {}, and not {}",
+            came.says.as_str(),
+            row.says.as_str()
+        );
     }
     if came.output.as_slice() != row.output.as_slice() {
         let at = common(came.output.as_slice(), row.output.as_slice());
         return format!(in alloc; "row {name}: its output differs at byte {at}");
     }
     if came.keeps != row.keeps as usize {
-        return format!(in alloc; "row {name}: the keeper has {} rows, and not {}", came.keeps, row.keeps);
+        return format!(in alloc;
+            "row {name}: the keeper has {} rows, and not {}",
+            came.keeps, row.keeps
+        );
     }
     format!(in alloc; "row {name}: ok")
 }

@@ -10,8 +10,18 @@ use std::{env, io};
 fn main(rt: HostRuntime) -> io::Result<ExitCode> {
     let alloc = rt.alloc();
     let mut words = Vec::new(alloc);
-    for word in env::args(&rt)?.skip(1) {
-        words.push(word)?;
+    match env::args(&rt) {
+        Ok(args) => {
+            for word in args.skip(1) {
+                words.push(word)?;
+            }
+        }
+        // A word that isn't UTF-8 is no word of a command.
+        Err(error) if error.kind() == io::ErrorKind::InvalidData => return Ok(told(
+            &rt,
+            Status::Usage,
+        )),
+        Err(error) => return Err(error),
     }
     let mut source = StdSource {
         inner: rt.reader(),
@@ -33,8 +43,14 @@ fn main(rt: HostRuntime) -> io::Result<ExitCode> {
         &OpenGate,
         listeners,
     );
-    if ended.status != Status::Done {
-        eprintln!(rt; "hib: {}", ended.status)?;
+    Ok(told(&rt, ended.status))
+}
+
+/// Says on standard error how the call ended, where it isn't done, and gives the status's number. That nobody may be
+/// listening there changes nothing.
+fn told(rt: &impl Eprint, status: Status) -> ExitCode {
+    if status != Status::Done {
+        let _ = eprintln!(rt; "hib: {status}");
     }
-    Ok(ExitCode::from(ended.status.number()))
+    ExitCode::from(status.number())
 }

@@ -1,13 +1,13 @@
 -- Each act that is due in a session that is built is a simple one, and a transaction begins only where none is open.
-use Rattle.std.proofs.Common.{◌≡◌, ℕ, inl, inr, Bool, true, false, cond, not, ◌&&◌, List, [], ◌∷◌, ◌++◌, map, slice_get, Some, None, Option, refl, sym, ap, ◌∙◌, subst, append-nil}
-use Rattle.std.proofs.lemmas.Bool.{true≢false, false≢true, and_parts, and_from}
+use Rattle.std.proofs.Common.{◌≡◌, ℕ, inl, inr, Bool, true, false, cond, List, [], ◌∷◌, ◌++◌, map, slice_get, Some, None, Option, refl, ap, ◌∙◌, subst, append-nil}
+use Rattle.std.proofs.lemmas.Bool.{false≢true, and_parts, and_from}
 use Rattle.std.specs.List.{list_all, filter_map, cons_option}
 use Rattle.hib_base.proofs.Tables.{Tested, tested}
 use Rattle.hib_journal.specs.Types.{Key, Row, Change, State, Mode, Statement, Script, Act, Reply, Entry}
 use Rattle.hib_journal.specs.Sessions.{Journal, changes_in, deferred, is_begun}
 use Rattle.hib_journal.specs.Held as held
 use Rattle.hib_journal.specs.Held.{Instance, pending, arrived, removed, insert_by, update_by, same_cells}
-use Rattle.hib_journal.specs.Plan.{Plan, Block, one, each, left_of, InOrder}
+use Rattle.hib_journal.specs.Plan.{Block, one, left_of, InOrder}
 use Rattle.hib_journal.specs.Next
 use Rattle.hib_journal.specs.Next.{plan_of, next, statements}
 use Rattle.hib_journal.proofs.Plans.{Good, Runs, Allows, runs_each, allows_join, AllRight, good_left, allowed_first}

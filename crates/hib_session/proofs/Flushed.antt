@@ -1,11 +1,11 @@
 -- What a flush and a completion are in a script of which nothing is cached and nothing is queried.
-use Rattle.std.proofs.Common.{◌≡◌, ℕ, Bool, true, false, cond, not, ◌&&◌, ◌==◌, List, [], ◌∷◌, ◌++◌, map, slice_get, Some, None, Option, refl, sym, ap, ◌∙◌, append-nil}
+use Rattle.std.proofs.Common.{◌≡◌, ℕ, Bool, true, false, cond, ◌&&◌, ◌==◌, List, [], ◌∷◌, ◌++◌, map, slice_get, Some, None, Option, refl, ap, ◌∙◌}
 use Rattle.std.specs.List.{flat_map, list_any}
 use Rattle.hib_base.specs.Tables.{key_of, first_on, last_on}
-use Rattle.hib_journal.specs.Types.{Key, Row, Change, Strategy, Mode, Query, Script, Act}
+use Rattle.hib_journal.specs.Types.{Key, Row, Change, Strategy, Mode, Script, Act}
 use Rattle.hib_journal.specs.Sessions.{Journal, changes_in, floor_in}
 use Rattle.hib_journal.specs.Held.{is_fresh, pending}
-use Rattle.hib_journal.specs.Next.{strategy, is_cached, is_cached_by, is_in, tables_in, before_cached, fresh_version, before_key, before_write, writes, flush_of, complete, complete_by, complete_insert, complete_update, puts_back, lock_id, keys_of, stamps_of, completion, may_read, may_put, mode_reads, mode_puts, is_free, is_cached_query, is_in_tables, tables_of, tables_by}
+use Rattle.hib_journal.specs.Next.{is_cached, is_cached_by, is_in, tables_in, before_cached, fresh_version, before_key, before_write, writes, flush_of, complete, complete_by, puts_back, lock_id, keys_of, stamps_of, completion, may_read, may_put, mode_puts, is_free, is_in_tables, tables_of}
 use Rattle.hib_session.specs.declared.memory.Memory.{Memory}
 use Rattle.hib_session.specs.Memory.{IsBuilt, flush_acts, pending_in, Remembers}
 use Rattle.hib_session.proofs.Orders.{pending_kept}

@@ -1,15 +1,14 @@
 -- What a memory keeps stands for what its session holds, after each entry.
-use Rattle.std.proofs.Common.{◌≡◌, ℕ, Bool, true, false, cond, not, ◌&&◌, ◌||◌, List, [], ◌∷◌, ◌++◌, map, Some, None, Option, refl, sym, ap, ◌∙◌, subst, append-nil}
-use Rattle.std.proofs.lemmas.Bool.{true≢false, false≢true, and_parts, and_from}
-use Rattle.std.specs.List.{filter, list_any, list_all, filter_map}
+use Rattle.std.proofs.Common.{◌≡◌, Bool, true, false, cond, not, List, [], ◌∷◌, Some, None, Option, refl, sym, ap, ◌∙◌}
+use Rattle.std.proofs.lemmas.Bool.{false≢true, and_parts, and_from}
+use Rattle.std.specs.List.{list_any}
 use Rattle.std.specs.Option.{option_map}
 use Rattle.hib_base.specs.Keys.{same_key}
-use Rattle.hib_base.proofs.Tables.{same_key_eq, same_key_refl, Tested, tested}
-use Rattle.hib_journal.specs.Types.{Key, Row, Cell, Change, State, Held, Act, Reply, Entry}
+use Rattle.hib_journal.specs.Types.{Key, Row, Cell, Change, State, Act, Reply, Entry}
 use Rattle.hib_journal.specs.Sessions.{Journal}
 use Rattle.hib_journal.specs.Held as held
 use Rattle.hib_journal.specs.Held.{Instance, Stay, Arrival, arrival, arrived, arrived_key, arrived_row, is_break, stay, stay_after, longer, has_left, base_of, or_row, last_written, row_written, state_of, version_of, cells_set, cells_after, is_removed, is_undone, removes, deletes, instance_of, held_by, key_arrived, without_key, removed, key_removed, pending}
-use Rattle.hib_session.specs.Memory.{shown_of, shown, held_in, is_none, are_distinct, written, with_written, insert_of, update_of, pending_in, is_plain, are_plain}
+use Rattle.hib_session.specs.Memory.{is_plain, are_plain}
 
 -- plain acts neither delete, nor remove, nor set
 

@@ -1,19 +1,19 @@
 -- A memory that takes one more entry stands for it.
-use Rattle.std.proofs.Common.{◌≡◌, ℕ, inl, inr, Bool, true, false, cond, not, ◌&&◌, List, [], ◌∷◌, ◌++◌, map, Some, None, Option, refl, sym, ap, ◌∙◌, subst}
-use Rattle.std.proofs.lemmas.Bool.{true≢false, false≢true, and_parts, and_from}
+use Rattle.std.proofs.Common.{◌≡◌, inl, inr, Bool, true, false, cond, not, List, [], ◌∷◌, ◌++◌, map, Some, None, Option, refl, sym, ap, ◌∙◌}
+use Rattle.std.proofs.lemmas.Bool.{true≢false, and_from}
 use Rattle.std.specs.List.{filter_map, cons_option}
 use Rattle.std.specs.Option.{option_map}
 use Rattle.hib_base.specs.Keys.{same_key}
-use Rattle.hib_base.proofs.Tables.{same_key_eq, same_key_refl, Tested, tested}
-use Rattle.hib_journal.specs.Types.{Key, Row, Change, Commit, State, Held, Outcome, Act, Reply, Entry}
-use Rattle.hib_journal.specs.Sessions.{Journal, time_in, time_after, floor_in, floor_after, changes_in, changes_after}
+use Rattle.hib_base.proofs.Tables.{same_key_refl, Tested, tested}
+use Rattle.hib_journal.specs.Types.{Key, Row, Change, Held, Act, Reply, Entry}
+use Rattle.hib_journal.specs.Sessions.{Journal, time_after, floor_after, changes_after}
 use Rattle.hib_journal.specs.Held as held
 use Rattle.hib_journal.specs.Held.{Instance, Arrival, arrival, arrived, arrived_key, is_break, row_written, without_key}
-use Rattle.hib_journal.specs.Legal.{outcome, outcome_after}
+use Rattle.hib_journal.specs.Legal.{outcome_after}
 use Rattle.hib_session.specs.declared.memory.Memory.{Memory}
-use Rattle.hib_session.specs.Memory.{shown_of, shown, held_in, are_distinct, with_written, is_plain, are_plain, made, managed, with_held, instances_after, unless_broken, noted_by, noted, Knows, IsNew}
+use Rattle.hib_session.specs.Memory.{shown_of, shown, held_in, are_distinct, with_written, is_plain, are_plain, made, managed, noted_by, noted, Knows, IsNew}
 use Rattle.hib_session.proofs.Kept.{after_write, fresh, arrives_other, held_later, held_arrives, held_broken}
-use Rattle.hib_session.proofs.Orders.{same_key_sym, held_key, none_map, later_map, same_map, without_map, join_map, held_written, distinct_written, write_at, shown_written, held_added, distinct_added, shown_added}
+use Rattle.hib_session.proofs.Orders.{held_key, none_map, later_map, same_map, without_map, join_map, held_written, distinct_written, write_at, shown_written, held_added, distinct_added, shown_added}
 
 map_none : (o : Option Instance) → option_map (after_write None) o ≡ o
 map_none None = refl

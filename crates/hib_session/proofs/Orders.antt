@@ -1,11 +1,11 @@
 -- The instances that a memory keeps, in order of arrival, and the changes that are pending of them.
-use Rattle.std.proofs.Common.{◌≡◌, ℕ, zero, suc, ◌<◌, length, get_or, set, take, drop, arith, inl, inr, Bool, true, false, cond, not, ◌&&◌, List, [], ◌∷◌, ◌++◌, map, Some, None, Option, refl, sym, ap, ◌∙◌, subst, append-nil}
-use Rattle.std.proofs.lemmas.Bool.{true≢false, false≢true, and_parts, and_from}
-use Rattle.std.specs.List.{filter, filter_map, cons_option}
+use Rattle.std.proofs.Common.{◌≡◌, ℕ, zero, suc, ◌<◌, length, get_or, set, take, drop, arith, inl, inr, Bool, true, false, cond, List, [], ◌∷◌, ◌++◌, map, Some, None, Option, refl, sym, ap, ◌∙◌, subst, append-nil}
+use Rattle.std.proofs.lemmas.Bool.{false≢true, and_parts}
+use Rattle.std.specs.List.{filter_map, cons_option}
 use Rattle.std.specs.Option.{option_map}
 use Rattle.hib_base.specs.Keys.{same_key}
-use Rattle.hib_base.proofs.Tables.{same_key_eq, same_key_refl, Tested, tested}
-use Rattle.hib_journal.specs.Types.{Key, Row, Change, State, Held, Act, Reply, Entry}
+use Rattle.hib_base.proofs.Tables.{same_key_eq, Tested, tested}
+use Rattle.hib_journal.specs.Types.{Key, Row, Change, Held}
 use Rattle.hib_journal.specs.Sessions.{Journal}
 use Rattle.hib_journal.specs.Held as held
 use Rattle.hib_journal.specs.Held.{Instance, Stay, held_by, has_left, instance_of, stay, arrived, without_key, pending}

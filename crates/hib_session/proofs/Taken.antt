@@ -1,14 +1,14 @@
 -- A control that takes a step stands for what is left.
-use Rattle.std.proofs.Common.{◌≡◌, ℕ, zero, suc, ◌+◌, ◌-◌, ◌*◌, ◌<◌, ◌≤◌, Bool, true, false, cond, List, [], ◌∷◌, drop, length, slice_get, Some, None, Option, refl, ap, sym, ◌∙◌, subst, arith}
+use Rattle.std.proofs.Common.{◌≡◌, ℕ, ◌+◌, Bool, true, false, cond, List, [], ◌∷◌, drop, slice_get, Some, None, Option, refl, ap, sym, ◌∙◌}
 use Rattle.std.proofs.lemmas.Bool.{true≢false, false≢true}
-use Rattle.hib_journal.specs.Types.{Key, Mode, Statement, Script, Act, Reply, Entry}
+use Rattle.hib_journal.specs.Types.{Mode, Statement, Script, Act, Entry}
 use Rattle.hib_journal.specs.Sessions.{Journal}
 use Rattle.hib_journal.specs.Held.{pending}
-use Rattle.hib_journal.specs.Plan.{Plan, Block, each, after, left_of, first_act}
-use Rattle.hib_journal.specs.Next.{block, blocks, list, is_in_tables, tables_of, flush_of, mode_after, ends, mode_reads, is_free, look, list_store, statements, plan_of, next}
+use Rattle.hib_journal.specs.Plan.{Plan, after, first_act}
+use Rattle.hib_journal.specs.Next.{block, blocks, flush_of, mode_after, ends, mode_reads, is_free, look, list_store, statements, next}
 use Rattle.hib_session.specs.declared.control.Stage.{Stage}
 use Rattle.hib_session.specs.declared.control.Control.{Control}
-use Rattle.hib_session.specs.Control.{staged, queued, untaken, settles, is_settled, is_over_at, is_over, decided, is_answering, is_due, is_resting, one_if, rank, act_at, act_staged, begin_at, plan_at, Stands}
+use Rattle.hib_session.specs.Control.{staged, queued, untaken, settles, is_settled, is_over_at, decided, is_answering, is_due, is_resting, act_at, act_staged, begin_at, plan_at, Stands}
 
 pub flush_taken : (script : Script) (st : Statement) (acts : List Act) (mode : Mode) (done : Journal) (go : Journal → Plan) →
     st ≡ Statement.Flush → acts ≡ flush_of script done (pending done) →

@@ -1,7 +1,7 @@
 -- A session that takes the entry of the act that was due.
-use Rattle.std.proofs.Common.{◌≡◌, ℕ, ◌<◌, Bool, true, false, cond, ◌||◌, List, [], ◌∷◌, IfSome, Some, None, Option, refl, sym, ap, ◌∙◌, subst}
+use Rattle.std.proofs.Common.{◌≡◌, Bool, true, false, ◌||◌, List, [], ◌∷◌, IfSome, Some, None, Option, refl, sym, ap, ◌∙◌, subst}
 use Rattle.std.proofs.lemmas.Bool.{true≢false, false≢true, or_parts}
-use Rattle.hib_journal.specs.Types.{Key, Row, Change, Statement, Script, Act, Reply, Entry}
+use Rattle.hib_journal.specs.Types.{Change, Statement, Script, Act, Reply, Entry}
 use Rattle.hib_journal.specs.Sessions.{Journal, changes_in}
 use Rattle.hib_journal.specs.Held.{Instance, Arrival, arrival, arrived_key, held}
 use Rattle.hib_journal.specs.Plan.{InOrder}
@@ -9,8 +9,6 @@ use Rattle.hib_journal.specs.Next.{plan_of, next, is_held, is_in}
 use Rattle.hib_journal.specs.Legal.{persisted}
 use Rattle.hib_journal.proofs.Steps.{next_is}
 use Rattle.hib_session.specs.declared.control.Stage.{Stage}
-use Rattle.hib_session.specs.declared.control.Control.{Control}
-use Rattle.hib_session.specs.declared.memory.Memory.{Memory}
 use Rattle.hib_session.specs.declared.session.Session.{Session}
 use Rattle.hib_session.specs.Memory.{IsNew, Knows, Remembers, is_plain, noted}
 use Rattle.hib_session.specs.Built.{is_simple, IsAllowed}

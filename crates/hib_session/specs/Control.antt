@@ -1,6 +1,6 @@
 -- What is left of a session's plan, by the state of a machine.
 use Rattle.std.specs.Prelude.{◌≡◌, ℕ, ◌+◌, ◌*◌, ◌^◌, not, length, Bool, true, false, cond, List, [], ◌∷◌, drop, slice_get, Some, None, Option}
-use Rattle.hib_journal.specs.Types.{Key, Mode, Statement, Script, Act, Entry}
+use Rattle.hib_journal.specs.Types.{Mode, Statement, Script, Act}
 use Rattle.hib_journal.specs.Sessions.{Journal, time_in}
 use Rattle.hib_journal.specs.Plan.{Plan, Block, each, left_of}
 use Rattle.hib_journal.specs.Next.{is_free, mode_reads, get, load, answer, look, check, list_store, commit, rollback, blocks, statements, plan_of}

@@ -1,6 +1,6 @@
 -- What a session stands for, and what it answers itself.
-use Rattle.std.specs.Prelude.{◌≡◌, ℕ, Bool, true, false, cond, ◌||◌, List, [], ◌∷◌, Some, None, Option}
-use Rattle.hib_journal.specs.Types.{Key, Script, Act, Reply, Entry}
+use Rattle.std.specs.Prelude.{◌≡◌, ℕ, true, cond, ◌||◌, Some, None, Option}
+use Rattle.hib_journal.specs.Types.{Script, Act, Reply, Entry}
 use Rattle.hib_journal.specs.Sessions.{Journal, changes_in}
 use Rattle.hib_journal.specs.Held.{held}
 use Rattle.hib_journal.specs.Plan.{InOrder}

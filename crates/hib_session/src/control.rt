@@ -22,14 +22,23 @@ use std::alloc::{AllocError, Global};
 /// What is left of a block after the acts that are queued.
 #[derive(Clone, Copy, Debug, PartialEq, Eq)]
 pub enum Stage {
+    /// Nothing: the next statement may be taken.
     Idle,
+    /// The region is asked for a key, and after a miss the store.
     Getting(Key),
+    /// The store is asked for a key, and its row may be put into the region.
     Loading(Key),
+    /// A query is answered: from its results, or by the store. Which of them isn't decided yet.
     Answering(QueryNo),
+    /// The results are asked for a query.
     Looking(QueryNo),
+    /// A result of this time was found, and the stamps are asked whether it may be used.
     Checking(QueryNo, Tick),
+    /// The store is asked for a list, which may be kept.
     Listing(QueryNo),
+    /// The store is asked to commit; then comes what completes the transaction.
     Committing,
+    /// The store is asked to drop the changes; then comes what completes the transaction.
     RollingBack,
 }
 

@@ -242,6 +242,7 @@ impl Memory {
     pub fn knows(&self, key: Key) -> bool
         ensures { result ≡ (is_held (held_in self.now.instances key) || is_in key self.now.changes) }
     {
+        // The key is passed twice, which a struct by value is not in a proved body.
         let Key { entity, id } = key;
         self.holds(Key { entity, id }) || self.has_changed(Key { entity, id })
     }

@@ -25,7 +25,7 @@ EndsWell Status.Done script h = AreEnded script h
 EndsWell Status.WriteFault script h = AreEnded script h
 EndsWell _ script h = ⊤
 
--- what was written: the text at Done, a front of it where the sink failed or memory ran out, else nothing
+-- what was written: the text at Done, a front of it where the sink failed, else nothing
 abbrev pub IsWritten : Status → List ℕ → Option (List ℕ) → Option (List ℕ) → Type 0
 IsWritten Status.Done text old new = Appends old new text
 IsWritten Status.WriteFault text old new = TakesFront old new text

@@ -1,4 +1,4 @@
-use Rattle.std.proofs.Common.{◌≡◌, ◌∷◌, [], ◌++◌, map}
+use Rattle.std.proofs.Common.{◌≡◌, ◌∷◌, map}
 use Rattle.hib_journal.specs.Types.{Act}
 use Rattle.hib_journal.specs.Next.{tables_in}
 use Rattle.hib_session.proofs.memory.flush_acts.Given as goal

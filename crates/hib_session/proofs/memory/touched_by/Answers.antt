@@ -1,4 +1,4 @@
-use Rattle.std.proofs.Common.{◌≡◌, ◌==◌, ◌<◌, ◌∙◌, length, arith}
+use Rattle.std.proofs.Common.{◌==◌, ◌<◌, length, arith}
 use Rattle.std.specs.List.{list_any}
 use Rattle.hib_base.specs.Tables.{key_of}
 use Rattle.hib_journal.specs.Next.{tables_in}

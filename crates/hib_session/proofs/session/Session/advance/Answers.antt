@@ -1,6 +1,6 @@
-use Rattle.std.proofs.Common.{◌≡◌, ◌∷◌, ◌<◌, ◌≤◌, Bool, false, ap, sym, subst, ◌∙◌, arith}
-use Rattle.hib_session.specs.Memory.{Knows, Remembers, noted}
-use Rattle.hib_session.specs.Control.{Stands, is_settled, is_over, weight}
+use Rattle.std.proofs.Common.{◌≡◌, ◌∷◌, ◌<◌, ◌≤◌, false, sym, subst, ◌∙◌, arith}
+use Rattle.hib_session.specs.Memory.{Remembers}
+use Rattle.hib_session.specs.Control.{Stands, is_over, weight}
 use Rattle.hib_session.proofs.Taking.{remembers, left_over, follows_on}
 use Rattle.hib_session.proofs.session.Session.advance.Goals as goal
 
