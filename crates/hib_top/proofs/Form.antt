@@ -1,10 +1,10 @@
 -- What the reader says of a script is what a session asks of it, and a script of one session ends with it.
-use Rattle.std.proofs.Common.{◌≡◌, ℕ, zero, suc, ◌≤◌, Bool, true, false, ◌&&◌, nat_le, List, [], ◌∷◌, ◌++◌, length, slice_get, Some, None, Option, refl, sym, ap, ◌∙◌, subst, arith}
-use Rattle.std.proofs.lemmas.Bool.{true≢false, false≢true, and_parts, and_from, leb-true}
+use Rattle.std.proofs.Common.{◌≡◌, ℕ, zero, suc, ◌≤◌, Bool, true, ◌&&◌, nat_le, List, [], ◌∷◌, ◌++◌, length, slice_get, Some, None, Option, refl, sym, ap, ◌∙◌, subst, arith}
+use Rattle.std.proofs.lemmas.Bool.{false≢true, and_parts, leb-true}
 use Rattle.std.specs.List.{list_all}
-use Rattle.hib_journal.specs.Types.{Strategy, EntityDef, Statement, SessionDef, Script, Entry}
+use Rattle.hib_journal.specs.Types.{Strategy, EntityDef, Statement, SessionDef, Script}
 use Rattle.hib_journal.specs.Sessions.{Journal, own}
-use Rattle.hib_journal.specs.Next.{strategy, strategy_in, statements, next}
+use Rattle.hib_journal.specs.Next.{strategy_in, statements, next}
 use Rattle.hib_script.specs.Built.{is_built, is_built_entity, is_uncached, is_built_session, are_built, may_follow, is_empty, statement_count}
 use Rattle.hib_session.specs.Memory.{IsBuilt, is_built_statement}
 use Rattle.hib_top.specs.Play.{AreEnded}

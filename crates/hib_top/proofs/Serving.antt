@@ -1,9 +1,8 @@
 -- What the parts answer is what a legal journal says.
-use Rattle.std.proofs.Common.{◌≡◌, ◌≢◌, ◌⊎◌, ℕ, suc, ◌+◌, ◌^◌, ◌≤◌, ◌<◌, ◌==◌, inl, inr, Bool, true, false, cond, not, ◌||◌, List, [], ◌∷◌, ◌++◌, length, slice_get, IsSome, Some, None, Option, Ok, refl, sym, ap, ◌∙◌, subst, arith}
+use Rattle.std.proofs.Common.{◌≡◌, ◌≢◌, ◌⊎◌, ℕ, suc, ◌+◌, ◌^◌, ◌≤◌, ◌<◌, ◌==◌, inl, inr, Bool, true, false, not, List, [], ◌∷◌, length, IsSome, Some, None, Option, refl, sym, ap, ◌∙◌, subst, arith}
 use Rattle.std.proofs.lemmas.Bool.{true≢false, false≢true, eqb-true}
 use Rattle.std.proofs.lemmas.Bool.Decides.{nat_tests}
-use Rattle.std.specs.Option.{option_map}
-use Rattle.hib_base.specs.Tables.{Tables, row_at, row_left, after_changes, commit_answer}
+use Rattle.hib_base.specs.Tables.{Tables, row_at, after_changes, commit_answer}
 use Rattle.hib_base.proofs.Tables.{Tested, tested}
 use Rattle.hib_journal.specs.Types.{Key, Row, Change, Commit, Script, Act, Reply, Entry}
 use Rattle.hib_journal.specs.Sessions.{Journal, own, is_by, is_session, floor, least_live, is_live, is_open, was_killed, killed_by, committed, committed_by, committer, changes_in, deferred, deferred_after, is_begun, time, last_tick, IsTimely}

@@ -1,10 +1,10 @@
 -- What a call of the program promises.
-use Rattle.std.specs.Prelude.{◌≡◌, ◌⊎◌, ◌≤◌, ℕ, List, [], ◌∷◌, ⊤, length, slice_get, IfSome, Some, None, Option}
+use Rattle.std.specs.Prelude.{◌≡◌, ◌⊎◌, ◌≤◌, ℕ, List, [], ⊤, length, slice_get, IfSome, Some, None, Option}
 use Rattle.std.specs.Io.KnownBytes.{Appends}
 use Rattle.hib_base.specs.Tables.{Tables}
 use Rattle.hib_base.specs.declared.refusals.Refused.{Refused}
 use Rattle.hib_base.specs.declared.refusals.Kind.{Kind}
-use Rattle.hib_journal.specs.Types.{Script, SessionDef, Entry}
+use Rattle.hib_journal.specs.Types.{Script, SessionDef}
 use Rattle.hib_journal.specs.Kept.{Kept, past}
 use Rattle.hib_journal.specs.Sessions.{Journal, own}
 use Rattle.hib_journal.specs.Next.{next}

@@ -1,5 +1,5 @@
 -- A run, as far as it has come.
-use Rattle.std.specs.Prelude.{◌≡◌, ℕ, ◌+◌, Bool, true, false, ◌==◌, List, [], ◌∷◌, length, Some, None, Option}
+use Rattle.std.specs.Prelude.{◌≡◌, ℕ, ◌+◌, false, ◌==◌, [], ◌∷◌, length, Some, Option}
 use Rattle.std.specs.Option.{option_map}
 use Rattle.hib_journal.specs.Types.{Script, Act, Reply, Entry}
 use Rattle.hib_base.specs.Tables.{Tables}

@@ -41,10 +41,12 @@ impl fmt::Display for Status {
         match self {
             Status::Done => write!(f, "done"),
             Status::Usage => write!(f, "usage"),
-            Status::Refused(Refused {
-                line,
-                kind: Kind::NotYet,
-            }) => write!(f, "line {line}: not-yet"),
+            Status::Refused(
+                Refused {
+                    line,
+                    kind: Kind::NotYet,
+                },
+            ) => write!(f, "line {line}: not-yet"),
             Status::ReadFault => write!(f, "read fault"),
             Status::WriteFault => write!(f, "write fault"),
             Status::TooLong => write!(f, "too long"),

@@ -1,7 +1,6 @@
-use Rattle.std.proofs.Common.{◌≡◌, ◌+◌, ◌<◌, ◌∷◌, ◌^◌, length, ap, sym, ◌∙◌, subst, arith}
+use Rattle.std.proofs.Common.{◌≡◌, ◌+◌, ◌<◌, ◌∷◌, ◌^◌, length, ap, ◌∙◌, subst, arith}
 use Rattle.hib_journal.specs.Kept.{past}
 use Rattle.hib_top.specs.Run.{entry_of}
-use Rattle.hib_session.specs.Session.{number_of}
 use Rattle.hib_top.proofs.Serving.{served, ready}
 use Rattle.hib_top.proofs.run.serve.Goals as goal
 
