@@ -2,3 +2,4 @@ pub mod Run
 pub mod Streams
 pub mod Words
 pub mod Play
+pub mod Exits

@@ -1,4 +1,7 @@
 // How a call of the program ends.
+ghost use Rattle.hib_top.specs.Exits.{exit_number};
+ghost use Rattle.std.specs.Prelude.{◌≡◌};
+
 use hib_base::{Kind, Refused};
 use std::fmt;
 
@@ -23,7 +26,9 @@ pub enum Status {
 
 impl Status {
     /// The number that a program ends with.
-    pub fn number(self) -> u8 {
+    pub fn number(self) -> u8
+        ensures { result ≡ exit_number self }
+    {
         match self {
             Status::Done => 0,
             Status::Usage => 2,
