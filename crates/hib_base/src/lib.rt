@@ -15,7 +15,7 @@ pub use instances::{Held, State};
 pub use numbers::{EntityNo, Key, QueryNo, SessionNo, Tick};
 pub use refusals::{Kind, Refused};
 pub use replies::{
-    Checked, Commit, Evicted, Inserted, Locked, Miss, Outcome, Put, Reply, Unlocked, Updated,
+    Checked, Commit, Evicted, Got, Inserted, Locked, Miss, Outcome, Put, Reply, Unlocked, Updated,
 };
 pub use rows::{
     Bytes, Cell, Cells, Change, Changes, Listing, Names, Row, Rows, Sets, Text, copy_cells,
@@ -30,3 +30,6 @@ pub use seq::Seq;
 
 /// Acts that are due one after another.
 pub type Acts = Seq<Act>;
+
+/// The locks that a session has taken: keys with the numbers of their locks.
+pub type Locks = Seq<(Key, Tick)>;

@@ -77,6 +77,14 @@ pub enum Miss {
     },
 }
 
+/// A region's answer to a reader.
+pub enum Got<'a> {
+    /// The row that may be read.
+    Hit(&'a Row),
+    /// There is none, for this cause.
+    Miss(Miss),
+}
+
 /// A region's answer to a row that was loaded.
 #[derive(Clone, Copy, Debug, PartialEq, Eq)]
 pub enum Put {

@@ -3,3 +3,4 @@ pub mod Plans
 pub mod Steps
 pub mod Inside
 pub mod Open
+pub mod Slots

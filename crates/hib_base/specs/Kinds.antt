@@ -1,0 +1,32 @@
+-- The words that name what is wrong with a line.
+use Rattle.std.specs.Prelude.{ℕ, List, codes}
+use Rattle.hib_base.specs.declared.refusals.Kind.{Kind}
+
+abbrev pub kind_word : Kind → List ℕ
+kind_word Kind.Byte = codes "byte"
+kind_word Kind.Long = codes "long"
+kind_word Kind.Token = codes "token"
+kind_word Kind.Header = codes "header"
+kind_word Kind.Line = codes "line"
+kind_word Kind.Words = codes "words"
+kind_word Kind.ManyEntities = codes "many-entities"
+kind_word Kind.ManyColumns = codes "many-columns"
+kind_word Kind.EntityTaken = codes "entity-taken"
+kind_word Kind.ColumnTaken = codes "column-taken"
+kind_word Kind.Strategy = codes "strategy"
+kind_word Kind.Capacity = codes "capacity"
+kind_word Kind.ColumnType = codes "column-type"
+kind_word Kind.RefUnknown = codes "ref-unknown"
+kind_word Kind.NoColumns = codes "no-columns"
+kind_word Kind.Reserved = codes "reserved"
+kind_word Kind.Taken = codes "taken"
+kind_word Kind.Unknown = codes "unknown"
+kind_word Kind.Number = codes "number"
+kind_word Kind.Cells = codes "cells"
+kind_word Kind.CellType = codes "type"
+kind_word Kind.Depth = codes "depth"
+kind_word Kind.Many = codes "many"
+kind_word Kind.Last = codes "last"
+kind_word Kind.NoEnd = codes "no-end"
+kind_word Kind.Journal = codes "journal"
+kind_word Kind.NotYet = codes "not-yet"
