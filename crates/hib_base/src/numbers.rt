@@ -4,7 +4,7 @@ ghost use Rattle.std.specs.Prelude.{ℕ};
 use std::marker::Model;
 
 /// An entity, by its place in the mapping, from 0.
-#[derive(Clone, Copy, Debug, PartialEq, Eq, PartialOrd, Ord)]
+#[derive(Clone, Copy, Debug, PartialEq, Eq, PartialOrd, Ord, Hash)]
 pub struct EntityNo(pub u16);
 
 impl Model for EntityNo {
@@ -16,7 +16,7 @@ impl Model for EntityNo {
 }
 
 /// A session, by its place in the script, from 0.
-#[derive(Clone, Copy, Debug, PartialEq, Eq, PartialOrd, Ord)]
+#[derive(Clone, Copy, Debug, PartialEq, Eq, PartialOrd, Ord, Hash)]
 pub struct SessionNo(pub u32);
 
 impl Model for SessionNo {
@@ -28,7 +28,7 @@ impl Model for SessionNo {
 }
 
 /// A named query, by its place in the script, from 0.
-#[derive(Clone, Copy, Debug, PartialEq, Eq, PartialOrd, Ord)]
+#[derive(Clone, Copy, Debug, PartialEq, Eq, PartialOrd, Ord, Hash)]
 pub struct QueryNo(pub u16);
 
 impl Model for QueryNo {
@@ -40,7 +40,7 @@ impl Model for QueryNo {
 }
 
 /// A time of the factory's clock, from 1 to 2^62. 0 stands for none yet.
-#[derive(Clone, Copy, Debug, PartialEq, Eq, PartialOrd, Ord)]
+#[derive(Clone, Copy, Debug, PartialEq, Eq, PartialOrd, Ord, Hash)]
 pub struct Tick(pub u64);
 
 impl Model for Tick {
@@ -52,7 +52,7 @@ impl Model for Tick {
 }
 
 /// What a row is found by: its entity, and its identifier within the entity, from 1 to 2^63 - 1.
-#[derive(Clone, Copy, Debug, PartialEq, Eq, PartialOrd, Ord)]
+#[derive(Clone, Copy, Debug, PartialEq, Eq, PartialOrd, Ord, Hash)]
 pub struct Key {
     /// The entity that the row is of.
     pub entity: EntityNo,

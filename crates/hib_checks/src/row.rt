@@ -1,4 +1,5 @@
 // A row, from the lines that describe it.
+use hib_base::{Cell, EntityNo, Key, Rows, Seq};
 use std::alloc::{AllocError, Global};
 
 /// The bytes that a sink takes where a row says nothing of its room.
@@ -13,6 +14,8 @@ pub struct Row {
     pub words: Vec<String>,
     /// The bytes of the source.
     pub input: Vec<u8>,
+    /// The rows that the keeper has at first. It places them at its first call.
+    pub kept: Rows,
     /// How many bytes the sink takes.
     pub room: usize,
     /// The numbers of the source's calls that fail.
@@ -29,6 +32,8 @@ pub struct Row {
     pub output: Vec<u8>,
     /// How many rows the keeper is to have at the end.
     pub keeps: u32,
+    /// How often the keeper is to have been asked for rows, where the row says so.
+    pub asks: Option<u32>,
 }
 
 impl Row {
@@ -38,6 +43,7 @@ impl Row {
             name: String::from_str(alloc, name)?,
             words: Vec::new(alloc),
             input: Vec::new(alloc),
+            kept: Seq::new(alloc),
             room: ROOM,
             source_fails: Vec::new(alloc),
             sink_fails: Vec::new(alloc),
@@ -46,6 +52,7 @@ impl Row {
             says: String::new(alloc),
             output: Vec::new(alloc),
             keeps: 0,
+            asks: None,
         })
     }
 
@@ -58,6 +65,7 @@ impl Row {
             "out" => add_line(&mut self.output, text)?,
             "piece" => self.output.extend_from_slice(text.as_bytes())?,
             "says" => self.says.push_str(text)?,
+            "kept" => return add_kept(alloc, &mut self.kept, text),
             _ => return self.take_number(word, text),
         }
         Ok(true)
@@ -70,6 +78,7 @@ impl Row {
         match word {
             "status" => self.status = number,
             "keeps" => self.keeps = number,
+            "asks" => self.asks = Some(number),
             "room" => self.room = number as usize,
             "fill" => fill(&mut self.input, number as usize)?,
             "source-fails" => self.source_fails.push(number)?,
@@ -79,6 +88,33 @@ impl Row {
         }
         Ok(true)
     }
+}
+
+/// Adds a row of the first entity, from its identifier, its version and the one text in it.
+fn add_kept(alloc: Global, rows: &mut Rows, text: &str) -> Result<bool, AllocError> {
+    let Some((id, rest)) = text.split_once(' ') else {
+        return Ok(false);
+    };
+    let Some((version, title)) = rest.split_once(' ') else {
+        return Ok(false);
+    };
+    let (Ok(id), Ok(version)) = (id.parse::<u64>(), version.parse::<u32>()) else {
+        return Ok(false);
+    };
+    let key = Key {
+        entity: EntityNo(0),
+        id,
+    };
+    let mut cells = Seq::new(alloc);
+    cells.push(Cell::Text(Seq::from_vec(title.as_bytes().to_vec(alloc)?)))?;
+    rows.push((
+        key,
+        hib_base::Row {
+            version: Some(version),
+            cells,
+        },
+    ))?;
+    Ok(true)
 }
 
 fn add_line(bytes: &mut Vec<u8>, text: &str) -> Result<(), AllocError> {

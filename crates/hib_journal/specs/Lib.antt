@@ -14,3 +14,4 @@ pub mod Sound
 pub mod Played
 pub mod Coherence
 pub mod Kept
+pub mod Runs

@@ -15,9 +15,9 @@ use Rattle.hib_lex.specs.Tokens.{is_lexical, is_blank, tokens_of}
 use Rattle.hib_script.specs.declared.drafts.Draft.{Draft}
 use Rattle.hib_script.specs.declared.drafts.Place.{Place}
 use Rattle.hib_script.specs.Lines.{lines_of}
-use Rattle.hib_script.specs.Forms.{begins, is_header, is_alone, entity_name, column_of, session_name, statement_of, persist_of, persist_from, find_of, find_from, commit_of, key_of, cells_of, columns_of, is_persisted}
+use Rattle.hib_script.specs.Forms.{begins, is_header, is_alone, entity_name, column_of, session_name, statement_of, persist_of, persist_from, find_of, commit_of, key_of, cells_of, columns_of}
 use Rattle.hib_script.specs.Script.{at, new_entity, new_session, has_column, with_column, with_statement, behind, step_sessions, step_head, has_columns, one_more_column, step_columns, step_session, step_at, step, script, ended_at, ended, Reading, after_line, at_end, reading, script_of}
-use Rattle.hib_script.specs.Built.{is_built_entity, may_follow, are_built, is_built_session, is_built, statement_count}
+use Rattle.hib_script.specs.Built.{is_built_entity, may_precede, are_built, is_built_session, is_built, statement_count}
 
 -- ---- what holds of the value in a `Some`
 abbrev pub Gives : {A : Type 0} → Option A → (A → Type 0) → Type 0
@@ -41,34 +41,29 @@ gives_any None = tt
 gives_any (Some a) = tt
 
 -- ---- a session's statements, one more at the end
-abbrev pub are_open : List Statement → List Statement → Bool
-are_open done [] = true
-are_open done (s ∷ ss) = may_follow done s && are_open (done ++ s ∷ []) ss
+open_more : (ss : List Statement) (t : Statement) → list_all may_precede ss ≡ true → may_precede t ≡ true → list_all may_precede (ss ++ t ∷ []) ≡ true
+open_more [] t h k = and_from (may_precede t) true k refl
+open_more (s ∷ ss) t h k =
+    let parts : (may_precede s ≡ true) × (list_all may_precede ss ≡ true) = and_parts (may_precede s) (list_all may_precede ss) h in
+    and_from (may_precede s) (list_all may_precede (ss ++ t ∷ [])) parts.0 (open_more ss t parts.1 k)
 
-open_more : (done ss : List Statement) (t : Statement) → are_open done ss ≡ true → may_follow (done ++ ss) t ≡ true → are_open done (ss ++ t ∷ []) ≡ true
-open_more done [] t h k = and_from (may_follow done t) true (simp append-nil at k) refl
-open_more done (s ∷ ss) t h k =
-    let parts : (may_follow done s ≡ true) × (are_open (done ++ s ∷ []) ss ≡ true) = and_parts (may_follow done s) (are_open (done ++ s ∷ []) ss) h in
-    let same : (done ++ s ∷ []) ++ ss ≡ done ++ (s ∷ ss) = append_assoc done (s ∷ []) ss in
-    and_from (may_follow done s) (are_open (done ++ s ∷ []) (ss ++ t ∷ [])) parts.0 (open_more (done ++ s ∷ []) ss t parts.1 (rw same k))
+built_first : (ss : List Statement) (s : Statement) → may_precede s ≡ true → are_built ss ≡ true → are_built (s ∷ ss) ≡ true
+built_first ss Statement.Commit h k = absurd (cc)
+built_first ss s h k = and_from (may_precede s) (are_built ss) h k
 
-built_first : (done ss : List Statement) (s : Statement) → may_follow done s ≡ true → are_built (done ++ s ∷ []) ss ≡ true → are_built done (s ∷ ss) ≡ true
-built_first done ss Statement.Commit h k = absurd (cc)
-built_first done ss s h k = and_from (may_follow done s) (are_built (done ++ s ∷ []) ss) h k
-
-built_last : (done ss : List Statement) → are_open done ss ≡ true → are_built done (ss ++ Statement.Commit ∷ []) ≡ true
-built_last done [] h = refl
-built_last done (s ∷ ss) h =
-    let parts : (may_follow done s ≡ true) × (are_open (done ++ s ∷ []) ss ≡ true) = and_parts (may_follow done s) (are_open (done ++ s ∷ []) ss) h in
-    built_first done (ss ++ Statement.Commit ∷ []) s parts.0 (built_last (done ++ s ∷ []) ss parts.1)
+built_last : (ss : List Statement) → list_all may_precede ss ≡ true → are_built (ss ++ Statement.Commit ∷ []) ≡ true
+built_last [] h = refl
+built_last (s ∷ ss) h =
+    let parts : (may_precede s ≡ true) × (list_all may_precede ss ≡ true) = and_parts (may_precede s) (list_all may_precede ss) h in
+    built_first (ss ++ Statement.Commit ∷ []) s parts.0 (built_last ss parts.1)
 
 -- ---- what a draft keeps
 pub record IsOpen (s : SessionDef) : Type 0 where
-  pub open_so_far : are_open [] s.statements ≡ true
+  pub open_so_far : list_all may_precede s.statements ≡ true
   pub few : length s.statements ≤ 5000
 
 pub record IsClosed (s : SessionDef) : Type 0 where
-  pub built : are_built [] s.statements ≡ true
+  pub built : are_built s.statements ≡ true
   pub few : length s.statements ≤ 5000
 
 abbrev pub KeepsPlace : Place → Type 0
@@ -83,40 +78,36 @@ pub record Keeps (draft : Draft) : Type 0 where
   pub entities : list_all is_built_entity draft.mapping ≡ true
   pub standing : KeepsPlace draft.place
 
--- a commit, or what may follow
-abbrev pub is_next : List Statement → Statement → Bool
-is_next done Statement.Commit = true
-is_next done s = may_follow done s
+-- a commit, or what may stand before it
+abbrev pub is_next : Statement → Bool
+is_next Statement.Commit = true
+is_next s = may_precede s
 
-persists_next : (done : List Statement) (key : Option Key) (cells : Option (List Cell)) → Gives (persist_from key cells) (λ t. is_next done t ≡ true)
-persists_next done None cells = tt
-persists_next done (Some key) None = tt
-persists_next done (Some key) (Some cells) = refl
+persists_next : (key : Option Key) (cells : Option (List Cell)) → Gives (persist_from key cells) (λ t. is_next t ≡ true)
+persists_next None cells = tt
+persists_next (Some key) None = tt
+persists_next (Some key) (Some cells) = refl
 
-persist_next : (m : List EntityDef) (done : List Statement) (ts : List Token) → Gives (persist_of m ts) (λ t. is_next done t ≡ true)
-persist_next m done [] = tt
-persist_next m done (a ∷ []) = tt
-persist_next m done (a ∷ b ∷ []) = tt
-persist_next m done (a ∷ b ∷ c ∷ ts) = persists_next done (key_of m b c) (cells_of (columns_of m) ts)
+persist_next : (m : List EntityDef) (ts : List Token) → Gives (persist_of m ts) (λ t. is_next t ≡ true)
+persist_next m [] = tt
+persist_next m (a ∷ []) = tt
+persist_next m (a ∷ b ∷ []) = tt
+persist_next m (a ∷ b ∷ c ∷ ts) = persists_next (key_of m b c) (cells_of (columns_of m) ts)
 
-finds_next : (done : List Statement) (key : Option Key) → Gives (find_from done key) (λ t. is_next done t ≡ true)
-finds_next done None = tt
-finds_next done (Some key) = gives_cond (is_persisted done key) (Some (Statement.Find key)) None (λ t. is_next done t ≡ true) (λ h. h) (λ _. tt)
+find_next : (m : List EntityDef) (ts : List Token) → Gives (find_of m ts) (λ t. is_next t ≡ true)
+find_next m [] = tt
+find_next m (a ∷ []) = tt
+find_next m (a ∷ b ∷ []) = tt
+find_next m (a ∷ b ∷ c ∷ []) = gives_map (λ key. Statement.Find key) (key_of m b c) (λ _. Unit {0}) (λ t. is_next t ≡ true) (gives_any (key_of m b c)) (λ key _. refl)
+find_next m (a ∷ b ∷ c ∷ d ∷ ts) = tt
 
-find_next : (m : List EntityDef) (done : List Statement) (ts : List Token) → Gives (find_of m done ts) (λ t. is_next done t ≡ true)
-find_next m done [] = tt
-find_next m done (a ∷ []) = tt
-find_next m done (a ∷ b ∷ []) = tt
-find_next m done (a ∷ b ∷ c ∷ []) = finds_next done (key_of m b c)
-find_next m done (a ∷ b ∷ c ∷ d ∷ ts) = tt
-
-statement_next : (m : List EntityDef) (done : List Statement) (ts : List Token) → Gives (statement_of m done ts) (λ t. is_next done t ≡ true)
-statement_next m done ts =
-    let P : Statement → Type 0 = λ t. is_next done t ≡ true in
-    gives_cond (begins (codes "persist") ts) (persist_of m ts) (cond (begins (codes "find") ts) (find_of m done ts) (cond (begins (codes "commit") ts) (commit_of ts) None)) P
-    (λ _. persist_next m done ts)
-    (λ _. gives_cond (begins (codes "find") ts) (find_of m done ts) (cond (begins (codes "commit") ts) (commit_of ts) None) P
-    (λ _. find_next m done ts)
+statement_next : (m : List EntityDef) (ts : List Token) → Gives (statement_of m ts) (λ t. is_next t ≡ true)
+statement_next m ts =
+    let P : Statement → Type 0 = λ t. is_next t ≡ true in
+    gives_cond (begins (codes "persist") ts) (persist_of m ts) (cond (begins (codes "find") ts) (find_of m ts) (cond (begins (codes "commit") ts) (commit_of ts) None)) P
+    (λ _. persist_next m ts)
+    (λ _. gives_cond (begins (codes "find") ts) (find_of m ts) (cond (begins (codes "commit") ts) (commit_of ts) None) P
+    (λ _. find_next m ts)
     (λ _. gives_cond (begins (codes "commit") ts) (commit_of ts) None P
     (λ _. gives_cond (is_alone ts) (Some Statement.Commit) None P (λ _. refl) (λ _. tt))
     (λ _. tt)))
@@ -125,14 +116,14 @@ statement_next m done ts =
 fewer : (ss : List Statement) (t : Statement) → nat_lt (length ss) 5000 ≡ true → length (ss ++ t ∷ []) ≤ 5000
 fewer ss t h = simp length-append (omega (arith, ltb-true (length ss) 5000 h))
 
-placed : (m : List EntityDef) (s : SessionDef) (t : Statement) → list_all is_built_entity m ≡ true → IsOpen s → is_next s.statements t ≡ true → nat_lt (length s.statements) 5000 ≡ true → Keeps (at m (behind t (record s { statements = s.statements ++ t ∷ [] })))
-placed m s Statement.Commit e o h n = record { entities = e; standing = record { built = built_last [] s.statements o.open_so_far; few = fewer s.statements Statement.Commit n } }
-placed m s t e o h n = record { entities = e; standing = record { open_so_far = open_more [] s.statements t o.open_so_far h; few = fewer s.statements t n } }
+placed : (m : List EntityDef) (s : SessionDef) (t : Statement) → list_all is_built_entity m ≡ true → IsOpen s → is_next t ≡ true → nat_lt (length s.statements) 5000 ≡ true → Keeps (at m (behind t (record s { statements = s.statements ++ t ∷ [] })))
+placed m s Statement.Commit e o h n = record { entities = e; standing = record { built = built_last s.statements o.open_so_far; few = fewer s.statements Statement.Commit n } }
+placed m s t e o h n = record { entities = e; standing = record { open_so_far = open_more s.statements t o.open_so_far h; few = fewer s.statements t n } }
 
 session_keeps : (m : List EntityDef) (s : SessionDef) (ts : List Token) → list_all is_built_entity m ≡ true → IsOpen s → Gives (step_session m s ts) Keeps
 session_keeps m s ts e o =
-    gives_then (λ t. with_statement m s t) (statement_of m s.statements ts) (λ t. is_next s.statements t ≡ true) Keeps
-    (statement_next m s.statements ts)
+    gives_then (λ t. with_statement m s t) (statement_of m ts) (λ t. is_next t ≡ true) Keeps
+    (statement_next m ts)
     (λ t h. gives_cond (nat_lt (length s.statements) 5000) (Some (at m (behind t (record s { statements = s.statements ++ t ∷ [] })))) None Keeps
     (λ n. placed m s t e o h n) (λ _. tt))
 

@@ -1,12 +1,11 @@
 -- What every script of today keeps.
-use Rattle.std.specs.Prelude.{ℕ, Bool, true, false, ◌&&◌, nat_le, sum_by, List, [], ◌∷◌, ◌++◌, length}
+use Rattle.std.specs.Prelude.{ℕ, Bool, true, false, ◌&&◌, nat_le, sum_by, List, [], ◌∷◌, length}
 use Rattle.std.specs.List.{list_all}
 use Rattle.hib_base.specs.declared.scripts.EntityDef.{EntityDef}
 use Rattle.hib_base.specs.declared.scripts.Strategy.{Strategy}
 use Rattle.hib_base.specs.declared.scripts.Statement.{Statement}
 use Rattle.hib_base.specs.declared.scripts.SessionDef.{SessionDef}
 use Rattle.hib_base.specs.declared.scripts.Script.{Script}
-use Rattle.hib_script.specs.Forms.{is_persisted}
 
 abbrev pub is_empty : {A : Type 0} → List A → Bool
 is_empty [] = true
@@ -19,20 +18,20 @@ is_uncached _ = false
 abbrev pub is_built_entity : EntityDef → Bool
 is_built_entity e = is_uncached e.strategy && e.versioned
 
--- behind these statements of a session may come a persist, or a find of a key that they persist
-abbrev pub may_follow : List Statement → Statement → Bool
-may_follow done (Statement.Persist key cells) = true
-may_follow done (Statement.Find key) = is_persisted done key
-may_follow done _ = false
+-- what may stand before a commit: a persist, or a find
+abbrev pub may_precede : Statement → Bool
+may_precede (Statement.Persist key cells) = true
+may_precede (Statement.Find key) = true
+may_precede _ = false
 
 -- such statements, and then a commit
-abbrev pub are_built : List Statement → List Statement → Bool
-are_built done [] = false
-are_built done (Statement.Commit ∷ ss) = is_empty ss
-are_built done (s ∷ ss) = may_follow done s && are_built (done ++ s ∷ []) ss
+abbrev pub are_built : List Statement → Bool
+are_built [] = false
+are_built (Statement.Commit ∷ ss) = is_empty ss
+are_built (s ∷ ss) = may_precede s && are_built ss
 
 abbrev pub is_built_session : SessionDef → Bool
-is_built_session s = are_built [] s.statements
+is_built_session s = are_built s.statements
 
 abbrev pub statement_count : List SessionDef → ℕ
 statement_count sessions = sum_by (λ s. length s.statements) sessions

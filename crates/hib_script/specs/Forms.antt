@@ -8,7 +8,6 @@ use Rattle.hib_base.specs.declared.scripts.ColumnDef.{ColumnDef}
 use Rattle.hib_base.specs.declared.scripts.EntityDef.{EntityDef}
 use Rattle.hib_base.specs.declared.scripts.Statement.{Statement}
 use Rattle.hib_base.specs.Fits.{is_identifier}
-use Rattle.hib_base.specs.Keys.{same_key}
 use Rattle.hib_lex.specs.declared.lexer.Token.{Token}
 
 -- ---- tokens
@@ -128,29 +127,18 @@ abbrev pub persist_of : List EntityDef → List Token → Option Statement
 persist_of mapping (first ∷ name ∷ id ∷ cells) = persist_from (key_of mapping name id) (cells_of (columns_of mapping) cells)
 persist_of mapping _ = None
 
-abbrev pub persists : Key → Statement → Bool
-persists key (Statement.Persist other cells) = same_key other key
-persists key _ = false
-
-abbrev pub is_persisted : List Statement → Key → Bool
-is_persisted done key = list_any (λ s. persists key s) done
-
--- find ENTITY ID, of a key that the session persisted
-abbrev pub find_from : List Statement → Option Key → Option Statement
-find_from done None = None
-find_from done (Some key) = cond (is_persisted done key) (Some (Statement.Find key)) None
-
-abbrev pub find_of : List EntityDef → List Statement → List Token → Option Statement
-find_of mapping done (first ∷ name ∷ id ∷ []) = find_from done (key_of mapping name id)
-find_of mapping done _ = None
+-- find ENTITY ID
+abbrev pub find_of : List EntityDef → List Token → Option Statement
+find_of mapping (first ∷ name ∷ id ∷ []) = option_map (λ key. Statement.Find key) (key_of mapping name id)
+find_of mapping _ = None
 
 -- commit
 abbrev pub commit_of : List Token → Option Statement
 commit_of ts = cond (is_alone ts) (Some Statement.Commit) None
 
--- the statement of a line, behind the session's statements so far
-abbrev pub statement_of : List EntityDef → List Statement → List Token → Option Statement
-statement_of mapping done ts =
+-- the statement of a line
+abbrev pub statement_of : List EntityDef → List Token → Option Statement
+statement_of mapping ts =
     cond (begins (codes "persist") ts) (persist_of mapping ts)
-    (cond (begins (codes "find") ts) (find_of mapping done ts)
+    (cond (begins (codes "find") ts) (find_of mapping ts)
     (cond (begins (codes "commit") ts) (commit_of ts) None))

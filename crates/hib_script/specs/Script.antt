@@ -67,7 +67,7 @@ step_columns m e ts =
 
 -- in a session: its statements
 abbrev pub step_session : List EntityDef → SessionDef → List Token → Option Draft
-step_session m s ts = option_and_then (λ t. with_statement m s t) (statement_of m s.statements ts)
+step_session m s ts = option_and_then (λ t. with_statement m s t) (statement_of m ts)
 
 -- behind a session's last statement: `end`
 abbrev pub step_committed : List EntityDef → SessionDef → List Token → Option Draft

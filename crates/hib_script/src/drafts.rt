@@ -196,13 +196,7 @@ fn step_session(
 ) -> Result<Option<Draft>, AllocError>
     ensures { IfOk result (λ d. d ≡ order.step_session mapping session tokens.now) }
 {
-    let next = statement(
-        alloc,
-        mapping.as_slice(),
-        session.statements.as_slice(),
-        tokens,
-    )?;
-    match next {
+    match statement(alloc, mapping.as_slice(), tokens)? {
         Some(statement) => with_statement(mapping, session, statement),
         None => Ok(None),
     }

@@ -278,38 +278,15 @@ fn mapping_cells(
     }
 }
 
-fn persists(statement: &Statement, key: &Key) -> bool
-    ensures { result ≡ forms.persists key.now statement.now }
-{
-    match statement {
-        Statement::Persist { key: other, .. } => *other == *key,
-        _ => false,
-    }
-}
-
-fn is_persisted(statements: &[Statement], key: &Key) -> bool
-    ensures { result ≡ forms.is_persisted statements.now key.now }
-{
-    statements.iter().any(|statement| persists(statement, key))
-}
-
 /// The statement of `find ENTITY ID`.
-fn find(mapping: &[EntityDef], statements: &[Statement], tokens: &[Token]) -> Option<Statement>
-    ensures { result ≡ forms.find_of mapping.now statements.now tokens.now }
+fn find(mapping: &[EntityDef], tokens: &[Token]) -> Option<Statement>
+    ensures { result ≡ forms.find_of mapping.now tokens.now }
 {
     match tokens {
-        [_, name, id] => find_from(statements, key(mapping, name, id)?),
+        [_, name, id] => Some(Statement::Find {
+            key: key(mapping, name, id)?,
+        }),
         _ => None,
-    }
-}
-
-fn find_from(statements: &[Statement], key: Key) -> Option<Statement>
-    ensures { result ≡ forms.find_from statements.now (Some key) }
-{
-    if is_persisted(statements, &key) {
-        Some(Statement::Find { key })
-    } else {
-        None
     }
 }
 
@@ -330,19 +307,18 @@ fn commit(tokens: &[Token]) -> Option<Statement>
     }
 }
 
-/// The statement of a line, behind the session's statements so far.
+/// The statement of a line.
 pub fn statement(
     alloc: Global,
     mapping: &[EntityDef],
-    statements: &[Statement],
     tokens: &[Token],
 ) -> Result<Option<Statement>, AllocError>
-    ensures { IfOk result (λ s. s ≡ forms.statement_of mapping.now statements.now tokens.now) }
+    ensures { IfOk result (λ s. s ≡ forms.statement_of mapping.now tokens.now) }
 {
     if begins(tokens, b"persist") {
         persist(alloc, mapping, tokens)
     } else if begins(tokens, b"find") {
-        Ok(find(mapping, statements, tokens))
+        Ok(find(mapping, tokens))
     } else if begins(tokens, b"commit") {
         Ok(commit(tokens))
     } else {

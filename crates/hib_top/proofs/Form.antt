@@ -5,7 +5,7 @@ use Rattle.std.specs.List.{list_all}
 use Rattle.hib_journal.specs.Types.{Strategy, EntityDef, Statement, SessionDef, Script}
 use Rattle.hib_journal.specs.Sessions.{Journal, own}
 use Rattle.hib_journal.specs.Next.{strategy_in, statements, next}
-use Rattle.hib_script.specs.Built.{is_built, is_built_entity, is_uncached, is_built_session, are_built, may_follow, is_empty, statement_count}
+use Rattle.hib_script.specs.Built.{is_built, is_built_entity, is_uncached, is_built_session, are_built, is_empty, statement_count}
 use Rattle.hib_session.specs.Memory.{IsBuilt, is_built_statement}
 use Rattle.hib_top.specs.Play.{AreEnded}
 
@@ -20,23 +20,23 @@ uncached_in (d ∷ ds) zero p =
     uncached_is d.strategy (and_parts (is_uncached d.strategy) d.versioned q.0).0
 uncached_in (d ∷ ds) (suc n) p = uncached_in ds n (and_parts (is_built_entity d) (list_all is_built_entity ds) p).1
 
-built_in : (done ss : List Statement) → are_built done ss ≡ true → list_all is_built_statement ss ≡ true
-built_in done [] p = refl
-built_in done (Statement.Commit ∷ []) p = refl
-built_in done (Statement.Commit ∷ s ∷ ss) p = absurd (false≢true p)
-built_in done (Statement.Find k ∷ ss) p = built_in (done ++ Statement.Find k ∷ []) ss (and_parts (may_follow done (Statement.Find k)) (are_built (done ++ Statement.Find k ∷ []) ss) p).1
-built_in done (Statement.Persist k cs ∷ ss) p = built_in (done ++ Statement.Persist k cs ∷ []) ss (and_parts (may_follow done (Statement.Persist k cs)) (are_built (done ++ Statement.Persist k cs ∷ []) ss) p).1
-built_in done (Statement.Set k cs ∷ ss) p = absurd (false≢true p)
-built_in done (Statement.Remove k ∷ ss) p = absurd (false≢true p)
-built_in done (Statement.List q ∷ ss) p = absurd (false≢true p)
-built_in done (Statement.Flush ∷ ss) p = absurd (false≢true p)
-built_in done (Statement.Clear ∷ ss) p = absurd (false≢true p)
-built_in done (Statement.Mode m ∷ ss) p = absurd (false≢true p)
-built_in done (Statement.Rollback ∷ ss) p = absurd (false≢true p)
+built_in : (ss : List Statement) → are_built ss ≡ true → list_all is_built_statement ss ≡ true
+built_in [] p = refl
+built_in (Statement.Commit ∷ []) p = refl
+built_in (Statement.Commit ∷ s ∷ ss) p = absurd (false≢true p)
+built_in (Statement.Find k ∷ ss) p = built_in ss p
+built_in (Statement.Persist k cs ∷ ss) p = built_in ss p
+built_in (Statement.Set k cs ∷ ss) p = absurd (false≢true p)
+built_in (Statement.Remove k ∷ ss) p = absurd (false≢true p)
+built_in (Statement.List q ∷ ss) p = absurd (false≢true p)
+built_in (Statement.Flush ∷ ss) p = absurd (false≢true p)
+built_in (Statement.Clear ∷ ss) p = absurd (false≢true p)
+built_in (Statement.Mode m ∷ ss) p = absurd (false≢true p)
+built_in (Statement.Rollback ∷ ss) p = absurd (false≢true p)
 
 sessions_in : (ds : List SessionDef) (s : ℕ) → list_all is_built_session ds ≡ true → list_all is_built_statement (statements (slice_get ds s)) ≡ true
 sessions_in [] s p = refl
-sessions_in (d ∷ ds) zero p = built_in [] d.statements (and_parts (is_built_session d) (list_all is_built_session ds) p).0
+sessions_in (d ∷ ds) zero p = built_in d.statements (and_parts (is_built_session d) (list_all is_built_session ds) p).0
 sessions_in (d ∷ ds) (suc s) p = sessions_in ds s (and_parts (is_built_session d) (list_all is_built_session ds) p).1
 
 empty_is : {A : Type 0} → (xs : List A) → is_empty xs ≡ true → xs ≡ []

@@ -1,3 +1,4 @@
 pub mod Serving
 pub mod Taken
 pub mod Form
+pub mod Complete

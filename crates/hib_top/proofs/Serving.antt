@@ -1,13 +1,14 @@
 -- What the parts answer is what a legal journal says.
-use Rattle.std.proofs.Common.{◌≡◌, ◌≢◌, ◌⊎◌, ℕ, suc, ◌+◌, ◌^◌, ◌≤◌, ◌<◌, ◌==◌, inl, inr, Bool, true, false, not, List, [], ◌∷◌, length, IsSome, Some, None, Option, refl, sym, ap, ◌∙◌, subst, arith}
+use Rattle.std.proofs.Common.{◌≡◌, ◌≢◌, ◌⊎◌, ℕ, suc, ◌+◌, ◌-◌, ◌^◌, ◌≤◌, ◌<◌, min, ◌==◌, inl, inr, Bool, true, false, cond, not, ◌||◌, List, [], ◌∷◌, length, IsSome, Some, None, Option, refl, sym, ap, ◌∙◌, subst, arith}
 use Rattle.std.proofs.lemmas.Bool.{true≢false, false≢true, eqb-true}
 use Rattle.std.proofs.lemmas.Bool.Decides.{nat_tests}
 use Rattle.hib_base.specs.Tables.{Tables, row_at, after_changes, commit_answer}
 use Rattle.hib_base.proofs.Tables.{Tested, tested}
-use Rattle.hib_journal.specs.Types.{Key, Row, Change, Commit, Script, Act, Reply, Entry}
+use Rattle.hib_journal.specs.Types.{Key, Row, Change, Commit, Strategy, Script, Act, Reply, Entry}
+use Rattle.hib_journal.specs.Held.{held}
 use Rattle.hib_journal.specs.Sessions.{Journal, own, is_by, is_session, floor, least_live, is_live, is_open, was_killed, killed_by, committed, committed_by, committer, changes_in, deferred, deferred_after, is_begun, time, last_tick, IsTimely}
-use Rattle.hib_journal.specs.Next.{next, is_in}
-use Rattle.hib_journal.specs.Legal.{IsLegal, IsStep, IsReply, IsAnswer, reply_of, part_of, is_of_store, is_told, is_empty, is_outside, due, due_by, part_due, may_come, number}
+use Rattle.hib_journal.specs.Next.{next, is_in, is_held, strategy}
+use Rattle.hib_journal.specs.Legal.{IsLegal, IsStep, IsReply, IsAnswer, reply_of, part_of, is_of_store, is_told, is_empty, is_outside, due, due_by, part_due, may_come, number, persisted, set_unless, is_there, row_of}
 use Rattle.hib_journal.proofs.Open.{begun_open}
 use Rattle.hib_journal.proofs.Inside.{inside}
 use Rattle.hib_journal.proofs.Steps.{steps_in_order}
@@ -16,7 +17,8 @@ use Rattle.hib_store.specs.declared.asking.Loaded.{Loaded}
 use Rattle.hib_session.specs.declared.session.Session.{Session}
 use Rattle.hib_session.specs.Session.{Follows, IsTaken, own_reply, number_of}
 use Rattle.hib_session.specs.Built.{IsAllowed}
-use Rattle.hib_top.specs.Run.{IsNumbered, told_committed, entry_of, Keeps, IsRun, IsReady, IsAnswered, Serves}
+use Rattle.hib_journal.specs.Runs.{IsNumbered, told_committed, one_if, asks, ask_count, is_fault, fault_count}
+use Rattle.hib_top.specs.Run.{Origin, origin_of, RoseBy, RoseWithin, entry_of, Keeps, IsRun, IsReady, IsAnswered, IsAskedFor, Serves}
 
 pub self_by : (s : ℕ) → (s == s) ≡ true
 self_by s = grind (arith, nat_tests)
@@ -40,10 +42,24 @@ pub rows_same : (told : Option Tables) (h : Journal) (s : ℕ) (a : Act) (r : Re
 rows_same None h s a r p = refl
 rows_same (Some start) h s a r p = ap (λ by. Some (committed_by by h (committed start h))) p
 
-pub keeps_step : (told : Option Tables) (h : Journal) (s : ℕ) (a : Act) (r : Reply) (old new : StoreState) → Keeps told h old →
-    new.tables ≡ told_committed told (entry_of h s a r ∷ h) → changes_of new s ≡ deferred_after a (changes_of old s) → ((n : ℕ) → n ≢ s → changes_of new n ≡ changes_of old n) →
-    Keeps told (entry_of h s a r ∷ h) new
-keeps_step told h s a r old new k t c o = record { rows = t; changes = λ n. by_session n (tested (s == n)) }
+rose_more : (b n o m w : ℕ) → RoseBy b n o → RoseBy o m w → RoseBy b (n + m) w
+rose_more b n o m w p q = omega (arith, p, q)
+
+rose_on : (b n o w : ℕ) → RoseBy b n o → o ≤ w → RoseBy b n w
+rose_on b n o w p q = omega (arith, p, q)
+
+-- an answer that is no fault
+pub no_fault : (r : Reply) (o w : ℕ) → is_fault r ≡ false → o ≤ w → RoseBy o (one_if (is_fault r)) w
+no_fault r o w p q = rw p (omega (arith, q))
+
+pub keeps_step : (from : Origin) (h : Journal) (s : ℕ) (a : Act) (r : Reply) (old new : StoreState) → Keeps from h old →
+    new.tables ≡ told_committed from.tables (entry_of h s a r ∷ h) → changes_of new s ≡ deferred_after a (changes_of old s) → ((n : ℕ) → n ≢ s → changes_of new n ≡ changes_of old n) →
+    RoseBy old.faults (one_if (is_fault r)) new.faults → Keeps from (entry_of h s a r ∷ h) new
+keeps_step from h s a r old new k t c o f = record {
+  rows = t;
+  changes = λ n. by_session n (tested (s == n));
+  faults = rose_more from.faults (fault_count h) old.faults (one_if (is_fault r)) new.faults k.faults f;
+}
   where
     by_session : (n : ℕ) → Tested (s == n) → changes_of new n ≡ deferred (own n (entry_of h s a r ∷ h))
     by_session n (inl p) =
@@ -53,17 +69,22 @@ keeps_step told h s a r old new k t c o = record { rows = t; changes = λ n. by_
     by_session n (inr p) = o n (λ e. true≢false (sym (ap (λ m. s == m) e ∙ self_by s) ∙ p)) ∙ (k.changes n ∙ ap deferred (sym (own_other h s n a r p)))
 
 -- an entry by which the store stays
-pub keeps_same : (told : Option Tables) (h : Journal) (s : ℕ) (a : Act) (r : Reply) (old new : StoreState) → Keeps told h old → committer a r (Some s) ≡ None →
-    ((cs : List Change) → deferred_after a cs ≡ cs) → new.tables ≡ old.tables → new.written ≡ old.written → Keeps told (entry_of h s a r ∷ h) new
-keeps_same told h s a r old new k p d t w = keeps_step told h s a r old new k (t ∙ (k.rows ∙ sym (rows_same told h s a r p)))
-    (same s ∙ sym (d (changes_of old s))) (λ n f. same n)
+pub keeps_same : (from : Origin) (h : Journal) (s : ℕ) (a : Act) (r : Reply) (old new : StoreState) → Keeps from h old → committer a r (Some s) ≡ None →
+    ((cs : List Change) → deferred_after a cs ≡ cs) → new.tables ≡ old.tables → new.written ≡ old.written → RoseBy old.faults (one_if (is_fault r)) new.faults →
+    Keeps from (entry_of h s a r ∷ h) new
+keeps_same from h s a r old new k p d t w f = keeps_step from h s a r old new k (t ∙ (k.rows ∙ sym (rows_same from.tables h s a r p)))
+    (same s ∙ sym (d (changes_of old s))) (λ n x. same n) f
   where
     same : (n : ℕ) → changes_of new n ≡ changes_of old n
     same n = ap (λ x. Rattle.hib_store.specs.Stores.changes_in x n) w
 
 -- and where memory ran out
-pub keeps_still : (told : Option Tables) (h : Journal) (old new : StoreState) → Keeps told h old → new.tables ≡ old.tables → new.written ≡ old.written → Keeps told h new
-keeps_still told h old new k t w = record { rows = t ∙ k.rows; changes = λ n. ap (λ x. Rattle.hib_store.specs.Stores.changes_in x n) w ∙ k.changes n }
+pub keeps_still : (from : Origin) (h : Journal) (old new : StoreState) → Keeps from h old → new.tables ≡ old.tables → new.written ≡ old.written → old.faults ≤ new.faults → Keeps from h new
+keeps_still from h old new k t w f = record {
+  rows = t ∙ k.rows;
+  changes = λ n. ap (λ x. Rattle.hib_store.specs.Stores.changes_in x n) w ∙ k.changes n;
+  faults = rose_on from.faults (fault_count h) old.faults new.faults k.faults f;
+}
 
 -- a reply that does not hang on rows
 pub reply_any : (script : Script) (told : Option Tables) (h : Journal) (e : Entry) → ((start : Tables) → e.reply ≡ reply_of script start h (number e.session) e.tick e.act) →
@@ -145,21 +166,34 @@ row_reply x y e = ap (λ z. Reply.Row z) e
 loaded_is : (x y : Option Row) → Loaded.Row x ≡ Loaded.Row y → x ≡ y
 loaded_is x y e = cc
 
-pub load_row : (script : Script) (told : Option Tables) (h : Journal) (s : ℕ) (k : Key) (row : Option Row) (store : StoreState) → Keeps told h store →
+pub load_row : (script : Script) (from : Origin) (h : Journal) (s : ℕ) (k : Key) (row : Option Row) (store : StoreState) → Keeps from h store →
     deferred (own s h) ≡ changes_in (own s h) → IsView store.tables (changes_of store s) k (Loaded.Row row) →
     (is_in k (changes_of store s) ≡ true → (t : Tables) → Loaded.Row row ≡ Loaded.Row (row_at (after_changes (changes_of store s) t) k)) →
-    IsReply script told h (entry_of h s (Act.Load k) (Reply.Row row))
-load_row script None h s k row store kept d view mine = (
-  refl,
-  λ q. inl (row_reply row (row_at (after_changes (changes_in (own s h)) (committed [] h)) k)
-      (subst (λ cs. row ≡ row_at (after_changes cs (committed [] h)) k) same
-      (loaded_is row (row_at (after_changes (changes_of store s) (committed [] h)) k) (mine (ap (is_in k) same ∙ not_false (is_in k (changes_in (own s h))) q) (committed [] h))))),
-)
+    IsReply script from.tables h (entry_of h s (Act.Load k) (Reply.Row row))
+load_row script from h s k row store kept d view mine = by_told from.tables kept.rows
   where
     same : changes_of store s ≡ changes_in (own s h)
     same = kept.changes s ∙ d
-load_row script (Some start) h s k row store kept d view mine = inl (row_reply row (row_at (after_changes (changes_in (own s h)) (committed start h)) k)
-    (subst (λ cs. row ≡ row_at (after_changes cs (committed start h)) k) (kept.changes s ∙ d) (subst (λ t. IsView t (changes_of store s) k (Loaded.Row row)) kept.rows view)))
+
+    by_told : (told : Option Tables) → store.tables ≡ told_committed told h → IsReply script told h (entry_of h s (Act.Load k) (Reply.Row row))
+    by_told None rows = (
+      refl,
+      λ q. inl (row_reply row (row_at (after_changes (changes_in (own s h)) (committed [] h)) k)
+          (subst (λ cs. row ≡ row_at (after_changes cs (committed [] h)) k) same
+          (loaded_is row (row_at (after_changes (changes_of store s) (committed [] h)) k) (mine (ap (is_in k) same ∙ not_false (is_in k (changes_in (own s h))) q) (committed [] h))))),
+    )
+    by_told (Some start) rows = inl (row_reply row (row_at (after_changes (changes_in (own s h)) (committed start h)) k)
+        (subst (λ cs. row ≡ row_at (after_changes cs (committed start h)) k) same (subst (λ t. IsView t (changes_of store s) k (Loaded.Row row)) rows view)))
+
+-- the keeper is asked once at most, and not at all of a key that the session has changed
+pub load_asks : (from : Origin) (h : Journal) (s : ℕ) (k : Key) (old new : StoreState) → Keeps from h old → deferred (own s h) ≡ changes_in (own s h) →
+    (is_in k (changes_of old s) ≡ true → new.asked ≡ old.asked) → old.asked ≤ new.asked → new.asked ≤ old.asked + 1 → IsAskedFor h s (Act.Load k) old new
+load_asks from h s k old new kept d quiet later few = subst (λ cs. RoseWithin old.asked (one_if (asks cs (Act.Load k))) new.asked) (kept.changes s ∙ d)
+    (by_test (is_in k (changes_of old s)) quiet)
+  where
+    by_test : (b : Bool) → (b ≡ true → new.asked ≡ old.asked) → RoseWithin old.asked (one_if (not b)) new.asked
+    by_test true q = record { later = later; few = omega (arith, q refl) }
+    by_test false q = record { later = later; few = few }
 
 fault_if : (b : Bool) → b ≡ false → Rattle.hib_journal.specs.Legal.fault_unless b Reply.Fault ≡ Some Reply.Fault
 fault_if true p = absurd (true≢false p)
@@ -169,9 +203,9 @@ not_true : (b : Bool) → (b ≡ true → ⊥) → b ≡ false
 not_true true f = absurd (f refl)
 not_true false f = refl
 
-pub load_fault : (script : Script) (told : Option Tables) (h : Journal) (s : ℕ) (k : Key) (store : StoreState) → Keeps told h store →
-    deferred (own s h) ≡ changes_in (own s h) → (is_in k (changes_of store s) ≡ true → ⊥) → IsReply script told h (entry_of h s (Act.Load k) Reply.Fault)
-load_fault script told h s k store kept d none = by_told told
+pub load_fault : (script : Script) (from : Origin) (h : Journal) (s : ℕ) (k : Key) (store : StoreState) → Keeps from h store →
+    deferred (own s h) ≡ changes_in (own s h) → (is_in k (changes_of store s) ≡ true → ⊥) → IsReply script from.tables h (entry_of h s (Act.Load k) Reply.Fault)
+load_fault script from h s k store kept d none = by_told from.tables
   where
     away : is_in k (changes_in (own s h)) ≡ false
     away = not_true (is_in k (changes_in (own s h))) (λ p. none (ap (is_in k) (kept.changes s ∙ d) ∙ p))
@@ -212,33 +246,43 @@ ToldAnswer (Some m) cs c = c ≡ commit_answer cs m
 committed_fault : Commit.Committed ≡ Commit.Fault → ⊥
 committed_fault x = cc
 
-pub commit_reply : (script : Script) (told : Option Tables) (h : Journal) (s : ℕ) (c : Commit) (store : StoreState) → Keeps told h store →
+pub commit_reply : (script : Script) (from : Origin) (h : Journal) (s : ℕ) (c : Commit) (store : StoreState) → Keeps from h store →
     deferred (own s h) ≡ changes_in (own s h) → (c ≢ Commit.Fault → ToldAnswer store.tables (changes_of store s) c) → (changes_of store s ≡ [] → c ≡ Commit.Committed) →
-    IsReply script told h (entry_of h s Act.Commit (Reply.Commit c))
-commit_reply script None h s c store kept d answer none = (
-  refl,
-  λ q. inl (ap (λ x. Reply.Commit x)
-      (let e : changes_in (own s h) ≡ [] = empty_nil (changes_in (own s h)) (not_false (is_empty (changes_in (own s h))) q) in
-      none (kept.changes s ∙ (d ∙ e)) ∙ ap (λ cs. commit_answer cs (committed [] h)) (sym e))),
-)
-commit_reply script (Some start) h s c store kept d answer none = by_answer (fault_or c)
+    IsReply script from.tables h (entry_of h s Act.Commit (Reply.Commit c))
+commit_reply script from h s c store kept d answer none = by_told from.tables kept.rows
   where
     same : changes_of store s ≡ changes_in (own s h)
     same = kept.changes s ∙ d
 
-    by_answer : (c ≡ Commit.Fault) ⊎ (c ≢ Commit.Fault) → IsReply script (Some start) h (entry_of h s Act.Commit (Reply.Commit c))
-    by_answer (inr f) = inl (ap (λ x. Reply.Commit x)
-        (subst (λ cs. c ≡ commit_answer cs (committed start h)) same (subst (λ t. ToldAnswer t (changes_of store s) c) kept.rows (answer f))))
-    by_answer (inl p) = inr (commit_fault_if (is_empty (changes_in (own s h))) some ∙ ap (λ x. Some (Reply.Commit x)) (sym p))
+    by_told : (told : Option Tables) → store.tables ≡ told_committed told h → IsReply script told h (entry_of h s Act.Commit (Reply.Commit c))
+    by_told None rows = (
+      refl,
+      λ q. inl (ap (λ x. Reply.Commit x)
+          (let e : changes_in (own s h) ≡ [] = empty_nil (changes_in (own s h)) (not_false (is_empty (changes_in (own s h))) q) in
+          none (same ∙ e) ∙ ap (λ cs. commit_answer cs (committed [] h)) (sym e))),
+    )
+    by_told (Some start) rows = by_answer (fault_or c)
       where
-        some : is_empty (changes_in (own s h)) ≡ false
-        some = not_true (is_empty (changes_in (own s h))) (λ q. committed_fault (sym (none (same ∙ empty_nil (changes_in (own s h)) q)) ∙ p))
+        by_answer : (c ≡ Commit.Fault) ⊎ (c ≢ Commit.Fault) → IsReply script (Some start) h (entry_of h s Act.Commit (Reply.Commit c))
+        by_answer (inr f) = inl (ap (λ x. Reply.Commit x)
+            (subst (λ cs. c ≡ commit_answer cs (committed start h)) same (subst (λ t. ToldAnswer t (changes_of store s) c) rows (answer f))))
+        by_answer (inl p) = inr (commit_fault_if (is_empty (changes_in (own s h))) some ∙ ap (λ x. Some (Reply.Commit x)) (sym p))
+          where
+            some : is_empty (changes_in (own s h)) ≡ false
+            some = not_true (is_empty (changes_in (own s h))) (λ q. committed_fault (sym (none (same ∙ empty_nil (changes_in (own s h)) q)) ∙ p))
 
-pub commit_keeps : (told : Option Tables) (h : Journal) (s : ℕ) (c : Commit) (old new : StoreState) → Keeps told h old → deferred (own s h) ≡ changes_in (own s h) →
+pub commit_keeps : (from : Origin) (h : Journal) (s : ℕ) (c : Commit) (old new : StoreState) → Keeps from h old → deferred (own s h) ≡ changes_in (own s h) →
     new.tables ≡ tables_answered c (changes_of old s) old.tables → changes_of new s ≡ [] → ((n : ℕ) → n ≢ s → changes_of new n ≡ changes_of old n) →
-    Keeps told (entry_of h s Act.Commit (Reply.Commit c) ∷ h) new
-commit_keeps told h s c old new k d t w o = keeps_step told h s Act.Commit (Reply.Commit c) old new k (t ∙ (ap (tables_answered c (changes_of old s)) k.rows ∙ by_answer c told)) w o
+    old.faults ≤ new.faults → (c ≡ Commit.Fault → RoseBy old.faults 1 new.faults) → Keeps from (entry_of h s Act.Commit (Reply.Commit c) ∷ h) new
+commit_keeps from h s c old new k d t w o l f = keeps_step from h s Act.Commit (Reply.Commit c) old new k
+    (t ∙ (ap (tables_answered c (changes_of old s)) k.rows ∙ by_answer c from.tables)) w o (rose c f)
   where
+    rose : (x : Commit) → (x ≡ Commit.Fault → RoseBy old.faults 1 new.faults) → RoseBy old.faults (one_if (is_fault (Reply.Commit x))) new.faults
+    rose Commit.Fault g = g refl
+    rose Commit.Committed g = omega (arith, l)
+    rose (Commit.Stale j v) g = omega (arith, l)
+    rose (Commit.Duplicate j) g = omega (arith, l)
+
     by_answer : (x : Commit) (u : Option Tables) → tables_answered x (changes_of old s) (told_committed u h) ≡ told_committed u (entry_of h s Act.Commit (Reply.Commit x) ∷ h)
     by_answer Commit.Committed None = refl
     by_answer Commit.Committed (Some start) = ap (λ cs. Some (after_changes cs (committed start h))) (k.changes s ∙ d)
@@ -250,15 +294,46 @@ commit_keeps told h s c old new k d t w o = keeps_step told h s Act.Commit (Repl
     by_answer Commit.Fault (Some start) = refl
 
 -- the session answers itself
-pub own_answered : (script : Script) (told : Option Tables) (h : Journal) (session : Session) (a : Act) (r : Reply) (store : StoreState) →
-    IsReady script told h session a store → Some r ≡ own_reply script (own (number_of session) h) a → IsAnswered script told h (number_of session) a r store
-own_answered script told h session a r store y p =
+-- a session answers no fault
+abbrev is_calm : Option Reply → Bool
+is_calm None = true
+is_calm (Some r) = not (is_fault r)
+
+calm_persist : (b : Bool) → is_calm (Some (persisted b)) ≡ true
+calm_persist true = refl
+calm_persist false = refl
+
+calm_set : (b : Bool) (g : Strategy) → is_calm (Some (cond b (set_unless g) Reply.Unknown)) ≡ true
+calm_set false g = refl
+calm_set true Strategy.ReadOnly = refl
+calm_set true _ = refl
+
+calm_remove : (b : Bool) → is_calm (Some (cond b Reply.Removed Reply.Unknown)) ≡ true
+calm_remove true = refl
+calm_remove false = refl
+
+own_calm : (script : Script) (mine : Journal) (a : Act) → is_calm (own_reply script mine a) ≡ true
+own_calm script mine (Act.Persist k r) = calm_persist (is_held (held mine k) || is_in k (changes_in mine))
+own_calm script mine (Act.Set k cells) = calm_set (is_there (row_of (held mine k))) (strategy script k.entity)
+own_calm script mine (Act.Remove k) = calm_remove (is_there (row_of (held mine k)))
+own_calm script mine _ = refl
+
+is_false : (b : Bool) → not b ≡ true → b ≡ false
+is_false true p = absurd (false≢true p)
+is_false false p = refl
+
+own_no_fault : (script : Script) (mine : Journal) (a : Act) (r : Reply) → own_reply script mine a ≡ Some r → is_fault r ≡ false
+own_no_fault script mine a r p = is_false (is_fault r) (subst (λ o. is_calm o ≡ true) p (own_calm script mine a))
+
+pub own_answered : (script : Script) (from : Origin) (h : Journal) (session : Session) (a : Act) (r : Reply) (store : StoreState) →
+    IsReady script from h session a store → Some r ≡ own_reply script (own (number_of session) h) a → IsAnswered script from h (number_of session) a r store
+own_answered script from h session a r store y p =
     let s : ℕ = number_of session in
     let f : (committer a r (Some s) ≡ None) × ((cs : List Change) → deferred_after a cs ≡ cs) = own_stays script (own s h) s a r r (sym p) in
     record {
-      reply = reply_any script told h (entry_of h s a r) (own_is script h s (length h + 1) a r (sym p)) (own_kind script (own s h) a r r (sym p));
+      reply = reply_any script from.tables h (entry_of h s a r) (own_is script h s (length h + 1) a r (sym p)) (own_kind script (own s h) a r r (sym p));
       mine = λ q e. some_same r q (p ∙ e);
-      keeps = keeps_same told h s a r store store y.keeps f.0 f.1 refl refl;
+      keeps = keeps_same from h s a r store store y.keeps f.0 f.1 refl refl (no_fault r store.faults store.faults (own_no_fault script (own s h) a r (sym p)) (omega arith));
     }
   where
     some_same : (x z : Reply) → Some x ≡ Some z → x ≡ z
@@ -297,9 +372,9 @@ unkilled s (Act.Kill n) o p = absurd (true≢false p)
 unkilled s Act.Restart o p = absurd (true≢false p)
 unkilled s _ o p = refl
 
-pub goes_on : (script : Script) (told : Option Tables) (h : Journal) (s : ℕ) (a : Act) (r : Reply) (old new : StoreState) → IsRun script told s h old →
-    next script s (own s h) ≡ Some a → IsAnswered script told h s a r new → length h < 2 ^ 62 → IsRun script told s (entry_of h s a r ∷ h) new
-goes_on script told h s a r old new run p v l = record {
+pub goes_on : (script : Script) (from : Origin) (h : Journal) (s : ℕ) (a : Act) (r : Reply) (old new : StoreState) → IsRun script from s h old →
+    next script s (own s h) ≡ Some a → IsAnswered script from h s a r new → length h < 2 ^ 62 → IsRun script from s (entry_of h s a r ∷ h) new
+goes_on script from h s a r old new run p v l = record {
   legal = (
     run.legal,
     record {
@@ -317,7 +392,7 @@ goes_on script told h s a r old new run p v l = record {
 }
   where
     is_in : is_outside a ≡ false
-    is_in = inside script s (own s h) a (steps_in_order script told s h run.legal) p
+    is_in = inside script s (own s h) a (steps_in_order script from.tables s h run.legal) p
 
     is_due : due script h (entry_of h s a r) ≡ Some a
     is_due = rw (run.alive s) p
@@ -333,9 +408,9 @@ alone_least whole (e ∷ h) now o = rw (none_live e.act e.session) (alone_least 
     none_live Act.Begin None = refl
     none_live _ by = refl
 
-pub ready : (script : Script) (told : Option Tables) (h : Journal) (session : Session) (a : Act) (store : StoreState) → IsRun script told (number_of session) h store →
-    Follows script session (own (number_of session) h) → IsAllowed (own (number_of session) h) a → IsReady script told h session a store
-ready script told h session a store run f w = record {
+pub ready : (script : Script) (from : Origin) (h : Journal) (session : Session) (a : Act) (store : StoreState) → IsRun script from (number_of session) h store →
+    Follows script session (own (number_of session) h) → IsAllowed (own (number_of session) h) a → IsReady script from h session a store
+ready script from h session a store run f w = record {
   keeps = run.keeps;
   follows = f;
   allowed = w;
@@ -351,33 +426,42 @@ ready script told h session a store run f w = record {
     at_rest n (inr q) p = run.others n q
 
 -- an act that was answered and told was served
-pub served : (script : Script) (told : Option Tables) (session : Session) (a : Act) (r : Reply) (h new : Journal) (old store : StoreState) → IsRun script told (number_of session) h old →
-    next script (number_of session) (own (number_of session) h) ≡ Some a → IsAnswered script told h (number_of session) a r store → length h < 2 ^ 62 →
-    new ≡ entry_of h (number_of session) a r ∷ h → Serves script told session a h new store
-served script told session a r h new old store run p v l g = record {
+pub served : (script : Script) (from : Origin) (session : Session) (a : Act) (r : Reply) (h new : Journal) (old store : StoreState) → IsRun script from (number_of session) h old →
+    next script (number_of session) (own (number_of session) h) ≡ Some a → IsAnswered script from h (number_of session) a r store → length h < 2 ^ 62 →
+    new ≡ entry_of h (number_of session) a r ∷ h → IsAskedFor h (number_of session) a old store → Serves script from session a h new old store
+served script from session a r h new old store run p v l g asked = record {
   answer = r;
   grown = g;
-  run = subst (λ x. IsRun script told (number_of session) x store) (sym g) (goes_on script told h (number_of session) a r old store run p v l);
+  run = subst (λ x. IsRun script from (number_of session) x store) (sym g) (goes_on script from h (number_of session) a r old store run p v l);
   mine = v.mine;
+  asked = asked;
 }
 
--- so the session may take the entry
-pub taken_by : (script : Script) (told : Option Tables) (session : Session) (a : Act) (h new : Journal) (store : StoreState) (w : Serves script told session a h new store) →
-    next script (number_of session) (own (number_of session) h) ≡ Some a → IsTaken script (number_of session) (own (number_of session) h) (entry_of h (number_of session) a w.answer)
-taken_by script told session a h new store w p = record { due = p; own = w.mine }
+-- so the keeper was asked no more often than the journal says
+pub asked_on : (script : Script) (from : Origin) (session : Session) (a : Act) (h new : Journal) (old store : StoreState) (w : Serves script from session a h new old store) →
+    RoseWithin from.asked (ask_count h) old.asked → RoseWithin from.asked (ask_count new) store.asked
+asked_on script from session a h new old store w p = subst (λ x. RoseWithin from.asked (ask_count x) store.asked) (sym w.grown) (record {
+  later = omega (arith, p.later, w.asked.later);
+  few = omega (arith, p.few, w.asked.few);
+})
 
-pub own_grown : (script : Script) (told : Option Tables) (session : Session) (a : Act) (h new : Journal) (store : StoreState) (w : Serves script told session a h new store) →
+-- so the session may take the entry
+pub taken_by : (script : Script) (from : Origin) (session : Session) (a : Act) (h new : Journal) (old store : StoreState) (w : Serves script from session a h new old store) →
+    next script (number_of session) (own (number_of session) h) ≡ Some a → IsTaken script (number_of session) (own (number_of session) h) (entry_of h (number_of session) a w.answer)
+taken_by script from session a h new old store w p = record { due = p; own = w.mine }
+
+pub own_grown : (script : Script) (from : Origin) (session : Session) (a : Act) (h new : Journal) (old store : StoreState) (w : Serves script from session a h new old store) →
     own (number_of session) new ≡ entry_of h (number_of session) a w.answer ∷ own (number_of session) h
-own_grown script told session a h new store w = ap (own (number_of session)) w.grown ∙ own_self h (number_of session) a w.answer
+own_grown script from session a h new old store w = ap (own (number_of session)) w.grown ∙ own_self h (number_of session) a w.answer
 
 -- at the start nothing was done
-pub run_starts : (script : Script) (s : ℕ) (h : Journal) (store : StoreState) → h ≡ [] → store.written ≡ [] → IsRun script store.tables s h store
+pub run_starts : (script : Script) (s : ℕ) (h : Journal) (store : StoreState) → h ≡ [] → store.written ≡ [] → IsRun script (origin_of store) s h store
 run_starts script s h store e w = rw e (record {
   legal = tt;
   numbered = tt;
   alive = λ n. refl;
   others = λ n d. refl;
-  keeps = record { rows = same store.tables; changes = λ n. ap (λ x. Rattle.hib_store.specs.Stores.changes_in x n) w };
+  keeps = record { rows = same store.tables; changes = λ n. ap (λ x. Rattle.hib_store.specs.Stores.changes_in x n) w; faults = omega arith };
 })
   where
     same : (told : Option Tables) → told ≡ told_committed told []

@@ -12,7 +12,7 @@ use Rattle.hib_journal.specs.Legal.{IsLegal}
 use Rattle.hib_report.specs.Report.{report}
 use Rattle.hib_script.specs.Script.{Reading, script_of}
 use Rattle.hib_top.specs.declared.status.Status.{Status}
-use Rattle.hib_top.specs.Run.{IsNumbered, told_committed}
+use Rattle.hib_journal.specs.Runs.{IsNumbered, told_committed}
 use Rattle.hib_top.specs.Streams.{TakesFront}
 
 -- each session is at its end: it has no next act
@@ -81,3 +81,17 @@ IsAfterRun Status.Done = ⊤
 IsAfterRun Status.WriteFault = ⊤
 IsAfterRun Status.NoMemory = ⊤
 IsAfterRun _ = ⊥
+
+-- what a source has left is told, and is a script within the limit
+pub record HasScript (left : Option (List ℕ)) : Type 0 where
+  pub text : List ℕ
+  pub told : left ≡ Some text
+  pub few : length text ≤ 1048576
+  pub script : Script
+  pub is : script_of text ≡ Reading.Is script
+
+-- all was done, or memory ran out
+abbrev pub IsCompleted : Status → Type 0
+IsCompleted Status.Done = ⊤
+IsCompleted Status.NoMemory = ⊤
+IsCompleted _ = ⊥

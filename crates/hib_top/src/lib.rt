@@ -10,4 +10,4 @@ mod streams;
 
 pub use call::top;
 pub use play::{Ended, play_words};
-pub use status::Status;
+pub use status::{Status, status_line};

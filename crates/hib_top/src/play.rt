@@ -5,9 +5,11 @@ ghost use Rattle.hib_journal.specs.Legal.{IsLegal};
 ghost use Rattle.hib_outside.specs.Causes.{Rose};
 ghost use Rattle.hib_script.specs.Built.{is_built};
 ghost use Rattle.hib_script.specs.Script.{script_of};
-ghost use Rattle.hib_top.specs.Run.{IsNumbered, told_committed};
+ghost use Rattle.hib_journal.specs.Runs.{IsNumbered, told_committed, ask_count, fault_count};
+ghost use Rattle.hib_top.specs.Run.{RoseBy, RoseWithin};
+ghost use Rattle.hib_top.specs.Streams.{ReadsFew};
 ghost use Rattle.hib_top.specs.Words.{IsPlay};
-ghost use Rattle.hib_top.specs.Play.{Plays, IsRunOf, IsAfterRun, AreEnded, IsIdle};
+ghost use Rattle.hib_top.specs.Play.{Plays, IsRunOf, IsAfterRun, AreEnded, IsIdle, HasScript, IsCompleted};
 
 use crate::run::run_session;
 use crate::status::Status;
@@ -59,6 +61,8 @@ fn run<K: Keeper>(
     ensures rows { store.new.tables ≡ told_committed store.old.tables (past journal.new) }
     ensures numbered { IsNumbered (past journal.new) }
     ensures ended { OnOk result (AreEnded script.now (past journal.new)) }
+    ensures faults { RoseBy store.old.faults (fault_count (past journal.new)) store.new.faults }
+    ensures asked { OnOk result (RoseWithin store.old.asked (ask_count (past journal.new)) store.new.asked) }
 {
     if script.sessions.is_empty() {
         return Ok(());
@@ -81,6 +85,8 @@ fn finish<W: Sink, K: Keeper>(
     ensures run { IsRunOf result script.now store.old.tables store.new.tables journal.new (W.taken out.old) (W.taken out.new) }
     ensures write { result ≡ Status.WriteFault → Rose (W.faults out.old) (W.faults out.new) }
     ensures others { IsAfterRun result }
+    ensures faults { RoseBy store.old.faults (fault_count (past journal.new)) store.new.faults }
+    ensures asked { result ≢ Status.NoMemory → RoseWithin store.old.asked (ask_count (past journal.new)) store.new.asked }
 {
     match run(alloc, script, store, journal) {
         Ok(()) => {}
@@ -106,6 +112,8 @@ fn play_script<W: Sink, K: Keeper>(
     ensures run { IsRunOf result.status script.now (K.tables keeper) (K.tables result.keeper) result.journal (W.taken out.old) (W.taken out.new) }
     ensures write { result.status ≡ Status.WriteFault → Rose (W.faults out.old) (W.faults out.new) }
     ensures others { IsAfterRun result.status }
+    ensures faults { RoseBy (K.faults keeper) (fault_count (past result.journal)) (K.faults result.keeper) }
+    ensures asked { result.status ≢ Status.NoMemory → RoseWithin (K.asked keeper) (ask_count (past result.journal)) (K.asked result.keeper) }
 {
     let mut store = Store::open(alloc, keeper);
     let mut journal = Journal::open(alloc);
@@ -143,6 +151,9 @@ fn play<S: Source, W: Sink, K: Keeper>(
     ensures write { result.status ≡ Status.WriteFault → Rose (W.faults out.old) (W.faults out.new) }
     ensures long { result.status ≡ Status.TooLong → IfSome (S.left source.old) (λ bytes. LIMIT < length bytes) }
     ensures usage { result.status ≢ Status.Usage }
+    ensures faults { RoseBy (K.faults keeper) (fault_count (past result.journal)) (K.faults result.keeper) }
+    ensures asked { result.status ≢ Status.NoMemory → RoseWithin (K.asked keeper) (ask_count (past result.journal)) (K.asked result.keeper) }
+    ensures taken { ReadsFew 1052672 (S.left source.old) (S.left source.new) }
 {
     let text = match read_all(alloc, source) {
         Ok(text) => text,
@@ -162,6 +173,7 @@ fn play<S: Source, W: Sink, K: Keeper>(
 ///
 /// Whatever the status, the journal handed back is legal for the script that the text is, from the keeper's tables as
 /// they were handed in, its k-th entry has tick k, and the keeper's tables are those that its commits gave.
+#[tactic(auto, using(crate::proofs::Complete::completes, crate::proofs::Taken::reads_none))]
 pub fn play_words<S: Source, W: Sink, K: Keeper, L: Listener>(
     alloc: Global,
     words: &[String],
@@ -175,6 +187,13 @@ pub fn play_words<S: Source, W: Sink, K: Keeper, L: Listener>(
     ensures read { result.status ≡ Status.ReadFault → Rose (S.faults script.old) (S.faults script.new) }
     ensures write { result.status ≡ Status.WriteFault → Rose (W.faults out.old) (W.faults out.new) }
     ensures long { result.status ≡ Status.TooLong → IfSome (S.left script.old) (λ bytes. LIMIT < length bytes) }
+    ensures faults { RoseBy (K.faults keeper) (fault_count (past result.journal)) (K.faults result.keeper) }
+    ensures asked { result.status ≢ Status.NoMemory → RoseWithin (K.asked keeper) (ask_count (past result.journal)) (K.asked result.keeper) }
+    // At most one piece of 4,096 bytes beyond the limit is read.
+    ensures taken { ReadsFew 1052672 (S.left script.old) (S.left script.new) }
+    // A script is run to its end where source and sink don't fail, or memory runs out.
+    ensures complete { IsPlay words.now → HasScript (S.left script.old) → (Rose (S.faults script.old) (S.faults script.new) → ⊥)
+        → (Rose (W.faults out.old) (W.faults out.new) → ⊥) → IsCompleted result.status }
     // The listeners are handed back untold.
     ensures listeners { result.listeners ≡ listeners }
 {

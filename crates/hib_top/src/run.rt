@@ -1,7 +1,5 @@
 // The run of a session.
 ghost use Rattle.std.specs.Prelude.{◌≡◌, ◌∷◌, ◌<◌, ◌^◌, [], List, length, IsOk, OnOk, OnErr, IfOk, Some, None, true, false};
-ghost use Rattle.std.specs.declared.option.Option.{Option};
-ghost use Rattle.hib_base.specs.Tables.{Tables};
 ghost use Rattle.hib_journal.specs.Kept.{past};
 ghost use Rattle.hib_journal.specs.Sessions.{own};
 ghost use Rattle.hib_journal.specs.Next.{next};
@@ -9,7 +7,8 @@ ghost use Rattle.hib_session.specs.Built.{IsAllowed};
 ghost use Rattle.hib_session.specs.Memory.{IsBuilt};
 ghost use Rattle.hib_session.specs.Session.{Follows, IsTaken, number_of, left_in};
 ghost use Rattle.hib_base.specs.declared.entries.Entry.{Entry};
-ghost use Rattle.hib_top.specs.Run.{IsRun, Serves, entry_of};
+ghost use Rattle.hib_journal.specs.Runs.{ask_count};
+ghost use Rattle.hib_top.specs.Run.{Origin, origin_of, IsRun, RoseWithin, Serves, entry_of};
 
 use crate::serve::{answer, part_of};
 use hib_base::{Act, Entry, Reply, Script, SessionNo, Tick};
@@ -46,13 +45,13 @@ fn serve<K: Keeper>(
     store: &mut Store<K>,
     journal: &mut Journal,
 ) -> Result<(), AllocError>
-    ensures ok { OnOk result ((told : Option Tables) → IsRun script.now told (number_of session.now) (past journal.old) store.old
+    ensures ok { OnOk result ((from : Origin) → IsRun script.now from (number_of session.now) (past journal.old) store.old
         → Follows script.now session.now (own (number_of session.now) (past journal.old))
         → IsAllowed (own (number_of session.now) (past journal.old)) act
         → next script.now (number_of session.now) (own (number_of session.now) (past journal.old)) ≡ Some act
-        → Serves script.now told session.now act (past journal.old) (past journal.new) store.new) }
-    ensures err { OnErr result ((told : Option Tables) → IsRun script.now told (number_of session.now) (past journal.old) store.old
-        → IsRun script.now told (number_of session.now) (past journal.new) store.new) }
+        → Serves script.now from session.now act (past journal.old) (past journal.new) store.old store.new) }
+    ensures err { OnErr result ((from : Origin) → IsRun script.now from (number_of session.now) (past journal.old) store.old
+        → IsRun script.now from (number_of session.now) (past journal.new) store.new) }
 {
     journal.reserve()?;
     let now = journal.len() as u64 + 1;
@@ -70,16 +69,19 @@ fn step<K: Keeper>(
     journal: &mut Journal,
 ) -> Result<bool, AllocError>
     ensures number { number_of session.new ≡ number_of session.old }
-    ensures run { (told : Option Tables) → IsRun script.now told (number_of session.old) (past journal.old) store.old
+    ensures run { (from : Origin) → IsRun script.now from (number_of session.old) (past journal.old) store.old
         → Follows script.now session.old (own (number_of session.old) (past journal.old))
-        → IsRun script.now told (number_of session.old) (past journal.new) store.new }
-    ensures follows { OnOk result ((told : Option Tables) → IsRun script.now told (number_of session.old) (past journal.old) store.old
+        → IsRun script.now from (number_of session.old) (past journal.new) store.new }
+    ensures follows { OnOk result ((from : Origin) → IsRun script.now from (number_of session.old) (past journal.old) store.old
         → Follows script.now session.old (own (number_of session.old) (past journal.old))
         → Follows script.now session.new (own (number_of session.old) (past journal.new))) }
-    ensures over { IfOk result (λ more. more ≡ false → (told : Option Tables) → IsRun script.now told (number_of session.old) (past journal.old) store.old
+    ensures asked { OnOk result ((from : Origin) → IsRun script.now from (number_of session.old) (past journal.old) store.old
+        → Follows script.now session.old (own (number_of session.old) (past journal.old))
+        → RoseWithin from.asked (ask_count (past journal.old)) store.old.asked → RoseWithin from.asked (ask_count (past journal.new)) store.new.asked) }
+    ensures over { IfOk result (λ more. more ≡ false → (from : Origin) → IsRun script.now from (number_of session.old) (past journal.old) store.old
         → Follows script.now session.old (own (number_of session.old) (past journal.old))
         → next script.now (number_of session.old) (own (number_of session.old) (past journal.new)) ≡ None) }
-    ensures less { IfOk result (λ more. more ≡ true → (told : Option Tables) → IsRun script.now told (number_of session.old) (past journal.old) store.old
+    ensures less { IfOk result (λ more. more ≡ true → (from : Origin) → IsRun script.now from (number_of session.old) (past journal.old) store.old
         → Follows script.now session.old (own (number_of session.old) (past journal.old))
         → left_in script.now session.new < left_in script.now session.old) }
 {
@@ -127,7 +129,8 @@ pub fn run_session<K: Keeper>(
     requires empty { past journal.old ≡ [] }
     requires unwritten { store.old.written ≡ [] }
     requires built { IsBuilt script.now }
-    ensures run { IsRun script.now store.old.tables number (past journal.new) store.new }
+    ensures run { IsRun script.now (origin_of store.old) number (past journal.new) store.new }
+    ensures asked { OnOk result (RoseWithin store.old.asked (ask_count (past journal.new)) store.new.asked) }
     ensures ended { OnOk result (next script.now number (own number (past journal.new)) ≡ None) }
 {
     let mut session = Session::open(alloc, number);

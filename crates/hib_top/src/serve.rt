@@ -1,13 +1,12 @@
 // What the parts answer to the act of a session.
 ghost use Rattle.std.specs.Prelude.{◌≡◌, ◌+◌, ◌≤◌, ◌^◌, ◌∷◌, length, IfOk, OnErr, Some};
-ghost use Rattle.std.specs.declared.option.Option.{Option};
-ghost use Rattle.hib_base.specs.Tables.{Tables};
 ghost use Rattle.hib_base.specs.declared.entries.Act.{Act};
 ghost use Rattle.hib_base.specs.declared.scripts.Script.{Script};
 ghost use Rattle.hib_journal.specs.Sessions.{Journal, own, changes_in, deferred};
 ghost use Rattle.hib_journal.specs.Legal.{IsReply};
 ghost use Rattle.hib_session.specs.Session.{Follows, own_reply, number_of};
-ghost use Rattle.hib_top.specs.Run.{Keeps, IsReady, IsAnswered, entry_of};
+ghost use Rattle.hib_journal.specs.Runs.{is_fault, one_if};
+ghost use Rattle.hib_top.specs.Run.{Origin, Keeps, IsReady, IsAnswered, IsAskedFor, RoseBy, entry_of};
 
 use hib_base::{Act, Change, Key, Part, Reply, Script, SessionNo, Tick};
 use hib_outside::Keeper;
@@ -22,9 +21,12 @@ fn load<K: Keeper>(
     session: SessionNo,
     key: Key,
 ) -> Result<Reply, AllocError>
-    ensures reply { IfOk result (λ r. (script : Script) (told : Option Tables) (h : Journal) → Keeps told h store.old
-        → deferred (own session h) ≡ changes_in (own session h) → IsReply script told h (entry_of h session (Act.Load key) r)) }
-    ensures keeps { (told : Option Tables) (h : Journal) → Keeps told h store.old → Keeps told h store.new }
+    ensures reply { IfOk result (λ r. (script : Script) (from : Origin) (h : Journal) → Keeps from h store.old
+        → deferred (own session h) ≡ changes_in (own session h) → IsReply script from.tables h (entry_of h session (Act.Load key) r)) }
+    ensures keeps { (from : Origin) (h : Journal) → Keeps from h store.old → Keeps from h store.new }
+    ensures fault { IfOk result (λ r. RoseBy store.old.faults (one_if (is_fault r)) store.new.faults) }
+    ensures asked { IfOk result (λ _. (from : Origin) (h : Journal) → Keeps from h store.old
+        → deferred (own session h) ≡ changes_in (own session h) → IsAskedFor h session (Act.Load key) store.old store.new) }
 {
     match store.load(alloc, session, key)? {
         Loaded::Row(row) => Ok(Reply::Row(row)),
@@ -39,9 +41,10 @@ fn write<K: Keeper>(
     session: SessionNo,
     change: &Change,
 ) -> Result<(), AllocError>
-    ensures keeps { IfOk result (λ _. (told : Option Tables) (h : Journal) → Keeps told h store.old
-        → Keeps told (entry_of h session (Act.Write change.now) Reply.Written ∷ h) store.new) }
-    ensures err { OnErr result ((told : Option Tables) (h : Journal) → Keeps told h store.old → Keeps told h store.new) }
+    ensures keeps { IfOk result (λ _. (from : Origin) (h : Journal) → Keeps from h store.old
+        → Keeps from (entry_of h session (Act.Write change.now) Reply.Written ∷ h) store.new) }
+    ensures err { OnErr result ((from : Origin) (h : Journal) → Keeps from h store.old → Keeps from h store.new) }
+    ensures asked { store.new.asked ≡ store.old.asked }
 {
     let change = change.copy(alloc)?;
     store.write(alloc, session, change)?;
@@ -54,11 +57,12 @@ fn commit<K: Keeper>(
     store: &mut Store<K>,
     session: SessionNo,
 ) -> Result<Reply, AllocError>
-    ensures reply { IfOk result (λ r. (script : Script) (told : Option Tables) (h : Journal) → Keeps told h store.old
-        → deferred (own session h) ≡ changes_in (own session h) → IsReply script told h (entry_of h session Act.Commit r)) }
-    ensures keeps { IfOk result (λ r. (told : Option Tables) (h : Journal) → Keeps told h store.old
-        → deferred (own session h) ≡ changes_in (own session h) → Keeps told (entry_of h session Act.Commit r ∷ h) store.new) }
-    ensures err { OnErr result ((told : Option Tables) (h : Journal) → Keeps told h store.old → Keeps told h store.new) }
+    ensures reply { IfOk result (λ r. (script : Script) (from : Origin) (h : Journal) → Keeps from h store.old
+        → deferred (own session h) ≡ changes_in (own session h) → IsReply script from.tables h (entry_of h session Act.Commit r)) }
+    ensures keeps { IfOk result (λ r. (from : Origin) (h : Journal) → Keeps from h store.old
+        → deferred (own session h) ≡ changes_in (own session h) → Keeps from (entry_of h session Act.Commit r ∷ h) store.new) }
+    ensures err { OnErr result ((from : Origin) (h : Journal) → Keeps from h store.old → Keeps from h store.new) }
+    ensures asked { store.new.asked ≡ store.old.asked }
 {
     let commit = store.commit(alloc, session)?;
     Ok(Reply::Commit(commit))
@@ -74,9 +78,11 @@ fn part_reply<K: Keeper>(
     store: &mut Store<K>,
 ) -> Result<Reply, AllocError>
     requires { now ≤ 2 ^ 62 }
-    ensures answered { IfOk result (λ r. (told : Option Tables) (h : Journal) → now ≡ length h + 1 → IsReady script.now told h session.now act.now store.old
-        → own_reply script.now (own (number_of session.now) h) act.now ≡ None → IsAnswered script.now told h (number_of session.now) act.now r store.new) }
-    ensures err { OnErr result ((told : Option Tables) (h : Journal) → Keeps told h store.old → Keeps told h store.new) }
+    ensures answered { IfOk result (λ r. (from : Origin) (h : Journal) → now ≡ length h + 1 → IsReady script.now from h session.now act.now store.old
+        → own_reply script.now (own (number_of session.now) h) act.now ≡ None → IsAnswered script.now from h (number_of session.now) act.now r store.new) }
+    ensures asked { IfOk result (λ _. (from : Origin) (h : Journal) → IsReady script.now from h session.now act.now store.old
+        → IsAskedFor h (number_of session.now) act.now store.old store.new) }
+    ensures err { OnErr result ((from : Origin) (h : Journal) → Keeps from h store.old → Keeps from h store.new) }
 {
     let number = session.number();
     match act {
@@ -106,9 +112,11 @@ pub fn answer<K: Keeper>(
     store: &mut Store<K>,
 ) -> Result<Reply, AllocError>
     requires { now ≤ 2 ^ 62 }
-    ensures answered { IfOk result (λ r. (told : Option Tables) (h : Journal) → now ≡ length h + 1 → IsReady script.now told h session.now act.now store.old
-        → IsAnswered script.now told h (number_of session.now) act.now r store.new) }
-    ensures err { OnErr result ((told : Option Tables) (h : Journal) → Keeps told h store.old → Keeps told h store.new) }
+    ensures answered { IfOk result (λ r. (from : Origin) (h : Journal) → now ≡ length h + 1 → IsReady script.now from h session.now act.now store.old
+        → IsAnswered script.now from h (number_of session.now) act.now r store.new) }
+    ensures asked { IfOk result (λ _. (from : Origin) (h : Journal) → IsReady script.now from h session.now act.now store.old
+        → IsAskedFor h (number_of session.now) act.now store.old store.new) }
+    ensures err { OnErr result ((from : Origin) (h : Journal) → Keeps from h store.old → Keeps from h store.new) }
 {
     match session.reply_to(alloc, script, act)? {
         Some(reply) => Ok(reply),

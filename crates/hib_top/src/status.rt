@@ -1,9 +1,10 @@
 // How a call of the program ends.
 ghost use Rattle.hib_top.specs.Exits.{exit_number};
-ghost use Rattle.std.specs.Prelude.{◌≡◌};
+ghost use Rattle.hib_top.specs.StatusLine.{status_text, refused_text};
+ghost use Rattle.std.specs.Prelude.{◌≡◌, ◌++◌, IfOk, OnOk};
 
-use hib_base::{Kind, Refused};
-use std::fmt;
+use hib_base::{Bytes, Refused, Seq};
+use std::alloc::{AllocError, Global};
 
 /// How a call of the program ends.
 #[derive(Clone, Copy, Debug, PartialEq, Eq)]
@@ -41,21 +42,32 @@ impl Status {
     }
 }
 
-impl fmt::Display for Status {
-    fn fmt<W: fmt::Write>(&self, f: &mut fmt::Formatter<W>) -> fmt::Result {
-        match self {
-            Status::Done => write!(f, "done"),
-            Status::Usage => write!(f, "usage"),
-            Status::Refused(
-                Refused {
-                    line,
-                    kind: Kind::NotYet,
-                },
-            ) => write!(f, "line {line}: not-yet"),
-            Status::ReadFault => write!(f, "read fault"),
-            Status::WriteFault => write!(f, "write fault"),
-            Status::TooLong => write!(f, "too long"),
-            Status::NoMemory => write!(f, "no memory"),
-        }
+/// The line that says how a call ended, as a program prints it, with its line end.
+pub fn status_line(alloc: Global, status: &Status) -> Result<Bytes, AllocError>
+    ensures { IfOk result (λ line. line ≡ status_text status.now) }
+{
+    let mut line = b"hib: ".to_vec(alloc)?;
+    match status {
+        Status::Done => line.extend_from_slice(b"done")?,
+        Status::Usage => line.extend_from_slice(b"usage")?,
+        Status::Refused(refused) => put_refused(alloc, &mut line, refused)?,
+        Status::ReadFault => line.extend_from_slice(b"read fault")?,
+        Status::WriteFault => line.extend_from_slice(b"write fault")?,
+        Status::TooLong => line.extend_from_slice(b"too long")?,
+        Status::NoMemory => line.extend_from_slice(b"no memory")?,
     }
+    line.push(b'\n')?;
+    Ok(Seq::from_vec(line))
+}
+
+/// Where an input is refused, and why.
+fn put_refused(alloc: Global, line: &mut Vec<u8>, refused: &Refused) -> Result<(), AllocError>
+    ensures { OnOk result (line.new.items ≡ line.old.items ++ refused_text refused.now) }
+{
+    line.extend_from_slice(b"line ")?;
+    let number = refused.line.to_string(alloc)?;
+    line.extend_from_slice(number.as_bytes())?;
+    line.extend_from_slice(b": ")?;
+    line.extend_from_slice(refused.kind.word())?;
+    Ok(())
 }

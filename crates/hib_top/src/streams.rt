@@ -2,7 +2,7 @@
 ghost use Rattle.std.specs.Prelude.{◌≡◌, ◌+◌, ◌<◌, ◌≤◌, ◌^◌, ◌++◌, take, length, IfOk, OnOk, OnErr, IfErr, IfSome, ℕ, List};
 ghost use Rattle.std.specs.Io.KnownBytes.{Appends, Keeps};
 ghost use Rattle.hib_outside.specs.Causes.{Rose, HasCause};
-ghost use Rattle.hib_top.specs.Streams.{TakesFront};
+ghost use Rattle.hib_top.specs.Streams.{TakesFront, ReadsFew};
 
 use hib_outside::{Failed, Sink, Source};
 use std::alloc::{AllocError, AllocFailed, Global};
@@ -45,17 +45,19 @@ impl From<Failed> for ReadStop {
 /// The most bytes that are read.
 pub const LIMIT: usize = 1_048_576;
 
-/// All that the source has left, up to the limit.
+/// All that the source has left, up to the limit. Each turn takes a byte at least, meets the end or fails, and no more than
+/// one piece beyond the limit is read.
+#[tactic(auto, using(crate::proofs::Taken::reads_more, crate::proofs::Taken::reads_still))]
 pub fn read_all<S: Source>(alloc: Global, source: &mut S) -> Result<Vec<u8>, ReadStop>
     ensures bytes { IfOk result (λ v. IfSome (S.left source.old) (λ bytes. bytes ≡ v.items)) }
     ensures few { IfOk result (λ v. length v.items ≤ LIMIT) }
     ensures long { result ≡ Err ReadStop.TooLong → IfSome (S.left source.old) (λ bytes. LIMIT < length bytes) }
+    ensures taken { ReadsFew 1052672 (S.left source.old) (S.left source.new) }
     ensures later { S.faults source.old ≤ S.faults source.new }
     ensures failed { result ≡ Err ReadStop.Failed → Rose (S.faults source.old) (S.faults source.new) }
 {
     let mut text = Vec::new(alloc);
     let mut piece = [0u8; 4096];
-    // Each turn takes a byte at least.
     for turn in 0..LIMIT + 1 {
         let n = source.read(&mut piece)?;
         if n == 0 {

@@ -1,0 +1,6 @@
+//! The clock: which tick an entry gets.
+#![tactic(auto)]
+
+mod clock;
+
+pub use clock::next;

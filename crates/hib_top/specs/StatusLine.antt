@@ -1,0 +1,21 @@
+-- The line that says how a call ended.
+use Rattle.std.specs.Prelude.{ℕ, List, ◌++◌, codes}
+use Rattle.std.specs.Fmt.{decimal}
+use Rattle.hib_base.specs.Kinds.{kind_word}
+use Rattle.hib_base.specs.declared.refusals.Refused.{Refused}
+use Rattle.hib_top.specs.declared.status.Status.{Status}
+
+abbrev pub refused_text : Refused → List ℕ
+refused_text r = codes "line " ++ decimal r.line ++ codes ": " ++ kind_word r.kind
+
+abbrev pub answer_text : Status → List ℕ
+answer_text Status.Done = codes "done"
+answer_text Status.Usage = codes "usage"
+answer_text (Status.Refused r) = refused_text r
+answer_text Status.ReadFault = codes "read fault"
+answer_text Status.WriteFault = codes "write fault"
+answer_text Status.TooLong = codes "too long"
+answer_text Status.NoMemory = codes "no memory"
+
+abbrev pub status_text : Status → List ℕ
+status_text s = codes "hib: " ++ answer_text s ++ codes "\n"
