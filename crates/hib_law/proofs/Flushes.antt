@@ -11,6 +11,7 @@ use Rattle.hib_journal.specs.Next.{strategy, is_in, before_cached, before_key, b
 use Rattle.hib_base.proofs.Tables.{Tested, tested, same_key_eq}
 use Rattle.hib_law.proofs.Commits.{AreSteps, IsStep}
 use Rattle.hib_journal.proofs.Plans.{Allows, allows_join, runs_each}
+use Rattle.hib_law.proofs.Walks.{allows_as}
 use Rattle.hib_law.proofs.HeldRows.{HasRead, fresh_stay, reads_on}
 use Rattle.hib_law.proofs.Pending.{PendingBy, new_unwritten, insert_says, update_says, delete_says}
 use Rattle.hib_law.proofs.Working.{IsWorking, IsReadyIn, IsFreeIn, free_same, IsSettled, settled_plain, Allowed, Right, Goes, holds, holds_after, working_plain}
@@ -756,7 +757,8 @@ module _ (script : Script) (k : Key) (rw_k : strategy script k.entity ≡ Strate
     where
       by_pending : (cs : List Change) → AllPending script k rw_k m cs → IsOnceIn script k rw_k m cs → Allows (Allowed script k) (Right k) (flush_of script m cs) m (IsSettled k)
       by_pending [] a o = w
-      by_pending (c ∷ cs) a o = (tt, λ e p r. weaker (writes script m (c ∷ cs)) (e ∷ m) (allow_writes script k rw_k m (c ∷ cs) (e ∷ m) a o (at_first e p r)))
+      by_pending (c ∷ cs) a o = (tt, λ e p r. allows_as (Allowed script k) (Right k) (writes script m (c ∷ cs)) (e ∷ m) (IsAt script k rw_k m []) (IsSettled k) (λ n h. record { working = h.flushing.working; free = h.free })
+          (allow_writes script k rw_k m (c ∷ cs) (e ∷ m) a o (at_first e p r)))
         where
           at_first : (e : Entry) → e.act ≡ Act.Pre (tables_in script (c ∷ cs)) → Right k m e → IsAt script k rw_k m (c ∷ cs) (e ∷ m)
           at_first e p r = record {
@@ -764,7 +766,3 @@ module _ (script : Script) (k : Key) (rw_k : strategy script k.entity ≡ Strate
             free = (settled_plain k m e w (rw p refl) r).free;
             still = λ x. rw p refl;
           }
-
-          weaker : (xs : List Act) (n : Journal) → Allows (Allowed script k) (Right k) xs n (IsAt script k rw_k m []) → Allows (Allowed script k) (Right k) xs n (IsSettled k)
-          weaker [] n h = record { working = h.flushing.working; free = h.free }
-          weaker (x ∷ xs) n h = (h.0, λ e p r. weaker xs (e ∷ n) (h.1 e p r))

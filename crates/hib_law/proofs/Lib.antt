@@ -19,3 +19,9 @@ mod Orderly
 mod Whole
 mod Answered
 mod Ids
+mod QueryRules
+mod Hits
+mod StoreRules
+mod Stored
+mod ReadOnlyRules
+mod ReadOnly

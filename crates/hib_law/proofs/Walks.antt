@@ -69,6 +69,10 @@ module _ (Allowed : Journal → Act → Type 0) (Right : Journal → Entry → T
   runs_test true p q m Post f g = f refl
   runs_test false p q m Post f g = g refl
 
+  pub allows_as : (xs : List Act) (m : Journal) (P Q : Journal → Type 0) → ((n : Journal) → P n → Q n) → Allows Allowed Right xs m P → Allows Allowed Right xs m Q
+  allows_as [] m P Q f h = f m h
+  allows_as (x ∷ xs) m P Q f h = (h.0, λ e p r. allows_as xs (e ∷ m) P Q f (h.1 e p r))
+
   -- acts that are allowed under W, and keep it
   abbrev pub Keeps : (Journal → Type 0) → Act → Type 0
   Keeps W a = (m : Journal) → W m → Allowed m a × ((e : Entry) → e.act ≡ a → Right m e → W (e ∷ m))
@@ -83,10 +87,10 @@ module _ (Allowed : Journal → Act → Type 0) (Right : Journal → Entry → T
     nothing : Goes (λ d n. n d) W W
     nothing m w go g = g m w
 
-    allow_one : (a : Act) → Keeps W a → (m : Journal) → W m → Allows Allowed Right (a ∷ []) m W
+    pub allow_one : (a : Act) → Keeps W a → (m : Journal) → W m → Allows Allowed Right (a ∷ []) m W
     allow_one a f m w = f m w
 
-    allow_flat : {X : Type 0} (f : X → List Act) → ((x : X) (m : Journal) → W m → Allows Allowed Right (f x) m W) → (xs : List X) (m : Journal) → W m →
+    pub allow_flat : {X : Type 0} (f : X → List Act) → ((x : X) (m : Journal) → W m → Allows Allowed Right (f x) m W) → (xs : List X) (m : Journal) → W m →
         Allows Allowed Right (flat_map f xs) m W
     allow_flat f h [] m w = w
     allow_flat f h (x ∷ xs) m w = allows_join Allowed Right (f x) (flat_map f xs) m W W (h x m w) (λ n v. allow_flat f h xs n v)
