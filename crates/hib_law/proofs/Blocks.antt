@@ -1,5 +1,5 @@
 -- A session within its transactions, as one read-write key sees it: in a legal journal each act of a session is allowed by what it did before.
-use Rattle.std.proofs.Common.{◌≡◌, ℕ, inl, inr, Bool, true, false, ◌||◌, List, [], ◌∷◌, Some, None, Option, refl, ap, sym, ◌∙◌, subst}
+use Rattle.std.proofs.Common.{◌≡◌, ℕ, inl, inr, Bool, true, false, ◌||◌, ◌∷◌, Some, None, refl, ap, sym, ◌∙◌, subst}
 use Rattle.std.proofs.lemmas.Bool.{false≢true, or_parts}
 use Rattle.hib_journal.specs.Types.{Key, Row, Strategy, Mode, Script, Act, Reply, Entry}
 use Rattle.hib_base.specs.Keys.{same_key}
@@ -15,6 +15,7 @@ use Rattle.hib_law.proofs.Walks.{AreGood, goes_answer, is_list_act, is_own_act}
 use Rattle.hib_law.proofs.Working.{IsSettled, Allowed, Right, keeps_plain, goes_find}
 use Rattle.hib_law.proofs.Flushes.{goes_flush}
 use Rattle.hib_law.proofs.Ends.{IsOver, goes_commit, goes_rollback}
+use Rattle.hib_law.proofs.Basics.{none_some, some_same}
 
 module _ (script : Script) (k : Key) (rw_k : strategy script k.entity ≡ Strategy.ReadWrite) where
   keeps_list : (a : Act) → is_list_act a ≡ true → Walks.Keeps (Allowed script k) (Right k) (IsSettled k) a
@@ -48,18 +49,9 @@ module _ (script : Script) (k : Key) (rw_k : strategy script k.entity ≡ Strate
 
 -- what a legal entry answers to its session
 
-none_some : {A : Type 0} {a : A} {P : Type 0} → ◌≡◌ {A = Option A} None (Some a) → P
-none_some e = absurd (no e)
-  where
-    no : {A : Type 0} {a : A} → ◌≡◌ {A = Option A} None (Some a) → ⊥
-    no e = cc
-
 pub record IsMade (a : Act) (r : Reply) (j : Key) (x : Row) : Type 0 where
   pub act : a ≡ Act.Persist j x
   pub reply : r ≡ Reply.New
-
-some_same : {A : Type 0} {a b : A} → Some a ≡ Some b → a ≡ b
-some_same e = cc
 
 made_by : (a : Act) (r : Reply) (j : Key) (x : Row) → arrival a r ≡ Some (Arrival.Made j x) → IsMade a r j x
 made_by (Act.Persist i y) Reply.New j x e =

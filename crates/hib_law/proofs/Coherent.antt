@@ -20,15 +20,7 @@ use Rattle.hib_law.proofs.Protocol.{In, IsCoherent, Follows, IsQuiet, Move, IsCo
 use Rattle.hib_law.proofs.Commits.{AreSteps, Meets, first_meets, IsUp, goes_up}
 use Rattle.hib_law.proofs.Effects.{Effect, effect, is_remove}
 use Rattle.hib_law.proofs.Views.{view_of, IsOrderly, IsReady, to_move, to_kept, to_rest, untouched, slot_touched, slot_rests, holders_same, history_step}
-
-some_same : {A : Type 0} {a b : A} → Some a ≡ Some b → a ≡ b
-some_same e = cc
-
-none_some : {A : Type 0} {a : A} {P : Type 0} → ◌≡◌ {A = Option A} None (Some a) → P
-none_some e = absurd (no e)
-  where
-    no : {A : Type 0} {a : A} → ◌≡◌ {A = Option A} None (Some a) → ⊥
-    no e = cc
+use Rattle.hib_law.proofs.Basics.{none_some, some_same}
 
 -- who is open after an entry was so before, or begins
 

@@ -9,15 +9,7 @@ use Rattle.hib_journal.specs.Regions.{is_below}
 use Rattle.hib_journal.specs.Held.{next_version}
 use Rattle.hib_journal.specs.Sound.{deletes_key}
 use Rattle.hib_base.proofs.Tables.{Tested, tested, same_key_eq, row_at_change, row_at_other_change}
-
-some_same : {A : Type 0} {a b : A} → Some a ≡ Some b → a ≡ b
-some_same e = cc
-
-none_some : {A : Type 0} {a : A} {P : Type 0} → ◌≡◌ {A = Option A} None (Some a) → P
-none_some e = absurd (no e)
-  where
-    no : {A : Type 0} {a : A} → ◌≡◌ {A = Option A} None (Some a) → ⊥
-    no e = cc
+use Rattle.hib_law.proofs.Basics.{none_some, some_same}
 
 -- a list that applies applies its first change, and the rest after it
 pub applies_first : (c : Change) (cs : List Change) (t : Tables) → commit_answer (c ∷ cs) t ≡ Commit.Committed → refusal c t ≡ None

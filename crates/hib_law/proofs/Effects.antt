@@ -12,8 +12,9 @@ use Rattle.hib_journal.specs.Next.{strategy, capacity}
 use Rattle.hib_journal.specs.Legal.{reply_of, room_for, get_reply}
 use Rattle.hib_journal.specs.Coherence.{takes, gives_back}
 use Rattle.hib_base.proofs.Tables.{same_key_refl}
-use Rattle.hib_law.proofs.Protocol.{holder_count}
+use Rattle.hib_law.specs.Locks.{holder_count}
 use Rattle.hib_law.proofs.Touches.{here_or_victim, room_leaves, put_victim, insert_victim, lock_victim, insert_vacant, unlock_count, update_count, update_alone, evict_free}
+use Rattle.hib_law.proofs.Basics.{none_some, some_same}
 
 -- the floor that an act names
 abbrev pub floor_named : Act → Option ℕ
@@ -39,15 +40,6 @@ Effect timeout k h a Touch.Expires = gives_back k a ≡ true
 Effect timeout k h a Touch.Leaves =
     (f : ℕ) × (floor_named a ≡ Some f) × (may_leave f (slot timeout k h) ≡ true) × (takes k a ≡ false) × (gives_back k a ≡ false)
     × ((j : Key) × (key_in a ≡ Some j) × (j.entity ≡ k.entity))
-
-some_same : {A : Type 0} {a b : A} → Some a ≡ Some b → a ≡ b
-some_same e = cc
-
-none_some : {A : Type 0} {a : A} {P : Type 0} → ◌≡◌ {A = Option A} None (Some a) → P
-none_some e = absurd (no e)
-  where
-    no : {A : Type 0} {a : A} → ◌≡◌ {A = Option A} None (Some a) → ⊥
-    no e = cc
 
 module _ (timeout : ℕ) (k : Key) (h : Journal) where
   put_here : (r : Row) (t f : ℕ) (o : Option (Option ℕ)) (p : Put) (x : Touch) → Regions.put (slot timeout k h) o t r.version ≡ p →

@@ -12,15 +12,7 @@ use Rattle.hib_base.proofs.Tables.{Tested, tested, same_key_eq}
 use Rattle.hib_journal.proofs.Plans.{Allows, allows_join, runs_each}
 use Rattle.hib_law.proofs.Pending.{IsFair}
 use Rattle.hib_law.proofs.Working.{IsReadyIn, IsFreeIn, IsSettled, Allowed, Right, Goes, holds}
-
-some_same : {A : Type 0} {a b : A} → Some a ≡ Some b → a ≡ b
-some_same e = cc
-
-none_some : {A : Type 0} {a : A} {P : Type 0} → ◌≡◌ {A = Option A} None (Some a) → P
-none_some e = absurd (no e)
-  where
-    no : {A : Type 0} {a : A} → ◌≡◌ {A = Option A} None (Some a) → ⊥
-    no e = cc
+use Rattle.hib_law.proofs.Basics.{none_some}
 
 -- after Commit or Rollback: the changes, and whether they are committed
 pub record IsEnding (k : Key) (cs : List Change) (d : Bool) (f i : ℕ) (m : Journal) : Type 0 where

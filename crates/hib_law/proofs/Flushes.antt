@@ -15,15 +15,7 @@ use Rattle.hib_law.proofs.Walks.{allows_as}
 use Rattle.hib_law.proofs.HeldRows.{HasRead, fresh_stay, reads_on}
 use Rattle.hib_law.proofs.Pending.{PendingBy, new_unwritten, insert_says, update_says, delete_says}
 use Rattle.hib_law.proofs.Working.{IsWorking, IsReadyIn, IsFreeIn, free_same, IsSettled, settled_plain, Allowed, Right, Goes, holds, holds_after, working_plain}
-
-some_same : {A : Type 0} {a b : A} → Some a ≡ Some b → a ≡ b
-some_same e = cc
-
-none_some : {A : Type 0} {a : A} {P : Type 0} → ◌≡◌ {A = Option A} None (Some a) → P
-none_some e = absurd (no e)
-  where
-    no : {A : Type 0} {a : A} → ◌≡◌ {A = Option A} None (Some a) → ⊥
-    no e = cc
+use Rattle.hib_law.proofs.Basics.{none_some, some_same}
 
 -- one more change at the end of a list
 
@@ -757,8 +749,11 @@ module _ (script : Script) (k : Key) (rw_k : strategy script k.entity ≡ Strate
     where
       by_pending : (cs : List Change) → AllPending script k rw_k m cs → IsOnceIn script k rw_k m cs → Allows (Allowed script k) (Right k) (flush_of script m cs) m (IsSettled k)
       by_pending [] a o = w
-      by_pending (c ∷ cs) a o = (tt, λ e p r. allows_as (Allowed script k) (Right k) (writes script m (c ∷ cs)) (e ∷ m) (IsAt script k rw_k m []) (IsSettled k) (λ n h. record { working = h.flushing.working; free = h.free })
-          (allow_writes script k rw_k m (c ∷ cs) (e ∷ m) a o (at_first e p r)))
+      by_pending (c ∷ cs) a o = (
+        tt,
+        λ e p r. allows_as (Allowed script k) (Right k) (writes script m (c ∷ cs)) (e ∷ m) (IsAt script k rw_k m []) (IsSettled k) (λ n h. record { working = h.flushing.working; free = h.free })
+            (allow_writes script k rw_k m (c ∷ cs) (e ∷ m) a o (at_first e p r)),
+      )
         where
           at_first : (e : Entry) → e.act ≡ Act.Pre (tables_in script (c ∷ cs)) → Right k m e → IsAt script k rw_k m (c ∷ cs) (e ∷ m)
           at_first e p r = record {

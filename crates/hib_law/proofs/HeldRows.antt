@@ -10,15 +10,7 @@ use Rattle.hib_journal.specs.Held.{Arrival, arrival, arrived_key, Stay, stay, st
 use Rattle.hib_journal.specs.Next.{is_in}
 use Rattle.hib_journal.specs.Coherence.{Unless}
 use Rattle.hib_base.proofs.Tables.{Tested, tested, same_key_eq}
-
-some_same : {A : Type 0} {a b : A} → Some a ≡ Some b → a ≡ b
-some_same e = cc
-
-none_some : {A : Type 0} {a : A} {P : Type 0} → ◌≡◌ {A = Option A} None (Some a) → P
-none_some e = absurd (no e)
-  where
-    no : {A : Type 0} {a : A} → ◌≡◌ {A = Option A} None (Some a) → ⊥
-    no e = cc
+use Rattle.hib_law.proofs.Basics.{none_some, some_same}
 
 -- a Hit or a Load of k gave b, since the last Begin
 abbrev pub HasRead : Key → Row → Journal → Type 0

@@ -9,10 +9,11 @@ use Rattle.hib_journal.specs.Stamps.{stamp, names, check, check_one}
 use Rattle.hib_journal.specs.Results.{Result, others, result, found, last_kept, kept_after}
 use Rattle.hib_journal.specs.Query
 use Rattle.hib_journal.specs.Next.{tables_in, tables_of, is_in_tables}
-use Rattle.hib_law.specs.Claims.{last_reply}
+use Rattle.hib_law.specs.Prefixes.{last_reply}
 use Rattle.hib_journal.specs.Legal.{IsLegal, IsStep, IsReply, reply_of, fault_of, number, list_reply, is_outside}
 use Rattle.hib_journal.specs.Sound.{commits, with_change, unstamped, with_commit, stamped_by, up_to, keeps, moment}
-use Rattle.hib_law.specs.Claims.{AtEachEntry, IsDeclared, is_listed, IsHitTrue, AreHitsTrue}
+use Rattle.hib_law.specs.Prefixes.{AtEachEntry}
+use Rattle.hib_law.specs.Hits.{IsDeclared, is_listed, IsHitTrue, AreHitsTrue}
 use Rattle.hib_base.proofs.Tables.{Tested, tested}
 use Rattle.hib_journal.proofs.Sessions.{IsOrdered, by, is_some_session, time_le_tick}
 use Rattle.hib_law.proofs.Protocol.{In}
@@ -22,15 +23,7 @@ use Rattle.hib_law.proofs.Stamped.{IsAtLeast, stamp_last, stamp_kept}
 use Rattle.hib_law.proofs.Orderly.{Doer, doer}
 use Rattle.hib_law.proofs.QueryRules.{owed, owed_by, MayKeep, MayCheck, AllowedQuery, allowed_query}
 use Rattle.hib_law.proofs.Given.{touches, untouched, touched_one, gives_same, in_tables, in_changed}
-
-some_same : {A : Type 0} {a b : A} → Some a ≡ Some b → a ≡ b
-some_same e = cc
-
-none_some : {A : Type 0} {a : A} {P : Type 0} → ◌≡◌ {A = Option A} None (Some a) → P
-none_some e = absurd (no e)
-  where
-    no : {A : Type 0} {a : A} → ◌≡◌ {A = Option A} None (Some a) → ⊥
-    no e = cc
+use Rattle.hib_law.proofs.Basics.{none_some, some_same}
 
 -- an entry of s comes after the earlier ones of s
 later_in_session : (s : ℕ) (e : Entry) (h : Journal) → IsTimely e h → is_by s e ≡ true → last_tick (by s) h < e.tick

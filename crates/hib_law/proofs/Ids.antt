@@ -1,20 +1,23 @@
 -- A holder of a sound key has the id of the lock that is there; so giving it back is answered as it should be.
-use Rattle.std.proofs.Common.{◌≡◌, ℕ, zero, suc, ◌⊎◌, inl, inr, Bool, true, false, List, [], ◌∷◌, Some, None, Option, refl, ap, sym, ◌∙◌, subst, eq-eqb}
-use Rattle.std.proofs.lemmas.Bool.{true≢false, false≢true}
-use Rattle.hib_journal.specs.Types.{Key, Row, Change, Strategy, Locked, Unlocked, Updated, Script, Act, Reply, Entry}
+use Rattle.std.proofs.Common.{◌≡◌, ℕ, zero, suc, ◌⊎◌, inl, inr, Bool, true, false, ◌||◌, ◌==◌, List, [], ◌∷◌, length, Some, None, Option, refl, ap, sym, ◌∙◌, subst, eq-eqb}
+use Rattle.std.proofs.lemmas.Bool.{true≢false, false≢true, eqb-true}
+use Rattle.std.specs.List.{list_any}
+use Rattle.hib_journal.specs.Types.{Key, Row, Strategy, Locked, Unlocked, Updated, Script, Act, Reply, Entry}
 use Rattle.hib_base.specs.Keys.{same_key}
 use Rattle.hib_base.specs.Tables.{Tables, last_on}
 use Rattle.hib_journal.specs.Sessions.{Journal, is_by, is_session, own, changes, is_restart, was_killed}
-use Rattle.hib_journal.specs.Slot.{Touch, Slot, slot, touch}
+use Rattle.hib_journal.specs.Slot.{Touch, LockState, Slot, slot, touch}
 use Rattle.hib_journal.specs.Regions
 use Rattle.hib_journal.specs.Next.{strategy, lock_id, lock_in}
-use Rattle.hib_journal.specs.Legal.{IsLegal, IsStep, IsReply, reply_of, fault_of, number, room_for}
+use Rattle.hib_journal.specs.Legal.{IsLegal, IsStep, room_for}
 use Rattle.hib_journal.specs.Sound.{is_sound, is_calm}
 use Rattle.hib_journal.specs.Coherence.{holders, takes, gives_back, with_one, without_one, done_in, row_by}
-use Rattle.hib_law.specs.Claims.{AtEachEntry, IsGivenBack}
+use Rattle.hib_law.specs.Prefixes.{AtEachPrefix, AtEachEntry}
+use Rattle.hib_law.specs.Locks.{is_holder, IsLockHeld, IsGivenBack, AreLocksKept}
 use Rattle.hib_base.proofs.Tables.{Tested, tested, same_key_refl}
 use Rattle.hib_journal.proofs.Slots.{touched}
-use Rattle.hib_law.proofs.Protocol.{In, in_remove, in_none, holder_count}
+use Rattle.hib_law.specs.Locks.{holder_count}
+use Rattle.hib_law.proofs.Protocol.{In, in_remove, in_none}
 use Rattle.hib_law.proofs.Effects.{Effect, is_remove}
 use Rattle.hib_law.proofs.Views.{slot_touched, slot_rests, takes_not_back, to_kept}
 use Rattle.hib_law.proofs.Coherent.{WasSound, was_sound, effect_of, rest_of}
@@ -26,12 +29,25 @@ use Rattle.hib_journal.proofs.Open.{begun_open}
 use Rattle.hib_law.proofs.Orderly.{removes_none}
 use Rattle.hib_law.proofs.Holders.{holds_holder}
 use Rattle.hib_law.proofs.Whole.{coherent, is_kept}
+use Rattle.hib_law.proofs.Basics.{replied}
 
-none_some : {A : Type 0} {a : A} {P : Type 0} → ◌≡◌ {A = Option A} None (Some a) → P
-none_some e = absurd (no e)
+-- the two ways to say who holds a lock
+holder_in : (s : ℕ) (xs : List ℕ) → list_any (λ t. t == s) xs ≡ true → In s xs
+holder_in s [] p = absurd (false≢true p)
+holder_in s (x ∷ xs) p = by_test (tested (x == s)) p (holder_in s xs)
   where
-    no : {A : Type 0} {a : A} → ◌≡◌ {A = Option A} None (Some a) → ⊥
-    no e = cc
+    by_test : Tested (x == s) → list_any (λ t. t == s) (x ∷ xs) ≡ true → (list_any (λ t. t == s) xs ≡ true → In s xs) → In s (x ∷ xs)
+    by_test (inl q) p f = inl (eqb-true x s q)
+    by_test (inr q) p f = inr (f (rw q at p))
+
+in_holder : (s : ℕ) (xs : List ℕ) → In s xs → list_any (λ t. t == s) xs ≡ true
+in_holder s [] i = absurd i
+in_holder s (x ∷ xs) (inl p) = rw (eq-eqb x s p) refl
+in_holder s (x ∷ xs) (inr i) = by_test (x == s) (in_holder s xs i)
+  where
+    by_test : (b : Bool) → list_any (λ t. t == s) xs ≡ true → (b || list_any (λ t. t == s) xs) ≡ true
+    by_test true p = refl
+    by_test false p = p
 
 -- the id of the lock that is there
 abbrev pub id_of : Slot → ℕ
@@ -93,15 +109,6 @@ module _ (script : Script) (start : Tables) (k : Key) (rw_k : strategy script k.
   held_lock : (h : Journal) → IsLegal script (Some start) h → is_sound k h ≡ true → (t : ℕ) → In t (holders k h) → holder_count (slot script.timeout k h) ≡ 0 → ⊥
   held_lock h l w t i z = in_none t (holders k h) ((coherent script start k rw_k h l w).holding.count ∙ z) i
 
-  lock_reply : (h : Journal) (e : Entry) (v : Option ℕ) (f : ℕ) → IsReply script (Some start) h e → e.act ≡ Act.Lock k v f →
-      e.reply ≡ Reply.Locked (Regions.lock script.timeout (slot script.timeout k h) (room_for script h k f) e.tick)
-  lock_reply h e v f r p = elim r [
-    | inl q ↦ subst (λ a. e.reply ≡ reply_of script start h (number e.session) e.tick a) p q
-    | inr x ↦
-        let g : fault_of (changes (number e.session) h) (Act.Lock k v f) ≡ Some e.reply = subst (λ z. fault_of (changes (number e.session) h) z ≡ Some e.reply) p x in
-        none_some g
-  ]
-
   ids_next : (h : Journal) (e : Entry) → IsLegal script (Some start) (e ∷ h) → is_restart e.act ≡ false → is_sound k (e ∷ h) ≡ true → WasSound k h e → Ids h → Ids (e ∷ h)
   ids_next h e l n w1 w ids t i = by_touch (touch k e) refl
     where
@@ -124,7 +131,8 @@ module _ (script : Script) (start : Tables) (k : Key) (rw_k : strategy script k.
         where
           mine : is_by t e ≡ true → lock_id k (own t (e ∷ h)) ≡ id_of (slot script.timeout k (e ∷ h))
           mine b =
-              let r : e.reply ≡ Reply.Locked (Regions.lock script.timeout (slot script.timeout k h) (room_for script h k f) e.tick) = lock_reply h e v f l.1.reply p in
+              let r : e.reply ≡ Reply.Locked (Regions.lock script.timeout (slot script.timeout k h) (room_for script h k f) e.tick) =
+              replied script start h e (Act.Lock k v f) l.1.reply p (λ cs. refl) in
               let d : lock_id k (own t (e ∷ h)) ≡ (Regions.lock script.timeout (slot script.timeout k h) (room_for script h k f) e.tick).id =
               own_id b p (same_key_refl k) r in
               d ∙ (locked_id script.timeout e.tick v (room_for script h k f) (slot script.timeout k h) ∙ ap id_of (sym q))
@@ -166,40 +174,48 @@ module _ (script : Script) (start : Tables) (k : Key) (rw_k : strategy script k.
       by_restart (inr n) f =
           let z : WasSound k h e = was_sound k h e n w in ids_next h e l n w z (f z.before)
 
-  -- a lock that is held is given back under its id
-  unlock_held : (z : Slot) (i : ℕ) → (holder_count z ≡ 0 → ⊥) → i ≡ id_of z → (n : ℕ) × (Regions.unlock z i ≡ Unlocked.Released n)
+  -- a lock that is held is given back under its id, and there is one holder fewer
+  unlock_held : (z : Slot) (i : ℕ) → (holder_count z ≡ 0 → ⊥) → i ≡ id_of z → (n : ℕ) × (suc n ≡ holder_count z) × (Regions.unlock z i ≡ Unlocked.Released n)
   unlock_held Slot.Vacant i f p = absurd (f refl)
   unlock_held (Slot.Item r t) i f p = absurd (f refl)
   unlock_held (Slot.Lock l) i f p = by_count l.holders refl
     where
-      by_count : (m : ℕ) → l.holders ≡ m → (n : ℕ) × (Regions.unlock (Slot.Lock l) i ≡ Unlocked.Released n)
+      by_count : (m : ℕ) → l.holders ≡ m → (n : ℕ) × (suc n ≡ l.holders) × (Regions.unlock (Slot.Lock l) i ≡ Unlocked.Released n)
       by_count zero q = absurd (f q)
-      by_count (suc m) q = (m, rw (eq-eqb l.id i (sym p), q) refl)
+      by_count (suc m) q = (m, sym q, rw (eq-eqb l.id i (sym p), q) refl)
 
   update_held : (z : Slot) (i : ℕ) → (holder_count z ≡ 0 → ⊥) → i ≡ id_of z →
-      (Regions.after_update z i ≡ Updated.Stored) ⊎ ((n : ℕ) × (Regions.after_update z i ≡ Updated.Shared n))
+      (Regions.after_update z i ≡ Updated.Stored) ⊎ ((n : ℕ) × (suc n ≡ holder_count z) × (Regions.after_update z i ≡ Updated.Shared n))
   update_held Slot.Vacant i f p = absurd (f refl)
   update_held (Slot.Item r t) i f p = absurd (f refl)
   update_held (Slot.Lock l) i f p = by_count l.holders refl l.shared refl
     where
       by_count : (m : ℕ) → l.holders ≡ m → (b : Bool) → l.shared ≡ b →
-          (Regions.after_update (Slot.Lock l) i ≡ Updated.Stored) ⊎ ((n : ℕ) × (Regions.after_update (Slot.Lock l) i ≡ Updated.Shared n))
+          (Regions.after_update (Slot.Lock l) i ≡ Updated.Stored) ⊎ ((n : ℕ) × (suc n ≡ l.holders) × (Regions.after_update (Slot.Lock l) i ≡ Updated.Shared n))
       by_count zero q b c = absurd (f q)
-      by_count (suc m) q true c = inr (m, rw (eq-eqb l.id i (sym p), q, c) refl)
+      by_count (suc m) q true c = inr (m, sym q, rw (eq-eqb l.id i (sym p), q, c) refl)
       by_count (suc m) q false c = inl (rw (eq-eqb l.id i (sym p), q, c) refl)
 
-  pub given_back : (h : Journal) (e : Entry) → IsLegal script (Some start) h → IsStep script (Some start) h e → is_sound k h ≡ true → IsGivenBack k e
+  count_is : (h : Journal) → IsLegal script (Some start) h → is_sound k h ≡ true → length (holders k h) ≡ holder_count (slot script.timeout k h)
+  count_is h l w = (coherent script start k rw_k h l w).holding.count
+
+  -- the lock that a holder has
+  lock_there : (z : Slot) (i : ℕ) → (holder_count z ≡ 0 → ⊥) → i ≡ id_of z → (l : LockState) × (z ≡ Slot.Lock l) × (l.id ≡ i)
+  lock_there Slot.Vacant i f p = absurd (f refl)
+  lock_there (Slot.Item r t) i f p = absurd (f refl)
+  lock_there (Slot.Lock l) i f p = (l, refl, sym p)
+
+  lock_held : (h : Journal) → IsLegal script (Some start) h → is_sound k h ≡ true → IsLockHeld script k h
+  lock_held h l w = record {
+    count = count_is h l w;
+    id = λ s p.
+        let i : In s (holders k h) = holder_in s (holders k h) p in
+        lock_there (slot script.timeout k h) (lock_id k (own s h)) (held_lock h l w s i) (ids h l w s i);
+  }
+
+  given_back : (h : Journal) (e : Entry) → IsLegal script (Some start) h → IsStep script (Some start) h e → is_sound k h ≡ true → IsGivenBack k h e
   given_back h e l st w = record { unlock = unlock; update = update }
     where
-      fault_none : (a : Act) (cs : List Change) → fault_of cs a ≡ None → fault_of cs a ≡ Some e.reply → ⊥
-      fault_none a cs p q = none_some (sym p ∙ q)
-
-      replied : (a : Act) → e.act ≡ a → ((cs : List Change) → fault_of cs a ≡ None) → e.reply ≡ reply_of script start h (number e.session) e.tick a
-      replied a p n = elim st.reply [
-        | inl q ↦ subst (λ x. e.reply ≡ reply_of script start h (number e.session) e.tick x) p q
-        | inr f ↦ absurd (fault_none a (changes (number e.session) h) (n (changes (number e.session) h)) (subst (λ x. fault_of (changes (number e.session) h) x ≡ Some e.reply) p f))
-      ]
-
       allowed : (s : ℕ) (a : Act) → e.session ≡ Some s → e.act ≡ a → (was_killed s h ≡ false) × Allowed script k (own s h) a
       allowed s a c p =
           let b : is_by s e ≡ true = rw c (eq-eqb s s refl) in
@@ -208,17 +224,23 @@ module _ (script : Script) (start : Tables) (k : Key) (rw_k : strategy script k.
       holder : (s : ℕ) → was_killed s h ≡ false → is_begun (own s h) ≡ true → holds k (own s h) ≡ true → In s (holders k h)
       holder s k0 b x = holds_holder script start k rw_k s h l (begun_open s h k0 ∙ b) x
 
-      unlock : (s i : ℕ) → e.session ≡ Some s → e.act ≡ Act.Unlock k i → (n : ℕ) × (e.reply ≡ Reply.Unlocked (Unlocked.Released n))
+      unlock : (s i : ℕ) → e.session ≡ Some s → e.act ≡ Act.Unlock k i →
+          (is_holder s k h ≡ true) × (n : ℕ) × (suc n ≡ length (holders k h)) × (e.reply ≡ Reply.Unlocked (Unlocked.Released n))
       unlock s i c p =
           let a : (was_killed s h ≡ false) × (same_key k k ≡ true → (holds k (own s h) ≡ true) × (is_begun (own s h) ≡ true) × (i ≡ lock_id k (own s h))) = allowed s (Act.Unlock k i) c p in
           let b : (holds k (own s h) ≡ true) × (is_begun (own s h) ≡ true) × (i ≡ lock_id k (own s h)) = a.1 (same_key_refl k) in
           let m : In s (holders k h) = holder s a.0 b.1 b.0 in
-          let u : (n : ℕ) × (Regions.unlock (slot script.timeout k h) i ≡ Unlocked.Released n) =
-          unlock_held (slot script.timeout k h) i (held_lock h l w s m) (b.2 ∙ ids h l w s m) in
-          (u.0, replied (Act.Unlock k i) p (λ cs. refl) ∙ ap (λ x. Reply.Unlocked x) u.1)
+          let u : (n : ℕ) × (suc n ≡ holder_count (slot script.timeout k h)) × (Regions.unlock (slot script.timeout k h) i ≡ Unlocked.Released n) =
+          unlock_held (slot script.timeout k h) i (held_lock h l w s m) (b.2 ∙ ids h l w s m) in (
+            in_holder s (holders k h) m,
+            u.0,
+            u.1 ∙ sym (count_is h l w),
+            replied script start h e (Act.Unlock k i) st.reply p (λ cs. refl) ∙ ap (λ x. Reply.Unlocked x) u.2,
+          )
 
       update : (s i : ℕ) (r : Row) → e.session ≡ Some s → e.act ≡ Act.AfterUpdate k i r →
-          (e.reply ≡ Reply.Updated Updated.Stored) ⊎ ((n : ℕ) × (e.reply ≡ Reply.Updated (Updated.Shared n)))
+          (is_holder s k h ≡ true)
+          × ((e.reply ≡ Reply.Updated Updated.Stored) ⊎ ((n : ℕ) × (suc n ≡ length (holders k h)) × (e.reply ≡ Reply.Updated (Updated.Shared n))))
       update s i r c p =
           let a : (was_killed s h ≡ false) × (same_key k k ≡ true → (holds k (own s h) ≡ true) × (done_in (own s h) ≡ true)
           × (row_by (last_on k (changes s h)) ≡ Some r) × (is_begun (own s h) ≡ true) × (i ≡ lock_id k (own s h))) =
@@ -227,12 +249,22 @@ module _ (script : Script) (start : Tables) (k : Key) (rw_k : strategy script k.
           × (row_by (last_on k (changes s h)) ≡ Some r) × (is_begun (own s h) ≡ true) × (i ≡ lock_id k (own s h)) =
           a.1 (same_key_refl k) in
           let m : In s (holders k h) = holder s a.0 b.3 b.0 in
-          let v : e.reply ≡ Reply.Updated (Regions.after_update (slot script.timeout k h) i) = replied (Act.AfterUpdate k i r) p (λ cs. refl) in
-          elim (update_held (slot script.timeout k h) i (held_lock h l w s m) (b.4 ∙ ids h l w s m)) [
-            | inl x ↦ inl (v ∙ ap (λ y. Reply.Updated y) x)
-            | inr x ↦ inr (x.0, v ∙ ap (λ y. Reply.Updated y) x.1)
-          ]
+          let v : e.reply ≡ Reply.Updated (Regions.after_update (slot script.timeout k h) i) = replied script start h e (Act.AfterUpdate k i r) st.reply p (λ cs. refl) in (
+            in_holder s (holders k h) m,
+            elim (update_held (slot script.timeout k h) i (held_lock h l w s m) (b.4 ∙ ids h l w s m)) [
+              | inl x ↦ inl (v ∙ ap (λ y. Reply.Updated y) x)
+              | inr x ↦ inr (x.0, x.1 ∙ sym (count_is h l w), v ∙ ap (λ y. Reply.Updated y) x.2)
+            ],
+          )
 
-  pub all_given_back : (h : Journal) → IsLegal script (Some start) h → AtEachEntry (λ g e. is_sound k g ≡ true → IsGivenBack k e) h
-  all_given_back [] l = tt
-  all_given_back (e ∷ h) l = (given_back h e l.0 l.1, all_given_back h l.0)
+  -- the locks of a key are held by those who took them, and are given back
+  pub locks_kept : (h : Journal) → IsLegal script (Some start) h → AreLocksKept script k h
+  locks_kept h l = record { held = held h l; back = back h l }
+    where
+      held : (h : Journal) → IsLegal script (Some start) h → AtEachPrefix (λ g. is_sound k g ≡ true → IsLockHeld script k g) h
+      held [] l = lock_held [] l
+      held (e ∷ h) l = (lock_held (e ∷ h) l, held h l.0)
+
+      back : (h : Journal) → IsLegal script (Some start) h → AtEachEntry (λ g e. is_sound k g ≡ true → IsGivenBack k g e) h
+      back [] l = tt
+      back (e ∷ h) l = (given_back h e l.0 l.1, back h l.0)

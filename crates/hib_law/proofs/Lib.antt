@@ -1,3 +1,4 @@
+mod Basics
 mod Protocol
 mod Touches
 mod Effects
@@ -25,3 +26,5 @@ mod StoreRules
 mod Stored
 mod ReadOnlyRules
 mod ReadOnly
+mod Misses
+mod Joined

@@ -23,15 +23,7 @@ use Rattle.hib_journal.proofs.Steps.{next_act}
 use Rattle.hib_journal.proofs.Open.{begun_open}
 use Rattle.hib_law.proofs.Blocks.{allowed_act}
 use Rattle.hib_law.proofs.Holders.{holds_holder, holder_holds}
-
-some_same : {A : Type 0} {a b : A} → Some a ≡ Some b → a ≡ b
-some_same e = cc
-
-none_some : {A : Type 0} {a : A} {P : Type 0} → ◌≡◌ {A = Option A} None (Some a) → P
-none_some e = absurd (no e)
-  where
-    no : {A : Type 0} {a : A} → ◌≡◌ {A = Option A} None (Some a) → ⊥
-    no e = cc
+use Rattle.hib_law.proofs.Basics.{none_some, some_same}
 
 -- what an act does to what is known of a session
 

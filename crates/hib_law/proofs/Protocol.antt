@@ -7,6 +7,7 @@ use Rattle.hib_journal.specs.Slot.{Touch, LockState, Slot, is_positive}
 use Rattle.hib_journal.specs.Room.{may_leave}
 use Rattle.hib_journal.specs.Regions.{is_below, free_answer, put}
 use Rattle.hib_journal.specs.Coherence.{remove}
+use Rattle.hib_law.specs.Locks.{holder_count}
 use Rattle.hib_journal.proofs.Slots.{touched, freed}
 
 -- lists of sessions
@@ -35,11 +36,6 @@ IsSafe t b slot row = (row ≡ Some b) ⊎ (IsGuarded t slot × IsNotBelow b.ver
 pub record IsGrown (b : Row) (row : Option Row) (deleted : Bool) : Type 0 where
   pub newer : (r : Row) → row ≡ Some r → is_below r.version b.version ≡ false
   pub gone : row ≡ None → deleted ≡ true
-
-abbrev pub holder_count : Slot → ℕ
-holder_count Slot.Vacant = 0
-holder_count (Slot.Item r t) = 0
-holder_count (Slot.Lock l) = l.holders
 
 -- an item is the committed row
 abbrev pub IsRowOf : Slot → Option Row → Type 0

@@ -2,7 +2,7 @@
 use Rattle.std.proofs.Common.{◌≡◌, ℕ, ◌⊎◌, inl, inr, Bool, true, false, List, [], ◌∷◌, ◌++◌, slice_get, Some, refl, ◌∙◌, subst}
 use Rattle.std.proofs.lemmas.Bool.{false≢true}
 use Rattle.std.specs.List.{flat_map}
-use Rattle.hib_journal.specs.Types.{Key, Cell, Change, Commit, Mode, Script, Act, Reply, Checked, Entry}
+use Rattle.hib_journal.specs.Types.{Cell, Change, Commit, Mode, Script, Act, Reply, Checked, Entry}
 use Rattle.hib_base.specs.Tables.{Tables}
 use Rattle.hib_journal.specs.Sessions.{Journal, own, is_by, changes_in, time_in, is_begun, begun_after}
 use Rattle.hib_journal.specs.Plan.{one}
@@ -203,12 +203,18 @@ module _ (script : Script) where
     own = λ a p. keeps_quiet [] a (own_quiet a p);
     flush = Walks.goes_flush (AllowedQuery script) Anyhow (At []) script (λ a p. keeps_quiet [] a (flush_quiet a p));
     answer = goes_answer;
-    commit = λ mode m w go g. (w.1, λ e p r.
-        runs_each (AllowedQuery script) Anyhow (completion script mode (is_committed_reply e.reply) (e ∷ m)) (e ∷ m) IsOver
-        (allow_completion mode (is_committed_reply e.reply) (e ∷ m) (after_commit m e w p)) go g);
-    rollback = λ mode m w go g. (tt, λ e p r.
-        runs_each (AllowedQuery script) Anyhow (completion script mode false (e ∷ m)) (e ∷ m) IsOver
-        (allow_completion mode false (e ∷ m) (rw p (w.0), inl (rw p (w.1)))) go g);
+    commit = λ mode m w go g. (
+      w.1,
+      λ e p r.
+          runs_each (AllowedQuery script) Anyhow (completion script mode (is_committed_reply e.reply) (e ∷ m)) (e ∷ m) IsOver
+          (allow_completion mode (is_committed_reply e.reply) (e ∷ m) (after_commit m e w p)) go g,
+    );
+    rollback = λ mode m w go g. (
+      tt,
+      λ e p r.
+          runs_each (AllowedQuery script) Anyhow (completion script mode false (e ∷ m)) (e ∷ m) IsOver
+          (allow_completion mode false (e ∷ m) (rw p (w.0), inl (rw p (w.1)))) go g,
+    );
     begins = λ m w go g. (w, λ e p r. g (e ∷ m) (rw p refl, rw p w));
   }
 

@@ -7,19 +7,13 @@ use Rattle.hib_base.specs.Tables.{Tables, row_at, key_of, row_left, last_on, aft
 use Rattle.hib_journal.specs.Sessions.{Journal, is_by, own, changes, changes_in, changes_after, committed, committer}
 use Rattle.hib_journal.specs.Next.{strategy}
 use Rattle.hib_journal.specs.Legal.{IsLegal}
-use Rattle.hib_law.specs.Claims.{AtEachPrefix, WasCommitted, Inserts, InsertsBy, WasGiven, IsItemGiven}
+use Rattle.hib_law.specs.Prefixes.{AtEachPrefix}
+use Rattle.hib_law.specs.Rows.{WasCommitted}
+use Rattle.hib_law.specs.Items.{Inserts, InsertsBy, WasGiven, IsItemGiven}
 use Rattle.hib_base.proofs.Tables.{Tested, tested, same_key_eq, left_by, row_at_changes}
 use Rattle.hib_law.proofs.ReadOnlyRules.{AllowedOnly, allowed_only}
 use Rattle.hib_law.proofs.Stored.{is_item_old}
-
-some_same : {A : Type 0} {a b : A} → Some a ≡ Some b → a ≡ b
-some_same e = cc
-
-none_some : {A : Type 0} {a : A} {P : Type 0} → ◌≡◌ {A = Option A} None (Some a) → P
-none_some e = absurd (no e)
-  where
-    no : {A : Type 0} {a : A} → ◌≡◌ {A = Option A} None (Some a) → ⊥
-    no e = cc
+use Rattle.hib_law.proofs.Basics.{none_some, some_same}
 
 -- no change in a list updates k
 

@@ -1,9 +1,9 @@
 -- A session changes no row of a read-only entity: what it holds of such a key is as it arrived, so it writes no update of it.
-use Rattle.std.proofs.Common.{◌≡◌, ℕ, ◌⊎◌, inl, inr, Bool, true, false, cond, ◌==◌, List, [], ◌∷◌, ◌++◌, reverse, slice_get, Some, None, Option, refl, ap, sym, ◌∙◌, subst, arith, eq-eqb}
+use Rattle.std.proofs.Common.{◌≡◌, ℕ, ◌⊎◌, inl, inr, Bool, true, false, cond, List, [], ◌∷◌, ◌++◌, Some, None, Option, refl, ap, sym, ◌∙◌, subst, arith}
 use Rattle.std.proofs.lemmas.Bool.{true≢false, false≢true, and_from, le-leb}
 use Rattle.std.specs.Prelude.{ℤ, pos, negsuc, int_le}
 use Rattle.std.specs.List.{flat_map, filter_map, cons_option}
-use Rattle.hib_journal.specs.Types.{State, Key, Row, Cell, Change, Strategy, Mode, Statement, Script, Act, Reply, Entry}
+use Rattle.hib_journal.specs.Types.{State, Key, Row, Cell, Change, Strategy, Mode, Script, Act, Reply, Entry}
 use Rattle.hib_base.specs.Keys.{same_key}
 use Rattle.hib_base.specs.Tables.{Tables, key_of}
 use Rattle.hib_journal.specs.Sessions.{Journal, own, is_by, changes, changes_in, floor_in}
@@ -16,20 +16,11 @@ use Rattle.hib_journal.specs.Next.{tables_in, tables_of, is_in, is_in_tables, is
 use Rattle.hib_journal.specs.Legal.{IsLegal, IsStep, reply_of, fault_of, number, set_unless, is_there, row_of}
 use Rattle.hib_base.proofs.Tables.{Tested, tested, same_key_eq}
 use Rattle.hib_law.proofs.HeldRows.{Brings, brings, no_arrival, longer_some}
-use Rattle.hib_journal.specs.Plan.{one}
 use Rattle.hib_journal.proofs.Plans.{Allows, allows_join, runs_each}
 use Rattle.hib_law.proofs.Walks
 use Rattle.hib_law.proofs.Walks.{AreGood, is_find_act, is_list_act, is_end_act, is_own_act}
 use Rattle.hib_law.proofs.Flushes.{held_key, insert_key, update_key, delete_key}
-
-some_same : {A : Type 0} {a b : A} → Some a ≡ Some b → a ≡ b
-some_same e = cc
-
-none_some : {A : Type 0} {a : A} {P : Type 0} → ◌≡◌ {A = Option A} None (Some a) → P
-none_some e = absurd (no e)
-  where
-    no : {A : Type 0} {a : A} → ◌≡◌ {A = Option A} None (Some a) → ⊥
-    no e = cc
+use Rattle.hib_law.proofs.Basics.{none_some, some_same}
 
 -- cells are the same as themselves
 
@@ -379,8 +370,11 @@ module _ (k : Key) where
       where
         by_pending : (cs : List Change) → AllFrom m cs → Allow (Next.flush_of script m cs) m W
         by_pending [] a = w
-        by_pending (c ∷ cs) a = (tt, λ e p r. allow_writes m w script (c ∷ cs) (e ∷ m) a
-            (before_on m w m e (Act.Pre (tables_in script (c ∷ cs))) p refl (λ x. refl) (λ x. refl) (w, λ x y q. (y, q)) r))
+        by_pending (c ∷ cs) a = (
+          tt,
+          λ e p r. allow_writes m w script (c ∷ cs) (e ∷ m) a
+              (before_on m w m e (Act.Pre (tables_in script (c ∷ cs))) p refl (λ x. refl) (λ x. refl) (w, λ x y q. (y, q)) r),
+        )
 
     allow_stamps : (ts : List ℕ) (m : Journal) → W m → Allow (Next.stamps_of ts) m W
     allow_stamps [] m w = w
@@ -403,12 +397,18 @@ module _ (k : Key) where
       own = λ a p. keeps_plain a (own_plain a p);
       flush = goes_flush;
       answer = λ mode q. Walks.goes_answer (AllowedOnly k) (Refuses k) W script mode (λ a p. keeps_plain a (list_plain a p)) q;
-      commit = λ mode m w go g. (tt, λ e p r.
-          runs_each (AllowedOnly k) (Refuses k) (Next.completion script mode (Next.is_committed_reply e.reply) (e ∷ m)) (e ∷ m) W
-          (allow_completion mode (Next.is_committed_reply e.reply) (e ∷ m) (e ∷ m) (plain_on k m e w r (rw p refl))) go g);
-      rollback = λ mode m w go g. (tt, λ e p r.
-          runs_each (AllowedOnly k) (Refuses k) (Next.completion script mode false (e ∷ m)) (e ∷ m) W
-          (allow_completion mode false (e ∷ m) (e ∷ m) (plain_on k m e w r (rw p refl))) go g);
+      commit = λ mode m w go g. (
+        tt,
+        λ e p r.
+            runs_each (AllowedOnly k) (Refuses k) (Next.completion script mode (Next.is_committed_reply e.reply) (e ∷ m)) (e ∷ m) W
+            (allow_completion mode (Next.is_committed_reply e.reply) (e ∷ m) (e ∷ m) (plain_on k m e w r (rw p refl))) go g,
+      );
+      rollback = λ mode m w go g. (
+        tt,
+        λ e p r.
+            runs_each (AllowedOnly k) (Refuses k) (Next.completion script mode false (e ∷ m)) (e ∷ m) W
+            (allow_completion mode false (e ∷ m) (e ∷ m) (plain_on k m e w r (rw p refl))) go g,
+      );
       begins = Walks.goes_act (AllowedOnly k) (Refuses k) W Act.Begin (keeps_plain Act.Begin refl);
     }
 

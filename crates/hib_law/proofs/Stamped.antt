@@ -1,5 +1,5 @@
 -- The stamp of a table is no earlier than any entry since the restart that stamped it.
-use Rattle.std.proofs.Common.{◌≡◌, ℕ, ◌+◌, ◌≤◌, Bool, true, false, cond, [], ◌∷◌, Some, None, Option, refl, arith}
+use Rattle.std.proofs.Common.{◌≡◌, ℕ, ◌+◌, ◌≤◌, Bool, true, false, cond, ◌∷◌, Some, None, Option, refl, arith}
 use Rattle.std.proofs.lemmas.Bool.{false≢true}
 use Rattle.hib_journal.specs.Types.{Act, Entry}
 use Rattle.hib_journal.specs.Sessions.{Journal}

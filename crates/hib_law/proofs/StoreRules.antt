@@ -1,5 +1,5 @@
 -- What a session's own entries allow it to store, of any key and whatever the strategy.
-use Rattle.std.proofs.Common.{◌≡◌, ℕ, Bool, true, false, cond, ◌&&◌, List, [], ◌∷◌, ◌++◌, Some, None, Option, refl, ◌∙◌}
+use Rattle.std.proofs.Common.{◌≡◌, ℕ, Bool, true, false, ◌&&◌, List, [], ◌∷◌, ◌++◌, Some, None, Option, refl, ◌∙◌}
 use Rattle.std.proofs.lemmas.Bool.{false≢true}
 use Rattle.std.specs.List.{flat_map}
 use Rattle.hib_journal.specs.Types.{Key, Row, Change, Commit, Strategy, Mode, Script, Act, Reply, Entry}
@@ -234,12 +234,18 @@ module _ (script : Script) where
     own = λ a p. keeps_work a (own_work a p);
     flush = Walks.goes_flush AllowedStore Anyhow IsBusy script (λ a p. keeps_work a (flush_work a p));
     answer = λ mode q. Walks.goes_answer AllowedStore Anyhow IsBusy script mode (λ a p. keeps_work a (list_work a p)) q;
-    commit = λ mode m w go g. (tt, λ e p r.
-        runs_each AllowedStore Anyhow (completion script mode (is_committed_reply e.reply) (e ∷ m)) (e ∷ m) Any
-        (allow_completion mode (is_committed_reply e.reply) (e ∷ m) (rw p (w.0)) (rw (p, w.1) (done_reply e.reply))) go g);
-    rollback = λ mode m w go g. (tt, λ e p r.
-        runs_each AllowedStore Anyhow (completion script mode false (e ∷ m)) (e ∷ m) Any
-        (allow_completion mode false (e ∷ m) (rw p (w.0)) (rw p (w.1))) go g);
+    commit = λ mode m w go g. (
+      tt,
+      λ e p r.
+          runs_each AllowedStore Anyhow (completion script mode (is_committed_reply e.reply) (e ∷ m)) (e ∷ m) Any
+          (allow_completion mode (is_committed_reply e.reply) (e ∷ m) (rw p (w.0)) (rw (p, w.1) (done_reply e.reply))) go g,
+    );
+    rollback = λ mode m w go g. (
+      tt,
+      λ e p r.
+          runs_each AllowedStore Anyhow (completion script mode false (e ∷ m)) (e ∷ m) Any
+          (allow_completion mode false (e ∷ m) (rw p (w.0)) (rw p (w.1))) go g,
+    );
     begins = λ m w go g. (tt, λ e p r. g (e ∷ m) (rw p refl, rw p refl));
   }
 

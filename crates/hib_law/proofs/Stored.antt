@@ -11,7 +11,9 @@ use Rattle.hib_journal.specs.Next.{is_in}
 use Rattle.hib_journal.specs.Legal.{IsLegal, IsStep, is_outside}
 use Rattle.hib_journal.specs.Sound.{up_to}
 use Rattle.hib_journal.specs.Coherence.{is_done, done_in, done_after, last_row, row_by}
-use Rattle.hib_law.specs.Claims.{AtEachPrefix, WasCommitted, IsItemOld}
+use Rattle.hib_law.specs.Prefixes.{AtEachPrefix}
+use Rattle.hib_law.specs.Rows.{WasCommitted}
+use Rattle.hib_law.specs.Items.{IsItemOld}
 use Rattle.hib_base.proofs.Tables.{Tested, tested, left_by, row_at_changes}
 use Rattle.hib_journal.proofs.Sessions.{is_some_session}
 use Rattle.hib_law.proofs.Touches.{here_or_victim}
@@ -22,15 +24,7 @@ use Rattle.hib_law.proofs.Orderly.{Kind, kind, Doer, doer}
 use Rattle.hib_law.proofs.Whole.{view_unchanged, loaded_by}
 use Rattle.hib_law.proofs.StoreRules.{MayPut, MayStore, AllowedStore, allowed_store}
 use Rattle.hib_law.proofs.Hits.{IsPast, up_own, legal_past}
-
-some_same : {A : Type 0} {a b : A} → Some a ≡ Some b → a ≡ b
-some_same e = cc
-
-none_some : {A : Type 0} {a : A} {P : Type 0} → ◌≡◌ {A = Option A} None (Some a) → P
-none_some e = absurd (no e)
-  where
-    no : {A : Type 0} {a : A} → ◌≡◌ {A = Option A} None (Some a) → ⊥
-    no e = cc
+use Rattle.hib_law.proofs.Basics.{none_some, some_same}
 
 -- which acts store a row
 

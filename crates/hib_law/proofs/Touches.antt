@@ -9,16 +9,9 @@ use Rattle.hib_journal.specs.Slot.{Touch, LockState, Slot, slot, history, touch_
 use Rattle.hib_journal.specs.Room.{key, named, place, may_leave, victim, room, room_by, first_placed, earlier_of, is_earlier}
 use Rattle.hib_journal.specs.Regions
 use Rattle.hib_base.proofs.Tables.{Tested, tested, same_key_eq}
-use Rattle.hib_law.proofs.Protocol.{holder_count, positive_false}
-
-some_same : {A : Type 0} {a b : A} → Some a ≡ Some b → a ≡ b
-some_same e = cc
-
-none_some : {A : Type 0} {a : A} {P : Type 0} → ◌≡◌ {A = Option A} None (Some a) → P
-none_some e = absurd (no e)
-  where
-    no : {A : Type 0} {a : A} → ◌≡◌ {A = Option A} None (Some a) → ⊥
-    no e = cc
+use Rattle.hib_law.specs.Locks.{holder_count}
+use Rattle.hib_law.proofs.Protocol.{positive_false}
+use Rattle.hib_law.proofs.Basics.{none_some, some_same}
 
 -- the victim may leave
 

@@ -2,11 +2,11 @@
 use Rattle.std.proofs.Common.{◌≡◌, ℕ, inl, inr, Bool, true, false, cond, not, ◌&&◌, List, [], ◌∷◌, ◌++◌, slice_get, Some, None, Option, refl}
 use Rattle.std.proofs.lemmas.Bool.{false≢true, and_parts}
 use Rattle.std.specs.List.{flat_map}
-use Rattle.hib_journal.specs.Types.{Key, Row, Cell, Change, Strategy, Mode, Statement, Script, Act, Reply, Checked, Entry}
+use Rattle.hib_journal.specs.Types.{Key, Row, Change, Strategy, Mode, Statement, Script, Act, Reply, Checked, Entry}
 use Rattle.hib_base.specs.Tables.{Tables, first_on, last_on}
 use Rattle.hib_journal.specs.Sessions.{Journal, own, is_by, changes_in, time_in, floor_in}
 use Rattle.hib_journal.specs.Held.{held, pending, is_fresh}
-use Rattle.hib_journal.specs.Plan.{Plan, Block, one, each, left_of}
+use Rattle.hib_journal.specs.Plan.{Block, one, left_of}
 use Rattle.hib_journal.specs.Next
 use Rattle.hib_journal.specs.Next.{strategy, plan_of, statements, mode_after, ends, tables_of, tables_in, is_in, is_in_tables, mode_puts, mode_reads}
 use Rattle.hib_journal.specs.Legal.{IsLegal, IsStep}

@@ -20,15 +20,7 @@ use Rattle.hib_law.proofs.Views.{view_of}
 use Rattle.hib_law.proofs.Coherent.{open_before, closed, WasSound, was_sound, kept_history, coherent_at_first, coherent_anew, coherent_next}
 use Rattle.hib_law.proofs.HeldRows.{HasRead, not_in_before}
 use Rattle.hib_law.proofs.Orderly.{Reads, orderly, removes_none, seen_on, seen_now}
-
-some_same : {A : Type 0} {a b : A} → Some a ≡ Some b → a ≡ b
-some_same e = cc
-
-none_some : {A : Type 0} {a : A} {P : Type 0} → ◌≡◌ {A = Option A} None (Some a) → P
-none_some e = absurd (no e)
-  where
-    no : {A : Type 0} {a : A} → ◌≡◌ {A = Option A} None (Some a) → ⊥
-    no e = cc
+use Rattle.hib_law.proofs.Basics.{none_some, some_same}
 
 -- a row arrives by a Hit or by a Load
 pub data Read (k : Key) (b : Row) (a : Act) (r : Reply) : Type 0 where
