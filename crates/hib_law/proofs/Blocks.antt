@@ -1,7 +1,7 @@
 -- A session within its transactions, as one read-write key sees it: in a legal journal each act of a session is allowed by what it did before.
 use Rattle.std.proofs.Common.{◌≡◌, ℕ, inl, inr, Bool, true, false, ◌||◌, ◌∷◌, Some, None, refl, ap, sym, ◌∙◌, subst}
 use Rattle.std.proofs.lemmas.Bool.{false≢true, or_parts}
-use Rattle.hib_journal.specs.Types.{Key, Row, Strategy, Mode, Script, Act, Reply, Entry}
+use Rattle.hib_journal.specs.Types.{Key, Row, Strategy, Script, Act, Reply, Entry}
 use Rattle.hib_base.specs.Keys.{same_key}
 use Rattle.hib_base.specs.Tables.{Tables}
 use Rattle.hib_journal.specs.Sessions.{Journal, own, is_by, changes, changes_in}
@@ -32,7 +32,7 @@ module _ (script : Script) (k : Key) (rw_k : strategy script k.entity ≡ Strate
   keeps_own Act.Clear p = keeps_plain script k Act.Clear refl (λ m w. tt)
   keeps_own _ p = absurd (false≢true p)
 
-  good : AreGood (Allowed script k) (Right k) script (IsOver script k rw_k Mode.Normal) (IsSettled k)
+  good : AreGood (Allowed script k) (Right k) script (IsOver k) (IsSettled k)
   good = record {
     find = goes_find script k;
     own = keeps_own;
@@ -91,5 +91,5 @@ module _ (script : Script) (start : Tables) (k : Key) (s : ℕ) where
   -- in a legal journal each act of a session is allowed by what the session did before
   pub allowed_act : (rw_k : strategy script k.entity ≡ Strategy.ReadWrite) (h : Journal) (e : Entry) → IsLegal script (Some start) h → IsStep script (Some start) h e →
       is_by s e ≡ true → Allowed script k (own s h) e.act
-  allowed_act rw_k h e l t p = Walks.allowed (Allowed script k) (Right k) script (IsOver script k rw_k Mode.Normal) (IsSettled k) (good script k rw_k) (Some start) s
+  allowed_act rw_k h e l t p = Walks.allowed (Allowed script k) (Right k) script (IsOver k) (IsSettled k) (good script k rw_k) (Some start) s
       right_entry (tt, refl) h e l t p

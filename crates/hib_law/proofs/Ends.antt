@@ -127,6 +127,10 @@ module _ (script : Script) (k : Key) (rw_k : strategy script k.entity ≡ Strate
   allow_key j (Some (Change.Delete i v)) m p w h =
       allow_update j (lock_id j start) (strategy script j.entity) (puts_back (d && mode_puts mode) (last_on j cs)) m refl w refl refl (at_k j m (Some (Change.Delete i v)) p h)
 
+-- before a Begin: no lock is held
+abbrev pub IsOver : Key → Journal → Type 0
+IsOver k m = IsFair k m × (holds k m ≡ false)
+
 -- each key is completed once
 
 abbrev pub IsOnce : Key → List Key → Type 0
@@ -219,10 +223,6 @@ module _ (script : Script) (k : Key) (rw_k : strategy script k.entity ≡ Strate
     pub done : done_in m ≡ d
     pub held : IsHeldFor k m (first_on k (changes_in m))
 
-  -- before a Begin: no lock is held
-  abbrev pub IsOver : Journal → Type 0
-  IsOver m = IsFair k m × (holds k m ≡ false)
-
   abbrev Free : List Change → Bool → ℕ → ℕ → Journal → Type 0
   Free cs d f i m = IsEnding k cs d f i m × (holds k m ≡ false)
 
@@ -235,11 +235,11 @@ module _ (script : Script) (k : Key) (rw_k : strategy script k.entity ≡ Strate
         (record { begun = rw q (w.0.begun); fair = (r, w.0.fair); same = rw q (w.0.same); done = rw q (w.0.done); floor = rw q (w.0.floor); id = rw q (w.0.id) }, rw q (w.1)),
   )
 
-  allow_completion : (d : Bool) (m : Journal) → IsDone d m → Allows (Allowed script k) (Right k) (completion script mode d m) m IsOver
+  allow_completion : (d : Bool) (m : Journal) → IsDone d m → Allows (Allowed script k) (Right k) (completion script mode d m) m (IsOver k)
   allow_completion d m w =
       allows_join (Allowed script k) (Right k)
       (flat_map (λ j. complete script mode m d (changes_in m) j) (keys_of (changes_in m)) ++ stamps_of (tables_in script (changes_in m))) (Act.End ∷ []) m
-      (Free (changes_in m) d (floor_in m) (lock_id k m)) IsOver
+      (Free (changes_in m) d (floor_in m) (lock_id k m)) (IsOver k)
       (allows_join (Allowed script k) (Right k) (flat_map (λ j. complete script mode m d (changes_in m) j) (keys_of (changes_in m))) (stamps_of (tables_in script (changes_in m))) m
       (Free (changes_in m) d (floor_in m) (lock_id k m)) (Free (changes_in m) d (floor_in m) (lock_id k m))
       (allow_keys m (changes_in m) d (keys_of (changes_in m)) m (keys_once k (changes_in m))
@@ -265,19 +265,19 @@ module _ (script : Script) (k : Key) (rw_k : strategy script k.entity ≡ Strate
         (held_same k m (e ∷ m) (first_on k (changes_in m)) h (held_ready k m (first_on k (changes_in m)) w.working.ready w.free));
   }
 
-  pub goes_commit : Goes script k (commit script mode) (IsSettled k) IsOver
+  pub goes_commit : Goes script k (commit script mode) (IsSettled k) (IsOver k)
   goes_commit m w go g = (
     (w.working.undone, w.working.ready, w.working.begun),
     λ e p r.
-        runs_each (Allowed script k) (Right k) (completion script mode (is_committed_reply e.reply) (e ∷ m)) (e ∷ m) IsOver
+        runs_each (Allowed script k) (Right k) (completion script mode (is_committed_reply e.reply) (e ∷ m)) (e ∷ m) (IsOver k)
         (allow_completion (is_committed_reply e.reply) (e ∷ m)
         (is_done m e (is_committed_reply e.reply) w r (rw p refl) (rw p refl) (rw p refl) (rw (p, w.working.undone) (done_reply e.reply)))) go g,
   )
 
-  pub goes_rollback : Goes script k (rollback script mode) (IsSettled k) IsOver
+  pub goes_rollback : Goes script k (rollback script mode) (IsSettled k) (IsOver k)
   goes_rollback m w go g = (
     tt,
     λ e p r.
-        runs_each (Allowed script k) (Right k) (completion script mode false (e ∷ m)) (e ∷ m) IsOver
+        runs_each (Allowed script k) (Right k) (completion script mode false (e ∷ m)) (e ∷ m) (IsOver k)
         (allow_completion false (e ∷ m) (is_done m e false w r (rw p refl) (rw p refl) (rw p refl) (rw (p, w.working.undone) refl))) go g,
   )

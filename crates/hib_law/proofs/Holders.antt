@@ -1,7 +1,7 @@
 -- Who holds the lock of a read-write key: an open session exactly where its own entries say so, and once.
 use Rattle.std.proofs.Common.{◌≡◌, ℕ, suc, ◌≤◌, inl, inr, Bool, true, false, cond, ◌&&◌, ◌==◌, List, [], ◌∷◌, Some, None, Option, refl, ap, sym, ◌∙◌, subst, arith, eq-eqb}
 use Rattle.std.proofs.lemmas.Bool.{true≢false, false≢true, eqb-true}
-use Rattle.hib_journal.specs.Types.{Key, Strategy, Script, Act, Entry}
+use Rattle.hib_journal.specs.Types.{Key, Strategy, Script, Act}
 use Rattle.hib_base.specs.Tables.{Tables}
 use Rattle.hib_journal.specs.Sessions.{Journal, is_by, is_session, own, is_open, is_restart}
 use Rattle.hib_journal.specs.Held.{is_begin}
@@ -72,12 +72,6 @@ begin_says script k m Act.Begin s w = w
 begin_says script k m _ s w = absurd (false≢true s)
 
 module _ (script : Script) (start : Tables) (k : Key) (rw_k : strategy script k.entity ≡ Strategy.ReadWrite) where
-  abbrev One : ℕ → Journal → ℕ
-  One t m = cond (holds k m) 1 0
-
-  holds_is : (e : Entry) (m : Journal) → takes k e.act ≡ false → gives_back k e.act ≡ false → holds k (e ∷ m) ≡ holds k m
-  holds_is e m a b = rw (a, b) refl
-
   -- a session stands once at most among the holders, and only where its own entries hold the lock
   pub holders_le : (t : ℕ) (h : Journal) → IsLegal script (Some start) h → count t (holders k h) ≤ cond (holds k (own t h)) 1 0
   holders_le t [] l = omega arith

@@ -188,9 +188,6 @@ in_one s t (x ∷ (y ∷ xs)) e h k = absurd (omega arith)
 
 -- how each kind of entry keeps a seen row safe
 
-safe_from_row : (t : ℕ) (b : Row) (slot : Slot) (row : Option Row) → row ≡ Some b → IsSafe t b slot row
-safe_from_row t b slot row e = inl e
-
 -- a row is stored: it is the committed one
 safe_store : (t now : ℕ) (b r : Row) (row : Option Row) (deleted : Bool) → row ≡ Some r → IsGrown b row deleted → t < now →
     IsSafe t b (Slot.Item r now) row

@@ -24,10 +24,6 @@ stamp_last timeout t e h p = by_act e.act p
     by_act (Act.Stamp ts) p = rw p (omega arith)
     by_act _ p = absurd (false≢true p)
 
-at_least_less : (n m : ℕ) (v : Option ℕ) → n ≤ m → IsAtLeast m v → IsAtLeast n v
-at_least_less n m None l a = a
-at_least_less n m (Some v) l a = omega arith
-
 -- and one more entry keeps that, unless it is a Restart
 pub stamp_kept : (timeout t n : ℕ) (e : Entry) (h : Journal) → n ≤ e.tick → IsAtLeast n (stamp timeout t h) → (e.act ≡ Act.Restart → ⊥) →
     IsAtLeast n (stamp timeout t (e ∷ h))

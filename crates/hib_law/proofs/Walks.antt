@@ -87,9 +87,6 @@ module _ (Allowed : Journal → Act → Type 0) (Right : Journal → Entry → T
     nothing : Goes (λ d n. n d) W W
     nothing m w go g = g m w
 
-    pub allow_one : (a : Act) → Keeps W a → (m : Journal) → W m → Allows Allowed Right (a ∷ []) m W
-    allow_one a f m w = f m w
-
     pub allow_flat : {X : Type 0} (f : X → List Act) → ((x : X) (m : Journal) → W m → Allows Allowed Right (f x) m W) → (xs : List X) (m : Journal) → W m →
         Allows Allowed Right (flat_map f xs) m W
     allow_flat f h [] m w = w

@@ -150,7 +150,3 @@ module _ (script : Script) (start : Tables) (k : Key) (rw_k : strategy script k.
   -- a sound key is coherent at every entry
   pub coherent : (h : Journal) → IsLegal script (Some start) h → is_sound k h ≡ true → IsCoherent (view_of script start k h)
   coherent h l w = (whole h l w).0
-
-  -- what an open session has read of a sound key that it has not changed was committed at some entry of the session since its last Begin
-  pub reads_seen : (h : Journal) → IsLegal script (Some start) h → is_sound k h ≡ true → Reads script start k rw_k h
-  reads_seen h l w = (whole h l w).1
