@@ -1,10 +1,10 @@
 -- All claims together.
 use Rattle.hib_journal.specs.Types.{Script}
-use Rattle.std.proofs.Common.{Some}
+use Rattle.std.proofs.Common.{Some, None, Option}
 use Rattle.hib_base.specs.Tables.{Tables}
 use Rattle.hib_journal.specs.Sessions.{Journal}
 use Rattle.hib_journal.specs.Legal.{IsLegal}
-use Rattle.hib_law.specs.Law.{Coheres}
+use Rattle.hib_law.specs.Law.{Coheres, Obeys}
 use Rattle.hib_journal.proofs.Steps.{steps_in_order}
 use Rattle.hib_law.proofs.Answered.{key_coherent, finds_answered}
 use Rattle.hib_law.proofs.Hits.{hits_true}
@@ -24,3 +24,7 @@ coheres script start h l = record {
   locks = λ k p. locks_kept script start k p h l;
   steps = λ s. steps_in_order script (Some start) s h l;
 }
+
+pub obeyed : (script : Script) (told : Option Tables) (h : Journal) → IsLegal script told h → Obeys script told h
+obeyed script (Some start) h l = coheres script start h l
+obeyed script None h l = λ s. steps_in_order script None s h l

@@ -1,5 +1,5 @@
 -- The law: all that is claimed of a legal journal over told rows.
-use Rattle.std.specs.Prelude.{◌≡◌, ℕ}
+use Rattle.std.specs.Prelude.{◌≡◌, ℕ, Some, None, Option}
 use Rattle.hib_journal.specs.Types.{Key, Strategy, Script}
 use Rattle.hib_base.specs.Tables.{Tables}
 use Rattle.hib_journal.specs.Sessions.{Journal, own}
@@ -28,3 +28,8 @@ pub record Coheres (script : Script) (start : Tables) (h : Journal) : Type 0 whe
   pub locks : (k : Key) → strategy script k.entity ≡ Strategy.ReadWrite → AreLocksKept script k h
   -- each session's entries are the acts of its plan, each once and in order
   pub steps : (s : ℕ) → InOrder (plan_of script s) (own s h)
+
+-- what is claimed whether the rows at the start are told or not: without them, the order of the acts alone
+abbrev pub Obeys : Script → Option Tables → Journal → Type 0
+Obeys script (Some start) h = Coheres script start h
+Obeys script None h = (s : ℕ) → InOrder (plan_of script s) (own s h)

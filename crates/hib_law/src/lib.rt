@@ -13,7 +13,7 @@ ghost use Rattle.hib_journal.specs.Sessions.{Journal, own};
 ghost use Rattle.hib_journal.specs.Types.{Key, Script, Strategy};
 ghost use Rattle.hib_law.specs.Hits.{AreHitsTrue};
 ghost use Rattle.hib_law.specs.Items.{IsItemGiven, IsItemOld};
-ghost use Rattle.hib_law.specs.Law.{Coheres};
+ghost use Rattle.hib_law.specs.Law.{Coheres, Obeys};
 ghost use Rattle.hib_law.specs.Locks.{AreLocksKept};
 ghost use Rattle.hib_law.specs.Misses.{HasCause};
 ghost use Rattle.hib_law.specs.Prefixes.{AtEachEntry, AtEachPrefix};
