@@ -67,7 +67,9 @@ pub fn locks_are_kept()
         (h : Journal) → IsLegal script (Some start) h → AreLocksKept script k h }
 {}
 
-/// The whole law: all of the above, of every legal journal over told rows.
+/// The whole law: all of the above, of every legal journal over told rows. Where the rows at the start aren't told, the order
+/// of the acts alone.
 pub fn law()
     ensures law { (script : Script) (start : Tables) (h : Journal) → IsLegal script (Some start) h → Coheres script start h }
+    ensures obeyed { (script : Script) (told : Option Tables) (h : Journal) → IsLegal script told h → Obeys script told h }
 {}
