@@ -28,3 +28,4 @@ mod ReadOnlyRules
 mod ReadOnly
 mod Misses
 mod Joined
+mod Refuted
