@@ -127,6 +127,14 @@ module _ (script : Script) (k : Key) (rw_k : strategy script k.entity ≡ Strate
   allow_key j (Some (Change.Delete i v)) m p w h =
       allow_update j (lock_id j start) (strategy script j.entity) (puts_back (d && mode_puts mode) (last_on j cs)) m refl w refl refl (at_k j m (Some (Change.Delete i v)) p h)
 
+-- whether a commit is answered Committed
+pub done_reply : (r : Reply) → done_after Act.Commit r false ≡ is_committed_reply r
+done_reply (Reply.Commit Commit.Committed) = refl
+done_reply (Reply.Commit (Commit.Stale j v)) = refl
+done_reply (Reply.Commit (Commit.Duplicate j)) = refl
+done_reply (Reply.Commit Commit.Fault) = refl
+done_reply _ = refl
+
 -- before a Begin: no lock is held
 abbrev pub IsOver : Key → Journal → Type 0
 IsOver k m = IsFair k m × (holds k m ≡ false)
@@ -247,13 +255,6 @@ module _ (script : Script) (k : Key) (rw_k : strategy script k.entity ≡ Strate
       (λ a. subst (λ o. IsHeldFor k m o) (no_first (changes_in m) a) w.held))
       (λ n x. allow_stamps (tables_in script (changes_in m)) (changes_in m) d (floor_in m) (lock_id k m) n x))
       (λ n x. (tt, λ e p r. ((r, x.0.fair), rw p (x.1))))
-
-  done_reply : (r : Reply) → done_after Act.Commit r false ≡ is_committed_reply r
-  done_reply (Reply.Commit Commit.Committed) = refl
-  done_reply (Reply.Commit (Commit.Stale j v)) = refl
-  done_reply (Reply.Commit (Commit.Duplicate j)) = refl
-  done_reply (Reply.Commit Commit.Fault) = refl
-  done_reply _ = refl
 
   is_done : (m : Journal) (e : Entry) (d : Bool) → IsSettled k m → Right k m e → begun_after e.act true ≡ true → changes_in (e ∷ m) ≡ changes_in m →
       holds k (e ∷ m) ≡ holds k m → done_in (e ∷ m) ≡ d → IsDone d (e ∷ m)

@@ -14,7 +14,7 @@ use Rattle.hib_journal.specs.Coherence.{done_in, done_after, row_by}
 use Rattle.hib_journal.proofs.Plans.{Runs, Allows, allows_join, runs_each, runs_if}
 use Rattle.hib_law.proofs.Walks
 use Rattle.hib_law.proofs.Walks.{AreGood, runs_test, goes_act, not_in_test, is_list_act, is_flush_act, is_own_act}
-use Rattle.hib_law.proofs.Ends.{put_back}
+use Rattle.hib_law.proofs.Ends.{put_back, done_reply}
 
 -- a Put is of what a Load has just answered, of a key that is not in the changes
 abbrev pub MayPut : Journal → Key → Row → Type 0
@@ -189,13 +189,6 @@ module _ (script : Script) where
       (allow_keys mode m d (changes_in m) (keys_of (changes_in m)) m (b, refl, w))
       (λ n x. allow_stamps (changes_in m) d (tables_in script (changes_in m)) n x))
       (λ n x. (tt, λ e p r. tt))
-
-  done_reply : (r : Reply) → done_after Act.Commit r false ≡ is_committed_reply r
-  done_reply (Reply.Commit Commit.Committed) = refl
-  done_reply (Reply.Commit (Commit.Stale j v)) = refl
-  done_reply (Reply.Commit (Commit.Duplicate j)) = refl
-  done_reply (Reply.Commit Commit.Fault) = refl
-  done_reply _ = refl
 
   module _ (mode : Mode) (k : Key) where
     -- after a Load
