@@ -1,0 +1,30 @@
+-- All claims together.
+use Rattle.hib_journal.specs.Types.{Script}
+use Rattle.std.proofs.Common.{Some, None, Option}
+use Rattle.hib_base.specs.Tables.{Tables}
+use Rattle.hib_journal.specs.Sessions.{Journal}
+use Rattle.hib_journal.specs.Legal.{IsLegal}
+use Rattle.hib_law.specs.Law.{Coheres, Obeys}
+use Rattle.hib_journal.proofs.Steps.{steps_in_order}
+use Rattle.hib_law.proofs.Answered.{key_coherent, finds_answered}
+use Rattle.hib_law.proofs.Hits.{hits_true}
+use Rattle.hib_law.proofs.Misses.{have_causes}
+use Rattle.hib_law.proofs.Stored.{items_old}
+use Rattle.hib_law.proofs.ReadOnly.{items_given}
+use Rattle.hib_law.proofs.Ids.{locks_kept}
+
+pub coheres : (script : Script) (start : Tables) (h : Journal) → IsLegal script (Some start) h → Coheres script start h
+coheres script start h l = record {
+  rows = λ k p. key_coherent script start k p h l;
+  finds = finds_answered script start h l;
+  hits = hits_true script start h l;
+  misses = have_causes script start h l;
+  items = λ k. items_old script start k h l;
+  given = λ k p. items_given script start k p h l;
+  locks = λ k p. locks_kept script start k p h l;
+  steps = λ s. steps_in_order script (Some start) s h l;
+}
+
+pub obeyed : (script : Script) (told : Option Tables) (h : Journal) → IsLegal script told h → Obeys script told h
+obeyed script (Some start) h l = coheres script start h l
+obeyed script None h l = λ s. steps_in_order script None s h l

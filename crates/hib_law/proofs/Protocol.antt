@@ -1,0 +1,627 @@
+-- The protocol of one key of a read-write region: what each kind of entry does to its slot, to its committed row and to
+-- what sessions know of it, and what always holds. It speaks of no journal.
+use Rattle.std.proofs.Common.{◌≡◌, ℕ, zero, suc, ◌<◌, ◌≤◌, ◌⊎◌, inl, inr, Bool, true, false, cond, not, ◌||◌, ◌==◌, ltb, leb, List, [], ◌∷◌, length, Some, None, Option, refl, ap, sym, ◌∙◌, subst, arith}
+use Rattle.std.proofs.lemmas.Bool.{eqb-false, or_parts, and_parts, ltb-true, leb-false, true≢false, false≢true, le-ltb, cases_eq}
+use Rattle.hib_journal.specs.Types.{Row, Put}
+use Rattle.hib_journal.specs.Slot.{Touch, LockState, Slot, is_positive}
+use Rattle.hib_journal.specs.Room.{may_leave}
+use Rattle.hib_journal.specs.Regions.{is_below, free_answer, put}
+use Rattle.hib_journal.specs.Coherence.{remove}
+use Rattle.hib_law.specs.Locks.{holder_count}
+use Rattle.hib_journal.proofs.Slots.{touched, freed}
+
+-- lists of sessions
+
+abbrev pub In : ℕ → List ℕ → Type 0
+In s [] = ⊥
+In s (x ∷ xs) = (x ≡ s) ⊎ In s xs
+
+-- what a key's slot says to a session of this time: that a put of an older row will be refused
+abbrev pub IsGuarded : ℕ → Slot → Type 0
+IsGuarded t Slot.Vacant = ⊥
+IsGuarded t (Slot.Item r stamp) = t < stamp
+IsGuarded t (Slot.Lock l) = (0 < l.holders) ⊎ (t < l.unlock)
+
+-- an item's version is not below w, nor is that of a lock that is not shared
+abbrev pub IsNotBelow : Option ℕ → Slot → Type 0
+IsNotBelow w Slot.Vacant = Unit {0}
+IsNotBelow w (Slot.Item r stamp) = is_below r.version w ≡ false
+IsNotBelow w (Slot.Lock l) = l.shared ≡ false → is_below l.version w ≡ false
+
+-- a row that a session of this time has seen: it is committed still, or a put of it will be refused
+abbrev pub IsSafe : ℕ → Row → Slot → Option Row → Type 0
+IsSafe t b slot row = (row ≡ Some b) ⊎ (IsGuarded t slot × IsNotBelow b.version slot)
+
+-- a row that was committed once: the committed one is not below it, or the key was deleted
+pub record IsGrown (b : Row) (row : Option Row) (deleted : Bool) : Type 0 where
+  pub newer : (r : Row) → row ≡ Some r → is_below r.version b.version ≡ false
+  pub gone : row ≡ None → deleted ≡ true
+
+-- an item is the committed row
+abbrev pub IsRowOf : Slot → Option Row → Type 0
+IsRowOf Slot.Vacant row = Unit {0}
+IsRowOf (Slot.Item r t) row = row ≡ Some r
+IsRowOf (Slot.Lock l) row = Unit {0}
+
+-- a lock that is not shared has one holder at most
+abbrev pub IsSingle : Slot → Type 0
+IsSingle Slot.Vacant = Unit {0}
+IsSingle (Slot.Item r t) = Unit {0}
+IsSingle (Slot.Lock l) = l.shared ≡ false → l.holders ≤ 1
+
+-- what a session knows that alone holds a lock of this version: before its commit the committed row has the lock's
+-- version, afterwards it is the row that its last change left
+pub record IsAlone (version : Option ℕ) (row : Option Row) (done : Bool) (last : Option Row) : Type 0 where
+  pub before : done ≡ false → (v : ℕ) → version ≡ Some v → (r : Row) × (row ≡ Some r) × (r.version ≡ Some v)
+  pub after : done ≡ true → (r : Row) → last ≡ Some r → row ≡ Some r
+
+abbrev pub IsLone : Slot → Option Row → List ℕ → (ℕ → Bool) → (ℕ → Option Row) → Type 0
+IsLone Slot.Vacant row holders done last = Unit {0}
+IsLone (Slot.Item r t) row holders done last = Unit {0}
+IsLone (Slot.Lock l) row holders done last =
+    l.shared ≡ false → (s : ℕ) → In s holders → IsAlone l.version row (done s) (last s)
+
+-- what always holds of a slot, the committed row and the holders: sessions, which of them have committed, and the rows
+-- that their last changes leave
+pub record IsHolding (slot : Slot) (row : Option Row) (holders : List ℕ) (done : ℕ → Bool) (last : ℕ → Option Row) : Type 0 where
+  pub item : IsRowOf slot row
+  pub count : length holders ≡ holder_count slot
+  pub single : IsSingle slot
+  pub lone : IsLone slot row holders done last
+
+-- what is known of one key and of the sessions at an entry
+pub record View : Type 1 where
+  pub slot : Slot
+  -- the committed row
+  pub row : Option Row
+  -- the sessions that locked the key and have not given the lock back
+  pub holders : List ℕ
+  -- a commit since the restart deleted the key
+  pub deleted : Bool
+  pub active : ℕ → Bool
+  pub time : ℕ → ℕ
+  -- a session has seen this row as committed, since its last Begin
+  pub seen : ℕ → Row → Type 0
+  -- a session has committed, since its last Begin
+  pub done : ℕ → Bool
+  -- the row that a session's last change on the key leaves
+  pub last : ℕ → Option Row
+
+-- what always holds of a sound key
+pub record IsCoherent (x : View) : Type 0 where
+  pub holding : IsHolding x.slot x.row x.holders x.done x.last
+  -- what an open session has seen is safe
+  pub grown : (s : ℕ) (b : Row) → x.active s ≡ true → x.seen s b → IsGrown b x.row x.deleted
+  pub safe : (s : ℕ) (b : Row) → x.active s ≡ true → x.seen s b → IsSafe (x.time s) b x.slot x.row
+
+-- how the sessions go on from x to y by an entry at now
+pub record Follows (now : ℕ) (x y : View) : Type 0 where
+  pub known : (s : ℕ) (b : Row) → y.active s ≡ true → y.seen s b →
+      (y.row ≡ Some b) ⊎ ((x.active s ≡ true) × x.seen s b × (y.time s ≡ x.time s))
+  pub later : (s : ℕ) (b : Row) → x.active s ≡ true → x.seen s b → x.time s < now
+  pub deleted : x.deleted ≡ true → y.deleted ≡ true
+
+-- an entry that commits nothing
+pub record IsQuiet (x y : View) : Type 0 where
+  pub row : y.row ≡ x.row
+  pub done : (s : ℕ) → In s x.holders → y.done s ≡ x.done s
+  pub last : (s : ℕ) → In s x.holders → x.done s ≡ true → y.last s ≡ x.last s
+
+-- what such an entry does to the key
+pub data Move (timeout now : ℕ) (x y : View) : Type 0 where
+  -- nothing
+  Rests : y.slot ≡ x.slot → y.holders ≡ x.holders → Move timeout now x y
+  -- an open session puts a row that it has seen
+  Puts : (s : ℕ) (r : Row) (room : Option (Option ℕ)) (v : Option ℕ) → y.slot ≡ Slot.Item r now → y.holders ≡ x.holders →
+      x.active s ≡ true → x.seen s r → put x.slot room (x.time s) r.version ≡ Put.Stored v false → Move timeout now x y
+  -- an open session stores a row that it has seen, on a vacant key
+  Inserts : (s : ℕ) (r : Row) → y.slot ≡ Slot.Item r now → y.holders ≡ x.holders → x.active s ≡ true → x.seen s r →
+      x.slot ≡ Slot.Vacant → Move timeout now x y
+  -- the only holder stores the row that it has committed
+  Updates : (s : ℕ) (r : Row) (l : LockState) → y.slot ≡ Slot.Item r now → y.holders ≡ remove s x.holders →
+      x.slot ≡ Slot.Lock l → l.shared ≡ false → In s x.holders → x.done s ≡ true → x.last s ≡ Some r → Move timeout now x y
+  -- a session that has not committed locks, and names the version of a row that it has seen, or none
+  Locks : (s : ℕ) (v : Option ℕ) → y.slot ≡ touched timeout (Touch.Locks v) now x.slot → y.holders ≡ s ∷ x.holders →
+      x.active s ≡ true → y.done s ≡ false → (v ≡ None) ⊎ ((b : Row) × x.seen s b × (b.version ≡ v)) → Move timeout now x y
+  -- a holder gives its lock back
+  Releases : (s n : ℕ) → y.slot ≡ touched timeout (Touch.Releases n) now x.slot → y.holders ≡ remove s x.holders →
+      holder_count x.slot ≡ suc n → In s x.holders → Move timeout now x y
+  -- the key is evicted, which is no held lock
+  Evicts : y.slot ≡ touched timeout Touch.Evicts now x.slot → y.holders ≡ x.holders → holder_count x.slot ≡ 0 → Move timeout now x y
+  -- the key leaves under a floor that is no later than the time of each open session
+  Leaves : (floor : ℕ) → y.slot ≡ Slot.Vacant → y.holders ≡ x.holders → may_leave floor x.slot ≡ true →
+      ((s : ℕ) → x.active s ≡ true → floor ≤ x.time s) → Move timeout now x y
+
+-- what a commit by s does to the row
+pub data Commits (s : ℕ) (x y : View) : Type 0 where
+  -- nothing, for it has no change on the key
+  Passes : y.row ≡ x.row → y.last s ≡ None → Commits s x y
+  -- its first change inserts the key, which has no row and was not deleted since the restart
+  Adds : x.row ≡ None → x.deleted ≡ false → y.row ≡ y.last s → Commits s x y
+  -- its first change is of the row that is there, and it is a holder. Versions do not fall
+  Changes : (r : Row) → x.row ≡ Some r → In s x.holders → y.row ≡ y.last s →
+      ((d : Row) → y.row ≡ Some d → (w : Option ℕ) → is_below r.version w ≡ false → is_below d.version w ≡ false) →
+      (y.row ≡ None → y.deleted ≡ true) → Commits s x y
+
+pub record IsCommit (s : ℕ) (x y : View) : Type 0 where
+  pub slot : y.slot ≡ x.slot
+  pub holders : y.holders ≡ x.holders
+  pub not_yet : x.done s ≡ false
+  pub now : y.done s ≡ true
+  pub done : (t : ℕ) → (t ≡ s → ⊥) → y.done t ≡ x.done t
+  pub last : (t : ℕ) → In t x.holders → (t ≡ s → ⊥) → x.done t ≡ true → y.last t ≡ x.last t
+  pub row : Commits s x y
+
+-- lemmas on plain values
+
+in_cond : (b : Bool) (t x : ℕ) (xs ys : List ℕ) → (In t ys → In t xs) → In t (cond b xs (x ∷ ys)) → In t (x ∷ xs)
+in_cond true t x xs ys f h = inr h
+in_cond false t x xs ys f (inl e) = inl e
+in_cond false t x xs ys f (inr h) = inr (f h)
+
+pub in_remove : (s t : ℕ) (xs : List ℕ) → In t (remove s xs) → In t xs
+in_remove s t [] h = h
+in_remove s t (x ∷ xs) h = in_cond (x == s) t x xs (remove s xs) (in_remove s t xs) h
+
+length_cond : (b : Bool) (x : ℕ) (xs ys : List ℕ) → (b ≡ false → suc (length ys) ≡ length xs) → suc (length (cond b xs (x ∷ ys))) ≡ suc (length xs)
+length_cond true x xs ys f = refl
+length_cond false x xs ys f = ap suc (f refl)
+
+elsewhere : (s x : ℕ) (xs : List ℕ) → (x == s) ≡ false → In s (x ∷ xs) → In s xs
+elsewhere s x xs e (inl p) = absurd (eqb-false x s e p)
+elsewhere s x xs e (inr h) = h
+
+length_remove : (s : ℕ) (xs : List ℕ) → In s xs → suc (length (remove s xs)) ≡ length xs
+length_remove s [] h = absurd h
+length_remove s (x ∷ xs) h = length_cond (x == s) x xs (remove s xs) (λ e. length_remove s xs (elsewhere s x xs e h))
+
+pub in_none : (s : ℕ) (xs : List ℕ) → length xs ≡ 0 → In s xs → ⊥
+in_none s [] e h = h
+in_none s (x ∷ xs) e h = absurd (omega arith)
+
+in_one : (s t : ℕ) (xs : List ℕ) → length xs ≤ 1 → In s xs → In t xs → s ≡ t
+in_one s t [] e h k = absurd h
+in_one s t (x ∷ []) e (inl p) (inl q) = sym p ∙ q
+in_one s t (x ∷ []) e (inl p) (inr q) = absurd q
+in_one s t (x ∷ []) e (inr p) k = absurd p
+in_one s t (x ∷ (y ∷ xs)) e h k = absurd (omega arith)
+
+-- how each kind of entry keeps a seen row safe
+
+-- a row is stored: it is the committed one
+safe_store : (t now : ℕ) (b r : Row) (row : Option Row) (deleted : Bool) → row ≡ Some r → IsGrown b row deleted → t < now →
+    IsSafe t b (Slot.Item r now) row
+safe_store t now b r row deleted e g l = inr (l, g.newer r e)
+
+-- a lock is taken
+safe_lock : (timeout t now : ℕ) (b : Row) (v : Option ℕ) (slot : Slot) (row : Option Row) (deleted : Bool) →
+    ((r : Row) (u : ℕ) → slot ≡ Slot.Item r u → row ≡ Some r) → (slot ≡ Slot.Vacant → is_below v b.version ≡ false) →
+    IsGrown b row deleted → IsSafe t b (touched timeout (Touch.Locks v) now slot) row
+safe_lock timeout t now b v Slot.Vacant row deleted item named g = inr (inl (omega arith), λ x. named refl)
+safe_lock timeout t now b v (Slot.Item r u) row deleted item named g = inr (inl (omega arith), λ x. g.newer r (item r u refl))
+safe_lock timeout t now b v (Slot.Lock l) row deleted item named g = inr (inl (omega arith), λ x. absurd (true≢false x))
+
+-- a lock is given back
+guarded_release : (t now n unlock : ℕ) → t < now → (0 < n) ⊎ (t < freed n now unlock)
+guarded_release t now zero unlock l = inr l
+guarded_release t now (suc n) unlock l = inl (omega arith)
+
+safe_release : (timeout t now n : ℕ) (b : Row) (slot : Slot) (row : Option Row) → t < now →
+    IsSafe t b slot row → IsSafe t b (touched timeout (Touch.Releases n) now slot) row
+safe_release timeout t now n b slot row l (inl e) = inl e
+safe_release timeout t now n b Slot.Vacant row l (inr h) = inr h
+safe_release timeout t now n b (Slot.Item r u) row l (inr h) = inr h
+safe_release timeout t now n b (Slot.Lock k) row l (inr h) = inr (guarded_release t now n k.unlock l, h.1)
+
+-- a key is evicted
+below_none : (w : Option ℕ) → is_below None w ≡ false
+below_none None = refl
+below_none (Some n) = refl
+
+safe_evict : (timeout t now : ℕ) (b : Row) (slot : Slot) (row : Option Row) → t < now →
+    IsSafe t b slot row → IsSafe t b (touched timeout Touch.Evicts now slot) row
+safe_evict timeout t now b slot row l (inl e) = inl e
+safe_evict timeout t now b slot row l (inr h) = inr (inr l, λ x. below_none b.version)
+
+-- a key leaves for another one, under a floor that is no later than the session's time
+not_positive : (n : ℕ) → not (is_positive n) ≡ true → n ≡ 0
+not_positive zero e = refl
+not_positive (suc n) e = absurd (false≢true e)
+
+pub positive_false : (n : ℕ) → is_positive n ≡ false → n ≡ 0
+positive_false zero e = refl
+positive_false (suc n) e = absurd (true≢false e)
+
+guarded_leaves : (t floor : ℕ) (slot : Slot) → floor ≤ t → may_leave floor slot ≡ true → IsGuarded t slot → ⊥
+guarded_leaves t floor Slot.Vacant l m h = h
+guarded_leaves t floor (Slot.Item r u) l m h = omega (arith, ltb-true u floor m)
+guarded_leaves t floor (Slot.Lock k) l m h =
+    let p : (not (is_positive k.holders) ≡ true) × (ltb k.unlock floor ≡ true) = and_parts (not (is_positive k.holders)) (ltb k.unlock floor) m in
+    let z : k.holders ≡ 0 = not_positive k.holders p.0 in
+    elim h [ inl a ↦ omega arith | inr a ↦ omega (arith, ltb-true k.unlock floor p.1) ]
+
+safe_leave : (t floor : ℕ) (b : Row) (slot : Slot) (row : Option Row) → floor ≤ t → may_leave floor slot ≡ true →
+    IsSafe t b slot row → IsSafe t b Slot.Vacant row
+safe_leave t floor b slot row l m (inl e) = inl e
+safe_leave t floor b slot row l m (inr h) = absurd (guarded_leaves t floor slot l m h.0)
+
+-- a put that is stored and not late is of the committed row
+
+put_over_item : (x : Bool) (v e : Option ℕ) → cond x (Put.Stored None false) (Put.Present v) ≡ Put.Stored e false → x ≡ true
+put_over_item true v e h = refl
+put_over_item false v e h = absurd (cc)
+
+put_if : (x : Bool) (u : ℕ) (e : Option ℕ) → cond x (Put.Stored None false) (Put.Early u) ≡ Put.Stored e false → x ≡ true
+put_if true u e h = refl
+put_if false u e h = absurd (cc)
+
+put_old : (x : Bool) (u : ℕ) (e : Option ℕ) → cond x (Put.Stored None false) (Put.Old u) ≡ Put.Stored e false → x ≡ true
+put_old true u e h = refl
+put_old false u e h = absurd (cc)
+
+put_late : (p q : Bool) (e : Option ℕ) → Put.Stored None (p || q) ≡ Put.Stored e false → (p || q) ≡ false
+put_late p q e h = cc
+
+put_over_lock : (a p q : Bool) (n : ℕ) (f : Put) (e : Option ℕ) →
+    cond a (Put.Stored None (p || q)) (cond p (Put.Held n) f) ≡ Put.Stored e false → (p ≡ false) × ((q ≡ false) ⊎ (f ≡ Put.Stored e false))
+put_over_lock true p q n f e h = let g : (p ≡ false) × (q ≡ false) = or_parts p q (put_late p q e h) in (g.0, inl g.1)
+put_over_lock false true q n f e h = absurd (cc)
+put_over_lock false false q n f e h = (refl, inr h)
+
+put_free : (l : LockState) (v : Option ℕ) (x : Bool) (t : ℕ) (w e : Option ℕ) → t < l.unlock → (x ≡ false → is_below v w ≡ false) →
+    free_answer l v x t w ≡ Put.Stored e false → ⊥
+put_free l (Some v) false t w e u nb h = true≢false (sym (put_old (is_below (Some v) w) v e h) ∙ nb refl)
+put_free l (Some v) true t w e u nb h = omega (arith, ltb-true l.unlock t (put_if (ltb l.unlock t) l.unlock e h))
+put_free l None x t w e u nb h = omega (arith, ltb-true l.unlock t (put_if (ltb l.unlock t) l.unlock e h))
+
+put_guarded : (slot : Slot) (room : Option (Option ℕ)) (t : ℕ) (w v : Option ℕ) → IsGuarded t slot → IsNotBelow w slot →
+    put slot room t w ≡ Put.Stored v false → ⊥
+put_guarded Slot.Vacant room t w v g nb h = g
+put_guarded (Slot.Item r u) room t w v g nb h = true≢false (sym (put_over_item (is_below r.version w) r.version v h) ∙ nb)
+put_guarded (Slot.Lock l) room t w v g nb h =
+    let k : (is_positive l.holders ≡ false) × ((leb t l.unlock ≡ false) ⊎ (free_answer l l.version l.shared t w ≡ Put.Stored v false)) =
+    put_over_lock (ltb l.timeout t) (is_positive l.holders) (leb t l.unlock) l.holders (free_answer l l.version l.shared t w) v h in
+    let z : l.holders ≡ 0 = positive_false l.holders k.0 in
+    let u : t < l.unlock = elim g [ inl a ↦ absurd (omega arith) | inr a ↦ a ] in
+    elim k.1 [ inl a ↦ omega (arith, leb-false t l.unlock a) | inr a ↦ put_free l l.version l.shared t w v u nb a ]
+
+pub put_committed : (slot : Slot) (room : Option (Option ℕ)) (t : ℕ) (b : Row) (row : Option Row) (v : Option ℕ) → IsSafe t b slot row →
+    put slot room t b.version ≡ Put.Stored v false → row ≡ Some b
+put_committed slot room t b row v (inl e) h = e
+put_committed slot room t b row v (inr g) h = absurd (put_guarded slot room t b.version v g.0 g.1 h)
+
+-- a put that is stored and not late meets no holder
+put_no_holder : (slot : Slot) (room : Option (Option ℕ)) (t : ℕ) (w v : Option ℕ) → put slot room t w ≡ Put.Stored v false → holder_count slot ≡ 0
+put_no_holder Slot.Vacant room t w v h = refl
+put_no_holder (Slot.Item r u) room t w v h = refl
+put_no_holder (Slot.Lock l) room t w v h =
+    positive_false l.holders (put_over_lock (ltb l.timeout t) (is_positive l.holders) (leb t l.unlock) l.holders (free_answer l l.version l.shared t w) v h).0
+
+leave_no_holder : (floor : ℕ) (slot : Slot) → may_leave floor slot ≡ true → holder_count slot ≡ 0
+leave_no_holder floor Slot.Vacant h = refl
+leave_no_holder floor (Slot.Item r u) h = refl
+leave_no_holder floor (Slot.Lock l) h = not_positive l.holders (and_parts (not (is_positive l.holders)) (ltb l.unlock floor) h).0
+
+-- how each kind of entry keeps what holds of the slot
+
+hold_store : (r : Row) (now : ℕ) (row : Option Row) (holders : List ℕ) (done : ℕ → Bool) (last : ℕ → Option Row) →
+    row ≡ Some r → length holders ≡ 0 → IsHolding (Slot.Item r now) row holders done last
+hold_store r now row holders done last e z = record { item = e; count = z; single = tt; lone = tt }
+
+alone_settled : (v : Option ℕ) (row : Option Row) (d d' : Bool) (l l' : Option Row) → d' ≡ d → (d ≡ true → l' ≡ l) → IsAlone v row d l → IsAlone v row d' l'
+alone_settled v row d d' l l' e f h = record {
+  before = λ x. h.before (sym e ∙ x);
+  after = λ x r y. h.after (sym e ∙ x) r (sym (f (sym e ∙ x)) ∙ y);
+}
+
+hold_settled : (slot : Slot) (row : Option Row) (holders : List ℕ) (d d' : ℕ → Bool) (l l' : ℕ → Option Row) →
+    ((s : ℕ) → In s holders → d' s ≡ d s) → ((s : ℕ) → In s holders → d s ≡ true → l' s ≡ l s) →
+    IsHolding slot row holders d l → IsHolding slot row holders d' l'
+hold_settled Slot.Vacant row holders d d' l l' e f h = record { item = h.item; count = h.count; single = h.single; lone = tt }
+hold_settled (Slot.Item r t) row holders d d' l l' e f h = record { item = h.item; count = h.count; single = h.single; lone = tt }
+hold_settled (Slot.Lock k) row holders d d' l l' e f h = record {
+  item = tt;
+  count = h.count;
+  single = h.single;
+  lone = λ x s i. alone_settled k.version row (d s) (d' s) (l s) (l' s) (e s i) (f s i) (h.lone x s i);
+}
+
+alone_new : (v : Option ℕ) (row : Option Row) (d : Bool) (l : Option Row) → d ≡ false →
+    ((w : ℕ) → v ≡ Some w → (r : Row) × (row ≡ Some r) × (r.version ≡ Some w)) → IsAlone v row d l
+alone_new v row d l e f = record { before = λ x. f; after = λ x. absurd (true≢false (sym x ∙ e)) }
+
+only_new : (s t : ℕ) (holders : List ℕ) (d : ℕ → Bool) → length holders ≡ 0 → d s ≡ false → In t (s ∷ holders) → d t ≡ false
+only_new s t holders d z e (inl p) = ap d (sym p) ∙ e
+only_new s t holders d z e (inr i) = absurd (in_none t holders z i)
+
+hold_lock : (timeout now s : ℕ) (v : Option ℕ) (slot : Slot) (row : Option Row) (holders : List ℕ) (d : ℕ → Bool) (l : ℕ → Option Row) →
+    d s ≡ false → (slot ≡ Slot.Vacant → (w : ℕ) → v ≡ Some w → (r : Row) × (row ≡ Some r) × (r.version ≡ Some w)) →
+    IsHolding slot row holders d l → IsHolding (touched timeout (Touch.Locks v) now slot) row (s ∷ holders) d l
+hold_lock timeout now s v Slot.Vacant row holders d l e named h = record {
+  item = tt;
+  count = ap suc h.count;
+  single = λ x. omega arith;
+  lone = λ x t i. alone_new v row (d t) (l t) (only_new s t holders d h.count e i) (named refl);
+}
+hold_lock timeout now s v (Slot.Item r u) row holders d l e named h = record {
+  item = tt;
+  count = ap suc h.count;
+  single = λ x. omega arith;
+  lone = λ x t i. alone_new r.version row (d t) (l t) (only_new s t holders d h.count e i) (λ w p. (r, h.item, p));
+}
+hold_lock timeout now s v (Slot.Lock k) row holders d l e named h = record {
+  item = tt;
+  count = ap suc h.count;
+  single = λ x. absurd (true≢false x);
+  lone = λ x. absurd (true≢false x);
+}
+
+hold_release : (timeout now s n : ℕ) (slot : Slot) (row : Option Row) (holders : List ℕ) (d : ℕ → Bool) (l : ℕ → Option Row) →
+    holder_count slot ≡ suc n → In s holders →
+    IsHolding slot row holders d l → IsHolding (touched timeout (Touch.Releases n) now slot) row (remove s holders) d l
+hold_release timeout now s n Slot.Vacant row holders d l e i h = absurd (omega arith)
+hold_release timeout now s n (Slot.Item r u) row holders d l e i h = absurd (omega arith)
+hold_release timeout now s n (Slot.Lock k) row holders d l e i h =
+    let c : length holders ≡ k.holders = h.count in
+    let m : suc (length (remove s holders)) ≡ length holders = length_remove s holders i in
+    record {
+      item = tt;
+      count = omega arith;
+      single = λ x. let o : k.holders ≤ 1 = h.single x in omega arith;
+      lone = λ x t j. h.lone x t (in_remove s t holders j);
+    }
+
+hold_free : (timeout now : ℕ) (slot : Slot) (row : Option Row) (holders : List ℕ) (d : ℕ → Bool) (l : ℕ → Option Row) →
+    holder_count slot ≡ 0 → IsHolding slot row holders d l → IsHolding (touched timeout Touch.Evicts now slot) row holders d l
+hold_free timeout now slot row holders d l e h =
+    let z : length holders ≡ 0 = h.count ∙ e in
+    record { item = tt; count = z; single = λ x. omega arith; lone = λ x t i. absurd (in_none t holders z i) }
+
+hold_leave : (slot : Slot) (row : Option Row) (holders : List ℕ) (d : ℕ → Bool) (l : ℕ → Option Row) →
+    holder_count slot ≡ 0 → IsHolding slot row holders d l → IsHolding Slot.Vacant row holders d l
+hold_leave slot row holders d l e h = record { item = tt; count = h.count ∙ e; single = tt; lone = tt }
+
+-- the only holder has committed this row
+hold_update : (k : LockState) (s : ℕ) (row : Option Row) (holders : List ℕ) (d : ℕ → Bool) (l : ℕ → Option Row) → k.shared ≡ false →
+    In s holders → IsHolding (Slot.Lock k) row holders d l → length (remove s holders) ≡ 0
+hold_update k s row holders d l x i h =
+    let c : length holders ≡ k.holders = h.count in
+    let o : k.holders ≤ 1 = h.single x in
+    let m : suc (length (remove s holders)) ≡ length holders = length_remove s holders i in
+    omega arith
+
+-- the whole
+
+irreflexive : (v : Option ℕ) → is_below v v ≡ false
+irreflexive None = refl
+irreflexive (Some n) = le-ltb n n (omega arith)
+
+grown_now : (b : Row) (row : Option Row) (deleted : Bool) → row ≡ Some b → IsGrown b row deleted
+grown_now b row deleted e = record {
+  newer = λ r x. let p : b ≡ r = same_row (sym e ∙ x) in subst (λ z. is_below z.version b.version ≡ false) p (irreflexive b.version);
+  gone = λ x. absurd (none_some (sym x ∙ e));
+}
+  where
+    same_row : {r : Row} → Some b ≡ Some r → b ≡ r
+    same_row h = cc
+
+    none_some : ◌≡◌ {A = Option Row} None (Some b) → ⊥
+    none_some h = cc
+
+grown_same : (b : Row) (row row' : Option Row) (d d' : Bool) → row' ≡ row → (d ≡ true → d' ≡ true) → IsGrown b row d → IsGrown b row' d'
+grown_same b row row' d d' e f g = record { newer = λ r x. g.newer r (sym e ∙ x); gone = λ x. f (g.gone (sym e ∙ x)) }
+
+item_row : (slot : Slot) (row : Option Row) (r : Row) (u : ℕ) → slot ≡ Slot.Item r u → IsRowOf slot row → row ≡ Some r
+item_row slot row r u e h = let g : IsRowOf (Slot.Item r u) row = rw e at h in g
+
+module _ (timeout now : ℕ) (x y : View) (f : Follows now x y) (q : IsQuiet x y) (c : IsCoherent x) where
+  -- what sessions have seen stays safe where the move keeps it so
+  seen_kept : ((s : ℕ) (b : Row) → x.active s ≡ true → x.seen s b → x.time s < now → IsGrown b x.row x.deleted →
+      IsSafe (x.time s) b x.slot x.row → IsSafe (x.time s) b y.slot x.row) →
+      IsHolding y.slot y.row y.holders y.done y.last → IsCoherent y
+  seen_kept m h = record {
+    holding = h;
+    grown = λ s b a k. elim (f.known s b a k) [
+      | inl e ↦ grown_now b y.row y.deleted e
+      | inr p ↦ grown_same b x.row y.row x.deleted y.deleted q.row f.deleted (c.grown s b p.0 p.1)
+    ];
+    safe = λ s b a k. elim (f.known s b a k) [
+      | inl e ↦ inl e
+      | inr p ↦ rw (p.2, q.row) (m s b p.0 p.1 (f.later s b p.0 p.1) (c.grown s b p.0 p.1) (c.safe s b p.0 p.1))
+    ];
+  }
+
+  settled : IsHolding x.slot x.row x.holders y.done y.last
+  settled = hold_settled x.slot x.row x.holders x.done y.done x.last y.last q.done q.last c.holding
+
+  kept_rests : y.slot ≡ x.slot → y.holders ≡ x.holders → IsCoherent y
+  kept_rests e g = seen_kept (λ s b a k l w p. rw e p) (rw (e, q.row, g) settled)
+
+  -- a stored row is the committed one
+  kept_store : (r : Row) → y.slot ≡ Slot.Item r now → x.row ≡ Some r → length y.holders ≡ 0 → IsCoherent y
+  kept_store r e p z = seen_kept
+      (λ s b a k l w i. rw e (safe_store (x.time s) now b r x.row x.deleted p w l))
+      (rw (e, q.row) (hold_store r now x.row y.holders y.done y.last p z))
+
+  kept_puts : (s : ℕ) (r : Row) (room : Option (Option ℕ)) (v : Option ℕ) → y.slot ≡ Slot.Item r now → y.holders ≡ x.holders →
+      x.active s ≡ true → x.seen s r → put x.slot room (x.time s) r.version ≡ Put.Stored v false → IsCoherent y
+  kept_puts s r room v e g a k p = kept_store r e
+      (put_committed x.slot room (x.time s) r x.row v (c.safe s r a k) p)
+      (ap length g ∙ (c.holding.count ∙ put_no_holder x.slot room (x.time s) r.version v p))
+
+  vacant_committed : (t : ℕ) (b : Row) (slot : Slot) (row : Option Row) → slot ≡ Slot.Vacant → IsSafe t b slot row → row ≡ Some b
+  vacant_committed t b slot row e (inl p) = p
+  vacant_committed t b slot row e (inr p) = let g : IsGuarded t Slot.Vacant = rw e at p.0 in absurd g
+
+  kept_inserts : (s : ℕ) (r : Row) → y.slot ≡ Slot.Item r now → y.holders ≡ x.holders → x.active s ≡ true → x.seen s r →
+      x.slot ≡ Slot.Vacant → IsCoherent y
+  kept_inserts s r e g a k p = kept_store r e (vacant_committed (x.time s) r x.slot x.row p (c.safe s r a k))
+      (ap length g ∙ (c.holding.count ∙ ap holder_count p))
+
+  kept_updates : (s : ℕ) (r : Row) (l : LockState) → y.slot ≡ Slot.Item r now → y.holders ≡ remove s x.holders →
+      x.slot ≡ Slot.Lock l → l.shared ≡ false → In s x.holders → x.done s ≡ true → x.last s ≡ Some r → IsCoherent y
+  kept_updates s r l e g p sh i d k =
+      let h : IsHolding (Slot.Lock l) x.row x.holders x.done x.last = rw p at c.holding in
+      kept_store r e ((h.lone sh s i).after d r k)
+      (ap length g ∙ hold_update l s x.row x.holders x.done x.last sh i h)
+
+  -- the version that a new lock names is that of the committed row
+  named_version : (s : ℕ) (v : Option ℕ) → x.active s ≡ true → (v ≡ None) ⊎ ((b : Row) × x.seen s b × (b.version ≡ v)) →
+      x.slot ≡ Slot.Vacant → (w : ℕ) → v ≡ Some w → (r : Row) × (x.row ≡ Some r) × (r.version ≡ Some w)
+  named_version s v a (inl n) p w e = absurd (none_some (sym n ∙ e))
+    where
+      none_some : {A : Type 0} {z : A} → ◌≡◌ {A = Option A} None (Some z) → ⊥
+      none_some h = cc
+  named_version s v a (inr n) p w e =
+      (n.0, vacant_committed (x.time s) n.0 x.slot x.row p (c.safe s n.0 a n.1), n.2 ∙ e)
+
+  -- and so it is not below a version that was seen
+  named_newer : (s : ℕ) (v : Option ℕ) (b : Row) → x.active s ≡ true → (v ≡ None) ⊎ ((d : Row) × x.seen s d × (d.version ≡ v)) →
+      IsGrown b x.row x.deleted → x.slot ≡ Slot.Vacant → is_below v b.version ≡ false
+  named_newer s v b a (inl n) w p = rw n (below_none b.version)
+  named_newer s v b a (inr n) w p =
+      rw (← n.2) (w.newer n.0 (vacant_committed (x.time s) n.0 x.slot x.row p (c.safe s n.0 a n.1)))
+
+  kept_locks : (s : ℕ) (v : Option ℕ) → y.slot ≡ touched timeout (Touch.Locks v) now x.slot → y.holders ≡ s ∷ x.holders →
+      x.active s ≡ true → y.done s ≡ false → (v ≡ None) ⊎ ((b : Row) × x.seen s b × (b.version ≡ v)) → IsCoherent y
+  kept_locks s v e g a d n = seen_kept
+      (λ t b a' k l w i. rw e (safe_lock timeout (x.time t) now b v x.slot x.row x.deleted (λ r u p. item_row x.slot x.row r u p c.holding.item) (named_newer s v b a n w) w))
+      (rw (e, q.row, g) (hold_lock timeout now s v x.slot x.row x.holders y.done y.last d (named_version s v a n) settled))
+
+  kept_releases : (s n : ℕ) → y.slot ≡ touched timeout (Touch.Releases n) now x.slot → y.holders ≡ remove s x.holders →
+      holder_count x.slot ≡ suc n → In s x.holders → IsCoherent y
+  kept_releases s n e g p i = seen_kept
+      (λ t b a k l w j. rw e (safe_release timeout (x.time t) now n b x.slot x.row l j))
+      (rw (e, q.row, g) (hold_release timeout now s n x.slot x.row x.holders y.done y.last p i settled))
+
+  kept_evicts : y.slot ≡ touched timeout Touch.Evicts now x.slot → y.holders ≡ x.holders → holder_count x.slot ≡ 0 → IsCoherent y
+  kept_evicts e g p = seen_kept
+      (λ t b a k l w j. rw e (safe_evict timeout (x.time t) now b x.slot x.row l j))
+      (rw (e, q.row, g) (hold_free timeout now x.slot x.row x.holders y.done y.last p settled))
+
+  kept_leaves : (floor : ℕ) → y.slot ≡ Slot.Vacant → y.holders ≡ x.holders → may_leave floor x.slot ≡ true →
+      ((s : ℕ) → x.active s ≡ true → floor ≤ x.time s) → IsCoherent y
+  kept_leaves floor e g p u = seen_kept
+      (λ t b a k l w j. rw e (safe_leave (x.time t) floor b x.slot x.row (u t a) p j))
+      (rw (e, q.row, g) (hold_leave x.slot x.row x.holders y.done y.last (leave_no_holder floor x.slot p) settled))
+
+  pub kept : Move timeout now x y → IsCoherent y
+  kept (Move.Rests e g) = kept_rests e g
+  kept (Move.Puts s r room v e g a k p) = kept_puts s r room v e g a k p
+  kept (Move.Inserts s r e g a k p) = kept_inserts s r e g a k p
+  kept (Move.Updates s r l e g p sh i d k) = kept_updates s r l e g p sh i d k
+  kept (Move.Locks s v e g a d n) = kept_locks s v e g a d n
+  kept (Move.Releases s n e g p i) = kept_releases s n e g p i
+  kept (Move.Evicts e g p) = kept_evicts e g p
+  kept (Move.Leaves floor e g p u) = kept_leaves floor e g p u
+
+-- a commit
+
+some_none : {A : Type 0} {z : A} {o : Option A} → o ≡ Some z → o ≡ None → ⊥
+some_none e f = none_is_some (sym f ∙ e)
+  where
+    none_is_some : {A : Type 0} {z : A} → ◌≡◌ {A = Option A} None (Some z) → ⊥
+    none_is_some h = cc
+
+held_lock : (s : ℕ) (slot : Slot) (row : Option Row) (holders : List ℕ) (d : ℕ → Bool) (l : ℕ → Option Row) → In s holders →
+    IsHolding slot row holders d l → 0 < holder_count slot
+held_lock s slot row holders d l i h =
+    let c : length holders ≡ holder_count slot = h.count in
+    let m : suc (length (remove s holders)) ≡ length holders = length_remove s holders i in
+    omega arith
+
+item_after : (s : ℕ) (x y : View) (slot : Slot) (d : ℕ → Bool) (l : ℕ → Option Row) → Commits s x y → IsHolding slot x.row x.holders d l → IsRowOf slot y.row
+item_after s x y Slot.Vacant d l k h = tt
+item_after s x y (Slot.Lock z) d l k h = tt
+item_after s x y (Slot.Item r t) d l (Commits.Passes e n) h = e ∙ h.item
+item_after s x y (Slot.Item r t) d l (Commits.Adds e n p) h = absurd (some_none h.item e)
+item_after s x y (Slot.Item r t) d l (Commits.Changes b e i p g z) h =
+    absurd (omega (arith, held_lock s (Slot.Item r t) x.row x.holders d l i h))
+
+alone_other : (v : Option ℕ) (row row' : Option Row) (d d' : Bool) (l l' : Option Row) → d' ≡ d → (d ≡ true → l' ≡ l) →
+    ((r : Row) → row ≡ Some r → row' ≡ Some r) → IsAlone v row d l → IsAlone v row' d' l'
+alone_other v row row' d d' l l' e f g h = record {
+  before = λ x w p. let k : (r : Row) × (row ≡ Some r) × (r.version ≡ Some w) = h.before (sym e ∙ x) w p in (k.0, g k.0 k.1, k.2);
+  after = λ x r y. g r (h.after (sym e ∙ x) r (sym (f (sym e ∙ x)) ∙ y));
+}
+
+alone_done : (v : Option ℕ) (row : Option Row) (d : Bool) (l : Option Row) → d ≡ true → ((r : Row) → l ≡ Some r → row ≡ Some r) → IsAlone v row d l
+alone_done v row d l e f = record { before = λ x. absurd (true≢false (sym e ∙ x)); after = λ x. f }
+
+module _ (now s : ℕ) (x y : View) (f : Follows now x y) (k : IsCommit s x y) (c : IsCoherent x) where
+  alone_after : (v : Option ℕ) (t : ℕ) → In t x.holders → (In s x.holders → t ≡ s) → Commits s x y → IsAlone v x.row (x.done t) (x.last t) →
+      (t ≡ s) ⊎ (t ≡ s → ⊥) → IsAlone v y.row (y.done t) (y.last t)
+  alone_after v t i one (Commits.Passes e n) h (inl p) =
+      alone_done v y.row (y.done t) (y.last t) (ap y.done p ∙ k.now) (λ r z. absurd (some_none z (ap y.last p ∙ n)))
+  alone_after v t i one (Commits.Passes e n) h (inr p) =
+      alone_other v x.row y.row (x.done t) (y.done t) (x.last t) (y.last t) (k.done t p) (k.last t i p) (λ r z. e ∙ z) h
+  alone_after v t i one (Commits.Adds e n g) h (inl p) =
+      alone_done v y.row (y.done t) (y.last t) (ap y.done p ∙ k.now) (λ r z. g ∙ (ap y.last (sym p) ∙ z))
+  alone_after v t i one (Commits.Adds e n g) h (inr p) =
+      alone_other v x.row y.row (x.done t) (y.done t) (x.last t) (y.last t) (k.done t p) (k.last t i p) (λ r z. absurd (some_none z e)) h
+  alone_after v t i one (Commits.Changes b e j g u z) h (inl p) =
+      alone_done v y.row (y.done t) (y.last t) (ap y.done p ∙ k.now) (λ r w. g ∙ (ap y.last (sym p) ∙ w))
+  alone_after v t i one (Commits.Changes b e j g u z) h (inr p) = absurd (p (one j))
+
+  lone_after : (slot : Slot) → IsHolding slot x.row x.holders x.done x.last → IsLone slot y.row x.holders y.done y.last
+  lone_after Slot.Vacant h = tt
+  lone_after (Slot.Item r t) h = tt
+  lone_after (Slot.Lock l) h = λ sh t i.
+      alone_after l.version t i
+      (λ j. let o : l.holders ≤ 1 = h.single sh in let m : length x.holders ≡ l.holders = h.count in
+      in_one t s x.holders (omega arith) i j)
+      k.row (h.lone sh t i) (cases_eq t s)
+
+  holding_after : IsHolding y.slot y.row y.holders y.done y.last
+  holding_after = rw (k.slot, k.holders) (record {
+    item = item_after s x y x.slot x.done x.last k.row c.holding;
+    count = c.holding.count;
+    single = c.holding.single;
+    lone = lone_after x.slot c.holding;
+  })
+
+  grown_after : (b : Row) → Commits s x y → IsGrown b x.row x.deleted → IsGrown b y.row y.deleted
+  grown_after b (Commits.Passes e n) g = grown_same b x.row y.row x.deleted y.deleted e f.deleted g
+  grown_after b (Commits.Adds e n p) g = absurd (true≢false (sym (g.gone e) ∙ n))
+  grown_after b (Commits.Changes r e i p u z) g = record { newer = λ d q. u d q b.version (g.newer r e); gone = z }
+
+  not_below_held : (b : Row) (v : Option ℕ) → ((w : ℕ) → v ≡ Some w → (r : Row) × (x.row ≡ Some r) × (r.version ≡ Some w)) → x.row ≡ Some b →
+      is_below v b.version ≡ false
+  not_below_held b None h e = below_none b.version
+  not_below_held b (Some w) h e =
+      let p : (r : Row) × (x.row ≡ Some r) × (r.version ≡ Some w) = h w refl in
+      let same : b ≡ p.0 = same_row (sym e ∙ p.1) in
+      rw (same, p.2) (irreflexive (Some w))
+    where
+      same_row : {a r : Row} → Some a ≡ Some r → a ≡ r
+      same_row h = cc
+
+  -- a row that was committed until now: the slot is a held lock that refuses it
+  safe_held : (t : ℕ) (b : Row) (slot : Slot) → In s x.holders → IsHolding slot x.row x.holders x.done x.last → x.row ≡ Some b →
+      IsGuarded t slot × IsNotBelow b.version slot
+  safe_held t b Slot.Vacant i h e = absurd (omega (arith, held_lock s Slot.Vacant x.row x.holders x.done x.last i h))
+  safe_held t b (Slot.Item r u) i h e = absurd (omega (arith, held_lock s (Slot.Item r u) x.row x.holders x.done x.last i h))
+  safe_held t b (Slot.Lock l) i h e = (
+    inl (held_lock s (Slot.Lock l) x.row x.holders x.done x.last i h),
+    λ sh. not_below_held b l.version ((h.lone sh s i).before k.not_yet) e,
+  )
+
+  safe_after : (t : ℕ) (b : Row) → Commits s x y → IsGrown b x.row x.deleted → IsSafe t b x.slot x.row → IsSafe t b x.slot y.row
+  safe_after t b (Commits.Passes e n) g (inl p) = inl (e ∙ p)
+  safe_after t b (Commits.Passes e n) g (inr p) = inr p
+  safe_after t b (Commits.Adds e n p) g h = absurd (true≢false (sym (g.gone e) ∙ n))
+  safe_after t b (Commits.Changes r e i p u z) g (inl q) = inr (safe_held t b x.slot i c.holding q)
+  safe_after t b (Commits.Changes r e i p u z) g (inr q) = inr q
+
+  pub kept_commit : IsCoherent y
+  kept_commit = record {
+    holding = holding_after;
+    grown = λ t b a j. elim (f.known t b a j) [
+      | inl e ↦ grown_now b y.row y.deleted e
+      | inr p ↦ grown_after b k.row (c.grown t b p.0 p.1)
+    ];
+    safe = λ t b a j. elim (f.known t b a j) [
+      | inl e ↦ inl e
+      | inr p ↦ rw (p.2, k.slot) (safe_after (x.time t) b k.row (c.grown t b p.0 p.1) (c.safe t b p.0 p.1))
+    ];
+  }

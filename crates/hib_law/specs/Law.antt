@@ -1,0 +1,35 @@
+-- The law: all that is claimed of a legal journal over told rows.
+use Rattle.std.specs.Prelude.{◌≡◌, ℕ, Some, None, Option}
+use Rattle.hib_journal.specs.Types.{Key, Strategy, Script}
+use Rattle.hib_base.specs.Tables.{Tables}
+use Rattle.hib_journal.specs.Sessions.{Journal, own}
+use Rattle.hib_journal.specs.Plan.{InOrder}
+use Rattle.hib_journal.specs.Next.{strategy, plan_of}
+use Rattle.hib_law.specs.Prefixes.{AtEachPrefix, AtEachEntry}
+use Rattle.hib_law.specs.Rows.{IsKeyCoherent, IsFindAnswered}
+use Rattle.hib_law.specs.Items.{IsItemOld, IsItemGiven}
+use Rattle.hib_law.specs.Hits.{AreHitsTrue}
+use Rattle.hib_law.specs.Misses.{HasCause}
+use Rattle.hib_law.specs.Locks.{AreLocksKept}
+
+pub record Coheres (script : Script) (start : Tables) (h : Journal) : Type 0 where
+  -- a sound read-write key: its item is the committed row, and so is a hit of it
+  pub rows : (k : Key) → strategy script k.entity ≡ Strategy.ReadWrite → IsKeyCoherent script start k h
+  -- finds of any key answer what the session has written or holds, else what is or was committed
+  pub finds : AtEachEntry (IsFindAnswered start) h
+  -- a list from the cache is what the query gave at a moment since which only unstamped commits have touched its tables
+  pub hits : AreHitsTrue script start h
+  -- each refusal has its cause
+  pub misses : AtEachEntry (HasCause script) h
+  -- each item was committed since the restart, and one of a read-only region was given to its key
+  pub items : (k : Key) → AtEachPrefix (IsItemOld script start k) h
+  pub given : (k : Key) → strategy script k.entity ≡ Strategy.ReadOnly → AtEachPrefix (IsItemGiven start k) h
+  -- the lock of a sound read-write key is held by those who took it, and is given back
+  pub locks : (k : Key) → strategy script k.entity ≡ Strategy.ReadWrite → AreLocksKept script k h
+  -- each session's entries are the acts of its plan, each once and in order
+  pub steps : (s : ℕ) → InOrder (plan_of script s) (own s h)
+
+-- what is claimed whether the rows at the start are told or not: without them, the order of the acts alone
+abbrev pub Obeys : Script → Option Tables → Journal → Type 0
+Obeys script (Some start) h = Coheres script start h
+Obeys script None h = (s : ℕ) → InOrder (plan_of script s) (own s h)
