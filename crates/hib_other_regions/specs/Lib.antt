@@ -1,0 +1,4 @@
+pub mod Items
+pub mod Shown
+pub mod Stands
+pub mod Laws

@@ -1,0 +1,263 @@
+// The read-write region.
+ghost use Rattle.std.specs.Prelude.{◌≡◌, ◌+◌, ◌≤◌, ◌<◌, ◌^◌, ℕ, None, Some, true, false, IsOk, IfOk, OnOk, OnErr, nat_eq};
+ghost use Rattle.std.specs.Map.{lookup};
+ghost use Rattle.hib_journal.specs.Regions as Regions;
+ghost use Rattle.hib_journal.specs.Room.{has_entry};
+ghost use Rattle.hib_journal.specs.Slot.{is_victim};
+ghost use Rattle.hib_soft_lock.specs.Steps.{holders_in};
+ghost use Rattle.hib_rw_region.specs.Region.{kept_in, slot_in, room_in, got_reply};
+ghost use Rattle.hib_rw_region.specs.Steps.{empty, with_slot, without, new_item, barred, after_put, after_insert as inserted, after_lock, after_unlock, after_after_update, after_evict, after_clear};
+
+use crate::slots;
+use hib_base::{Evicted, Got, Inserted, Locked, Miss, Put, Row, Tick, Unlocked, Updated};
+use hib_soft_lock::{Slot, Verdict};
+use indexmap::IndexMap;
+use std::alloc::{AllocError, Global};
+use std::marker::Model;
+
+/// The region of a read-write entity. Contracts see the capacity, the timeout, and the slots in order of insertion.
+/// Each `now` is greater than every tick that the region was given before; the calls ask only what they need of it.
+#[derive(Drop)]
+pub struct RwRegion {
+    slots: IndexMap<u64, Slot>,
+    capacity: u32,
+    timeout: u32,
+}
+
+impl Model for RwRegion {
+    ghost use Rattle.hib_rw_region.specs.Region.{RegionState};
+
+    ghost Value = { RegionState };
+
+    ghost view = { λ r. record { capacity = r.capacity; timeout = r.timeout; slots = r.slots.entries } };
+}
+
+impl RwRegion {
+    /// An empty region for `capacity` keys, from 1 to 100000, whose locks are good for `timeout` ticks. It takes no
+    /// memory.
+    pub fn open(alloc: Global, capacity: u32, timeout: u32) -> RwRegion
+        ensures { result ≡ empty capacity timeout }
+    {
+        RwRegion {
+            slots: IndexMap::new(alloc),
+            capacity,
+            timeout,
+        }
+    }
+
+    /// The row of an identifier, for a reader that began at `time`, or why there is none.
+    pub fn get(&self, id: u64, time: Tick) -> Got<'_>
+        ensures { got_reply result ≡ Regions.got (slot_in self.now id) time }
+    {
+        match self.slots.get(&id) {
+            None => Got::Miss(Miss::Absent),
+            Some(Slot::Item { row, stamp }) if *stamp < time => Got::Hit(row),
+            Some(slot) => Got::Miss(slot.miss()),
+        }
+    }
+
+    // The room for a new key: none, or with the key that leaves for it, if one has to.
+    fn room(&self, floor: Tick) -> Option<Option<u64>>
+        ensures room { result ≡ room_in self.now floor }
+        ensures apart { (id : ℕ) → kept_in self.now id ≡ None → is_victim id (Regions.evicted_by result) ≡ false }
+    {
+        if self.slots.len() < self.capacity as usize {
+            return Some(None);
+        }
+        let victim = slots::victim(&self.slots, floor)?;
+        Some(Some(victim))
+    }
+
+    // Places a slot on a new key, and then lets another leave.
+    fn place(&mut self, id: u64, slot: Slot, evicted: Option<u64>) -> Result<(), AllocError>
+        requires { is_victim id evicted ≡ false }
+        ensures ok { OnOk result (self.new ≡ with_slot id slot (without evicted self.old)) }
+        ensures err { OnErr result (self.new ≡ self.old) }
+    {
+        slots::set(&mut self.slots, id, slot)?;
+        if let Some(key) = evicted {
+            slots::remove(&mut self.slots, key);
+        }
+        Ok(())
+    }
+
+    // Places an item on a new key, if there is room. Answers the room.
+    fn place_item(
+        &mut self,
+        id: u64,
+        row: Row,
+        floor: Tick,
+        now: Tick,
+    ) -> Result<Option<Option<u64>>, AllocError>
+        requires { kept_in self.old id ≡ None }
+        ensures room { IfOk result (λ room. room ≡ room_in self.old floor) }
+        ensures state { OnOk result (self.new ≡ new_item id row now (room_in self.old floor) self.old) }
+        ensures err { OnErr result (self.new ≡ self.old) }
+    {
+        let room = self.room(floor);
+        if let Some(evicted) = room {
+            self.place(id, Slot::Item { row, stamp: now }, evicted)?;
+        }
+        Ok(room)
+    }
+
+    /// Puts a row that a reader which began at `time` has loaded; `floor` is the least time of the open sessions.
+    /// On a key that has a slot, that decides; a new key needs room. At an error nothing has changed.
+    pub fn put(
+        &mut self,
+        id: u64,
+        row: Row,
+        time: Tick,
+        floor: Tick,
+        now: Tick,
+    ) -> Result<Put, AllocError>
+        ensures answer { IfOk result (λ put. put ≡ Regions.put (slot_in self.old id) (room_in self.old floor) time row.version) }
+        ensures state { OnOk result (self.new ≡ after_put id row time floor now self.old) }
+        ensures err { OnErr result (self.new ≡ self.old) }
+    {
+        let Some(slot) = self.slots.get(&id) else {
+            return match self.place_item(id, row, floor, now)? {
+                None => Ok(Put::Crowded),
+                Some(evicted) => Ok(Put::Stored {
+                    evicted,
+                    late: false,
+                }),
+            };
+        };
+        match slot.writable(time, row.version) {
+            Verdict::Yes { late } => {
+                slots::set(&mut self.slots, id, Slot::Item { row, stamp: now })?;
+                Ok(Put::Stored {
+                    evicted: None,
+                    late,
+                })
+            }
+            Verdict::Present { version } => Ok(Put::Present { version }),
+            Verdict::Held { holders } => Ok(Put::Held { holders }),
+            Verdict::Early { unlock } => Ok(Put::Early { unlock }),
+            Verdict::Old { version } => Ok(Put::Old { version }),
+        }
+    }
+
+    /// Takes the lock of a key, for a session whose base has this version. A new key gets a lock whether or not
+    /// another may leave for it. At an error nothing has changed.
+    pub fn lock(
+        &mut self,
+        id: u64,
+        version: Option<u32>,
+        floor: Tick,
+        now: Tick,
+    ) -> Result<Locked, AllocError>
+        requires late { now ≤ 2 ^ 62 }
+        requires few { holders_in (slot_in self.old id) < now }
+        ensures answer { IfOk result (λ locked. locked ≡ Regions.lock self.old.timeout (slot_in self.old id) (room_in self.old floor) now) }
+        ensures state { OnOk result (self.new ≡ after_lock id version floor now self.old) }
+        ensures err { OnErr result (self.new ≡ self.old) }
+    {
+        let until = Tick(now.0 + self.timeout as u64);
+        if let Some(lock) = slots::lock(&mut self.slots, id, now, self.timeout) {
+            return Ok(Locked {
+                id: lock,
+                until,
+                evicted: None,
+            });
+        }
+        let evicted = self.room(floor).unwrap_or(None);
+        self.place(id, Slot::taken(version, now, self.timeout), evicted)?;
+        Ok(Locked {
+            id: now,
+            until,
+            evicted,
+        })
+    }
+
+    // A lock was to be given back that isn't there: for as long as it was good, nothing is put.
+    fn expire(&mut self, id: u64, now: Tick) -> Result<(), AllocError>
+        requires { now ≤ 2 ^ 62 }
+        ensures ok { OnOk result (self.new ≡ with_slot id (barred now (now + self.old.timeout)) self.old) }
+        ensures err { OnErr result (self.new ≡ self.old) }
+        ensures there { has_entry (slot_in self.old id) ≡ true → IsOk result }
+    {
+        let until = Tick(now.0 + self.timeout as u64);
+        slots::set(&mut self.slots, id, slots::bar(now, until))
+    }
+
+    /// Gives a lock back. Where the key has no lock of this number that is held, it gets one without holder that is
+    /// good for the timeout. At an error nothing has changed; there is none where the key has a slot.
+    pub fn unlock(&mut self, id: u64, lock: Tick, now: Tick) -> Result<Unlocked, AllocError>
+        requires { now ≤ 2 ^ 62 }
+        ensures answer { IfOk result (λ unlocked. unlocked ≡ Regions.unlock (slot_in self.old id) lock) }
+        ensures state { OnOk result (self.new ≡ after_unlock id lock now self.old) }
+        ensures err { OnErr result (self.new ≡ self.old) }
+        ensures there { has_entry (slot_in self.old id) ≡ true → IsOk result }
+    {
+        let answer = slots::unlocked(&self.slots, id, lock);
+        match answer {
+            Unlocked::Released { .. } => slots::release(&mut self.slots, id, now),
+            Unlocked::Expired => self.expire(id, now)?,
+        }
+        Ok(answer)
+    }
+
+    /// Stores a row whose update was committed under a lock, unless others have locked the key too, and gives the
+    /// lock back. Where the key has no lock of this number that is held, as `unlock`.
+    pub fn after_update(
+        &mut self,
+        id: u64,
+        lock: Tick,
+        row: Row,
+        now: Tick,
+    ) -> Result<Updated, AllocError>
+        requires { now ≤ 2 ^ 62 }
+        ensures answer { IfOk result (λ updated. updated ≡ Regions.after_update (slot_in self.old id) lock) }
+        ensures state { OnOk result (self.new ≡ after_after_update id lock row now self.old) }
+        ensures err { OnErr result (self.new ≡ self.old) }
+        ensures there { has_entry (slot_in self.old id) ≡ true → IsOk result }
+    {
+        let answer = slots::updated(&self.slots, id, lock);
+        match answer {
+            Updated::Stored => slots::set(&mut self.slots, id, Slot::Item { row, stamp: now })?,
+            Updated::Shared { .. } => slots::release(&mut self.slots, id, now),
+            Updated::Expired => self.expire(id, now)?,
+        }
+        Ok(answer)
+    }
+
+    /// Stores a row whose insert was committed, on a key without slot, if there is room. At an error nothing has
+    /// changed.
+    pub fn after_insert(
+        &mut self,
+        id: u64,
+        row: Row,
+        floor: Tick,
+        now: Tick,
+    ) -> Result<Inserted, AllocError>
+        ensures answer { IfOk result (λ put. put ≡ Regions.after_insert (slot_in self.old id) (room_in self.old floor)) }
+        ensures state { OnOk result (self.new ≡ inserted id row floor now self.old) }
+        ensures err { OnErr result (self.new ≡ self.old) }
+    {
+        if self.slots.get(&id).is_some() {
+            return Ok(Inserted::Present);
+        }
+        match self.place_item(id, row, floor, now)? {
+            None => Ok(Inserted::Crowded),
+            Some(evicted) => Ok(Inserted::Stored { evicted }),
+        }
+    }
+
+    /// Evicts a key, unless it is held: a lock without holder stays, which bars what was loaded before. It takes no
+    /// memory.
+    pub fn evict(&mut self, id: u64, now: Tick) -> Evicted
+        ensures answer { result ≡ Regions.evict (slot_in self.old id) }
+        ensures state { self.new ≡ after_evict id now self.old }
+    {
+        slots::evict(&mut self.slots, id, now)
+    }
+
+    /// Drops all slots. It takes no memory.
+    pub fn clear(&mut self)
+        ensures { self.new ≡ after_clear self.old }
+    {
+        slots::clear(&mut self.slots);
+    }
+}

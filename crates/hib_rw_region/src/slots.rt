@@ -1,0 +1,166 @@
+// Slots by identifier, in order of insertion.
+ghost use Rattle.std.specs.Prelude.{◌≡◌, ◌≤◌, ◌<◌, ◌^◌, ◌↔◌, ℕ, None, Some, true, false, [], IsOk, OnOk, OnErr, nat_eq, is_some};
+ghost use Rattle.std.specs.Map.{lookup, remove_entry};
+ghost use Rattle.indexmap.specs.IndexMap.{insert_entry};
+ghost use Rattle.hib_journal.specs.Room.{may_leave as may_go};
+ghost use Rattle.hib_journal.specs.Regions as Regions;
+ghost use Rattle.hib_soft_lock.specs.Shown.{shown};
+ghost use Rattle.hib_soft_lock.specs.Steps.{locked, released, holders_in, is_held};
+ghost use Rattle.hib_rw_region.specs.Region.{shown_in, victim_in};
+ghost use Rattle.hib_rw_region.specs.Steps.{changed, barred, evict_leaves};
+
+use hib_base::{Evicted, Tick, Unlocked, Updated};
+use hib_soft_lock::Slot;
+use indexmap::IndexMap;
+use std::alloc::AllocError;
+
+/// A lock that nobody holds and whose time is over at `until`.
+pub fn bar(now: Tick, until: Tick) -> Slot
+    ensures { result ≡ barred now until }
+{
+    Slot::Lock {
+        id: now,
+        version: None,
+        timeout: until,
+        holders: 0,
+        shared: false,
+        unlock: until,
+    }
+}
+
+fn may_leave(slot: &Slot, floor: Tick) -> bool
+    ensures { result ≡ may_go floor (shown slot.now) }
+{
+    match slot {
+        Slot::Item { stamp, .. } => *stamp < floor,
+        Slot::Lock {
+            holders, unlock, ..
+        } => *holders == 0 && *unlock < floor,
+    }
+}
+
+/// The first key in order that may leave, where the oldest open session began at `floor`.
+pub fn victim(slots: &IndexMap<u64, Slot>, floor: Tick) -> Option<u64>
+    ensures { result ≡ victim_in floor slots.now.entries }
+{
+    for (id, slot) in slots.iter() {
+        if may_leave(slot, floor) {
+            return Some(*id);
+        }
+    }
+    None
+}
+
+/// Gives a key this slot: one that has a slot keeps its place, a new one comes last. Only a new key needs memory.
+pub fn set(slots: &mut IndexMap<u64, Slot>, id: u64, slot: Slot) -> Result<(), AllocError>
+    ensures ok { OnOk result (slots.new.entries ≡ insert_entry nat_eq slots.old.entries id slot) }
+    ensures err { OnErr result (slots.new.entries ≡ slots.old.entries) }
+    ensures there { is_some (lookup (nat_eq id) slots.old.entries) ≡ true → IsOk result }
+{
+    slots.insert(id, slot)?;
+    Ok(())
+}
+
+// Gives a key that has a slot another one. It takes no memory.
+fn replace(slots: &mut IndexMap<u64, Slot>, id: u64, slot: Slot)
+    requires { is_some (lookup (nat_eq id) slots.old.entries) ≡ true }
+    ensures { slots.new.entries ≡ insert_entry nat_eq slots.old.entries id slot }
+{
+    let Some(index) = slots.get_index_of(&id) else {
+        return;
+    };
+    slots[index] = slot;
+}
+
+/// Removes a key; the others keep their order.
+pub fn remove(slots: &mut IndexMap<u64, Slot>, id: u64)
+    ensures { slots.new.entries ≡ remove_entry (nat_eq id) slots.old.entries }
+{
+    slots.shift_remove(&id);
+}
+
+pub fn clear(slots: &mut IndexMap<u64, Slot>)
+    ensures { slots.new.entries ≡ [] }
+{
+    slots.clear();
+}
+
+/// Takes the lock of a key that has a slot, and answers its number; or none, where the key has no slot.
+pub fn lock(slots: &mut IndexMap<u64, Slot>, id: u64, now: Tick, timeout: u32) -> Option<Tick>
+    requires late { now ≤ 2 ^ 62 }
+    requires few { holders_in (shown_in (lookup (nat_eq id) slots.old.entries)) < now }
+    ensures there { is_some result ≡ is_some (lookup (nat_eq id) slots.old.entries) }
+    ensures id { (n : ℕ) → result ≡ Some n → n ≡ (Regions.lock timeout (shown_in (lookup (nat_eq id) slots.old.entries)) None now).id }
+    ensures slots { slots.new.entries ≡ changed id (locked timeout now) slots.old.entries }
+{
+    let index = slots.get_index_of(&id)?;
+    let slot = &mut slots[index];
+    Some(slot.lock(now, timeout))
+}
+
+/// One holder of a held lock lets go.
+pub fn release(slots: &mut IndexMap<u64, Slot>, id: u64, now: Tick)
+    requires { is_held (shown_in (lookup (nat_eq id) slots.old.entries)) ≡ true }
+    ensures { slots.new.entries ≡ changed id (released now) slots.old.entries }
+{
+    let Some(index) = slots.get_index_of(&id) else {
+        return;
+    };
+    let slot = &mut slots[index];
+    slot.release(now);
+}
+
+/// What a holder that gives its lock back is answered.
+pub fn unlocked(slots: &IndexMap<u64, Slot>, id: u64, lock: Tick) -> Unlocked
+    ensures { result ≡ Regions.unlock (shown_in (lookup (nat_eq id) slots.now.entries)) lock }
+{
+    match slots.get(&id) {
+        Some(
+            Slot::Lock {
+                id: own, holders, ..
+            },
+        ) if *own == lock && *holders > 0 => Unlocked::Released {
+            holders: *holders - 1,
+        },
+        _ => Unlocked::Expired,
+    }
+}
+
+/// What a holder that has committed an update is answered.
+pub fn updated(slots: &IndexMap<u64, Slot>, id: u64, lock: Tick) -> Updated
+    ensures { result ≡ Regions.after_update (shown_in (lookup (nat_eq id) slots.now.entries)) lock }
+{
+    match slots.get(&id) {
+        Some(
+            Slot::Lock {
+                id: own,
+                holders,
+                shared,
+                ..
+            },
+        ) if *own == lock && *holders > 0 => {
+            if *shared {
+                Updated::Shared {
+                    holders: *holders - 1,
+                }
+            } else {
+                Updated::Stored
+            }
+        }
+        _ => Updated::Expired,
+    }
+}
+
+/// Evicts a key that isn't held: a lock without holder stays in its place.
+pub fn evict(slots: &mut IndexMap<u64, Slot>, id: u64, now: Tick) -> Evicted
+    ensures answer { result ≡ Regions.evict (shown_in (lookup (nat_eq id) slots.old.entries)) }
+    ensures slots { slots.new.entries ≡ evict_leaves id now result slots.old.entries }
+{
+    match slots.get(&id) {
+        None => return Evicted::Absent,
+        Some(Slot::Lock { holders, .. }) if *holders > 0 => return Evicted::Held,
+        Some(_) => {}
+    }
+    replace(slots, id, bar(now, now));
+    Evicted::Gone
+}
