@@ -9,6 +9,7 @@ use Rattle.hib_journal.specs.Kept.{Kept, past}
 use Rattle.hib_journal.specs.Sessions.{Journal, own}
 use Rattle.hib_journal.specs.Next.{next}
 use Rattle.hib_journal.specs.Legal.{IsLegal}
+use Rattle.hib_law.specs.Law.{Obeys}
 use Rattle.hib_report.specs.Report.{report}
 use Rattle.hib_script.specs.Script.{Reading, script_of}
 use Rattle.hib_top.specs.declared.status.Status.{Status}
@@ -31,10 +32,11 @@ IsWritten Status.Done text old new = Appends old new text
 IsWritten Status.WriteFault text old new = TakesFront old new text
 IsWritten _ text old new = new ≡ old
 
--- the journal is legal for the script from the rows at the start, with its ticks in turn; the keeper has the rows that its
--- commits gave; and its report was written
+-- the journal is legal for the script from the rows at the start, with its ticks in turn, and so obeys the law; the keeper has
+-- the rows that its commits gave; and its report was written
 pub record IsRunOf (answer : Status) (script : Script) (start rows : Option Tables) (journal : Kept) (taken written : Option (List ℕ)) : Type 0 where
   pub legal : IsLegal script start (past journal)
+  pub law : Obeys script start (past journal)
   pub numbered : IsNumbered (past journal)
   pub committed : rows ≡ told_committed start (past journal)
   pub ended : EndsWell answer script (past journal)

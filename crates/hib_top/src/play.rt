@@ -2,6 +2,7 @@
 ghost use Rattle.std.specs.Prelude.{◌≡◌, ◌≢◌, ◌<◌, ◌≤◌, ◌↔◌, ◌^◌, [], length, true, IsTrue, IfSome, OnOk};
 ghost use Rattle.hib_journal.specs.Kept.{past};
 ghost use Rattle.hib_journal.specs.Legal.{IsLegal};
+ghost use Rattle.hib_law.specs.Law.{Obeys};
 ghost use Rattle.hib_outside.specs.Causes.{Rose};
 ghost use Rattle.hib_script.specs.Built.{is_built};
 ghost use Rattle.hib_script.specs.Script.{script_of};
@@ -16,6 +17,7 @@ use crate::status::Status;
 use crate::streams::{LIMIT, ReadStop, read_all, write_all};
 use hib_base::{Script, SessionNo};
 use hib_journal::Journal;
+use hib_law::law;
 use hib_outside::{Keeper, Listener, Sink, Source};
 use hib_script::ScriptError;
 use hib_store::Store;
@@ -58,12 +60,14 @@ fn run<K: Keeper>(
     requires unwritten { store.old.written ≡ [] }
     requires built { is_built script.now ≡ true }
     ensures legal { IsLegal script.now store.old.tables (past journal.new) }
+    ensures law { Obeys script.now store.old.tables (past journal.new) }
     ensures rows { store.new.tables ≡ told_committed store.old.tables (past journal.new) }
     ensures numbered { IsNumbered (past journal.new) }
     ensures ended { OnOk result (AreEnded script.now (past journal.new)) }
     ensures faults { RoseBy store.old.faults (fault_count (past journal.new)) store.new.faults }
     ensures asked { OnOk result (RoseWithin store.old.asked (ask_count (past journal.new)) store.new.asked) }
 {
+    law();
     if script.sessions.is_empty() {
         return Ok(());
     }
@@ -172,7 +176,8 @@ fn play<S: Source, W: Sink, K: Keeper>(
 /// the source, runs it over the keeper and writes the report of its journal to the sink.
 ///
 /// Whatever the status, the journal handed back is legal for the script that the text is, from the keeper's tables as
-/// they were handed in, its k-th entry has tick k, and the keeper's tables are those that its commits gave.
+/// they were handed in, and obeys the law; its k-th entry has tick k, and the keeper's tables are those that its commits
+/// gave.
 #[tactic(auto, using(crate::proofs::Complete::completes, crate::proofs::Taken::reads_none))]
 pub fn play_words<S: Source, W: Sink, K: Keeper, L: Listener>(
     alloc: Global,
