@@ -1,6 +1,6 @@
 -- What a query gives depends on its tables alone.
-use Rattle.std.proofs.Common.{◌≡◌, ℕ, zero, suc, ◌+◌, ◌<◌, ◌≤◌, inl, inr, Bool, true, false, cond, not, ◌&&◌, ◌==◌, List, [], ◌∷◌, length, slice_get, Some, None, Option, refl, ap, sym, ◌∙◌, subst, arith, eq-eqb}
-use Rattle.std.proofs.lemmas.Bool.{true≢false, false≢true, or_parts, or_left, or_right, eqb-true, and_parts}
+use Rattle.std.proofs.Common.{◌≡◌, ℕ, zero, suc, ◌+◌, ◌<◌, ◌≤◌, inl, inr, Bool, true, false, cond, not, ◌&&◌, ◌||◌, ◌==◌, nat_lt, List, [], ◌∷◌, length, slice_get, Some, None, Option, refl, ap, sym, ◌∙◌, subst, arith, eq-eqb}
+use Rattle.std.proofs.lemmas.Bool.{true≢false, false≢true, or_parts, or_left, or_right, eqb-true, ltb-true, and_parts}
 use Rattle.std.specs.Prelude.{pos, negsuc}
 use Rattle.std.specs.List.{list_any, filter, range_with_len}
 use Rattle.hib_journal.specs.Types.{Key, Row, Cell, Change, Target, Cond, Query, Script}
@@ -9,6 +9,7 @@ use Rattle.hib_base.specs.Tables.{Tables, row_at, with_row, without_row, tables_
 use Rattle.hib_journal.specs.Room.{key}
 use Rattle.hib_journal.specs.Query
 use Rattle.hib_journal.specs.Next.{is_in_tables, tables_by, tables_in}
+use Rattle.hib_law.specs.Hits.{is_target_below, are_targets_below, are_targets_in, is_declared}
 use Rattle.hib_base.proofs.Tables.{Tested, tested, same_key_eq, row_at_other_change}
 use Rattle.hib_law.proofs.Protocol.{In}
 
@@ -229,3 +230,36 @@ in_changed script n None cs i e = absurd i
 in_changed script n (Some d) cs i e =
     in_filter (λ n. list_any (λ c. (key_of c).entity == n) cs) n (range_with_len 0 (length script.mapping))
     (in_unfiltered (λ n. Query.reads d n) n (range_with_len 0 (length script.mapping)) i).0 e
+
+-- a query that is declared reads declared tables alone
+
+either : {P : Type 0} (a b : Bool) → (a || b) ≡ true → (a ≡ true → P) → (b ≡ true → P) → P
+either true b e f g = f refl
+either false b e f g = g e
+
+target_below : (n k : ℕ) (g : Option Target) → is_target_below k g ≡ true → Query.steps_to n g ≡ true → n < k
+target_below n k None t e = absurd (false≢true e)
+target_below n k (Some g) t e = subst (λ x. x < k) (eqb-true g.entity n e) (ltb-true g.entity k t)
+
+mentions_below : (n k : ℕ) (c : Cond) → are_targets_below k c ≡ true → Query.mentions n c ≡ true → n < k
+mentions_below n k (Cond.And' p a q b) t e =
+    let s : (are_targets_below k a ≡ true) × (are_targets_below k b ≡ true) = and_parts (are_targets_below k a) (are_targets_below k b) t in
+    either (Query.mentions n a) (Query.mentions n b) e (λ x. mentions_below n k a s.0 x) (λ x. mentions_below n k b s.1 x)
+mentions_below n k (Cond.Or' p a q b) t e =
+    let s : (are_targets_below k a ≡ true) × (are_targets_below k b ≡ true) = and_parts (are_targets_below k a) (are_targets_below k b) t in
+    either (Query.mentions n a) (Query.mentions n b) e (λ x. mentions_below n k a s.0 x) (λ x. mentions_below n k b s.1 x)
+mentions_below n k (Cond.Not' p a) t e = mentions_below n k a t e
+mentions_below n k (Cond.Test op p c) t e = target_below n k p.target t e
+mentions_below n k (Cond.Among p cs) t e = target_below n k p.target t e
+
+pub declared_reads : (script : Script) (d : Query) (n : ℕ) → is_declared script d ≡ true → Query.reads d n ≡ true → n < length script.mapping
+declared_reads script d n t e =
+    let s : (nat_lt d.entity (length script.mapping) ≡ true) × (are_targets_in (length script.mapping) d.condition ≡ true) =
+    and_parts (nat_lt d.entity (length script.mapping)) (are_targets_in (length script.mapping) d.condition) t in
+    either (d.entity == n) (Query.mentions_in n d.condition) e
+    (λ x. subst (λ y. y < length script.mapping) (eqb-true d.entity n x) (ltb-true d.entity (length script.mapping) s.0))
+    (λ x. by_condition d.condition s.1 x)
+  where
+    by_condition : (c : Option Cond) → are_targets_in (length script.mapping) c ≡ true → Query.mentions_in n c ≡ true → n < length script.mapping
+    by_condition None t e = absurd (false≢true e)
+    by_condition (Some c) t e = mentions_below n (length script.mapping) c t e

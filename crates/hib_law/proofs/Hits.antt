@@ -13,7 +13,7 @@ use Rattle.hib_law.specs.Prefixes.{last_reply}
 use Rattle.hib_journal.specs.Legal.{IsLegal, IsStep, IsReply, reply_of, fault_of, number, list_reply, is_outside}
 use Rattle.hib_journal.specs.Sound.{commits, with_change, unstamped, with_commit, stamped_by, up_to, keeps, moment}
 use Rattle.hib_law.specs.Prefixes.{AtEachEntry}
-use Rattle.hib_law.specs.Hits.{IsDeclared, is_listed, IsHitTrue, AreHitsTrue}
+use Rattle.hib_law.specs.Hits.{is_declared, is_listed, IsHitTrue, AreHitsTrue}
 use Rattle.hib_base.proofs.Tables.{Tested, tested}
 use Rattle.hib_journal.proofs.Sessions.{IsOrdered, by, is_some_session, time_le_tick}
 use Rattle.hib_law.proofs.Protocol.{In}
@@ -22,7 +22,7 @@ use Rattle.hib_journal.proofs.Open.{begun_open}
 use Rattle.hib_law.proofs.Stamped.{IsAtLeast, stamp_last, stamp_kept}
 use Rattle.hib_law.proofs.Orderly.{Doer, doer}
 use Rattle.hib_law.proofs.QueryRules.{owed, owed_by, MayKeep, MayCheck, AllowedQuery, allowed_query}
-use Rattle.hib_law.proofs.Given.{touches, untouched, touched_one, gives_same, in_tables, in_changed}
+use Rattle.hib_law.proofs.Given.{touches, untouched, touched_one, gives_same, in_tables, in_changed, declared_reads}
 use Rattle.hib_law.proofs.Basics.{none_some, some_same}
 
 -- an entry of s comes after the earlier ones of s
@@ -468,7 +468,7 @@ module _ (script : Script) (start : Tables) where
               let a3 : t < f.entry.tick = f.early in
               since_fresh q t c g h l w (omega arith) (check_says h e q t st.reply a r) m
 
-          given : (qd : Query) → slice_get script.queries q ≡ Some qd → IsDeclared script qd → IsStep script (Some start) f.journal f.entry →
+          given : (qd : Query) → slice_get script.queries q ≡ Some qd → is_declared script qd ≡ true → IsStep script (Some start) f.journal f.entry →
               x ≡ Query.gives qd (committed start (moment s q h))
           given qd y z sv =
               let a1 : x ≡ Query.gives qd (views start f.journal f.session) = list_says f.journal f.entry q f.session x qd sv.reply f.by_list f.act f.reply y in
@@ -478,7 +478,7 @@ module _ (script : Script) (start : Tables) where
               a1 ∙ (a2 ∙ (ap (λ w. Query.gives qd w) (sym a3) ∙ ap (λ w. Query.gives qd (committed start w)) (sym mo)))
             where
               in_here : (n : ℕ) → Query.reads qd n ≡ true → In n (tables_of script q)
-              in_here n i = rw y (in_tables n (length script.mapping) qd i (z n i))
+              in_here n i = rw y (in_tables n (length script.mapping) qd i (declared_reads script qd n z i))
 
       by_own : was_killed s h ≡ false → (m : Journal) → own s h ≡ m → MayCheck m q t → IsHitTrue script start s q t h
       by_own k [] o x = absurd x

@@ -2,7 +2,7 @@
 use Rattle.std.proofs.Common.{◌≡◌, ℕ, Bool, true, false, ◌&&◌, List, [], ◌∷◌, ◌++◌, Some, None, Option, refl, ◌∙◌}
 use Rattle.std.proofs.lemmas.Bool.{false≢true}
 use Rattle.std.specs.List.{flat_map}
-use Rattle.hib_journal.specs.Types.{Key, Row, Change, Commit, Strategy, Mode, Script, Act, Reply, Entry}
+use Rattle.hib_journal.specs.Types.{Key, Row, Change, Strategy, Mode, Script, Act, Reply, Entry}
 use Rattle.hib_base.specs.Tables.{Tables, first_on, last_on}
 use Rattle.hib_journal.specs.Sessions.{Journal, own, is_by, changes_in, changes_after, time_in, floor_in, is_begun, begun_after}
 use Rattle.hib_journal.specs.Held.{held}

@@ -1,17 +1,33 @@
 -- What is claimed of the lists that queries are answered from the cache.
-use Rattle.std.specs.Prelude.{◌≡◌, ℕ, ◌<◌, ◌≤◌, Bool, true, ◌&&◌, ◌==◌, List, [], ◌∷◌, length, slice_get, Some}
+use Rattle.std.specs.Prelude.{◌≡◌, ℕ, ◌≤◌, Bool, true, ◌&&◌, ◌==◌, nat_lt, List, [], ◌∷◌, length, slice_get, Some, None, Option}
 use Rattle.std.specs.List.{list_any}
-use Rattle.hib_journal.specs.Types.{Cell, Query, Checked, Script, Act, Reply, Entry}
+use Rattle.hib_journal.specs.Types.{Cell, Target, Cond, Query, Checked, Script, Act, Reply, Entry}
 use Rattle.hib_base.specs.Tables.{Tables}
 use Rattle.hib_journal.specs.Sessions.{Journal, is_session, own, committed}
-use Rattle.hib_journal.specs.Query.{gives, reads}
+use Rattle.hib_journal.specs.Query.{gives}
 use Rattle.hib_journal.specs.Next.{is_in_tables, tables_of}
 use Rattle.hib_journal.specs.Sound.{commits, unstamped, moment}
 use Rattle.hib_law.specs.Prefixes.{AtEachEntry, last_reply}
 
+-- the target of a step, where a path has one, is below n
+abbrev pub is_target_below : ℕ → Option Target → Bool
+is_target_below n None = true
+is_target_below n (Some g) = nat_lt g.entity n
+
+abbrev pub are_targets_below : ℕ → Cond → Bool
+are_targets_below n (Cond.And' p a q b) = are_targets_below n a && are_targets_below n b
+are_targets_below n (Cond.Or' p a q b) = are_targets_below n a && are_targets_below n b
+are_targets_below n (Cond.Not' p a) = are_targets_below n a
+are_targets_below n (Cond.Test op p c) = is_target_below n p.target
+are_targets_below n (Cond.Among p cs) = is_target_below n p.target
+
+abbrev pub are_targets_in : ℕ → Option Cond → Bool
+are_targets_in n None = true
+are_targets_in n (Some c) = are_targets_below n c
+
 -- each table that a query reads is one of the mapping's entities
-abbrev pub IsDeclared : Script → Query → Type 0
-IsDeclared script d = (n : ℕ) → reads d n ≡ true → n < length script.mapping
+abbrev pub is_declared : Script → Query → Bool
+is_declared script d = nat_lt d.entity (length script.mapping) && are_targets_in (length script.mapping) d.condition
 
 -- whether an entry stands in a list of sessions and ticks
 abbrev pub is_listed : Entry → List (ℕ × ℕ) → Bool
@@ -29,7 +45,7 @@ pub record IsHitTrue (script : Script) (start : Tables) (s q time : ℕ) (h : Jo
   pub list : List Cell
   pub found : last_reply (own s h) ≡ Reply.Found time list
   pub listed : (v : Entry) × (g : Journal) × (moment s q h ≡ v ∷ g) × (v.act ≡ Act.List q) × (v.reply ≡ Reply.Listed list)
-  pub given : (d : Query) → slice_get script.queries q ≡ Some d → IsDeclared script d → list ≡ gives d (committed start (moment s q h))
+  pub given : (d : Query) → slice_get script.queries q ≡ Some d → is_declared script d ≡ true → list ≡ gives d (committed start (moment s q h))
   pub since : AtEachEntry (IsUnstampedSince script q (moment s q h) h) h
 
 -- every Check that is answered Fresh is a true hit
