@@ -40,26 +40,3 @@ left_after v id (e ∷ es) slot d = by (tested (nat_eq id e.0)) (tested (nat_eq 
 pub placed : (v id : ℕ) (slot : Kept) (state : RegionState) (slots : Slots) → is_victim id (Some v) ≡ false → slots ≡ remove_entry (nat_eq v) (insert_entry nat_eq state.slots id slot)
     → record state { slots = slots } ≡ with_slot id slot (without (Some v) state)
 placed v id slot state slots d is = ap (λ (s : Slots). record state { slots = s }) (is ∙ left_after v id state.slots slot d)
-
--- the victim has a slot
-victim_kept : (v floor : ℕ) (slots : Slots) → victim_in floor slots ≡ Some v → is_some (lookup (nat_eq v) slots) ≡ true
-victim_kept v floor [] first = cc
-victim_kept v floor (e ∷ es) first = by (tested (may_leave floor (shown e.1))) (tested (nat_eq v e.0)) (victim_kept v floor es)
-  where
-    by : Tested (may_leave floor (shown e.1)) → Tested (nat_eq v e.0) → (victim_in floor es ≡ Some v → is_some (lookup (nat_eq v) es) ≡ true) → is_some (lookup (nat_eq v) (e ∷ es)) ≡ true
-    by t (inl n) r = rw n refl
-    by (inl t) (inr n) r =
-        let f : Some e.0 ≡ Some v = rw t at first in
-        absurd (true≢false (sym (eq-eqb v e.0 (sym (same_Some e.0 v f))) ∙ n))
-    by (inr t) (inr n) r = let f : victim_in floor es ≡ Some v = rw t at first in rw n (r f)
-
--- so it is not a key that has none
-pub victim_apart : (v floor : ℕ) (slots : Slots) → victim_in floor slots ≡ Some v → (id : ℕ) → lookup (nat_eq id) slots ≡ None → is_victim id (Some v) ≡ false
-victim_apart v floor slots first id absent = by (tested (nat_eq v id))
-  where
-    by : Tested (nat_eq v id) → nat_eq v id ≡ false
-    by (inl t) =
-        let same : v ≡ id = eqb-true v id t in
-        let there : is_some (lookup (nat_eq id) slots) ≡ true = subst (λ i. is_some (lookup (nat_eq i) slots) ≡ true) same (victim_kept v floor slots first) in
-        absurd (true≢false (sym there ∙ ap is_some absent))
-    by (inr t) = t
