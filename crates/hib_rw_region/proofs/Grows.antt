@@ -1,23 +1,22 @@
 -- After each call the region stands for the journal with that entry.
-use Rattle.std.proofs.Common.{◌≡◌, ◌≤◌, ◌<◌, ℕ, zero, suc, ◌+◌, ◌-◌, inl, inr, Bool, true, false, cond, ◌||◌, ◌==◌, nat_eq, nat_lt, nat_le, List, [], ◌∷◌, Some, None, Option, is_some, refl, sym, ap, ◌∙◌, subst, arith, eq-eqb}
-use Rattle.std.specs.Map.{lookup, remove_entry}
+use Rattle.std.proofs.Common.{◌≡◌, ◌<◌, ℕ, zero, suc, ◌+◌, inl, inr, Bool, true, false, cond, ◌||◌, ◌==◌, nat_eq, nat_lt, nat_le, ◌∷◌, Some, None, Option, is_some, refl, sym, ap, ◌∙◌, subst, arith, eq-eqb}
 use Rattle.std.proofs.lemmas.Bool.{eqb-true}
 use Rattle.indexmap.specs.IndexMap.{insert_entry}
 use Rattle.hib_base.proofs.Tables.{Tested, tested}
-use Rattle.hib_journal.specs.Types.{Key, Row, Part, Act, Reply, Entry, Miss, Put, Unlocked, Inserted, Updated, Evicted}
+use Rattle.hib_journal.specs.Types.{Key, Part, Act, Reply, Entry, Miss, Put, Unlocked, Inserted, Updated, Evicted}
 use Rattle.hib_journal.specs.Sessions.{Journal, last_tick, same_part, is_restart}
-use Rattle.hib_journal.specs.Slot.{Touch, History, history, LockState, Slot, slot_from, with_touch, touch_here, key_in, evicted_in, is_victim, is_positive}
+use Rattle.hib_journal.specs.Slot.{Touch, history, LockState, Slot, slot_from, with_touch, touch_here, key_in, evicted_in, is_victim, is_positive}
 use Rattle.hib_journal.specs.Room.{key, place, or_earlier, is_earlier}
 use Rattle.hib_journal.specs.Regions as Regions
 use Rattle.hib_journal.proofs.Slots.{touched, IsFor}
 use Rattle.hib_soft_lock.specs.declared.slot.Slot.{Slot as Kept}
 use Rattle.hib_soft_lock.specs.Shown.{shown}
-use Rattle.hib_soft_lock.specs.Steps.{holders_in, released}
+use Rattle.hib_soft_lock.specs.Steps.{released}
 use Rattle.hib_soft_lock.proofs.Touches.{shown_new_lock, shown_locked, shown_released}
-use Rattle.hib_room_laws.specs.Elsewhere.{IsElsewhere, last_of}
+use Rattle.hib_room_laws.specs.Elsewhere.{last_of}
 use Rattle.hib_room_laws.proofs.Touched.{touch_by, touched_by, quiet, elsewhere}
-use Rattle.hib_rw_region.specs.Region.{Slots, RegionState, shown_in, kept_in, slot_in, room_in}
-use Rattle.hib_rw_region.specs.Steps.{with_slot, left, without, changed, changed_by, with_release, barred, put_leaves, insert_leaves, locked_by, unlock_leaves, update_leaves, evict_leaves}
+use Rattle.hib_rw_region.specs.Region.{RegionState, shown_in, kept_in, slot_in, room_in}
+use Rattle.hib_rw_region.specs.Steps.{with_slot, left, without, changed_by, with_release, barred, put_leaves, insert_leaves, locked_by, unlock_leaves, update_leaves, evict_leaves}
 use Rattle.hib_rw_region.specs.Stands.{IsRegion, place_of}
 use Rattle.hib_rw_region.specs.Laws.{IsNext, GetGrows, PutGrows, LockGrows, UnlockGrows, UpdateGrows, InsertGrows, EvictGrows, Stays, Restarts, Begins, HasFew}
 use Rattle.hib_rw_region.proofs.Stands.{Histories, IsStanding, standing_for, standing_later, standing_left, standing_touched, place_there}
@@ -27,10 +26,10 @@ abbrev hist_of : ℕ → Journal → Histories
 hist_of n h i = history (key n i) h
 
 standing : (state : RegionState) (n : ℕ) (h : Journal) → IsRegion state n h → IsStanding state.timeout state.slots (hist_of n h) (last_of n h)
-standing state n h s = record { same = s.same; kept = s.kept; order = s.order; placed = s.placed; before = s.before; few = s.few }
+standing state n h s = record { same = s.same; kept = s.held; order = s.order; placed = s.placed; before = s.before; few = s.few }
 
 region : (state : RegionState) (n : ℕ) (h : Journal) → IsStanding state.timeout state.slots (hist_of n h) (last_of n h) → IsRegion state n h
-region state n h s = record { same = s.same; kept = s.kept; order = s.order; placed = s.placed; before = s.before; few = s.few }
+region state n h s = record { same = s.same; held = s.kept; order = s.order; placed = s.placed; before = s.before; few = s.few }
 
 -- an answer that does one thing to its key, after another key may have left
 module _ (state : RegionState) (k : Key) (h : Journal) (e : Entry) (a : Act) (r : Reply) (next : IsNext state k h e a r) (names : key_in a ≡ Some k) (goes : is_restart a ≡ false) where
@@ -309,7 +308,7 @@ pub restarts : Restarts
 unfolding slot_from
 restarts h e state n a = record {
   same = λ i. rw a;
-  kept = λ i. rw a tt;
+  held = λ i. rw a tt;
   order = tt;
   placed = λ i p. rw a;
   before = λ i. rw a tt;
@@ -320,7 +319,7 @@ pub begins : Begins
 unfolding slot_from
 begins capacity timeout n = record {
   same = λ i. refl;
-  kept = λ i. tt;
+  held = λ i. tt;
   order = tt;
   placed = λ i p. refl;
   before = λ i. tt;

@@ -1,12 +1,12 @@
 -- Slots that stand for the histories of their keys, and what a touch of one key leaves of that.
-use Rattle.std.proofs.Common.{◌≡◌, ◌≤◌, ◌<◌, ℕ, suc, inl, inr, Bool, true, false, cond, nat_eq, List, [], ◌∷◌, ◌++◌, Some, None, Option, is_some, refl, sym, ap, ◌∙◌, subst, arith, eq-eqb, true≢false}
+use Rattle.std.proofs.Common.{◌≡◌, ◌≤◌, ◌<◌, ℕ, suc, inl, inr, Bool, true, false, cond, nat_eq, [], ◌∷◌, Some, None, Option, is_some, refl, sym, ap, ◌∙◌, subst, arith, eq-eqb, true≢false}
 use Rattle.std.specs.Map.{lookup, remove_entry}
 use Rattle.std.specs.Cmp.{nat_eq_equiv}
 use Rattle.std.proofs.lemmas.Bool.{eqb-true}
 use Rattle.indexmap.specs.IndexMap.{insert_entry}
 use Rattle.indexmap.proofs.MapLemmas.{absent_from_lookup, insert_entry-absent}
 use Rattle.hib_base.proofs.Tables.{Tested, tested}
-use Rattle.hib_journal.specs.Slot.{Touch, History, Slot, slot_from, is_victim}
+use Rattle.hib_journal.specs.Slot.{Touch, History, Slot, slot_from}
 use Rattle.hib_journal.specs.Room.{place, or_earlier, is_earlier}
 use Rattle.hib_journal.proofs.Slots.{touched, IsFor, IsKept, slot_step}
 use Rattle.hib_soft_lock.specs.declared.slot.Slot.{Slot as Kept}
@@ -15,7 +15,6 @@ use Rattle.hib_soft_lock.specs.Steps.{holders_in}
 use Rattle.hib_room_laws.specs.Order.{AreLater, IsInOrder, IsUpTo}
 use Rattle.hib_room_laws.proofs.Order.{order_moved, order_same, order_without, order_push, lookup_without}
 use Rattle.hib_rw_region.specs.Region.{Slots, shown_in}
-use Rattle.hib_rw_region.specs.Steps.{left}
 
 abbrev pub Histories : Type 0
 Histories = ℕ → History

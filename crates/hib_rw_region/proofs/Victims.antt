@@ -1,21 +1,21 @@
 -- The victim, as the region finds it: a key that has a slot, and the one that the journal gives.
-use Rattle.std.proofs.Common.{◌≡◌, ℕ, inl, inr, Bool, true, false, cond, nat_eq, nat_lt, List, [], ◌∷◌, length, Some, None, Option, is_some, refl, sym, ap, ◌∙◌, subst, true≢false, eq-eqb}
+use Rattle.std.proofs.Common.{◌≡◌, ℕ, inl, inr, Bool, true, false, nat_eq, nat_lt, [], ◌∷◌, length, Some, None, Option, is_some, refl, sym, ap, ◌∙◌, subst, true≢false, eq-eqb}
 use Rattle.std.specs.Map.{lookup}
 use Rattle.std.specs.List.{filter}
 use Rattle.std.proofs.lemmas.Bool.{eqb-true}
 use Rattle.std.proofs.lemmas.Option.{same_Some}
 use Rattle.hib_base.proofs.Tables.{Tested, tested}
 use Rattle.hib_journal.specs.Sessions.{Journal}
-use Rattle.hib_journal.specs.Slot.{Slot, history, slot, is_victim}
+use Rattle.hib_journal.specs.Slot.{history, slot, is_victim}
 use Rattle.hib_journal.specs.Regions.{evicted_by}
 use Rattle.hib_journal.specs.Room.{key, named, place, kept, has_entry, may_leave, victim, room, room_by, is_earlier}
 use Rattle.hib_soft_lock.specs.declared.slot.Slot.{Slot as Kept}
 use Rattle.hib_soft_lock.specs.Shown.{shown}
-use Rattle.hib_room_laws.specs.Order.{first_key, AreLater, IsInOrder}
+use Rattle.hib_room_laws.specs.Order.{AreLater, IsInOrder}
 use Rattle.hib_room_laws.proofs.Order.{order_filter, absent_head, earlier_self}
 use Rattle.hib_room_laws.proofs.First.{HaveSame, same_length, first_in_order}
 use Rattle.hib_room_laws.proofs.Named.{named_distinct, filter_distinct, among_filter, left_slot}
-use Rattle.hib_rw_region.specs.Region.{Slots, RegionState, victim_in, room_in, kept_in, slot_in, shown_in}
+use Rattle.hib_rw_region.specs.Region.{Slots, RegionState, victim_in, room_in, kept_in, shown_in}
 use Rattle.hib_rw_region.specs.Stands.{IsRegion, place_of}
 
 -- the victim has a slot

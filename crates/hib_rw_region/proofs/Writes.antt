@@ -1,19 +1,14 @@
 -- Slots that are written by index, and a victim that leaves after the new key has come.
-use Rattle.std.proofs.Common.{◌≡◌, ℕ, inl, inr, Bool, true, false, cond, nat_eq, List, [], ◌∷◌, Some, None, Option, is_some, position, slice_get, refl, sym, ap, ◌∙◌, subst, true≢false, eq-eqb}
-use Rattle.std.specs.Map.{keys_of, values_of, lookup, remove_entry}
-use Rattle.std.specs.List.{filter}
+use Rattle.std.proofs.Common.{◌≡◌, ℕ, inl, inr, false, nat_eq, [], ◌∷◌, Some, position, slice_get, sym, ap, ◌∙◌, subst}
+use Rattle.std.specs.Map.{keys_of, values_of, remove_entry}
 use Rattle.std.proofs.lemmas.Bool.{eqb-true}
-use Rattle.std.proofs.lemmas.Option.{same_Some}
 use Rattle.indexmap.specs.IndexMap.{insert_entry, set_value_at}
 use Rattle.indexmap.proofs.MapLemmas.{Found-position, insert_entry-first}
 use Rattle.hib_base.proofs.Tables.{Tested, tested}
 use Rattle.hib_journal.specs.Slot.{is_victim}
-use Rattle.hib_journal.specs.Room.{may_leave}
 use Rattle.hib_soft_lock.specs.declared.slot.Slot.{Slot as Kept}
-use Rattle.hib_soft_lock.specs.Shown.{shown}
-use Rattle.hib_room_laws.specs.Order.{first_key}
-use Rattle.hib_rw_region.specs.Region.{Slots, RegionState, victim_in, kept_in}
-use Rattle.hib_rw_region.specs.Steps.{changed, changed_by, with_slot, without, left}
+use Rattle.hib_rw_region.specs.Region.{Slots, RegionState}
+use Rattle.hib_rw_region.specs.Steps.{changed, changed_by, with_slot, without}
 
 -- a write by index is a write by key
 pub written : (id i : ℕ) (slots : Slots) (slot : Kept) → position (nat_eq id) (keys_of slots) ≡ Some i → set_value_at slots i slot ≡ insert_entry nat_eq slots id slot
