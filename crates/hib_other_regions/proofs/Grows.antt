@@ -9,10 +9,12 @@ use Rattle.hib_journal.specs.Slot.{Touch, History, history, touch_of, touch_here
 use Rattle.hib_journal.specs.Room.{key, item, is_item}
 use Rattle.hib_journal.specs.Regions.{got_item, put_item, insert_item, remove_item, evict_item}
 use Rattle.hib_room_laws.specs.Order.{IsUpTo}
+use Rattle.hib_room_laws.specs.Elsewhere.{IsElsewhere, last_of}
+use Rattle.hib_room_laws.proofs.Touched.{touch_by, touched_by, quiet, elsewhere}
 use Rattle.hib_other_regions.specs.Items.{ItemsState, item_in, oldest_in, without, with_new, after_put, after_remove}
-use Rattle.hib_other_regions.specs.Stands.{IsItems, stamp_of, last_of, is_of}
+use Rattle.hib_other_regions.specs.Stands.{IsItems, stamp_of}
 use Rattle.hib_other_regions.specs.Laws.{IsNext, GetGrows, PutGrows, InsertGrows, RemoveGrows, EvictGrows, Stays, Restarts, Begins}
-use Rattle.hib_other_regions.proofs.Kept.{List_, IsRising, rising_later, rising_without, rising_push, lookup_gone, lookup_come}
+use Rattle.hib_other_regions.proofs.Kept.{ItemList, IsRising, rising_later, rising_without, rising_push, lookup_gone, lookup_come}
 
 -- what a touch leaves of an item
 abbrev after_touch : Option Touch → ℕ → Option (Row × ℕ) → Option (Row × ℕ)
@@ -31,10 +33,6 @@ item_after (Some (Touch.Locks v)) now s = refl
 item_after (Some (Touch.Releases m)) now s = refl
 item_after (Some Touch.Expires) now s = refl
 
--- the touch of identifier i by an answer to an act on k
-abbrev touch_by : ℕ → ℕ → Act → Reply → Option Touch
-touch_by x i a r = cond (nat_eq x i) (touch_here a r) (cond (is_victim i (evicted_in r)) (Some Touch.Leaves) None)
-
 rising : (state : ItemsState) (n : ℕ) (h : Journal) → IsItems state n h → IsRising state.items (last_of n h)
 rising state n h stands = record { order = stands.order; before = stands.before }
 
@@ -47,10 +45,10 @@ module _ (state : ItemsState) (k : Key) (h : Journal) (e : Entry) (a : Act) (r :
 
   item_now : (i : ℕ) → item (history (key k.entity i) (e ∷ h)) ≡ after_touch (touch_by k.id i a r) e.tick (item_in state i)
   item_now i =
-      rw (next.act, next.reply, goes, names, eq-eqb k.entity k.entity refl, item_after (touch_by k.id i a r) e.tick (history (key k.entity i) h), ← next.stands.same i)
+      rw (touched_by k h e a r next.act next.reply names goes i, item_after (touch_by k.id i a r) e.tick (history (key k.entity i) h), ← next.stands.same i)
 
   -- the list that is left has the items that the touches leave, and its stamps rise to the tick
-  stands_by : (items : List_) → IsRising items e.tick → ((i : ℕ) → lookup (nat_eq i) items ≡ after_touch (touch_by k.id i a r) e.tick (item_in state i))
+  stands_by : (items : ItemList) → IsRising items e.tick → ((i : ℕ) → lookup (nat_eq i) items ≡ after_touch (touch_by k.id i a r) e.tick (item_in state i))
       → IsItems (record state { items = items }) k.entity (e ∷ h)
   stands_by items rise is = record {
     same = λ i. is i ∙ sym (item_now i);
@@ -101,13 +99,6 @@ module _ (state : ItemsState) (k : Key) (h : Journal) (e : Entry) (a : Act) (r :
       by true c p = refl
       by false true p = refl
       by false false p = refl
-
-no_touch : (b : Bool) → ◌≡◌ {A = Option Touch} (cond b None None) None
-no_touch true = refl
-no_touch false = refl
-
-quiet : (x i : ℕ) (a : Act) (r : Reply) → touch_here a r ≡ None → evicted_in r ≡ None → touch_by x i a r ≡ None
-quiet x i a r p q = rw (p, q) (no_touch (nat_eq x i))
 
 -- where there is no item, it is as if it had gone
 gone_already : (state : ItemsState) (x i : ℕ) → item_in state x ≡ None → item_in state i ≡ cond (nat_eq x i) None (item_in state i)
@@ -188,13 +179,9 @@ evict_grows h e state k next = by (item_in state k.id) refl
         stands_gone state k h e (Act.Evict k) r (subst (λ p. IsNext state k h e (Act.Evict k) (Reply.Evicted (evict_item p))) is next) refl refl
         (λ i. leaves (nat_eq k.id i) Touch.Evicts e.tick (item_in state i) refl)
 
-untouched : (n i : ℕ) (o : Option Key) (a : Act) (r : Reply) → is_of n o ≡ false → touch_of (key n i) o a r ≡ None
-untouched n i None a r h = refl
-untouched n i (Some k) a r h = rw h
-
 pub stays : Stays
 stays h e state n apart stands = record {
-  same = λ i. stands.same i ∙ rw (apart.stays, untouched n i (key_in e.act) e.act e.reply apart.key);
+  same = λ i. stands.same i ∙ rw (elsewhere n i h e apart);
   order = stands.order;
   before = λ i. rw apart.part (stands.before i);
 }

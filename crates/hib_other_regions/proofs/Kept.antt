@@ -6,14 +6,14 @@ use Rattle.hib_journal.specs.Room.{stamp_in}
 use Rattle.hib_room_laws.specs.Order.{IsInOrder, IsUpTo}
 use Rattle.hib_room_laws.proofs.Order.{order_moved, order_without, order_push, lookup_without, lookup_push}
 
-abbrev pub List_ : Type 0
-List_ = List (ℕ × (Row × ℕ))
+abbrev pub ItemList : Type 0
+ItemList = List (ℕ × (Row × ℕ))
 
-abbrev pub stamp_at : List_ → ℕ → Option ℕ
+abbrev pub stamp_at : ItemList → ℕ → Option ℕ
 stamp_at items id = stamp_in (lookup (nat_eq id) items)
 
 -- stamps rise along the list, and none is above a tick
-pub record IsRising (items : List_) (last : ℕ) : Type 0 where
+pub record IsRising (items : ItemList) (last : ℕ) : Type 0 where
   pub order : IsInOrder (stamp_at items) items
   pub before : (id : ℕ) → IsUpTo last (stamp_at items id)
 
@@ -21,10 +21,10 @@ up_to_later : (last now : ℕ) (p : Option ℕ) → last ≤ now → IsUpTo last
 up_to_later last now None l b = tt
 up_to_later last now (Some t) l b = omega arith
 
-pub rising_later : (items : List_) (last now : ℕ) → last ≤ now → IsRising items last → IsRising items now
+pub rising_later : (items : ItemList) (last now : ℕ) → last ≤ now → IsRising items last → IsRising items now
 rising_later items last now l r = record { order = r.order; before = λ id. up_to_later last now (stamp_at items id) l (r.before id) }
 
-module _ (items : List_) (last : ℕ) (r : IsRising items last) where
+module _ (items : ItemList) (last : ℕ) (r : IsRising items last) where
   pub lookup_gone : (x i : ℕ) → lookup (nat_eq i) (remove_entry (nat_eq x) items) ≡ cond (nat_eq x i) None (lookup (nat_eq i) items)
   lookup_gone x i = lookup_without (stamp_at items) x i items r.order
 

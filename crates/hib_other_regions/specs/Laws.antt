@@ -7,7 +7,8 @@ use Rattle.hib_journal.specs.Regions.{got_item, put_item, insert_item, remove_it
 use Rattle.hib_journal.specs.Next.{strategy, capacity}
 use Rattle.hib_journal.specs.Legal.{reply_of}
 use Rattle.hib_other_regions.specs.Items.{ItemsState, empty, item_in, oldest_in, after_put, after_remove, after_clear}
-use Rattle.hib_other_regions.specs.Stands.{IsItems, IsElsewhere}
+use Rattle.hib_room_laws.specs.Elsewhere.{IsElsewhere}
+use Rattle.hib_other_regions.specs.Stands.{IsItems}
 
 -- the region of a key's entity stands for a journal, and e is the next entry of that region: with an act and its reply
 pub record IsNext (state : ItemsState) (k : Key) (h : Journal) (e : Entry) (a : Act) (r : Reply) : Type 0 where

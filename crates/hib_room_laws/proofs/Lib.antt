@@ -1,3 +1,4 @@
 pub mod Order
 pub mod First
 pub mod Named
+pub mod Touched

@@ -1,1 +1,5 @@
 pub mod Writes
+pub mod Victims
+pub mod Stands
+pub mod Answers
+pub mod Grows

@@ -1,19 +1,14 @@
 -- Slots that are written by index, and a victim that leaves after the new key has come.
-use Rattle.std.proofs.Common.{◌≡◌, ℕ, inl, inr, Bool, true, false, cond, nat_eq, List, [], ◌∷◌, Some, None, Option, is_some, position, slice_get, refl, sym, ap, ◌∙◌, subst, true≢false, eq-eqb}
-use Rattle.std.specs.Map.{keys_of, values_of, lookup, remove_entry}
-use Rattle.std.specs.List.{filter}
+use Rattle.std.proofs.Common.{◌≡◌, ℕ, inl, inr, false, nat_eq, [], ◌∷◌, Some, position, slice_get, sym, ap, ◌∙◌, subst}
+use Rattle.std.specs.Map.{keys_of, values_of, remove_entry}
 use Rattle.std.proofs.lemmas.Bool.{eqb-true}
-use Rattle.std.proofs.lemmas.Option.{same_Some}
 use Rattle.indexmap.specs.IndexMap.{insert_entry, set_value_at}
 use Rattle.indexmap.proofs.MapLemmas.{Found-position, insert_entry-first}
 use Rattle.hib_base.proofs.Tables.{Tested, tested}
 use Rattle.hib_journal.specs.Slot.{is_victim}
-use Rattle.hib_journal.specs.Room.{may_leave}
 use Rattle.hib_soft_lock.specs.declared.slot.Slot.{Slot as Kept}
-use Rattle.hib_soft_lock.specs.Shown.{shown}
-use Rattle.hib_room_laws.specs.Order.{first_key}
-use Rattle.hib_rw_region.specs.Region.{Slots, RegionState, victim_in, kept_in}
-use Rattle.hib_rw_region.specs.Steps.{changed, changed_by, with_slot, without, left}
+use Rattle.hib_rw_region.specs.Region.{Slots, RegionState}
+use Rattle.hib_rw_region.specs.Steps.{changed, changed_by, with_slot, without}
 
 -- a write by index is a write by key
 pub written : (id i : ℕ) (slots : Slots) (slot : Kept) → position (nat_eq id) (keys_of slots) ≡ Some i → set_value_at slots i slot ≡ insert_entry nat_eq slots id slot
@@ -40,26 +35,3 @@ left_after v id (e ∷ es) slot d = by (tested (nat_eq id e.0)) (tested (nat_eq 
 pub placed : (v id : ℕ) (slot : Kept) (state : RegionState) (slots : Slots) → is_victim id (Some v) ≡ false → slots ≡ remove_entry (nat_eq v) (insert_entry nat_eq state.slots id slot)
     → record state { slots = slots } ≡ with_slot id slot (without (Some v) state)
 placed v id slot state slots d is = ap (λ (s : Slots). record state { slots = s }) (is ∙ left_after v id state.slots slot d)
-
--- the victim has a slot
-victim_kept : (v floor : ℕ) (slots : Slots) → victim_in floor slots ≡ Some v → is_some (lookup (nat_eq v) slots) ≡ true
-victim_kept v floor [] first = cc
-victim_kept v floor (e ∷ es) first = by (tested (may_leave floor (shown e.1))) (tested (nat_eq v e.0)) (victim_kept v floor es)
-  where
-    by : Tested (may_leave floor (shown e.1)) → Tested (nat_eq v e.0) → (victim_in floor es ≡ Some v → is_some (lookup (nat_eq v) es) ≡ true) → is_some (lookup (nat_eq v) (e ∷ es)) ≡ true
-    by t (inl n) r = rw n refl
-    by (inl t) (inr n) r =
-        let f : Some e.0 ≡ Some v = rw t at first in
-        absurd (true≢false (sym (eq-eqb v e.0 (sym (same_Some e.0 v f))) ∙ n))
-    by (inr t) (inr n) r = let f : victim_in floor es ≡ Some v = rw t at first in rw n (r f)
-
--- so it is not a key that has none
-pub victim_apart : (v floor : ℕ) (slots : Slots) → victim_in floor slots ≡ Some v → (id : ℕ) → lookup (nat_eq id) slots ≡ None → is_victim id (Some v) ≡ false
-victim_apart v floor slots first id absent = by (tested (nat_eq v id))
-  where
-    by : Tested (nat_eq v id) → nat_eq v id ≡ false
-    by (inl t) =
-        let same : v ≡ id = eqb-true v id t in
-        let there : is_some (lookup (nat_eq id) slots) ≡ true = subst (λ i. is_some (lookup (nat_eq i) slots) ≡ true) same (victim_kept v floor slots first) in
-        absurd (true≢false (sym there ∙ ap is_some absent))
-    by (inr t) = t

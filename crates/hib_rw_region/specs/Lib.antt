@@ -1,2 +1,4 @@
 pub mod Region
 pub mod Steps
+pub mod Stands
+pub mod Laws

@@ -1,5 +1,5 @@
 -- A read-write region as contracts see it.
-use Rattle.std.specs.Prelude.{ℕ, Bool, nat_eq, nat_lt, List, length, Some, None, Option}
+use Rattle.std.specs.Prelude.{ℕ, nat_eq, nat_lt, List, length, Some, None, Option}
 use Rattle.std.specs.Map.{lookup}
 use Rattle.std.specs.List.{filter}
 use Rattle.hib_journal.specs.Types.{Reply}

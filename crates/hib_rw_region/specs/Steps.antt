@@ -1,5 +1,5 @@
 -- What each call leaves of a read-write region.
-use Rattle.std.specs.Prelude.{ℕ, ◌+◌, Bool, false, nat_eq, List, [], Some, None, Option}
+use Rattle.std.specs.Prelude.{ℕ, ◌+◌, false, nat_eq, [], Some, None, Option}
 use Rattle.std.specs.Map.{lookup, remove_entry}
 use Rattle.indexmap.specs.IndexMap.{insert_entry}
 use Rattle.hib_journal.specs.Types.{Row, Put, Unlocked, Inserted, Updated, Evicted}

@@ -3,6 +3,7 @@
 //! `laws` says that what the region does is what the journal's definitions say.
 #![tactic(auto)]
 
+pub mod laws;
 mod region;
 mod slots;
 

@@ -34,7 +34,9 @@ fn may_leave(slot: &Slot, floor: Tick) -> bool
     match slot {
         Slot::Item { stamp, .. } => *stamp < floor,
         Slot::Lock {
-            holders, unlock, ..
+            holders,
+            unlock,
+            ..
         } => *holders == 0 && *unlock < floor,
     }
 }
@@ -117,7 +119,9 @@ pub fn unlocked(slots: &IndexMap<u64, Slot>, id: u64, lock: Tick) -> Unlocked
     match slots.get(&id) {
         Some(
             Slot::Lock {
-                id: own, holders, ..
+                id: own,
+                holders,
+                ..
             },
         ) if *own == lock && *holders > 0 => Unlocked::Released {
             holders: *holders - 1,

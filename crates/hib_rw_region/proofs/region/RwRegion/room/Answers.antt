@@ -1,6 +1,6 @@
 use Rattle.std.proofs.Common.{sym, ap, ◌∙◌}
 use Rattle.hib_rw_region.specs.Region.{kept_in}
-use Rattle.hib_rw_region.proofs.Writes.{victim_apart}
+use Rattle.hib_rw_region.proofs.Victims.{victim_apart}
 use Rattle.hib_rw_region.proofs.region.RwRegion.room.Goals as goal
 
 pub returns-clause-apart : goal.returns-clause-apart
