@@ -1,0 +1,3 @@
+pub mod Ranked
+pub mod Ends
+pub mod Standing
