@@ -1,6 +1,6 @@
 -- What a query gives depends on its tables alone.
-use Rattle.std.proofs.Common.{◌≡◌, ℕ, Bool, true, false, cond, not, ◌&&◌, ◌||◌, ◌==◌, List, [], ◌∷◌, slice_get, Some, None, Option, refl, ap, sym, ◌∙◌, subst, inl, inr}
-use Rattle.std.proofs.lemmas.Bool.{true≢false, or_parts, or_left, or_right, eq-eqb, eqb-true, and_parts, ne_eqb}
+use Rattle.std.proofs.Common.{◌≡◌, ℕ, Bool, true, false, cond, not, ◌&&◌, ◌==◌, List, [], ◌∷◌, slice_get, Some, None, Option, refl, ap, sym, ◌∙◌, subst, inl, inr}
+use Rattle.std.proofs.lemmas.Bool.{true≢false, or_parts, or_left, or_right, eq-eqb, ne_eqb}
 use Rattle.std.specs.Prelude.{pos, negsuc}
 use Rattle.std.specs.List.{list_any, filter}
 use Rattle.hib_journal.specs.Types.{Key, Row, Cell, Change, Target, Cond, Query}

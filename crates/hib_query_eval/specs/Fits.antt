@@ -1,5 +1,5 @@
 -- Rows whose identifiers can be listed as cells.
-use Rattle.std.specs.Prelude.{ℕ, Bool, true, not, ◌||◌, ◌==◌, nat_lt}
+use Rattle.std.specs.Prelude.{ℕ, Bool, not, ◌||◌, ◌==◌, nat_lt}
 use Rattle.std.specs.List.{list_all}
 use Rattle.hib_base.specs.Tables.{Tables}
 

@@ -1,7 +1,7 @@
 // Whether a row meets a condition.
 ghost use Rattle.std.specs.Prelude.{◌≡◌, true, option_copied};
 ghost use Rattle.std.specs.List.{list_any};
-ghost use Rattle.hib_base.specs.Keys.{same_key};
+ghost use Rattle.hib_base.specs.Keys.{same_key, is_before};
 ghost use Rattle.hib_base.specs.Tables.{in_order, row_at};
 ghost use Rattle.hib_journal.specs.Query.{same_cell, row_of_ref, cell_at, holds, meets};
 
@@ -14,14 +14,29 @@ fn is_same_key(a: &Key, b: &Key) -> bool
     a == b
 }
 
-/// The row of a key.
+fn is_before(a: &Key, b: &Key) -> bool
+    ensures { result ≡ is_before a.now b.now }
+{
+    a.entity.0 < b.entity.0 || (a.entity.0 == b.entity.0 && a.id < b.id)
+}
+
+/// The row of a key. A search by halves.
 fn row_of<'a>(rows: &'a [(Key, Row)], key: &Key) -> Option<&'a Row>
     requires { in_order rows.now ≡ true }
     ensures { option_copied result ≡ row_at rows.now key.now }
 {
-    for row in rows {
+    let mut low = 0;
+    let mut high = rows.len();
+    while low < high {
+        let middle = low + (high - low) / 2;
+        let row = &rows[middle];
         if is_same_key(&row.0, key) {
             return Some(&row.1);
+        }
+        if is_before(&row.0, key) {
+            low = middle + 1;
+        } else {
+            high = middle;
         }
     }
     None

@@ -1,4 +1,4 @@
-use Rattle.std.proofs.Common.{◌⊎◌, ◌≤◌, length, inl, inr, sym, ◌∙◌, ap, arith}
+use Rattle.std.proofs.Common.{length, sym, ◌∙◌, arith}
 use Rattle.hib_query_eval.proofs.Walks.{text_ends, least}
 use Rattle.hib_query_eval.proofs.cells.is_below_text.Goals as goal
 

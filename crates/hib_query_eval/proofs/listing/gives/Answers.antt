@@ -1,8 +1,8 @@
-use Rattle.std.proofs.Common.{◌≡◌, ◌&&◌, ◌==◌, List, true, map, take, drop, slice_get, sym, ◌∙◌, ap}
-use Rattle.std.specs.Prelude.{pos, nat_lt}
+use Rattle.std.proofs.Common.{◌≡◌, true, map, take, drop, slice_get, sym, ◌∙◌, ap}
+use Rattle.std.specs.Prelude.{pos}
 use Rattle.std.specs.List.{list_all}
 use Rattle.std.proofs.lemmas.Result.{IfOk-weaker}
-use Rattle.hib_journal.specs.Types.{Cell, Select}
+use Rattle.hib_journal.specs.Types.{Cell}
 use Rattle.hib_journal.specs.Query.{gives, selected, listed, sorted, or_false, meets}
 use Rattle.hib_base.specs.Tables.{Tables}
 use Rattle.hib_query_eval.proofs.Walks.{cut_rows, cut_small, all_sorted, all_small, is_small, sorted_rows}
