@@ -10,8 +10,8 @@ use hib_base::{Cell, Key, Listing, Query, Row, Rows, Select, Seq};
 use std::alloc::{AllocError, Global};
 
 /// What a query gives over rows in order of keys: of the rows of its entity that meet its condition the count; or
-/// else, in its order and cut by its offset and limit, their identifiers or the cells of a column. Where an
-/// identifier of its entity is 2^63 or more, the identifiers that are listed are free.
+/// else, in its order and cut by its offset and limit, their identifiers or the cells of a column. What is listed is
+/// free where an identifier of its entity is 2^63 or more, which no cell holds.
 #[tactic(auto, unfolding(hib_journal::specs::Query::gives))]
 pub fn gives(alloc: Global, query: &Query, rows: &Rows) -> Result<Listing, AllocError>
     requires { in_order rows.now ≡ true }
