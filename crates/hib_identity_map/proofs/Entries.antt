@@ -1,0 +1,38 @@
+-- Entries of a map that keeps the order of insertion, and the instances that contracts see.
+use Rattle.std.proofs.Common.{◌≡◌, ℕ, Bool, true, false, cond, List, [], ◌∷◌, ◌++◌, Some, None, Option, is_some, position, refl, sym, ap, ◌∙◌}
+use Rattle.std.specs.Map.{keys_of, lookup}
+use Rattle.hib_base.specs.declared.numbers.Key.{Key}
+use Rattle.hib_base.specs.declared.instances.Held.{Held}
+use Rattle.hib_base.specs.Keys.{same_key}
+use Rattle.indexmap.specs.IndexMap.{insert_entry, set_value_at}
+use Rattle.indexmap.proofs.MapLemmas.{Found-position, insert_entry-first}
+use Rattle.hib_identity_map.specs.Identity.{Pairs, look_in, put_in, add_in}
+
+pub look_same : (k : Key) (ps : Pairs) → lookup (same_key k) ps ≡ look_in ps k
+look_same k [] = refl
+look_same k (p ∷ ps) = by (same_key k p.0) (look_same k ps)
+  where
+    by : (b : Bool) → lookup (same_key k) ps ≡ look_in ps k → cond b (Some p.1) (lookup (same_key k) ps) ≡ cond b (Some p.1) (look_in ps k)
+    by true i = refl
+    by false i = i
+
+put_same : (k : Key) (h : Held) (ps : Pairs) → insert_entry same_key ps k h ≡ put_in k h ps
+put_same k h [] = refl
+put_same k h (p ∷ ps) = by (same_key k p.0) (put_same k h ps)
+  where
+    by : (b : Bool) → insert_entry same_key ps k h ≡ put_in k h ps → cond b ((p.0, h) ∷ ps) (p ∷ insert_entry same_key ps k h) ≡ cond b ((p.0, h) ∷ ps) (p ∷ put_in k h ps)
+    by true i = refl
+    by false i = ap (λ xs. p ∷ xs) i
+
+-- a new key comes last
+pub add_same : (k : Key) (h : Held) (ps : Pairs) → look_in ps k ≡ None → insert_entry same_key ps k h ≡ add_in k h ps
+add_same k h [] n = refl
+add_same k h (p ∷ ps) n = by (same_key k p.0) n (λ e. add_same k h ps e)
+  where
+    by : (b : Bool) → cond b (Some p.1) (look_in ps k) ≡ None → (look_in ps k ≡ None → insert_entry same_key ps k h ≡ add_in k h ps) → cond b ((p.0, h) ∷ ps) (p ∷ insert_entry same_key ps k h) ≡ p ∷ add_in k h ps
+    by true e i = absurd (cc)
+    by false e i = ap (λ xs. p ∷ xs) (i e)
+
+-- a write by place is a write by key
+pub written : (k : Key) (i : ℕ) (ps : Pairs) (h : Held) → position (same_key k) (keys_of ps) ≡ Some i → set_value_at ps i h ≡ put_in k h ps
+written k i ps h at = sym (insert_entry-first same_key k h ps i (Found-position (same_key k) ps i at).first) ∙ put_same k h ps

@@ -1,0 +1,6 @@
+//! The identity map of a session: one instance for each key that it holds.
+#![tactic(auto)]
+
+mod identity;
+
+pub use identity::IdentityMap;
