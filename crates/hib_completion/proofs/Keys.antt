@@ -32,7 +32,7 @@ less_there ks k (j ∷ js) t = by (tested (same_key j k)) (less_there ks k js t)
     by (inl p) i = let u : is_key_in j ks ≡ true = subst (λ x. is_key_in x ks ≡ true) (sym (same_key_eq j k p)) t in rw (p, u, i) refl
     by (inr p) i = rw p (ap (λ xs. cond (not (is_key_in j ks)) (j ∷ xs) xs) i)
 
-in_more : (j : Key) (ks : List Key) (k : Key) → is_key_in j (ks ++ k ∷ []) ≡ (is_key_in j ks || same_key k j)
+pub in_more : (j : Key) (ks : List Key) (k : Key) → is_key_in j (ks ++ k ∷ []) ≡ (is_key_in j ks || same_key k j)
 in_more j [] k = by (same_key k j)
   where
     by : (b : Bool) → (b || false) ≡ b

@@ -5,3 +5,4 @@ mod completing;
 mod lists;
 
 pub use completing::acts;
+pub use lists::tables;

@@ -1,8 +1,8 @@
 -- The instances of a session: what contracts see of an identity map.
-use Rattle.std.specs.Prelude.{Bool, true, false, cond, not, ◌&&◌, List, [], ◌∷◌, ◌++◌, Some, None, Option}
+use Rattle.std.specs.Prelude.{ℕ, Bool, true, false, cond, not, ◌&&◌, List, [], ◌∷◌, ◌++◌, Some, None, Option}
 use Rattle.std.specs.List.{filter}
-use Rattle.hib_base.specs.declared.numbers.Key.{Key}
-use Rattle.hib_base.specs.declared.instances.Held.{Held}
+use Rattle.hib_journal.specs.Types.{Key, Cell, Row, State, Held}
+use Rattle.hib_journal.specs.Held.{with_cells}
 use Rattle.hib_base.specs.Keys.{same_key}
 
 -- instances by key, in order of arrival
@@ -50,3 +50,22 @@ without k ks = filter (λ j. not (same_key j k)) ks
 -- a key that is removed comes last
 abbrev pub remove_last : Key → List Key → List Key
 remove_last k ks = without k ks ++ k ∷ []
+
+-- the instance of a key changes in its place, if there is one
+abbrev pub change_in : Key → (Held → Held) → Pairs → Pairs
+change_in k f [] = []
+change_in k f (p ∷ ps) = cond (same_key k p.0) ((p.0, f p.1) ∷ ps) (p ∷ change_in k f ps)
+
+abbrev pub state_written : State → State
+state_written State.Removed = State.Removed
+state_written _ = State.Managed
+
+-- an instance whose row was written: it stands for that row, and stays removed where it is
+abbrev pub written : Row → Held → Held
+written r h = record { state = state_written h.state; base = Some r; row = record { version = r.version; cells = h.row.cells }; removed = h.removed }
+
+abbrev pub as_removed : Held → Held
+as_removed h = record { state = State.Removed; base = h.base; row = h.row; removed = h.removed }
+
+abbrev pub with_sets : List (ℕ × Cell) → Held → Held
+with_sets sets h = record { state = h.state; base = h.base; row = record { version = h.row.version; cells = with_cells sets h.row.cells }; removed = h.removed }

@@ -1,8 +1,9 @@
 // Instances by key, in order of arrival.
 ghost use Rattle.std.specs.Prelude.{◌≡◌, ◌↔◌, ◌≢◌, ◌<◌, ◌++◌, [], ◌∷◌, None, Some, IsTrue, OnOk, OnErr, IfOk, length, slice_get, option_copied};
-ghost use Rattle.hib_identity_map.specs.Identity.{empty, look_in, put_in, drop_in, add_in, remove_last};
+ghost use Rattle.hib_identity_map.specs.Identity.{empty, look_in, put_in, drop_in, add_in, change_in, written, as_removed, with_sets, remove_last};
 
-use hib_base::{Held, Key, Seq};
+use crate::instance::{mark, set_base, set_cells};
+use hib_base::{Held, Key, Row, Seq, Sets};
 use indexmap::IndexMap;
 use std::alloc::{AllocError, Global};
 use std::marker::Model;
@@ -50,6 +51,14 @@ impl IdentityMap {
         insert_new(&mut self.entries, key, held)
     }
 
+    /// The instance of a key comes behind the others, and the one that the key had leaves. At an error nothing has changed.
+    pub fn arrive(&mut self, key: &Key, held: Held) -> Result<(), AllocError>
+        ensures ok { OnOk result (self.new ≡ record self.old { held = add_in key.now held (drop_in key.now self.old.held) }) }
+        ensures err { OnErr result (self.new ≡ self.old) }
+    {
+        arrive_at(&mut self.entries, key, held)
+    }
+
     /// Another instance in the place of that of a key. It takes no memory.
     pub fn put(&mut self, key: Key, held: Held)
         requires { look_in self.old.held key ≢ None }
@@ -70,6 +79,27 @@ impl IdentityMap {
         ensures { self.new ≡ record self.old { held = [] } }
     {
         clear_all(&mut self.entries);
+    }
+
+    /// The instance of a key, if there is one, stands for a row that was written. It takes no memory.
+    pub fn set_base(&mut self, key: Key, base: Row)
+        ensures { self.new ≡ record self.old { held = change_in key (written base) self.old.held } }
+    {
+        base_at(&mut self.entries, key, base);
+    }
+
+    /// Sets cells of the instance of a key, if there is one. It takes no memory.
+    pub fn set_cells(&mut self, alloc: Global, key: Key, sets: Sets)
+        ensures { self.new ≡ record self.old { held = change_in key (with_sets sets) self.old.held } }
+    {
+        cells_at(alloc, &mut self.entries, key, sets);
+    }
+
+    /// Marks the instance of a key, if there is one, as removed. It takes no memory.
+    pub fn mark(&mut self, key: Key)
+        ensures { self.new ≡ record self.old { held = change_in key as_removed self.old.held } }
+    {
+        mark_at(&mut self.entries, key);
     }
 
     /// Notes that a key was removed, as the last one. At an error nothing has changed.
@@ -131,6 +161,21 @@ fn insert_new(
     Ok(())
 }
 
+// Puts a key at the end, in place of where it was.
+fn arrive_at(
+    entries: &mut IndexMap<Key, Held>,
+    key: &Key,
+    held: Held,
+) -> Result<(), AllocError>
+    ensures ok { OnOk result (entries.new.entries ≡ add_in key.now held (drop_in key.now entries.old.entries)) }
+    ensures err { OnErr result (entries.new.entries ≡ entries.old.entries) }
+{
+    entries.reserve(1)?;
+    entries.shift_remove(key);
+    entries.insert(*key, held)?;
+    Ok(())
+}
+
 // Gives a key that is there another instance.
 fn replace(entries: &mut IndexMap<Key, Held>, key: Key, held: Held)
     requires { look_in entries.old.entries key ≢ None }
@@ -175,4 +220,34 @@ fn moved_last(alloc: Global, keys: &[Key], key: Key) -> Result<Seq<Key>, AllocEr
     }
     moved.push(key)?;
     Ok(moved)
+}
+
+fn base_at(entries: &mut IndexMap<Key, Held>, key: Key, base: Row)
+    ensures { entries.new.entries ≡ change_in key (written base) entries.old.entries }
+{
+    let Some(index) = entries.get_index_of(&key) else {
+        return;
+    };
+    let held = &mut entries[index];
+    set_base(held, base);
+}
+
+fn cells_at(alloc: Global, entries: &mut IndexMap<Key, Held>, key: Key, sets: Sets)
+    ensures { entries.new.entries ≡ change_in key (with_sets sets) entries.old.entries }
+{
+    let Some(index) = entries.get_index_of(&key) else {
+        return;
+    };
+    let held = &mut entries[index];
+    set_cells(alloc, held, sets);
+}
+
+fn mark_at(entries: &mut IndexMap<Key, Held>, key: Key)
+    ensures { entries.new.entries ≡ change_in key as_removed entries.old.entries }
+{
+    let Some(index) = entries.get_index_of(&key) else {
+        return;
+    };
+    let held = &mut entries[index];
+    mark(held);
 }

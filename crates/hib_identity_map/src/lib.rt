@@ -2,5 +2,6 @@
 #![tactic(auto)]
 
 mod identity;
+mod instance;
 
 pub use identity::IdentityMap;

@@ -1,7 +1,7 @@
 use Rattle.std.proofs.Common.{◌≡◌, ◌∙◌, None, Some, Option, sym, ap, is_some, false, refl}
 use Rattle.std.specs.Map.{lookup}
 use Rattle.hib_base.specs.Keys.{same_key}
-use Rattle.hib_base.specs.declared.instances.Held.{Held}
+use Rattle.hib_journal.specs.Types.{Held}
 use Rattle.hib_identity_map.specs.Identity.{look_in}
 use Rattle.hib_identity_map.proofs.Entries.{look_same, written}
 use Rattle.hib_identity_map.proofs.identity.replace.Goals as goal
