@@ -4,9 +4,7 @@ ghost use Rattle.hib_journal.specs.Next.{mode_puts, puts_back, complete_by, comp
 ghost use Rattle.hib_completion.specs.Completed.{acts_of, key_acts, keys_acts, completes};
 
 use crate::lists::{first_of, keys, last_of, lock_of, strategy_of, tables};
-use hib_base::{
-    Act, Acts, Change, Changes, Key, Locks, Mapping, Mode, Row, Seq, Strategy, Tick,
-};
+use hib_base::{Act, Acts, Change, Changes, Key, Locks, Mapping, Mode, Row, Seq, Strategy, Tick};
 use std::alloc::{AllocError, Global};
 
 /// Whether a session in this mode puts into the cache.

@@ -1,5 +1,5 @@
 -- The change that is pending of one instance.
-use Rattle.std.specs.Prelude.{Some, None, Option}
+use Rattle.std.specs.Prelude.{Option}
 use Rattle.hib_journal.specs.Types.{Key, Row, Change, State, Held}
 use Rattle.hib_journal.specs.Held.{insert_by, update_by, delete_by}
 

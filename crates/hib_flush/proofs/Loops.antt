@@ -1,7 +1,7 @@
 -- One more instance of a loop over instances.
 use Rattle.std.proofs.Common.{◌≡◌, ℕ, zero, suc, ◌+◌, add-one, List, [], ◌∷◌, ◌++◌, drop, slice_get, Some, None, Option, refl, sym, ap, ◌∙◌, append_assoc}
 use Rattle.std.specs.List.{filter_map, cons_option}
-use Rattle.hib_journal.specs.Types.{Key, Change, Held}
+use Rattle.hib_journal.specs.Types.{Change}
 use Rattle.hib_flush.specs.Planned.{listed}
 
 drop_at : {A : Type 0} (xs : List A) (i : ℕ) (x : A) → slice_get xs i ≡ Some x → drop i xs ≡ x ∷ drop (suc i) xs

@@ -148,11 +148,7 @@ fn look_at(entries: &IndexMap<Key, Held>, key: Key) -> Option<&Held>
 }
 
 // Puts a new key at the end.
-fn insert_new(
-    entries: &mut IndexMap<Key, Held>,
-    key: Key,
-    held: Held,
-) -> Result<(), AllocError>
+fn insert_new(entries: &mut IndexMap<Key, Held>, key: Key, held: Held) -> Result<(), AllocError>
     requires { look_in entries.old.entries key ≡ None }
     ensures ok { OnOk result (entries.new.entries ≡ add_in key held entries.old.entries) }
     ensures err { OnErr result (entries.new.entries ≡ entries.old.entries) }
@@ -162,11 +158,7 @@ fn insert_new(
 }
 
 // Puts a key at the end, in place of where it was.
-fn arrive_at(
-    entries: &mut IndexMap<Key, Held>,
-    key: &Key,
-    held: Held,
-) -> Result<(), AllocError>
+fn arrive_at(entries: &mut IndexMap<Key, Held>, key: &Key, held: Held) -> Result<(), AllocError>
     ensures ok { OnOk result (entries.new.entries ≡ add_in key.now held (drop_in key.now entries.old.entries)) }
     ensures err { OnErr result (entries.new.entries ≡ entries.old.entries) }
 {

@@ -1,10 +1,9 @@
 -- What is known of each act that is due: one pass over the blocks of a session.
-use Rattle.std.proofs.Common.{◌≡◌, ℕ, zero, suc, ◌+◌, ◌<◌, ◌≤◌, inl, inr, Bool, true, false, cond, not, ◌&&◌, ◌||◌, ◌==◌, List, [], ◌∷◌, ◌++◌, length, nat_lt, slice_get, Some, None, Option, refl, sym, ap, ◌∙◌, subst, arith}
-use Rattle.std.proofs.lemmas.Bool.{false≢true, true≢false, and_parts, and_from}
+use Rattle.std.proofs.Common.{◌≡◌, ℕ, zero, suc, ◌+◌, ◌≤◌, Bool, true, false, cond, not, ◌&&◌, ◌||◌, ◌==◌, List, [], ◌∷◌, ◌++◌, length, nat_lt, slice_get, Some, None, Option, refl, sym, ap, ◌∙◌, subst, arith}
+use Rattle.std.proofs.lemmas.Bool.{false≢true, true≢false, and_parts}
 use Rattle.std.proofs.lemmas.Bool.Decides.{nat_tests}
 use Rattle.std.specs.List.{filter, flat_map, list_all, list_any, range_with_len}
 use Rattle.hib_base.specs.Tables.{key_of, first_on, last_on}
-use Rattle.hib_base.proofs.Tables.{Tested, tested}
 use Rattle.hib_journal.specs.Types.{Key, Row, Change, Strategy, Mode, Statement, Script, Act, Reply, Checked, Entry}
 use Rattle.hib_journal.specs.Sessions.{Journal, time_in, floor_in, floor_after, changes_in, changes_after, deferred, deferred_after, is_begun, begun_after}
 use Rattle.hib_journal.specs.Held.{held, pending, is_fresh, is_begin}
@@ -12,7 +11,7 @@ use Rattle.hib_journal.specs.Plan.{Plan, Block, one, each, after, left_of, first
 use Rattle.hib_journal.specs.Next
 use Rattle.hib_journal.specs.Next.{strategy, is_cached, is_cached_by, plan_of, next, statements, tables_in, ends}
 use Rattle.hib_journal.specs.Legal.{is_outside}
-use Rattle.hib_session.specs.Due.{asks_store, found_by, is_removing, is_inserting, asks, is_asked, time_found, are_tables, Suits, IsAllowed, closes, is_closed}
+use Rattle.hib_session.specs.Due.{asks_store, found_by, is_removing, is_inserting, asks, is_asked, time_found, Suits, IsAllowed, closes, is_closed}
 
 -- plans of which each act is allowed, and which end where an end is final
 

@@ -1,11 +1,10 @@
 -- What a flush and a completion are by a memory.
-use Rattle.std.proofs.Common.{◌≡◌, ℕ, Bool, true, false, cond, ◌&&◌, List, [], ◌∷◌, ◌++◌, slice_get, Some, None, Option, refl, sym, ap, ◌∙◌, append_assoc, append-nil}
+use Rattle.std.proofs.Common.{◌≡◌, ℕ, Bool, ◌&&◌, List, [], ◌∷◌, ◌++◌, Option, refl, sym, ap, ◌∙◌, append_assoc, append-nil}
 use Rattle.std.specs.List.{flat_map}
-use Rattle.hib_base.specs.Tables.{first_on, last_on}
-use Rattle.hib_journal.specs.Types.{Key, Row, Change, Mode, Script, Act}
-use Rattle.hib_journal.specs.Sessions.{Journal, changes_in, floor_in}
-use Rattle.hib_journal.specs.Held.{is_fresh, pending}
-use Rattle.hib_journal.specs.Next.{is_in, strategy, tables_in, before_cached, fresh_version, before_key, before_write, writes, flush_of, complete, complete_by, puts_back, keys_of, stamps_of, completion, mode_puts}
+use Rattle.hib_journal.specs.Types.{Key, Change, Mode, Script, Act}
+use Rattle.hib_journal.specs.Sessions.{Journal, changes_in}
+use Rattle.hib_journal.specs.Held.{pending}
+use Rattle.hib_journal.specs.Next.{tables_in, before_key, before_write, writes, flush_of, complete, keys_of, completion, mode_puts}
 use Rattle.hib_completion.specs.Completed.{key_acts, keys_acts, completes}
 use Rattle.hib_flush.specs.Planned.{planned}
 use Rattle.hib_session.specs.declared.memory.Memory.{Memory}

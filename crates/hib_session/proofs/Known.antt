@@ -1,6 +1,5 @@
 -- A memory that takes one more entry stands for it.
 use Rattle.std.proofs.Common.{◌≡◌, ℕ, inl, inr, Bool, true, false, cond, not, ◌&&◌, ◌||◌, List, [], ◌∷◌, ◌++◌, map, Some, None, Option, refl, sym, ap, ◌∙◌}
-use Rattle.std.proofs.lemmas.Bool.{true≢false, false≢true}
 use Rattle.std.specs.List.{filter_map, cons_option, list_any}
 use Rattle.std.specs.Option.{option_map}
 use Rattle.hib_base.specs.Keys.{same_key}
@@ -13,10 +12,10 @@ use Rattle.hib_journal.specs.Next.{lock_in, lock_id}
 use Rattle.hib_journal.specs.Legal.{outcome_after}
 use Rattle.hib_completion.specs.Completed.{is_key_in, lock_from}
 use Rattle.hib_completion.proofs.Keys.{in_more}
-use Rattle.hib_identity_map.specs.Identity.{MapState, Pairs, look_in, are_distinct, drop_in, add_in, change_in, written, as_removed, with_sets}
+use Rattle.hib_identity_map.specs.Identity.{MapState, Pairs, look_in, drop_in, change_in, written, as_removed, with_sets}
 use Rattle.hib_session.specs.declared.memory.Memory.{Memory}
-use Rattle.hib_session.specs.Memory.{shown_of, shown, shown_by, held_in, is_unwritten, marked_in, Holds, Knows, made, managed, arrive_in, remove_in, unless_broken, map_after, marks_after, marks_written, fresh_after, fresh_written, locks_after, noted}
-use Rattle.hib_session.proofs.Kept.{after_write, after_removal, after_sets, unless_unwritten, later, fresh, arrives_other, later_stay, held_later, held_arrives, held_broken}
+use Rattle.hib_session.specs.Memory.{shown_of, shown_by, is_unwritten, marked_in, Holds, Knows, made, managed, arrive_in, remove_in, unless_broken, map_after, marks_after, fresh_after, locks_after, noted}
+use Rattle.hib_session.proofs.Kept.{after_write, after_removal, after_sets, unless_unwritten, later, fresh, arrives_other, held_later, held_arrives, held_broken}
 use Rattle.hib_session.proofs.Orders.{held_key, none_map, later_map, same_map, without_none, without_same, others, dropped_map, join_map, look_changed, look_dropped, look_added, distinct_changed, distinct_dropped, distinct_added, change_at, shown_changed, shown_dropped, shown_added}
 
 -- the instances after an entry, by what it does to those that are held
@@ -240,7 +239,7 @@ module _ (x : Memory) (mine : Journal) (e : Entry) (k : Knows x mine) where
     holds_removed : (j : Key) (b : Bool) → marked_in j false x.marks ≡ b → a ≡ Act.Remove j → r ≡ Reply.Removed → Holds (remove_in b j x.instances.held) (e ∷ mine)
     holds_removed j true m i z = holds_dropped x.instances.held mine e k.holds j (two arrival (Act.Remove j) Reply.Removed (p ∙ i) (q ∙ z))
         (λ y. held_later y e mine (two is_break (Act.Remove j) Reply.Removed (p ∙ i) (q ∙ z)) (ap (arrives_other y) (two arrival (Act.Remove j) Reply.Removed (p ∙ i) (q ∙ z)))
-            ∙ (two (λ c d. later (is_unwritten y (stay y mine)) y c d (held.held mine y)) (Act.Remove j) Reply.Removed (p ∙ i) (q ∙ z) ∙ by y (tested (same_key j y))))
+        ∙ (two (λ c d. later (is_unwritten y (stay y mine)) y c d (held.held mine y)) (Act.Remove j) Reply.Removed (p ∙ i) (q ∙ z) ∙ by y (tested (same_key j y))))
       where
         by : (y : Key) → Tested (same_key j y) → cond (same_key j y) (unless_unwritten (is_unwritten y (stay y mine)) (held.held mine y)) (held.held mine y) ≡ cond (same_key j y) None (held.held mine y)
         by y (inl t) =
@@ -249,7 +248,7 @@ module _ (x : Memory) (mine : Journal) (e : Entry) (k : Knows x mine) where
         by y (inr t) = rw t refl
     holds_removed j false m i z = holds_changed x.instances.held mine e k.holds j as_removed after_removal (λ c d. refl) (two arrival (Act.Remove j) Reply.Removed (p ∙ i) (q ∙ z))
         (λ y. held_later y e mine (two is_break (Act.Remove j) Reply.Removed (p ∙ i) (q ∙ z)) (ap (arrives_other y) (two arrival (Act.Remove j) Reply.Removed (p ∙ i) (q ∙ z)))
-            ∙ (two (λ c d. later (is_unwritten y (stay y mine)) y c d (held.held mine y)) (Act.Remove j) Reply.Removed (p ∙ i) (q ∙ z) ∙ by y (tested (same_key j y))))
+        ∙ (two (λ c d. later (is_unwritten y (stay y mine)) y c d (held.held mine y)) (Act.Remove j) Reply.Removed (p ∙ i) (q ∙ z) ∙ by y (tested (same_key j y))))
       where
         by : (y : Key) → Tested (same_key j y) → cond (same_key j y) (unless_unwritten (is_unwritten y (stay y mine)) (held.held mine y)) (held.held mine y)
             ≡ cond (same_key j y) (option_map after_removal (held.held mine y)) (held.held mine y)

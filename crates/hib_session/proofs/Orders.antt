@@ -1,17 +1,17 @@
 -- The instances that a memory keeps, in order of arrival, and the changes that are pending of them.
-use Rattle.std.proofs.Common.{◌≡◌, ℕ, inl, inr, Bool, true, false, cond, not, List, [], ◌∷◌, ◌++◌, map, Some, None, Option, refl, sym, ap, ◌∙◌, subst}
-use Rattle.std.proofs.lemmas.Bool.{false≢true, true≢false, and_parts, and_from}
+use Rattle.std.proofs.Common.{◌≡◌, inl, inr, Bool, true, false, cond, not, List, [], ◌∷◌, ◌++◌, map, Some, None, Option, refl, sym, ap, ◌∙◌, subst}
+use Rattle.std.proofs.lemmas.Bool.{false≢true, and_parts, and_from}
 use Rattle.std.specs.List.{filter, filter_map, cons_option}
 use Rattle.std.specs.Option.{option_map}
 use Rattle.hib_base.specs.Keys.{same_key}
-use Rattle.hib_base.proofs.Tables.{same_key_eq, same_key_refl, Tested, tested}
+use Rattle.hib_base.proofs.Tables.{same_key_eq, Tested, tested}
 use Rattle.hib_journal.specs.Types.{Key, Change, Held}
 use Rattle.hib_journal.specs.Sessions.{Journal}
 use Rattle.hib_journal.specs.Held as held
 use Rattle.hib_journal.specs.Held.{Instance, Stay, held_by, has_left, instance_of, stay, arrived, removed, without_key, pending}
 use Rattle.hib_completion.proofs.Keys.{same_key_sym}
 use Rattle.hib_identity_map.specs.Identity.{MapState, Pairs, look_in, is_absent, are_distinct, drop_in, add_in, change_in}
-use Rattle.hib_dirty_check.specs.Changed.{insert_of, update_of, delete_of}
+use Rattle.hib_dirty_check.specs.Changed.{insert_of, update_of}
 use Rattle.hib_flush.specs.Planned.{planned, delete_held}
 use Rattle.hib_session.specs.Memory.{shown_of, shown, shown_by, held_in, Holds}
 

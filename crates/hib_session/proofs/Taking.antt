@@ -1,6 +1,6 @@
 -- A session that takes the entry of the act that was due.
-use Rattle.std.proofs.Common.{◌≡◌, ◌<◌, ℕ, Bool, true, false, cond, List, [], ◌∷◌, IfSome, Some, None, Option, refl, sym, ap, ◌∙◌, subst}
-use Rattle.std.proofs.lemmas.Bool.{true≢false, false≢true}
+use Rattle.std.proofs.Common.{◌≡◌, ◌<◌, ℕ, Bool, true, false, List, [], ◌∷◌, IfSome, Some, None, Option, refl, sym, ap, ◌∙◌, subst}
+use Rattle.std.proofs.lemmas.Bool.{false≢true}
 use Rattle.hib_journal.specs.Types.{Key, Change, Statement, Script, Act, Reply, Entry}
 use Rattle.hib_journal.specs.Sessions.{Journal, time_in, time_after, floor_in, floor_after, changes_in, changes_after, is_begun}
 use Rattle.hib_journal.specs.Plan.{InOrder}

@@ -1,5 +1,5 @@
 -- What a session remembers of its own entries.
-use Rattle.std.specs.Prelude.{◌≡◌, ℕ, Bool, true, false, cond, not, ◌&&◌, List, [], ◌∷◌, ◌++◌, map, Some, None, Option}
+use Rattle.std.specs.Prelude.{◌≡◌, ℕ, Bool, true, false, cond, not, List, [], ◌∷◌, ◌++◌, map, Some, None, Option}
 use Rattle.std.specs.List.{filter_map, flat_map}
 use Rattle.hib_journal.specs.Types.{Key, Row, Change, Script, State, Held, Act, Reply, Entry}
 use Rattle.hib_base.specs.Keys.{same_key}

@@ -210,7 +210,10 @@ fn answered(
         )),
         Stage::Committing => {
             let committed = is_committed(&entry.reply);
-            Ok((memory.completion(alloc, script, mode, committed)?, Stage::Idle))
+            Ok((
+                memory.completion(alloc, script, mode, committed)?,
+                Stage::Idle,
+            ))
         }
         Stage::RollingBack => Ok((memory.completion(alloc, script, mode, false)?, Stage::Idle)),
         Stage::Idle | Stage::Answering(_) => Ok((Seq::new(alloc), stage)),

@@ -10,8 +10,8 @@ ghost use Rattle.hib_session.specs.Memory.{held_in, shown_of, marked_in, before_
 use crate::modes::{does_put, does_read};
 use crate::queries::{is_cached as is_kept, is_touched};
 use hib_base::{
-    Act, Acts, Change, Changes, EntityNo, Held, Key, Locks, Mode, Outcome, QueryNo,
-    Script, Seq, Strategy, Tick,
+    Act, Acts, Change, Changes, EntityNo, Held, Key, Locks, Mode, Outcome, QueryNo, Script, Seq,
+    Strategy, Tick,
 };
 use hib_completion::{acts, tables};
 use hib_flush::plan;
@@ -217,12 +217,7 @@ impl Memory {
     }
 
     /// Adds the write of a change, and what comes before it.
-    fn add_write(
-        &self,
-        script: &Script,
-        acts: &mut Acts,
-        change: Change,
-    ) -> Result<(), AllocError>
+    fn add_write(&self, script: &Script, acts: &mut Acts, change: Change) -> Result<(), AllocError>
         ensures { OnOk result (acts.new ≡ acts.old ++ (before_in script.now self.now change ++ Act.Write change ∷ [])) }
     {
         if let Some(act) = self.before(script, &change) {

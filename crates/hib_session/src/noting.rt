@@ -77,7 +77,9 @@ impl Memory {
     /// An instance arrives, in the place of one of the same key. At an error nothing has changed.
     fn arrive(&mut self, alloc: Global, key: &Key, held: Held, made: bool) -> Result<(), AllocError>
         ensures ok { OnOk result (self.new ≡ record self.old {
-            instances = with_pairs self.old.instances (arrive_in key.now held self.old.instances.held); marks = self.old.marks ++ (key.now, made) ∷ [] }) }
+          instances = with_pairs self.old.instances (arrive_in key.now held self.old.instances.held);
+          marks = self.old.marks ++ (key.now, made) ∷ [];
+        }) }
         ensures err { OnErr result (self.new ≡ self.old) }
     {
         let len = self.marks.len();
@@ -94,8 +96,10 @@ impl Memory {
     /// A row that was read arrives.
     fn read(&mut self, alloc: Global, key: &Key, row: &Row) -> Result<(), AllocError>
         ensures ok { OnOk result (self.new ≡ record self.old {
-            instances = with_pairs self.old.instances (arrive_in key.now (managed row.now) self.old.instances.held);
-            marks = self.old.marks ++ (key.now, false) ∷ []; fresh = self.old.fresh ++ key.now ∷ [] }) }
+          instances = with_pairs self.old.instances (arrive_in key.now (managed row.now) self.old.instances.held);
+          marks = self.old.marks ++ (key.now, false) ∷ [];
+          fresh = self.old.fresh ++ key.now ∷ [];
+        }) }
         ensures err { OnErr result (self.new ≡ self.old) }
     {
         let held = read_held(alloc, row)?;
@@ -113,7 +117,9 @@ impl Memory {
     /// A new row arrives.
     fn make(&mut self, alloc: Global, key: &Key, row: &Row) -> Result<(), AllocError>
         ensures ok { OnOk result (self.new ≡ record self.old {
-            instances = with_pairs self.old.instances (arrive_in key.now (made row.now) self.old.instances.held); marks = self.old.marks ++ (key.now, true) ∷ [] }) }
+          instances = with_pairs self.old.instances (arrive_in key.now (made row.now) self.old.instances.held);
+          marks = self.old.marks ++ (key.now, true) ∷ [];
+        }) }
         ensures err { OnErr result (self.new ≡ self.old) }
     {
         let held = made_held(alloc, row)?;
@@ -143,8 +149,10 @@ impl Memory {
     /// A commit was answered.
     fn commit(&mut self, alloc: Global, reply: &Reply)
         ensures { self.new ≡ record self.old {
-            instances = with_pairs self.old.instances (unless_broken (is_break Act.Commit reply.now) self.old.instances.held);
-            marks = unless_broken (is_break Act.Commit reply.now) self.old.marks; outcome = outcome_after Act.Commit reply.now self.old.outcome } }
+          instances = with_pairs self.old.instances (unless_broken (is_break Act.Commit reply.now) self.old.instances.held);
+          marks = unless_broken (is_break Act.Commit reply.now) self.old.marks;
+          outcome = outcome_after Act.Commit reply.now self.old.outcome;
+        } }
     {
         match reply {
             Reply::Commit(Commit::Committed) => {
@@ -160,10 +168,19 @@ impl Memory {
     }
 
     /// An insert was written: the instance stands for the written row from now on.
-    fn insert(&mut self, alloc: Global, change: Change, key: &Key, row: &Row) -> Result<(), AllocError>
+    fn insert(
+        &mut self,
+        alloc: Global,
+        change: Change,
+        key: &Key,
+        row: &Row,
+    ) -> Result<(), AllocError>
         ensures ok { OnOk result (self.new ≡ record self.old {
-            instances = with_pairs self.old.instances (change_in key.now (written row.now) self.old.instances.held);
-            marks = self.old.marks ++ (key.now, false) ∷ []; fresh = self.old.fresh ++ key.now ∷ []; changes = self.old.changes ++ change ∷ [] }) }
+          instances = with_pairs self.old.instances (change_in key.now (written row.now) self.old.instances.held);
+          marks = self.old.marks ++ (key.now, false) ∷ [];
+          fresh = self.old.fresh ++ key.now ∷ [];
+          changes = self.old.changes ++ change ∷ [];
+        }) }
         ensures err { OnErr result (self.new ≡ self.old) }
     {
         let base = row.copy(alloc)?;
@@ -182,10 +199,18 @@ impl Memory {
     }
 
     /// An update was written: the instance stands for the written row from now on.
-    fn update(&mut self, alloc: Global, change: Change, key: &Key, row: &Row) -> Result<(), AllocError>
+    fn update(
+        &mut self,
+        alloc: Global,
+        change: Change,
+        key: &Key,
+        row: &Row,
+    ) -> Result<(), AllocError>
         ensures ok { OnOk result (self.new ≡ record self.old {
-            instances = with_pairs self.old.instances (change_in key.now (written row.now) self.old.instances.held);
-            fresh = self.old.fresh ++ key.now ∷ []; changes = self.old.changes ++ change ∷ [] }) }
+          instances = with_pairs self.old.instances (change_in key.now (written row.now) self.old.instances.held);
+          fresh = self.old.fresh ++ key.now ∷ [];
+          changes = self.old.changes ++ change ∷ [];
+        }) }
         ensures err { OnErr result (self.new ≡ self.old) }
     {
         let base = row.copy(alloc)?;
@@ -197,7 +222,9 @@ impl Memory {
     /// A delete was written: the instance leaves.
     fn delete(&mut self, change: Change, key: &Key) -> Result<(), AllocError>
         ensures ok { OnOk result (self.new ≡ record self.old {
-            instances = with_pairs self.old.instances (drop_in key.now self.old.instances.held); changes = self.old.changes ++ change ∷ [] }) }
+          instances = with_pairs self.old.instances (drop_in key.now self.old.instances.held);
+          changes = self.old.changes ++ change ∷ [];
+        }) }
         ensures err { OnErr result (self.new ≡ self.old) }
     {
         self.changes.push(change)?;
@@ -208,8 +235,11 @@ impl Memory {
     /// A change was written.
     fn write(&mut self, alloc: Global, change: &Change) -> Result<(), AllocError>
         ensures ok { OnOk result (self.new ≡ record self.old {
-            instances = map_written change.now self.old.instances; marks = marks_written change.now self.old.marks;
-            fresh = fresh_written change.now self.old.fresh; changes = self.old.changes ++ change.now ∷ [] }) }
+          instances = map_written change.now self.old.instances;
+          marks = marks_written change.now self.old.marks;
+          fresh = fresh_written change.now self.old.fresh;
+          changes = self.old.changes ++ change.now ∷ [];
+        }) }
         ensures err { OnErr result (self.new ≡ self.old) }
     {
         let copy = change.copy(alloc)?;
@@ -223,7 +253,8 @@ impl Memory {
     /// A row was removed: its instance leaves where it was never written, and else is marked.
     fn remove(&mut self, alloc: Global, key: &Key) -> Result<(), AllocError>
         ensures ok { OnOk result (self.new ≡ record self.old {
-            instances = record { held = remove_in (marked_in key.now false self.old.marks) key.now self.old.instances.held; removals = remove_last key.now self.old.instances.removals } }) }
+          instances = record { held = remove_in (marked_in key.now false self.old.marks) key.now self.old.instances.held; removals = remove_last key.now self.old.instances.removals };
+        }) }
         ensures err { OnErr result (self.new ≡ self.old) }
     {
         self.instances.note_removal(alloc, *key)?;
@@ -238,7 +269,8 @@ impl Memory {
     /// Cells of a row were set.
     fn set(&mut self, alloc: Global, key: &Key, sets: &Sets) -> Result<(), AllocError>
         ensures ok { OnOk result (self.new ≡ record self.old {
-            instances = with_pairs self.old.instances (change_in key.now (with_sets sets.now) self.old.instances.held) }) }
+          instances = with_pairs self.old.instances (change_in key.now (with_sets sets.now) self.old.instances.held);
+        }) }
         ensures err { OnErr result (self.new ≡ self.old) }
     {
         let sets = copy_sets(alloc, sets)?;

@@ -1,9 +1,9 @@
-use Rattle.std.proofs.Common.{◌≡◌, ◌+◌, ◌∷◌, ◌∙◌, sym, ap, drop, arith, true, false}
+use Rattle.std.proofs.Common.{◌≡◌, ◌+◌, ◌∷◌, sym, drop, arith, true, false}
 use Rattle.std.proofs.lemmas.Grind.{common_steps}
 use Rattle.hib_base.specs.Tables.{key_of}
 use Rattle.hib_journal.specs.Next.{keys_of}
 use Rattle.hib_completion.specs.Completed.{is_key_in}
-use Rattle.hib_completion.proofs.Keys.{less_none, keep_there, keep_new, less}
+use Rattle.hib_completion.proofs.Keys.{less_none, keep_there, keep_new}
 use Rattle.hib_completion.proofs.lists.keys.Goals as goal
 use Rattle.hib_completion.proofs.lists.keys.Goals.{then-not-is_among+in_ok-push, else-not-is_among}
 

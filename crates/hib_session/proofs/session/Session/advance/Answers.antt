@@ -1,4 +1,4 @@
-use Rattle.std.proofs.Common.{◌≡◌, ◌∷◌, ◌<◌, ◌≤◌, Some, true, false, sym, subst, ap, ◌∙◌, arith}
+use Rattle.std.proofs.Common.{◌≡◌, ◌∷◌, ◌<◌, ◌≤◌, Some, false, sym, subst, ◌∙◌, arith}
 use Rattle.hib_journal.specs.Next.{next}
 use Rattle.hib_session.specs.Memory.{Knows}
 use Rattle.hib_session.specs.Control.{Stands, is_over, weight}
@@ -14,8 +14,8 @@ returns-clause-follows c = λ mine f t.
     let n : next script c.settle.new.self.number mine ≡ Some e.act = subst (λ m. next script m mine ≡ Some e.act) (sym c.in_ok-settle.ensures.number) t.due in
     let k : Knows c.note.new.self (e ∷ mine) = subst (λ x. Knows x (e ∷ mine)) (sym c.in_ok-note.ensures.ok) (knows_noted c.args.self.now.memory mine e f.knows) in
     let s : Stands script c.step.new.self (e ∷ mine) = c.step.ensures.stands script e mine
-        (λ go q d. c.in_ok-queue.ensures.follows mine go q d (recalls_next script c.settle.new.self c.args.self.now.memory mine e f.knows h c.in_ok-settle.ensures.settled n q d))
-        h c.in_ok-settle.ensures.settled in
+    (λ go q d. c.in_ok-queue.ensures.follows mine go q d (recalls_next script c.settle.new.self c.args.self.now.memory mine e f.knows h c.in_ok-settle.ensures.settled n q d))
+    h c.in_ok-settle.ensures.settled in
     follows_on script c.args.self.now (record { control = c.step.new.self; memory = c.note.new.self; killed = c.args.self.now.killed }) mine e f t
     (c.step.ensures.number ∙ c.in_ok-settle.ensures.number) (λ i. c.args.self.now.killed) k s
 
