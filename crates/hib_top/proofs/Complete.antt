@@ -1,5 +1,5 @@
 -- A call on a script ends well, unless something outside failed.
-use Rattle.std.proofs.Common.{◌≡◌, ◌<◌, ◌≤◌, ℕ, List, ◌↔◌, length, Some, None, Option, IfSome, refl, sym, ◌∙◌, ap, subst, arith}
+use Rattle.std.proofs.Common.{◌≡◌, ◌<◌, ◌≤◌, ℕ, List, ◌↔◌, length, Some, Option, IfSome, refl, ◌∙◌, ap, subst, arith}
 use Rattle.hib_base.specs.Tables.{Tables}
 use Rattle.hib_journal.specs.Kept.{Kept}
 use Rattle.hib_script.specs.Script.{Reading, script_of}

@@ -1,13 +1,14 @@
--- What the reader says of a script is what a session asks of it, and a script of one session ends with it.
-use Rattle.std.proofs.Common.{◌≡◌, ℕ, zero, suc, ◌≤◌, Bool, true, ◌&&◌, nat_le, List, [], ◌∷◌, ◌++◌, length, slice_get, Some, None, Option, refl, sym, ap, ◌∙◌, subst, arith}
+-- A script as the reader takes it caches nothing and asks no query, and a script of one session ends with it.
+use Rattle.std.proofs.Common.{◌≡◌, ℕ, zero, suc, ◌≤◌, Bool, true, false, ◌&&◌, nat_le, List, [], ◌∷◌, length, slice_get, Some, None, Option, refl, sym, ap, ◌∙◌, subst, arith}
 use Rattle.std.proofs.lemmas.Bool.{false≢true, and_parts, leb-true}
-use Rattle.std.specs.List.{list_all}
+use Rattle.std.specs.List.{list_all, list_any}
 use Rattle.hib_journal.specs.Types.{Strategy, EntityDef, Statement, SessionDef, Script}
 use Rattle.hib_journal.specs.Sessions.{Journal, own}
 use Rattle.hib_journal.specs.Next.{strategy_in, statements, next}
 use Rattle.hib_script.specs.Built.{is_built, is_built_entity, is_uncached, is_built_session, are_built, is_empty, statement_count}
-use Rattle.hib_session.specs.Memory.{IsBuilt, is_built_statement}
+use Rattle.hib_session.specs.Due.{asks}
 use Rattle.hib_top.specs.Play.{AreEnded}
+use Rattle.hib_top.specs.Run.{IsPlain}
 
 uncached_is : (g : Strategy) → is_uncached g ≡ true → g ≡ Strategy.Uncached
 uncached_is Strategy.Uncached p = refl
@@ -20,33 +21,29 @@ uncached_in (d ∷ ds) zero p =
     uncached_is d.strategy (and_parts (is_uncached d.strategy) d.versioned q.0).0
 uncached_in (d ∷ ds) (suc n) p = uncached_in ds n (and_parts (is_built_entity d) (list_all is_built_entity ds) p).1
 
-built_in : (ss : List Statement) → are_built ss ≡ true → list_all is_built_statement ss ≡ true
-built_in [] p = refl
-built_in (Statement.Commit ∷ []) p = refl
-built_in (Statement.Commit ∷ s ∷ ss) p = absurd (false≢true p)
-built_in (Statement.Find k ∷ ss) p = built_in ss p
-built_in (Statement.Persist k cs ∷ ss) p = built_in ss p
-built_in (Statement.Set k cs ∷ ss) p = absurd (false≢true p)
-built_in (Statement.Remove k ∷ ss) p = absurd (false≢true p)
-built_in (Statement.List q ∷ ss) p = absurd (false≢true p)
-built_in (Statement.Flush ∷ ss) p = absurd (false≢true p)
-built_in (Statement.Clear ∷ ss) p = absurd (false≢true p)
-built_in (Statement.Mode m ∷ ss) p = absurd (false≢true p)
-built_in (Statement.Rollback ∷ ss) p = absurd (false≢true p)
+-- no list is among the statements
+unasked_in : (q : ℕ) (ss : List Statement) → are_built ss ≡ true → list_any (λ st. asks q st) ss ≡ false
+unasked_in q [] p = refl
+unasked_in q (Statement.Commit ∷ []) p = refl
+unasked_in q (Statement.Commit ∷ s ∷ ss) p = absurd (false≢true p)
+unasked_in q (Statement.Find k ∷ ss) p = unasked_in q ss p
+unasked_in q (Statement.Persist k cs ∷ ss) p = unasked_in q ss p
+unasked_in q (Statement.Set k cs ∷ ss) p = absurd (false≢true p)
+unasked_in q (Statement.Remove k ∷ ss) p = absurd (false≢true p)
+unasked_in q (Statement.List r ∷ ss) p = absurd (false≢true p)
+unasked_in q (Statement.Flush ∷ ss) p = absurd (false≢true p)
+unasked_in q (Statement.Clear ∷ ss) p = absurd (false≢true p)
+unasked_in q (Statement.Mode m ∷ ss) p = absurd (false≢true p)
+unasked_in q (Statement.Rollback ∷ ss) p = absurd (false≢true p)
 
-sessions_in : (ds : List SessionDef) (s : ℕ) → list_all is_built_session ds ≡ true → list_all is_built_statement (statements (slice_get ds s)) ≡ true
-sessions_in [] s p = refl
-sessions_in (d ∷ ds) zero p = built_in d.statements (and_parts (is_built_session d) (list_all is_built_session ds) p).0
-sessions_in (d ∷ ds) (suc s) p = sessions_in ds s (and_parts (is_built_session d) (list_all is_built_session ds) p).1
-
-empty_is : {A : Type 0} → (xs : List A) → is_empty xs ≡ true → xs ≡ []
-empty_is [] p = refl
-empty_is (x ∷ xs) p = absurd (false≢true p)
+unasked_by : (ds : List SessionDef) (s q : ℕ) → list_all is_built_session ds ≡ true → list_any (λ st. asks q st) (statements (slice_get ds s)) ≡ false
+unasked_by [] s q p = refl
+unasked_by (d ∷ ds) zero q p = unasked_in q d.statements (and_parts (is_built_session d) (list_all is_built_session ds) p).0
+unasked_by (d ∷ ds) (suc s) q p = unasked_by ds s q (and_parts (is_built_session d) (list_all is_built_session ds) p).1
 
 -- the parts of a script's form
 pub record Form (s : Script) : Type 0 where
   pub entities : list_all is_built_entity s.mapping ≡ true
-  pub queries : is_empty s.queries ≡ true
   pub few : nat_le (length s.sessions) 1 ≡ true
   pub sessions : list_all is_built_session s.sessions ≡ true
 
@@ -66,12 +63,12 @@ form s p =
     let pe : (is_empty s.schedule ≡ true) × (e ≡ true) = and_parts (is_empty s.schedule) e pd.1 in
     let pf : (nat_le (length s.sessions) 1 ≡ true) × (f ≡ true) = and_parts (nat_le (length s.sessions) 1) f pe.1 in
     let pg : (list_all is_built_session s.sessions ≡ true) × (rest ≡ true) = and_parts (list_all is_built_session s.sessions) rest pf.1 in
-    record { entities = pb.0; queries = pd.0; few = pf.0; sessions = pg.0 }
+    record { entities = pb.0; few = pf.0; sessions = pg.0 }
 
-pub built : (s : Script) → is_built s ≡ true → IsBuilt s
-built s p =
+pub plain : (s : Script) → is_built s ≡ true → IsPlain s
+plain s p =
     let f : Form s = form s p in
-    record { uncached = λ n. uncached_in s.mapping n f.entities; unqueried = empty_is s.queries f.queries; statements = λ n. sessions_in s.sessions n f.sessions }
+    record { uncached = λ n. uncached_in s.mapping n f.entities; unasked = λ n q. unasked_by s.sessions n q f.sessions }
 
 -- where there is no session, or the first one is at its end, all are
 

@@ -1,13 +1,13 @@
 -- What the parts answer is what a legal journal says.
-use Rattle.std.proofs.Common.{◌≡◌, ◌≢◌, ◌⊎◌, ℕ, suc, ◌+◌, ◌-◌, ◌^◌, ◌≤◌, ◌<◌, min, ◌==◌, inl, inr, Bool, true, false, cond, not, ◌||◌, List, [], ◌∷◌, length, IsSome, Some, None, Option, refl, sym, ap, ◌∙◌, subst, arith}
+use Rattle.std.proofs.Common.{◌≡◌, ◌≢◌, ◌⊎◌, ℕ, suc, ◌+◌, ◌^◌, ◌≤◌, ◌<◌, ◌==◌, inl, inr, Bool, true, false, cond, not, ◌||◌, List, [], ◌∷◌, length, IsSome, Some, None, Option, refl, sym, ap, ◌∙◌, subst, arith}
 use Rattle.std.proofs.lemmas.Bool.{true≢false, false≢true, eqb-true}
 use Rattle.std.proofs.lemmas.Bool.Decides.{nat_tests}
 use Rattle.hib_base.specs.Tables.{Tables, row_at, after_changes, commit_answer}
 use Rattle.hib_base.proofs.Tables.{Tested, tested}
 use Rattle.hib_journal.specs.Types.{Key, Row, Change, Commit, Strategy, Script, Act, Reply, Entry}
-use Rattle.hib_journal.specs.Held.{held}
+use Rattle.hib_journal.specs.Held.{held, is_begin}
 use Rattle.hib_journal.specs.Sessions.{Journal, own, is_by, is_session, floor, least_live, is_live, is_open, was_killed, killed_by, committed, committed_by, committer, changes_in, deferred, deferred_after, is_begun, time, last_tick, IsTimely}
-use Rattle.hib_journal.specs.Next.{next, is_in, is_held, strategy}
+use Rattle.hib_journal.specs.Next.{next, is_in, is_held, strategy, is_cached_by}
 use Rattle.hib_journal.specs.Legal.{IsLegal, IsStep, IsReply, IsAnswer, reply_of, part_of, is_of_store, is_told, is_empty, is_outside, due, due_by, part_due, may_come, number, persisted, set_unless, is_there, row_of}
 use Rattle.hib_journal.proofs.Open.{begun_open}
 use Rattle.hib_journal.proofs.Inside.{inside}
@@ -16,9 +16,9 @@ use Rattle.hib_store.specs.Stores.{StoreState, changes_of, IsView, tables_answer
 use Rattle.hib_store.specs.declared.asking.Loaded.{Loaded}
 use Rattle.hib_session.specs.declared.session.Session.{Session}
 use Rattle.hib_session.specs.Session.{Follows, IsTaken, own_reply, number_of}
-use Rattle.hib_session.specs.Built.{IsAllowed}
+use Rattle.hib_session.specs.Due.{IsAllowed, is_inserting, is_removing}
 use Rattle.hib_journal.specs.Runs.{IsNumbered, told_committed, one_if, asks, ask_count, is_fault, fault_count}
-use Rattle.hib_top.specs.Run.{Origin, origin_of, RoseBy, RoseWithin, entry_of, Keeps, IsRun, IsReady, IsAnswered, IsAskedFor, Serves}
+use Rattle.hib_top.specs.Run.{Origin, origin_of, IsPlain, RoseBy, RoseWithin, entry_of, Keeps, IsRun, IsReady, IsAnswered, IsAskedFor, Serves}
 
 pub self_by : (s : ℕ) → (s == s) ≡ true
 self_by s = grind (arith, nat_tests)
@@ -293,6 +293,58 @@ commit_keeps from h s c old new k d t w o l f = keeps_step from h s Act.Commit (
     by_answer Commit.Fault None = refl
     by_answer Commit.Fault (Some start) = refl
 
+-- a rollback: the store drops what it deferred
+pub rollback_keeps : (from : Origin) (h : Journal) (s : ℕ) (old new : StoreState) → Keeps from h old → new.tables ≡ old.tables → changes_of new s ≡ [] →
+    ((n : ℕ) → n ≢ s → changes_of new n ≡ changes_of old n) → new.faults ≡ old.faults → Keeps from (entry_of h s Act.Rollback Reply.Done ∷ h) new
+rollback_keeps from h s old new k t w o f = keeps_step from h s Act.Rollback Reply.Done old new k
+    (t ∙ (k.rows ∙ sym (rows_same from.tables h s Act.Rollback Reply.Done refl))) w o (omega (arith, f))
+
+-- the acts that are left to the parts where nothing is cached and no query is asked
+abbrev pub is_parts : Act → Bool
+is_parts Act.Begin = true
+is_parts (Act.Load k) = true
+is_parts (Act.Write c) = true
+is_parts Act.Commit = true
+is_parts Act.Rollback = true
+is_parts (Act.Pre ts) = true
+is_parts (Act.Stamp ts) = true
+is_parts _ = false
+
+not_own : (r : Reply) → Some r ≡ None → ⊥
+not_own r e = cc
+
+not_locked : Strategy.ReadWrite ≡ Strategy.Uncached → ⊥
+not_locked e = cc
+
+pub of_parts : (script : Script) (s : ℕ) (mine : Journal) (a : Act) → IsPlain script → IsAllowed script s mine a → own_reply script mine a ≡ None → is_parts a ≡ true
+of_parts script s mine Act.Begin u w p = refl
+of_parts script s mine Act.End u w p = absurd (not_own _ p)
+of_parts script s mine (Act.Kill n) u w p = absurd (true≢false w.inside)
+of_parts script s mine Act.Restart u w p = absurd (true≢false w.inside)
+of_parts script s mine (Act.Find k) u w p = absurd (not_own _ p)
+of_parts script s mine (Act.Persist k r) u w p = absurd (not_own _ p)
+of_parts script s mine (Act.Set k cells) u w p = absurd (not_own _ p)
+of_parts script s mine (Act.Remove k) u w p = absurd (not_own _ p)
+of_parts script s mine Act.Clear u w p = absurd (not_own _ p)
+of_parts script s mine (Act.Load k) u w p = refl
+of_parts script s mine (Act.List q) u w p = absurd (true≢false (sym w.suits ∙ u.unasked s q))
+of_parts script s mine (Act.Write c) u w p = refl
+of_parts script s mine Act.Commit u w p = refl
+of_parts script s mine Act.Rollback u w p = refl
+of_parts script s mine (Act.Pre ts) u w p = refl
+of_parts script s mine (Act.Stamp ts) u w p = refl
+of_parts script s mine (Act.Check q t) u w p = absurd (true≢false (sym w.suits.0 ∙ u.unasked s q))
+of_parts script s mine (Act.Look q) u w p = absurd (true≢false (sym w.suits ∙ u.unasked s q))
+of_parts script s mine (Act.Keep q t l) u w p = absurd (true≢false (sym w.suits.0 ∙ u.unasked s q))
+of_parts script s mine (Act.Get k t) u w p = absurd (true≢false (sym w.suits.0 ∙ ap is_cached_by (u.uncached k.entity)))
+of_parts script s mine (Act.Put k r t f) u w p = absurd (true≢false (sym w.suits.0 ∙ ap is_cached_by (u.uncached k.entity)))
+of_parts script s mine (Act.Lock k v f) u w p = absurd (not_locked (sym w.suits.0 ∙ u.uncached k.entity))
+of_parts script s mine (Act.Unlock k i) u w p = absurd (not_locked (sym w.suits ∙ u.uncached k.entity))
+of_parts script s mine (Act.AfterInsert k r f) u w p = absurd (true≢false (sym w.suits.0 ∙ ap is_inserting (u.uncached k.entity)))
+of_parts script s mine (Act.AfterUpdate k i r) u w p = absurd (not_locked (sym w.suits ∙ u.uncached k.entity))
+of_parts script s mine (Act.RegionRemove k) u w p = absurd (true≢false (sym w.suits ∙ ap is_removing (u.uncached k.entity)))
+of_parts script s mine (Act.Evict k) u w p = absurd (true≢false w.inside)
+
 -- the session answers itself
 -- a session answers no fault
 abbrev is_calm : Option Reply → Bool
@@ -375,6 +427,7 @@ unkilled s _ o p = refl
 pub goes_on : (script : Script) (from : Origin) (h : Journal) (s : ℕ) (a : Act) (r : Reply) (old new : StoreState) → IsRun script from s h old →
     next script s (own s h) ≡ Some a → IsAnswered script from h s a r new → length h < 2 ^ 62 → IsRun script from s (entry_of h s a r ∷ h) new
 goes_on script from h s a r old new run p v l = record {
+  plain = run.plain;
   legal = (
     run.legal,
     record {
@@ -409,9 +462,10 @@ alone_least whole (e ∷ h) now o = rw (none_live e.act e.session) (alone_least 
     none_live _ by = refl
 
 pub ready : (script : Script) (from : Origin) (h : Journal) (session : Session) (a : Act) (store : StoreState) → IsRun script from (number_of session) h store →
-    Follows script session (own (number_of session) h) → IsAllowed (own (number_of session) h) a → IsReady script from h session a store
+    Follows script session (own (number_of session) h) → IsAllowed script (number_of session) (own (number_of session) h) a → IsReady script from h session a store
 ready script from h session a store run f w = record {
   keeps = run.keeps;
+  plain = run.plain;
   follows = f;
   allowed = w;
   alone = λ p. alone_least h h (length h + 1) (λ n. begun_open n h (run.alive n) ∙ at_rest n (tested (n == number_of session)) p);
@@ -419,10 +473,7 @@ ready script from h session a store run f w = record {
   where
     at_rest : (n : ℕ) → Tested (n == number_of session) → a ≡ Act.Begin → is_begun (own n h) ≡ false
     at_rest n (inl q) p = let e : n ≡ number_of session = eqb-true n (number_of session) q in
-        ap (λ m. is_begun (own m h)) e ∙ begins a p w.suits
-      where
-        begins : (x : Act) → x ≡ Act.Begin → Rattle.hib_session.specs.Built.Suits (own (number_of session) h) x → is_begun (own (number_of session) h) ≡ false
-        begins x p v = subst (λ y. Rattle.hib_session.specs.Built.Suits (own (number_of session) h) y) p v
+        ap (λ m. is_begun (own m h)) e ∙ (w.begun ∙ ap (λ x. not (is_begin x)) p)
     at_rest n (inr q) p = run.others n q
 
 -- an act that was answered and told was served
@@ -455,8 +506,9 @@ pub own_grown : (script : Script) (from : Origin) (session : Session) (a : Act) 
 own_grown script from session a h new old store w = ap (own (number_of session)) w.grown ∙ own_self h (number_of session) a w.answer
 
 -- at the start nothing was done
-pub run_starts : (script : Script) (s : ℕ) (h : Journal) (store : StoreState) → h ≡ [] → store.written ≡ [] → IsRun script (origin_of store) s h store
-run_starts script s h store e w = rw e (record {
+pub run_starts : (script : Script) (s : ℕ) (h : Journal) (store : StoreState) → IsPlain script → h ≡ [] → store.written ≡ [] → IsRun script (origin_of store) s h store
+run_starts script s h store u e w = rw e (record {
+  plain = u;
   legal = tt;
   numbered = tt;
   alive = λ n. refl;

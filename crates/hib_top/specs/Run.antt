@@ -1,13 +1,14 @@
 -- A run, as far as it has come.
 use Rattle.std.specs.Prelude.{◌≡◌, ℕ, ◌+◌, ◌-◌, ◌^◌, ◌≤◌, min, false, ◌==◌, ◌∷◌, length, Some, Option}
-use Rattle.hib_journal.specs.Types.{Script, Act, Reply, Entry}
+use Rattle.hib_journal.specs.Types.{Strategy, Script, Act, Reply, Entry}
 use Rattle.hib_base.specs.Tables.{Tables}
 use Rattle.hib_journal.specs.Sessions.{Journal, own, floor, changes_in, deferred, is_begun, was_killed}
+use Rattle.hib_journal.specs.Next.{strategy}
 use Rattle.hib_journal.specs.Legal.{IsLegal, IsReply, part_of}
 use Rattle.hib_journal.specs.Runs.{IsNumbered, told_committed, one_if, asks, fault_count}
 use Rattle.hib_store.specs.Stores.{StoreState, changes_of}
 use Rattle.hib_session.specs.declared.session.Session.{Session}
-use Rattle.hib_session.specs.Built.{IsAllowed}
+use Rattle.hib_session.specs.Due.{IsAllowed, is_asked}
 use Rattle.hib_session.specs.Session.{Follows, own_reply, number_of}
 
 -- what a run begins with: the committed rows, where the keeper tells them, and its counts
@@ -39,8 +40,14 @@ pub record Keeps (from : Origin) (h : Journal) (store : StoreState) : Type 0 whe
   pub changes : (n : ℕ) → changes_of store n ≡ deferred (own n h)
   pub faults : RoseBy from.faults (fault_count h) store.faults
 
--- a legal journal so far, in which no session but s has a transaction open
+-- nothing is cached, and no query is asked
+pub record IsPlain (script : Script) : Type 0 where
+  pub uncached : (n : ℕ) → strategy script n ≡ Strategy.Uncached
+  pub unasked : (s q : ℕ) → is_asked script s q ≡ false
+
+-- a legal journal so far of a plain script, in which no session but s has a transaction open
 pub record IsRun (script : Script) (from : Origin) (s : ℕ) (h : Journal) (store : StoreState) : Type 0 where
+  pub plain : IsPlain script
   pub legal : IsLegal script from.tables h
   pub numbered : IsNumbered h
   pub alive : (n : ℕ) → was_killed n h ≡ false
@@ -50,8 +57,9 @@ pub record IsRun (script : Script) (from : Origin) (s : ℕ) (h : Journal) (stor
 -- an act may be answered
 pub record IsReady (script : Script) (from : Origin) (h : Journal) (session : Session) (act : Act) (store : StoreState) : Type 0 where
   pub keeps : Keeps from h store
+  pub plain : IsPlain script
   pub follows : Follows script session (own (number_of session) h)
-  pub allowed : IsAllowed (own (number_of session) h) act
+  pub allowed : IsAllowed script (number_of session) (own (number_of session) h) act
   -- a session that begins has no older one beside it
   pub alone : act ≡ Act.Begin → floor h (length h + 1) ≡ length h + 1
 

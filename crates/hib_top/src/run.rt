@@ -3,12 +3,11 @@ ghost use Rattle.std.specs.Prelude.{◌≡◌, ◌∷◌, ◌<◌, ◌^◌, [], 
 ghost use Rattle.hib_journal.specs.Kept.{past};
 ghost use Rattle.hib_journal.specs.Sessions.{own};
 ghost use Rattle.hib_journal.specs.Next.{next};
-ghost use Rattle.hib_session.specs.Built.{IsAllowed};
-ghost use Rattle.hib_session.specs.Memory.{IsBuilt};
+ghost use Rattle.hib_session.specs.Due.{IsAllowed};
 ghost use Rattle.hib_session.specs.Session.{Follows, IsTaken, number_of, left_in};
 ghost use Rattle.hib_base.specs.declared.entries.Entry.{Entry};
 ghost use Rattle.hib_journal.specs.Runs.{ask_count};
-ghost use Rattle.hib_top.specs.Run.{Origin, origin_of, IsRun, RoseWithin, Serves, entry_of};
+ghost use Rattle.hib_top.specs.Run.{Origin, origin_of, IsPlain, IsRun, RoseWithin, Serves, entry_of};
 
 use crate::serve::{answer, part_of};
 use hib_base::{Act, Entry, Reply, Script, SessionNo, Tick};
@@ -47,7 +46,7 @@ fn serve<K: Keeper>(
 ) -> Result<(), AllocError>
     ensures ok { OnOk result ((from : Origin) → IsRun script.now from (number_of session.now) (past journal.old) store.old
         → Follows script.now session.now (own (number_of session.now) (past journal.old))
-        → IsAllowed (own (number_of session.now) (past journal.old)) act
+        → IsAllowed script.now (number_of session.now) (own (number_of session.now) (past journal.old)) act
         → next script.now (number_of session.now) (own (number_of session.now) (past journal.old)) ≡ Some act
         → Serves script.now from session.now act (past journal.old) (past journal.new) store.old store.new) }
     ensures err { OnErr result ((from : Origin) → IsRun script.now from (number_of session.now) (past journal.old) store.old
@@ -128,7 +127,7 @@ pub fn run_session<K: Keeper>(
 ) -> Result<(), AllocError>
     requires empty { past journal.old ≡ [] }
     requires unwritten { store.old.written ≡ [] }
-    requires built { IsBuilt script.now }
+    requires plain { IsPlain script.now }
     ensures run { IsRun script.now (origin_of store.old) number (past journal.new) store.new }
     ensures asked { OnOk result (RoseWithin store.old.asked (ask_count (past journal.new)) store.new.asked) }
     ensures ended { OnOk result (next script.now number (own number (past journal.new)) ≡ None) }

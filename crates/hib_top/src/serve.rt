@@ -93,11 +93,15 @@ fn part_reply<K: Keeper>(
             Ok(Reply::Written)
         }
         Act::Commit => commit(alloc, store, number),
+        Act::Rollback => {
+            store.drop_changes(number);
+            Ok(Reply::Done)
+        }
         Act::Pre { .. } => Ok(Reply::Stamped {
             value: Tick(now + script.timeout as u64),
         }),
         Act::Stamp { .. } => Ok(Reply::Stamped { value: Tick(now) }),
-        // No other act is due yet.
+        // No other act is due where nothing is cached and no query is asked.
         _ => Ok(Reply::Done),
     }
 }

@@ -1,9 +1,9 @@
-use Rattle.std.proofs.Common.{◌≡◌, Some, None, Option, sym, ap, ◌∙◌, subst, arith}
+use Rattle.std.proofs.Common.{◌≡◌, None, sym, ap, ◌∙◌, subst, arith}
 use Rattle.hib_journal.specs.Kept.{past}
 use Rattle.hib_journal.specs.Sessions.{own}
 use Rattle.hib_journal.specs.Next.{next}
 use Rattle.hib_journal.specs.Runs.{ask_count}
-use Rattle.hib_session.specs.Session.{Follows, number_of}
+use Rattle.hib_session.specs.Session.{Follows}
 use Rattle.hib_top.specs.Run.{RoseWithin, IsRun, origin_of}
 use Rattle.hib_top.proofs.Serving.{run_starts}
 use Rattle.hib_top.proofs.run.run_session.Goals as goal
@@ -11,11 +11,11 @@ use Rattle.hib_top.proofs.run.run_session.Goals as goal
 pub loop-session-init : goal.loop-session-init
 loop-session-init g c = record {
   number = c.open-session.ensures.number;
-  run = run_starts c.args.script.now c.args.number (past c.args.journal.now) c.args.store.now c.requires.empty c.requires.unwritten;
+  run = run_starts c.args.script.now c.args.number (past c.args.journal.now) c.args.store.now c.requires.plain c.requires.empty c.requires.unwritten;
   asked = subst (λ h. RoseWithin c.args.store.now.asked (ask_count h) c.args.store.now.asked) (sym c.requires.empty)
       (record { later = omega arith; few = omega arith });
   follows = subst (λ m. Follows c.args.script.now c.open-session.result m) (sym (ap (own c.args.number) c.requires.empty))
-      (c.open-session.ensures.follows c.args.script.now c.requires.built);
+      (c.open-session.ensures.follows c.args.script.now);
 }
 
 pub loop-session-smaller : goal.loop-session-smaller
