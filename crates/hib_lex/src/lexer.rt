@@ -62,14 +62,14 @@ pub fn is_lexical(line: &[u8]) -> bool
     line.len() <= MOST_BYTES && is_printable(line)
 }
 
-fn is_printable(line: &[u8]) -> bool
+pub fn is_printable(line: &[u8]) -> bool
     ensures { result ≡ list_all is_printable line.now }
 {
     line.iter().all(|byte| *byte >= 32 && *byte <= 126)
 }
 
 /// Whether a line says nothing: spaces alone, no byte at all, or a comment.
-#[tactic(auto, using(crate::proofs::Lines::blank_next))]
+#[tactic(auto, using(crate::proofs::Scans::blank_next))]
 pub fn is_skipped(line: &[u8]) -> bool
     ensures { result ≡ lines.is_blank line.now }
 {
@@ -83,7 +83,7 @@ pub fn is_skipped(line: &[u8]) -> bool
 
 /// The tokens of a line, or none where a byte, its length or a part of it is against the rules. A comment isn't told
 /// from other lines here: ask `is_skipped` first.
-#[tactic(auto, using(crate::proofs::Lines::scan_next, crate::proofs::Lines::scan_done))]
+#[tactic(auto, using(crate::proofs::Scans::scan_next, crate::proofs::Scans::scan_done))]
 pub fn tokens(alloc: Global, line: &[u8]) -> Result<Option<Tokens>, AllocError>
     ensures { IfOk result (λ t. t ≡ lines.tokens_of line.now) }
 {
@@ -337,7 +337,7 @@ fn natural(digits: &[u8]) -> Option<i64>
 }
 
 /// The number that digits stand for behind a minus: they don't begin with 0.
-#[tactic(auto, using(crate::proofs::Lines::positive_size))]
+#[tactic(auto, using(crate::proofs::Scans::positive_size))]
 fn negative(digits: &[u8]) -> Option<i64>
     ensures { result ≡ lines.negative_of digits.now }
 {
@@ -384,7 +384,7 @@ fn are_digits(bytes: &[u8]) -> bool
 }
 
 /// What digits add up to, each with the weight of its place; none from 2^64 on.
-#[tactic(auto, using(crate::proofs::Lines::digit_next, crate::proofs::Lines::size_grows, crate::proofs::Lines::size_done))]
+#[tactic(auto, using(crate::proofs::Scans::digit_next, crate::proofs::Scans::size_grows, crate::proofs::Scans::size_done))]
 fn size(digits: &[u8]) -> Option<u64>
     ensures { SomeIff result (lines.size_of digits.now < 2 ^ 64) (lines.size_of digits.now) }
 {

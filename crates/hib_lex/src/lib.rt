@@ -1,6 +1,12 @@
-//! The tokens of a line of a script.
+//! The lines of a script, and the tokens of each.
 #![tactic(auto)]
 
+mod errors;
 mod lexer;
+mod lines;
+mod words;
 
+pub use errors::LexError;
 pub use lexer::{MOST_BYTES, MOST_TEXT, Token, Tokens, is_lexical, is_skipped, tokens};
+pub use lines::{Line, Lines, lex};
+pub use words::{begins, is_the_word};

@@ -1,0 +1,69 @@
+-- The lines of a text, their tokens, and the first bad one.
+use Rattle.std.specs.Prelude.{◌≡◌, ℕ, suc, ◌+◌, List, [], ◌∷◌, ◌++◌, length, cond, ◌==◌, nat_le, Option, Some, None, Result, Ok, Err}
+use Rattle.std.specs.List.{list_all}
+use Rattle.hib_base.specs.Fits.{is_printable}
+use Rattle.hib_base.specs.declared.refusals.Kind.{Kind}
+use Rattle.hib_base.specs.declared.refusals.Refused.{Refused}
+use Rattle.hib_lex.specs.Tokens.{is_blank, tokens_of}
+use Rattle.hib_lex.specs.declared.lexer.Token.{Token}
+use Rattle.hib_lex.specs.declared.lines.Content.{Content}
+use Rattle.hib_lex.specs.declared.lines.Lines.{Lines}
+use Rattle.hib_lex.specs.declared.errors.LexError.{LexError}
+
+-- ---- the lines of a text
+abbrev pub line_feed : ℕ
+line_feed = 10
+
+-- a byte before the first of some lines
+abbrev pub before_lines : ℕ → List (List ℕ) → List (List ℕ)
+before_lines b [] = (b ∷ []) ∷ []
+before_lines b (l ∷ ls) = (b ∷ l) ∷ ls
+
+-- the lines of a text, without their line ends; the last line end may be missing
+abbrev pub lines_of : List ℕ → List (List ℕ)
+lines_of [] = []
+lines_of (b ∷ bs) = cond (b == line_feed) ([] ∷ lines_of bs) (before_lines b (lines_of bs))
+
+-- how many bytes stand before the first line end, or in all
+abbrev pub line_length : List ℕ → ℕ
+line_length [] = 0
+line_length (b ∷ bs) = cond (b == line_feed) 0 (suc (line_length bs))
+
+-- ---- what a line holds
+abbrev pub tokens_or_bad : Option (List Token) → Content
+tokens_or_bad None = Content.Bad Kind.Token
+tokens_or_bad (Some ts) = Content.Tokens ts
+
+-- a line that is skipped has to be printable and short too
+abbrev pub content_of : List ℕ → Content
+content_of line =
+    cond (list_all is_printable line)
+    (cond (nat_le (length line) 4096)
+    (cond (is_blank line) Content.Nothing (tokens_or_bad (tokens_of line)))
+    (Content.Bad Kind.Long))
+    (Content.Bad Kind.Byte)
+
+-- ---- the lines with one more; it has the number behind those so far
+abbrev pub with_content : Lines → Content → Result Lines Refused
+with_content done Content.Nothing = Ok (record done { count = done.count + 1 })
+with_content done (Content.Tokens ts) =
+    Ok (record { lines = done.lines ++ record { line = done.count + 1; tokens = ts } ∷ []; count = done.count + 1 })
+with_content done (Content.Bad kind) = Err (record { line = done.count + 1; kind = kind })
+
+abbrev pub with_line : Lines → List ℕ → Result Lines Refused
+with_line done line = with_content done (content_of line)
+
+-- the lines that are left behind those so far; the first bad one ends it
+abbrev pub lexing : Result Lines Refused → List (List ℕ) → Result Lines Refused
+lexing (Err r) ls = Err r
+lexing (Ok done) [] = Ok done
+lexing (Ok done) (l ∷ ls) = lexing (with_line done l) ls
+
+-- the lines of a text that say something, with their tokens, or the first bad line
+abbrev pub lex_of : List ℕ → Result Lines Refused
+lex_of text = lexing (Ok (record { lines = []; count = 0 })) (lines_of text)
+
+-- the first bad line is the one that is refused; want of memory says nothing
+abbrev pub IsWhere : Result Lines Refused → LexError → Type 0
+IsWhere r LexError.NoMemory = Unit {0}
+IsWhere r (LexError.Refused x) = r ≡ Err x

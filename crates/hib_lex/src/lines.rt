@@ -1,0 +1,121 @@
+// The lines of a text that say something, with their tokens.
+ghost use Rattle.hib_lex.specs.Lines as format;
+ghost use Rattle.std.specs.Prelude.{◌≡◌, ◌+◌, ◌^◌, ◌<◌, length, IfOk, IfErr};
+
+use crate::errors::LexError;
+use crate::lexer::{MOST_BYTES, Tokens, is_printable, is_skipped, tokens};
+use hib_base::{Kind, Refused, Seq};
+use std::alloc::{AllocError, Global};
+
+/// A line that isn't skipped.
+#[derive(Drop)]
+pub struct Line {
+    /// The line's number, from 1.
+    pub line: u32,
+    /// Its tokens, in order.
+    pub tokens: Tokens,
+}
+
+/// The lines of a text.
+#[derive(Drop)]
+pub struct Lines {
+    /// Those that aren't skipped, in order.
+    pub lines: Seq<Line>,
+    /// How many lines there are, the skipped ones among them.
+    pub count: u32,
+}
+
+/// What a line holds.
+#[derive(Drop)]
+enum Content {
+    /// Nothing: spaces alone, no byte, or a comment.
+    Nothing,
+    /// Tokens.
+    Tokens(Tokens),
+    /// Something that breaks a rule.
+    Bad(Kind),
+}
+
+/// The lines of a text with their tokens, without those that are skipped. Lines are numbered from 1; their number is
+/// that of the line feeds, plus one where bytes follow the last.
+///
+/// Errors: `Refused` exactly where a line breaks a rule, with the first such line, and with the first of the kinds byte,
+/// long and token that it has; `NoMemory` where there is none left. Nothing else is changed.
+#[tactic(auto, using(crate::proofs::Texts::lexing_done, crate::proofs::Texts::length_fits))]
+pub fn lex(alloc: Global, text: &[u8]) -> Result<Lines, LexError>
+    requires { length text.now < 2 ^ 31 }
+    ensures lines { IfOk result (λ l. format.lex_of text.now ≡ Ok l) }
+    ensures refused { IfErr result (format.IsWhere (format.lex_of text.now)) }
+{
+    let mut done = Lines {
+        lines: Seq::new(alloc),
+        count: 0,
+    };
+    let mut start = 0;
+    while start < text.len() {
+        let end = start + line_length(&text[start..]);
+        done = with_line(alloc, done, &text[start..end])?;
+        start = end + 1;
+    }
+    Ok(done)
+}
+
+/// The lines with one more, or why that one is bad.
+fn with_line(alloc: Global, done: Lines, line: &[u8]) -> Result<Lines, LexError>
+    requires { done.count < 2 ^ 31 }
+    ensures lines { IfOk result (λ l. format.with_line done line.now ≡ Ok l) }
+    ensures count { IfOk result (λ l. l.count ≡ done.count + 1) }
+    ensures refused { IfErr result (format.IsWhere (format.with_line done line.now)) }
+{
+    let Lines { mut lines, count } = done;
+    let line_number = count + 1;
+    match content_of(alloc, line)? {
+        Content::Nothing => {}
+        Content::Tokens(tokens) => lines.push(Line {
+            line: line_number,
+            tokens,
+        })?,
+        Content::Bad(kind) => {
+            return Err(LexError::Refused(Refused {
+                line: line_number,
+                kind,
+            }));
+        }
+    }
+    Ok(Lines {
+        lines,
+        count: line_number,
+    })
+}
+
+/// What a line holds.
+fn content_of(alloc: Global, line: &[u8]) -> Result<Content, AllocError>
+    ensures { IfOk result (λ c. c ≡ format.content_of line.now) }
+{
+    if !is_printable(line) {
+        return Ok(Content::Bad(Kind::Byte));
+    }
+    if line.len() > MOST_BYTES {
+        return Ok(Content::Bad(Kind::Long));
+    }
+    if is_skipped(line) {
+        return Ok(Content::Nothing);
+    }
+    match tokens(alloc, line)? {
+        Some(tokens) => Ok(Content::Tokens(tokens)),
+        None => Ok(Content::Bad(Kind::Token)),
+    }
+}
+
+/// How many bytes stand before the first line end, or in all.
+#[tactic(auto, using(crate::proofs::Texts::length_next, crate::proofs::Texts::length_done))]
+fn line_length(text: &[u8]) -> usize
+    ensures { result ≡ format.line_length text.now }
+{
+    for (i, byte) in text.iter().enumerate() {
+        if *byte == b'\n' {
+            return i;
+        }
+    }
+    text.len()
+}

@@ -1,0 +1,107 @@
+-- The entity and column lines: their forms, the first thing that is wrong with one, and what it declares.
+use Rattle.std.specs.Prelude.{ℕ, Bool, false, cond, not, ◌&&◌, ◌||◌, nat_le, List, [], ◌∷◌, ◌++◌, length, Option, Some, None, is_some, unwrap_or, codes, bytes_eq}
+use Rattle.hib_base.specs.declared.refusals.Kind.{Kind}
+use Rattle.hib_base.specs.declared.scripts.ColumnType.{ColumnType}
+use Rattle.hib_base.specs.declared.scripts.EntityDef.{EntityDef}
+use Rattle.hib_base.specs.declared.scripts.Strategy.{Strategy}
+use Rattle.hib_lex.specs.Words.{is_the_word}
+use Rattle.hib_lex.specs.declared.lexer.Token.{Token}
+use Rattle.hib_mapping.specs.Parts.{is_a_word, is_a_number, word_of, is_within, number_up_to, small, entity_at, column_at}
+
+-- ---- entity NAME STRATEGY VERSIONING CAPACITY
+abbrev pub is_versioned : Token → Bool
+is_versioned t = is_the_word (codes "versioned") t
+
+abbrev pub is_versioning : Token → Bool
+is_versioning t = is_versioned t || is_the_word (codes "plain") t
+
+abbrev pub is_entity_line : List Token → Bool
+is_entity_line (first ∷ name ∷ strategy ∷ versioning ∷ capacity ∷ []) =
+    is_a_word name && (is_a_word strategy && (is_versioning versioning && is_a_number capacity))
+is_entity_line _ = false
+
+abbrev pub strategy_of : Token → Option Strategy
+strategy_of t =
+    cond (is_the_word (codes "none") t) (Some Strategy.Uncached)
+    (cond (is_the_word (codes "read-only") t) (Some Strategy.ReadOnly)
+    (cond (is_the_word (codes "nonstrict") t) (Some Strategy.Nonstrict)
+    (cond (is_the_word (codes "read-write") t) (Some Strategy.ReadWrite) None)))
+
+-- nothing is kept of an uncached entity
+abbrev pub is_capacity : Strategy → Token → Bool
+is_capacity Strategy.Uncached t = is_within 0 0 t
+is_capacity _ t = is_within 1 100000 t
+
+abbrev pub strategy_kind : Option Strategy → Token → Option Kind
+strategy_kind None capacity = Some Kind.Strategy
+strategy_kind (Some s) capacity = cond (is_capacity s capacity) None (Some Kind.Capacity)
+
+abbrev pub or_no_columns : Bool → Option Kind → Option Kind
+or_no_columns followed (Some k) = Some k
+or_no_columns followed None = cond followed None (Some Kind.NoColumns)
+
+abbrev pub parts_kind : List EntityDef → Bool → Token → Token → Token → Option Kind
+parts_kind m followed name strategy capacity =
+    cond (nat_le 64 (length m)) (Some Kind.ManyEntities)
+    (cond (is_some (entity_at m (word_of name))) (Some Kind.EntityTaken)
+    (or_no_columns followed (strategy_kind (strategy_of strategy) capacity)))
+
+-- what is wrong with an entity line of this form behind the entities m, if anything; followed: the next line is a column's
+abbrev pub entity_kind : List EntityDef → Bool → List Token → Option Kind
+entity_kind m followed (first ∷ name ∷ strategy ∷ versioning ∷ capacity ∷ []) = parts_kind m followed name strategy capacity
+entity_kind m followed _ = None
+
+-- the entity of a line with which nothing is wrong, without its columns
+abbrev pub entity_of : List Token → Option EntityDef
+entity_of (first ∷ name ∷ strategy ∷ versioning ∷ capacity ∷ []) =
+    Some (record {
+      name = word_of name;
+      strategy = unwrap_or (strategy_of strategy) Strategy.Uncached;
+      versioned = is_versioned versioning;
+      capacity = number_up_to 100000 capacity;
+      columns = [];
+    })
+entity_of _ = None
+
+-- ---- column NAME TYPE, where TYPE is a word, or `ref` and an entity's name
+abbrev pub is_column_line : List Token → Bool
+is_column_line (first ∷ name ∷ kind ∷ []) = is_a_word name && (is_a_word kind && not (is_the_word (codes "ref") kind))
+is_column_line (first ∷ name ∷ kind ∷ target ∷ []) = is_a_word name && (is_the_word (codes "ref") kind && is_a_word target)
+is_column_line _ = false
+
+abbrev pub type_of : Token → Option ColumnType
+type_of t =
+    cond (is_the_word (codes "int") t) (Some ColumnType.Int)
+    (cond (is_the_word (codes "text") t) (Some ColumnType.Text)
+    (cond (is_the_word (codes "bool") t) (Some ColumnType.Bool) None))
+
+-- the entity that a reference of entity e leads to: e itself, or one that was declared before
+abbrev pub target_of : List EntityDef → EntityDef → Token → Option ℕ
+target_of m e t = cond (bytes_eq e.name (word_of t)) (small (length m)) (entity_at m (word_of t))
+
+abbrev pub kind_unless : {A : Type 0} → Kind → Option A → Option Kind
+kind_unless k None = Some k
+kind_unless k (Some x) = None
+
+abbrev pub type_kind : List EntityDef → EntityDef → List Token → Option Kind
+type_kind m e (kind ∷ []) = kind_unless Kind.ColumnType (type_of kind)
+type_kind m e (kind ∷ target ∷ []) = kind_unless Kind.RefUnknown (target_of m e target)
+type_kind m e _ = None
+
+-- what is wrong with a column line of this form behind the entities m and the entity e, if anything
+abbrev pub column_kind : List EntityDef → EntityDef → List Token → Option Kind
+column_kind m e (first ∷ name ∷ type) =
+    cond (nat_le 16 (length e.columns)) (Some Kind.ManyColumns)
+    (cond (is_some (column_at e.columns (word_of name))) (Some Kind.ColumnTaken) (type_kind m e type))
+column_kind m e _ = None
+
+abbrev pub type_from : List EntityDef → EntityDef → List Token → ColumnType
+type_from m e (kind ∷ []) = unwrap_or (type_of kind) ColumnType.Int
+type_from m e (kind ∷ target ∷ []) = ColumnType.Ref (unwrap_or (target_of m e target) 0)
+type_from m e _ = ColumnType.Int
+
+-- the entity with the column of a line with which nothing is wrong
+abbrev pub with_column : List EntityDef → EntityDef → List Token → EntityDef
+with_column m e (first ∷ name ∷ type) =
+    record e { columns = e.columns ++ record { name = word_of name; kind = type_from m e type } ∷ [] }
+with_column m e _ = e

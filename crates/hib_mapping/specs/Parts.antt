@@ -1,0 +1,52 @@
+-- What single tokens are, and what names stand for.
+use Rattle.std.specs.Prelude.{ℕ, Bool, true, false, cond, ◌&&◌, nat_le, nat_lt, List, [], ◌∷◌, pos, Option, Some, None, option_and_then, position, codes, bytes_eq}
+use Rattle.std.specs.List.{list_any}
+use Rattle.hib_base.specs.declared.scripts.ColumnDef.{ColumnDef}
+use Rattle.hib_base.specs.declared.scripts.EntityDef.{EntityDef}
+use Rattle.hib_lex.specs.declared.lexer.Token.{Token}
+
+-- ---- tokens
+abbrev pub is_a_word : Token → Bool
+is_a_word (Token.Word w) = true
+is_a_word _ = false
+
+abbrev pub is_a_number : Token → Bool
+is_a_number (Token.Number n) = true
+is_a_number _ = false
+
+-- the bytes of a word, and none of another token
+abbrev pub word_of : Token → List ℕ
+word_of (Token.Word w) = w
+word_of _ = []
+
+-- a number from low to high
+abbrev pub is_within : ℕ → ℕ → Token → Bool
+is_within low high (Token.Number (pos n)) = nat_le low n && nat_le n high
+is_within low high _ = false
+
+-- the number, where a token is one from 0 to high; else 0
+abbrev pub number_up_to : ℕ → Token → ℕ
+number_up_to high (Token.Number (pos n)) = cond (nat_le n high) n 0
+number_up_to high _ = 0
+
+-- ---- names
+-- words that are no names
+abbrev pub reserved : List (List ℕ)
+reserved =
+    codes "cached" ∷ codes "from" ∷ codes "where" ∷ codes "order" ∷ codes "desc" ∷ codes "offset" ∷ codes "limit" ∷
+    codes "select" ∷ codes "ids" ∷ codes "count" ∷ codes "true" ∷ codes "false" ∷ codes "none" ∷ []
+
+abbrev pub is_reserved : List ℕ → Bool
+is_reserved w = list_any (λ r. bytes_eq w r) reserved
+
+-- places are counted from 0, below 65,536
+abbrev pub small : ℕ → Option ℕ
+small n = cond (nat_lt n 65536) (Some n) None
+
+-- the entity of a name, by its place
+abbrev pub entity_at : List EntityDef → List ℕ → Option ℕ
+entity_at m w = option_and_then small (position (λ e. bytes_eq e.name w) m)
+
+-- the column of a name, by its place
+abbrev pub column_at : List ColumnDef → List ℕ → Option ℕ
+column_at ds w = option_and_then small (position (λ d. bytes_eq d.name w) ds)
