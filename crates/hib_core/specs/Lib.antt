@@ -1,0 +1,4 @@
+pub mod Registry
+pub mod Region
+pub mod Laws
+pub mod Standing
