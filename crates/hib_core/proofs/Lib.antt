@@ -5,3 +5,4 @@ pub mod Stored
 pub mod Served
 pub mod StoreServed
 pub mod Outcomes
+pub mod OwnServed

@@ -12,3 +12,7 @@ both_ok (Err e) P R Q p q f = tt
 pub map_err : {T E : Type 0} (r : Result T E) (R Q : Type 0) → OnErr r R → (R → Q) → OnErr r Q
 map_err (Ok t) R Q p f = tt
 map_err (Err e) R Q p f = f p
+
+pub two_ok : {T E : Type 0} (r : Result T E) (P R Q : T → Type 0) → IfOk r P → IfOk r R → ((t : T) → P t → R t → Q t) → IfOk r Q
+two_ok (Ok t) P R Q p q f = f t p q
+two_ok (Err e) P R Q p q f = tt

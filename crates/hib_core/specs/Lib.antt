@@ -2,3 +2,4 @@ pub mod Registry
 pub mod Region
 pub mod Laws
 pub mod Standing
+pub mod Factory

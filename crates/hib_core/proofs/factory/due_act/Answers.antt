@@ -1,0 +1,4 @@
+use Rattle.hib_core.proofs.factory.due_act.Goals as goal
+
+pub returns-clause-due : goal.returns-clause-due
+returns-clause-due c = ?
