@@ -1,4 +1,3 @@
 pub mod Items
-pub mod Shown
 pub mod Stands
 pub mod Laws

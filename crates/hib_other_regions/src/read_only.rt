@@ -2,7 +2,7 @@
 ghost use Rattle.std.specs.Prelude.{◌≡◌, IfOk, OnOk, OnErr, true};
 ghost use Rattle.hib_journal.specs.Regions.{got_item, put_item, insert_item, remove_item, evict_item};
 ghost use Rattle.hib_other_regions.specs.Items.{empty, item_in, oldest_in, after_put, after_remove, after_clear};
-ghost use Rattle.hib_other_regions.specs.Shown.{got_reply, removed_reply};
+ghost use Rattle.hib_room_laws.specs.Answers.{got_reply, removed_reply};
 
 use crate::items::Items;
 use hib_base::{Evicted, Got, Inserted, Miss, Put, Row, Tick};

@@ -1,3 +1,7 @@
+ghost use Rattle.std.specs.Prelude.{◌≡◌};
+ghost use Rattle.std.specs.Option.{option_map};
+ghost use Rattle.hib_query_cache.specs.Ranked.{result_of, used};
+
 use crate::Results;
 use hib_base::{Cell, Listing, QueryNo, Seq, Tick};
 use std::alloc::{AllocError, Global};
@@ -15,7 +19,10 @@ fn listing(alloc: Global, number: i64) -> Result<Listing, AllocError> {
     Ok(list)
 }
 
-fn looked(results: &mut Results, query: QueryNo) -> Option<Tick> {
+fn looked(results: &mut Results, query: QueryNo) -> Option<Tick>
+    ensures order { results.new ≡ record results.old { kept = used query results.old.kept } }
+    ensures time { result ≡ option_map (λ r. r.0) (result_of query results.old.kept) }
+{
     let (time, _) = results.look(query)?;
     Some(*time)
 }

@@ -13,6 +13,3 @@ mod unsound;
 
 pub use lines::line;
 pub use report::{summary, text};
-
-#[cfg(test)]
-mod tests;

@@ -9,7 +9,7 @@ use Rattle.hib_journal.specs.Legal.{reply_of}
 use Rattle.hib_soft_lock.specs.Steps.{holders_in}
 use Rattle.hib_room_laws.specs.Elsewhere.{IsElsewhere, last_of}
 use Rattle.hib_rw_region.specs.Region.{RegionState, slot_in, room_in}
-use Rattle.hib_rw_region.specs.Steps.{empty, after_put, after_insert, after_lock, after_unlock, after_after_update, after_evict, after_clear}
+use Rattle.hib_rw_region.specs.Steps.{empty, after_put, after_insert, after_lock, after_unlock, after_update, after_evict, after_clear}
 use Rattle.hib_rw_region.specs.Stands.{IsRegion}
 
 -- the region of a key's entity is the script's, and stands for a journal
@@ -85,7 +85,7 @@ UnlockGrows = (h : Journal) (e : Entry) (state : RegionState) (k : Key) (lock : 
 abbrev pub UpdateGrows : Type 0
 UpdateGrows = (h : Journal) (e : Entry) (state : RegionState) (k : Key) (lock : ℕ) (row : Row)
     → IsNext state k h e (Act.AfterUpdate k lock row) (Reply.Updated (Regions.after_update (slot_in state k.id) lock))
-    → IsRegion (after_after_update k.id lock row e.tick state) k.entity (e ∷ h)
+    → IsRegion (after_update k.id lock row e.tick state) k.entity (e ∷ h)
 
 abbrev pub InsertGrows : Type 0
 InsertGrows = (h : Journal) (e : Entry) (state : RegionState) (k : Key) (row : Row) (floor : ℕ)

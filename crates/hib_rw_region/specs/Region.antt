@@ -2,10 +2,8 @@
 use Rattle.std.specs.Prelude.{ℕ, nat_eq, nat_lt, List, length, Some, None, Option}
 use Rattle.std.specs.Map.{lookup}
 use Rattle.std.specs.List.{filter}
-use Rattle.hib_journal.specs.Types.{Reply}
 use Rattle.hib_journal.specs.Slot.{Slot}
 use Rattle.hib_journal.specs.Room.{may_leave, room_by}
-use Rattle.hib_base.specs.declared.replies.Got.{Got}
 use Rattle.hib_soft_lock.specs.declared.slot.Slot.{Slot as Kept}
 use Rattle.hib_soft_lock.specs.Shown.{shown}
 use Rattle.hib_room_laws.specs.Order.{first_key}
@@ -39,8 +37,3 @@ victim_in floor slots = first_key (filter (λ p. may_leave floor (shown p.1)) sl
 -- the room for a new key
 abbrev pub room_in : RegionState → ℕ → Option (Option ℕ)
 room_in state floor = room_by (nat_lt (length state.slots) state.capacity) (victim_in floor state.slots)
-
--- what was found, without where it lies in memory
-abbrev pub got_reply : Got → Reply
-got_reply (Got.Hit row) = Reply.Hit row.now
-got_reply (Got.Miss miss) = Reply.Miss miss

@@ -80,8 +80,8 @@ update_leaves id row now Updated.Stored state = with_slot id (Kept.Item row now)
 update_leaves id row now (Updated.Shared holders) state = with_release id now state
 update_leaves id row now Updated.Expired state = with_slot id (barred now (now + state.timeout)) state
 
-abbrev pub after_after_update : ℕ → ℕ → Row → ℕ → RegionState → RegionState
-after_after_update id lock row now state = update_leaves id row now (Regions.after_update (slot_in state id) lock) state
+abbrev pub after_update : ℕ → ℕ → Row → ℕ → RegionState → RegionState
+after_update id lock row now state = update_leaves id row now (Regions.after_update (slot_in state id) lock) state
 
 abbrev pub evict_leaves : ℕ → ℕ → Evicted → Slots → Slots
 evict_leaves id now Evicted.Gone slots = insert_entry nat_eq slots id (barred now now)

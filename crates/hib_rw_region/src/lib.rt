@@ -6,5 +6,7 @@
 pub mod laws;
 mod region;
 mod slots;
+#[cfg(test)]
+mod tests;
 
 pub use region::RwRegion;

@@ -5,8 +5,9 @@ ghost use Rattle.hib_journal.specs.Regions as Regions;
 ghost use Rattle.hib_journal.specs.Room.{has_entry};
 ghost use Rattle.hib_journal.specs.Slot.{is_victim};
 ghost use Rattle.hib_soft_lock.specs.Steps.{holders_in};
-ghost use Rattle.hib_rw_region.specs.Region.{kept_in, slot_in, room_in, got_reply};
-ghost use Rattle.hib_rw_region.specs.Steps.{empty, with_slot, without, new_item, barred, after_put, after_insert as inserted, after_lock, after_unlock, after_after_update, after_evict, after_clear};
+ghost use Rattle.hib_room_laws.specs.Answers.{got_reply};
+ghost use Rattle.hib_rw_region.specs.Region.{kept_in, slot_in, room_in};
+ghost use Rattle.hib_rw_region.specs.Steps.{empty, with_slot, without, new_item, barred, after_put, after_insert as inserted, after_lock, after_unlock, after_update as updated, after_evict, after_clear};
 
 use crate::slots;
 use hib_base::{Evicted, Got, Inserted, Locked, Miss, Put, Row, Tick, Unlocked, Updated};
@@ -25,6 +26,7 @@ pub struct RwRegion {
 }
 
 impl Model for RwRegion {
+    ghost use Rattle.hib_room_laws.specs.Answers.{got_reply};
     ghost use Rattle.hib_rw_region.specs.Region.{RegionState};
 
     ghost Value = { RegionState };
@@ -53,6 +55,16 @@ impl RwRegion {
             None => Got::Miss(Miss::Absent),
             Some(Slot::Item { row, stamp }) if *stamp < time => Got::Hit(row),
             Some(slot) => Got::Miss(slot.miss()),
+        }
+    }
+
+    /// How many hold the lock of an identifier; 0 where it has none.
+    pub fn holders(&self, id: u64) -> u64
+        ensures { result ≡ holders_in (slot_in self.now id) }
+    {
+        match self.slots.get(&id) {
+            Some(Slot::Lock { holders, .. }) => *holders,
+            _ => 0,
         }
     }
 
@@ -210,7 +222,7 @@ impl RwRegion {
     ) -> Result<Updated, AllocError>
         requires { now ≤ 2 ^ 62 }
         ensures answer { IfOk result (λ updated. updated ≡ Regions.after_update (slot_in self.old id) lock) }
-        ensures state { OnOk result (self.new ≡ after_after_update id lock row now self.old) }
+        ensures state { OnOk result (self.new ≡ updated id lock row now self.old) }
         ensures err { OnErr result (self.new ≡ self.old) }
         ensures there { has_entry (slot_in self.old id) ≡ true → IsOk result }
     {

@@ -1,4 +1,4 @@
--- Answers of the code as replies.
+-- Answers of a region's calls as replies.
 use Rattle.std.specs.Prelude.{Bool, true, false}
 use Rattle.hib_journal.specs.Types.{Reply}
 use Rattle.hib_base.specs.declared.replies.Got.{Got}

@@ -1,0 +1,3 @@
+pub mod Walks
+pub mod Untouched
+pub mod Searches

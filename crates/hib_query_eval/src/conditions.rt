@@ -1,0 +1,118 @@
+// Whether a row meets a condition.
+ghost use Rattle.std.specs.Prelude.{◌≡◌, true, option_copied};
+ghost use Rattle.std.specs.List.{list_any};
+ghost use Rattle.hib_base.specs.Keys.{same_key, is_before};
+ghost use Rattle.hib_base.specs.Tables.{in_order, row_at};
+ghost use Rattle.hib_journal.specs.Query.{same_cell, row_of_ref, cell_at, holds, meets};
+
+use crate::cells;
+use hib_base::{Cell, Cond, EntityNo, Key, Path, Row};
+
+fn is_same_key(a: &Key, b: &Key) -> bool
+    ensures { result ≡ same_key a.now b.now }
+{
+    a == b
+}
+
+fn is_before(a: &Key, b: &Key) -> bool
+    ensures { result ≡ is_before a.now b.now }
+{
+    a.entity.0 < b.entity.0 || (a.entity.0 == b.entity.0 && a.id < b.id)
+}
+
+/// The row of a key. A search by halves.
+fn row_of<'a>(rows: &'a [(Key, Row)], key: &Key) -> Option<&'a Row>
+    requires { in_order rows.now ≡ true }
+    ensures { option_copied result ≡ row_at rows.now key.now }
+{
+    let mut low = 0;
+    let mut high = rows.len();
+    while low < high {
+        let middle = low + (high - low) / 2;
+        let row = &rows[middle];
+        if is_same_key(&row.0, key) {
+            return Some(&row.1);
+        }
+        if is_before(&row.0, key) {
+            low = middle + 1;
+        } else {
+            high = middle;
+        }
+    }
+    None
+}
+
+/// The row to which a cell refers.
+fn referred<'a>(rows: &'a [(Key, Row)], entity: EntityNo, cell: Option<&Cell>) -> Option<&'a Row>
+    requires { in_order rows.now ≡ true }
+    ensures { option_copied result ≡ row_of_ref rows.now entity (option_copied cell.entry) }
+{
+    match cell {
+        Some(Cell::Int(id)) if *id >= 0 => row_of(
+            rows,
+            &Key {
+                entity,
+                id: *id as u64,
+            },
+        ),
+        _ => None,
+    }
+}
+
+/// The cell at a path from a row, or none where the row to which it steps is missing.
+fn cell_at<'a>(rows: &'a [(Key, Row)], row: &'a Row, path: &Path) -> Option<&'a Cell>
+    requires { in_order rows.now ≡ true }
+    ensures { option_copied result ≡ cell_at rows.now row.now path.now }
+{
+    let cell = row.cells.as_slice().get(usize::from(path.column));
+    match path.target {
+        None => cell,
+        Some(target) => referred(rows, target.entity, cell)?
+            .cells
+            .as_slice()
+            .get(usize::from(target.column)),
+    }
+}
+
+/// Whether a cell is among others.
+fn is_among(cell: &Cell, cells: &[Cell]) -> bool
+    ensures { result ≡ list_any (λ c. same_cell cell.now c) cells.now }
+{
+    for other in cells {
+        if cells::is_same(cell, other) {
+            return true;
+        }
+    }
+    false
+}
+
+/// Whether a condition holds of a row. A comparison at a row that is missing doesn't hold.
+fn holds(rows: &[(Key, Row)], row: &Row, cond: &Cond) -> bool
+    requires { in_order rows.now ≡ true }
+    ensures { result ≡ holds rows.now row.now cond.now }
+{
+    match cond {
+        Cond::And(a, b) => holds(rows, row, a) && holds(rows, row, b),
+        Cond::Or(a, b) => holds(rows, row, a) || holds(rows, row, b),
+        Cond::Not(a) => !holds(rows, row, a),
+        Cond::Test { op, path, cell } => match cell_at(rows, row, path) {
+            Some(found) => cells::is_passed(*op, found, cell),
+            None => false,
+        },
+        Cond::Among { path, cells } => match cell_at(rows, row, path) {
+            Some(found) => is_among(found, cells.as_slice()),
+            None => false,
+        },
+    }
+}
+
+/// Whether a row meets a query's condition, if it has one.
+pub fn meets(rows: &[(Key, Row)], row: &Row, cond: &Option<Cond>) -> bool
+    requires { in_order rows.now ≡ true }
+    ensures { result ≡ meets rows.now row.now cond.now }
+{
+    match cond {
+        None => true,
+        Some(cond) => holds(rows, row, cond),
+    }
+}

@@ -1,0 +1,13 @@
+//! What a query gives over rows.
+#![tactic(auto)]
+
+mod cells;
+mod conditions;
+mod laws;
+mod listing;
+mod orders;
+#[cfg(test)]
+mod tests;
+
+pub use laws::other_tables_leave_what_is_given;
+pub use listing::gives;

@@ -1,0 +1,102 @@
+// What a query gives.
+ghost use Rattle.std.specs.Prelude.{◌≡◌, ◌∷◌, pos, take, drop, map, length, true, slice_get, nat_lt, ◌<◌, ◌^◌, [], IfOk};
+ghost use Rattle.std.specs.List.{list_all};
+ghost use Rattle.hib_base.specs.Tables.{in_order};
+ghost use Rattle.hib_journal.specs.Query.{listed, sorted, or_false, selected, gives};
+ghost use Rattle.hib_query_eval.specs.Fits.{fit_cells};
+
+use crate::{conditions, orders};
+use hib_base::{Cell, Key, Listing, Query, Row, Rows, Select, Seq};
+use std::alloc::{AllocError, Global};
+
+/// What a query gives over rows in order of keys: of the rows of its entity that meet its condition the count; or
+/// else, in its order and cut by its offset and limit, their identifiers or the cells of a column. What is listed is
+/// free where an identifier of its entity is 2^63 or more, which no cell holds.
+#[tactic(auto, unfolding(hib_journal::specs::Query::gives))]
+pub fn gives(alloc: Global, query: &Query, rows: &Rows) -> Result<Listing, AllocError>
+    requires { in_order rows.now ≡ true }
+    ensures { fit_cells query.now.entity rows.now ≡ true → IfOk result (λ l. l ≡ gives query.now rows.now) }
+{
+    let met = listed(alloc, query, rows.as_slice())?;
+    match query.select {
+        Select::Count => count(alloc, met.len()),
+        Select::Ids => {
+            let placed = orders::sorted(alloc, query.order.as_slice(), met.as_slice())?;
+            identifiers(alloc, cut(placed.as_slice(), query.offset, query.limit))
+        }
+        Select::Column(column) => {
+            let placed = orders::sorted(alloc, query.order.as_slice(), met.as_slice())?;
+            cells_of(
+                alloc,
+                column,
+                cut(placed.as_slice(), query.offset, query.limit),
+            )
+        }
+    }
+}
+
+/// The rows of a query's entity that meet its condition.
+fn listed<'a>(
+    alloc: Global,
+    query: &Query,
+    rows: &'a [(Key, Row)],
+) -> Result<Vec<&'a (Key, Row)>, AllocError>
+    requires { in_order rows.now ≡ true }
+    ensures { IfOk result (λ v. map (λ r. r.now) v.items ≡ listed query.now rows.now) }
+{
+    let mut met = Vec::new(alloc);
+    for row in rows {
+        if row.0.entity == query.entity && conditions::meets(rows, &row.1, &query.condition) {
+            met.push(row)?;
+        }
+    }
+    Ok(met)
+}
+
+/// So many rows from a place on.
+fn cut<'a, 'b>(rows: &'a [&'b (Key, Row)], offset: u32, limit: u32) -> &'a [&'b (Key, Row)]
+    ensures { result.now ≡ take limit (drop offset rows.now) }
+{
+    let rest = &rows[rows.len().min(offset as usize)..];
+    &rest[..rest.len().min(limit as usize)]
+}
+
+fn count(alloc: Global, rows: usize) -> Result<Listing, AllocError>
+    ensures { rows < 2 ^ 63 → IfOk result (λ l. l ≡ Cell.Int (pos rows) ∷ []) }
+{
+    let mut list = Seq::new(alloc);
+    list.push(Cell::Int(i64::try_from(rows).unwrap_or(i64::MAX)))?;
+    Ok(list)
+}
+
+fn identifiers(alloc: Global, rows: &[&(Key, Row)]) -> Result<Listing, AllocError>
+    ensures { list_all (λ a. nat_lt a.now.0.id 9223372036854775808) rows.now ≡ true
+        → IfOk result (λ l. l ≡ map (λ a. Cell.Int (pos a.now.0.id)) rows.now) }
+{
+    let mut list = Seq::new(alloc);
+    for row in rows {
+        list.push(Cell::Int(i64::try_from(row.0.id).unwrap_or(i64::MAX)))?;
+    }
+    Ok(list)
+}
+
+/// The cells of a column.
+fn cells_of(alloc: Global, column: u16, rows: &[&(Key, Row)]) -> Result<Listing, AllocError>
+    ensures { IfOk result (λ l. l ≡ map (λ a. or_false (slice_get a.now.1.cells column)) rows.now) }
+{
+    let mut list = Seq::new(alloc);
+    for row in rows {
+        list.push(cell_of(alloc, column, &row.1)?)?;
+    }
+    Ok(list)
+}
+
+/// A row's cell of a column; false stands for one that is missing.
+fn cell_of(alloc: Global, column: u16, row: &Row) -> Result<Cell, AllocError>
+    ensures { IfOk result (λ c. c ≡ or_false (slice_get row.now.cells column)) }
+{
+    match row.cells.as_slice().get(usize::from(column)) {
+        Some(cell) => cell.copy(alloc),
+        None => Ok(Cell::Bool(false)),
+    }
+}
