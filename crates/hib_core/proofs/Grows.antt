@@ -107,7 +107,7 @@ grows l script h e Region.Uncached (Act.AfterUpdate k i row) r p u s = p
 grows l script h e (Region.ReadOnly y) (Act.AfterUpdate k i row) r p u s = absurd (apart is_read_write (strategy script k.entity) Strategy.ReadOnly Strategy.ReadWrite p.strategy u refl refl)
 grows l script h e (Region.Nonstrict y) (Act.AfterUpdate k i row) r p u s = absurd (apart is_read_write (strategy script k.entity) Strategy.Nonstrict Strategy.ReadWrite p.strategy u refl refl)
 grows l script h e (Region.ReadWrite y) (Act.AfterUpdate k i row) r p u s = 
-    let z : IsSized (Slots.after_after_update k.id i row e.tick y) y = update_sized k.id row e.tick (Regions.after_update (slot_in y k.id) i) y in
+    let z : IsSized (Slots.after_update k.id i row e.tick y) y = update_sized k.id row e.tick (Regions.after_update (slot_in y k.id) i) y in
     record { strategy = p.strategy; capacity = z.capacity ∙ p.capacity; timeout = z.timeout ∙ p.timeout; stands = l.slot_update_grows h e y k i row (slots_next h e k y (Act.AfterUpdate k i row) _ s.act s.part s.later s.reply p.stands) }
 grows l script h e Region.Uncached (Act.AfterInsert k row floor) r p u s = p
 grows l script h e (Region.ReadOnly y) (Act.AfterInsert k row floor) r p u s = record { strategy = p.strategy; capacity = put_capacity k.id row e.tick y ∙ p.capacity; stands = l.insert_grows h e y k row floor (items_next h e k y (Act.AfterInsert k row floor) _ s.act s.part s.later s.reply p.stands) }

@@ -6,3 +6,5 @@ pub mod Served
 pub mod StoreServed
 pub mod Outcomes
 pub mod OwnServed
+pub mod Allowed
+pub mod Going

@@ -75,7 +75,7 @@ update (Region.ReadWrite x) id lock = Regions.after_update (slot_in x id) lock
 update _ id lock = Updated.Expired
 
 abbrev pub after_update : Region → ℕ → ℕ → Row → ℕ → Region
-after_update (Region.ReadWrite x) id lock row now = Region.ReadWrite (Slots.after_after_update id lock row now x)
+after_update (Region.ReadWrite x) id lock row now = Region.ReadWrite (Slots.after_update id lock row now x)
 after_update x id lock row now = x
 
 abbrev pub remove : Region → ℕ → Reply

@@ -1,57 +1,27 @@
 // The factory: sessions over shared parts, and the journal of their steps.
-ghost use Rattle.std.specs.Prelude.{◌≡◌, ◌∷◌, ◌<◌, ◌≤◌, ◌^◌, ◌+◌, [], List, length, IfOk, OnOk, OnErr, IfErr, Ok, Some, None, false, true};
-ghost use Rattle.hib_base.specs.declared.entries.Entry.{Entry};
-ghost use Rattle.hib_base.specs.declared.scripts.SessionDef.{SessionDef};
+ghost use Rattle.std.specs.Prelude.{◌≡◌, ◌<◌, ◌==◌, ℕ, [], length, OnOk, OnErr, IfOk, IfErr, Ok, None, true, false};
 ghost use Rattle.hib_journal.specs.Kept.{past};
-ghost use Rattle.hib_journal.specs.Sessions.{Journal as Past, own};
+ghost use Rattle.hib_journal.specs.Sessions.{own};
 ghost use Rattle.hib_journal.specs.Next.{next};
 ghost use Rattle.hib_journal.specs.Legal.{IsLegal};
-ghost use Rattle.hib_journal.specs.Runs.{IsNumbered, told_committed, ask_count, fault_count};
-
-ghost use Rattle.std.specs.Prelude.{IfSome};
-ghost use Rattle.hib_base.specs.declared.scripts.Script.{Script};
-ghost use Rattle.hib_session.specs.Session.{Follows, number_of};
-ghost use Rattle.hib_core.specs.Region.{HasRoomFor, acts_on};
-ghost use Rattle.hib_core.specs.Standing.{Origin, region_of, AreParts, AreWithin, IsDue, IsReady};
-ghost use Rattle.hib_core.specs.Factory.{IsTold};
+ghost use Rattle.hib_journal.specs.Runs.{IsNumbered, told_committed, fault_count, ask_count};
+ghost use Rattle.hib_core.specs.Standing.{RoseBy, RoseWithin};
+ghost use Rattle.hib_core.specs.Factory.{Does, IsOver, AreOver, IsBuilt};
 
 use crate::laws::laws;
+use crate::names::Name;
+use crate::opening::{open_regions, open_sessions};
 use crate::parts::Parts;
-use hib_base::{Act, Entry, Part, Reply, Script, SessionNo, Tick};
+use crate::registry::Registry;
+use crate::turns::{Stepped, turn};
+use hib_base::{Script, SessionNo};
 use hib_journal::Journal;
 use hib_outside::Keeper;
 use hib_session::Session;
+use hib_store::Store;
+use hib_update_stamps::Stamps;
 use std::alloc::{AllocError, Global};
-use std::marker::{Brand, Model, PhantomData};
-
-/// Which factory it is: what it was opened with. Contracts alone see it.
-pub trait Name {
-    ghost use Rattle.hib_base.specs.declared.scripts.Script.{Script};
-    ghost use Rattle.hib_core.specs.Standing.{Origin};
-
-    /// The script.
-    ghost script: { Script };
-
-    /// The committed rows at the start, where the keeper tells them, and its counts.
-    ghost from: { Origin };
-}
-
-impl Name for Brand {
-    ghost use Rattle.std.specs.Prelude.{[], None};
-
-    ghost script = { record { timeout = 0; results = 0; mapping = []; rows = []; queries = []; sessions = []; schedule = [] } };
-
-    ghost from = { record { tables = None; faults = 0; asked = 0 } };
-}
-
-/// What a step did.
-#[derive(Clone, Copy, Debug, PartialEq, Eq)]
-pub enum Stepped {
-    /// One entry more.
-    Did,
-    /// The session is at its end.
-    Done,
-}
+use std::marker::{Model, PhantomData};
 
 /// Sessions over shared parts, with the journal of their steps, which is legal for the name's script from the name's rows.
 pub struct Factory<K: Keeper, N: Name> {
@@ -75,42 +45,124 @@ impl<K: Keeper, N: Name> Model for Factory<K, N> {
     ghost invariant = { λ f. (f.script ≡ N.script) × IsStanding N.script N.from (record { journal = f.journal; parts = f.parts; sessions = f.sessions.items; refused = f.refused }) };
 }
 
-/// The act that is due in a session.
-fn due_act(
-    alloc: Global,
-    script: &Script,
-    session: &Session,
-) -> Result<Option<Act>, AllocError>
-    ensures act { IfOk result (λ a. (mine : Past) → Follows script.now session.now mine → a ≡ next script.now (number_of session.now) mine) }
-    ensures due { IfOk result (λ a. (mine : Past) → Follows script.now session.now mine → IfSome a (IsDue script.now mine)) }
-{
-    let act = session.next_act(alloc, script)?;
-    Ok(act)
-}
-
-/// The answer to an act that is due: the session's own, or that of a part. At an error the parts are as before, but for the
-/// keeper's counts.
-fn answer<K: Keeper>(
-    alloc: Global,
-    script: &Script,
-    session: &Session,
-    parts: &mut Parts<K>,
-    act: &Act,
-    now: Tick,
-) -> Result<Reply, AllocError>
-    requires late { now ≤ 2 ^ 62 }
-    requires few { HasRoomFor (region_of parts.old.regions (acts_on act.now)) act.now now }
-    requires tables { AreWithin (length parts.old.stamps) act.now }
-    ensures answered { IfOk result (λ r. (from : Origin) (h : Past) → now ≡ length h + 1 → Follows script.now session.now (own (number_of session.now) h)
-        → IsReady script.now from h (number_of session.now) act.now parts.old
-        → IsTold script.now from h (number_of session.now) act.now r parts.old parts.new) }
-    ensures err { OnErr result ((from : Origin) (h : Past) → AreParts script.now from h parts.old → AreParts script.now from h parts.new) }
-{
-    laws();
-    let number = session.number();
-    if let Some(reply) = session.reply_to(alloc, script, act)? {
-        parts.note_own(number, act);
-        return Ok(reply);
+impl<K: Keeper, N: Name> Factory<K, N> {
+    /// Opens the factory of this name, in which no session has begun. Where memory runs out the keeper is handed back.
+    pub fn open(alloc: Global, script: Script, keeper: K) -> Result<Factory<K, N>, K>
+        requires script { script ≡ N.script }
+        requires built { IsBuilt N.script }
+        requires from { record { tables = K.tables keeper; faults = K.faults keeper; asked = K.asked keeper } ≡ N.from }
+        ensures empty { IfOk result (λ f. past f.journal ≡ []) }
+        ensures going { IfOk result (λ f. f.refused ≡ false) }
+        ensures err { IfErr result (λ k. k ≡ keeper) }
+    {
+        laws();
+        let Ok(regions) = open_regions(alloc, &script) else {
+            return Err(keeper);
+        };
+        let Ok(stamps) = Stamps::open(alloc, script.mapping.len() as u16) else {
+            return Err(keeper);
+        };
+        let Ok(sessions) = open_sessions(alloc, &script) else {
+            return Err(keeper);
+        };
+        let store = Store::open(alloc, keeper);
+        Ok(Factory {
+            script,
+            parts: Parts {
+                store,
+                registry: Registry::new(alloc),
+                stamps,
+                regions,
+            },
+            sessions,
+            journal: Journal::open(alloc),
+            refused: false,
+            of: PhantomData,
+        })
     }
-    parts.serve(alloc, script, number, act, now)
+
+    /// One step of a session: the act that is due in it, if one is. Where memory runs out the journal stands as it was or
+    /// with that act's entry, and no session goes on.
+    pub fn step(&mut self, alloc: Global, number: SessionNo) -> Result<Stepped, AllocError>
+        requires known { number < length N.script.sessions }
+        ensures did { result ≡ Ok Stepped.Did → Does N.script number (past self.old.journal) (past self.new.journal) self.old.sessions self.new.sessions }
+        ensures done { result ≡ Ok Stepped.Done → IsOver N.script number (past self.old.journal) (past self.new.journal) }
+        ensures going { OnOk result (self.new.refused ≡ false) }
+    {
+        if self.refused {
+            return Err(AllocError);
+        }
+        match turn::<K, N>(
+            alloc,
+            &self.script,
+            number,
+            &mut self.sessions,
+            &mut self.parts,
+            &mut self.journal,
+        ) {
+            Ok(stepped) => Ok(stepped),
+            Err(error) => {
+                self.refused = true;
+                Err(error)
+            }
+        }
+    }
+
+    /// How many sessions there are.
+    pub fn sessions(&self) -> usize
+        ensures { result ≡ length N.script.sessions }
+    {
+        self.script.sessions.len()
+    }
+
+    /// Runs a session to its end.
+    pub fn run_session(&mut self, alloc: Global, number: SessionNo) -> Result<(), AllocError>
+        requires known { number < length N.script.sessions }
+        ensures over { OnOk result (next N.script number (own number (past self.new.journal)) ≡ None) }
+        ensures others { OnOk result ((s : ℕ) → (number == s) ≡ false → own s (past self.new.journal) ≡ own s (past self.old.journal)) }
+        ensures going { OnOk result (self.new.refused ≡ false) }
+    {
+        'steps: loop {
+            match self.step(alloc, number)? {
+                Stepped::Did => {}
+                Stepped::Done => return Ok(()),
+            }
+        }
+    }
+
+    /// Runs each session to its end, the first one first.
+    pub fn finish(&mut self, alloc: Global) -> Result<(), AllocError>
+        ensures over { OnOk result (AreOver N.script (past self.new.journal)) }
+    {
+        for number in 0..self.sessions() {
+            self.run_session(alloc, SessionNo(number as u32))?;
+        }
+        Ok(())
+    }
+
+    /// The keeper and the journal, with what the factory promises of both.
+    pub fn close(self) -> (K, Journal)
+        ensures journal { result.1 ≡ self.journal }
+        ensures legal { IsLegal N.script N.from.tables (past result.1) }
+        ensures numbered { IsNumbered (past result.1) }
+        ensures rows { K.tables result.0 ≡ told_committed N.from.tables (past result.1) }
+        ensures faults { RoseBy N.from.faults (fault_count (past result.1)) (K.faults result.0) }
+        ensures asked { self.refused ≡ false → RoseWithin N.from.asked (ask_count (past result.1)) (K.asked result.0) }
+    {
+        let Factory {
+            script: _,
+            parts,
+            sessions: _,
+            journal,
+            refused: _,
+            of: _,
+        } = self;
+        let Parts {
+            store,
+            registry: _,
+            stamps: _,
+            regions: _,
+        } = parts;
+        (store.close(), journal)
+    }
 }

@@ -3,6 +3,16 @@
 
 mod factory;
 mod laws;
+mod names;
+mod opening;
 mod parts;
 mod region;
 mod registry;
+mod turns;
+
+pub use factory::Factory;
+pub use names::Name;
+pub use parts::Parts;
+pub use region::Region;
+pub use registry::Registry;
+pub use turns::Stepped;

@@ -4,7 +4,7 @@ use Rattle.hib_session.specs.Session.{number_of}
 use Rattle.hib_core.specs.Standing.{own_after, IsReady, IsAnswered, IsAskedFor}
 use Rattle.hib_core.proofs.Outcomes.{two_ok}
 use Rattle.hib_core.proofs.OwnServed.{own_told, part_told}
-use Rattle.hib_core.proofs.factory.answer.Goals as goal
+use Rattle.hib_core.proofs.turns.answer.Goals as goal
 
 pub returns-in-Some-clause-answered : goal.returns-in-Some-clause-answered
 returns-in-Some-clause-answered g c = λ from h n f k.
