@@ -1,83 +1,54 @@
--- What a flush and a completion are in a script of which nothing is cached and nothing is queried.
-use Rattle.std.proofs.Common.{◌≡◌, ℕ, Bool, true, false, cond, ◌&&◌, ◌==◌, List, [], ◌∷◌, ◌++◌, map, slice_get, Some, None, Option, refl, ap, ◌∙◌}
-use Rattle.std.specs.List.{flat_map, list_any}
-use Rattle.hib_base.specs.Tables.{key_of, first_on, last_on}
-use Rattle.hib_journal.specs.Types.{Key, Row, Change, Strategy, Mode, Script, Act}
-use Rattle.hib_journal.specs.Sessions.{Journal, changes_in, floor_in}
-use Rattle.hib_journal.specs.Held.{is_fresh, pending}
-use Rattle.hib_journal.specs.Next.{is_cached, is_cached_by, is_in, tables_in, before_cached, fresh_version, before_key, before_write, writes, flush_of, complete, complete_by, puts_back, lock_id, keys_of, stamps_of, completion, may_read, may_put, mode_puts, is_free, is_in_tables, tables_of}
+-- What a flush and a completion are by a memory.
+use Rattle.std.proofs.Common.{◌≡◌, ℕ, Bool, ◌&&◌, List, [], ◌∷◌, ◌++◌, Option, refl, sym, ap, ◌∙◌, append_assoc, append-nil}
+use Rattle.std.specs.List.{flat_map}
+use Rattle.hib_journal.specs.Types.{Key, Change, Mode, Script, Act}
+use Rattle.hib_journal.specs.Sessions.{Journal, changes_in}
+use Rattle.hib_journal.specs.Held.{pending}
+use Rattle.hib_journal.specs.Next.{tables_in, before_key, before_write, writes, flush_of, complete, keys_of, completion, mode_puts}
+use Rattle.hib_completion.specs.Completed.{key_acts, keys_acts, completes}
+use Rattle.hib_flush.specs.Planned.{planned}
 use Rattle.hib_session.specs.declared.memory.Memory.{Memory}
-use Rattle.hib_session.specs.Memory.{IsBuilt, flush_acts, pending_in, Remembers}
+use Rattle.hib_session.specs.Memory.{Knows, Recalls, before_key_in, before_in, writes_in, flush_in}
 use Rattle.hib_session.proofs.Orders.{pending_kept}
 
-module _ (script : Script) (b : IsBuilt script) where
-  none_before : (mine : Journal) (k : Key) (v : Option ℕ) → before_key script mine k v ≡ []
-  none_before mine k v = ap (λ g. cond (is_in k (changes_in mine)) [] (before_cached g k (fresh_version (is_fresh k mine) v) (floor_in mine))) (b.uncached k.entity) ∙ by_test (is_in k (changes_in mine))
-    where
-      by_test : (t : Bool) → ◌≡◌ {A = List Act} (cond t [] []) []
-      by_test true = refl
-      by_test false = refl
+-- what is asked for the acts that follow is known of all entries
+pub recalls : (x : Memory) (mine : Journal) → Knows x mine → Recalls x mine
+recalls x mine k = record { time = k.time; floor = k.floor; changes = k.changes; locks = k.locks }
 
-  none_before_write : (mine : Journal) (c : Change) → before_write script mine c ≡ []
-  none_before_write mine (Change.Insert k r) = refl
-  none_before_write mine (Change.Update k v r) = none_before mine k v
-  none_before_write mine (Change.Delete k v) = none_before mine k v
+module _ (script : Script) (x : Memory) (mine : Journal) (r : Knows x mine) where
+  same_before_key : (k : Key) (v : Option ℕ) → before_key_in script x k v ≡ before_key script mine k v
+  same_before_key k v = rw (r.changes, r.fresh k, r.floor) refl
 
-  writes_built : (mine : Journal) (cs : List Change) → map (λ d. Act.Write d) cs ≡ writes script mine cs
-  writes_built mine [] = refl
-  writes_built mine (c ∷ cs) = rw (none_before_write mine c, writes_built mine cs) refl
+  same_before : (c : Change) → before_in script x c ≡ before_write script mine c
+  same_before (Change.Insert k row) = refl
+  same_before (Change.Update k v row) = same_before_key k v
+  same_before (Change.Delete k v) = same_before_key k v
 
-  pub flush_built : (mine : Journal) (cs : List Change) → flush_acts script cs ≡ flush_of script mine cs
-  flush_built mine [] = refl
-  flush_built mine (c ∷ cs) = ap (λ acts. Act.Pre (tables_in script (c ∷ cs)) ∷ acts) (writes_built mine (c ∷ cs))
+  same_writes : (cs : List Change) → writes_in script x cs ≡ writes script mine cs
+  same_writes [] = refl
+  same_writes (c ∷ cs) = rw (same_before c, same_writes cs) refl
 
-  by_change : (o : Option Change) (k : Key) (i floor : ℕ) (r : Option Row) → complete_by o Strategy.Uncached k i floor r ≡ []
-  by_change None k i floor r = refl
-  by_change (Some (Change.Insert j x)) k i floor r = refl
-  by_change (Some (Change.Update j v x)) k i floor r = refl
-  by_change (Some (Change.Delete j v)) k i floor r = refl
+  same_flush : (cs : List Change) → flush_in script x cs ≡ flush_of script mine cs
+  same_flush [] = refl
+  same_flush (c ∷ cs) = ap (λ acts. Act.Pre (tables_in script (c ∷ cs)) ∷ acts) (same_writes (c ∷ cs))
 
-  none_complete : (m : Mode) (mine : Journal) (done : Bool) (cs : List Change) (k : Key) → complete script m mine done cs k ≡ []
-  none_complete m mine done cs k =
-      ap (λ g. complete_by (first_on k cs) g k (lock_id k mine) (floor_in mine) (puts_back (done && mode_puts m) (last_on k cs))) (b.uncached k.entity)
-      ∙ by_change (first_on k cs) k (lock_id k mine) (floor_in mine) (puts_back (done && mode_puts m) (last_on k cs))
+  pub flush_kept : flush_in script x (planned x.instances) ≡ flush_of script mine (pending mine)
+  flush_kept = same_flush (planned x.instances) ∙ ap (flush_of script mine) (pending_kept x.instances mine r.holds r.removals)
 
-  none_completed : (m : Mode) (mine : Journal) (done : Bool) (cs : List Change) (ks : List Key) → flat_map (λ k. complete script m mine done cs k) ks ≡ []
-  none_completed m mine done cs [] = refl
-  none_completed m mine done cs (k ∷ ks) = rw (none_complete m mine done cs k) (none_completed m mine done cs ks)
+module _ (script : Script) (x : Memory) (mine : Journal) (r : Recalls x mine) (m : Mode) (done : Bool) where
+  same_key_acts : (k : Key) → key_acts script.mapping x.changes x.locks (done && mode_puts m) x.floor k ≡ complete script m mine done (changes_in mine) k
+  same_key_acts k = rw (r.changes, r.locks k, r.floor) refl
 
-  pub completion_built : (m : Mode) (done : Bool) (mine : Journal) → stamps_of (tables_in script (changes_in mine)) ++ Act.End ∷ [] ≡ completion script m done mine
-  completion_built m done mine = rw (none_completed m mine done (changes_in mine) (keys_of (changes_in mine))) refl
+  same_keys_acts : (ks : List Key) → keys_acts script.mapping x.changes x.locks (done && mode_puts m) x.floor ks ≡ flat_map (λ k. complete script m mine done (changes_in mine) k) ks
+  same_keys_acts [] = refl
+  same_keys_acts (k ∷ ks) = rw (same_key_acts k, same_keys_acts ks) refl
 
-  uncached : (n : ℕ) → is_cached script n ≡ false
-  uncached n = ap is_cached_by (b.uncached n)
+  pub completion_kept : completes script.mapping x.changes x.locks done m x.floor ++ Act.End ∷ [] ≡ completion script m done mine
+  completion_kept = rw (same_keys_acts (keys_of x.changes), r.changes) refl
 
-  pub never_reads : (m : Mode) (k : Key) (mine : Journal) → may_read script m k mine ≡ false
-  never_reads m k mine = rw (uncached k.entity) refl
-
-  pub never_puts : (m : Mode) (k : Key) (mine : Journal) → may_put script m k mine ≡ false
-  never_puts m k mine = rw (uncached k.entity) refl
-
-  no_query : (q : ℕ) → slice_get script.queries q ≡ None
-  no_query q = ap (λ qs. slice_get qs q) b.unqueried ∙ refl
-
-  pub never_free : (q : ℕ) (by_mode : Bool) (mine : Journal) → is_free script q by_mode mine ≡ false
-  never_free q by_mode mine = rw (no_query q) refl
-
-  none_in : (cs : List Change) → list_any (λ c. list_any (λ t. (key_of c).entity == t) []) cs ≡ false
-  none_in [] = refl
-  none_in (c ∷ cs) = none_in cs
-
-  pub never_flushes : (q : ℕ) (cs : List Change) → is_in_tables (tables_of script q) cs ≡ false
-  never_flushes q cs = rw (no_query q) (none_in cs)
-
--- by a memory
-
-pub flush_kept : (script : Script) (x : Memory) (mine : Journal) → Remembers script x mine → flush_acts script (pending_in x.instances) ≡ flush_of script mine (pending mine)
-flush_kept script x mine r =
-    ap (flush_acts script) (pending_kept x.instances mine r.known.plain r.known.order) ∙ flush_built script r.built mine (pending mine)
-
-pub completion_kept : (script : Script) (x : Memory) (mine : Journal) (m : Mode) (done : Bool) → Remembers script x mine →
-    stamps_of (tables_in script x.changes) ++ Act.End ∷ [] ≡ completion script m done mine
-completion_kept script x mine m done r =
-    ap (λ cs. stamps_of (tables_in script cs) ++ Act.End ∷ []) r.known.changes ∙ completion_built script r.built m done mine
+-- one more write of a flush
+pub write_more : (script : Script) (x : Memory) (cs : List Change) (c : Change) → writes_in script x (cs ++ c ∷ []) ≡ writes_in script x cs ++ (before_in script x c ++ Act.Write c ∷ [])
+write_more script x [] c = append-nil (before_in script x c ++ Act.Write c ∷ [])
+write_more script x (d ∷ cs) c =
+    ap (λ acts. (before_in script x d ++ Act.Write d ∷ []) ++ acts) (write_more script x cs c)
+    ∙ sym (append_assoc (before_in script x d ++ Act.Write d ∷ []) (writes_in script x cs) (before_in script x c ++ Act.Write c ∷ []))

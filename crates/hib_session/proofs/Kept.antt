@@ -1,112 +1,46 @@
--- What a memory keeps stands for what its session holds, after each entry.
-use Rattle.std.proofs.Common.{◌≡◌, Bool, true, false, cond, not, List, [], ◌∷◌, Some, None, Option, refl, sym, ap, ◌∙◌}
-use Rattle.std.proofs.lemmas.Bool.{false≢true, and_parts, and_from}
+-- What is held of a key after one more entry of its session.
+use Rattle.std.proofs.Common.{◌≡◌, ℕ, Bool, true, false, cond, not, ◌&&◌, ◌||◌, List, [], ◌∷◌, Some, None, Option, refl, sym, ap, ◌∙◌}
+use Rattle.std.proofs.lemmas.Bool.{false≢true, true≢false}
 use Rattle.std.specs.List.{list_any}
 use Rattle.std.specs.Option.{option_map}
 use Rattle.hib_base.specs.Keys.{same_key}
 use Rattle.hib_journal.specs.Types.{Key, Row, Cell, Change, State, Act, Reply, Entry}
 use Rattle.hib_journal.specs.Sessions.{Journal}
 use Rattle.hib_journal.specs.Held as held
-use Rattle.hib_journal.specs.Held.{Instance, Stay, Arrival, arrival, arrived, arrived_key, arrived_row, is_break, stay, stay_after, longer, has_left, base_of, or_row, last_written, row_written, state_of, version_of, cells_set, cells_after, is_removed, is_undone, removes, deletes, instance_of, held_by, key_arrived, without_key, removed, key_removed, pending}
-use Rattle.hib_session.specs.Memory.{is_plain, are_plain}
+use Rattle.hib_journal.specs.Held.{Instance, Stay, Arrival, arrival, arrived_key, arrived_row, is_break, stay, stay_after, longer, has_left, base_of, or_row, last_written, row_written, state_of, version_of, cells_set, cells_after, is_removed, is_inserted, is_undone, removes, deletes, inserts, instance_of, held_by, with_cells}
+use Rattle.hib_identity_map.specs.Identity.{state_written}
+use Rattle.hib_session.specs.Memory.{is_unwritten}
 
--- plain acts neither delete, nor remove, nor set
+-- what an entry makes of the instance of its key
 
-plain_deletes : (k : Key) (a : Act) → is_plain a ≡ true → deletes k a ≡ false
-plain_deletes k (Act.Write (Change.Delete j v)) p = absurd (false≢true p)
-plain_deletes k _ p = refl
+abbrev pub after_write : Row → Instance → Instance
+after_write r i = record { key = i.key; state = state_written i.state; base = Some r; row = record { version = r.version; cells = i.row.cells } }
 
-plain_removes : (k : Key) (a : Act) (r : Reply) → is_plain a ≡ true → removes k a r ≡ false
-plain_removes k (Act.Remove j) r p = absurd (false≢true p)
-plain_removes k _ r p = refl
+abbrev pub after_removal : Instance → Instance
+after_removal i = record { key = i.key; state = State.Removed; base = i.base; row = i.row }
 
-plain_cells : (k : Key) (a : Act) (r : Reply) (cs : List Cell) → is_plain a ≡ true → cells_after k a r cs ≡ cs
-plain_cells k (Act.Set j ps) r cs p = absurd (false≢true p)
-plain_cells k _ r cs p = refl
+abbrev pub after_sets : List (ℕ × Cell) → Instance → Instance
+after_sets ps i = record { key = i.key; state = i.state; base = i.base; row = record { version = i.row.version; cells = with_cells ps i.row.cells } }
 
-plain_removed : (a : Act) (r : Reply) (ks : List Key) → is_plain a ≡ true → key_removed a r ks ≡ ks
-plain_removed (Act.Remove j) r ks p = absurd (false≢true p)
-plain_removed _ r ks p = refl
+abbrev pub unless_unwritten : Bool → Option Instance → Option Instance
+unless_unwritten true o = None
+unless_unwritten false o = option_map after_removal o
 
-none_deleted : (k : Key) (m : Journal) → are_plain m ≡ true → list_any (λ e. deletes k e.act) m ≡ false
-none_deleted k [] p = refl
-none_deleted k (e ∷ m) p =
-    let q : (is_plain e.act ≡ true) × (are_plain m ≡ true) = and_parts (is_plain e.act) (are_plain m) p in
-    rw (plain_deletes k e.act q.0) (none_deleted k m q.1)
+abbrev pub later : Bool → Key → Act → Reply → Option Instance → Option Instance
+later u k (Act.Write (Change.Insert j r)) x o = cond (same_key j k) (option_map (after_write r) o) o
+later u k (Act.Write (Change.Update j v r)) x o = cond (same_key j k) (option_map (after_write r) o) o
+later u k (Act.Write (Change.Delete j v)) x o = cond (same_key j k) None o
+later u k (Act.Remove j) Reply.Removed o = cond (same_key j k) (unless_unwritten u o) o
+later u k (Act.Set j ps) Reply.Set o = cond (same_key j k) (option_map (after_sets ps) o) o
+later u k _ x o = o
 
-none_removed : (k : Key) (m : Journal) → are_plain m ≡ true → is_removed k m ≡ false
-none_removed k [] p = refl
-none_removed k (e ∷ m) p =
-    let q : (is_plain e.act ≡ true) × (are_plain m ≡ true) = and_parts (is_plain e.act) (are_plain m) p in
-    rw (plain_removes k e.act e.reply q.0) (none_removed k m q.1)
+-- an instance of these parts, unless it has left
+abbrev parts : Key → Bool → Option Row → Bool → List Cell → Row → Option Instance
+parts k gone base removed cells made =
+    cond gone None (Some (record { key = k; state = state_of base removed; base = base; row = record { version = version_of base made; cells = cells } }))
 
-none_undone : (k : Key) (m : Journal) → are_plain m ≡ true → is_undone k m ≡ false
-none_undone k [] p = refl
-none_undone k (e ∷ m) p =
-    let q : (is_plain e.act ≡ true) × (are_plain m ≡ true) = and_parts (is_plain e.act) (are_plain m) p in
-    rw (plain_removes k e.act e.reply q.0) (none_undone k m q.1)
-
-none_set : (k : Key) (m : Journal) (cs : List Cell) → are_plain m ≡ true → cells_set k m cs ≡ cs
-none_set k [] cs p = refl
-none_set k (e ∷ m) cs p =
-    let q : (is_plain e.act ≡ true) × (are_plain m ≡ true) = and_parts (is_plain e.act) (are_plain m) p in
-    rw (none_set k m cs q.1) (plain_cells k e.act e.reply cs q.0)
-
-pub never_removed : (m : Journal) → are_plain m ≡ true → removed m ≡ []
-never_removed [] p = refl
-never_removed (e ∷ m) p =
-    let q : (is_plain e.act ≡ true) × (are_plain m ≡ true) = and_parts (is_plain e.act) (are_plain m) p in
-    rw (never_removed m q.1) (plain_removed e.act e.reply [] q.0)
-
--- what came after an arrival is plain, too
-abbrev PlainAfter : Option Stay → Type 0
-PlainAfter None = Unit {0}
-PlainAfter (Some s) = are_plain s.1 ≡ true
-
-plain_longer : (e : Entry) (o : Option Stay) → is_plain e.act ≡ true → PlainAfter o → PlainAfter (longer e o)
-plain_longer e None p h = tt
-plain_longer e (Some s) p h = and_from (is_plain e.act) (are_plain s.1) p h
-
-plain_cond : (b : Bool) (o p : Option Stay) → PlainAfter o → PlainAfter p → PlainAfter (cond b o p)
-plain_cond true o p f g = f
-plain_cond false o p f g = g
-
-plain_stay_after : (k : Key) (e : Entry) (a : Option Arrival) (o : Option Stay) → is_plain e.act ≡ true → PlainAfter o → PlainAfter (stay_after k e a o)
-plain_stay_after k e None o p h = plain_longer e o p h
-plain_stay_after k e (Some a) o p h = plain_cond (same_key (arrived_key a) k) (Some (a, [])) (longer e o) refl (plain_longer e o p h)
-
-plain_stay : (k : Key) (m : Journal) → are_plain m ≡ true → PlainAfter (stay k m)
-plain_stay k [] p = tt
-plain_stay k (e ∷ m) p =
-    let q : (is_plain e.act ≡ true) × (are_plain m ≡ true) = and_parts (is_plain e.act) (are_plain m) p in
-    plain_cond (is_break e.act e.reply) None (stay_after k e (arrival e.act e.reply) (stay k m)) tt
-    (plain_stay_after k e (arrival e.act e.reply) (stay k m) q.0 (plain_stay k m q.1))
-
--- so what is held is as it arrived, over the row that was written last
-abbrev plain_instance : Key → Stay → Instance
-plain_instance k s = record {
-  key = k;
-  state = state_of (base_of k s) false;
-  base = base_of k s;
-  row = record { version = version_of (base_of k s) (arrived_row s.0); cells = (arrived_row s.0).cells };
-}
-
-never_left : (k : Key) (a : Arrival) (m : Journal) → are_plain m ≡ true → has_left k (a, m) ≡ false
-never_left k (Arrival.Read j r) m p = none_deleted k m p
-never_left k (Arrival.Made j r) m p = rw (none_deleted k m p, none_undone k m p) refl
-
-held_plain_by : (k : Key) (o : Option Stay) → PlainAfter o → held_by k o ≡ option_map (plain_instance k) o
-held_plain_by k None h = refl
-held_plain_by k (Some s) h = rw (never_left k s.0 s.1 h, none_removed k s.1 h, none_set k s.1 (arrived_row s.0).cells h) refl
-
-held_plain : (k : Key) (m : Journal) → are_plain m ≡ true → held.held m k ≡ option_map (plain_instance k) (stay k m)
-unfolding held.held
-held_plain k m p = held_plain_by k (stay k m) (plain_stay k m p)
-
--- an instance after a write of its key, or none
-abbrev pub after_write : Option Row → Instance → Instance
-after_write None i = i
-after_write (Some r) i = record { key = i.key; state = State.Managed; base = Some r; row = record { version = r.version; cells = i.row.cells } }
+abbrev is_gone : Bool → Key → Act → Reply → Bool
+is_gone u k a r = deletes k a || (removes k a r && u)
 
 or_or : (a b c : Option Row) → or_row (or_row a b) c ≡ or_row a (or_row b c)
 or_or None b c = refl
@@ -116,22 +50,175 @@ base_longer : (k : Key) (e : Entry) (a : Arrival) (m : Journal) → base_of k (a
 base_longer k e (Arrival.Read j r) m = or_or (row_written k e.act) (last_written k m) (Some r)
 base_longer k e (Arrival.Made j r) m = refl
 
-instance_longer : (k : Key) (e : Entry) (s : Stay) → plain_instance k (s.0, e ∷ s.1) ≡ after_write (row_written k e.act) (plain_instance k s)
-instance_longer k e s = rw (base_longer k e s.0 s.1) (by_row (row_written k e.act))
+left_longer : (k : Key) (e : Entry) (a : Arrival) (m : Journal) → has_left k (a, e ∷ m) ≡ (is_gone (is_unwritten k (Some (a, m))) k e.act e.reply || has_left k (a, m))
+left_longer k e (Arrival.Read j r) m = by (deletes k e.act) (removes k e.act e.reply) (list_any (λ e. deletes k e.act) m)
   where
-    by_row : (w : Option Row) →
-        ◌≡◌ {A = Instance} (record {
-          key = k;
-          state = state_of (or_row w (base_of k s)) false;
-          base = or_row w (base_of k s);
-          row = record { version = version_of (or_row w (base_of k s)) (arrived_row s.0); cells = (arrived_row s.0).cells };
-        }) (after_write w (plain_instance k s))
-    by_row None = refl
-    by_row (Some r) = refl
+    by : (d r x : Bool) → (d || x) ≡ ((d || (r && false)) || x)
+    by true r x = refl
+    by false true x = refl
+    by false false x = refl
+left_longer k e (Arrival.Made j r) m = by (deletes k e.act) (list_any (λ e. deletes k e.act) m) (removes k e.act e.reply) (not (is_inserted k m)) (is_undone k m)
+  where
+    by : (d x r n u : Bool) → ((d || x) || ((r && n) || u)) ≡ ((d || (r && n)) || (x || u))
+    by true x r n u = refl
+    by false true true true u = refl
+    by false true true false u = refl
+    by false true false n u = refl
+    by false false r n u = refl
 
-longer_held : (k : Key) (e : Entry) (o : Option Stay) → option_map (plain_instance k) (longer e o) ≡ option_map (after_write (row_written k e.act)) (option_map (plain_instance k) o)
-longer_held k e None = refl
-longer_held k e (Some s) = ap (λ i. Some i) (instance_longer k e s)
+-- by its parts
+held_longer : (k : Key) (e : Entry) (a : Arrival) (m : Journal) → held_by k (Some (a, e ∷ m)) ≡
+    parts k (is_gone (is_unwritten k (Some (a, m))) k e.act e.reply || has_left k (a, m)) (or_row (row_written k e.act) (base_of k (a, m)))
+    (removes k e.act e.reply || is_removed k m) (cells_after k e.act e.reply (cells_set k m (arrived_row a).cells)) (arrived_row a)
+held_longer k e a m = rw (left_longer k e a m, base_longer k e a m) refl
+
+-- a written instance has a base
+written_some : (k : Key) (m : Journal) → is_inserted k m ≡ true → (r : Row) × (last_written k m ≡ Some r)
+written_some k [] h = absurd (false≢true h)
+written_some k (e ∷ m) h = by_act e.act (row_written k e.act) refl h (λ i. written_some k m i)
+  where
+    by_act : (x : Act) (o : Option Row) → row_written k x ≡ o → (inserts k x || is_inserted k m) ≡ true → (is_inserted k m ≡ true → (r : Row) × (last_written k m ≡ Some r)) →
+        (r : Row) × (or_row o (last_written k m) ≡ Some r)
+    by_act x (Some r) p h i = (r, refl)
+    by_act (Act.Write (Change.Insert j y)) None p h i = by_test (same_key j k) p h i
+      where
+        by_test : (b : Bool) → cond b (Some y) None ≡ None → (b || is_inserted k m) ≡ true → (is_inserted k m ≡ true → (r : Row) × (last_written k m ≡ Some r)) →
+            (r : Row) × (last_written k m ≡ Some r)
+        by_test true p h i = absurd (cc)
+        by_test false p h i = i h
+    by_act _ None p h i = i h
+
+undone_removed : (k : Key) (m : Journal) → is_inserted k m ≡ false → is_undone k m ≡ false → is_removed k m ≡ false
+undone_removed k [] n u = refl
+undone_removed k (e ∷ m) n u = by (inserts k e.act) (is_inserted k m) refl (removes k e.act e.reply) (is_undone k m) refl (is_removed k m) n u (λ i v. undone_removed k m i v)
+  where
+    by : (x y : Bool) → is_inserted k m ≡ y → (r w : Bool) → is_undone k m ≡ w → (s : Bool) → (x || y) ≡ false → ((r && not y) || w) ≡ false → (y ≡ false → w ≡ false → s ≡ false) → (r || s) ≡ false
+    by true y p r w q s n u f = absurd (true≢false n)
+    by false true p r w q s n u f = absurd (true≢false n)
+    by false false p true w q s n u f = absurd (true≢false u)
+    by false false p false w q s n u f = f refl u
+
+-- it is not marked before it has a base
+clean : (k : Key) (a : Arrival) (m : Journal) → has_left k (a, m) ≡ false → base_of k (a, m) ≡ None → is_removed k m ≡ false
+clean k (Arrival.Read j r) m l b = absurd (no (last_written k m) b)
+  where
+    no : (o : Option Row) → or_row o (Some r) ≡ None → ⊥
+    no None x = cc
+    no (Some y) x = cc
+clean k (Arrival.Made j r) m l b = undone_removed k m (not_inserted (is_inserted k m) refl) (second (list_any (λ e. deletes k e.act) m) (is_undone k m) l)
+  where
+    second : (x y : Bool) → (x || y) ≡ false → y ≡ false
+    second true y h = absurd (true≢false h)
+    second false y h = h
+
+    not_inserted : (x : Bool) → is_inserted k m ≡ x → is_inserted k m ≡ false
+    not_inserted false p = p
+    not_inserted true p = let w : (r : Row) × (last_written k m ≡ Some r) = written_some k m p in let n : Some w.0 ≡ None = sym w.1 ∙ b in absurd (cc)
+
+based : (k : Key) (a : Arrival) (m : Journal) → is_unwritten k (Some (a, m)) ≡ false → (r : Row) × (base_of k (a, m) ≡ Some r)
+based k (Arrival.Read j x) m u = by (last_written k m)
+  where
+    by : (o : Option Row) → (r : Row) × (or_row o (Some x) ≡ Some r)
+    by None = (x, refl)
+    by (Some y) = (y, refl)
+based k (Arrival.Made j x) m u = written_some k m (by (is_inserted k m) u)
+  where
+    by : (b : Bool) → not b ≡ false → b ≡ true
+    by true h = refl
+    by false h = absurd (true≢false h)
+
+-- the parts after a write, a removal and a set
+
+write_parts : (k : Key) (gone : Bool) (base : Option Row) (removed : Bool) (cells : List Cell) (made r : Row) → (gone ≡ false → base ≡ None → removed ≡ false) →
+    parts k gone (Some r) removed cells made ≡ option_map (after_write r) (parts k gone base removed cells made)
+write_parts k true base removed cells made r h = refl
+write_parts k false (Some b) true cells made r h = refl
+write_parts k false (Some b) false cells made r h = refl
+write_parts k false None false cells made r h = refl
+write_parts k false None true cells made r h = absurd (true≢false (h refl refl))
+
+mark_parts : (k : Key) (gone : Bool) (base : Option Row) (removed : Bool) (cells : List Cell) (made r : Row) → base ≡ Some r →
+    parts k gone base true cells made ≡ option_map after_removal (parts k gone base removed cells made)
+mark_parts k true base removed cells made r e = refl
+mark_parts k false base true cells made r e = rw e refl
+mark_parts k false base false cells made r e = rw e refl
+
+set_parts : (k : Key) (gone : Bool) (base : Option Row) (removed : Bool) (cells : List Cell) (made : Row) (ps : List (ℕ × Cell)) →
+    parts k gone base removed (with_cells ps cells) made ≡ option_map (after_sets ps) (parts k gone base removed cells made)
+set_parts k true base removed cells made ps = refl
+set_parts k false base removed cells made ps = refl
+
+module _ (k : Key) (a : Arrival) (m : Journal) where
+  abbrev was : Option Instance
+  was = held_by k (Some (a, m))
+
+  abbrev now_by : Act → Reply → Option Instance
+  now_by x r =
+      parts k (is_gone (is_unwritten k (Some (a, m))) k x r || has_left k (a, m)) (or_row (row_written k x) (base_of k (a, m)))
+      (removes k x r || is_removed k m) (cells_after k x r (cells_set k m (arrived_row a).cells)) (arrived_row a)
+
+  write_at : (b : Bool) (r : Row) → parts k (has_left k (a, m)) (or_row (cond b (Some r) None) (base_of k (a, m))) (is_removed k m) (cells_set k m (arrived_row a).cells) (arrived_row a)
+      ≡ cond b (option_map (after_write r) was) was
+  write_at true r = write_parts k (has_left k (a, m)) (base_of k (a, m)) (is_removed k m) (cells_set k m (arrived_row a).cells) (arrived_row a) r (clean k a m)
+  write_at false r = refl
+
+  delete_at : (b : Bool) → parts k ((b || false) || has_left k (a, m)) (base_of k (a, m)) (is_removed k m) (cells_set k m (arrived_row a).cells) (arrived_row a) ≡ cond b None was
+  delete_at true = refl
+  delete_at false = refl
+
+  remove_at : (b u : Bool) → is_unwritten k (Some (a, m)) ≡ u →
+      parts k ((b && u) || has_left k (a, m)) (base_of k (a, m)) (b || is_removed k m) (cells_set k m (arrived_row a).cells) (arrived_row a) ≡ cond b (unless_unwritten u was) was
+  remove_at false u p = refl
+  remove_at true true p = refl
+  remove_at true false p =
+      let r : (r : Row) × (base_of k (a, m) ≡ Some r) = based k a m p in
+      mark_parts k (has_left k (a, m)) (base_of k (a, m)) (is_removed k m) (cells_set k m (arrived_row a).cells) (arrived_row a) r.0 r.1
+
+  set_at : (b : Bool) (ps : List (ℕ × Cell)) → parts k (has_left k (a, m)) (base_of k (a, m)) (is_removed k m) (cond b (with_cells ps (cells_set k m (arrived_row a).cells)) (cells_set k m (arrived_row a).cells)) (arrived_row a)
+      ≡ cond b (option_map (after_sets ps) was) was
+  set_at true ps = set_parts k (has_left k (a, m)) (base_of k (a, m)) (is_removed k m) (cells_set k m (arrived_row a).cells) (arrived_row a) ps
+  set_at false ps = refl
+
+  now_later : (x : Act) (r : Reply) → now_by x r ≡ later (is_unwritten k (Some (a, m))) k x r was
+  now_later (Act.Write (Change.Insert j y)) r = write_at (same_key j k) y
+  now_later (Act.Write (Change.Update j v y)) r = write_at (same_key j k) y
+  now_later (Act.Write (Change.Delete j v)) r = delete_at (same_key j k)
+  now_later (Act.Remove j) Reply.Removed = remove_at (same_key j k) (is_unwritten k (Some (a, m))) refl
+  now_later (Act.Set j ps) Reply.Set = set_at (same_key j k) ps
+  now_later _ r = refl
+
+later_none : (u : Bool) (k : Key) (x : Act) (r : Reply) → later u k x r None ≡ None
+later_none u k (Act.Write (Change.Insert j y)) r = by (same_key j k)
+  where
+    by : (b : Bool) → ◌≡◌ {A = Option Instance} (cond b None None) None
+    by true = refl
+    by false = refl
+later_none u k (Act.Write (Change.Update j v y)) r = by (same_key j k)
+  where
+    by : (b : Bool) → ◌≡◌ {A = Option Instance} (cond b None None) None
+    by true = refl
+    by false = refl
+later_none u k (Act.Write (Change.Delete j v)) r = by (same_key j k)
+  where
+    by : (b : Bool) → ◌≡◌ {A = Option Instance} (cond b None None) None
+    by true = refl
+    by false = refl
+later_none u k (Act.Remove j) Reply.Removed = by (same_key j k) u
+  where
+    by : (b u : Bool) → cond b (unless_unwritten u None) None ≡ None
+    by true true = refl
+    by true false = refl
+    by false u = refl
+later_none u k (Act.Set j ps) Reply.Set = by (same_key j k)
+  where
+    by : (b : Bool) → ◌≡◌ {A = Option Instance} (cond b None None) None
+    by true = refl
+    by false = refl
+later_none u k _ r = refl
+
+stay_longer : (k : Key) (e : Entry) (o : Option Stay) → held_by k (longer e o) ≡ later (is_unwritten k o) k e.act e.reply (held_by k o)
+stay_longer k e None = sym (later_none false k e.act e.reply)
+stay_longer k e (Some s) = held_longer k e s.0 s.1 ∙ now_later k s.0 s.1 e.act e.reply
 
 -- whether the key of an arrival is another one, or nothing arrives
 abbrev pub arrives_other : Key → Option Arrival → Bool
@@ -146,28 +233,30 @@ other_stay k e (Some a) o p = by_test (same_key (arrived_key a) k) p
     by_test true p = absurd (false≢true p)
     by_test false p = refl
 
+pub later_stay : (k : Key) (e : Entry) (m : Journal) → is_break e.act e.reply ≡ false → arrives_other k (arrival e.act e.reply) ≡ true → stay k (e ∷ m) ≡ longer e (stay k m)
+later_stay k e m b a = rw b (other_stay k e (arrival e.act e.reply) (stay k m) a)
+
 -- an entry at which nothing of the key arrives
-pub held_later : (k : Key) (e : Entry) (m : Journal) → are_plain (e ∷ m) ≡ true → is_break e.act e.reply ≡ false → arrives_other k (arrival e.act e.reply) ≡ true →
-    held.held (e ∷ m) k ≡ option_map (after_write (row_written k e.act)) (held.held m k)
-held_later k e m p b a =
-    let q : (is_plain e.act ≡ true) × (are_plain m ≡ true) = and_parts (is_plain e.act) (are_plain m) p in
-    let s : stay k (e ∷ m) ≡ longer e (stay k m) = rw b (other_stay k e (arrival e.act e.reply) (stay k m) a) in
-    held_plain k (e ∷ m) p ∙ ap (option_map (plain_instance k)) s ∙ longer_held k e (stay k m) ∙ ap (option_map (after_write (row_written k e.act))) (sym (held_plain k m q.1))
+pub held_later : (k : Key) (e : Entry) (m : Journal) → is_break e.act e.reply ≡ false → arrives_other k (arrival e.act e.reply) ≡ true →
+    held.held (e ∷ m) k ≡ later (is_unwritten k (stay k m)) k e.act e.reply (held.held m k)
+unfolding held.held
+held_later k e m b a = ap (held_by k) (later_stay k e m b a) ∙ stay_longer k e (stay k m)
 
 -- an instance that arrives
 abbrev pub fresh : Key → Arrival → Instance
 fresh k (Arrival.Read j r) = record { key = k; state = State.Managed; base = Some r; row = r }
 fresh k (Arrival.Made j r) = record { key = k; state = State.New; base = None; row = r }
 
-fresh_plain : (k : Key) (a : Arrival) → plain_instance k (a, []) ≡ fresh k a
-fresh_plain k (Arrival.Read j r) = refl
-fresh_plain k (Arrival.Made j r) = refl
+held_fresh : (k : Key) (a : Arrival) → held_by k (Some (a, [])) ≡ Some (fresh k a)
+held_fresh k (Arrival.Read j r) = refl
+held_fresh k (Arrival.Made j r) = refl
 
-pub held_arrives : (k : Key) (e : Entry) (m : Journal) (a : Arrival) → are_plain (e ∷ m) ≡ true → is_break e.act e.reply ≡ false → arrival e.act e.reply ≡ Some a → same_key (arrived_key a) k ≡ true →
+pub held_arrives : (k : Key) (e : Entry) (m : Journal) (a : Arrival) → is_break e.act e.reply ≡ false → arrival e.act e.reply ≡ Some a → same_key (arrived_key a) k ≡ true →
     held.held (e ∷ m) k ≡ Some (fresh k a)
-held_arrives k e m a p b c d =
+unfolding held.held
+held_arrives k e m a b c d =
     let s : stay k (e ∷ m) ≡ Some (a, []) = rw (b, c, d) refl in
-    held_plain k (e ∷ m) p ∙ ap (option_map (plain_instance k)) s ∙ ap (λ i. Some i) (fresh_plain k a)
+    ap (held_by k) s ∙ held_fresh k a
 
 pub held_broken : (k : Key) (e : Entry) (m : Journal) → is_break e.act e.reply ≡ true → held.held (e ∷ m) k ≡ None
 unfolding held.held

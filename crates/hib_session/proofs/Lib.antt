@@ -1,8 +1,8 @@
-pub mod Names
+pub mod Ranges
 pub mod Kept
 pub mod Orders
 pub mod Known
 pub mod Flushed
-pub mod Built
+pub mod Due
 pub mod Taken
 pub mod Taking

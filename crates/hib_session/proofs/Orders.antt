@@ -1,24 +1,19 @@
 -- The instances that a memory keeps, in order of arrival, and the changes that are pending of them.
-use Rattle.std.proofs.Common.{◌≡◌, ℕ, zero, suc, ◌<◌, length, get_or, set, take, drop, arith, inl, inr, Bool, true, false, cond, List, [], ◌∷◌, ◌++◌, map, Some, None, Option, refl, sym, ap, ◌∙◌, subst, append-nil}
-use Rattle.std.proofs.lemmas.Bool.{false≢true, and_parts}
-use Rattle.std.specs.List.{filter_map, cons_option}
+use Rattle.std.proofs.Common.{◌≡◌, inl, inr, Bool, true, false, cond, not, List, [], ◌∷◌, ◌++◌, map, Some, None, Option, refl, sym, ap, ◌∙◌, subst}
+use Rattle.std.proofs.lemmas.Bool.{false≢true, and_parts, and_from}
+use Rattle.std.specs.List.{filter, filter_map, cons_option}
 use Rattle.std.specs.Option.{option_map}
 use Rattle.hib_base.specs.Keys.{same_key}
 use Rattle.hib_base.proofs.Tables.{same_key_eq, Tested, tested}
-use Rattle.hib_journal.specs.Types.{Key, Row, Change, Held}
+use Rattle.hib_journal.specs.Types.{Key, Change, Held}
 use Rattle.hib_journal.specs.Sessions.{Journal}
 use Rattle.hib_journal.specs.Held as held
-use Rattle.hib_journal.specs.Held.{Instance, Stay, held_by, has_left, instance_of, stay, arrived, without_key, pending}
-use Rattle.hib_session.specs.Memory.{shown_of, shown, held_in, is_none, are_distinct, written, with_written, insert_of, update_of, pending_in, are_plain}
-use Rattle.hib_session.proofs.Kept.{after_write, never_removed}
-
-pub same_key_sym : (a b : Key) → same_key a b ≡ same_key b a
-same_key_sym a b = by_test (tested (same_key a b)) (tested (same_key b a))
-  where
-    by_test : Tested (same_key a b) → Tested (same_key b a) → same_key a b ≡ same_key b a
-    by_test (inl p) q = let e : a ≡ b = same_key_eq a b p in subst (λ x. same_key a x ≡ same_key x a) e refl
-    by_test (inr p) (inr q) = p ∙ sym q
-    by_test (inr p) (inl q) = let e : b ≡ a = same_key_eq b a q in subst (λ x. same_key x b ≡ same_key b x) e refl
+use Rattle.hib_journal.specs.Held.{Instance, Stay, held_by, has_left, instance_of, stay, arrived, removed, without_key, pending}
+use Rattle.hib_completion.proofs.Keys.{same_key_sym}
+use Rattle.hib_identity_map.specs.Identity.{MapState, Pairs, look_in, is_absent, are_distinct, drop_in, add_in, change_in}
+use Rattle.hib_dirty_check.specs.Changed.{insert_of, update_of}
+use Rattle.hib_flush.specs.Planned.{planned, delete_held}
+use Rattle.hib_session.specs.Memory.{shown_of, shown, shown_by, held_in, Holds}
 
 -- an instance that is held of a key has that key
 
@@ -64,15 +59,40 @@ pub same_map : (f g : Key → Option Instance) (ks : List Key) → ((k : Key) �
 same_map f g [] h = refl
 same_map f g (k ∷ ks) h = rw (h k, same_map f g ks h) refl
 
--- where nothing was held of a key, it does not matter that the key is taken out
-pub without_map : (f g : Key → Option Instance) (j : Key) (ks : List Key) → g j ≡ None → ((k : Key) → same_key j k ≡ false → f k ≡ g k) →
-    filter_map f (without_key j ks) ≡ filter_map g ks
-without_map f g j [] n h = refl
-without_map f g j (k ∷ ks) n h = at_key (tested (same_key k j)) (without_map f g j ks n h)
+-- where nothing is held of a key, it does not matter that the key is taken out
+pub without_none : (f : Key → Option Instance) (j : Key) (ks : List Key) → f j ≡ None → filter_map f (without_key j ks) ≡ filter_map f ks
+without_none f j [] n = refl
+without_none f j (k ∷ ks) n = at_key (tested (same_key k j)) (without_none f j ks n)
   where
-    at_key : Tested (same_key k j) → filter_map f (without_key j ks) ≡ filter_map g ks → filter_map f (without_key j (k ∷ ks)) ≡ filter_map g (k ∷ ks)
-    at_key (inl p) i = let e : g k ≡ None = ap g (same_key_eq k j p) ∙ n in rw (p, e) i
+    at_key : Tested (same_key k j) → filter_map f (without_key j ks) ≡ filter_map f ks → filter_map f (without_key j (k ∷ ks)) ≡ filter_map f (k ∷ ks)
+    at_key (inl p) i = let e : f k ≡ None = ap f (same_key_eq k j p) ∙ n in rw (p, e) i
+    at_key (inr p) i = rw (p, i) refl
+
+-- a key whose instance changes is taken out anyway
+pub without_same : (f g : Key → Option Instance) (j : Key) (ks : List Key) → ((k : Key) → same_key j k ≡ false → f k ≡ g k) → filter_map f (without_key j ks) ≡ filter_map g (without_key j ks)
+without_same f g j [] h = refl
+without_same f g j (k ∷ ks) h = at_key (tested (same_key k j)) (without_same f g j ks h)
+  where
+    at_key : Tested (same_key k j) → filter_map f (without_key j ks) ≡ filter_map g (without_key j ks) → filter_map f (without_key j (k ∷ ks)) ≡ filter_map g (without_key j (k ∷ ks))
+    at_key (inl p) i = rw p i
     at_key (inr p) i = let e : f k ≡ g k = h k (same_key_sym j k ∙ p) in rw (p, e, i) refl
+
+-- the instances of other keys
+abbrev pub others : Key → List Instance → List Instance
+others k is = filter (λ i. not (same_key k i.key)) is
+
+-- and where the instance of a key is gone, those of the others stay
+pub dropped_map : (f g : Key → Option Instance) (j : Key) (ks : List Key) → ((k : Key) (i : Instance) → g k ≡ Some i → i.key ≡ k) →
+    ((k : Key) → f k ≡ cond (same_key j k) None (g k)) → filter_map f ks ≡ others j (filter_map g ks)
+dropped_map f g j [] h e = refl
+dropped_map f g j (k ∷ ks) h e = rw (e k) (at_key (same_key j k) (g k) refl refl (dropped_map f g j ks h e))
+  where
+    at_key : (b : Bool) (o : Option Instance) → same_key j k ≡ b → g k ≡ o → filter_map f ks ≡ others j (filter_map g ks) →
+        cons_option (cond b None o) (filter_map f ks) ≡ others j (cons_option o (filter_map g ks))
+    at_key true None p q i = i
+    at_key false None p q i = i
+    at_key true (Some x) p q i = let n : same_key j x.key ≡ true = ap (same_key j) (h k x q) ∙ p in rw n i
+    at_key false (Some x) p q i = let n : same_key j x.key ≡ false = ap (same_key j) (h k x q) ∙ p in rw (n, i) refl
 
 cons_append : (o : Option Instance) (xs ys : List Instance) → cons_option o (xs ++ ys) ≡ cons_option o xs ++ ys
 cons_append None xs ys = refl
@@ -99,113 +119,171 @@ shown_changes : (c : Key × Held → Option Change) (d : Option Instance → Opt
 shown_changes c d [] h = refl
 shown_changes c d (p ∷ ps) h = rw (h p, shown_changes c d ps h) refl
 
-pub pending_kept : (ps : List (Key × Held)) (m : Journal) → are_plain m ≡ true → map shown ps ≡ filter_map (λ k. held.held m k) (arrived m) → pending_in ps ≡ pending m
+deletes_fused : (f : Key → Option Instance) (ps : Pairs) (ks : List Key) → ((k : Key) → held_in ps k ≡ f k) →
+    filter_map (λ k. delete_held k (look_in ps k)) ks ≡ filter_map (λ k. held.delete_of (f k)) ks
+deletes_fused f ps [] h = refl
+deletes_fused f ps (k ∷ ks) h = rw (at_key (look_in ps k) ∙ ap held.delete_of (h k), deletes_fused f ps ks h) refl
+  where
+    at_key : (o : Option Held) → delete_held k o ≡ held.delete_of (shown_by k o)
+    at_key None = refl
+    at_key (Some x) = refl
+
+pub pending_kept : (s : MapState) (m : Journal) → Holds s.held m → s.removals ≡ removed m → planned s ≡ pending m
 unfolding pending
-pending_kept ps m p o =
-    let i : filter_map insert_of ps ≡ filter_map (λ k. held.insert_of (held.held m k)) (arrived m) =
-    shown_changes insert_of held.insert_of ps (λ q. refl) ∙ ap (filter_map (λ i. held.insert_of (Some i))) o
+pending_kept s m h r =
+    let i : filter_map (λ p. insert_of p.0 p.1) s.held ≡ filter_map (λ k. held.insert_of (held.held m k)) (arrived m) =
+    shown_changes (λ p. insert_of p.0 p.1) held.insert_of s.held (λ q. refl) ∙ ap (filter_map (λ i. held.insert_of (Some i))) h.order
     ∙ sym (fused held.insert_of (λ k. held.held m k) (arrived m) refl) in
-    let u : filter_map update_of ps ≡ filter_map (λ k. held.update_of (held.held m k)) (arrived m) =
-    shown_changes update_of held.update_of ps (λ q. refl) ∙ ap (filter_map (λ i. held.update_of (Some i))) o
+    let u : filter_map (λ p. update_of p.0 p.1) s.held ≡ filter_map (λ k. held.update_of (held.held m k)) (arrived m) =
+    shown_changes (λ p. update_of p.0 p.1) held.update_of s.held (λ q. refl) ∙ ap (filter_map (λ i. held.update_of (Some i))) h.order
     ∙ sym (fused held.update_of (λ k. held.held m k) (arrived m) refl) in
-    rw (never_removed m p, i, u) (sym (append-nil (filter_map (λ k. held.insert_of (held.held m k)) (arrived m) ++ filter_map (λ k. held.update_of (held.held m k)) (arrived m))))
+    let d : filter_map (λ k. delete_held k (look_in s.held k)) s.removals ≡ filter_map (λ k. held.delete_of (held.held m k)) (removed m) =
+    deletes_fused (λ k. held.held m k) s.held s.removals h.instances ∙ ap (filter_map (λ k. held.delete_of (held.held m k))) r in
+    rw (i, u, d) refl
 
 -- the list that is kept
 
-pub held_written : (ps : List (Key × Held)) (k : Key) (r : Row) (q : Key) →
-    held_in (with_written ps k r) q ≡ cond (same_key k q) (option_map (after_write (Some r)) (held_in ps q)) (held_in ps q)
-held_written [] k r q = by_test (same_key k q)
+absent_none : (o : Option Held) → is_absent o ≡ true → o ≡ None
+absent_none None p = refl
+absent_none (Some h) p = absurd (false≢true p)
+
+none_absent : (o : Option Held) → o ≡ None → is_absent o ≡ true
+none_absent None p = refl
+none_absent (Some h) p = absurd (cc)
+
+absent_head : (b : Bool) (h : Held) (o : Option Held) → cond b (Some h) o ≡ None → (b ≡ false) × (o ≡ None)
+absent_head true h o e = absurd (cc)
+absent_head false h o e = (refl, e)
+
+flip : (a b : Key) (x : Bool) → same_key a b ≡ x → same_key b a ≡ x
+flip a b x e = same_key_sym b a ∙ e
+
+along : (a b c : Key) (x : Bool) → same_key a b ≡ true → same_key b c ≡ x → same_key a c ≡ x
+along a b c x e f = subst (λ k. same_key k c ≡ x) (sym (same_key_eq a b e)) f
+
+changed_none : (k q : Key) (f : Held → Held) → ◌≡◌ {A = Option Held} None (cond (same_key k q) (option_map f None) None)
+changed_none k q f = by (same_key k q)
   where
-    by_test : (b : Bool) → ◌≡◌ {A = Option Instance} None (cond b None None)
-    by_test true = refl
-    by_test false = refl
-held_written (p ∷ ps) k r q = at_key (tested (same_key p.0 k)) (tested (same_key p.0 q)) (held_written ps k r q)
+    by : (b : Bool) → ◌≡◌ {A = Option Held} None (cond b (option_map f None) None)
+    by true = refl
+    by false = refl
+
+pub look_changed : (k : Key) (f : Held → Held) (ps : Pairs) (q : Key) → look_in (change_in k f ps) q ≡ cond (same_key k q) (option_map f (look_in ps q)) (look_in ps q)
+look_changed k f [] q = changed_none k q f
+look_changed k f (p ∷ ps) q = by (tested (same_key k p.0)) (tested (same_key q p.0)) (look_changed k f ps q)
   where
-    at_key : Tested (same_key p.0 k) → Tested (same_key p.0 q) →
-        held_in (with_written ps k r) q ≡ cond (same_key k q) (option_map (after_write (Some r)) (held_in ps q)) (held_in ps q) →
-        held_in (with_written (p ∷ ps) k r) q ≡ cond (same_key k q) (option_map (after_write (Some r)) (held_in (p ∷ ps) q)) (held_in (p ∷ ps) q)
-    at_key (inl a) (inl b) i =
-        let c : same_key k q ≡ true = subst (λ x. same_key x q ≡ true) (same_key_eq p.0 k a) b in rw (a, b, c) refl
-    at_key (inl a) (inr b) i =
-        let c : same_key k q ≡ false = subst (λ x. same_key x q ≡ false) (same_key_eq p.0 k a) b in rw (a, b, c) refl
-    at_key (inr a) (inl b) i =
-        let c : same_key k q ≡ false = same_key_sym k q ∙ subst (λ x. same_key x k ≡ false) (same_key_eq p.0 q b) a in rw (a, b, c) refl
-    at_key (inr a) (inr b) i = rw (a, b) i
+    by : Tested (same_key k p.0) → Tested (same_key q p.0) → look_in (change_in k f ps) q ≡ cond (same_key k q) (option_map f (look_in ps q)) (look_in ps q) →
+        look_in (change_in k f (p ∷ ps)) q ≡ cond (same_key k q) (option_map f (look_in (p ∷ ps) q)) (look_in (p ∷ ps) q)
+    by (inl a) (inl b) i = let c : same_key k q ≡ true = along k p.0 q true a (flip q p.0 true b) in rw (a, b, c) refl
+    by (inl a) (inr b) i = let c : same_key k q ≡ false = along k p.0 q false a (flip q p.0 false b) in rw (a, b, c) refl
+    by (inr a) (inl b) i = let c : same_key k q ≡ false = flip q k false (along q p.0 k false b (flip k p.0 false a)) in rw (a, b, c) refl
+    by (inr a) (inr b) i = rw (a, b) i
 
-none_after : (b : Bool) (r : Row) (o : Option Instance) → is_none (cond b (option_map (after_write (Some r)) o) o) ≡ is_none o
-none_after true r None = refl
-none_after true r (Some i) = refl
-none_after false r o = refl
+both : (p : Key × Held) (ps : Pairs) → are_distinct (p ∷ ps) ≡ true → (look_in ps p.0 ≡ None) × (are_distinct ps ≡ true)
+both p ps d = let a : (is_absent (look_in ps p.0) ≡ true) × (are_distinct ps ≡ true) = and_parts (is_absent (look_in ps p.0)) (are_distinct ps) d in (absent_none (look_in ps p.0) a.0, a.1)
 
-pub distinct_written : (ps : List (Key × Held)) (k : Key) (r : Row) → are_distinct (with_written ps k r) ≡ are_distinct ps
-distinct_written [] k r = refl
-distinct_written (p ∷ ps) k r = at_key (tested (same_key p.0 k)) (distinct_written ps k r)
+dropped_none : (k q : Key) → ◌≡◌ {A = Option Held} None (cond (same_key k q) None None)
+dropped_none k q = by (same_key k q)
   where
-    at_key : Tested (same_key p.0 k) → are_distinct (with_written ps k r) ≡ are_distinct ps → are_distinct (with_written (p ∷ ps) k r) ≡ are_distinct (p ∷ ps)
-    at_key (inl a) i = rw a refl
-    at_key (inr a) i = rw (a, held_written ps k r p.0, none_after (same_key k p.0) r (held_in ps p.0), i) refl
+    by : (b : Bool) → ◌≡◌ {A = Option Held} None (cond b None None)
+    by true = refl
+    by false = refl
 
-abbrev pub write_at : Key → Row → Instance → Instance
-write_at k r i = cond (same_key k i.key) (after_write (Some r) i) i
-
-none_is : (o : Option Instance) → is_none o ≡ true → o ≡ None
-none_is None p = refl
-none_is (Some i) p = absurd (false≢true p)
-
-absent_head : (b : Bool) (i : Instance) (o : Option Instance) → cond b (Some i) o ≡ None → (b ≡ false) × (o ≡ None)
-absent_head true i o e = absurd (no e)
+pub look_dropped : (k : Key) (ps : Pairs) (q : Key) → are_distinct ps ≡ true → look_in (drop_in k ps) q ≡ cond (same_key k q) None (look_in ps q)
+look_dropped k [] q d = dropped_none k q
+look_dropped k (p ∷ ps) q d = by (tested (same_key k p.0)) (tested (same_key q p.0)) (look_dropped k ps q (both p ps d).1)
   where
-    no : Some i ≡ None → ⊥
-    no x = cc
-absent_head false i o e = (refl, e)
+    by : Tested (same_key k p.0) → Tested (same_key q p.0) → look_in (drop_in k ps) q ≡ cond (same_key k q) None (look_in ps q) →
+        look_in (drop_in k (p ∷ ps)) q ≡ cond (same_key k q) None (look_in (p ∷ ps) q)
+    by (inl a) (inl b) i =
+        let c : same_key k q ≡ true = along k p.0 q true a (flip q p.0 true b) in
+        let n : look_in ps q ≡ None = ap (look_in ps) (same_key_eq q p.0 b) ∙ (both p ps d).0 in
+        rw (a, c, n) refl
+    by (inl a) (inr b) i = let c : same_key k q ≡ false = along k p.0 q false a (flip q p.0 false b) in rw (a, b, c) refl
+    by (inr a) (inl b) i = let c : same_key k q ≡ false = flip q k false (along q p.0 k false b (flip k p.0 false a)) in rw (a, b, c) refl
+    by (inr a) (inr b) i = rw (a, b) i
 
-untouched : (ps : List (Key × Held)) (k : Key) (r : Row) → held_in ps k ≡ None → map (write_at k r) (map shown ps) ≡ map shown ps
-untouched [] k r n = refl
-untouched (p ∷ ps) k r n =
-    let a : (same_key p.0 k ≡ false) × (held_in ps k ≡ None) = absent_head (same_key p.0 k) (shown_of k p.1) (held_in ps k) n in
-    rw (same_key_sym k p.0, a.0, untouched ps k r a.1) refl
-
-pub shown_written : (ps : List (Key × Held)) (k : Key) (r : Row) → are_distinct ps ≡ true → map shown (with_written ps k r) ≡ map (write_at k r) (map shown ps)
-shown_written [] k r d = refl
-shown_written (p ∷ ps) k r d = at_key (tested (same_key p.0 k)) (shown_written ps k r both.1)
+pub look_added : (k : Key) (h : Held) (ps : Pairs) (q : Key) → look_in ps k ≡ None → look_in (add_in k h ps) q ≡ cond (same_key k q) (Some h) (look_in ps q)
+look_added k h [] q n = by (same_key q k) (same_key k q) (same_key_sym q k)
   where
-    both : (is_none (held_in ps p.0) ≡ true) × (are_distinct ps ≡ true)
-    both = and_parts (is_none (held_in ps p.0)) (are_distinct ps) d
-
-    at_key : Tested (same_key p.0 k) → map shown (with_written ps k r) ≡ map (write_at k r) (map shown ps) → map shown (with_written (p ∷ ps) k r) ≡ map (write_at k r) (map shown (p ∷ ps))
-    at_key (inl a) i =
-        let n : held_in ps k ≡ None = subst (λ x. held_in ps x ≡ None) (same_key_eq p.0 k a) (none_is (held_in ps p.0) both.0) in
-        rw (a, same_key_sym k p.0, a, untouched ps k r n) refl
-    at_key (inr a) i = rw (a, same_key_sym k p.0, a, i) refl
-
-pub held_added : (ps : List (Key × Held)) (k : Key) (h : Held) (q : Key) → held_in ps k ≡ None →
-    held_in (ps ++ (k, h) ∷ []) q ≡ cond (same_key k q) (Some (shown_of q h)) (held_in ps q)
-held_added [] k h q n = refl
-held_added (p ∷ ps) k h q n = at_key (tested (same_key p.0 q)) (held_added ps k h q away.1)
+    by : (a b : Bool) → a ≡ b → ◌≡◌ {A = Option Held} (cond a (Some h) None) (cond b (Some h) None)
+    by a b e = rw e refl
+look_added k h (p ∷ ps) q n = by (tested (same_key q p.0)) (look_added k h ps q away.1)
   where
-    away : (same_key p.0 k ≡ false) × (held_in ps k ≡ None)
-    away = absent_head (same_key p.0 k) (shown_of k p.1) (held_in ps k) n
+    away : (same_key k p.0 ≡ false) × (look_in ps k ≡ None)
+    away = absent_head (same_key k p.0) p.1 (look_in ps k) n
 
-    at_key : Tested (same_key p.0 q) → held_in (ps ++ (k, h) ∷ []) q ≡ cond (same_key k q) (Some (shown_of q h)) (held_in ps q) →
-        held_in (p ∷ ps ++ (k, h) ∷ []) q ≡ cond (same_key k q) (Some (shown_of q h)) (held_in (p ∷ ps) q)
-    at_key (inl a) i =
-        let c : same_key k q ≡ false = same_key_sym k q ∙ subst (λ x. same_key x k ≡ false) (same_key_eq p.0 q a) away.0 in rw (a, c) refl
-    at_key (inr a) i = rw a i
+    by : Tested (same_key q p.0) → look_in (add_in k h ps) q ≡ cond (same_key k q) (Some h) (look_in ps q) → look_in (add_in k h (p ∷ ps)) q ≡ cond (same_key k q) (Some h) (look_in (p ∷ ps) q)
+    by (inl b) i = let c : same_key k q ≡ false = flip q k false (along q p.0 k false b (flip k p.0 false away.0)) in rw (b, c) refl
+    by (inr b) i = rw b i
 
-pub distinct_added : (ps : List (Key × Held)) (k : Key) (h : Held) → held_in ps k ≡ None → are_distinct ps ≡ true → are_distinct (ps ++ (k, h) ∷ []) ≡ true
-distinct_added [] k h n d = refl
-distinct_added (p ∷ ps) k h n d =
-    let a : (same_key p.0 k ≡ false) × (held_in ps k ≡ None) = absent_head (same_key p.0 k) (shown_of k p.1) (held_in ps k) n in
-    let b : (is_none (held_in ps p.0) ≡ true) × (are_distinct ps ≡ true) = and_parts (is_none (held_in ps p.0)) (are_distinct ps) d in
-    rw (held_added ps k h p.0 a.1, same_key_sym k p.0, a.0, b.0) (distinct_added ps k h a.1 b.1)
+absent_changed : (b : Bool) (f : Held → Held) (o : Option Held) → is_absent (cond b (option_map f o) o) ≡ is_absent o
+absent_changed true f None = refl
+absent_changed true f (Some h) = refl
+absent_changed false f o = refl
 
-pub shown_added : (ps : List (Key × Held)) (k : Key) (h : Held) → map shown (ps ++ (k, h) ∷ []) ≡ map shown ps ++ shown_of k h ∷ []
-shown_added [] k h = refl
-shown_added (p ∷ ps) k h = rw (shown_added ps k h) refl
+pub distinct_changed : (k : Key) (f : Held → Held) (ps : Pairs) → are_distinct (change_in k f ps) ≡ are_distinct ps
+distinct_changed k f [] = refl
+distinct_changed k f (p ∷ ps) = by (tested (same_key k p.0)) (distinct_changed k f ps)
+  where
+    by : Tested (same_key k p.0) → are_distinct (change_in k f ps) ≡ are_distinct ps → are_distinct (change_in k f (p ∷ ps)) ≡ are_distinct (p ∷ ps)
+    by (inl a) i = rw a refl
+    by (inr a) i = rw (a, look_changed k f ps p.0, absent_changed (same_key k p.0) f (look_in ps p.0), i) refl
 
--- a write through the place of the key
-pub written_at : (ps : List (Key × Held)) (i : ℕ) (k : Key) (r : Row) (d f : Key × Held) (h : Held) → i < length ps → same_key (get_or ps i d).0 k ≡ true →
-    h ≡ written r (get_or ps i f).1 → set ps i ((get_or ps i f).0, h) ≡ take i ps ++ with_written (drop i ps) k r
-written_at [] i k r d f h l s e = absurd (omega (arith, l))
-written_at (p ∷ ps) zero k r d f h l s e = rw (s, e) refl
-written_at (p ∷ ps) (suc i) k r d f h l s e = ap (λ xs. p ∷ xs) (written_at ps i k r d f h (omega (arith, l)) s e)
+pub distinct_dropped : (k : Key) (ps : Pairs) → are_distinct ps ≡ true → are_distinct (drop_in k ps) ≡ true
+distinct_dropped k [] d = refl
+distinct_dropped k (p ∷ ps) d = by (tested (same_key k p.0)) (distinct_dropped k ps (both p ps d).1)
+  where
+    by : Tested (same_key k p.0) → are_distinct (drop_in k ps) ≡ true → are_distinct (drop_in k (p ∷ ps)) ≡ true
+    by (inl a) i = rw a (both p ps d).1
+    by (inr a) i =
+        let n : look_in (drop_in k ps) p.0 ≡ None = look_dropped k ps p.0 (both p ps d).1 ∙ rw a (both p ps d).0 in
+        rw a (and_from (is_absent (look_in (drop_in k ps) p.0)) (are_distinct (drop_in k ps)) (none_absent (look_in (drop_in k ps) p.0) n) i)
+
+pub distinct_added : (k : Key) (h : Held) (ps : Pairs) → look_in ps k ≡ None → are_distinct ps ≡ true → are_distinct (add_in k h ps) ≡ true
+distinct_added k h [] n d = refl
+distinct_added k h (p ∷ ps) n d =
+    let a : (same_key k p.0 ≡ false) × (look_in ps k ≡ None) = absent_head (same_key k p.0) p.1 (look_in ps k) n in
+    let x : look_in (add_in k h ps) p.0 ≡ None = look_added k h ps p.0 a.1 ∙ rw a.0 (both p ps d).0 in
+    and_from (is_absent (look_in (add_in k h ps) p.0)) (are_distinct (add_in k h ps)) (none_absent (look_in (add_in k h ps) p.0) x) (distinct_added k h ps a.1 (both p ps d).1)
+
+-- what is shown of them
+abbrev pub change_at : Key → (Instance → Instance) → Instance → Instance
+change_at k g i = cond (same_key k i.key) (g i) i
+
+untouched : (k : Key) (g : Instance → Instance) (ps : Pairs) → look_in ps k ≡ None → map (change_at k g) (map shown ps) ≡ map shown ps
+untouched k g [] n = refl
+untouched k g (p ∷ ps) n =
+    let a : (same_key k p.0 ≡ false) × (look_in ps k ≡ None) = absent_head (same_key k p.0) p.1 (look_in ps k) n in
+    rw (a.0, untouched k g ps a.1) refl
+
+pub shown_changed : (k : Key) (f : Held → Held) (g : Instance → Instance) (ps : Pairs) → ((j : Key) (h : Held) → shown_of j (f h) ≡ g (shown_of j h)) → are_distinct ps ≡ true →
+    map shown (change_in k f ps) ≡ map (change_at k g) (map shown ps)
+shown_changed k f g [] s d = refl
+shown_changed k f g (p ∷ ps) s d = by (tested (same_key k p.0)) (shown_changed k f g ps s (both p ps d).1)
+  where
+    by : Tested (same_key k p.0) → map shown (change_in k f ps) ≡ map (change_at k g) (map shown ps) → map shown (change_in k f (p ∷ ps)) ≡ map (change_at k g) (map shown (p ∷ ps))
+    by (inl a) i =
+        let n : look_in ps k ≡ None = ap (look_in ps) (same_key_eq k p.0 a) ∙ (both p ps d).0 in
+        rw (a, s p.0 p.1, untouched k g ps n) refl
+    by (inr a) i = rw (a, i) refl
+
+kept_all : (k : Key) (ps : Pairs) → look_in ps k ≡ None → others k (map shown ps) ≡ map shown ps
+kept_all k [] n = refl
+kept_all k (p ∷ ps) n =
+    let a : (same_key k p.0 ≡ false) × (look_in ps k ≡ None) = absent_head (same_key k p.0) p.1 (look_in ps k) n in
+    rw (a.0, kept_all k ps a.1) refl
+
+pub shown_dropped : (k : Key) (ps : Pairs) → are_distinct ps ≡ true → map shown (drop_in k ps) ≡ others k (map shown ps)
+shown_dropped k [] d = refl
+shown_dropped k (p ∷ ps) d = by (tested (same_key k p.0)) (shown_dropped k ps (both p ps d).1)
+  where
+    by : Tested (same_key k p.0) → map shown (drop_in k ps) ≡ others k (map shown ps) → map shown (drop_in k (p ∷ ps)) ≡ others k (map shown (p ∷ ps))
+    by (inl a) i =
+        let n : look_in ps k ≡ None = ap (look_in ps) (same_key_eq k p.0 a) ∙ (both p ps d).0 in
+        rw a (sym (kept_all k ps n))
+    by (inr a) i = rw (a, i) refl
+
+pub shown_added : (k : Key) (h : Held) (ps : Pairs) → map shown (add_in k h ps) ≡ map shown ps ++ shown_of k h ∷ []
+shown_added k h [] = refl
+shown_added k h (p ∷ ps) = ap (λ is. shown p ∷ is) (shown_added k h ps)

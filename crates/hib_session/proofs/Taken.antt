@@ -5,7 +5,7 @@ use Rattle.hib_journal.specs.Types.{Mode, Statement, Script, Act, Entry}
 use Rattle.hib_journal.specs.Sessions.{Journal}
 use Rattle.hib_journal.specs.Held.{pending}
 use Rattle.hib_journal.specs.Plan.{Plan, after, first_act}
-use Rattle.hib_journal.specs.Next.{block, blocks, flush_of, mode_after, ends, mode_reads, is_free, look, list_store, statements, next}
+use Rattle.hib_journal.specs.Next.{block, blocks, list, is_in_tables, tables_of, flush_of, mode_after, ends, mode_reads, is_free, look, list_store, statements, next}
 use Rattle.hib_session.specs.declared.control.Stage.{Stage}
 use Rattle.hib_session.specs.declared.control.Control.{Control}
 use Rattle.hib_session.specs.Control.{staged, queued, untaken, settles, is_settled, is_over_at, decided, is_answering, is_due, is_resting, act_at, act_staged, begin_at, plan_at, Stands}
@@ -19,6 +19,10 @@ pub commit_taken : (script : Script) (st : Statement) (acts : List Act) (mode : 
     st ≡ Statement.Commit → acts ≡ flush_of script done (pending done) →
     queued script (mode_after st mode) acts Stage.Committing done go ≡ block script mode st done go
 commit_taken script st acts mode done go p e = rw (p, e) refl
+
+pub list_flushed : (script : Script) (acts : List Act) (q : ℕ) (mode : Mode) (done : Journal) (go : Journal → Plan) → acts ≡ flush_of script done (pending done) →
+    is_in_tables (tables_of script q) (pending done) ≡ true → queued script mode acts (Stage.Answering q) done go ≡ list script mode q done go
+list_flushed script acts q mode done go p t = rw (p, t) refl
 
 -- it takes a statement
 pub takes : (script : Script) (c : Control) (done : Journal) (st : Statement) (acts : List Act) (stage : Stage) (m : Mode) (b : Bool) → Stands script c done →

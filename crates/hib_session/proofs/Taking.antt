@@ -1,74 +1,85 @@
 -- A session that takes the entry of the act that was due.
-use Rattle.std.proofs.Common.{◌≡◌, Bool, true, false, ◌||◌, List, [], ◌∷◌, IfSome, Some, None, Option, refl, sym, ap, ◌∙◌, subst}
-use Rattle.std.proofs.lemmas.Bool.{true≢false, false≢true, or_parts}
-use Rattle.hib_journal.specs.Types.{Change, Statement, Script, Act, Reply, Entry}
-use Rattle.hib_journal.specs.Sessions.{Journal, changes_in}
-use Rattle.hib_journal.specs.Held.{Instance, Arrival, arrival, arrived_key, held}
+use Rattle.std.proofs.Common.{◌≡◌, ◌<◌, ℕ, Bool, true, false, List, [], ◌∷◌, IfSome, Some, None, Option, refl, sym, ap, ◌∙◌, subst}
+use Rattle.std.proofs.lemmas.Bool.{false≢true}
+use Rattle.hib_journal.specs.Types.{Key, Change, Statement, Script, Act, Reply, Entry}
+use Rattle.hib_journal.specs.Sessions.{Journal, time_in, time_after, floor_in, floor_after, changes_in, changes_after, is_begun}
 use Rattle.hib_journal.specs.Plan.{InOrder}
-use Rattle.hib_journal.specs.Next.{plan_of, next, is_held, is_in}
-use Rattle.hib_journal.specs.Legal.{persisted}
+use Rattle.hib_journal.specs.Next.{plan_of, next, lock_in, lock_id}
 use Rattle.hib_journal.proofs.Steps.{next_is}
 use Rattle.hib_session.specs.declared.control.Stage.{Stage}
+use Rattle.hib_session.specs.declared.control.Control.{Control}
+use Rattle.hib_session.specs.declared.memory.Memory.{Memory}
 use Rattle.hib_session.specs.declared.session.Session.{Session}
-use Rattle.hib_session.specs.Memory.{IsNew, Knows, Remembers, is_plain, noted}
-use Rattle.hib_session.specs.Built.{is_simple, IsAllowed}
-use Rattle.hib_session.specs.Control.{Stands, untaken, is_over_at, is_over, is_settled, act_at}
-use Rattle.hib_session.specs.Session.{Follows, IsTaken, own_reply, number_of}
-use Rattle.hib_session.proofs.Known.{knows_noted}
-use Rattle.hib_session.proofs.Built.{allowed_due}
+use Rattle.hib_session.specs.Memory.{Knows, Recalls}
+use Rattle.hib_session.specs.Due.{IsAllowed, is_closed}
+use Rattle.hib_session.specs.Control.{Stands, untaken, is_due, is_over_at, is_over, is_settled, act_at, act_staged, weight}
+use Rattle.hib_session.specs.Session.{Follows, IsTaken, number_of, left_in}
+use Rattle.hib_session.proofs.Due.{allowed_due, closed_end}
 use Rattle.hib_session.proofs.Taken.{act_due}
 
-simple_plain : (a : Act) → is_simple a ≡ true → is_plain a ≡ true
-simple_plain (Act.Set k cells) h = absurd (false≢true h)
-simple_plain (Act.Remove k) h = absurd (false≢true h)
-simple_plain (Act.Write (Change.Delete k v)) h = absurd (false≢true h)
-simple_plain _ h = refl
+-- the acts of stages leave what is asked for the acts that follow
+abbrev is_staged : Act → Bool
+is_staged (Act.Get k t) = true
+is_staged (Act.Load k) = true
+is_staged (Act.Look q) = true
+is_staged (Act.Check q t) = true
+is_staged (Act.List q) = true
+is_staged Act.Commit = true
+is_staged Act.Rollback = true
+is_staged _ = false
 
-none_held : (o : Option Instance) → is_held o ≡ false → o ≡ None
-none_held None p = refl
-none_held (Some i) p = absurd (true≢false p)
+same_time : (a : Act) (now t : ℕ) → is_staged a ≡ true → t ≡ time_after a now t
+same_time Act.Begin now t p = absurd (false≢true p)
+same_time _ now t p = refl
 
-new_unknown : (b : Bool) → Reply.New ≡ persisted b → b ≡ false
-new_unknown true e = absurd (no e)
+same_floor : (a : Act) (r : Reply) (f : ℕ) → is_staged a ≡ true → f ≡ floor_after a r f
+same_floor Act.Begin r f p = absurd (false≢true p)
+same_floor _ r f p = refl
+
+same_changes : (a : Act) (cs : List Change) → is_staged a ≡ true → cs ≡ changes_after a cs
+same_changes Act.Begin cs p = absurd (false≢true p)
+same_changes (Act.Write c) cs p = absurd (false≢true p)
+same_changes _ cs p = refl
+
+same_lock : (k : Key) (a : Act) (r : Reply) (i : ℕ) → is_staged a ≡ true → i ≡ lock_in k a r i
+same_lock k (Act.Lock j v f) r i p = absurd (false≢true p)
+same_lock k _ r i p = refl
+
+staged_act : (stage : Stage) (mine : Journal) (a : Act) → is_due stage ≡ true → act_staged stage mine ≡ Some a → is_staged a ≡ true
+staged_act Stage.Idle mine a d p = absurd (false≢true d)
+staged_act (Stage.Answering q) mine a d p = absurd (false≢true d)
+staged_act (Stage.Getting k) mine a d p = let e : a ≡ Act.Get k (time_in mine) = cc in ap is_staged e
+staged_act (Stage.Loading k) mine a d p = let e : a ≡ Act.Load k = cc in ap is_staged e
+staged_act (Stage.Looking q) mine a d p = let e : a ≡ Act.Look q = cc in ap is_staged e
+staged_act (Stage.Checking q t) mine a d p = let e : a ≡ Act.Check q t = cc in ap is_staged e
+staged_act (Stage.Listing q) mine a d p = let e : a ≡ Act.List q = cc in ap is_staged e
+staged_act Stage.Committing mine a d p = let e : a ≡ Act.Commit = cc in ap is_staged e
+staged_act Stage.RollingBack mine a d p = let e : a ≡ Act.Rollback = cc in ap is_staged e
+
+due_staged : (acts : List Act) (stage : Stage) (b : Bool) (sts : List Statement) (mine : Journal) (a : Act) → acts ≡ [] → is_due stage ≡ true → act_at acts stage b sts mine ≡ Some a → is_staged a ≡ true
+due_staged acts stage b sts mine a q d p = staged_act stage mine a d (sym (staged stage d) ∙ rw q at p)
   where
-    no : Reply.New ≡ Reply.Known → ⊥
-    no x = cc
-new_unknown false e = refl
+    staged : (stage : Stage) → is_due stage ≡ true → act_at [] stage b sts mine ≡ act_staged stage mine
+    staged Stage.Idle d = absurd (false≢true d)
+    staged _ d = refl
 
--- nothing arrives that is held
-absent : (script : Script) (mine : Journal) (act : Act) (reply : Reply) → IsAllowed mine act → ((r : Reply) → own_reply script mine act ≡ Some r → reply ≡ r) →
-    (a : Arrival) → arrival act reply ≡ Some a → held mine (arrived_key a) ≡ None
-absent script mine (Act.Persist k r) Reply.New h own a e =
-    let b : (is_held (held mine k) || is_in k (changes_in mine)) ≡ false = new_unknown (is_held (held mine k) || is_in k (changes_in mine)) (own (persisted (is_held (held mine k) || is_in k (changes_in mine))) refl) in
-    ap (λ x. held mine (arrived_key x)) (sym (same e)) ∙ none_held (held mine k) (or_parts (is_held (held mine k)) (is_in k (changes_in mine)) b).0
-  where
-    same : Some (Arrival.Made k r) ≡ Some a → Arrival.Made k r ≡ a
-    same x = cc
-absent script mine (Act.Load k) (Reply.Row (Some r)) h own a e = ap (λ x. held mine (arrived_key x)) (sym (same e)) ∙ none_held (held mine k) h.suits.0
-  where
-    same : Some (Arrival.Read k r) ≡ Some a → Arrival.Read k r ≡ a
-    same x = cc
-absent script mine (Act.Get k t) (Reply.Hit r) h own a e = absurd (false≢true h.simple)
-absent script mine _ _ h own a e = absurd (no e)
-  where
-    no : ◌≡◌ {A = Option Arrival} None (Some a) → ⊥
-    no x = cc
+recalls_more : (x : Memory) (mine : Journal) (e : Entry) → Knows x mine → is_staged e.act ≡ true → Recalls x (e ∷ mine)
+recalls_more x mine e k s = record {
+  time = k.time ∙ same_time e.act e.tick (time_in mine) s;
+  floor = k.floor ∙ same_floor e.act e.reply (floor_in mine) s;
+  changes = k.changes ∙ same_changes e.act (changes_in mine) s;
+  locks = λ j. k.locks j ∙ same_lock j e.act e.reply (lock_id j mine) s;
+}
 
-pub due_allowed : (script : Script) (s : Session) (mine : Journal) (a : Act) → Follows script s mine → next script (number_of s) mine ≡ Some a → IsAllowed mine a
-due_allowed script s mine a f p = allowed_due script f.built (number_of s) mine a f.order p
-
-pub is_new : (script : Script) (s : Session) (mine : Journal) (e : Entry) → Follows script s mine → IsTaken script (number_of s) mine e → IsNew mine e
-is_new script s mine e f t =
-    let h : IsAllowed mine e.act = due_allowed script s mine e.act f t.due in
-    record { plain = simple_plain e.act h.simple; arrives = λ a p. absent script mine e.act e.reply h t.own a p }
-
--- what a session remembers after the entry
-pub remembers : (script : Script) (s : Session) (mine : Journal) (e : Entry) → Follows script s mine → IsTaken script (number_of s) mine e → Remembers script (noted s.memory e) (e ∷ mine)
-remembers script s mine e f t = record { built = f.built; known = knows_noted s.memory mine e f.knows (is_new script s mine e f t) }
+-- what is remembered before the entry of a stage's act is asked for the acts that follow it
+pub recalls_next : (script : Script) (c : Control) (x : Memory) (mine : Journal) (e : Entry) → Knows x mine → Stands script c mine → is_settled script c ≡ true → next script c.number mine ≡ Some e.act →
+    c.queue ≡ [] → is_due c.stage ≡ true → Recalls x (e ∷ mine)
+recalls_next script c x mine e k h s n q d =
+    recalls_more x mine e k (due_staged c.queue c.stage c.begins (untaken script c) mine e.act q d (act_due script c mine h s ∙ n))
 
 -- something is left where an act is due
-pub left_over : (script : Script) (s : Session) (mine : Journal) (a : Act) → Follows script s mine → next script (number_of s) mine ≡ Some a → is_over script s.control ≡ false
-left_over script s mine a f p = by_state s.control.queue s.control.stage s.control.begins (untaken script s.control) (act_due script s.control mine f.stands f.settled ∙ p)
+pub left_over : (script : Script) (c : Control) (mine : Journal) (a : Act) → Stands script c mine → is_settled script c ≡ true → next script c.number mine ≡ Some a → is_over script c ≡ false
+left_over script c mine a h s p = by_state c.queue c.stage c.begins (untaken script c) (act_due script c mine h s ∙ p)
   where
     no : ◌≡◌ {A = Option Act} None (Some a) → ⊥
     no x = cc
@@ -81,16 +92,32 @@ left_over script s mine a f p = by_state s.control.queue s.control.stage s.contr
     by_state (x ∷ acts) Stage.Idle due sts e = refl
     by_state acts stage due sts e = refl
 
-pub follows_on : (script : Script) (s z : Session) (mine : Journal) (e : Entry) → Follows script s mine → IsTaken script (number_of s) mine e → number_of z ≡ number_of s →
-    Knows z.memory (e ∷ mine) → Stands script z.control (e ∷ mine) → is_settled script z.control ≡ true → Follows script z (e ∷ mine)
-follows_on script s z mine e f t n k h d = record {
-  built = f.built;
+pub follows_on : (script : Script) (s z : Session) (mine : Journal) (e : Entry) → Follows script s mine → IsTaken script (number_of s) mine e → number_of z ≡ number_of s → z.killed ≡ s.killed →
+    Knows z.memory (e ∷ mine) → Stands script z.control (e ∷ mine) → Follows script z (e ∷ mine)
+follows_on script s z mine e f t n l k h = record {
+  alive = l ∙ f.alive;
   order = subst (λ m. InOrder (plan_of script m) (e ∷ mine)) (sym n) (f.order, next_is script (number_of s) mine e.act t.due);
   knows = k;
   stands = h;
-  settled = d;
 }
 
-pub if_allowed : (script : Script) (s : Session) (mine : Journal) (o : Option Act) → Follows script s mine → o ≡ next script (number_of s) mine → IfSome o (IsAllowed mine)
+-- the control alone went on
+pub follows_same : (script : Script) (s z : Session) (mine : Journal) → Follows script s mine → number_of z ≡ number_of s → z.killed ≡ s.killed → z.memory ≡ s.memory →
+    Stands script z.control mine → Follows script z mine
+follows_same script s z mine f n l m h = record {
+  alive = l ∙ f.alive;
+  order = subst (λ x. InOrder (plan_of script x) mine) (sym n) f.order;
+  knows = subst (λ x. Knows x mine) (sym m) f.knows;
+  stands = h;
+}
+
+pub if_allowed : (script : Script) (s : Session) (mine : Journal) (o : Option Act) → Follows script s mine → o ≡ next script (number_of s) mine → IfSome o (IsAllowed script (number_of s) mine)
 if_allowed script s mine None f e = tt
-if_allowed script s mine (Some a) f e = due_allowed script s mine a f (sym e)
+if_allowed script s mine (Some a) f e = allowed_due script (number_of s) mine a f.order (sym e)
+
+pub if_ended : (script : Script) (s : Session) (mine : Journal) (o : Option Act) → Follows script s mine → o ≡ next script (number_of s) mine → o ≡ None → is_closed script (number_of s) ≡ true → is_begun mine ≡ false
+if_ended script s mine o f e n c = closed_end script (number_of s) mine f.order (sym e ∙ n) c
+
+-- a number that falls where the session was not killed
+pub left_falls : (script : Script) (s z : Session) → s.killed ≡ false → z.killed ≡ false → weight script z.control < weight script s.control → left_in script z < left_in script s
+left_falls script s z a b h = rw (a, b) h

@@ -1,4 +1,5 @@
+pub mod Queries
 pub mod Memory
-pub mod Built
+pub mod Due
 pub mod Control
 pub mod Session

@@ -1,12 +1,14 @@
 -- What a session remembers of its own entries.
-use Rattle.std.specs.Prelude.{◌≡◌, ℕ, Bool, true, false, cond, ◌&&◌, List, [], ◌∷◌, ◌++◌, map, slice_get, Some, None, Option}
-use Rattle.std.specs.List.{list_all, filter_map}
-use Rattle.hib_journal.specs.Types.{Key, Row, Change, Strategy, Statement, Script, State, Held, Outcome, Act, Reply, Entry}
+use Rattle.std.specs.Prelude.{◌≡◌, ℕ, Bool, true, false, cond, not, List, [], ◌∷◌, ◌++◌, map, Some, None, Option}
+use Rattle.std.specs.List.{filter_map, flat_map}
+use Rattle.hib_journal.specs.Types.{Key, Row, Change, Script, State, Held, Act, Reply, Entry}
 use Rattle.hib_base.specs.Keys.{same_key}
-use Rattle.hib_journal.specs.Sessions.{Journal, time_in, floor_in, floor_after, changes_in}
-use Rattle.hib_journal.specs.Held.{Instance, Arrival, arrival, arrived_key, is_break, held, arrived, insert_by, update_by}
-use Rattle.hib_journal.specs.Next.{strategy, statements, tables_in}
+use Rattle.hib_journal.specs.Sessions.{Journal, time_in, time_after, floor_in, floor_after, changes_in, changes_after}
+use Rattle.hib_journal.specs.Held.{Instance, Arrival, Stay, stay, is_break, held, arrived, removed, is_fresh, is_inserted}
+use Rattle.hib_journal.specs.Next.{lock_id, is_in, strategy, before_cached, fresh_version, tables_in}
 use Rattle.hib_journal.specs.Legal.{outcome, outcome_after}
+use Rattle.hib_identity_map.specs.Identity.{MapState, Pairs, look_in, are_distinct, drop_in, add_in, change_in, written, as_removed, with_sets, remove_last}
+use Rattle.hib_completion.specs.Completed.{is_key_in, lock_from}
 use Rattle.hib_session.specs.declared.memory.Memory.{Memory}
 
 -- the instance of a key
@@ -16,76 +18,42 @@ shown_of k h = record { key = k; state = h.state; base = h.base; row = h.row }
 abbrev pub shown : Key × Held → Instance
 shown p = shown_of p.0 p.1
 
+abbrev pub shown_by : Key → Option Held → Option Instance
+shown_by k None = None
+shown_by k (Some h) = Some (shown_of k h)
+
 -- what is kept of a key, or none
-abbrev pub held_in : List (Key × Held) → Key → Option Instance
-held_in [] k = None
-held_in (p ∷ ps) k = cond (same_key p.0 k) (Some (shown_of k p.1)) (held_in ps k)
+abbrev pub held_in : Pairs → Key → Option Instance
+held_in ps k = shown_by k (look_in ps k)
 
-abbrev pub is_none : Option Instance → Bool
-is_none None = true
-is_none (Some i) = false
+-- whether an instance was made by the session, and not inserted since
+abbrev pub is_unwritten : Key → Option Stay → Bool
+is_unwritten k None = false
+is_unwritten k (Some (Arrival.Read j r, m)) = false
+is_unwritten k (Some (Arrival.Made j r, m)) = not (is_inserted k m)
 
--- each key is kept once
-abbrev pub are_distinct : List (Key × Held) → Bool
-are_distinct [] = true
-are_distinct (p ∷ ps) = is_none (held_in ps p.0) && are_distinct ps
+-- the last mark of a key, or b where there is none
+abbrev pub marked_in : Key → Bool → List (Key × Bool) → Bool
+marked_in k b [] = b
+marked_in k b (p ∷ ps) = marked_in k (cond (same_key p.0 k) p.1 b) ps
 
--- the inserts that are pending, and then the updates, each in order of arrival
-abbrev pub insert_of : Key × Held → Option Change
-insert_of p = insert_by p.1.state p.0 p.1.row
-
-abbrev pub update_of : Key × Held → Option Change
-update_of p = update_by p.1.state p.0 p.1.row p.1.base
-
-abbrev pub pending_in : List (Key × Held) → List Change
-pending_in ps = filter_map insert_of ps ++ filter_map update_of ps
-
--- the acts of a flush of changes of uncached entities
-abbrev pub flush_acts : Script → List Change → List Act
-flush_acts script [] = []
-flush_acts script (c ∷ cs) = Act.Pre (tables_in script (c ∷ cs)) ∷ map (λ d. Act.Write d) (c ∷ cs)
-
--- the statements that are built so far
-abbrev pub is_built_statement : Statement → Bool
-is_built_statement (Statement.Find k) = true
-is_built_statement (Statement.Persist k cells) = true
-is_built_statement Statement.Commit = true
-is_built_statement _ = false
-
--- the scripts that sessions are built for so far: nothing is cached, nothing is queried, and nothing is set or removed
-pub record IsBuilt (script : Script) : Type 0 where
-  pub uncached : (n : ℕ) → strategy script n ≡ Strategy.Uncached
-  pub unqueried : script.queries ≡ []
-  pub statements : (s : ℕ) → list_all is_built_statement (statements (slice_get script.sessions s)) ≡ true
-
--- the acts after which this memory knows what is held
-abbrev pub is_plain : Act → Bool
-is_plain (Act.Set k cells) = false
-is_plain (Act.Remove k) = false
-is_plain (Act.Write (Change.Delete k v)) = false
-is_plain _ = true
-
-abbrev pub are_plain : Journal → Bool
-are_plain mine = list_all (λ e. is_plain e.act) mine
+-- the instances stand for what is held
+pub record Holds (ps : Pairs) (mine : Journal) : Type 0 where
+  pub instances : (k : Key) → held_in ps k ≡ held mine k
+  pub order : map shown ps ≡ filter_map (λ k. held mine k) (arrived mine)
+  pub distinct : are_distinct ps ≡ true
 
 -- the memory stands for these entries of a session, the newest first
 pub record Knows (memory : Memory) (mine : Journal) : Type 0 where
-  pub plain : are_plain mine ≡ true
   pub time : memory.time ≡ time_in mine
   pub floor : memory.floor ≡ floor_in mine
   pub changes : memory.changes ≡ changes_in mine
   pub outcome : memory.outcome ≡ outcome mine
-  pub instances : (k : Key) → held_in memory.instances k ≡ held mine k
-  pub order : map shown memory.instances ≡ filter_map (λ k. held mine k) (arrived mine)
-  pub distinct : are_distinct memory.instances ≡ true
-
--- an instance after a write of its key
-abbrev pub written : Row → Held → Held
-written r h = record { state = State.Managed; base = Some r; row = record { version = r.version; cells = h.row.cells }; removed = h.removed }
-
-abbrev pub with_written : List (Key × Held) → Key → Row → List (Key × Held)
-with_written [] k r = []
-with_written (p ∷ ps) k r = cond (same_key p.0 k) ((p.0, written r p.1) ∷ ps) (p ∷ with_written ps k r)
+  pub holds : Holds memory.instances.held mine
+  pub removals : memory.instances.removals ≡ removed mine
+  pub unwritten : (k : Key) → marked_in k false memory.marks ≡ is_unwritten k (stay k mine)
+  pub fresh : (k : Key) → is_key_in k memory.fresh ≡ is_fresh k mine
+  pub locks : (k : Key) → lock_from k 0 memory.locks ≡ lock_id k mine
 
 -- instances that arrive: made new, or read
 abbrev pub made : Row → Held
@@ -94,39 +62,106 @@ made r = record { state = State.New; base = None; row = r; removed = 0 }
 abbrev pub managed : Row → Held
 managed r = record { state = State.Managed; base = Some r; row = r; removed = 0 }
 
-abbrev pub with_held : Memory → Key → Held → Memory
-with_held x k h = record x { instances = x.instances ++ (k, h) ∷ [] }
+-- an instance arrives: one of the same key leaves, and it comes last
+abbrev pub arrive_in : Key → Held → Pairs → Pairs
+arrive_in k h ps = add_in k h (drop_in k ps)
 
-abbrev pub instances_after : Change → List (Key × Held) → List (Key × Held)
-instances_after (Change.Insert k r) ps = with_written ps k r
-instances_after (Change.Update k v r) ps = with_written ps k r
-instances_after (Change.Delete k v) ps = ps
+-- a removed one leaves where it was never written, and is marked where it was
+abbrev pub remove_in : Bool → Key → Pairs → Pairs
+remove_in true k ps = drop_in k ps
+remove_in false k ps = change_in k as_removed ps
 
-abbrev pub unless_broken : Bool → List (Key × Held) → List (Key × Held)
-unless_broken true ps = []
-unless_broken false ps = ps
+abbrev pub unless_broken : {A : Type 0} → Bool → List A → List A
+unless_broken true xs = []
+unless_broken false xs = xs
+
+abbrev pub with_pairs : MapState → Pairs → MapState
+with_pairs m ps = record { held = ps; removals = m.removals }
+
+abbrev pub map_written : Change → MapState → MapState
+map_written (Change.Insert k r) m = with_pairs m (change_in k (written r) m.held)
+map_written (Change.Update k v r) m = with_pairs m (change_in k (written r) m.held)
+map_written (Change.Delete k v) m = with_pairs m (drop_in k m.held)
+
+-- what each entry leaves of what is remembered; u says of a key whether its instance was never written
+abbrev pub map_after : (Key → Bool) → Act → Reply → MapState → MapState
+map_after u (Act.Persist k row) Reply.New m = with_pairs m (arrive_in k (made row) m.held)
+map_after u (Act.Load k) (Reply.Row (Some row)) m = with_pairs m (arrive_in k (managed row) m.held)
+map_after u (Act.Get k t) (Reply.Hit row) m = with_pairs m (arrive_in k (managed row) m.held)
+map_after u (Act.Write c) r m = map_written c m
+map_after u (Act.Set k cells) Reply.Set m = with_pairs m (change_in k (with_sets cells) m.held)
+map_after u (Act.Remove k) Reply.Removed m = record { held = remove_in (u k) k m.held; removals = remove_last k m.removals }
+map_after u Act.Commit r m = with_pairs m (unless_broken (is_break Act.Commit r) m.held)
+map_after u Act.Rollback r m = with_pairs m []
+map_after u Act.Clear r m = with_pairs m []
+map_after u _ r m = m
+
+abbrev pub marks_written : Change → List (Key × Bool) → List (Key × Bool)
+marks_written (Change.Insert k r) ms = ms ++ (k, false) ∷ []
+marks_written _ ms = ms
+
+abbrev pub marks_after : Act → Reply → List (Key × Bool) → List (Key × Bool)
+marks_after (Act.Persist k row) Reply.New ms = ms ++ (k, true) ∷ []
+marks_after (Act.Load k) (Reply.Row (Some row)) ms = ms ++ (k, false) ∷ []
+marks_after (Act.Get k t) (Reply.Hit row) ms = ms ++ (k, false) ∷ []
+marks_after (Act.Write c) r ms = marks_written c ms
+marks_after Act.Commit r ms = unless_broken (is_break Act.Commit r) ms
+marks_after Act.Rollback r ms = []
+marks_after Act.Clear r ms = []
+marks_after _ r ms = ms
+
+abbrev pub fresh_written : Change → List Key → List Key
+fresh_written (Change.Insert k r) ks = ks ++ k ∷ []
+fresh_written (Change.Update k v r) ks = ks ++ k ∷ []
+fresh_written (Change.Delete k v) ks = ks
+
+abbrev pub fresh_after : Act → Reply → List Key → List Key
+fresh_after Act.Begin r ks = []
+fresh_after (Act.Load k) (Reply.Row (Some row)) ks = ks ++ k ∷ []
+fresh_after (Act.Get k t) (Reply.Hit row) ks = ks ++ k ∷ []
+fresh_after (Act.Write c) r ks = fresh_written c ks
+fresh_after _ r ks = ks
+
+abbrev pub locks_after : Act → Reply → List (Key × ℕ) → List (Key × ℕ)
+locks_after (Act.Lock k v f) (Reply.Locked l) ls = ls ++ (k, l.id) ∷ []
+locks_after _ r ls = ls
+
+abbrev pub noted_by : Memory → ℕ → Act → Reply → Memory
+noted_by x now a r = record {
+  time = time_after a now x.time;
+  floor = floor_after a r x.floor;
+  instances = map_after (λ k. marked_in k false x.marks) a r x.instances;
+  marks = marks_after a r x.marks;
+  changes = changes_after a x.changes;
+  fresh = fresh_after a r x.fresh;
+  locks = locks_after a r x.locks;
+  outcome = outcome_after a r x.outcome;
+}
 
 -- the memory after one more entry
-abbrev pub noted_by : Memory → ℕ → Act → Reply → Memory
-noted_by x now Act.Begin r = record x { time = now; floor = floor_after Act.Begin r x.floor; changes = [] }
-noted_by x now (Act.Persist k row) Reply.New = with_held x k (made row)
-noted_by x now (Act.Load k) (Reply.Row (Some row)) = with_held x k (managed row)
-noted_by x now (Act.Get k t) (Reply.Hit row) = with_held x k (managed row)
-noted_by x now (Act.Write c) r = record x { instances = instances_after c x.instances; changes = x.changes ++ c ∷ [] }
-noted_by x now Act.Commit r = record x { instances = unless_broken (is_break Act.Commit r) x.instances; outcome = outcome_after Act.Commit r x.outcome }
-noted_by x now Act.Rollback r = record x { instances = []; outcome = Outcome.RolledBack }
-noted_by x now Act.Clear r = record x { instances = [] }
-noted_by x now _ r = x
-
 abbrev pub noted : Memory → Entry → Memory
 noted x e = noted_by x e.tick e.act e.reply
 
--- an entry of a plain act, by which nothing arrives that is held already
-pub record IsNew (mine : Journal) (e : Entry) : Type 0 where
-  pub plain : is_plain e.act ≡ true
-  pub arrives : (a : Arrival) → arrival e.act e.reply ≡ Some a → held mine (arrived_key a) ≡ None
+-- what a session asks of its memory for the acts that follow an answer: it stands for these entries in that
+pub record Recalls (memory : Memory) (mine : Journal) : Type 0 where
+  pub time : memory.time ≡ time_in mine
+  pub floor : memory.floor ≡ floor_in mine
+  pub changes : memory.changes ≡ changes_in mine
+  pub locks : (k : Key) → lock_from k 0 memory.locks ≡ lock_id k mine
 
--- it stands for these entries, in a script as it is built so far
-pub record Remembers (script : Script) (memory : Memory) (mine : Journal) : Type 0 where
-  pub built : IsBuilt script
-  pub known : Knows memory mine
+-- what comes before a write, by the memory
+abbrev pub before_key_in : Script → Memory → Key → Option ℕ → List Act
+before_key_in script x k v =
+    cond (is_in k x.changes) [] (before_cached (strategy script k.entity) k (fresh_version (is_key_in k x.fresh) v) x.floor)
+
+abbrev pub before_in : Script → Memory → Change → List Act
+before_in script x (Change.Insert k r) = []
+before_in script x (Change.Update k v r) = before_key_in script x k v
+before_in script x (Change.Delete k v) = before_key_in script x k v
+
+abbrev pub writes_in : Script → Memory → List Change → List Act
+writes_in script x cs = flat_map (λ c. before_in script x c ++ Act.Write c ∷ []) cs
+
+abbrev pub flush_in : Script → Memory → List Change → List Act
+flush_in script x [] = []
+flush_in script x (c ∷ cs) = Act.Pre (tables_in script (c ∷ cs)) ∷ writes_in script x (c ∷ cs)

@@ -1,5 +1,5 @@
 -- What a session stands for, and what it answers itself.
-use Rattle.std.specs.Prelude.{◌≡◌, ℕ, true, cond, ◌||◌, Some, None, Option}
+use Rattle.std.specs.Prelude.{◌≡◌, ℕ, Bool, false, cond, ◌||◌, Some, None, Option}
 use Rattle.hib_journal.specs.Types.{Script, Act, Reply, Entry}
 use Rattle.hib_journal.specs.Sessions.{Journal, changes_in}
 use Rattle.hib_journal.specs.Held.{held}
@@ -7,24 +7,31 @@ use Rattle.hib_journal.specs.Plan.{InOrder}
 use Rattle.hib_journal.specs.Next.{strategy, is_in, is_held, plan_of, next}
 use Rattle.hib_journal.specs.Legal.{outcome, row_of, is_there, persisted, set_unless}
 use Rattle.hib_session.specs.declared.session.Session.{Session}
-use Rattle.hib_session.specs.Memory.{IsBuilt, Knows}
+use Rattle.hib_session.specs.Memory.{Knows}
 use Rattle.hib_session.specs.Control.{Stands, is_settled, weight}
 
 -- which session it is
 abbrev pub number_of : Session → ℕ
 number_of s = s.control.number
 
--- how much of it is left: a number that falls with each entry
-abbrev pub left_in : Script → Session → ℕ
-left_in script s = weight script s.control
+-- it does no act any more
+abbrev pub is_killed : Session → Bool
+is_killed s = s.killed
 
--- it has come so far by these entries, the newest first, each of which was due in its turn
+-- how much of it is left: a number that falls with each entry, and is 0 after a kill
+abbrev pub left_in : Script → Session → ℕ
+left_in script s = cond s.killed 0 (weight script s.control)
+
+-- it has come so far by these entries, the newest first, each of which was due in its turn, and it was not killed
 pub record Follows (script : Script) (s : Session) (mine : Journal) : Type 0 where
-  pub built : IsBuilt script
+  pub alive : s.killed ≡ false
   pub order : InOrder (plan_of script s.control.number) mine
   pub knows : Knows s.memory mine
   pub stands : Stands script s.control mine
-  pub settled : is_settled script s.control ≡ true
+
+-- nothing is left to expand before its next act
+abbrev pub is_ready : Script → Session → Bool
+is_ready script s = is_settled script s.control
 
 -- the reply to an own act or to End, by the session's own entries; none to another act
 abbrev pub own_reply : Script → Journal → Act → Option Reply

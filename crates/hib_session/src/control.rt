@@ -7,8 +7,8 @@ ghost use Rattle.hib_base.specs.declared.scripts.Script.{Script};
 ghost use Rattle.hib_base.specs.declared.scripts.Mode.{Mode};
 ghost use Rattle.hib_journal.specs.Sessions.{Journal};
 ghost use Rattle.hib_journal.specs.Plan.{Plan, after, each};
-ghost use Rattle.hib_journal.specs.Next.{mode_reads, mode_puts, is_versioned_in, find, list, load_unless_hit, put_loaded, check_found, list_unless_fresh, keep_listed, block, mode_after, ends, first_version, statements, next};
-ghost use Rattle.hib_session.specs.Memory.{Knows, Remembers};
+ghost use Rattle.hib_journal.specs.Next.{mode_reads, mode_puts, is_versioned_in, find, list, load_unless_hit, put_loaded, check_found, list_unless_fresh, keep_listed, block, mode_after, ends, first_version, statements, next, is_committed_reply};
+ghost use Rattle.hib_session.specs.Memory.{Knows, Recalls};
 ghost use Rattle.hib_session.specs.Control.{staged, queued, untaken, decided, is_answering, is_due, is_resting, rank, begin_at, act_staged, Stands, weight};
 
 use crate::memory::Memory;
@@ -89,7 +89,7 @@ fn put_row(
     key: Key,
     row: &Row,
 ) -> Result<Acts, AllocError>
-    ensures { IfOk result (λ q. (mine : Journal) (go : Journal → Plan) → Remembers script.now memory.now mine →
+    ensures { IfOk result (λ q. (mine : Journal) (go : Journal → Plan) → Recalls memory.now mine →
         each q mine go ≡ put_loaded script.now mode key (Reply.Row (Some row.now)) mine go) }
 {
     if !memory.puts(script, mode, key) {
@@ -115,7 +115,7 @@ fn loaded(
     key: Key,
     reply: &Reply,
 ) -> Result<Acts, AllocError>
-    ensures { IfOk result (λ q. (mine : Journal) (go : Journal → Plan) → Remembers script.now memory.now mine →
+    ensures { IfOk result (λ q. (mine : Journal) (go : Journal → Plan) → Recalls memory.now mine →
         each q mine go ≡ put_loaded script.now mode key reply.now mine go) }
 {
     match reply {
@@ -157,7 +157,7 @@ fn listed(
     query: QueryNo,
     reply: &Reply,
 ) -> Result<Acts, AllocError>
-    ensures { IfOk result (λ q. (mine : Journal) (go : Journal → Plan) → Remembers script.now memory.now mine →
+    ensures { IfOk result (λ q. (mine : Journal) (go : Journal → Plan) → Recalls memory.now mine →
         each q mine go ≡ keep_listed script.now mode query reply.now mine go) }
 {
     match reply {
@@ -173,6 +173,16 @@ fn listed(
     }
 }
 
+/// Whether a reply says that a commit was applied.
+fn is_committed(reply: &Reply) -> bool
+    ensures { result ≡ is_committed_reply reply.now }
+{
+    match reply {
+        Reply::Commit(Commit::Committed) => true,
+        _ => false,
+    }
+}
+
 /// What follows an entry of the act that a stage has.
 fn answered(
     alloc: Global,
@@ -183,7 +193,7 @@ fn answered(
     entry: &Entry,
 ) -> Result<(Acts, Stage), AllocError>
     ensures less { is_due stage ≡ true → IfOk result (λ r. rank r.1 < rank stage) }
-    ensures follows { IfOk result (λ r. (done : Journal) (go : Journal → Plan) → is_due stage ≡ true → Remembers script.now memory.now (entry.now ∷ done) →
+    ensures follows { IfOk result (λ r. (done : Journal) (go : Journal → Plan) → is_due stage ≡ true → Recalls memory.now (entry.now ∷ done) →
         queued script.now mode r.0 r.1 (entry.now ∷ done) go ≡ after (staged script.now mode stage done go) entry.now) }
 {
     match stage {
@@ -198,8 +208,14 @@ fn answered(
             listed(alloc, script, memory, mode, query, &entry.reply)?,
             Stage::Idle,
         )),
-        Stage::Committing => Ok((memory.completion(alloc, script)?, Stage::Idle)),
-        Stage::RollingBack => Ok((memory.completion(alloc, script)?, Stage::Idle)),
+        Stage::Committing => {
+            let committed = is_committed(&entry.reply);
+            Ok((
+                memory.completion(alloc, script, mode, committed)?,
+                Stage::Idle,
+            ))
+        }
+        Stage::RollingBack => Ok((memory.completion(alloc, script, mode, false)?, Stage::Idle)),
         Stage::Idle | Stage::Answering(_) => Ok((Seq::new(alloc), stage)),
     }
 }
@@ -231,7 +247,7 @@ fn find_taken(
     mode: Mode,
     key: Key,
 ) -> Result<(Acts, Stage), AllocError>
-    ensures { IfOk result (λ r. (mine : Journal) (go : Journal → Plan) → Remembers script.now memory.now mine →
+    ensures { IfOk result (λ r. (mine : Journal) (go : Journal → Plan) → Knows memory.now mine →
         queued script.now mode r.0 r.1 mine go ≡ find script.now mode key mine go) }
 {
     if memory.holds(key) {
@@ -250,10 +266,10 @@ fn list_taken(
     memory: &Memory,
     query: QueryNo,
 ) -> Result<(Acts, Stage), AllocError>
-    ensures { IfOk result (λ r. (mine : Journal) (mode : Mode) (go : Journal → Plan) → Remembers script.now memory.now mine →
+    ensures { IfOk result (λ r. (mine : Journal) (mode : Mode) (go : Journal → Plan) → Knows memory.now mine →
         queued script.now mode r.0 r.1 mine go ≡ list script.now mode query mine go) }
 {
-    if memory.must_flush(script, query) {
+    if memory.must_flush(alloc, script, query)? {
         return Ok((memory.flush(alloc, script)?, Stage::Answering(query)));
     }
     Ok((Seq::new(alloc), Stage::Answering(query)))
@@ -284,7 +300,7 @@ fn taken(
     mode: Mode,
     statement: &Statement,
 ) -> Result<(Acts, Stage), AllocError>
-    ensures { IfOk result (λ r. (mine : Journal) (go : Journal → Plan) → Remembers script.now memory.now mine →
+    ensures { IfOk result (λ r. (mine : Journal) (go : Journal → Plan) → Knows memory.now mine →
         queued script.now (mode_after statement.now mode) r.0 r.1 mine go ≡ block script.now mode statement.now mine go) }
 {
     match statement {
@@ -346,7 +362,7 @@ fn is_over(list: &[Statement], place: usize) -> bool
 }
 
 fn answering(script: &Script, memory: &Memory, mode: Mode, stage: Stage) -> Stage
-    ensures decided { (mine : Journal) → Remembers script.now memory.now mine → result ≡ decided script.now mode mine stage }
+    ensures decided { (mine : Journal) → Recalls memory.now mine → result ≡ decided script.now mode mine stage }
     ensures less { is_answering stage ≡ true → rank result < rank stage }
 {
     match stage {
@@ -433,7 +449,7 @@ impl Control {
     }
 
     /// Whether an act is due, or nothing is left.
-    fn is_settled(&self, script: &Script) -> bool
+    pub fn is_settled(&self, script: &Script) -> bool
         ensures { result ≡ Rattle.hib_session.specs.Control.is_settled script.now self.now }
     {
         if !self.queue.is_empty() {
@@ -453,8 +469,9 @@ impl Control {
         requires begun { self.old.begins ≡ false }
         requires there { self.old.place < length (statements (slice_get script.now.sessions self.old.number)) }
         ensures number { self.new.number ≡ self.old.number }
-        ensures stands { (mine : Journal) → Remembers script.now memory.now mine → Stands script.now self.old mine → Stands script.now self.new mine }
+        ensures stands { (mine : Journal) → Knows memory.now mine → Stands script.now self.old mine → Stands script.now self.new mine }
         ensures weight { OnOk result (weight script.now self.new < weight script.now self.old) }
+        ensures err { OnErr result (self.new ≡ self.old) }
     {
         let statement = &statements_of(script, self.number)[self.place];
         let (queue, stage) = taken(alloc, script, memory, self.mode, statement)?;
@@ -471,8 +488,9 @@ impl Control {
     fn go_on(&mut self, alloc: Global, script: &Script, memory: &Memory) -> Result<(), AllocError>
         requires { Rattle.hib_session.specs.Control.is_settled script.now self.old ≡ false }
         ensures number { self.new.number ≡ self.old.number }
-        ensures stands { (mine : Journal) → Remembers script.now memory.now mine → Stands script.now self.old mine → Stands script.now self.new mine }
+        ensures stands { (mine : Journal) → Knows memory.now mine → Stands script.now self.old mine → Stands script.now self.new mine }
         ensures weight { OnOk result (weight script.now self.new < weight script.now self.old) }
+        ensures err { OnErr result (self.new ≡ self.old) }
     {
         if is_answering_stage(self.stage) {
             self.stage = answering(script, memory, self.mode, self.stage);
@@ -489,9 +507,9 @@ impl Control {
         memory: &Memory,
     ) -> Result<(), AllocError>
         ensures number { self.new.number ≡ self.old.number }
-        ensures stands { (mine : Journal) → Remembers script.now memory.now mine → Stands script.now self.old mine → Stands script.now self.new mine }
+        ensures stands { (mine : Journal) → Knows memory.now mine → Stands script.now self.old mine → Stands script.now self.new mine }
         ensures settled { OnOk result (Rattle.hib_session.specs.Control.is_settled script.now self.new ≡ true) }
-        ensures weight { OnOk result (weight script.now self.new ≤ weight script.now self.old) }
+        ensures weight { weight script.now self.new ≤ weight script.now self.old }
     {
         while !self.is_settled(script) {
             self.go_on(alloc, script, memory)?;
@@ -519,33 +537,59 @@ impl Control {
         Ok(act_of(memory, self.stage))
     }
 
-    /// Takes one more entry, which the memory has noted.
-    pub fn step(
-        &mut self,
+    /// An equal control, of one that has no act queued. It takes no memory.
+    pub fn reopened(&self, alloc: Global) -> Control
+        requires { self.now.queue ≡ [] }
+        ensures { result ≡ self.now }
+    {
+        Control {
+            number: self.number,
+            place: self.place,
+            mode: self.mode,
+            begins: self.begins,
+            queue: Seq::new(alloc),
+            stage: self.stage,
+        }
+    }
+
+    /// The acts and the stage that follow an entry of the act of the stage, by what is remembered without that entry.
+    pub fn prepared(
+        &self,
         alloc: Global,
         script: &Script,
         memory: &Memory,
         entry: &Entry,
-    ) -> Result<(), AllocError>
+    ) -> Result<(Acts, Stage), AllocError>
+        ensures less { IfOk result (λ r. self.now.queue ≡ [] → is_due self.now.stage ≡ true → rank r.1 < rank self.now.stage) }
+        ensures follows { IfOk result (λ r. (done : Journal) (go : Journal → Plan) → self.now.queue ≡ [] → is_due self.now.stage ≡ true → Recalls memory.now (entry.now ∷ done) →
+            queued script.now self.now.mode r.0 r.1 (entry.now ∷ done) go ≡ after (staged script.now self.now.mode self.now.stage done go) entry.now) }
+    {
+        if !self.queue.is_empty() {
+            return Ok((Seq::new(alloc), self.stage));
+        }
+        answered(alloc, script, memory, self.mode, self.stage, entry)
+    }
+
+    /// Takes one more entry, of which these acts and this stage follow where nothing is queued and a stage has its act.
+    /// It takes no memory.
+    pub fn step(&mut self, queue: Acts, stage: Stage)
         ensures number { self.new.number ≡ self.old.number }
-        ensures stands { OnOk result ((done : Journal) → Remembers script.now memory.now (entry.now ∷ done) → Stands script.now self.old done
-            → Rattle.hib_session.specs.Control.is_settled script.now self.old ≡ true → Stands script.now self.new (entry.now ∷ done)) }
-        ensures weight { OnOk result (Rattle.hib_session.specs.Control.is_settled script.now self.old ≡ true
-            → Rattle.hib_session.specs.Control.is_over script.now self.old ≡ false → weight script.now self.new < weight script.now self.old) }
-        ensures err { OnErr result (self.new ≡ self.old) }
+        ensures stands { (script : Script) (entry : Entry) (done : Journal) → ((go : Journal → Plan) → self.old.queue ≡ [] → is_due self.old.stage ≡ true →
+            queued script self.old.mode queue stage (entry ∷ done) go ≡ after (staged script self.old.mode self.old.stage done go) entry) → Stands script self.old done
+            → Rattle.hib_session.specs.Control.is_settled script self.old ≡ true → Stands script self.new (entry ∷ done) }
+        ensures weight { (script : Script) → (self.old.queue ≡ [] → is_due self.old.stage ≡ true → rank stage < rank self.old.stage) → Rattle.hib_session.specs.Control.is_settled script self.old ≡ true
+            → Rattle.hib_session.specs.Control.is_over script self.old ≡ false → weight script self.new < weight script self.old }
     {
         if !self.queue.is_empty() {
             self.queue.take_first();
-            return Ok(());
+            return;
         }
         if is_idle(self.stage) {
             self.begins = false;
-            return Ok(());
+            return;
         }
-        let (queue, stage) = answered(alloc, script, memory, self.mode, self.stage, entry)?;
         let _few = queue.len();
         self.queue = queue;
         self.stage = stage;
-        Ok(())
     }
 }

@@ -4,6 +4,8 @@
 mod control;
 mod memory;
 mod modes;
+mod noting;
+mod queries;
 mod session;
 
 pub use session::Session;

@@ -1,14 +1,15 @@
 // A session of a script.
-ghost use Rattle.std.specs.Prelude.{◌≡◌, ◌∷◌, ◌<◌, ◌||◌, cond, [], IfOk, IfSome, OnOk, Some};
+ghost use Rattle.std.specs.Prelude.{◌≡◌, ◌∷◌, ◌<◌, ◌≤◌, ◌||◌, cond, [], true, false, None, IfOk, IfSome, OnOk, OnErr, Some};
 ghost use Rattle.hib_base.specs.declared.replies.Reply.{Reply};
 ghost use Rattle.hib_base.specs.declared.scripts.Script.{Script};
-ghost use Rattle.hib_journal.specs.Sessions.{Journal, changes_in};
+ghost use Rattle.hib_journal.specs.Sessions.{Journal, changes_in, is_begun};
 ghost use Rattle.hib_journal.specs.Held.{held};
 ghost use Rattle.hib_journal.specs.Legal.{unless_removed, is_there, set_unless};
 ghost use Rattle.hib_journal.specs.Next.{next, is_held, is_in, strategy};
-ghost use Rattle.hib_session.specs.Memory.{IsBuilt, Knows};
-ghost use Rattle.hib_session.specs.Built.{IsAllowed};
-ghost use Rattle.hib_session.specs.Session.{Follows, IsTaken, number_of, left_in, own_reply};
+ghost use Rattle.hib_session.specs.Memory.{Knows};
+ghost use Rattle.hib_session.specs.Control.{Stands};
+ghost use Rattle.hib_session.specs.Due.{IsAllowed, is_closed};
+ghost use Rattle.hib_session.specs.Session.{Follows, IsTaken, number_of, is_killed, is_ready, left_in, own_reply};
 
 use crate::control::Control;
 use crate::memory::Memory;
@@ -20,6 +21,7 @@ use std::alloc::{AllocError, Global};
 pub struct Session {
     control: Control,
     memory: Memory,
+    killed: bool,
 }
 
 /// The row of an instance, as the session sees it.
@@ -66,14 +68,16 @@ fn set_reply(script: &Script, entity: EntityNo) -> Reply
 }
 
 impl Session {
-    /// The session of this number, which has done nothing.
+    /// The session of this number, which has done nothing. It takes no memory.
     pub fn open(alloc: Global, number: SessionNo) -> Session
         ensures number { number_of result ≡ number }
-        ensures follows { (script : Script) → IsBuilt script → Follows script result [] }
+        ensures alive { is_killed result ≡ false }
+        ensures follows { (script : Script) → Follows script result [] }
     {
         Session {
             control: Control::start(alloc, number),
             memory: Memory::new(alloc),
+            killed: false,
         }
     }
 
@@ -84,12 +88,54 @@ impl Session {
         self.control.number
     }
 
-    /// The act that is due, or none where the session is at its end.
+    /// No act of the session is due from now on. It takes no memory.
+    pub fn kill(&mut self)
+        ensures number { number_of self.new ≡ number_of self.old }
+        ensures killed { is_killed self.new ≡ true }
+        ensures left { (script : Script) → left_in script self.new ≡ 0 }
+    {
+        self.killed = true;
+    }
+
+    /// Expands what is to be done next, so that the next act and its entry need no more than their own memory. Where
+    /// memory runs out the session has come as far as before.
+    pub fn ready(&mut self, alloc: Global, script: &Script) -> Result<(), AllocError>
+        ensures number { number_of self.new ≡ number_of self.old }
+        ensures killed { is_killed self.new ≡ is_killed self.old }
+        ensures follows { (mine : Journal) → Follows script.now self.old mine → Follows script.now self.new mine }
+        ensures ready { OnOk result (is_ready script.now self.new ≡ true) }
+        ensures left { left_in script.now self.new ≤ left_in script.now self.old }
+    {
+        self.control.settle(alloc, script, &self.memory)
+    }
+
+    /// The act that is due of a session that was not killed.
+    fn due(&self, alloc: Global, script: &Script) -> Result<Option<Act>, AllocError>
+        ensures { IfOk result (λ a. (mine : Journal) → Knows self.now.memory mine → Stands script.now self.now.control mine → a ≡ next script.now (number_of self.now) mine) }
+    {
+        if self.control.is_settled(script) {
+            let act = self.control.next_act(alloc, script, &self.memory)?;
+            return Ok(act);
+        }
+        let mut open = self.control.reopened(alloc);
+        open.settle(alloc, script, &self.memory)?;
+        let act = open.next_act(alloc, script, &self.memory)?;
+        Ok(act)
+    }
+
+    /// The act that is due, or none where the session is at its end or was killed.
     pub fn next_act(&self, alloc: Global, script: &Script) -> Result<Option<Act>, AllocError>
         ensures act { IfOk result (λ a. (mine : Journal) → Follows script.now self.now mine → a ≡ next script.now (number_of self.now) mine) }
-        ensures allowed { IfOk result (λ a. (mine : Journal) → Follows script.now self.now mine → IfSome a (IsAllowed mine)) }
+        ensures killed { IfOk result (λ a. is_killed self.now ≡ true → a ≡ None) }
+
+        // What is known of the act, and that no transaction is open at the end of a session whose last statement ends one.
+        ensures allowed { IfOk result (λ a. (mine : Journal) → Follows script.now self.now mine → IfSome a (IsAllowed script.now (number_of self.now) mine)) }
+        ensures ended { IfOk result (λ a. (mine : Journal) → Follows script.now self.now mine → a ≡ None → is_closed script.now (number_of self.now) ≡ true → is_begun mine ≡ false) }
     {
-        let act = self.control.next_act(alloc, script, &self.memory)?;
+        if self.killed {
+            return Ok(None);
+        }
+        let act = self.due(alloc, script)?;
         Ok(act)
     }
 
@@ -173,7 +219,7 @@ impl Session {
         }
     }
 
-    /// Takes the entry of the act that was due. Where memory runs out nothing is said of the session any more.
+    /// Takes the entry of the act that was due. Where memory runs out the session has come as far as before.
     pub fn advance(
         &mut self,
         alloc: Global,
@@ -181,14 +227,17 @@ impl Session {
         entry: &Entry,
     ) -> Result<(), AllocError>
         ensures number { number_of self.new ≡ number_of self.old }
+        ensures killed { is_killed self.new ≡ is_killed self.old }
         ensures follows { OnOk result ((mine : Journal) → Follows script.now self.old mine → IsTaken script.now (number_of self.old) mine entry.now
             → Follows script.now self.new (entry.now ∷ mine)) }
         ensures less { OnOk result ((mine : Journal) → Follows script.now self.old mine → IsTaken script.now (number_of self.old) mine entry.now
             → left_in script.now self.new < left_in script.now self.old) }
+        ensures err { OnErr result ((mine : Journal) → Follows script.now self.old mine → Follows script.now self.new mine) }
     {
-        self.memory.note(alloc, entry)?;
-        self.control.step(alloc, script, &self.memory, entry)?;
         self.control.settle(alloc, script, &self.memory)?;
+        let (queue, stage) = self.control.prepared(alloc, script, &self.memory, entry)?;
+        self.memory.note(alloc, entry)?;
+        self.control.step(queue, stage);
         Ok(())
     }
 }

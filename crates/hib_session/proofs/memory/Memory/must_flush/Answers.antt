@@ -1,7 +1,9 @@
-use Rattle.std.proofs.Common.{sym}
-use Rattle.hib_journal.specs.Held.{pending}
-use Rattle.hib_session.proofs.Flushed.{never_flushes}
+use Rattle.std.proofs.Common.{ap, ◌∙◌}
+use Rattle.hib_journal.specs.Next.{is_in_tables, tables_of}
+use Rattle.hib_session.proofs.Orders.{pending_kept}
 use Rattle.hib_session.proofs.memory.Memory.must_flush.Goals as goal
 
 pub returns : goal.returns
-returns c = λ mine r. sym (never_flushes c.args._script.now r.built c.args._query (pending mine))
+returns c = λ mine r.
+    c.is_touched.ensures ∙ ap (is_in_tables (tables_of c.args.script.now c.args.query))
+    (c.as_slice.ensures ∙ (c.in_ok-changes.ensures ∙ pending_kept c.args.self.now.instances mine r.holds r.removals))

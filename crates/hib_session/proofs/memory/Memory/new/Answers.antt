@@ -4,12 +4,13 @@ use Rattle.hib_session.proofs.memory.Memory.new.Goals as goal
 pub returns : goal.returns
 unfolding Rattle.hib_journal.specs.Held.held
 returns c = record {
-  plain = refl;
   time = refl;
   floor = refl;
   changes = c.new-2.ensures;
   outcome = refl;
-  instances = λ k. rw c.new.ensures refl;
-  order = rw c.new.ensures refl;
-  distinct = rw c.new.ensures refl;
+  holds = record { instances = λ k. rw c.open.ensures refl; order = rw c.open.ensures refl; distinct = rw c.open.ensures refl };
+  removals = rw c.open.ensures refl;
+  unwritten = λ k. rw c.new.ensures refl;
+  fresh = λ k. rw c.new-3.ensures refl;
+  locks = λ k. rw c.new-4.ensures refl;
 }

@@ -1,0 +1,37 @@
+-- What completes a transaction, but for its End.
+use Rattle.std.specs.Prelude.{ℕ, Bool, cond, ◌&&◌, ◌==◌, List, [], ◌∷◌, ◌++◌, length, slice_get, Some, None, Option}
+use Rattle.std.specs.List.{filter, flat_map, list_any, range_with_len}
+use Rattle.hib_base.specs.Keys.{same_key}
+use Rattle.hib_base.specs.Tables.{key_of, first_on, last_on}
+use Rattle.hib_journal.specs.Types.{Key, Change, EntityDef, Mode, Act}
+use Rattle.hib_journal.specs.Next.{strategy_in, mode_puts, puts_back, complete_by, keys_of, stamps_of}
+
+-- the number of the last lock of a key, or i where there is none
+abbrev pub lock_from : Key → ℕ → List (Key × ℕ) → ℕ
+lock_from k i [] = i
+lock_from k i (p ∷ ps) = lock_from k (cond (same_key p.0 k) p.1 i) ps
+
+-- the entities of a list of changes, in the mapping's order
+abbrev pub tables_by : List EntityDef → List Change → List ℕ
+tables_by mapping cs = filter (λ n. list_any (λ c. (key_of c).entity == n) cs) (range_with_len 0 (length mapping))
+
+-- what completes one key, by whether rows may be put back: by its first change, and by the row that its last one left
+abbrev pub key_acts : List EntityDef → List Change → List (Key × ℕ) → Bool → ℕ → Key → List Act
+key_acts mapping cs locks done floor k =
+    complete_by (first_on k cs) (strategy_in (slice_get mapping k.entity)) k (lock_from k 0 locks) floor (puts_back done (last_on k cs))
+
+abbrev pub keys_acts : List EntityDef → List Change → List (Key × ℕ) → Bool → ℕ → List Key → List Act
+keys_acts mapping cs locks done floor ks = flat_map (λ k. key_acts mapping cs locks done floor k) ks
+
+-- key by key in order of first change, and then one stamp of the changed tables, if any
+abbrev pub completes : List EntityDef → List Change → List (Key × ℕ) → Bool → Mode → ℕ → List Act
+completes mapping cs locks committed m floor =
+    keys_acts mapping cs locks (committed && mode_puts m) floor (keys_of cs) ++ stamps_of (tables_by mapping cs)
+
+abbrev pub is_key_in : Key → List Key → Bool
+is_key_in k ks = list_any (λ j. same_key j k) ks
+
+-- an act that comes, or none
+abbrev pub acts_of : Option Act → List Act
+acts_of None = []
+acts_of (Some a) = a ∷ []

@@ -1,0 +1,245 @@
+// Instances by key, in order of arrival.
+ghost use Rattle.std.specs.Prelude.{◌≡◌, ◌↔◌, ◌≢◌, ◌<◌, ◌++◌, [], ◌∷◌, None, Some, IsTrue, OnOk, OnErr, IfOk, length, slice_get, option_copied};
+ghost use Rattle.hib_identity_map.specs.Identity.{empty, look_in, put_in, drop_in, add_in, change_in, written, as_removed, with_sets, remove_last};
+
+use crate::instance::{mark, set_base, set_cells};
+use hib_base::{Held, Key, Row, Seq, Sets};
+use indexmap::IndexMap;
+use std::alloc::{AllocError, Global};
+use std::marker::Model;
+
+/// The instances of one session, one for each key, in order of arrival; and which keys were removed, in order of their
+/// last removals.
+#[derive(Drop)]
+pub struct IdentityMap {
+    entries: IndexMap<Key, Held>,
+    removals: Seq<Key>,
+}
+
+impl Model for IdentityMap {
+    ghost use Rattle.hib_identity_map.specs.Identity.{MapState};
+
+    ghost Value = { MapState };
+
+    ghost view = { λ m. record { held = m.entries.entries; removals = m.removals } };
+}
+
+impl IdentityMap {
+    /// A map without instances. It takes no memory.
+    pub fn open(alloc: Global) -> IdentityMap
+        ensures { result ≡ empty }
+    {
+        IdentityMap {
+            entries: IndexMap::new(alloc),
+            removals: Seq::new(alloc),
+        }
+    }
+
+    /// The instance of a key.
+    pub fn look(&self, key: Key) -> Option<&Held>
+        ensures { option_copied result ≡ look_in self.now.held key }
+    {
+        look_at(&self.entries, key)
+    }
+
+    /// Adds the instance of a key that has none, behind the others. At an error nothing has changed.
+    pub fn add(&mut self, key: Key, held: Held) -> Result<(), AllocError>
+        requires { look_in self.old.held key ≡ None }
+        ensures ok { OnOk result (self.new ≡ record self.old { held = add_in key held self.old.held }) }
+        ensures err { OnErr result (self.new ≡ self.old) }
+    {
+        insert_new(&mut self.entries, key, held)
+    }
+
+    /// The instance of a key comes behind the others, and the one that the key had leaves. At an error nothing has changed.
+    pub fn arrive(&mut self, key: &Key, held: Held) -> Result<(), AllocError>
+        ensures ok { OnOk result (self.new ≡ record self.old { held = add_in key.now held (drop_in key.now self.old.held) }) }
+        ensures err { OnErr result (self.new ≡ self.old) }
+    {
+        arrive_at(&mut self.entries, key, held)
+    }
+
+    /// Another instance in the place of that of a key. It takes no memory.
+    pub fn put(&mut self, key: Key, held: Held)
+        requires { look_in self.old.held key ≢ None }
+        ensures { self.new ≡ record self.old { held = put_in key held self.old.held } }
+    {
+        replace(&mut self.entries, key, held);
+    }
+
+    /// The instance of a key leaves, if there is one; the others keep their order. It takes no memory.
+    pub fn drop(&mut self, key: Key)
+        ensures { self.new ≡ record self.old { held = drop_in key self.old.held } }
+    {
+        remove_key(&mut self.entries, key);
+    }
+
+    /// All instances leave. The removals stay. It takes no memory.
+    pub fn clear(&mut self)
+        ensures { self.new ≡ record self.old { held = [] } }
+    {
+        clear_all(&mut self.entries);
+    }
+
+    /// The instance of a key, if there is one, stands for a row that was written. It takes no memory.
+    pub fn set_base(&mut self, key: Key, base: Row)
+        ensures { self.new ≡ record self.old { held = change_in key (written base) self.old.held } }
+    {
+        base_at(&mut self.entries, key, base);
+    }
+
+    /// Sets cells of the instance of a key, if there is one. It takes no memory.
+    pub fn set_cells(&mut self, alloc: Global, key: Key, sets: Sets)
+        ensures { self.new ≡ record self.old { held = change_in key (with_sets sets) self.old.held } }
+    {
+        cells_at(alloc, &mut self.entries, key, sets);
+    }
+
+    /// Marks the instance of a key, if there is one, as removed. It takes no memory.
+    pub fn mark(&mut self, key: Key)
+        ensures { self.new ≡ record self.old { held = change_in key as_removed self.old.held } }
+    {
+        mark_at(&mut self.entries, key);
+    }
+
+    /// Notes that a key was removed, as the last one. At an error nothing has changed.
+    pub fn note_removal(&mut self, alloc: Global, key: Key) -> Result<(), AllocError>
+        ensures ok { OnOk result (self.new ≡ record self.old { removals = remove_last key self.old.removals }) }
+        ensures err { OnErr result (self.new ≡ self.old) }
+    {
+        self.removals = moved_last(alloc, self.removals.as_slice(), key)?;
+        Ok(())
+    }
+
+    /// The keys that were removed, in order of their last removals.
+    pub fn removals(&self) -> &[Key]
+        ensures { result.now ≡ self.now.removals }
+    {
+        self.removals.as_slice()
+    }
+
+    /// How many instances there are.
+    pub fn len(&self) -> usize
+        ensures { result ≡ length self.now.held }
+    {
+        self.entries.len()
+    }
+
+    /// Whether there is no instance.
+    pub fn is_empty(&self) -> bool
+        ensures { IsTrue result ↔ (self.now.held ≡ []) }
+    {
+        self.entries.is_empty()
+    }
+
+    /// The instance at a place in the order of arrival, from 0, with its key.
+    pub fn at(&self, i: usize) -> (Key, &Held)
+        requires { i < length self.now.held }
+        ensures { slice_get self.now.held i ≡ Some (result.0, result.1.now) }
+    {
+        pair_at(&self.entries, i)
+    }
+}
+
+fn look_at(entries: &IndexMap<Key, Held>, key: Key) -> Option<&Held>
+    ensures { option_copied result ≡ look_in entries.now.entries key }
+{
+    entries.get(&key)
+}
+
+// Puts a new key at the end.
+fn insert_new(entries: &mut IndexMap<Key, Held>, key: Key, held: Held) -> Result<(), AllocError>
+    requires { look_in entries.old.entries key ≡ None }
+    ensures ok { OnOk result (entries.new.entries ≡ add_in key held entries.old.entries) }
+    ensures err { OnErr result (entries.new.entries ≡ entries.old.entries) }
+{
+    entries.insert(key, held)?;
+    Ok(())
+}
+
+// Puts a key at the end, in place of where it was.
+fn arrive_at(entries: &mut IndexMap<Key, Held>, key: &Key, held: Held) -> Result<(), AllocError>
+    ensures ok { OnOk result (entries.new.entries ≡ add_in key.now held (drop_in key.now entries.old.entries)) }
+    ensures err { OnErr result (entries.new.entries ≡ entries.old.entries) }
+{
+    entries.reserve(1)?;
+    entries.shift_remove(key);
+    entries.insert(*key, held)?;
+    Ok(())
+}
+
+// Gives a key that is there another instance.
+fn replace(entries: &mut IndexMap<Key, Held>, key: Key, held: Held)
+    requires { look_in entries.old.entries key ≢ None }
+    ensures { entries.new.entries ≡ put_in key held entries.old.entries }
+{
+    let Some(index) = entries.get_index_of(&key) else {
+        return;
+    };
+    entries[index] = held;
+}
+
+// Removes a key; the others keep their order.
+fn remove_key(entries: &mut IndexMap<Key, Held>, key: Key)
+    ensures { entries.new.entries ≡ drop_in key entries.old.entries }
+{
+    entries.shift_remove(&key);
+}
+
+fn clear_all(entries: &mut IndexMap<Key, Held>)
+    ensures { entries.new.entries ≡ [] }
+{
+    entries.clear();
+}
+
+fn pair_at(entries: &IndexMap<Key, Held>, i: usize) -> (Key, &Held)
+    requires { i < length entries.now.entries }
+    ensures { slice_get entries.now.entries i ≡ Some (result.0, result.1.now) }
+{
+    let (key, held) = entries.get_index(i).unwrap();
+    (*key, held)
+}
+
+// The keys with this one behind the others.
+fn moved_last(alloc: Global, keys: &[Key], key: Key) -> Result<Seq<Key>, AllocError>
+    ensures { IfOk result (λ ks. ks ≡ remove_last key keys.now) }
+{
+    let mut moved = Seq::new(alloc);
+    for other in keys {
+        if *other != key {
+            moved.push(*other)?;
+        }
+    }
+    moved.push(key)?;
+    Ok(moved)
+}
+
+fn base_at(entries: &mut IndexMap<Key, Held>, key: Key, base: Row)
+    ensures { entries.new.entries ≡ change_in key (written base) entries.old.entries }
+{
+    let Some(index) = entries.get_index_of(&key) else {
+        return;
+    };
+    let held = &mut entries[index];
+    set_base(held, base);
+}
+
+fn cells_at(alloc: Global, entries: &mut IndexMap<Key, Held>, key: Key, sets: Sets)
+    ensures { entries.new.entries ≡ change_in key (with_sets sets) entries.old.entries }
+{
+    let Some(index) = entries.get_index_of(&key) else {
+        return;
+    };
+    let held = &mut entries[index];
+    set_cells(alloc, held, sets);
+}
+
+fn mark_at(entries: &mut IndexMap<Key, Held>, key: Key)
+    ensures { entries.new.entries ≡ change_in key as_removed entries.old.entries }
+{
+    let Some(index) = entries.get_index_of(&key) else {
+        return;
+    };
+    let held = &mut entries[index];
+    mark(held);
+}

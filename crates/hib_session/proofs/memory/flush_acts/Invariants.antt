@@ -1,7 +1,0 @@
-use Rattle.std.proofs.Common.{◌≡◌, ◌∷◌, map}
-use Rattle.hib_journal.specs.Types.{Act}
-use Rattle.hib_journal.specs.Next.{tables_in}
-use Rattle.hib_session.proofs.memory.flush_acts.Given as goal
-
-abbrev pub invariant-loop-change : goal.invariant-loop-change
-invariant-loop-change l = l.acts ≡ Act.Pre (tables_in l.script l.fn.changes) ∷ map (λ d. Act.Write d) l.yielded

@@ -1,0 +1,83 @@
+// Which tables a query reads.
+ghost use Rattle.std.specs.Prelude.{◌≡◌, length, slice_get};
+ghost use Rattle.hib_journal.specs.Query.{steps_to, mentions as mentioned, mentions_in, reads as is_read};
+ghost use Rattle.hib_journal.specs.Next.{is_in_tables, tables_of, is_cached_query};
+ghost use Rattle.hib_session.specs.Queries.{touches as touching, touching_in};
+
+use hib_base::{Change, Cond, EntityNo, Query, QueryNo, Script, Target};
+
+fn is_target(target: Option<Target>, entity: EntityNo) -> bool
+    ensures { result ≡ steps_to entity target }
+{
+    match target {
+        Some(target) => target.entity == entity,
+        None => false,
+    }
+}
+
+/// Whether a condition follows a reference to an entity.
+fn mentions(condition: &Cond, entity: EntityNo) -> bool
+    ensures { result ≡ mentioned entity condition.now }
+{
+    match condition {
+        Cond::And(a, b) | Cond::Or(a, b) => mentions(a, entity) || mentions(b, entity),
+        Cond::Not(a) => mentions(a, entity),
+        Cond::Test { path, .. } => is_target(path.target, entity),
+        Cond::Among { path, .. } => is_target(path.target, entity),
+    }
+}
+
+fn conditions_on(condition: &Option<Cond>, entity: EntityNo) -> bool
+    ensures { result ≡ mentions_in entity condition.now }
+{
+    match condition {
+        Some(condition) => mentions(condition, entity),
+        None => false,
+    }
+}
+
+fn reads(query: &Query, entity: EntityNo) -> bool
+    ensures { result ≡ is_read query.now entity }
+{
+    query.entity == entity || conditions_on(&query.condition, entity)
+}
+
+/// Whether one of the changes is of a table that a query reads.
+fn touches(query: &Query, entities: usize, changes: &[Change]) -> bool
+    ensures { result ≡ touching entities query.now changes.now }
+{
+    for change in changes {
+        let entity = change.key().entity;
+        if (entity.0 as usize) < entities && reads(query, entity) {
+            return true;
+        }
+    }
+    false
+}
+
+// By a test of each change.
+fn touches_named(script: &Script, query: QueryNo, changes: &[Change]) -> bool
+    ensures { result ≡ touching_in (length script.now.mapping) (slice_get script.now.queries query) changes.now }
+{
+    match script.queries.as_slice().get(query.0 as usize) {
+        Some(query) => touches(query, script.mapping.len(), changes),
+        None => false,
+    }
+}
+
+/// Whether one of the changes is of a table of a query; an undeclared query has none.
+pub fn is_touched(script: &Script, query: QueryNo, changes: &[Change]) -> bool
+    ensures { result ≡ is_in_tables (tables_of script.now query) changes.now }
+{
+    touches_named(script, query, changes)
+}
+
+/// Whether results are kept of a query; of an undeclared one none are.
+pub fn is_cached(script: &Script, query: QueryNo) -> bool
+    ensures { result ≡ is_cached_query (slice_get script.now.queries query) }
+{
+    match script.queries.as_slice().get(query.0 as usize) {
+        Some(query) => query.cached,
+        None => false,
+    }
+}
