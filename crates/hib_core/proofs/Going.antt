@@ -1,21 +1,21 @@
 -- A factory goes on: with one entry more its journal is legal, and its parts and sessions stand for it.
-use Rattle.std.proofs.Common.{◌≡◌, ◌⊎◌, ℕ, ◌+◌, ◌≤◌, ◌<◌, ◌^◌, ◌==◌, Bool, true, false, List, [], ◌∷◌, length, IsSome, Some, None, Option, refl, sym, ap, ◌∙◌, subst, arith, inl, inr}
+use Rattle.std.proofs.Common.{◌≡◌, ℕ, ◌+◌, ◌<◌, ◌^◌, ◌==◌, Bool, true, false, List, ◌∷◌, length, get_or, IsSome, IfSome, Some, Option, refl, sym, ap, ◌∙◌, subst, arith, inl, inr}
 use Rattle.std.proofs.lemmas.Bool.{true≢false, eqb-true}
 use Rattle.std.proofs.lemmas.List.{get_or-set_same, get_or-set_other, length-set}
 use Rattle.std.proofs.lemmas.Option.{slice_get_within, get_or_from_slice_get, slice_get-get_or}
 use Rattle.std.specs.Prelude.{slice_get, slice_set}
 use Rattle.hib_base.proofs.Tables.{Tested, tested}
-use Rattle.hib_journal.specs.Types.{Script, Act, Reply, Entry}
+use Rattle.hib_journal.specs.Types.{Script, Act, Reply}
 use Rattle.hib_journal.specs.Sessions.{Journal, own, is_open, was_killed, killed_by, IsTimely}
 use Rattle.hib_journal.specs.Next.{next}
-use Rattle.hib_journal.specs.Legal.{IsLegal, part_of, part_due, due, may_come, is_outside}
-use Rattle.hib_journal.specs.Runs.{IsNumbered, ask_count, one_if, asks}
+use Rattle.hib_journal.specs.Legal.{part_of, part_due, due, may_come, is_outside}
+use Rattle.hib_journal.specs.Runs.{IsNumbered, ask_count}
 use Rattle.hib_session.specs.declared.session.Session.{Session}
-use Rattle.hib_session.specs.Session.{Follows, IsTaken, number_of, own_reply, left_in}
+use Rattle.hib_session.specs.Session.{Follows, IsTaken, number_of, left_in}
 use Rattle.hib_core.specs.Laws.{Laws}
 use Rattle.hib_core.specs.Region.{HasRoomFor, acts_on}
-use Rattle.hib_core.specs.Standing.{Origin, RoseWithin, PartsState, AreParts, AreWithin, IsDue, IsReady, IsAnswered, IsAskedFor, region_of, entry_of}
-use Rattle.hib_core.specs.Factory.{AreSessions, IsRun, IsGoing, IsTurn, IsTold, Serves, Does, left_at, left_or}
+use Rattle.hib_core.specs.Standing.{Origin, RoseWithin, PartsState, AreParts, AreWithin, IsDue, IsReady, IsAnswered, region_of, entry_of}
+use Rattle.hib_core.specs.Factory.{AreSessions, IsRun, IsGoing, IsTurn, IsTold, Serves, Does, left_or}
 use Rattle.hib_core.proofs.Served.{last_le, before_now}
 use Rattle.hib_core.proofs.Grows.{has_room}
 use Rattle.hib_core.proofs.Stored.{self_by, own_self, own_other}
@@ -128,13 +128,49 @@ sessions_step script h new s a r xs z g w l k f = record {
         (subst (λ v. Follows script v (own s (entry_of h s a r ∷ h))) (sym (here n y p e)) (subst (λ m. Follows script z m) (sym (own_self h s a r)) f))
     follow n y p (inr q) = subst (λ m. Follows script y m) (sym (own_other h s n a r q)) (w.follow n y (there n y p q))
 
-pub going_on : (script : Script) (from : Origin) (y z : Session) (a : Act) (h new : Journal) (x w : PartsState) (xs : List Session) → (v : Serves script from (number_of y) a h new x w) →
-    IsGoing script from h x xs → number_of y < length xs → number_of z ≡ number_of y → Follows script z (entry_of h (number_of y) a v.answer ∷ own (number_of y) h) →
-    IsGoing script from new w (slice_set xs (number_of y) z)
-going_on script from y z a h new x w xs v g l k f = record {
+-- a session that was read at a place
+pub at_place : (script : Script) (h : Journal) (xs : List Session) (i s : ℕ) (y : Session) → AreSessions script h xs → i ≡ s → s < length script.sessions → y ≡ get_or xs i y →
+    slice_get xs s ≡ Some y
+at_place script h xs i s y w e l v = slice_get-get_or xs s y (subst (λ n. s < n) (sym w.all) l) ∙ ap Some (sym (subst (λ n. y ≡ get_or xs n y) e v))
+
+-- the act that a session at its place says is due
+pub turn_of : (told script : Script) (h : Journal) (s : ℕ) (xs : List Session) (y : Session) (o : Option Act) (a : Act) → told ≡ script → AreSessions script h xs →
+    slice_get xs s ≡ Some y → ((mine : Journal) → Follows told y mine → o ≡ next told (number_of y) mine) → ((mine : Journal) → Follows told y mine → IfSome o (IsDue told mine)) →
+    o ≡ Some a → IsTurn script h y a
+turn_of told script h s xs y o a q w p f d e = record {
+  follows = here;
+  next = subst (λ (v : Script). next v (number_of y) (own (number_of y) h) ≡ Some a) q (sym (f (own (number_of y) h) there) ∙ e);
+  due = subst (λ (v : Script). IsDue v (own (number_of y) h) a) q (subst (λ z. IfSome z (IsDue told (own (number_of y) h))) e (d (own (number_of y) h) there));
+}
+  where
+    here : Follows script y (own (number_of y) h)
+    here = subst (λ m. Follows script y (own m h)) (sym (w.numbers s y p)) (w.follow s y p)
+
+    there : Follows told y (own (number_of y) h)
+    there = subst (λ (v : Script). Follows v y (own (number_of y) h)) (sym q) here
+
+pub going_on : (script : Script) (from : Origin) (s : ℕ) (y z : Session) (a : Act) (h new : Journal) (x w : PartsState) (xs : List Session) → slice_get xs s ≡ Some y →
+    (v : Serves script from (number_of y) a h new x w) → IsGoing script from h x xs → number_of z ≡ number_of y →
+    Follows script z (entry_of h (number_of y) a v.answer ∷ own (number_of y) h) → IsGoing script from new w (slice_set xs s z)
+going_on script from s y z a h new x w xs p v g k f = record {
   asked = subst (λ j. RoseWithin from.asked (ask_count j) w.store.asked) (sym v.grown) (record {
     later = omega (arith, g.asked.later, v.asked.later);
     few = omega (arith, g.asked.few, v.asked.few);
   });
-  sessions = sessions_step script h new (number_of y) a v.answer xs z v.grown g.sessions l k f;
+  sessions = let e : number_of y ≡ s = g.sessions.numbers s y p in
+      sessions_step script h new s a v.answer xs z (v.grown ∙ ap (λ m. entry_of h m a v.answer ∷ h) e) g.sessions (slice_get_within xs s y p) (k ∙ e)
+      (subst (λ m. Follows script z (entry_of h m a v.answer ∷ own m h)) e f);
 }
+
+pub does : (script : Script) (from : Origin) (s : ℕ) (y z : Session) (a : Act) (h new : Journal) (x w : PartsState) (xs : List Session) → AreSessions script h xs → slice_get xs s ≡ Some y →
+    (v : Serves script from (number_of y) a h new x w) → left_in script z < left_in script y → Does script s h new xs (slice_set xs s z)
+does script from s y z a h new x w xs k p v l = record {
+  entry = entry_of h (number_of y) a v.answer;
+  by = ap Some (k.numbers s y p);
+  grown = v.grown;
+  less = subst (λ o. left_or script (slice_get (slice_set xs s z) s) < left_or script o) (sym p)
+      (subst (λ o. left_or script o < left_in script y) (sym (set_there xs s z (slice_get_within xs s y p))) l);
+}
+  where
+    set_there : (ys : List Session) (n : ℕ) (u : Session) → n < length ys → slice_get (slice_set ys n u) n ≡ Some u
+    set_there ys n u b = slice_get-get_or (slice_set ys n u) n u (omega (arith, length-set ys n u, b)) ∙ ap Some (get_or-set_same ys n u u b)

@@ -1,12 +1,12 @@
 -- After an entry each region stands for the journal with it.
-use Rattle.std.proofs.Common.{◌≡◌, ◌⊎◌, ℕ, ◌<◌, Bool, true, false, cond, ◌==◌, List, [], ◌∷◌, Some, None, Option, refl, sym, ap, ◌∙◌, subst, inl, inr}
-use Rattle.std.proofs.lemmas.Bool.{true≢false, false≢true, eqb-true, eq-eqb, ne_eqb}
-use Rattle.hib_journal.specs.Types.{Key, Row, Strategy, Script, Part, Act, Reply, Entry, Put, Unlocked, Inserted, Updated, Evicted}
+use Rattle.std.proofs.Common.{◌≡◌, ◌⊎◌, ℕ, ◌<◌, Bool, true, false, cond, ◌==◌, List, [], ◌∷◌, refl, sym, ap, ◌∙◌, subst, inl, inr}
+use Rattle.std.proofs.lemmas.Bool.{true≢false, false≢true, eq-eqb, ne_eqb}
+use Rattle.hib_journal.specs.Types.{Key, Row, Strategy, Script, Part, Act, Reply, Entry, Put, Unlocked, Inserted, Updated}
 use Rattle.hib_journal.specs.Sessions.{Journal, last_tick, same_part, is_restart}
 use Rattle.hib_journal.specs.Slot.{key_in}
 use Rattle.hib_journal.specs.Room.{is_item}
 use Rattle.hib_journal.specs.Regions as Regions
-use Rattle.hib_journal.specs.Next.{strategy, capacity, is_cached_by}
+use Rattle.hib_journal.specs.Next.{strategy, capacity}
 use Rattle.hib_journal.specs.Legal.{part_of}
 use Rattle.hib_room_laws.specs.Elsewhere.{IsElsewhere, last_of, is_of}
 use Rattle.hib_other_regions.specs.Items.{ItemsState, item_in, oldest_in}
@@ -16,9 +16,9 @@ use Rattle.hib_rw_region.specs.Region.{RegionState, slot_in, room_in}
 use Rattle.hib_rw_region.specs.Steps as Slots
 use Rattle.hib_rw_region.specs.Laws as SlotLaws
 use Rattle.hib_core.specs.declared.region.Region.{Region}
-use Rattle.hib_core.specs.Region.{answer_in, region_after, is_regional, acts_on, empty, emptied, HasFew, HasRoomFor, IsItemsOf, IsSlotsOf, IsPlaced, Suits}
+use Rattle.hib_core.specs.Region.{answer_in, region_after, is_regional, acts_on, empty, emptied, HasRoomFor, IsPlaced, Suits}
 use Rattle.hib_core.specs.Laws.{Laws}
-use Rattle.hib_core.proofs.Regions.{uncached_not, apart, is_read_write, is_read_only, is_nonstrict}
+use Rattle.hib_core.proofs.Regions.{apart, is_read_write, is_read_only, is_nonstrict}
 
 -- capacities and timeouts stay
 
@@ -90,7 +90,7 @@ grows l script h e (Region.ReadWrite y) (Act.Get k time) r p u s = record { stra
 grows l script h e Region.Uncached (Act.Put k row time floor) r p u s = p
 grows l script h e (Region.ReadOnly y) (Act.Put k row time floor) r p u s = record { strategy = p.strategy; capacity = put_capacity k.id row e.tick y ∙ p.capacity; stands = l.put_grows h e y k row time floor (items_next h e k y (Act.Put k row time floor) _ s.act s.part s.later s.reply p.stands) }
 grows l script h e (Region.Nonstrict y) (Act.Put k row time floor) r p u s = record { strategy = p.strategy; capacity = put_capacity k.id row e.tick y ∙ p.capacity; stands = l.put_grows h e y k row time floor (items_next h e k y (Act.Put k row time floor) _ s.act s.part s.later s.reply p.stands) }
-grows l script h e (Region.ReadWrite y) (Act.Put k row time floor) r p u s = 
+grows l script h e (Region.ReadWrite y) (Act.Put k row time floor) r p u s =
     let z : IsSized (Slots.after_put k.id row time floor e.tick y) y = put_sized k.id row e.tick (Regions.put (slot_in y k.id) (room_in y floor) time row.version) y in
     record { strategy = p.strategy; capacity = z.capacity ∙ p.capacity; timeout = z.timeout ∙ p.timeout; stands = l.slot_put_grows h e y k row time floor (slots_next h e k y (Act.Put k row time floor) _ s.act s.part s.later s.reply p.stands) }
 grows l script h e Region.Uncached (Act.Lock k version floor) r p u s = p
@@ -100,19 +100,19 @@ grows l script h e (Region.ReadWrite y) (Act.Lock k version floor) r p u s = rec
 grows l script h e Region.Uncached (Act.Unlock k i) r p u s = p
 grows l script h e (Region.ReadOnly y) (Act.Unlock k i) r p u s = absurd (apart is_read_write (strategy script k.entity) Strategy.ReadOnly Strategy.ReadWrite p.strategy u refl refl)
 grows l script h e (Region.Nonstrict y) (Act.Unlock k i) r p u s = absurd (apart is_read_write (strategy script k.entity) Strategy.Nonstrict Strategy.ReadWrite p.strategy u refl refl)
-grows l script h e (Region.ReadWrite y) (Act.Unlock k i) r p u s = 
+grows l script h e (Region.ReadWrite y) (Act.Unlock k i) r p u s =
     let z : IsSized (Slots.after_unlock k.id i e.tick y) y = unlock_sized k.id e.tick (Regions.unlock (slot_in y k.id) i) y in
     record { strategy = p.strategy; capacity = z.capacity ∙ p.capacity; timeout = z.timeout ∙ p.timeout; stands = l.slot_unlock_grows h e y k i (slots_next h e k y (Act.Unlock k i) _ s.act s.part s.later s.reply p.stands) }
 grows l script h e Region.Uncached (Act.AfterUpdate k i row) r p u s = p
 grows l script h e (Region.ReadOnly y) (Act.AfterUpdate k i row) r p u s = absurd (apart is_read_write (strategy script k.entity) Strategy.ReadOnly Strategy.ReadWrite p.strategy u refl refl)
 grows l script h e (Region.Nonstrict y) (Act.AfterUpdate k i row) r p u s = absurd (apart is_read_write (strategy script k.entity) Strategy.Nonstrict Strategy.ReadWrite p.strategy u refl refl)
-grows l script h e (Region.ReadWrite y) (Act.AfterUpdate k i row) r p u s = 
+grows l script h e (Region.ReadWrite y) (Act.AfterUpdate k i row) r p u s =
     let z : IsSized (Slots.after_update k.id i row e.tick y) y = update_sized k.id row e.tick (Regions.after_update (slot_in y k.id) i) y in
     record { strategy = p.strategy; capacity = z.capacity ∙ p.capacity; timeout = z.timeout ∙ p.timeout; stands = l.slot_update_grows h e y k i row (slots_next h e k y (Act.AfterUpdate k i row) _ s.act s.part s.later s.reply p.stands) }
 grows l script h e Region.Uncached (Act.AfterInsert k row floor) r p u s = p
 grows l script h e (Region.ReadOnly y) (Act.AfterInsert k row floor) r p u s = record { strategy = p.strategy; capacity = put_capacity k.id row e.tick y ∙ p.capacity; stands = l.insert_grows h e y k row floor (items_next h e k y (Act.AfterInsert k row floor) _ s.act s.part s.later s.reply p.stands) }
 grows l script h e (Region.Nonstrict y) (Act.AfterInsert k row floor) r p u s = absurd (no_insert (strategy script k.entity) p.strategy u)
-grows l script h e (Region.ReadWrite y) (Act.AfterInsert k row floor) r p u s = 
+grows l script h e (Region.ReadWrite y) (Act.AfterInsert k row floor) r p u s =
     let z : IsSized (Slots.after_insert k.id row floor e.tick y) y = insert_sized k.id row e.tick (Regions.after_insert (slot_in y k.id) (room_in y floor)) y in
     record { strategy = p.strategy; capacity = z.capacity ∙ p.capacity; timeout = z.timeout ∙ p.timeout; stands = l.slot_insert_grows h e y k row floor (slots_next h e k y (Act.AfterInsert k row floor) _ s.act s.part s.later s.reply p.stands) }
 grows l script h e Region.Uncached (Act.RegionRemove k) r p u s = p

@@ -7,4 +7,5 @@ pub mod StoreServed
 pub mod Outcomes
 pub mod OwnServed
 pub mod Allowed
+pub mod Begun
 pub mod Going

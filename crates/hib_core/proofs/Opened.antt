@@ -1,10 +1,9 @@
 -- The open sessions are those of the journal, after each entry.
-use Rattle.std.proofs.Common.{◌≡◌, ◌≢◌, ℕ, zero, suc, ◌+◌, ◌≤◌, ◌<◌, min, Bool, true, false, cond, not, ◌&&◌, ◌||◌, ◌==◌, ◌⊎◌, List, [], ◌∷◌, ◌++◌, length, Some, None, Option, refl, sym, ap, ◌∙◌, subst, arith, inl, inr}
+use Rattle.std.proofs.Common.{◌≡◌, ℕ, suc, ◌+◌, ◌≤◌, ◌<◌, Bool, true, false, cond, ◌||◌, ◌==◌, List, [], ◌∷◌, ◌++◌, length, Some, None, Option, refl, sym, ap, ◌∙◌, subst, arith, inl, inr}
 use Rattle.std.proofs.lemmas.Bool.{true≢false, false≢true, and_parts, and_from, eqb-true, eq-eqb, ne_eqb}
-use Rattle.std.specs.List.{filter}
 use Rattle.hib_base.proofs.Tables.{Tested, tested}
 use Rattle.hib_journal.specs.Types.{Act, Entry}
-use Rattle.hib_journal.specs.Sessions.{Journal, own, is_by, is_session, is_open, open_after, time, time_in, time_after, is_live, least_live, floor}
+use Rattle.hib_journal.specs.Sessions.{Journal, is_by, is_session, is_open, open_after, time, time_after, is_live, least_live, floor}
 use Rattle.hib_journal.specs.Held.{is_begin}
 use Rattle.hib_core.specs.Registry.{Opened, Each, floor_in, without, time_of, AreRising, time_if_open, opened_after, IsRegistry}
 

@@ -1,5 +1,5 @@
 -- From what a call's result ensures to what is wanted of it.
-use Rattle.std.proofs.Common.{Result, Ok, Err, IfOk, OnOk, OnErr}
+use Rattle.std.proofs.Common.{Result, Ok, Err, IfOk, OnOk, OnErr, Option, Some, None, IfSome}
 
 pub map_ok : {T E : Type 0} (r : Result T E) (P Q : T → Type 0) → IfOk r P → ((t : T) → P t → Q t) → IfOk r Q
 map_ok (Ok t) P Q p f = f t p
@@ -16,3 +16,7 @@ map_err (Err e) R Q p f = f p
 pub two_ok : {T E : Type 0} (r : Result T E) (P R Q : T → Type 0) → IfOk r P → IfOk r R → ((t : T) → P t → R t → Q t) → IfOk r Q
 two_ok (Ok t) P R Q p q f = f t p q
 two_ok (Err e) P R Q p q f = tt
+
+pub map_some : {A : Type 0} (o : Option A) (P Q : A → Type 0) → IfSome o P → ((a : A) → P a → Q a) → IfSome o Q
+map_some (Some a) P Q p f = f a p
+map_some None P Q p f = tt

@@ -1,6 +1,6 @@
 -- Acts that a session answers itself: the reply is due, and the parts stand for the journal with the entry.
-use Rattle.std.proofs.Common.{◌≡◌, ℕ, ◌+◌, ◌≤◌, Bool, true, false, cond, not, ◌||◌, List, [], ◌∷◌, length, Some, None, Option, refl, sym, ap, ◌∙◌, subst, arith}
-use Rattle.std.proofs.lemmas.Bool.{true≢false, false≢true}
+use Rattle.std.proofs.Common.{◌≡◌, ℕ, ◌+◌, Bool, true, false, cond, not, ◌||◌, List, length, Some, None, Option, refl, sym, ◌∙◌, subst, arith}
+use Rattle.std.proofs.lemmas.Bool.{false≢true}
 use Rattle.hib_journal.specs.Types.{Strategy, Script, Act, Reply}
 use Rattle.hib_journal.specs.Sessions.{Journal, own, changes_in}
 use Rattle.hib_journal.specs.Held.{held}

@@ -1,22 +1,15 @@
 -- What a region answers is the reply that is due, and afterwards it stands for the journal with the entry.
-use Rattle.std.proofs.Common.{◌≡◌, ◌⊎◌, ℕ, ◌<◌, Bool, true, false, cond, ◌==◌, ◌∷◌, Some, None, Option, refl, sym, ap, ◌∙◌, subst, inl, inr}
-use Rattle.std.proofs.lemmas.Bool.{true≢false, false≢true, eqb-true, eq-eqb, ne_eqb}
+use Rattle.std.proofs.Common.{◌≡◌, ◌⊎◌, ℕ, Bool, true, false, refl, sym, ap, ◌∙◌, inl, inr}
+use Rattle.std.proofs.lemmas.Bool.{true≢false, false≢true}
 use Rattle.hib_base.specs.Tables.{Tables}
-use Rattle.hib_journal.specs.Types.{Key, Row, Strategy, Script, Part, Act, Reply, Entry, Put, Unlocked, Inserted, Updated, Evicted}
-use Rattle.hib_journal.specs.Sessions.{Journal, last_tick, same_part, is_restart}
-use Rattle.hib_journal.specs.Slot.{key_in}
-use Rattle.hib_journal.specs.Room.{is_item}
-use Rattle.hib_journal.specs.Regions as Regions
-use Rattle.hib_journal.specs.Next.{strategy, capacity, is_cached_by}
-use Rattle.hib_journal.specs.Legal.{reply_of, part_of}
-use Rattle.hib_room_laws.specs.Elsewhere.{IsElsewhere, last_of, is_of}
-use Rattle.hib_other_regions.specs.Items as Items
-use Rattle.hib_other_regions.specs.Laws as ItemLaws
-use Rattle.hib_rw_region.specs.Region.{RegionState, slot_in, room_in}
-use Rattle.hib_rw_region.specs.Steps as Slots
+use Rattle.hib_journal.specs.Types.{Key, Strategy, Script, Act, Reply}
+use Rattle.hib_journal.specs.Sessions.{Journal}
+use Rattle.hib_journal.specs.Next.{strategy, is_cached_by}
+use Rattle.hib_journal.specs.Legal.{reply_of}
+use Rattle.hib_rw_region.specs.Region.{RegionState}
 use Rattle.hib_rw_region.specs.Laws as SlotLaws
 use Rattle.hib_core.specs.declared.region.Region.{Region}
-use Rattle.hib_core.specs.Region.{got, put, after_put, lock, after_lock, unlock, after_unlock, insert, after_insert, update, after_update, remove, after_remove, evict, after_evict, empty, emptied, answer_in, region_after, HasFew, HasRoomFor, is_regional, acts_on, IsItemsOf, IsSlotsOf, IsPlaced, Suits}
+use Rattle.hib_core.specs.Region.{got, put, lock, unlock, insert, update, remove, evict, answer_in, is_regional, acts_on, IsSlotsOf, IsPlaced, Suits}
 use Rattle.hib_core.specs.Laws.{Laws}
 
 -- a strategy is not two

@@ -1,34 +1,32 @@
 -- The parts stand for the journal with one more entry.
-use Rattle.std.proofs.Common.{◌≡◌, ◌≢◌, ◌⊎◌, ℕ, suc, ◌+◌, ◌≤◌, ◌<◌, ◌^◌, ◌==◌, Bool, true, false, cond, ◌&&◌, List, [], ◌∷◌, length, get_or, set, Some, None, Option, refl, sym, ap, ◌∙◌, subst, arith, inl, inr}
+use Rattle.std.proofs.Common.{◌≡◌, ◌≢◌, ◌⊎◌, ℕ, suc, ◌+◌, ◌≤◌, ◌<◌, ◌==◌, Bool, true, false, cond, ◌&&◌, List, [], ◌∷◌, length, get_or, Some, None, Option, refl, sym, ap, ◌∙◌, subst, arith, inl, inr}
 use Rattle.std.proofs.lemmas.Bool.{true≢false, false≢true, eqb-true, eq-eqb, ne_eqb}
 use Rattle.std.proofs.lemmas.List.{get_or-set_same, get_or-set_other, length-set}
 use Rattle.std.proofs.lemmas.Option.{unwrap_or-slice_get, slice_get_past}
 use Rattle.std.specs.Prelude.{slice_get, slice_set, unwrap_or}
-use Rattle.hib_base.specs.Tables.{Tables}
 use Rattle.hib_base.proofs.Tables.{Tested, tested}
 use Rattle.std.specs.Option.{option_map}
-use Rattle.hib_journal.specs.Types.{Key, Row, Change, Strategy, Script, Part, Act, Reply, Entry, Miss}
+use Rattle.hib_journal.specs.Types.{Key, Row, Change, Script, Part, Act, Reply, Entry, Miss}
 use Rattle.hib_journal.specs.Sessions.{Journal, own, is_session, is_restart, is_open, is_begun, was_killed, floor, last_tick, committer, deferred_after}
 use Rattle.hib_journal.specs.Held.{is_begin}
 use Rattle.hib_journal.specs.Next.{strategy}
 use Rattle.hib_journal.specs.Slot.{Slot, key_in}
 use Rattle.hib_journal.specs.Regions as Regions
 use Rattle.hib_other_regions.specs.Items as Items
-use Rattle.hib_journal.specs.Legal.{IsReply, reply_of, is_of_store, part_of, is_outside, number}
+use Rattle.hib_journal.specs.Legal.{IsReply, is_of_store, part_of, is_outside}
 use Rattle.hib_journal.specs.Runs.{IsNumbered, is_fault}
 use Rattle.hib_journal.proofs.Open.{begun_open}
 use Rattle.hib_room_laws.specs.Elsewhere.{last_of}
 use Rattle.hib_update_stamps.specs.Stamped.{Stamped, stamped}
 use Rattle.hib_update_stamps.specs.Standing.{IsStamps, stamps_after}
-use Rattle.hib_store.specs.Stores.{StoreState}
 use Rattle.hib_core.specs.declared.region.Region.{Region}
 use Rattle.hib_core.specs.Registry.{IsRegistry, opened_after, floor_in}
-use Rattle.hib_core.specs.Region.{answer_in, region_after, is_of_key, is_regional, entity_of, entity_in, acts_on, HasRoomFor, IsPlaced, Suits}
+use Rattle.hib_core.specs.Region.{answer_in, region_after, is_of_key, is_regional, entity_of, entity_in, acts_on, IsPlaced, Suits}
 use Rattle.hib_core.specs.Laws.{Laws}
-use Rattle.hib_core.specs.Standing.{Origin, entry_of, IsStore, or_uncached, region_of, regions_after, PartsState, AreParts, IsDue, IsReady, IsAnswered}
+use Rattle.hib_core.specs.Standing.{Origin, entry_of, IsStore, or_uncached, region_of, regions_after, PartsState, AreParts, IsReady, IsAnswered}
 use Rattle.hib_core.proofs.Opened.{registry_step, floor_is}
 use Rattle.hib_core.proofs.Regions.{answers}
-use Rattle.hib_core.proofs.Grows.{IsServed, grows, stays, elsewhere, regional_part, has_room}
+use Rattle.hib_core.proofs.Grows.{IsServed, grows, stays, elsewhere, regional_part}
 use Rattle.hib_core.proofs.Stored.{reply_any, keeps_same, no_fault}
 
 -- the regions by entity
@@ -331,10 +329,10 @@ pub region_served : Laws → (script : Script) (from : Origin) (h : Journal) (s 
 region_served l script from h s now n a r x y m k w p q =
     let t : (is_regional a ≡ true) × (acts_on a ≡ n) = named (key_in a) n w in
     let answer : r ≡ answer_in (region_of x.regions (acts_on a)) (length h + 1) a =
-        p ∙ (ap (λ i. answer_in (region_of x.regions i) now a) (sym t.1) ∙ ap (λ i. answer_in (region_of x.regions (acts_on a)) i a) m) in
+    p ∙ (ap (λ i. answer_in (region_of x.regions i) now a) (sym t.1) ∙ ap (λ i. answer_in (region_of x.regions (acts_on a)) i a) m) in
     let left : y.regions ≡ slice_set x.regions (acts_on a) (region_after (region_of x.regions (acts_on a)) (length h + 1) a) =
-        ap (λ z. z.regions) q ∙ (ap (λ i. slice_set x.regions i (region_after (region_of x.regions i) now a)) (sym t.1)
-        ∙ ap (λ i. slice_set x.regions (acts_on a) (region_after (region_of x.regions (acts_on a)) i a)) m) in
+    ap (λ z. z.regions) q ∙ (ap (λ i. slice_set x.regions i (region_after (region_of x.regions i) now a)) (sym t.1)
+    ∙ ap (λ i. slice_set x.regions (acts_on a) (region_after (region_of x.regions (acts_on a)) i a)) m) in
     quiet_served l script from h s a r x y k (regional_quiet a t.0)
     (ap is_fault answer ∙ answer_calm (region_of x.regions (acts_on a)) (length h + 1) a)
     (subst (λ z. IsReply script from.tables h (entry_of h s a z)) (sym answer) (region_reply l script from h s a x k t.0))

@@ -1,14 +1,12 @@
 -- Acts that the store answers: the reply is due, and the parts stand for the journal with the entry.
-use Rattle.std.proofs.Common.{◌≡◌, ◌≢◌, ℕ, ◌+◌, ◌≤◌, Bool, true, false, List, [], ◌∷◌, ◌++◌, length, Some, None, Option, IfSome, Result, Ok, refl, sym, ap, ◌∙◌, subst, arith}
+use Rattle.std.proofs.Common.{◌≡◌, ◌≢◌, ℕ, ◌≤◌, true, List, [], ◌∷◌, ◌++◌, Some, None, Option, IfSome, Result, Ok, refl, sym, ◌∙◌, arith}
 use Rattle.hib_base.specs.Tables.{Tables, row_at, after_changes, commit_answer}
-use Rattle.hib_journal.specs.Types.{Key, Row, Change, Commit, Script, Act, Reply}
-use Rattle.hib_journal.specs.Sessions.{Journal, own, deferred}
-use Rattle.hib_journal.specs.Runs.{one_if, is_fault}
-use Rattle.hib_journal.specs.Legal.{IsReply}
-use Rattle.hib_store.specs.Stores.{StoreState, changes_of, is_in, IsView, tables_answered}
+use Rattle.hib_journal.specs.Types.{Key, Change, Commit, Script, Act, Reply}
+use Rattle.hib_journal.specs.Sessions.{Journal}
+use Rattle.hib_store.specs.Stores.{changes_of, is_in, IsView, tables_answered}
 use Rattle.hib_store.specs.declared.asking.Loaded.{Loaded}
 use Rattle.hib_core.specs.Laws.{Laws}
-use Rattle.hib_core.specs.Standing.{Origin, RoseBy, RoseWithin, entry_of, IsStore, reply_of_loaded, PartsState, AreParts, IsReady, IsAnswered, IsAskedFor}
+use Rattle.hib_core.specs.Standing.{Origin, RoseBy, entry_of, reply_of_loaded, PartsState, IsReady, IsAnswered}
 use Rattle.hib_core.proofs.Stored.{ToldAnswer, keeps_step, keeps_same, keeps_still, no_fault, reply_any, load_row, load_asks, load_fault, commit_reply, commit_keeps}
 use Rattle.hib_core.proofs.Served.{store_served}
 

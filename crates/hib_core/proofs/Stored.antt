@@ -1,11 +1,11 @@
 -- What the store answers is what a legal journal says, and afterwards it stands for the journal with the entry.
-use Rattle.std.proofs.Common.{◌≡◌, ◌≢◌, ◌⊎◌, ℕ, suc, ◌+◌, ◌-◌, ◌*◌, ◌^◌, ◌≤◌, ◌<◌, min, ◌==◌, inl, inr, Bool, true, false, cond, not, ◌||◌, List, [], ◌∷◌, length, IsSome, Some, None, Option, refl, sym, ap, ◌∙◌, subst, arith}
+use Rattle.std.proofs.Common.{◌≡◌, ◌≢◌, ◌⊎◌, ℕ, ◌+◌, ◌≤◌, ◌==◌, inl, inr, Bool, true, false, not, ◌||◌, List, [], ◌∷◌, Some, None, Option, refl, sym, ap, ◌∙◌, subst, arith}
 use Rattle.std.proofs.lemmas.Bool.{true≢false, false≢true, eqb-true}
 use Rattle.std.proofs.lemmas.Bool.Decides.{nat_tests}
 use Rattle.hib_base.specs.Tables.{Tables, row_at, after_changes, commit_answer}
 use Rattle.hib_base.proofs.Tables.{Tested, tested}
-use Rattle.hib_journal.specs.Types.{Key, Row, Change, Commit, Strategy, Script, Act, Reply, Entry}
-use Rattle.hib_journal.specs.Sessions.{Journal, own, is_by, is_open, was_killed, killed_by, committed, committed_by, committer, changes_in, deferred, deferred_after}
+use Rattle.hib_journal.specs.Types.{Key, Row, Change, Commit, Script, Act, Reply, Entry}
+use Rattle.hib_journal.specs.Sessions.{Journal, own, is_open, was_killed, killed_by, committed, committed_by, committer, changes_in, deferred, deferred_after}
 use Rattle.hib_journal.specs.Next.{is_in}
 use Rattle.hib_journal.specs.Legal.{IsReply, reply_of, is_of_store, is_empty, is_outside, number}
 use Rattle.hib_journal.specs.Runs.{told_committed, one_if, asks, is_fault, fault_count}
@@ -294,4 +294,3 @@ commit_keeps from h s c old new k live d t w o l f = keeps_step from h s Act.Com
     by_answer (Commit.Duplicate j) (Some start) = refl
     by_answer Commit.Fault None = refl
     by_answer Commit.Fault (Some start) = refl
-

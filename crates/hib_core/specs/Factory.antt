@@ -1,6 +1,6 @@
 -- What a factory keeps: its journal is legal, and its parts and sessions stand for it.
 use Rattle.std.specs.Prelude.{◌≡◌, ℕ, ◌<◌, ◌^◌, Bool, false, List, ◌∷◌, length, slice_get, Some, None, Option}
-use Rattle.hib_journal.specs.Types.{Script, SessionDef, Act, Reply, Entry}
+use Rattle.hib_journal.specs.Types.{Script, Act, Reply, Entry}
 use Rattle.hib_journal.specs.Kept.{Kept, past}
 use Rattle.hib_journal.specs.Sessions.{Journal, own, was_killed}
 use Rattle.hib_journal.specs.Next.{next}
@@ -43,9 +43,9 @@ pub record IsRun (script : Script) (from : Origin) (h : Journal) (x : PartsState
   pub built : IsBuilt script
 
 -- the sessions follow too, and the keeper was asked no more often than the journal says
-pub record IsGoing (script : Script) (from : Origin) (h : Journal) (x : PartsState) (sessions : List Session) : Type 0 where
+pub record IsGoing (script : Script) (from : Origin) (h : Journal) (x : PartsState) (xs : List Session) : Type 0 where
   pub asked : RoseWithin from.asked (ask_count h) x.store.asked
-  pub sessions : AreSessions script h sessions
+  pub sessions : AreSessions script h xs
 
 pub record IsStanding (script : Script) (from : Origin) (x : FactoryState) : Type 0 where
   pub run : IsRun script from (past x.journal) x.parts

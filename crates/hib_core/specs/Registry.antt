@@ -1,5 +1,5 @@
 -- The open sessions, and that they are those of a journal.
-use Rattle.std.specs.Prelude.{◌≡◌, ℕ, ◌≤◌, ◌<◌, Bool, cond, not, ◌==◌, List, [], ◌∷◌, ◌++◌, length, Some, None, Option}
+use Rattle.std.specs.Prelude.{◌≡◌, ℕ, ◌≤◌, ◌<◌, cond, not, ◌==◌, List, [], ◌∷◌, ◌++◌, length, Some, None, Option}
 use Rattle.std.specs.List.{filter}
 use Rattle.hib_journal.specs.Types.{Act}
 use Rattle.hib_journal.specs.Sessions.{Journal, is_open, time}

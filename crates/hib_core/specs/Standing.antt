@@ -1,8 +1,8 @@
 -- What a factory stands for: its parts are those that its journal's definitions give.
-use Rattle.std.specs.Prelude.{◌≡◌, ◌⊎◌, ℕ, ◌+◌, ◌-◌, ◌*◌, ◌^◌, ◌≤◌, ◌<◌, min, Bool, true, false, cond, List, [], ◌∷◌, length, map, slice_get, slice_set, Some, None, Option}
+use Rattle.std.specs.Prelude.{◌≡◌, ℕ, ◌+◌, ◌-◌, ◌^◌, ◌≤◌, ◌<◌, min, Bool, true, false, cond, List, ◌∷◌, length, map, slice_get, slice_set, Some, None, Option}
 use Rattle.std.specs.List.{All}
 use Rattle.hib_base.specs.Tables.{Tables}
-use Rattle.hib_journal.specs.Types.{Strategy, Script, Act, Reply, Entry}
+use Rattle.hib_journal.specs.Types.{Script, Act, Reply, Entry}
 use Rattle.hib_journal.specs.Sessions.{Journal, own, is_restart, is_begun, was_killed, changes_in, deferred}
 use Rattle.hib_journal.specs.Held.{is_begin}
 use Rattle.hib_journal.specs.Next.{strategy}
@@ -10,7 +10,6 @@ use Rattle.hib_journal.specs.Legal.{IsReply, part_of, is_outside}
 use Rattle.hib_journal.specs.Runs.{IsNumbered, told_committed, one_if, asks, fault_count}
 use Rattle.hib_store.specs.Stores.{StoreState, changes_of}
 use Rattle.hib_store.specs.declared.asking.Loaded.{Loaded}
-use Rattle.hib_update_stamps.specs.Stamped.{Stamped}
 use Rattle.hib_update_stamps.specs.Standing.{IsStamps}
 use Rattle.hib_core.specs.declared.region.Region.{Region}
 use Rattle.hib_core.specs.Registry.{Opened, without, IsRegistry}

@@ -1,5 +1,5 @@
 // The factory: sessions over shared parts, and the journal of their steps.
-ghost use Rattle.std.specs.Prelude.{◌≡◌, ◌<◌, ◌==◌, ℕ, [], length, OnOk, OnErr, IfOk, IfErr, Ok, None, true, false};
+ghost use Rattle.std.specs.Prelude.{◌≡◌, ◌<◌, ◌^◌, ◌==◌, ℕ, [], length, OnOk, OnErr, IfOk, IfErr, Ok, None, true, false};
 ghost use Rattle.hib_journal.specs.Kept.{past};
 ghost use Rattle.hib_journal.specs.Sessions.{own};
 ghost use Rattle.hib_journal.specs.Next.{next};
@@ -110,7 +110,8 @@ impl<K: Keeper, N: Name> Factory<K, N> {
 
     /// How many sessions there are.
     pub fn sessions(&self) -> usize
-        ensures { result ≡ length N.script.sessions }
+        ensures count { result ≡ length N.script.sessions }
+        ensures few { result < 2 ^ 32 }
     {
         self.script.sessions.len()
     }
@@ -140,17 +141,18 @@ impl<K: Keeper, N: Name> Factory<K, N> {
         Ok(())
     }
 
-    /// The keeper and the journal, with what the factory promises of both.
-    pub fn close(self) -> (K, Journal)
-        ensures journal { result.1 ≡ self.journal }
-        ensures legal { IsLegal N.script N.from.tables (past result.1) }
-        ensures numbered { IsNumbered (past result.1) }
-        ensures rows { K.tables result.0 ≡ told_committed N.from.tables (past result.1) }
-        ensures faults { RoseBy N.from.faults (fault_count (past result.1)) (K.faults result.0) }
-        ensures asked { self.refused ≡ false → RoseWithin N.from.asked (ask_count (past result.1)) (K.asked result.0) }
+    /// The keeper, the script and the journal, with what the factory promises of them.
+    pub fn close(self) -> (K, Script, Journal)
+        ensures script { result.1 ≡ N.script }
+        ensures journal { result.2 ≡ self.journal }
+        ensures legal { IsLegal N.script N.from.tables (past result.2) }
+        ensures numbered { IsNumbered (past result.2) }
+        ensures rows { K.tables result.0 ≡ told_committed N.from.tables (past result.2) }
+        ensures faults { RoseBy N.from.faults (fault_count (past result.2)) (K.faults result.0) }
+        ensures asked { self.refused ≡ false → RoseWithin N.from.asked (ask_count (past result.2)) (K.asked result.0) }
     {
         let Factory {
-            script: _,
+            script,
             parts,
             sessions: _,
             journal,
@@ -163,6 +165,6 @@ impl<K: Keeper, N: Name> Factory<K, N> {
             stamps: _,
             regions: _,
         } = parts;
-        (store.close(), journal)
+        (store.close(), script, journal)
     }
 }

@@ -1,6 +1,5 @@
 // What a factory begins with.
-ghost use Rattle.std.specs.Prelude.{◌≡◌, ◌<◌, ◌^◌, [], length, IfOk};
-ghost use Rattle.std.specs.List.{map};
+ghost use Rattle.std.specs.Prelude.{◌≡◌, ◌<◌, ◌^◌, [], length, map, IfOk};
 ghost use Rattle.hib_core.specs.Region.{empty};
 ghost use Rattle.hib_core.specs.Factory.{AreSessions};
 
@@ -15,12 +14,7 @@ pub fn open_regions(alloc: Global, script: &Script) -> Result<Vec<Region>, Alloc
 {
     let mut regions = Vec::new(alloc);
     for entity in script.mapping.as_slice() {
-        regions.push(Region::open(
-            alloc,
-            entity.strategy,
-            entity.capacity,
-            script.timeout,
-        ))?;
+        regions.push(Region::open(alloc, entity.strategy, entity.capacity, script.timeout))?;
     }
     Ok(regions)
 }

@@ -6,6 +6,7 @@ ghost use Rattle.hib_base.specs.declared.scripts.Script.{Script};
 ghost use Rattle.hib_journal.specs.Kept.{past};
 ghost use Rattle.hib_journal.specs.Sessions.{Journal as Past, own};
 ghost use Rattle.hib_journal.specs.Next.{next};
+ghost use Rattle.hib_journal.specs.Legal;
 ghost use Rattle.hib_session.specs.Session.{Follows, IsTaken, number_of, left_in};
 ghost use Rattle.hib_core.specs.Region.{HasRoomFor, acts_on};
 ghost use Rattle.hib_core.specs.Standing.{Origin, region_of, AreParts, AreWithin, IsDue, IsReady, entry_of};
@@ -20,7 +21,6 @@ use hib_outside::Keeper;
 use hib_session::Session;
 use std::alloc::{AllocError, Global};
 
-
 /// What a step did.
 #[derive(Clone, Copy, Debug, PartialEq, Eq)]
 pub enum Stepped {
@@ -31,11 +31,7 @@ pub enum Stepped {
 }
 
 /// The act that is due in a session.
-fn due_act(
-    alloc: Global,
-    script: &Script,
-    session: &Session,
-) -> Result<Option<Act>, AllocError>
+fn due_act(alloc: Global, script: &Script, session: &Session) -> Result<Option<Act>, AllocError>
     requires queries { AsksNoQuery script.now }
     ensures act { IfOk result (λ a. (mine : Past) → Follows script.now session.now mine → a ≡ next script.now (number_of session.now) mine) }
     ensures due { IfOk result (λ a. (mine : Past) → Follows script.now session.now mine → IfSome a (IsDue script.now mine)) }
@@ -73,7 +69,7 @@ fn answer<K: Keeper>(
 
 /// The part of an act of a session.
 fn part_of(act: &Act, session: SessionNo) -> Part
-    ensures { result ≡ Rattle.hib_journal.specs.Legal.part_of act.now session }
+    ensures { result ≡ Legal.part_of act.now session }
 {
     match act {
         Act::Begin | Act::End | Act::Kill { .. } | Act::Restart => Part::Registry,
@@ -187,4 +183,3 @@ pub fn turn<K: Keeper, N: Name>(
     take_last(alloc, script, session, journal)?;
     Ok(Stepped::Did)
 }
-

@@ -1,6 +1,6 @@
 use Rattle.std.proofs.Common.{sym, ap, subst, refl, Ok}
-use Rattle.hib_journal.specs.Types.{Act, Reply, Commit}
-use Rattle.hib_core.specs.Standing.{PartsState, IsReady, IsAnswered, reply_of_loaded}
+use Rattle.hib_journal.specs.Types.{Act, Commit}
+use Rattle.hib_core.specs.Standing.{PartsState, IsReady}
 use Rattle.hib_core.proofs.StoreServed.{commit_served, ok_is}
 use Rattle.hib_core.proofs.parts.Parts.commit.Goals as goal
 

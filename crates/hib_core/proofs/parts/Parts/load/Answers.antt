@@ -1,6 +1,6 @@
 use Rattle.std.proofs.Common.{sym, ap, subst, refl, Ok}
-use Rattle.hib_journal.specs.Types.{Act, Reply}
-use Rattle.hib_core.specs.Standing.{PartsState, IsReady, IsAnswered, reply_of_loaded}
+use Rattle.hib_journal.specs.Types.{Act}
+use Rattle.hib_core.specs.Standing.{PartsState, IsReady, IsAnswered}
 use Rattle.hib_core.proofs.StoreServed.{load_served}
 use Rattle.hib_core.proofs.parts.Parts.load.Goals as goal
 

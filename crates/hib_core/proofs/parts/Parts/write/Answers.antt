@@ -1,7 +1,7 @@
 use Rattle.std.proofs.Common.{sym, ap, subst, refl, ◌∙◌, ◌++◌, ◌∷◌, []}
-use Rattle.hib_journal.specs.Types.{Act, Reply}
+use Rattle.hib_journal.specs.Types.{Act}
 use Rattle.hib_store.specs.Stores.{changes_of}
-use Rattle.hib_core.specs.Standing.{PartsState, IsReady, IsAnswered, reply_of_loaded}
+use Rattle.hib_core.specs.Standing.{PartsState, IsReady}
 use Rattle.hib_core.proofs.StoreServed.{write_served}
 use Rattle.hib_core.proofs.parts.Parts.write.Goals as goal
 
