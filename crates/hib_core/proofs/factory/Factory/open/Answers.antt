@@ -1,0 +1,24 @@
+use Rattle.std.proofs.Common.{[], length, map, ap, ◌∙◌, subst}
+use Rattle.hib_base.specs.declared.scripts.Script.{Script}
+use Rattle.hib_update_stamps.specs.Stamped.{unstamped}
+use Rattle.hib_core.specs.Region.{empty}
+use Rattle.hib_core.specs.Standing.{Origin}
+use Rattle.hib_core.specs.Factory.{AreSessions}
+use Rattle.hib_core.proofs.Begun.{standing_begins, parts_begin}
+use Rattle.hib_core.proofs.factory.Factory.open.Goals as goal
+
+pub invariant_of-result : goal.invariant_of-result
+invariant_of-result g c =
+    let q = c.requires.script in
+    let from = c.requires.from in (
+      q,
+      standing_begins c.laws.ensures g.N.Name.script g.N.Name.from _ c.requires.built c.open-2.ensures.past
+          (parts_begin c.laws.ensures g.N.Name.script g.N.Name.from _
+          (c.open-store.ensures.tables ∙ ap (λ (o : Origin). o.tables) from)
+          (c.open-store.ensures.faults ∙ ap (λ (o : Origin). o.faults) from)
+          c.open-store.ensures.written c.new.ensures
+          (c.in-Ok-open.ensures ∙ ap unstamped (c.len.ensures ∙ ap (λ (s : Script). length s.mapping) q))
+          (c.in-Ok.ensures ∙ ap (λ (s : Script). map (λ d. empty d.strategy d.capacity s.timeout) s.mapping) q))
+          (c.open-store.ensures.asked ∙ ap (λ (o : Origin). o.asked) from)
+          (subst (λ (s : Script). AreSessions s [] c.in-Ok-open_sessions.sessions.items) q c.in-Ok-open_sessions.ensures),
+    )

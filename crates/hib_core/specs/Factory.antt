@@ -1,0 +1,97 @@
+-- What a factory keeps: its journal is legal, and its parts and sessions stand for it.
+use Rattle.std.specs.Prelude.{◌≡◌, ℕ, ◌<◌, ◌^◌, Bool, false, List, ◌∷◌, length, slice_get, Some, None, Option}
+use Rattle.hib_journal.specs.Types.{Script, Act, Reply, Entry}
+use Rattle.hib_journal.specs.Kept.{Kept, past}
+use Rattle.hib_journal.specs.Sessions.{Journal, own, was_killed}
+use Rattle.hib_journal.specs.Next.{next}
+use Rattle.hib_journal.specs.Legal.{IsLegal}
+use Rattle.hib_journal.specs.Runs.{IsNumbered, ask_count}
+use Rattle.hib_session.specs.declared.session.Session.{Session}
+use Rattle.hib_session.specs.Session.{Follows, number_of, own_reply, left_in}
+use Rattle.hib_session.specs.Due.{is_asked}
+use Rattle.hib_core.specs.Standing.{Origin, RoseWithin, PartsState, AreParts, IsDue, IsAnswered, IsAskedFor, entry_of}
+
+-- a factory as contracts see it
+pub record FactoryState : Type 0 where
+  pub journal : Kept
+  pub parts : PartsState
+  pub sessions : List Session
+  pub refused : Bool
+
+-- the sessions of a script, each as far as its own entries
+pub record AreSessions (script : Script) (h : Journal) (sessions : List Session) : Type 0 where
+  pub all : length sessions ≡ length script.sessions
+  pub numbers : (s : ℕ) (y : Session) → slice_get sessions s ≡ Some y → number_of y ≡ s
+  pub follow : (s : ℕ) (y : Session) → slice_get sessions s ≡ Some y → Follows script y (own s h)
+
+-- no session asks a query
+abbrev pub AsksNoQuery : Script → Type 0
+AsksNoQuery script = (s q : ℕ) → is_asked script s q ≡ false
+
+-- what is built so far: scripts whose entities and sessions have numbers, and without queries
+pub record IsBuilt (script : Script) : Type 0 where
+  pub entities : length script.mapping < 2 ^ 16
+  pub sessions : length script.sessions < 2 ^ 32
+  pub queries : AsksNoQuery script
+
+-- the journal is legal, with its ticks in turn and no session killed, and the parts stand for it
+pub record IsRun (script : Script) (from : Origin) (h : Journal) (x : PartsState) : Type 0 where
+  pub legal : IsLegal script from.tables h
+  pub numbered : IsNumbered h
+  pub alive : (n : ℕ) → was_killed n h ≡ false
+  pub parts : AreParts script from h x
+  pub built : IsBuilt script
+
+-- the sessions follow too, and the keeper was asked no more often than the journal says
+pub record IsGoing (script : Script) (from : Origin) (h : Journal) (x : PartsState) (xs : List Session) : Type 0 where
+  pub asked : RoseWithin from.asked (ask_count h) x.store.asked
+  pub sessions : AreSessions script h xs
+
+pub record IsStanding (script : Script) (from : Origin) (x : FactoryState) : Type 0 where
+  pub run : IsRun script from (past x.journal) x.parts
+  -- unless memory ran out
+  pub going : x.refused ≡ false → IsGoing script from (past x.journal) x.parts x.sessions
+
+-- an act is due in a session
+pub record IsTurn (script : Script) (h : Journal) (y : Session) (a : Act) : Type 0 where
+  pub follows : Follows script y (own (number_of y) h)
+  pub next : next script (number_of y) (own (number_of y) h) ≡ Some a
+  pub due : IsDue script (own (number_of y) h) a
+
+-- an act was answered, with the session's own reply where it has one, and the keeper was asked as the act allows
+pub record IsTold (script : Script) (from : Origin) (h : Journal) (s : ℕ) (a : Act) (r : Reply) (x y : PartsState) : Type 0 where
+  pub answered : IsAnswered script from h s a r y
+  pub mine : (q : Reply) → own_reply script (own s h) a ≡ Some q → r ≡ q
+  pub asked : IsAskedFor h s a x y
+
+-- an act of session s was answered, and its entry added
+pub record Serves (script : Script) (from : Origin) (s : ℕ) (a : Act) (h new : Journal) (x y : PartsState) : Type 0 where
+  pub answer : Reply
+  pub grown : new ≡ entry_of h s a answer ∷ h
+  pub run : IsRun script from new y
+  pub mine : (q : Reply) → own_reply script (own s h) a ≡ Some q → answer ≡ q
+  pub asked : IsAskedFor h s a x y
+
+-- how much is left of a session
+abbrev pub left_or : Script → Option Session → ℕ
+left_or script None = 0
+left_or script (Some y) = left_in script y
+
+abbrev pub left_at : Script → ℕ → List Session → ℕ
+left_at script s xs = left_or script (slice_get xs s)
+
+-- one entry of session s was added, and less is left of it
+pub record Does (script : Script) (s : ℕ) (old new : Journal) (xs ys : List Session) : Type 0 where
+  pub entry : Entry
+  pub by : entry.session ≡ Some s
+  pub grown : new ≡ entry ∷ old
+  pub less : left_at script s ys < left_at script s xs
+
+-- session s has no act left, and no entry was added
+pub record IsOver (script : Script) (s : ℕ) (old new : Journal) : Type 0 where
+  pub same : new ≡ old
+  pub over : next script s (own s new) ≡ None
+
+-- every session is at its end
+abbrev pub AreOver : Script → Journal → Type 0
+AreOver script h = (s : ℕ) → s < length script.sessions → next script s (own s h) ≡ None

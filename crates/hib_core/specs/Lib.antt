@@ -1,0 +1,5 @@
+pub mod Registry
+pub mod Region
+pub mod Laws
+pub mod Standing
+pub mod Factory

@@ -1,0 +1,18 @@
+//! The factory: one step of one session at a time, each of which adds one entry to a journal that stays legal.
+#![tactic(auto)]
+
+mod factory;
+mod laws;
+mod names;
+mod opening;
+mod parts;
+mod region;
+mod registry;
+mod turns;
+
+pub use factory::Factory;
+pub use names::Name;
+pub use parts::Parts;
+pub use region::Region;
+pub use registry::Registry;
+pub use turns::Stepped;

@@ -1,0 +1,22 @@
+// Which factory it is.
+use std::marker::Brand;
+
+/// Which factory it is: what it was opened with. Contracts alone see it.
+pub trait Name {
+    ghost use Rattle.hib_base.specs.declared.scripts.Script.{Script};
+    ghost use Rattle.hib_core.specs.Standing.{Origin};
+
+    /// The script.
+    ghost script: { Script };
+
+    /// The committed rows at the start, where the keeper tells them, and its counts.
+    ghost from: { Origin };
+}
+
+impl Name for Brand {
+    ghost use Rattle.std.specs.Prelude.{[], None};
+
+    ghost script = { record { timeout = 0; results = 0; mapping = []; rows = []; queries = []; sessions = []; schedule = [] } };
+
+    ghost from = { record { tables = None; faults = 0; asked = 0 } };
+}
