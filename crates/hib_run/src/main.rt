@@ -33,7 +33,9 @@ fn main(rt: HostRuntime) -> io::Result<ExitCode> {
     match env::args(&rt) {
         Ok(args) => {
             for word in args.skip(1) {
-                words.push(word)?;
+                if words.push(word).is_err() {
+                    return Ok(told(&rt, alloc, Status::NoMemory));
+                }
             }
         }
         // A word that isn't UTF-8 is no word of a command.
@@ -41,6 +43,11 @@ fn main(rt: HostRuntime) -> io::Result<ExitCode> {
             &rt,
             alloc,
             Status::Usage,
+        )),
+        Err(error) if error.kind() == io::ErrorKind::OutOfMemory => return Ok(told(
+            &rt,
+            alloc,
+            Status::NoMemory,
         )),
         Err(error) => return Err(error),
     }
