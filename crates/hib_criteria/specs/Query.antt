@@ -1,0 +1,143 @@
+-- The query that a line is, or the first thing that is wrong with it.
+use Rattle.std.specs.Prelude.{◌≡◌, ℕ, suc, ◌-◌, Bool, true, false, cond, nat_le, ◌==◌, List, [], ◌∷◌, ◌++◌, length, Option, Some, None, unwrap_or, option_and_then, Result, Ok, Err}
+use Rattle.hib_base.specs.declared.refusals.Kind.{Kind}
+use Rattle.hib_base.specs.declared.scripts.Cond.{Cond}
+use Rattle.hib_base.specs.declared.scripts.EntityDef.{EntityDef}
+use Rattle.hib_base.specs.declared.scripts.Query.{Query}
+use Rattle.hib_base.specs.declared.scripts.Select.{Select}
+use Rattle.hib_base.specs.declared.scripts.Sort.{Sort}
+use Rattle.hib_lex.specs.declared.lexer.Token.{Token}
+use Rattle.hib_mapping.specs.Parts.{is_reserved}
+use Rattle.hib_criteria.specs.Form.{form_of}
+use Rattle.hib_criteria.specs.declared.errors.CriteriaError.{CriteriaError}
+use Rattle.hib_criteria.specs.declared.forms.Form.{Form}
+use Rattle.hib_criteria.specs.declared.forms.Node.{Node}
+
+-- ---- conditions, as their parts in the order in which they are written
+abbrev pub parts_of : Cond → List Node
+parts_of (Cond.And' p a q b) = Node.And ∷ (parts_of a ++ parts_of b)
+parts_of (Cond.Or' p a q b) = Node.Or ∷ (parts_of a ++ parts_of b)
+parts_of (Cond.Not' p a) = Node.Not ∷ parts_of a
+parts_of (Cond.Test op path cell) = Node.Test op path cell ∷ []
+parts_of (Cond.Among path cells) = Node.Among path cells ∷ []
+
+abbrev pub parts_in : Option Cond → List Node
+parts_in None = []
+parts_in (Some c) = parts_of c
+
+-- how many conditions a part joins
+abbrev pub arity : Node → ℕ
+arity Node.And = 2
+arity Node.Or = 2
+arity Node.Not = 1
+arity _ = 0
+
+abbrev pub joined : Node → ℕ → Option ℕ
+joined n k = cond (nat_le (arity n) k) (Some (suc (k - arity n))) None
+
+-- how many conditions some parts come to, from the last one on; none where a part joins more than there are
+abbrev pub count_of : List Node → Option ℕ
+count_of [] = Some 0
+count_of (n ∷ ns) = option_and_then (λ k. joined n k) (count_of ns)
+
+abbrev pub is_one : Option ℕ → Bool
+is_one None = false
+is_one (Some k) = k == 1
+
+-- no condition, or the parts of one
+abbrev pub are_whole : List Node → Bool
+are_whole [] = true
+are_whole (n ∷ ns) = is_one (count_of (n ∷ ns))
+
+-- the condition of some parts, or none where they aren't those of one
+abbrev pub IsBuilt : List Node → Option Cond → Type 0
+IsBuilt ns None = is_one (count_of ns) ≡ false
+IsBuilt ns (Some c) = (is_one (count_of ns) ≡ true) × (parts_of c ≡ ns)
+
+-- the parts of conditions that stand side by side, the last one first
+abbrev pub parts_all : List Cond → List Node
+parts_all [] = []
+parts_all (c ∷ cs) = parts_all cs ++ parts_of c
+
+-- the conditions with one part more in front of theirs, or none where it joins more than there are
+abbrev pub IsJoined : Node → List Cond → Option (List Cond) → Type 0
+IsJoined n cs None = nat_le (arity n) (length cs) ≡ false
+IsJoined n cs (Some ds) = parts_all ds ≡ n ∷ parts_all cs
+
+-- the one of some conditions, or none where there isn't exactly one
+abbrev pub IsOnly : List Cond → Option Cond → Type 0
+IsOnly cs None = (length cs == 1) ≡ false
+IsOnly cs (Some c) = cs ≡ c ∷ []
+
+-- what is made of some parts, and when nothing is
+abbrev pub IsWhole : List Node → Option Cond → Type 0
+IsWhole ns o = (are_whole ns ≡ true) × (parts_in o ≡ ns)
+
+abbrev pub IsTorn : List Node → CriteriaError → Type 0
+IsTorn ns CriteriaError.NoMemory = Unit {0}
+IsTorn ns (CriteriaError.Fault k) = (are_whole ns ≡ false) × (k ≡ Kind.Words)
+
+-- ---- what a query says, with its condition as its parts
+pub record Said : Type 0 where
+  pub name : List ℕ
+  pub cached : Bool
+  pub entity : ℕ
+  pub parts : List Node
+  pub order : List Sort
+  pub offset : ℕ
+  pub limit : ℕ
+  pub select : Select
+
+abbrev pub said : Query → Said
+said q = record {
+  name = q.name;
+  cached = q.cached;
+  entity = q.entity;
+  parts = parts_in q.condition;
+  order = q.order;
+  offset = q.offset;
+  limit = q.limit;
+  select = q.select;
+}
+
+-- what a form says, where nothing is wrong with it
+abbrev pub said_by : Form → Said
+said_by f = record {
+  name = f.name;
+  cached = f.cached;
+  entity = unwrap_or f.entity 0;
+  parts = f.nodes;
+  order = f.order;
+  offset = unwrap_or f.offset 0;
+  limit = unwrap_or f.limit 200;
+  select = f.select;
+}
+
+-- the first thing that is wrong with a line of this form
+abbrev pub kind_of : Form → Option Kind
+kind_of f =
+    cond (is_reserved f.name) (Some Kind.Reserved)
+    (cond f.unknown (Some Kind.Unknown)
+    (cond f.bad_number (Some Kind.Number)
+    (cond f.mistyped (Some Kind.CellType)
+    (cond f.deep (Some Kind.Depth) None))))
+
+abbrev pub unless_kind : Form → Option Kind → Result Said Kind
+unless_kind f (Some k) = Err k
+unless_kind f None = Ok (said_by f)
+
+abbrev pub judged : Form → Result Said Kind
+judged f = cond (are_whole f.nodes) (unless_kind f (kind_of f)) (Err Kind.Words)
+
+abbrev pub read : Option Form → Result Said Kind
+read None = Err Kind.Words
+read (Some f) = judged f
+
+-- what a query line says, or the first thing that is wrong with it
+abbrev pub query_of : List EntityDef → List Token → Result Said Kind
+query_of m ts = read (form_of m ts)
+
+-- what an error says; want of memory says nothing
+abbrev pub IsWhy : Result Said Kind → CriteriaError → Type 0
+IsWhy r CriteriaError.NoMemory = Unit {0}
+IsWhy r (CriteriaError.Fault k) = r ≡ Err k

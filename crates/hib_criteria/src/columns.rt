@@ -1,0 +1,228 @@
+// The columns that the words of a query name, and the cells that it compares them with.
+ghost use Rattle.hib_criteria.specs.Columns as named;
+ghost use Rattle.std.specs.Prelude.{◌≡◌, IfOk, bytes_eq};
+
+use hib_base::{Cell, ColumnDef, ColumnType, EntityDef, EntityNo, Op, Path, Seq, Target};
+use hib_lex::{Token, is_the_word};
+use hib_mapping::column_place;
+use std::alloc::{AllocError, Global};
+
+/// A column of an entity, by its place, with its type.
+#[derive(Clone, Copy)]
+pub struct Found {
+    pub place: u16,
+    pub kind: ColumnType,
+}
+
+/// A column that is named, with its type.
+#[derive(Clone, Copy)]
+pub struct Column {
+    pub path: Path,
+    pub kind: ColumnType,
+}
+
+/// The columns of an entity; none where there is no such entity.
+pub fn columns_of(mapping: &[EntityDef], entity: Option<EntityNo>) -> &[ColumnDef]
+    ensures { result.now ≡ named.columns_of mapping.now entity }
+{
+    match entity {
+        Some(entity) => entity_columns(mapping, entity),
+        None => &[],
+    }
+}
+
+fn entity_columns(mapping: &[EntityDef], entity: EntityNo) -> &[ColumnDef]
+    ensures { result.now ≡ named.entity_columns mapping.now entity }
+{
+    match mapping.get(usize::from(entity.0)) {
+        Some(entity) => entity.columns.as_slice(),
+        None => &[],
+    }
+}
+
+/// The column of this name.
+pub fn plain_column(columns: &[ColumnDef], name: &[u8]) -> Option<Found>
+    ensures { result ≡ named.plain_column columns.now name.now }
+{
+    match column_place(columns, name) {
+        Some(place) => at_place(columns, place),
+        None => None,
+    }
+}
+
+fn at_place(columns: &[ColumnDef], place: u16) -> Option<Found>
+    ensures { result ≡ named.at_place columns.now place }
+{
+    match columns.get(usize::from(place)) {
+        Some(column) => Some(Found {
+            place,
+            kind: column.kind,
+        }),
+        None => None,
+    }
+}
+
+/// The place of a column; where there is none, 0.
+pub fn place_or_first(found: Option<Found>) -> u16
+    ensures { result ≡ named.place_or_first found }
+{
+    match found {
+        Some(found) => found.place,
+        None => 0,
+    }
+}
+
+/// The column that a word or a path names: one of these columns, or by a reference one of its target.
+pub fn named_column(mapping: &[EntityDef], columns: &[ColumnDef], token: &Token) -> Option<Column>
+    ensures { result ≡ named.column_of mapping.now columns.now token.now }
+{
+    match token {
+        Token::Word(name) => own(plain_column(columns, name.as_slice())),
+        Token::Path(first, second) => through(
+            mapping,
+            plain_column(columns, first.as_slice()),
+            second.as_slice(),
+        ),
+        _ => None,
+    }
+}
+
+fn own(found: Option<Found>) -> Option<Column>
+    ensures { result ≡ named.own found }
+{
+    match found {
+        Some(found) => Some(Column {
+            path: Path {
+                column: found.place,
+                target: None,
+            },
+            kind: found.kind,
+        }),
+        None => None,
+    }
+}
+
+/// The column of this name in the entity that a reference leads to.
+fn through(mapping: &[EntityDef], reference: Option<Found>, name: &[u8]) -> Option<Column>
+    ensures { result ≡ named.through mapping.now reference name.now }
+{
+    match reference {
+        Some(reference) => through_type(mapping, reference.place, reference.kind, name),
+        None => None,
+    }
+}
+
+fn through_type(mapping: &[EntityDef], place: u16, kind: ColumnType, name: &[u8]) -> Option<Column>
+    ensures { result ≡ named.through_type mapping.now place kind name.now }
+{
+    match kind {
+        ColumnType::Ref(entity) => led_to(
+            place,
+            entity,
+            plain_column(entity_columns(mapping, entity), name),
+        ),
+        _ => None,
+    }
+}
+
+fn led_to(place: u16, entity: EntityNo, found: Option<Found>) -> Option<Column>
+    ensures { result ≡ named.led_to place entity found }
+{
+    match found {
+        Some(found) => Some(Column {
+            path: Path {
+                column: place,
+                target: Some(Target {
+                    entity,
+                    column: found.place,
+                }),
+            },
+            kind: found.kind,
+        }),
+        None => None,
+    }
+}
+
+/// Whether a token has the form of a path: a word, or two that a dot joins.
+pub fn is_path(token: &Token) -> bool
+    ensures { result ≡ named.is_path token.now }
+{
+    matches!(token, Token::Word(_) | Token::Path(_, _))
+}
+
+/// The path of a column; where there is none, that of the first one.
+pub fn path_or_first(column: Option<Column>) -> Path
+    ensures { result ≡ named.path_or_first column }
+{
+    match column {
+        Some(column) => column.path,
+        None => Path {
+            column: 0,
+            target: None,
+        },
+    }
+}
+
+/// The cell that a token is.
+pub fn cell(alloc: Global, token: &Token) -> Result<Option<Cell>, AllocError>
+    ensures { IfOk result (λ c. c ≡ named.cell_of token.now) }
+{
+    match token {
+        Token::Number(n) => Ok(Some(Cell::Int(*n))),
+        Token::Quoted(text) => {
+            let text = text.as_slice().to_vec(alloc)?;
+            Ok(Some(Cell::Text(Seq::from_vec(text))))
+        }
+        _ => Ok(truth(token)),
+    }
+}
+
+fn truth(token: &Token) -> Option<Cell>
+    ensures { result ≡ named.truth_of token.now }
+{
+    if is_the_word(token, b"true") {
+        Some(Cell::Bool(true))
+    } else if is_the_word(token, b"false") {
+        Some(Cell::Bool(false))
+    } else {
+        None
+    }
+}
+
+/// Whether a cell has a column's type, where the column is known.
+pub fn is_typed(column: &Option<Column>, cell: &Cell) -> bool
+    ensures { result ≡ named.is_typed column.now cell.now }
+{
+    match column {
+        Some(column) => has_type(column.kind, cell),
+        None => true,
+    }
+}
+
+fn has_type(kind: ColumnType, cell: &Cell) -> bool
+    ensures { result ≡ named.has_type kind cell.now }
+{
+    match (kind, cell) {
+        (ColumnType::Int, Cell::Int(_))
+        | (ColumnType::Ref(_), Cell::Int(_))
+        | (ColumnType::Text, Cell::Text(_))
+        | (ColumnType::Bool, Cell::Bool(_)) => true,
+        _ => false,
+    }
+}
+
+/// Whether an operator may compare cells of a column: those of a bool have no order.
+pub fn is_comparable(op: Op, column: &Option<Column>) -> bool
+    ensures { result ≡ named.is_comparable op column.now }
+{
+    match column {
+        Some(column) => !is_order(op) || !matches!(column.kind, ColumnType::Bool),
+        None => true,
+    }
+}
+
+fn is_order(op: Op) -> bool
+    ensures { result ≡ named.is_order op }
+{
+    matches!(op, Op::Lt | Op::Le | Op::Gt | Op::Ge)
+}

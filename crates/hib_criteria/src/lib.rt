@@ -1,0 +1,11 @@
+//! The query that a line of a script is.
+#![tactic(auto)]
+
+mod columns;
+mod conditions;
+mod errors;
+mod forms;
+mod queries;
+
+pub use errors::CriteriaError;
+pub use queries::check;
