@@ -199,7 +199,8 @@ pub fn is_typed(column: &Option<Column>, cell: &Cell) -> bool
     }
 }
 
-fn has_type(kind: ColumnType, cell: &Cell) -> bool
+/// Whether a cell has a column's type; a reference is a number.
+pub fn has_type(kind: ColumnType, cell: &Cell) -> bool
     ensures { result ≡ named.has_type kind cell.now }
 {
     match (kind, cell) {

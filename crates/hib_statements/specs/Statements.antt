@@ -1,0 +1,125 @@
+-- The statement that a line is, or the first thing that is wrong with it.
+use Rattle.std.specs.Prelude.{◌≡◌, ℕ, cond, ◌==◌, List, [], ◌∷◌, length, Option, Some, None, option_and_then, position, codes, bytes_eq, Result, Ok, Err}
+use Rattle.hib_base.specs.declared.numbers.Key.{Key}
+use Rattle.hib_base.specs.declared.refusals.Kind.{Kind}
+use Rattle.hib_base.specs.declared.rows.Cell.{Cell}
+use Rattle.hib_base.specs.declared.scripts.ColumnDef.{ColumnDef}
+use Rattle.hib_base.specs.declared.scripts.EntityDef.{EntityDef}
+use Rattle.hib_base.specs.declared.scripts.Mode.{Mode}
+use Rattle.hib_base.specs.declared.scripts.Query.{Query}
+use Rattle.hib_base.specs.declared.scripts.Statement.{Statement}
+use Rattle.hib_lex.specs.Words.{begins, is_the_word}
+use Rattle.hib_lex.specs.declared.lexer.Token.{Token}
+use Rattle.hib_mapping.specs.Parts.{is_a_word, word_of, entity_at, small}
+use Rattle.hib_criteria.specs.Columns.{columns_of}
+use Rattle.hib_statements.specs.Parts.{is_key, key_of, cells_of, are_typed, pairs_of}
+use Rattle.hib_statements.specs.declared.errors.StatementError.{StatementError}
+use Rattle.hib_statements.specs.declared.parts.Pairs.{Pairs}
+
+-- ---- find ENTITY ID, remove ENTITY ID
+abbrev pub found : Result Key Kind → Result Statement Kind
+found (Ok key) = Ok (Statement.Find key)
+found (Err k) = Err k
+
+abbrev pub find_of : List EntityDef → List Token → Result Statement Kind
+find_of m (first ∷ name ∷ id ∷ []) = cond (is_key name id) (found (key_of m name id)) (Err Kind.Words)
+find_of m _ = Err Kind.Words
+
+abbrev pub removed : Result Key Kind → Result Statement Kind
+removed (Ok key) = Ok (Statement.Remove key)
+removed (Err k) = Err k
+
+abbrev pub remove_of : List EntityDef → List Token → Result Statement Kind
+remove_of m (first ∷ name ∷ id ∷ []) = cond (is_key name id) (removed (key_of m name id)) (Err Kind.Words)
+remove_of m _ = Err Kind.Words
+
+-- ---- persist ENTITY ID CELL ..
+abbrev pub fitted : List ColumnDef → Key → List Cell → Result Statement Kind
+fitted ds key cs =
+    cond (length ds == length cs) (cond (are_typed ds cs) (Ok (Statement.Persist key cs)) (Err Kind.CellType)) (Err Kind.Cells)
+
+abbrev pub persisted : List ColumnDef → Result Key Kind → Option (List Cell) → Result Statement Kind
+persisted ds key None = Err Kind.Words
+persisted ds (Err k) (Some cs) = Err k
+persisted ds (Ok key) (Some cs) = fitted ds key cs
+
+abbrev pub named_columns : List EntityDef → Token → List ColumnDef
+named_columns m name = columns_of m (entity_at m (word_of name))
+
+abbrev pub persist_parts : List EntityDef → Token → Token → List Token → Result Statement Kind
+persist_parts m name id cells =
+    cond (is_key name id) (persisted (named_columns m name) (key_of m name id) (cells_of cells)) (Err Kind.Words)
+
+abbrev pub persist_of : List EntityDef → List Token → Result Statement Kind
+persist_of m (first ∷ name ∷ id ∷ cells) = persist_parts m name id cells
+persist_of m _ = Err Kind.Words
+
+-- ---- set ENTITY ID COL CELL ..
+abbrev pub set_at : Result Key Kind → Pairs → Result Statement Kind
+set_at (Err k) p = Err k
+set_at (Ok key) p = cond p.mistyped (Err Kind.CellType) (Ok (Statement.Set key p.sets))
+
+abbrev pub set_from : Result Key Kind → Option Pairs → Result Statement Kind
+set_from key None = Err Kind.Words
+set_from key (Some p) = cond p.taken (Err Kind.Taken) (cond p.unknown (Err Kind.Unknown) (set_at key p))
+
+-- of an unknown entity no column is known
+abbrev pub set_parts : List EntityDef → Token → Token → List Token → Result Statement Kind
+set_parts m name id pairs =
+    cond (is_key name id) (set_from (key_of m name id) (pairs_of (named_columns m name) pairs)) (Err Kind.Words)
+
+abbrev pub set_of : List EntityDef → List Token → Result Statement Kind
+set_of m (first ∷ name ∷ id ∷ pairs) = set_parts m name id pairs
+set_of m _ = Err Kind.Words
+
+-- ---- list QUERY
+abbrev pub query_at : List Query → List ℕ → Option ℕ
+query_at qs w = option_and_then small (position (λ q. bytes_eq q.name w) qs)
+
+abbrev pub listed : Option ℕ → Result Statement Kind
+listed None = Err Kind.Unknown
+listed (Some n) = Ok (Statement.List n)
+
+abbrev pub list_of : List Query → List Token → Result Statement Kind
+list_of qs (first ∷ name ∷ []) = cond (is_a_word name) (listed (query_at qs (word_of name))) (Err Kind.Words)
+list_of qs _ = Err Kind.Words
+
+-- ---- mode M
+abbrev pub mode_named : Token → Result Statement Kind
+mode_named t =
+    cond (is_the_word (codes "normal") t) (Ok (Statement.Mode Mode.Normal))
+    (cond (is_the_word (codes "ignore") t) (Ok (Statement.Mode Mode.Ignore))
+    (cond (is_the_word (codes "get") t) (Ok (Statement.Mode Mode.Get))
+    (cond (is_the_word (codes "put") t) (Ok (Statement.Mode Mode.Put)) (Err Kind.Unknown))))
+
+abbrev pub mode_of : List Token → Result Statement Kind
+mode_of (first ∷ mode ∷ []) = cond (is_a_word mode) (mode_named mode) (Err Kind.Words)
+mode_of _ = Err Kind.Words
+
+-- ---- flush, clear, commit, rollback
+abbrev pub alone : Statement → List Token → Result Statement Kind
+alone s (first ∷ []) = Ok s
+alone s _ = Err Kind.Words
+
+-- the statements that list no cells
+abbrev pub plain_of : List EntityDef → List Query → List Token → Result Statement Kind
+plain_of m qs ts =
+    cond (begins (codes "find") ts) (find_of m ts)
+    (cond (begins (codes "remove") ts) (remove_of m ts)
+    (cond (begins (codes "list") ts) (list_of qs ts)
+    (cond (begins (codes "mode") ts) (mode_of ts)
+    (cond (begins (codes "flush") ts) (alone Statement.Flush ts)
+    (cond (begins (codes "clear") ts) (alone Statement.Clear ts)
+    (cond (begins (codes "commit") ts) (alone Statement.Commit ts)
+    (cond (begins (codes "rollback") ts) (alone Statement.Rollback ts) (Err Kind.Line))))))))
+
+-- the statement that a line is, by its first word
+abbrev pub statement_of : List EntityDef → List Query → List Token → Result Statement Kind
+statement_of m qs ts =
+    cond (begins (codes "persist") ts) (persist_of m ts)
+    (cond (begins (codes "set") ts) (set_of m ts) (plain_of m qs ts))
+
+-- what an error says; want of memory says nothing
+abbrev pub IsWhy : Result Statement Kind → StatementError → Type 0
+IsWhy r StatementError.NoMemory = Unit {0}
+IsWhy r (StatementError.Fault k) = r ≡ Err k
