@@ -1,5 +1,5 @@
 -- What a factory keeps: its journal is legal, and its parts and sessions stand for it.
-use Rattle.std.specs.Prelude.{◌≡◌, ℕ, ◌<◌, ◌^◌, Bool, false, List, ◌∷◌, length, slice_get, Some, None, Option}
+use Rattle.std.specs.Prelude.{◌≡◌, ◌⊎◌, ℕ, ◌<◌, ◌^◌, Bool, false, List, ◌∷◌, length, slice_get, Some, None, Option}
 use Rattle.hib_journal.specs.Types.{Script, Act, Reply, Entry}
 use Rattle.hib_journal.specs.Kept.{Kept, past}
 use Rattle.hib_journal.specs.Sessions.{Journal, own, was_killed}
@@ -80,12 +80,22 @@ left_or script (Some y) = left_in script y
 abbrev pub left_at : Script → ℕ → List Session → ℕ
 left_at script s xs = left_or script (slice_get xs s)
 
+-- one entry of session s was added
+pub record AddsEntry (s : ℕ) (old new : Journal) : Type 0 where
+  pub entry : Entry
+  pub by : entry.session ≡ Some s
+  pub grown : new ≡ entry ∷ old
+
 -- one entry of session s was added, and less is left of it
 pub record Does (script : Script) (s : ℕ) (old new : Journal) (xs ys : List Session) : Type 0 where
   pub entry : Entry
   pub by : entry.session ≡ Some s
   pub grown : new ≡ entry ∷ old
   pub less : left_at script s ys < left_at script s xs
+
+-- one entry of session s was added at most
+abbrev pub AddsAtMost : ℕ → Journal → Journal → Type 0
+AddsAtMost s old new = (new ≡ old) ⊎ AddsEntry s old new
 
 -- session s has no act left, and no entry was added
 pub record IsOver (script : Script) (s : ℕ) (old new : Journal) : Type 0 where

@@ -6,7 +6,7 @@ ghost use Rattle.hib_journal.specs.Next.{next};
 ghost use Rattle.hib_journal.specs.Legal.{IsLegal};
 ghost use Rattle.hib_journal.specs.Runs.{IsNumbered, told_committed, fault_count, ask_count};
 ghost use Rattle.hib_core.specs.Standing.{RoseBy, RoseWithin};
-ghost use Rattle.hib_core.specs.Factory.{Does, IsOver, AreOver, IsBuilt};
+ghost use Rattle.hib_core.specs.Factory.{Does, IsOver, AddsAtMost, AreOver, IsBuilt};
 
 use crate::laws::laws;
 use crate::names::Name;
@@ -29,7 +29,7 @@ pub struct Factory<K: Keeper, N: Name> {
     parts: Parts<K>,
     sessions: Vec<Session>,
     journal: Journal,
-    /// Whether memory ran out behind an entry: then no session goes on.
+    /// Whether memory ran out in a step: then no session goes on.
     refused: bool,
     of: PhantomData<N>,
 }
@@ -88,6 +88,8 @@ impl<K: Keeper, N: Name> Factory<K, N> {
         ensures did { result ≡ Ok Stepped.Did → Does N.script number (past self.old.journal) (past self.new.journal) self.old.sessions self.new.sessions }
         ensures done { result ≡ Ok Stepped.Done → IsOver N.script number (past self.old.journal) (past self.new.journal) }
         ensures going { OnOk result (self.new.refused ≡ false) }
+        ensures stops { OnErr result (AddsAtMost number (past self.old.journal) (past self.new.journal)) }
+        ensures refused { OnErr result (self.new.refused ≡ true) }
     {
         if self.refused {
             return Err(AllocError);
@@ -116,12 +118,13 @@ impl<K: Keeper, N: Name> Factory<K, N> {
         self.script.sessions.len()
     }
 
-    /// Runs a session to its end.
+    /// Runs a session to its end. Where memory runs out no session goes on, and the journal so far stands.
     pub fn run_session(&mut self, alloc: Global, number: SessionNo) -> Result<(), AllocError>
         requires known { number < length N.script.sessions }
         ensures over { OnOk result (next N.script number (own number (past self.new.journal)) ≡ None) }
         ensures others { OnOk result ((s : ℕ) → (number == s) ≡ false → own s (past self.new.journal) ≡ own s (past self.old.journal)) }
         ensures going { OnOk result (self.new.refused ≡ false) }
+        ensures refused { OnErr result (self.new.refused ≡ true) }
     {
         'steps: loop {
             match self.step(alloc, number)? {
@@ -131,9 +134,12 @@ impl<K: Keeper, N: Name> Factory<K, N> {
         }
     }
 
-    /// Runs each session to its end, the first one first.
+    /// Runs each session to its end, the first one first. Where memory runs out no session goes on, and the journal so far
+    /// stands.
     pub fn finish(&mut self, alloc: Global) -> Result<(), AllocError>
         ensures over { OnOk result (AreOver N.script (past self.new.journal)) }
+        ensures going { OnOk result (self.old.refused ≡ false → self.new.refused ≡ false) }
+        ensures refused { OnErr result (self.new.refused ≡ true) }
     {
         for number in 0..self.sessions() {
             self.run_session(alloc, SessionNo(number as u32))?;

@@ -10,7 +10,7 @@ ghost use Rattle.hib_journal.specs.Legal;
 ghost use Rattle.hib_session.specs.Session.{Follows, IsTaken, number_of, left_in};
 ghost use Rattle.hib_core.specs.Region.{HasRoomFor, acts_on};
 ghost use Rattle.hib_core.specs.Standing.{Origin, region_of, AreParts, AreWithin, IsDue, IsReady, entry_of};
-ghost use Rattle.hib_core.specs.Factory.{IsTold, IsRun, IsGoing, IsTurn, Serves, Does, IsOver, AsksNoQuery};
+ghost use Rattle.hib_core.specs.Factory.{IsTold, IsRun, IsGoing, IsTurn, Serves, Does, IsOver, AddsAtMost, AsksNoQuery};
 
 use crate::laws::laws;
 use crate::names::Name;
@@ -126,6 +126,7 @@ fn serve<K: Keeper, N: Name>(
     requires turn { IsTurn N.script (past journal.old) session.now act }
     ensures ok { OnOk result (Serves N.script N.from (number_of session.now) act (past journal.old) (past journal.new) parts.old parts.new) }
     ensures err { OnErr result (IsRun N.script N.from (past journal.new) parts.new) }
+    ensures same { OnErr result (past journal.new ≡ past journal.old) }
 {
     laws();
     journal.reserve()?;
@@ -174,6 +175,7 @@ pub fn turn<K: Keeper, N: Name>(
     ensures going { OnOk result (IsGoing N.script N.from (past journal.new) parts.new sessions.new.items) }
     ensures did { result ≡ Ok Stepped.Did → Does N.script number (past journal.old) (past journal.new) sessions.old.items sessions.new.items }
     ensures done { result ≡ Ok Stepped.Done → IsOver N.script number (past journal.old) (past journal.new) }
+    ensures stops { OnErr result (AddsAtMost number (past journal.old) (past journal.new)) }
 {
     let session = &mut sessions[number.0 as usize];
     let Some(act) = due_act(alloc, script, session)? else {
