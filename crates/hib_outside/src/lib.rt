@@ -18,4 +18,5 @@ pub use keeper::{Applied, KeepFault, Keeper};
 pub use listener::{Heard, Listener};
 pub use mem_keeper::MemKeeper;
 pub use mem_streams::{MemSink, MemSource};
+pub use shelf::laid_over;
 pub use streams::{Failed, Sink, Source};

@@ -1,5 +1,5 @@
 // Rows in order of keys, and what is done to them in place.
-ghost use Rattle.std.specs.Prelude.{◌≡◌, ◌+◌, ◌≤◌, ◌<◌, ℕ, true, length, List, cond, Some, None, MatchResult, IfOk, IfSome, vec_len, vec_capacity, option_copied};
+ghost use Rattle.std.specs.Prelude.{◌≡◌, ◌+◌, ◌≤◌, ◌<◌, ℕ, true, length, List, [], cond, Some, None, MatchResult, IfOk, IfSome, vec_len, vec_capacity, option_copied};
 ghost use Rattle.hib_base.specs.Keys.{same_key, is_before};
 ghost use Rattle.hib_base.specs.Tables.{in_order, row_at, with_row, without_row, row_left, same_version, after_change, after_changes, unless_there, start};
 ghost use Rattle.hib_outside.specs.Places.{place_in};
@@ -7,7 +7,7 @@ ghost use Rattle.hib_outside.specs.Keeps.{rows_of, is_listed};
 ghost use Rattle.hib_outside.specs.Verdicts.{refused_at, verdict, IsPlace};
 
 use crate::Applied;
-use hib_base::{Change, EntityNo, Key, Row};
+use hib_base::{Change, EntityNo, Key, Row, Rows, Seq};
 use std::alloc::{AllocError, Global};
 
 fn is_same(a: &Key, b: &Key) -> bool
@@ -269,4 +269,21 @@ pub fn add_all(rows: &mut Vec<(Key, Row)>, more: Vec<(Key, Row)>)
     for (key, row) in more {
         add_one(rows, key, row);
     }
+}
+
+/// Rows with changes done to them one after another, in order of keys. The rows may come in any order; of those of one
+/// key the first counts. At an error the rows are dropped.
+#[tactic(auto, using(crate::proofs::Orders::in_order_start, crate::proofs::Orders::in_order_changes))]
+pub fn laid_over(alloc: Global, rows: Rows, changes: &[Change]) -> Result<Rows, AllocError>
+    ensures rows { IfOk result (λ r. r ≡ after_changes changes.now (start [] rows)) }
+    ensures ordered { IfOk result (λ r. in_order r ≡ true) }
+{
+    let rows = rows.into_vec();
+    let changes = copy_changes(alloc, changes)?;
+    let mut view = Vec::new(alloc);
+    view.reserve(rows.len())?;
+    add_all(&mut view, rows);
+    view.reserve(changes.len())?;
+    change_all(&mut view, changes);
+    Ok(Seq::from_vec(view))
 }

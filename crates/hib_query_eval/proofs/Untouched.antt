@@ -14,7 +14,7 @@ abbrev pub touches : ℕ → List Change → Bool
 touches n cs = list_any (λ c. (key_of c).entity == n) cs
 
 -- the rows of one table
-abbrev rows_in : ℕ → Tables → Tables
+abbrev pub rows_in : ℕ → Tables → Tables
 rows_in n t = filter (λ a. a.0.entity == n) t
 
 with_other : (n : ℕ) (t : Tables) (k : Key) (r : Row) → (k.entity == n) ≡ false → rows_in n (with_row t k r) ≡ rows_in n t
@@ -104,30 +104,32 @@ filter_both p q (a ∷ t) = by_test (tested (p a)) (filter_both p q t)
     by_test (inl x) i = rw x (ap (λ z. cond (q a) (a ∷ z) z) i)
     by_test (inr x) i = rw x i
 
+-- a query gives the same over tables in which its entity has the same rows, and in which each row to which it steps is the same
+pub gives_alike : (d : Query) (t u : Tables) → rows_in d.entity t ≡ rows_in d.entity u
+    → ((n i : ℕ) → told.mentions_in n d.condition ≡ true → row_at t (key n i) ≡ row_at u (key n i)) → told.gives d t ≡ told.gives d u
+unfolding told.gives
+gives_alike d t u ours agree = ap (λ rows. told.selected d rows d.select) listed_same
+  where
+    meets : (a : Key × Row) → told.meets t a.1 d.condition ≡ told.meets u a.1 d.condition
+    meets a = meets_same t u a.1 d.condition agree
+
+    swap : ◌≡◌ {A = Key × Row → Bool} (λ a. told.meets t a.1 d.condition) (λ a. told.meets u a.1 d.condition)
+    swap = λ i a. meets a i
+
+    listed_same : told.listed d t ≡ told.listed d u
+    listed_same =
+        filter_both (λ a. a.0.entity == d.entity) (λ a. told.meets t a.1 d.condition) t
+        ∙ (ap (λ p. filter p (rows_in d.entity t)) swap
+        ∙ (ap (λ rows. filter (λ a. told.meets u a.1 d.condition) rows) ours
+        ∙ sym (filter_both (λ a. a.0.entity == d.entity) (λ a. told.meets u a.1 d.condition) u)))
+
 -- a query gives the same over tables that changes of none of its tables lead to
 pub gives_same : (d : Query) (cs : List Change) (t : Tables) → ((n : ℕ) → told.reads d n ≡ true → touches n cs ≡ false) →
     told.gives d (after_changes cs t) ≡ told.gives d t
-unfolding told.gives
-gives_same d cs t f = ap (λ rows. told.selected d rows d.select) listed_same
-  where
-    agree : Agree (after_changes cs t) t (λ n. told.mentions_in n d.condition)
-    agree n i e = row_same (key n i) cs t (f n (or_right (d.entity == n) (told.mentions_in n d.condition) e))
-
-    meets : (a : Key × Row) → told.meets (after_changes cs t) a.1 d.condition ≡ told.meets t a.1 d.condition
-    meets a = meets_same (after_changes cs t) t a.1 d.condition agree
-
-    swap : ◌≡◌ {A = Key × Row → Bool} (λ a. told.meets (after_changes cs t) a.1 d.condition) (λ a. told.meets t a.1 d.condition)
-    swap = λ i a. meets a i
-
-    ours : rows_in d.entity (after_changes cs t) ≡ rows_in d.entity t
-    ours = rows_same d.entity cs t (f d.entity (or_left (d.entity == d.entity) (told.mentions_in d.entity d.condition) (eq-eqb d.entity d.entity refl)))
-
-    listed_same : told.listed d (after_changes cs t) ≡ told.listed d t
-    listed_same =
-        filter_both (λ a. a.0.entity == d.entity) (λ a. told.meets (after_changes cs t) a.1 d.condition) (after_changes cs t)
-        ∙ (ap (λ p. filter p (rows_in d.entity (after_changes cs t))) swap
-        ∙ (ap (λ rows. filter (λ a. told.meets t a.1 d.condition) rows) ours
-        ∙ sym (filter_both (λ a. a.0.entity == d.entity) (λ a. told.meets t a.1 d.condition) t)))
+gives_same d cs t f =
+    gives_alike d (after_changes cs t) t
+    (rows_same d.entity cs t (f d.entity (or_left (d.entity == d.entity) (told.mentions_in d.entity d.condition) (eq-eqb d.entity d.entity refl))))
+    (λ n i e. row_same (key n i) cs t (f n (or_right (d.entity == n) (told.mentions_in n d.condition) e)))
 
 -- a table that a query reads is none that changes outside of its tables touch
 untouched : (d : Query) (cs : List Change) → list_any (λ c. told.reads d (key_of c).entity) cs ≡ false → (n : ℕ) → told.reads d n ≡ true → touches n cs ≡ false

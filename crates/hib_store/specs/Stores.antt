@@ -1,12 +1,16 @@
 -- The store: what its keeper tells, and each session's written changes.
-use Rattle.std.specs.Prelude.{◌≡◌, ℕ, Bool, true, cond, ◌==◌, List, [], ◌∷◌, ◌++◌, Some, None, Option, Result, Ok, Err}
-use Rattle.std.specs.List.{list_any}
+use Rattle.std.specs.Prelude.{◌≡◌, ℕ, Bool, true, false, cond, ◌==◌, List, [], ◌∷◌, ◌++◌, Some, None, Option, Result, Ok, Err}
+use Rattle.std.specs.List.{filter, list_any}
 use Rattle.std.specs.Option.{option_map}
 use Rattle.std.specs.declared.alloc.AllocError.{AllocError}
 use Rattle.hib_base.specs.Keys.{same_key}
 use Rattle.hib_base.specs.Tables.{Tables, row_at, after_changes, key_of}
-use Rattle.hib_store.specs.Types.{Key, Change, Commit}
+use Rattle.hib_journal.specs.Query.{gives, reads}
+use Rattle.hib_query_eval.specs.Fits.{fit_cells}
+use Rattle.hib_store.specs.Types.{Key, Change, Commit, Query}
 use Rattle.hib_store.specs.declared.asking.Loaded.{Loaded}
+use Rattle.hib_store.specs.declared.store.Listed.{Listed}
+use Rattle.hib_store.specs.declared.store.OpenFault.{OpenFault}
 
 -- the changes that sessions have written, by session
 abbrev pub Written : Type 0
@@ -49,6 +53,27 @@ abbrev pub IsView : Option Tables → List Change → Key → Loaded → Type 0
 IsView None cs k loaded = Unit {0}
 IsView (Some m) cs k (Loaded.Row row) = row ≡ row_at (after_changes cs m) k
 IsView (Some m) cs k Loaded.Fault = Unit {0}
+
+-- the rows of the tables that a query reads
+abbrev pub read_by : Query → Tables → Tables
+read_by q m = filter (λ e. reads q e.0.entity) m
+
+-- what is listed is what the query gives over what the changes leave of the committed rows, where these are told and the
+-- identifiers fit in cells
+abbrev pub IsListed : Option Tables → List Change → Query → Listed → Type 0
+IsListed None cs q listed = Unit {0}
+IsListed (Some m) cs q (Listed.List cells) = fit_cells q.entity (after_changes cs m) ≡ true → cells ≡ gives q (after_changes cs m)
+IsListed (Some m) cs q Listed.Fault = Unit {0}
+
+-- the keeper that is handed back where a store is not opened
+abbrev pub handed_back : {K : Type 0} → OpenFault K → K
+handed_back (OpenFault.NoMemory k) = k
+handed_back (OpenFault.StoreFault k) = k
+
+-- the keeper failed, and not memory
+abbrev pub is_store_fault : {K : Type 0} → OpenFault K → Bool
+is_store_fault (OpenFault.NoMemory k) = false
+is_store_fault (OpenFault.StoreFault k) = true
 
 -- the key that an answer to a commit names is that of a change
 abbrev pub names_change : List Change → Commit → Bool

@@ -1,13 +1,14 @@
 // What the store asks its keeper.
-ghost use Rattle.std.specs.Prelude.{◌≡◌, ◌≢◌, ◌+◌, ◌≤◌, ℕ, length, true, [], Ok, IfOk, IfSome};
+ghost use Rattle.std.specs.Prelude.{◌≡◌, ◌≢◌, ◌+◌, ◌≤◌, ℕ, length, true, [], Ok, None, IfOk, IfSome};
 ghost use Rattle.hib_base.specs.Tables.{row_at, commit_answer};
 ghost use Rattle.hib_outside.specs.Causes.{Rose};
 ghost use Rattle.hib_outside.specs.Verdicts.{commit_of, IsPlace};
-ghost use Rattle.hib_store.specs.Stores.{IsView, names_change, tables_committed};
+ghost use Rattle.hib_store.specs.Stores.{IsView, read_by, names_change, tables_committed};
 ghost use Rattle.hib_store.specs.declared.asking.Loaded.{Loaded};
 ghost use Rattle.hib_store.specs.Types.{Commit};
 
-use hib_base::{Change, Commit, Key, Row};
+use crate::queries;
+use hib_base::{Change, Commit, Key, Query, Row, Rows};
 use hib_outside::{Applied, KeepFault, Keeper};
 use std::alloc::{AllocError, Global};
 
@@ -32,6 +33,26 @@ pub fn read<K: Keeper>(alloc: Global, keeper: &mut K, key: Key) -> Result<Loaded
         Ok(row) => Ok(Loaded::Row(row)),
         Err(KeepFault::NoMemory) => Err(AllocError),
         Err(KeepFault::Failed) => Ok(Loaded::Fault),
+    }
+}
+
+/// Asks a keeper for the rows of the tables that a query reads; none where it failed.
+pub fn list<K: Keeper>(
+    alloc: Global,
+    keeper: &mut K,
+    query: &Query,
+) -> Result<Option<Rows>, AllocError>
+    ensures rows { IfOk result (λ found. IfSome found (λ rows. IfSome (K.tables keeper.old) (λ m. rows ≡ read_by query.now m))) }
+    ensures fault { result ≡ Ok None → Rose (K.faults keeper.old) (K.faults keeper.new) }
+    ensures faults { K.faults keeper.old ≤ K.faults keeper.new }
+    ensures asked { (K.asked keeper.old ≤ K.asked keeper.new) × (K.asked keeper.new ≤ K.asked keeper.old + 1) }
+    ensures tables { K.tables keeper.new ≡ K.tables keeper.old }
+{
+    let tables = queries::tables_of(alloc, query)?;
+    match keeper.list(alloc, tables.as_slice()) {
+        Ok(rows) => Ok(Some(rows)),
+        Err(KeepFault::NoMemory) => Err(AllocError),
+        Err(KeepFault::Failed) => Ok(None),
     }
 }
 

@@ -2,8 +2,10 @@
 #![tactic(auto)]
 
 mod asking;
+mod queries;
 mod store;
+mod views;
 mod written;
 
 pub use asking::Loaded;
-pub use store::Store;
+pub use store::{Listed, OpenFault, Store};

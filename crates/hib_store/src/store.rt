@@ -1,14 +1,33 @@
 // The store over a keeper.
-ghost use Rattle.std.specs.Prelude.{◌≡◌, ◌≢◌, ◌+◌, ◌≤◌, ℕ, [], ◌∷◌, ◌++◌, true, false, Ok, IfOk, IfSome, OnOk, OnErr};
-ghost use Rattle.hib_base.specs.Tables.{Tables, row_at, row_left, last_on, after_changes, commit_answer, in_order};
+ghost use Rattle.std.specs.Prelude.{◌≡◌, ◌≢◌, ◌+◌, ◌≤◌, ℕ, [], ◌∷◌, ◌++◌, true, false, Ok, IfOk, IfErr, IfSome, OnOk, OnErr};
+ghost use Rattle.std.specs.Option.{option_map};
+ghost use Rattle.hib_base.specs.Tables.{Tables, start, row_at, row_left, last_on, after_changes, commit_answer, in_order};
 ghost use Rattle.hib_outside.specs.Causes.{Rose};
 
 use crate::asking::{self, Loaded};
-use crate::written;
-use hib_base::{Change, Changes, Commit, Key, SessionNo};
-use hib_outside::Keeper;
+use crate::{views, written};
+use hib_base::{Change, Changes, Commit, Key, Listing, Query, Row, SessionNo};
+use hib_outside::{KeepFault, Keeper};
 use std::alloc::{AllocError, Global};
 use std::marker::Model;
+
+/// The store's answer to a query.
+#[derive(Drop)]
+pub enum Listed {
+    /// What the query gives over the session's view of all keys.
+    List(Listing),
+    /// The keeper failed.
+    Fault,
+}
+
+/// Why a store wasn't opened. It hands the keeper back.
+#[derive(Drop)]
+pub enum OpenFault<K> {
+    /// Memory ran out.
+    NoMemory(K),
+    /// The keeper failed; its count of faults rose.
+    StoreFault(K),
+}
 
 /// A keeper's rows, and the changes that each session has written and not yet committed. Contracts see what the
 /// keeper tells, its counts and the changes.
@@ -31,8 +50,9 @@ impl<K: Keeper> Model for Store<K> {
 }
 
 impl<K: Keeper> Store<K> {
-    ghost use Rattle.hib_store.specs.Stores.{changes_of, is_in, IsView, names_change, tables_committed};
+    ghost use Rattle.hib_store.specs.Stores.{changes_of, is_in, IsView, IsListed, names_change, tables_committed, handed_back, is_store_fault};
     ghost use Rattle.hib_store.specs.declared.asking.Loaded.{Loaded};
+    ghost use Rattle.hib_store.specs.declared.store.Listed.{Listed};
     ghost use Rattle.hib_store.specs.Types.{Commit};
 
     /// The store over a keeper, in which no session has written. It asks the keeper for nothing.
@@ -46,6 +66,30 @@ impl<K: Keeper> Store<K> {
         Store {
             keeper,
             written: Vec::new(alloc),
+        }
+    }
+
+    /// The store over a keeper that is seeded by one call: each of these rows whose key has none is added. No session has
+    /// written. At an error the keeper is handed back, with the rows that it had.
+    pub fn seeded(
+        alloc: Global,
+        mut keeper: K,
+        rows: &[(Key, Row)],
+    ) -> Result<Store<K>, OpenFault<K>>
+        ensures tables { IfOk result (λ s. s.tables ≡ option_map (λ m. start m rows.now) (K.tables keeper)) }
+        ensures faults { IfOk result (λ s. K.faults keeper ≤ s.faults) }
+        ensures asked { IfOk result (λ s. s.asked ≡ K.asked keeper) }
+        ensures written { IfOk result (λ s. s.written ≡ []) }
+        ensures ordered { IfOk result (λ s. IfSome s.tables (λ m. in_order m ≡ true)) }
+        ensures back { IfErr result (λ e. K.tables (handed_back e) ≡ K.tables keeper) }
+        ensures back_faults { IfErr result (λ e. K.faults keeper ≤ K.faults (handed_back e)) }
+        ensures back_asked { IfErr result (λ e. K.asked (handed_back e) ≡ K.asked keeper) }
+        ensures fault { IfErr result (λ e. is_store_fault e ≡ true → Rose (K.faults keeper) (K.faults (handed_back e))) }
+    {
+        match keeper.seed(alloc, rows) {
+            Ok(()) => Ok(Store::open(alloc, keeper)),
+            Err(KeepFault::NoMemory) => Err(OpenFault::NoMemory(keeper)),
+            Err(KeepFault::Failed) => Err(OpenFault::StoreFault(keeper)),
         }
     }
 
@@ -94,6 +138,29 @@ impl<K: Keeper> Store<K> {
             return Ok(Loaded::Row(written::copy_left(alloc, change)?));
         }
         asking::read(alloc, &mut self.keeper, key)
+    }
+
+    /// What a query gives over a session's view of all keys: the committed rows with the session's changes done to them. The
+    /// keeper is asked for the tables that the query reads. At every answer and error the rows and the changes stay; the
+    /// keeper's counts may have risen.
+    pub fn list(
+        &mut self,
+        alloc: Global,
+        session: SessionNo,
+        query: &Query,
+    ) -> Result<Listed, AllocError>
+        ensures listed { IfOk result (IsListed self.old.tables (changes_of self.old session) query.now) }
+        ensures fault { result ≡ Ok Listed.Fault → Rose self.old.faults self.new.faults }
+        ensures faults { self.old.faults ≤ self.new.faults }
+        ensures asked { (self.old.asked ≤ self.new.asked) × (self.new.asked ≤ self.old.asked + 1) }
+        ensures tables { self.new.tables ≡ self.old.tables }
+        ensures written { self.new.written ≡ self.old.written }
+    {
+        let changes = written::changes_of(self.written.as_slice(), session);
+        let Some(rows) = asking::list(alloc, &mut self.keeper, query)? else {
+            return Ok(Listed::Fault);
+        };
+        Ok(Listed::List(views::listed(alloc, query, rows, changes)?))
     }
 
     /// Adds a change to a session's, which no other session sees. At an error nothing has changed.
