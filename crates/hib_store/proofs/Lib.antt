@@ -1,3 +1,4 @@
 pub mod Answers
+pub mod Fitting
 pub mod Laid
 pub mod Sessions
