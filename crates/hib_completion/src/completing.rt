@@ -4,7 +4,7 @@ ghost use Rattle.hib_journal.specs.Next.{mode_puts, puts_back, complete_by, comp
 ghost use Rattle.hib_completion.specs.Completed.{acts_of, key_acts, keys_acts, completes};
 
 use crate::lists::{first_of, keys, last_of, lock_of, strategy_of, tables};
-use hib_base::{Act, Acts, Change, Changes, Key, Locks, Mapping, Mode, Row, Seq, Strategy, Tick};
+use hib_base::{Act, Acts, Change, Key, Mapping, Mode, Row, Seq, Strategy, Tick};
 use std::alloc::{AllocError, Global};
 
 /// Whether a session in this mode puts into the cache.
@@ -148,22 +148,21 @@ fn all_completed(
 pub fn acts(
     alloc: Global,
     mapping: &Mapping,
-    changes: &Changes,
-    locks: &Locks,
+    changes: &[Change],
+    locks: &[(Key, Tick)],
     committed: bool,
     mode: Mode,
     floor: Tick,
 ) -> Result<Acts, AllocError>
     ensures { IfOk result (λ q. q ≡ completes mapping.now changes.now locks.now committed mode floor) }
 {
-    let changes = changes.as_slice();
     let keys = keys(alloc, changes)?;
     let done = committed && does_put(mode);
     let mut acts = all_completed(
         alloc,
         mapping,
         changes,
-        locks.as_slice(),
+        locks,
         done,
         floor,
         keys.as_slice(),

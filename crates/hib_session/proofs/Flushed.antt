@@ -7,15 +7,14 @@ use Rattle.hib_journal.specs.Held.{pending}
 use Rattle.hib_journal.specs.Next.{tables_in, before_key, before_write, writes, flush_of, complete, keys_of, completion, mode_puts}
 use Rattle.hib_completion.specs.Completed.{key_acts, keys_acts, completes}
 use Rattle.hib_flush.specs.Planned.{planned}
-use Rattle.hib_session.specs.declared.memory.Memory.{Memory}
-use Rattle.hib_session.specs.Memory.{Knows, Recalls, before_key_in, before_in, writes_in, flush_in}
+use Rattle.hib_session.specs.Memory.{Remembered, Knows, Recalls, before_key_in, before_in, writes_in, flush_in}
 use Rattle.hib_session.proofs.Orders.{pending_kept}
 
 -- what is asked for the acts that follow is known of all entries
-pub recalls : (x : Memory) (mine : Journal) → Knows x mine → Recalls x mine
+pub recalls : (x : Remembered) (mine : Journal) → Knows x mine → Recalls x mine
 recalls x mine k = record { time = k.time; floor = k.floor; changes = k.changes; locks = k.locks }
 
-module _ (script : Script) (x : Memory) (mine : Journal) (r : Knows x mine) where
+module _ (script : Script) (x : Remembered) (mine : Journal) (r : Knows x mine) where
   same_before_key : (k : Key) (v : Option ℕ) → before_key_in script x k v ≡ before_key script mine k v
   same_before_key k v = rw (r.changes, r.fresh k, r.floor) refl
 
@@ -35,7 +34,7 @@ module _ (script : Script) (x : Memory) (mine : Journal) (r : Knows x mine) wher
   pub flush_kept : flush_in script x (planned x.instances) ≡ flush_of script mine (pending mine)
   flush_kept = same_flush (planned x.instances) ∙ ap (flush_of script mine) (pending_kept x.instances mine r.holds r.removals)
 
-module _ (script : Script) (x : Memory) (mine : Journal) (r : Recalls x mine) (m : Mode) (done : Bool) where
+module _ (script : Script) (x : Remembered) (mine : Journal) (r : Recalls x mine) (m : Mode) (done : Bool) where
   same_key_acts : (k : Key) → key_acts script.mapping x.changes x.locks (done && mode_puts m) x.floor k ≡ complete script m mine done (changes_in mine) k
   same_key_acts k = rw (r.changes, r.locks k, r.floor) refl
 
@@ -47,7 +46,7 @@ module _ (script : Script) (x : Memory) (mine : Journal) (r : Recalls x mine) (m
   completion_kept = rw (same_keys_acts (keys_of x.changes), r.changes) refl
 
 -- one more write of a flush
-pub write_more : (script : Script) (x : Memory) (cs : List Change) (c : Change) → writes_in script x (cs ++ c ∷ []) ≡ writes_in script x cs ++ (before_in script x c ++ Act.Write c ∷ [])
+pub write_more : (script : Script) (x : Remembered) (cs : List Change) (c : Change) → writes_in script x (cs ++ c ∷ []) ≡ writes_in script x cs ++ (before_in script x c ++ Act.Write c ∷ [])
 write_more script x [] c = append-nil (before_in script x c ++ Act.Write c ∷ [])
 write_more script x (d ∷ cs) c =
     ap (λ acts. (before_in script x d ++ Act.Write d ∷ []) ++ acts) (write_more script x cs c)

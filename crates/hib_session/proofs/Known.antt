@@ -13,8 +13,7 @@ use Rattle.hib_journal.specs.Legal.{outcome_after}
 use Rattle.hib_completion.specs.Completed.{is_key_in, lock_from}
 use Rattle.hib_completion.proofs.Keys.{in_more}
 use Rattle.hib_identity_map.specs.Identity.{MapState, Pairs, look_in, drop_in, change_in, written, as_removed, with_sets}
-use Rattle.hib_session.specs.declared.memory.Memory.{Memory}
-use Rattle.hib_session.specs.Memory.{shown_of, shown_by, is_unwritten, marked_in, Holds, Knows, made, managed, arrive_in, remove_in, unless_broken, map_after, marks_after, fresh_after, locks_after, noted}
+use Rattle.hib_session.specs.Memory.{Remembered, with_room, shown_of, shown_by, is_unwritten, marked_in, Holds, Knows, made, managed, arrive_in, remove_in, unless_broken, map_after, marks_after, fresh_after, locks_after, noted}
 use Rattle.hib_session.proofs.Kept.{after_write, after_removal, after_sets, unless_unwritten, later, fresh, arrives_other, held_later, held_arrives, held_broken}
 use Rattle.hib_session.proofs.Orders.{held_key, none_map, later_map, same_map, without_none, without_same, others, dropped_map, join_map, look_changed, look_dropped, look_added, distinct_changed, distinct_dropped, distinct_added, change_at, shown_changed, shown_dropped, shown_added}
 
@@ -204,7 +203,7 @@ removals_after u (Act.Get j t) (Reply.Hit row) m = refl
 removals_after u (Act.Set j cells) Reply.Set m = refl
 removals_after u _ r m = refl
 
-module _ (x : Memory) (mine : Journal) (e : Entry) (k : Knows x mine) where
+module _ (x : Remembered) (mine : Journal) (e : Entry) (k : Knows x mine) where
   two : {T : Type 0} (f : Act → Reply → T) (a : Act) (r : Reply) → e.act ≡ a → e.reply ≡ r → f e.act e.reply ≡ f a r
   two f a r p q = ap (λ b. f b e.reply) p ∙ ap (f a) q
 
@@ -348,3 +347,17 @@ module _ (x : Memory) (mine : Journal) (e : Entry) (k : Knows x mine) where
     fresh = λ j. fresh_noted j e.act e.reply refl refl;
     locks = λ j. locks_noted j e.act e.reply refl refl;
   }
+
+-- whatever room it has
+pub knows_room : (b : Bool) (x : Remembered) (mine : Journal) → Knows x mine → Knows (with_room b x) mine
+knows_room b x mine k = record {
+  time = k.time;
+  floor = k.floor;
+  changes = k.changes;
+  outcome = k.outcome;
+  holds = k.holds;
+  removals = k.removals;
+  unwritten = k.unwritten;
+  fresh = k.fresh;
+  locks = k.locks;
+}

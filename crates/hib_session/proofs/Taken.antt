@@ -8,6 +8,9 @@ use Rattle.hib_journal.specs.Plan.{Plan, after, first_act}
 use Rattle.hib_journal.specs.Next.{block, blocks, list, is_in_tables, tables_of, flush_of, mode_after, ends, mode_reads, is_free, look, list_store, statements, next}
 use Rattle.hib_session.specs.declared.control.Stage.{Stage}
 use Rattle.hib_session.specs.declared.control.Control.{Control}
+use Rattle.hib_session.specs.declared.written.Written.{Written}
+use Rattle.hib_session.specs.Memory.{Fits}
+use Rattle.hib_session.specs.Ahead.{Copies}
 use Rattle.hib_session.specs.Control.{staged, queued, untaken, settles, is_settled, is_over_at, decided, is_answering, is_due, is_resting, act_at, act_staged, begin_at, plan_at, Stands}
 
 pub flush_taken : (script : Script) (st : Statement) (acts : List Act) (mode : Mode) (done : Journal) (go : Journal → Plan) →
@@ -142,3 +145,15 @@ pub begin_left : (due : Bool) (sts : List Statement) → is_over_at [] Stage.Idl
 begin_left true sts p = refl
 begin_left false [] p = absurd (true≢false p)
 begin_left false (st ∷ sts) p = absurd (true≢false p)
+
+-- copies that fit the first act that is queued
+pub copies_first : (acts : List Act) (a : Act) (w : Option Written) → slice_get acts 0 ≡ Some a → Fits w a → Copies acts w
+copies_first acts a None g f = tt
+copies_first [] a (Some w) g f = absurd (no g)
+  where
+    no : ◌≡◌ {A = Option Act} None (Some a) → ⊥
+    no x = cc
+copies_first (x ∷ acts) a (Some w) g f = ((acts, ap (λ z. z ∷ acts) (same g ∙ f.0)), f.1)
+  where
+    same : ◌≡◌ {A = Option Act} (Some x) (Some a) → x ≡ a
+    same e = cc

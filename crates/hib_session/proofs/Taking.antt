@@ -1,6 +1,6 @@
 -- A session that takes the entry of the act that was due.
-use Rattle.std.proofs.Common.{◌≡◌, ◌<◌, ℕ, Bool, true, false, List, [], ◌∷◌, IfSome, Some, None, Option, refl, sym, ap, ◌∙◌, subst}
-use Rattle.std.proofs.lemmas.Bool.{false≢true}
+use Rattle.std.proofs.Common.{◌≡◌, ◌<◌, ℕ, Bool, true, false, ◌&&◌, List, [], ◌∷◌, IfSome, Some, None, Option, refl, sym, ap, ◌∙◌, subst}
+use Rattle.std.proofs.lemmas.Bool.{false≢true, true≢false, and_parts}
 use Rattle.hib_journal.specs.Types.{Key, Change, Statement, Script, Act, Reply, Entry}
 use Rattle.hib_journal.specs.Sessions.{Journal, time_in, time_after, floor_in, floor_after, changes_in, changes_after, is_begun}
 use Rattle.hib_journal.specs.Plan.{InOrder}
@@ -8,12 +8,14 @@ use Rattle.hib_journal.specs.Next.{plan_of, next, lock_in, lock_id}
 use Rattle.hib_journal.proofs.Steps.{next_is}
 use Rattle.hib_session.specs.declared.control.Stage.{Stage}
 use Rattle.hib_session.specs.declared.control.Control.{Control}
-use Rattle.hib_session.specs.declared.memory.Memory.{Memory}
 use Rattle.hib_session.specs.declared.session.Session.{Session}
-use Rattle.hib_session.specs.Memory.{Knows, Recalls}
+use Rattle.hib_session.specs.declared.written.Written.{Written}
+use Rattle.hib_session.specs.declared.ahead.Ending.{Ending}
+use Rattle.hib_session.specs.Memory.{Remembered, Knows, Recalls, Fits, brings, has_copies}
 use Rattle.hib_session.specs.Due.{IsAllowed, is_closed}
 use Rattle.hib_session.specs.Control.{Stands, untaken, is_due, is_over_at, is_over, is_settled, act_at, act_staged, weight}
-use Rattle.hib_session.specs.Session.{Follows, IsTaken, number_of, left_in}
+use Rattle.hib_session.specs.Ahead.{Ends, Copies, asks_rows, has_ending, is_made}
+use Rattle.hib_session.specs.Session.{Follows, IsTaken, number_of, left_in, is_ready}
 use Rattle.hib_session.proofs.Due.{allowed_due, closed_end}
 use Rattle.hib_session.proofs.Taken.{act_due}
 
@@ -63,7 +65,7 @@ due_staged acts stage b sts mine a q d p = staged_act stage mine a d (sym (stage
     staged Stage.Idle d = absurd (false≢true d)
     staged _ d = refl
 
-recalls_more : (x : Memory) (mine : Journal) (e : Entry) → Knows x mine → is_staged e.act ≡ true → Recalls x (e ∷ mine)
+recalls_more : (x : Remembered) (mine : Journal) (e : Entry) → Knows x mine → is_staged e.act ≡ true → Recalls x (e ∷ mine)
 recalls_more x mine e k s = record {
   time = k.time ∙ same_time e.act e.tick (time_in mine) s;
   floor = k.floor ∙ same_floor e.act e.reply (floor_in mine) s;
@@ -72,7 +74,7 @@ recalls_more x mine e k s = record {
 }
 
 -- what is remembered before the entry of a stage's act is asked for the acts that follow it
-pub recalls_next : (script : Script) (c : Control) (x : Memory) (mine : Journal) (e : Entry) → Knows x mine → Stands script c mine → is_settled script c ≡ true → next script c.number mine ≡ Some e.act →
+pub recalls_next : (script : Script) (c : Control) (x : Remembered) (mine : Journal) (e : Entry) → Knows x mine → Stands script c mine → is_settled script c ≡ true → next script c.number mine ≡ Some e.act →
     c.queue ≡ [] → is_due c.stage ≡ true → Recalls x (e ∷ mine)
 recalls_next script c x mine e k h s n q d =
     recalls_more x mine e k (due_staged c.queue c.stage c.begins (untaken script c) mine e.act q d (act_due script c mine h s ∙ n))
@@ -93,23 +95,84 @@ left_over script c mine a h s p = by_state c.queue c.stage c.begins (untaken scr
     by_state acts stage due sts e = refl
 
 pub follows_on : (script : Script) (s z : Session) (mine : Journal) (e : Entry) → Follows script s mine → IsTaken script (number_of s) mine e → number_of z ≡ number_of s → z.killed ≡ s.killed →
-    Knows z.memory (e ∷ mine) → Stands script z.control (e ∷ mine) → Follows script z (e ∷ mine)
-follows_on script s z mine e f t n l k h = record {
+    Knows z.memory (e ∷ mine) → Stands script z.control (e ∷ mine) → z.copies ≡ None → z.ending ≡ None → Follows script z (e ∷ mine)
+follows_on script s z mine e f t n l k h w d = record {
   alive = l ∙ f.alive;
   order = subst (λ m. InOrder (plan_of script m) (e ∷ mine)) (sym n) (f.order, next_is script (number_of s) mine e.act t.due);
   knows = k;
   stands = h;
+  copies = subst (λ o. Copies z.control.queue o) (sym w) tt;
+  ending = λ more r. subst (λ o. Ends script z.control.mode more o) (sym d) tt;
 }
 
--- the control alone went on
-pub follows_same : (script : Script) (s z : Session) (mine : Journal) → Follows script s mine → number_of z ≡ number_of s → z.killed ≡ s.killed → z.memory ≡ s.memory →
-    Stands script z.control mine → Follows script z mine
-follows_same script s z mine f n l m h = record {
+-- the control went on, and something was made ready
+pub follows_same : (script : Script) (s z : Session) (mine : Journal) → Follows script s mine → number_of z ≡ number_of s → z.killed ≡ s.killed → Knows z.memory mine →
+    Stands script z.control mine → Copies z.control.queue z.copies → ((more : Journal) → Recalls z.memory more → Ends script z.control.mode more z.ending) → Follows script z mine
+follows_same script s z mine f n l k h w d = record {
   alive = l ∙ f.alive;
   order = subst (λ x. InOrder (plan_of script x) mine) (sym n) f.order;
-  knows = subst (λ x. Knows x mine) (sym m) f.knows;
+  knows = k;
   stands = h;
+  copies = w;
+  ending = d;
 }
+
+-- copies that are there are those of the act that is due
+pub fits_due : (script : Script) (s : Session) (mine : Journal) (a : Act) → Follows script s mine → is_settled script s.control ≡ true → next script s.control.number mine ≡ Some a → Fits s.copies a
+fits_due script s mine a f t n = by_copies s.copies f.copies (act_due script s.control mine f.stands t ∙ n)
+  where
+    by_copies : (w : Option Written) → Copies s.control.queue w → act_at s.control.queue s.control.stage s.control.begins (untaken script s.control) mine ≡ Some a → Fits w a
+    by_copies None c d = tt
+    by_copies (Some w) c d = (same (rw c.0.1 at d), c.1)
+      where
+        same : Some (Act.Write w.change) ≡ Some a → a ≡ Act.Write w.change
+        same e = cc
+
+-- what is made ready is enough for an entry that brings nothing
+pub made_due : (acts : List Act) (stage : Stage) (b : Bool) (sts : List Statement) (mine : Journal) (a : Act) (w : Option Written) (e : Option Ending) →
+    act_at acts stage b sts mine ≡ Some a → brings a ≡ false → is_made acts stage w e ≡ true →
+    (acts ≡ [] → asks_rows stage ≡ false) × ((acts ≡ [] → has_ending stage e ≡ true) × (has_copies w a ≡ true))
+made_due (x ∷ acts) stage b sts mine a w e d n m = (λ q. absurd (no q), (λ q. absurd (no q), subst (λ y. has_copies w y ≡ true) same m))
+  where
+    no : x ∷ acts ≡ [] → ⊥
+    no q = cc
+
+    same : x ≡ a
+    same = cc
+made_due [] (Stage.Getting k) b sts mine a w e d n m = absurd (true≢false (ap brings (sym same) ∙ n))
+  where
+    same : a ≡ Act.Get k (time_in mine)
+    same = cc
+made_due [] (Stage.Loading k) b sts mine a w e d n m = absurd (true≢false (ap brings (sym same) ∙ n))
+  where
+    same : a ≡ Act.Load k
+    same = cc
+made_due [] (Stage.Listing k) b sts mine a w e d n m = absurd (true≢false (ap brings (sym same) ∙ n))
+  where
+    same : a ≡ Act.List k
+    same = cc
+made_due [] Stage.Idle true (st ∷ sts) mine a w e d n m = let same : a ≡ Act.Begin = cc in (λ q. refl, (λ q. m, ap (has_copies w) same))
+made_due [] Stage.Idle true [] mine a w e d n m = absurd (cc)
+made_due [] Stage.Idle false sts mine a w e d n m = absurd (cc)
+made_due [] (Stage.Answering k) b sts mine a w e d n m = absurd (cc)
+made_due [] (Stage.Looking k) b sts mine a w e d n m = let same : a ≡ Act.Look k = cc in (λ q. refl, (λ q. m, ap (has_copies w) same))
+made_due [] (Stage.Checking k t) b sts mine a w e d n m = let same : a ≡ Act.Check k t = cc in (λ q. refl, (λ q. m, ap (has_copies w) same))
+made_due [] Stage.Committing b sts mine a w e d n m = let same : a ≡ Act.Commit = cc in (λ q. refl, (λ q. m, ap (has_copies w) same))
+made_due [] Stage.RollingBack b sts mine a w e d n m = let same : a ≡ Act.Rollback = cc in (λ q. refl, (λ q. m, ap (has_copies w) same))
+
+-- a session that is ready has nothing to expand
+pub settled_ready : (script : Script) (s : Session) → is_ready script s ≡ true → is_settled script s.control ≡ true
+settled_ready script s r = (and_parts (is_settled script s.control) s.memory.room (and_parts (is_settled script s.control && s.memory.room) (is_made s.control.queue s.control.stage s.copies s.ending) r).0).0
+
+-- the memory is there for an entry of the act that is due, unless it brings something
+pub room_next : (script : Script) (s : Session) (mine : Journal) (a : Act) → Follows script s mine → is_ready script s ≡ true → next script s.control.number mine ≡ Some a → brings a ≡ false →
+    ((s.control.queue ≡ [] → asks_rows s.control.stage ≡ false) × (s.control.queue ≡ [] → has_ending s.control.stage s.ending ≡ true)) × ((has_copies s.copies a ≡ true) × (s.memory.room ≡ true))
+room_next script s mine a f r n b =
+    let p : (is_settled script s.control && s.memory.room ≡ true) × (is_made s.control.queue s.control.stage s.copies s.ending ≡ true) =
+    and_parts (is_settled script s.control && s.memory.room) (is_made s.control.queue s.control.stage s.copies s.ending) r in
+    let q : (is_settled script s.control ≡ true) × (s.memory.room ≡ true) = and_parts (is_settled script s.control) s.memory.room p.0 in
+    let m = made_due s.control.queue s.control.stage s.control.begins (untaken script s.control) mine a s.copies s.ending (act_due script s.control mine f.stands q.0 ∙ n) b p.1 in
+    ((m.0, m.1.0), (m.1.1, q.1))
 
 pub if_allowed : (script : Script) (s : Session) (mine : Journal) (o : Option Act) → Follows script s mine → o ≡ next script (number_of s) mine → IfSome o (IsAllowed script (number_of s) mine)
 if_allowed script s mine None f e = tt

@@ -1,5 +1,7 @@
 pub mod Queries
+pub mod Rows
 pub mod Memory
 pub mod Due
 pub mod Control
+pub mod Ahead
 pub mod Session

@@ -1,7 +1,8 @@
 -- What a session remembers of its own entries.
 use Rattle.std.specs.Prelude.{◌≡◌, ℕ, Bool, true, false, cond, not, List, [], ◌∷◌, ◌++◌, map, Some, None, Option}
 use Rattle.std.specs.List.{filter_map, flat_map}
-use Rattle.hib_journal.specs.Types.{Key, Row, Change, Script, State, Held, Act, Reply, Entry}
+use Rattle.std.specs.Option.{is_some}
+use Rattle.hib_journal.specs.Types.{Key, Row, Change, Script, State, Held, Outcome, Act, Reply, Entry}
 use Rattle.hib_base.specs.Keys.{same_key}
 use Rattle.hib_journal.specs.Sessions.{Journal, time_in, time_after, floor_in, floor_after, changes_in, changes_after}
 use Rattle.hib_journal.specs.Held.{Instance, Arrival, Stay, stay, is_break, held, arrived, removed, is_fresh, is_inserted}
@@ -9,7 +10,34 @@ use Rattle.hib_journal.specs.Next.{lock_id, is_in, strategy, before_cached, fres
 use Rattle.hib_journal.specs.Legal.{outcome, outcome_after}
 use Rattle.hib_identity_map.specs.Identity.{MapState, Pairs, look_in, are_distinct, drop_in, add_in, change_in, written, as_removed, with_sets, remove_last}
 use Rattle.hib_completion.specs.Completed.{is_key_in, lock_from}
-use Rattle.hib_session.specs.declared.memory.Memory.{Memory}
+use Rattle.hib_session.specs.declared.written.Written.{Written}
+use Rattle.hib_session.specs.Rows.{row_left}
+
+-- what contracts see of a memory: what it remembers, and whether it has room for one more of each
+pub record Remembered : Type 0 where
+  pub time : ℕ
+  pub floor : ℕ
+  pub instances : MapState
+  pub marks : List (Key × Bool)
+  pub changes : List Change
+  pub fresh : List Key
+  pub locks : List (Key × ℕ)
+  pub outcome : Outcome
+  pub room : Bool
+
+-- the same, with other room
+abbrev pub with_room : Bool → Remembered → Remembered
+with_room b x = record {
+  time = x.time;
+  floor = x.floor;
+  instances = x.instances;
+  marks = x.marks;
+  changes = x.changes;
+  fresh = x.fresh;
+  locks = x.locks;
+  outcome = x.outcome;
+  room = b;
+}
 
 -- the instance of a key
 abbrev pub shown_of : Key → Held → Instance
@@ -44,7 +72,7 @@ pub record Holds (ps : Pairs) (mine : Journal) : Type 0 where
   pub distinct : are_distinct ps ≡ true
 
 -- the memory stands for these entries of a session, the newest first
-pub record Knows (memory : Memory) (mine : Journal) : Type 0 where
+pub record Knows (memory : Remembered) (mine : Journal) : Type 0 where
   pub time : memory.time ≡ time_in mine
   pub floor : memory.floor ≡ floor_in mine
   pub changes : memory.changes ≡ changes_in mine
@@ -126,7 +154,7 @@ abbrev pub locks_after : Act → Reply → List (Key × ℕ) → List (Key × �
 locks_after (Act.Lock k v f) (Reply.Locked l) ls = ls ++ (k, l.id) ∷ []
 locks_after _ r ls = ls
 
-abbrev pub noted_by : Memory → ℕ → Act → Reply → Memory
+abbrev pub noted_by : Remembered → ℕ → Act → Reply → Remembered
 noted_by x now a r = record {
   time = time_after a now x.time;
   floor = floor_after a r x.floor;
@@ -136,32 +164,53 @@ noted_by x now a r = record {
   fresh = fresh_after a r x.fresh;
   locks = locks_after a r x.locks;
   outcome = outcome_after a r x.outcome;
+  room = x.room;
 }
 
 -- the memory after one more entry
-abbrev pub noted : Memory → Entry → Memory
+abbrev pub noted : Remembered → Entry → Remembered
 noted x e = noted_by x e.tick e.act e.reply
 
 -- what a session asks of its memory for the acts that follow an answer: it stands for these entries in that
-pub record Recalls (memory : Memory) (mine : Journal) : Type 0 where
+pub record Recalls (memory : Remembered) (mine : Journal) : Type 0 where
   pub time : memory.time ≡ time_in mine
   pub floor : memory.floor ≡ floor_in mine
   pub changes : memory.changes ≡ changes_in mine
   pub locks : (k : Key) → lock_from k 0 memory.locks ≡ lock_id k mine
 
 -- what comes before a write, by the memory
-abbrev pub before_key_in : Script → Memory → Key → Option ℕ → List Act
+abbrev pub before_key_in : Script → Remembered → Key → Option ℕ → List Act
 before_key_in script x k v =
     cond (is_in k x.changes) [] (before_cached (strategy script k.entity) k (fresh_version (is_key_in k x.fresh) v) x.floor)
 
-abbrev pub before_in : Script → Memory → Change → List Act
+abbrev pub before_in : Script → Remembered → Change → List Act
 before_in script x (Change.Insert k r) = []
 before_in script x (Change.Update k v r) = before_key_in script x k v
 before_in script x (Change.Delete k v) = before_key_in script x k v
 
-abbrev pub writes_in : Script → Memory → List Change → List Act
+abbrev pub writes_in : Script → Remembered → List Change → List Act
 writes_in script x cs = flat_map (λ c. before_in script x c ++ Act.Write c ∷ []) cs
 
-abbrev pub flush_in : Script → Memory → List Change → List Act
+abbrev pub flush_in : Script → Remembered → List Change → List Act
 flush_in script x [] = []
 flush_in script x (c ∷ cs) = Act.Pre (tables_in script (c ∷ cs)) ∷ writes_in script x (c ∷ cs)
+
+-- what was made ready for the entry of a write is that of this act
+abbrev pub Fits : Option Written → Act → Type 0
+Fits None a = Unit {0}
+Fits (Some w) a = (a ≡ Act.Write w.change) × (w.base ≡ row_left w.change)
+
+-- the acts whose entries bring what is kept of them: rows, cells and lists, and the key that was removed
+abbrev pub brings : Act → Bool
+brings (Act.Persist k r) = true
+brings (Act.Load k) = true
+brings (Act.List q) = true
+brings (Act.Get k t) = true
+brings (Act.Set k cells) = true
+brings (Act.Remove k) = true
+brings _ = false
+
+-- the copies of a write are there, where the act is one
+abbrev pub has_copies : Option Written → Act → Bool
+has_copies w (Act.Write c) = is_some w
+has_copies w _ = true

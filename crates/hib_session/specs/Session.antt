@@ -1,5 +1,5 @@
 -- What a session stands for, and what it answers itself.
-use Rattle.std.specs.Prelude.{◌≡◌, ℕ, Bool, false, cond, ◌||◌, Some, None, Option}
+use Rattle.std.specs.Prelude.{◌≡◌, ℕ, Bool, false, cond, ◌||◌, ◌&&◌, Some, None, Option}
 use Rattle.hib_journal.specs.Types.{Script, Act, Reply, Entry}
 use Rattle.hib_journal.specs.Sessions.{Journal, changes_in}
 use Rattle.hib_journal.specs.Held.{held}
@@ -7,8 +7,9 @@ use Rattle.hib_journal.specs.Plan.{InOrder}
 use Rattle.hib_journal.specs.Next.{strategy, is_in, is_held, plan_of, next}
 use Rattle.hib_journal.specs.Legal.{outcome, row_of, is_there, persisted, set_unless}
 use Rattle.hib_session.specs.declared.session.Session.{Session}
-use Rattle.hib_session.specs.Memory.{Knows}
+use Rattle.hib_session.specs.Memory.{Knows, Recalls}
 use Rattle.hib_session.specs.Control.{Stands, is_settled, weight}
+use Rattle.hib_session.specs.Ahead.{Ends, Copies, is_made}
 
 -- which session it is
 abbrev pub number_of : Session → ℕ
@@ -28,10 +29,12 @@ pub record Follows (script : Script) (s : Session) (mine : Journal) : Type 0 whe
   pub order : InOrder (plan_of script s.control.number) mine
   pub knows : Knows s.memory mine
   pub stands : Stands script s.control mine
+  pub copies : Copies s.control.queue s.copies
+  pub ending : (more : Journal) → Recalls s.memory more → Ends script s.control.mode more s.ending
 
--- nothing is left to expand before its next act
+-- nothing is left to expand before its next act, and the memory is there for an entry of that act that brings nothing
 abbrev pub is_ready : Script → Session → Bool
-is_ready script s = is_settled script s.control
+is_ready script s = (is_settled script s.control && s.memory.room) && is_made s.control.queue s.control.stage s.copies s.ending
 
 -- the reply to an own act or to End, by the session's own entries; none to another act
 abbrev pub own_reply : Script → Journal → Act → Option Reply

@@ -1,5 +1,5 @@
 // The control of a session: which act is due.
-ghost use Rattle.std.specs.Prelude.{◌≡◌, ◌≢◌, ◌∷◌, [], ◌+◌, ◌*◌, ◌<◌, ◌≤◌, ◌^◌, length, slice_get, IfOk, OnOk, OnErr, List, true, false, Some, drop, IsTrue, ◌↔◌};
+ghost use Rattle.std.specs.Prelude.{◌≡◌, ◌≢◌, ◌∷◌, [], ◌+◌, ◌*◌, ◌<◌, ◌≤◌, ◌^◌, length, slice_get, IfOk, IsOk, is_some, OnOk, OnErr, List, true, false, Some, drop, IsTrue, ◌↔◌};
 ghost use Rattle.hib_base.specs.declared.entries.Entry.{Entry};
 ghost use Rattle.hib_base.specs.declared.entries.Act.{Act};
 ghost use Rattle.hib_base.specs.declared.replies.Reply.{Reply};
@@ -7,12 +7,15 @@ ghost use Rattle.hib_base.specs.declared.scripts.Script.{Script};
 ghost use Rattle.hib_base.specs.declared.scripts.Mode.{Mode};
 ghost use Rattle.hib_journal.specs.Sessions.{Journal};
 ghost use Rattle.hib_journal.specs.Plan.{Plan, after, each};
-ghost use Rattle.hib_journal.specs.Next.{mode_reads, mode_puts, is_versioned_in, find, list, load_unless_hit, put_loaded, check_found, list_unless_fresh, keep_listed, block, mode_after, ends, first_version, statements, next, is_committed_reply};
-ghost use Rattle.hib_session.specs.Memory.{Knows, Recalls};
+ghost use Rattle.hib_journal.specs.Next.{mode_reads, mode_puts, is_versioned_in, find, list, load_unless_hit, put_loaded, check_found, list_unless_fresh, keep_listed, block, mode_after, ends, first_version, statements, next, is_committed_reply, completion};
+ghost use Rattle.hib_session.specs.Memory.{Knows, Recalls, Fits, has_copies};
 ghost use Rattle.hib_session.specs.Control.{staged, queued, untaken, decided, is_answering, is_due, is_resting, rank, begin_at, act_staged, Stands, weight};
+ghost use Rattle.hib_session.specs.Ahead.{Ends, Copies, asks_rows, has_ending};
 
+use crate::ahead::Ending;
 use crate::memory::Memory;
 use crate::modes::{does_put, does_read};
+use crate::written::Written;
 use hib_base::{
     Act, Acts, Cells, Checked, Commit, EntityNo, Entry, Key, Mode, QueryNo, Reply, Row, Script,
     Seq, SessionNo, Statement, Tick, copy_cells, copy_sets,
@@ -183,6 +186,24 @@ fn is_committed(reply: &Reply) -> bool
     }
 }
 
+/// The acts that complete a transaction, which may be there.
+fn completed(
+    alloc: Global,
+    script: &Script,
+    memory: &Memory,
+    mode: Mode,
+    committed: bool,
+    ending: Option<Ending>,
+) -> Result<Acts, AllocError>
+    ensures acts { IfOk result (λ q. (mine : Journal) → Recalls memory.now mine → Ends script.now mode mine ending → q ≡ completion script.now mode committed mine) }
+    ensures room { is_some ending ≡ true → IsOk result }
+{
+    match ending {
+        Some(ending) => Ok(ending.pick(committed)),
+        None => memory.completion(alloc, script, mode, committed),
+    }
+}
+
 /// What follows an entry of the act that a stage has.
 fn answered(
     alloc: Global,
@@ -191,10 +212,12 @@ fn answered(
     mode: Mode,
     stage: Stage,
     entry: &Entry,
+    ending: Option<Ending>,
 ) -> Result<(Acts, Stage), AllocError>
     ensures less { is_due stage ≡ true → IfOk result (λ r. rank r.1 < rank stage) }
-    ensures follows { IfOk result (λ r. (done : Journal) (go : Journal → Plan) → is_due stage ≡ true → Recalls memory.now (entry.now ∷ done) →
+    ensures follows { IfOk result (λ r. (done : Journal) (go : Journal → Plan) → is_due stage ≡ true → Recalls memory.now (entry.now ∷ done) → Ends script.now mode (entry.now ∷ done) ending →
         queued script.now mode r.0 r.1 (entry.now ∷ done) go ≡ after (staged script.now mode stage done go) entry.now) }
+    ensures room { asks_rows stage ≡ false → has_ending stage ending ≡ true → IsOk result }
 {
     match stage {
         Stage::Getting(key) => Ok((Seq::new(alloc), got(key, &entry.reply))),
@@ -210,12 +233,13 @@ fn answered(
         )),
         Stage::Committing => {
             let committed = is_committed(&entry.reply);
-            Ok((
-                memory.completion(alloc, script, mode, committed)?,
-                Stage::Idle,
-            ))
+            let acts = completed(alloc, script, memory, mode, committed, ending)?;
+            Ok((acts, Stage::Idle))
         }
-        Stage::RollingBack => Ok((memory.completion(alloc, script, mode, false)?, Stage::Idle)),
+        Stage::RollingBack => {
+            let acts = completed(alloc, script, memory, mode, false, ending)?;
+            Ok((acts, Stage::Idle))
+        }
         Stage::Idle | Stage::Answering(_) => Ok((Seq::new(alloc), stage)),
     }
 }
@@ -414,6 +438,30 @@ fn act_of(memory: &Memory, stage: Stage) -> Option<Act>
     }
 }
 
+/// Whether there are copies for an act that is a write.
+fn are_there(act: &Act, copies: &Option<Written>) -> bool
+    ensures { result ≡ has_copies copies.now act.now }
+{
+    match act {
+        Act::Write(_) => copies.is_some(),
+        _ => true,
+    }
+}
+
+/// Copies for an act that is a write.
+fn copies_of(alloc: Global, act: &Act) -> Result<Option<Written>, AllocError>
+    ensures fit { IfOk result (λ w. Fits w act.now) }
+    ensures made { IfOk result (λ w. has_copies w act.now ≡ true) }
+{
+    match act {
+        Act::Write(change) => {
+            let written = Written::of(alloc, change)?;
+            Ok(Some(written))
+        }
+        _ => Ok(None),
+    }
+}
+
 impl Control {
     /// The control of a session that has done nothing.
     pub fn start(alloc: Global, number: SessionNo) -> Control
@@ -552,22 +600,75 @@ impl Control {
         }
     }
 
-    /// The acts and the stage that follow an entry of the act of the stage, by what is remembered without that entry.
+    /// Whether what the entry of the next act needs is there: copies for a write, and for an end of the transaction the acts
+    /// that follow.
+    pub fn is_made(&self, copies: &Option<Written>, ending: &Option<Ending>) -> bool
+        ensures { result ≡ Rattle.hib_session.specs.Ahead.is_made self.now.queue self.now.stage copies.now ending.now }
+    {
+        if !self.queue.is_empty() {
+            return are_there(self.queue.at(0), copies);
+        }
+        match self.stage {
+            Stage::Committing | Stage::RollingBack => ending.is_some(),
+            _ => true,
+        }
+    }
+
+    /// Copies for the entry of the write that is due, if one is.
+    pub fn copies(&self, alloc: Global) -> Result<Option<Written>, AllocError>
+        ensures copies { IfOk result (λ w. Copies self.now.queue w) }
+        ensures made { IfOk result (λ w. (a : Act) (rest : List Act) → self.now.queue ≡ a ∷ rest → has_copies w a ≡ true) }
+    {
+        if self.queue.is_empty() {
+            return Ok(None);
+        }
+        let copies = copies_of(alloc, self.queue.at(0))?;
+        Ok(copies)
+    }
+
+    /// The acts that complete the transaction, whichever way it ends, if its end is due.
+    pub fn ending(
+        &self,
+        alloc: Global,
+        script: &Script,
+        memory: &Memory,
+    ) -> Result<Option<Ending>, AllocError>
+        ensures acts { IfOk result (λ e. (mine : Journal) → Recalls memory.now mine → Ends script.now self.now.mode mine e) }
+        ensures made { IfOk result (λ e. self.now.queue ≡ [] → has_ending self.now.stage e ≡ true) }
+    {
+        if !self.queue.is_empty() {
+            return Ok(None);
+        }
+        match self.stage {
+            Stage::Committing | Stage::RollingBack => {
+                let committed = memory.completion(alloc, script, self.mode, true)?;
+                let refused = memory.completion(alloc, script, self.mode, false)?;
+                Ok(Some(Ending { committed, refused }))
+            }
+            _ => Ok(None),
+        }
+    }
+
+    /// The acts and the stage that follow an entry of the act of the stage, by what is remembered without that entry. Of an
+    /// end of the transaction the acts may be there. It takes no memory but for rows and lists that were answered, and for an
+    /// end whose acts aren't there.
     pub fn prepared(
         &self,
         alloc: Global,
         script: &Script,
         memory: &Memory,
         entry: &Entry,
+        ending: Option<Ending>,
     ) -> Result<(Acts, Stage), AllocError>
         ensures less { IfOk result (λ r. self.now.queue ≡ [] → is_due self.now.stage ≡ true → rank r.1 < rank self.now.stage) }
-        ensures follows { IfOk result (λ r. (done : Journal) (go : Journal → Plan) → self.now.queue ≡ [] → is_due self.now.stage ≡ true → Recalls memory.now (entry.now ∷ done) →
+        ensures follows { IfOk result (λ r. (done : Journal) (go : Journal → Plan) → self.now.queue ≡ [] → is_due self.now.stage ≡ true → Recalls memory.now (entry.now ∷ done) → Ends script.now self.now.mode (entry.now ∷ done) ending →
             queued script.now self.now.mode r.0 r.1 (entry.now ∷ done) go ≡ after (staged script.now self.now.mode self.now.stage done go) entry.now) }
+        ensures room { (self.now.queue ≡ [] → asks_rows self.now.stage ≡ false) → (self.now.queue ≡ [] → has_ending self.now.stage ending ≡ true) → IsOk result }
     {
         if !self.queue.is_empty() {
             return Ok((Seq::new(alloc), self.stage));
         }
-        answered(alloc, script, memory, self.mode, self.stage, entry)
+        answered(alloc, script, memory, self.mode, self.stage, entry, ending)
     }
 
     /// Takes one more entry, of which these acts and this stage follow where nothing is queued and a stage has its act.

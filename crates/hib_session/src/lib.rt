@@ -1,11 +1,13 @@
 //! A session: which act is due, what it answers itself, and what it remembers of its own entries.
 #![tactic(auto)]
 
+mod ahead;
 mod control;
 mod memory;
 mod modes;
 mod noting;
 mod queries;
 mod session;
+mod written;
 
 pub use session::Session;

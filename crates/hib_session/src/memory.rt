@@ -1,22 +1,23 @@
 // What a session remembers of its own entries: its transaction's time, floor and changes, its locks and its instances.
-ghost use Rattle.std.specs.Prelude.{Bool, ◌≡◌, ◌||◌, ◌∷◌, [], ◌++◌, IfOk, OnOk, false, Some, None, MatchOption};
+ghost use Rattle.std.specs.Prelude.{Bool, ◌≡◌, ◌||◌, ◌∷◌, [], ◌++◌, IfOk, IsOk, OnOk, false, true, Some, None, MatchOption, nat_lt, vec_len, vec_capacity};
 ghost use Rattle.hib_journal.specs.Sessions.{Journal};
 ghost use Rattle.hib_journal.specs.Held.{pending};
 ghost use Rattle.hib_base.specs.declared.entries.Act.{Act};
 ghost use Rattle.hib_journal.specs.Next.{is_held, is_in, is_in_tables, is_free, may_read, may_put, flush_of, tables_of, before_cached, fresh_version, completion};
 ghost use Rattle.hib_completion.specs.Completed.{acts_of, is_key_in};
-ghost use Rattle.hib_session.specs.Memory.{held_in, shown_of, marked_in, before_key_in, before_in, flush_in, Knows, Recalls};
+ghost use Rattle.hib_session.specs.Memory.{held_in, shown_of, marked_in, before_key_in, before_in, flush_in, with_room, Knows, Recalls};
 
 use crate::modes::{does_put, does_read};
 use crate::queries::{is_cached as is_kept, is_touched};
 use hib_base::{
-    Act, Acts, Change, Changes, EntityNo, Held, Key, Locks, Mode, Outcome, QueryNo, Script, Seq,
-    Strategy, Tick,
+    Act, Acts, Change, Changes, EntityNo, Held, Key, Mode, Outcome, QueryNo, Script, Seq, Strategy,
+    Tick,
 };
 use hib_completion::{acts, tables};
 use hib_flush::plan;
 use hib_identity_map::IdentityMap;
 use std::alloc::{AllocError, Global};
+use std::marker::Model;
 
 /// What a session remembers of its own entries.
 #[derive(Drop)]
@@ -28,15 +29,35 @@ pub struct Memory {
     /// Its instances in order of arrival.
     pub instances: IdentityMap,
     /// Of a key, whether its instance was made and never written: the last mark counts.
-    pub marks: Seq<(Key, bool)>,
+    pub marks: Vec<(Key, bool)>,
     /// The changes that it wrote since its last Begin, in order.
-    pub changes: Changes,
+    pub changes: Vec<Change>,
     /// The keys whose base it was given since its last Begin.
-    pub fresh: Seq<Key>,
+    pub fresh: Vec<Key>,
     /// The locks that it took, in order: of a key, the last one counts.
-    pub locks: Locks,
+    pub locks: Vec<(Key, Tick)>,
     /// How its last transaction ended.
     pub outcome: Outcome,
+}
+
+impl Model for Memory {
+    ghost use Rattle.std.specs.Prelude.{◌&&◌, nat_lt, vec_len, vec_capacity};
+    ghost use Rattle.hib_session.specs.Memory.{Remembered};
+
+    ghost Value = { Remembered };
+
+    ghost view = { λ m. record {
+      time = m.time;
+      floor = m.floor;
+      instances = m.instances;
+      marks = m.marks.items;
+      changes = m.changes.items;
+      fresh = m.fresh.items;
+      locks = m.locks.items;
+      outcome = m.outcome;
+      room = (nat_lt (vec_len m.marks) (vec_capacity m.marks) && nat_lt (vec_len m.changes) (vec_capacity m.changes)) &&
+          (nat_lt (vec_len m.fresh) (vec_capacity m.fresh) && nat_lt (vec_len m.locks) (vec_capacity m.locks));
+    } };
 }
 
 fn is_cached(script: &Script, entity: EntityNo) -> bool
@@ -96,6 +117,13 @@ fn before_first(strategy: Strategy, key: Key, version: Option<u32>, floor: Tick)
     }
 }
 
+/// Whether a list has room for one more.
+fn has_room_in<T>(list: &Vec<T>) -> bool
+    ensures { result ≡ nat_lt (vec_len list.now) (vec_capacity list.now) }
+{
+    list.len() < list.capacity()
+}
+
 impl Memory {
     /// The memory of a session that has done nothing.
     pub fn new(alloc: Global) -> Memory
@@ -105,12 +133,35 @@ impl Memory {
             time: Tick(0),
             floor: Tick(0),
             instances: IdentityMap::open(alloc),
-            marks: Seq::new(alloc),
-            changes: Seq::new(alloc),
-            fresh: Seq::new(alloc),
-            locks: Seq::new(alloc),
+            marks: Vec::new(alloc),
+            changes: Vec::new(alloc),
+            fresh: Vec::new(alloc),
+            locks: Vec::new(alloc),
             outcome: Outcome::RolledBack,
         }
+    }
+
+    /// Whether there is room for one more of each.
+    pub fn has_room(&self) -> bool
+        ensures { result ≡ self.now.room }
+    {
+        has_room_in(&self.marks)
+            && has_room_in(&self.changes)
+            && has_room_in(&self.fresh)
+            && has_room_in(&self.locks)
+    }
+
+    /// Makes room for one more of each. At an error nothing has changed but the room.
+    pub fn reserve(&mut self) -> Result<(), AllocError>
+        ensures same { self.new ≡ with_room self.new.room self.old }
+        ensures ok { OnOk result (self.new.room ≡ true) }
+        ensures room { self.old.room ≡ true → IsOk result }
+    {
+        self.marks.reserve(1)?;
+        self.changes.reserve(1)?;
+        self.fresh.reserve(1)?;
+        self.locks.reserve(1)?;
+        Ok(())
     }
 
     /// What is held of a key.
@@ -269,8 +320,8 @@ impl Memory {
         let mut acts = acts(
             alloc,
             &script.mapping,
-            &self.changes,
-            &self.locks,
+            self.changes.as_slice(),
+            self.locks.as_slice(),
             committed,
             mode,
             self.floor,

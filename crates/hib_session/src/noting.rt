@@ -1,18 +1,19 @@
 // How a memory takes one more entry.
-ghost use Rattle.std.specs.Prelude.{Bool, ◌≡◌, ◌≤◌, take, length, ◌∷◌, [], ◌++◌, OnOk, OnErr, IfOk, true, false, Some, None};
+ghost use Rattle.std.specs.Prelude.{Bool, ◌≡◌, ◌∷◌, [], ◌++◌, OnOk, OnErr, IfOk, IsOk, is_some, true, false, Some, None};
 ghost use Rattle.hib_journal.specs.Sessions.{floor_after};
 ghost use Rattle.hib_journal.specs.Held.{is_break};
 ghost use Rattle.hib_journal.specs.Legal.{outcome_after};
 ghost use Rattle.hib_base.specs.declared.entries.Act.{Act};
 ghost use Rattle.hib_identity_map.specs.Identity.{change_in, drop_in, written, with_sets, remove_last};
-ghost use Rattle.hib_session.specs.Memory.{marked_in, made, managed, arrive_in, remove_in, with_pairs, unless_broken, map_written, marks_written, fresh_written, noted};
+ghost use Rattle.hib_session.specs.Rows.{row_left};
+ghost use Rattle.hib_session.specs.Memory.{marked_in, made, managed, arrive_in, remove_in, with_pairs, with_room, unless_broken, map_written, marks_written, fresh_written, noted, Fits, brings, has_copies};
 
 use crate::memory::{Memory, last_mark};
+use crate::written::Written;
 use hib_base::{
-    Act, Change, Commit, Entry, Held, Key, Outcome, Reply, Row, Seq, Sets, State, copy_sets,
+    Act, Change, Commit, Entry, Held, Key, Outcome, Reply, Row, Sets, State, Tick, copy_sets,
 };
 use std::alloc::{AllocError, Global};
-use std::mem;
 
 /// A row that was read, as an instance.
 fn read_held(alloc: Global, row: &Row) -> Result<Held, AllocError>
@@ -41,117 +42,68 @@ fn made_held(alloc: Global, row: &Row) -> Result<Held, AllocError>
     })
 }
 
-/// Cuts a list back to its first `len` values. It takes no memory.
-fn cut<T: Drop>(alloc: Global, list: &mut Seq<T>, len: usize)
-    requires { len ≤ length list.old }
-    ensures { list.new ≡ take len list.old }
-{
-    let mut values = mem::replace(list, Seq::new(alloc)).into_vec();
-    values.truncate(len);
-    *list = Seq::from_vec(values);
-}
-
-/// Adds a value to each of two lists. At an error nothing has changed.
-fn push_both<A: Drop, B: Drop>(
-    alloc: Global,
-    first: &mut Seq<A>,
-    a: A,
-    second: &mut Seq<B>,
-    b: B,
-) -> Result<(), AllocError>
-    ensures ok { OnOk result ((first.new ≡ first.old ++ a ∷ []) × (second.new ≡ second.old ++ b ∷ [])) }
-    ensures err { OnErr result ((first.new ≡ first.old) × (second.new ≡ second.old)) }
-{
-    let len = first.len();
-    first.push(a)?;
-    match second.push(b) {
-        Ok(()) => Ok(()),
-        Err(error) => {
-            cut(alloc, first, len);
-            Err(error)
-        }
-    }
-}
-
 impl Memory {
-    /// An instance arrives, in the place of one of the same key. At an error nothing has changed.
-    fn arrive(&mut self, alloc: Global, key: &Key, held: Held, made: bool) -> Result<(), AllocError>
-        ensures ok { OnOk result (self.new ≡ record self.old {
-          instances = with_pairs self.old.instances (arrive_in key.now held self.old.instances.held);
-          marks = self.old.marks ++ (key.now, made) ∷ [];
-        }) }
-        ensures err { OnErr result (self.new ≡ self.old) }
-    {
-        let len = self.marks.len();
-        self.marks.push((*key, made))?;
-        match self.instances.arrive(key, held) {
-            Ok(()) => Ok(()),
-            Err(error) => {
-                cut(alloc, &mut self.marks, len);
-                Err(error)
-            }
-        }
-    }
-
-    /// A row that was read arrives.
+    /// A row that was read arrives, in the place of an instance of the same key.
     fn read(&mut self, alloc: Global, key: &Key, row: &Row) -> Result<(), AllocError>
+        requires { self.old.room ≡ true }
         ensures ok { OnOk result (self.new ≡ record self.old {
           instances = with_pairs self.old.instances (arrive_in key.now (managed row.now) self.old.instances.held);
           marks = self.old.marks ++ (key.now, false) ∷ [];
           fresh = self.old.fresh ++ key.now ∷ [];
+          room = self.new.room;
         }) }
         ensures err { OnErr result (self.new ≡ self.old) }
     {
         let held = read_held(alloc, row)?;
-        let len = self.fresh.len();
-        self.fresh.push(*key)?;
-        match self.arrive(alloc, key, held, false) {
-            Ok(()) => Ok(()),
-            Err(error) => {
-                cut(alloc, &mut self.fresh, len);
-                Err(error)
-            }
-        }
+        self.instances.arrive(key, held)?;
+        self.marks.push_reserved((*key, false));
+        self.fresh.push_reserved(*key);
+        Ok(())
     }
 
-    /// A new row arrives.
+    /// A new row arrives, in the place of an instance of the same key.
     fn make(&mut self, alloc: Global, key: &Key, row: &Row) -> Result<(), AllocError>
+        requires { self.old.room ≡ true }
         ensures ok { OnOk result (self.new ≡ record self.old {
           instances = with_pairs self.old.instances (arrive_in key.now (made row.now) self.old.instances.held);
           marks = self.old.marks ++ (key.now, true) ∷ [];
+          room = self.new.room;
         }) }
         ensures err { OnErr result (self.new ≡ self.old) }
     {
         let held = made_held(alloc, row)?;
-        self.arrive(alloc, key, held, true)
+        self.instances.arrive(key, held)?;
+        self.marks.push_reserved((*key, true));
+        Ok(())
     }
 
-    /// A transaction begins.
+    /// A transaction begins. It takes no memory.
     fn begin(&mut self, alloc: Global, entry: &Entry)
-        ensures { self.new ≡ record self.old { time = entry.now.tick; floor = floor_after Act.Begin entry.now.reply self.old.floor; changes = []; fresh = [] } }
+        ensures { self.new ≡ record self.old { time = entry.now.tick; floor = floor_after Act.Begin entry.now.reply self.old.floor; changes = []; fresh = []; room = self.new.room } }
     {
         self.time = entry.tick;
         if let Reply::Began { floor } = &entry.reply {
             self.floor = *floor;
         }
-        self.changes = Seq::new(alloc);
-        self.fresh = Seq::new(alloc);
+        self.changes = Vec::new(alloc);
+        self.fresh = Vec::new(alloc);
     }
 
-    /// The identity map is emptied.
+    /// The identity map is emptied. It takes no memory.
     fn clear(&mut self, alloc: Global)
-        ensures { self.new ≡ record self.old { instances = with_pairs self.old.instances []; marks = [] } }
+        ensures { self.new ≡ record self.old { instances = with_pairs self.old.instances []; marks = []; room = self.new.room } }
     {
         self.instances.clear();
-        self.marks = Seq::new(alloc);
+        self.marks = Vec::new(alloc);
     }
 
-    /// A commit was answered.
+    /// A commit was answered. It takes no memory.
     fn commit(&mut self, alloc: Global, reply: &Reply)
         ensures { self.new ≡ record self.old {
           instances = with_pairs self.old.instances (unless_broken (is_break Act.Commit reply.now) self.old.instances.held);
           marks = unless_broken (is_break Act.Commit reply.now) self.old.marks;
           outcome = outcome_after Act.Commit reply.now self.old.outcome;
+          room = self.new.room;
         } }
     {
         match reply {
@@ -167,86 +119,68 @@ impl Memory {
         self.clear(alloc);
     }
 
-    /// An insert was written: the instance stands for the written row from now on.
-    fn insert(
-        &mut self,
-        alloc: Global,
-        change: Change,
-        key: &Key,
-        row: &Row,
-    ) -> Result<(), AllocError>
-        ensures ok { OnOk result (self.new ≡ record self.old {
-          instances = with_pairs self.old.instances (change_in key.now (written row.now) self.old.instances.held);
+    /// An insert was written: the instance stands for the written row from now on. It takes no memory.
+    fn insert(&mut self, change: Change, key: &Key, base: Row)
+        requires { self.old.room ≡ true }
+        ensures { self.new ≡ record self.old {
+          instances = with_pairs self.old.instances (change_in key.now (written base) self.old.instances.held);
           marks = self.old.marks ++ (key.now, false) ∷ [];
           fresh = self.old.fresh ++ key.now ∷ [];
           changes = self.old.changes ++ change ∷ [];
-        }) }
-        ensures err { OnErr result (self.new ≡ self.old) }
+          room = self.new.room;
+        } }
     {
-        let base = row.copy(alloc)?;
-        let len = self.marks.len();
-        self.marks.push((*key, false))?;
-        match push_both(alloc, &mut self.fresh, *key, &mut self.changes, change) {
-            Ok(()) => {
-                self.instances.set_base(*key, base);
-                Ok(())
-            }
-            Err(error) => {
-                cut(alloc, &mut self.marks, len);
-                Err(error)
-            }
-        }
+        self.marks.push_reserved((*key, false));
+        self.fresh.push_reserved(*key);
+        self.changes.push_reserved(change);
+        self.instances.set_base(*key, base);
     }
 
-    /// An update was written: the instance stands for the written row from now on.
-    fn update(
-        &mut self,
-        alloc: Global,
-        change: Change,
-        key: &Key,
-        row: &Row,
-    ) -> Result<(), AllocError>
-        ensures ok { OnOk result (self.new ≡ record self.old {
-          instances = with_pairs self.old.instances (change_in key.now (written row.now) self.old.instances.held);
+    /// An update was written: the instance stands for the written row from now on. It takes no memory.
+    fn update(&mut self, change: Change, key: &Key, base: Row)
+        requires { self.old.room ≡ true }
+        ensures { self.new ≡ record self.old {
+          instances = with_pairs self.old.instances (change_in key.now (written base) self.old.instances.held);
           fresh = self.old.fresh ++ key.now ∷ [];
           changes = self.old.changes ++ change ∷ [];
-        }) }
-        ensures err { OnErr result (self.new ≡ self.old) }
+          room = self.new.room;
+        } }
     {
-        let base = row.copy(alloc)?;
-        push_both(alloc, &mut self.fresh, *key, &mut self.changes, change)?;
+        self.fresh.push_reserved(*key);
+        self.changes.push_reserved(change);
         self.instances.set_base(*key, base);
-        Ok(())
     }
 
-    /// A delete was written: the instance leaves.
-    fn delete(&mut self, change: Change, key: &Key) -> Result<(), AllocError>
-        ensures ok { OnOk result (self.new ≡ record self.old {
-          instances = with_pairs self.old.instances (drop_in key.now self.old.instances.held);
+    /// A delete was written: the instance leaves. It takes no memory.
+    fn delete(&mut self, change: Change, key: Key)
+        requires { self.old.room ≡ true }
+        ensures { self.new ≡ record self.old {
+          instances = with_pairs self.old.instances (drop_in key self.old.instances.held);
           changes = self.old.changes ++ change ∷ [];
-        }) }
-        ensures err { OnErr result (self.new ≡ self.old) }
+          room = self.new.room;
+        } }
     {
-        self.changes.push(change)?;
-        self.instances.drop(*key);
-        Ok(())
+        self.changes.push_reserved(change);
+        self.instances.drop(key);
     }
 
-    /// A change was written.
-    fn write(&mut self, alloc: Global, change: &Change) -> Result<(), AllocError>
-        ensures ok { OnOk result (self.new ≡ record self.old {
-          instances = map_written change.now self.old.instances;
-          marks = marks_written change.now self.old.marks;
-          fresh = fresh_written change.now self.old.fresh;
-          changes = self.old.changes ++ change.now ∷ [];
-        }) }
-        ensures err { OnErr result (self.new ≡ self.old) }
+    /// A change was written. It takes no memory.
+    fn write(&mut self, written: Written)
+        requires { self.old.room ≡ true }
+        ensures { written.base ≡ row_left written.change → self.new ≡ record self.old {
+          instances = map_written written.change self.old.instances;
+          marks = marks_written written.change self.old.marks;
+          fresh = fresh_written written.change self.old.fresh;
+          changes = self.old.changes ++ written.change ∷ [];
+          room = self.new.room;
+        } }
     {
-        let copy = change.copy(alloc)?;
-        match change {
-            Change::Insert { key, row } => self.insert(alloc, copy, key, row),
-            Change::Update { key, row, .. } => self.update(alloc, copy, key, row),
-            Change::Delete { key, .. } => self.delete(copy, key),
+        let Written { change, base } = written;
+        let key = change.key();
+        match (&change, base) {
+            (Change::Insert { .. }, Some(base)) => self.insert(change, &key, base),
+            (Change::Update { .. }, Some(base)) => self.update(change, &key, base),
+            (_, _) => self.delete(change, key),
         }
     }
 
@@ -278,23 +212,67 @@ impl Memory {
         Ok(())
     }
 
-    /// Takes one more entry. Where memory runs out nothing has changed.
-    pub fn note(&mut self, alloc: Global, entry: &Entry) -> Result<(), AllocError>
-        ensures ok { OnOk result (self.new ≡ noted self.old entry.now) }
+    /// A lock was given.
+    fn lock(&mut self, key: Key, lock: Tick)
+        requires { self.old.room ≡ true }
+        ensures { self.new ≡ record self.old { locks = self.old.locks ++ (key, lock) ∷ []; room = self.new.room } }
+    {
+        self.locks.push_reserved((key, lock));
+    }
+
+    /// A change was written, of which there may be copies.
+    fn write_copied(
+        &mut self,
+        alloc: Global,
+        change: &Change,
+        copies: Option<Written>,
+    ) -> Result<(), AllocError>
+        requires { self.old.room ≡ true }
+        ensures ok { OnOk result (Fits copies (Act.Write change.now) → self.new ≡ record self.old {
+          instances = map_written change.now self.old.instances;
+          marks = marks_written change.now self.old.marks;
+          fresh = fresh_written change.now self.old.fresh;
+          changes = self.old.changes ++ change.now ∷ [];
+          room = self.new.room;
+        }) }
         ensures err { OnErr result (self.new ≡ self.old) }
+        ensures room { is_some copies ≡ true → IsOk result }
+    {
+        let written = match copies {
+            Some(written) => written,
+            None => Written::of(alloc, change)?,
+        };
+        self.write(written);
+        Ok(())
+    }
+
+    /// Takes one more entry, where there is room.
+    fn take(
+        &mut self,
+        alloc: Global,
+        entry: &Entry,
+        copies: Option<Written>,
+    ) -> Result<(), AllocError>
+        requires { self.old.room ≡ true }
+        ensures ok { OnOk result (Fits copies entry.now.act → self.new ≡ with_room self.new.room (noted self.old entry.now)) }
+        ensures err { OnErr result (self.new ≡ self.old) }
+        ensures room { brings entry.now.act ≡ false → has_copies copies entry.now.act ≡ true → IsOk result }
     {
         match (&entry.act, &entry.reply) {
-            (Act::Begin, _) => {
-                self.begin(alloc, entry);
-                Ok(())
-            }
             (Act::Persist { key, row }, Reply::New) => self.make(alloc, key, row),
             (Act::Load { key }, Reply::Row(Some(row))) => self.read(alloc, key, row),
             (Act::Get { key, .. }, Reply::Hit(row)) => self.read(alloc, key, row),
             (Act::Set { key, cells }, Reply::Set) => self.set(alloc, key, cells),
             (Act::Remove { key }, Reply::Removed) => self.remove(alloc, key),
-            (Act::Write(change), _) => self.write(alloc, change),
-            (Act::Lock { key, .. }, Reply::Locked(lock)) => self.locks.push((*key, lock.id)),
+            (Act::Write(change), _) => self.write_copied(alloc, change, copies),
+            (Act::Lock { key, .. }, Reply::Locked(lock)) => {
+                self.lock(*key, lock.id);
+                Ok(())
+            }
+            (Act::Begin, _) => {
+                self.begin(alloc, entry);
+                Ok(())
+            }
             (Act::Commit, reply) => {
                 self.commit(alloc, reply);
                 Ok(())
@@ -310,5 +288,21 @@ impl Memory {
             }
             _ => Ok(()),
         }
+    }
+
+    /// Takes one more entry, which may be that of a write of which there are copies. It makes room first; where there is
+    /// room, it takes memory for what the entry brings alone. At an error nothing has changed but the room.
+    pub fn note(
+        &mut self,
+        alloc: Global,
+        entry: &Entry,
+        copies: Option<Written>,
+    ) -> Result<(), AllocError>
+        ensures ok { OnOk result (Fits copies entry.now.act → self.new ≡ with_room self.new.room (noted self.old entry.now)) }
+        ensures err { OnErr result (self.new ≡ with_room self.new.room self.old) }
+        ensures room { self.old.room ≡ true → brings entry.now.act ≡ false → has_copies copies entry.now.act ≡ true → IsOk result }
+    {
+        self.reserve()?;
+        self.take(alloc, entry, copies)
     }
 }

@@ -1,26 +1,33 @@
 // A session of a script.
-ghost use Rattle.std.specs.Prelude.{◌≡◌, ◌∷◌, ◌<◌, ◌≤◌, ◌||◌, cond, [], true, false, None, IfOk, IfSome, OnOk, OnErr, Some};
+ghost use Rattle.std.specs.Prelude.{◌≡◌, ◌∷◌, ◌<◌, ◌≤◌, ◌||◌, cond, [], true, false, None, IfOk, IsOk, IfSome, OnOk, OnErr, Some};
 ghost use Rattle.hib_base.specs.declared.replies.Reply.{Reply};
 ghost use Rattle.hib_base.specs.declared.scripts.Script.{Script};
 ghost use Rattle.hib_journal.specs.Sessions.{Journal, changes_in, is_begun};
 ghost use Rattle.hib_journal.specs.Held.{held};
 ghost use Rattle.hib_journal.specs.Legal.{unless_removed, is_there, set_unless};
 ghost use Rattle.hib_journal.specs.Next.{next, is_held, is_in, strategy};
-ghost use Rattle.hib_session.specs.Memory.{Knows};
+ghost use Rattle.hib_session.specs.Memory.{Knows, brings};
 ghost use Rattle.hib_session.specs.Control.{Stands};
 ghost use Rattle.hib_session.specs.Due.{IsAllowed, is_closed};
-ghost use Rattle.hib_session.specs.Session.{Follows, IsTaken, number_of, is_killed, is_ready, left_in, own_reply};
+ghost use Rattle.hib_session.specs.Session.{Follows, IsTaken, number_of, is_killed, left_in, own_reply};
 
+use crate::ahead::Ending;
 use crate::control::Control;
 use crate::memory::Memory;
+use crate::written::Written;
 use hib_base::{Act, EntityNo, Entry, Held, Key, Reply, Row, Script, SessionNo, State, Strategy};
 use std::alloc::{AllocError, Global};
+use std::mem;
 
 /// A session: how far it is in its statements, and what it remembers of its own entries.
 #[derive(Drop)]
 pub struct Session {
     control: Control,
     memory: Memory,
+    // Copies for the entry of the write that is due.
+    copies: Option<Written>,
+    // The acts after the end of the transaction that is due.
+    ending: Option<Ending>,
     killed: bool,
 }
 
@@ -77,6 +84,8 @@ impl Session {
         Session {
             control: Control::start(alloc, number),
             memory: Memory::new(alloc),
+            copies: None,
+            ending: None,
             killed: false,
         }
     }
@@ -97,16 +106,37 @@ impl Session {
         self.killed = true;
     }
 
-    /// Expands what is to be done next, so that the next act and its entry need no more than their own memory. Where
-    /// memory runs out the session has come as far as before.
+    /// Whether all is there that the next act and its entry need.
+    fn is_ready(&self, script: &Script) -> bool
+        ensures { result ≡ Rattle.hib_session.specs.Session.is_ready script.now self.now }
+    {
+        self.control.is_settled(script)
+            && self.memory.has_room()
+            && self.control.is_made(&self.copies, &self.ending)
+    }
+
+    /// Makes the session ready for its next act: what is to be done next is expanded, and the memory is taken that `advance`
+    /// needs for the entry of the act that is due. From then on `advance` answers Ok for that entry, unless the act is Persist,
+    /// Load, List, Get, Set or Remove. A session that is ready stays as it is, without memory. Where memory runs out the session
+    /// follows the same entries as before.
     pub fn ready(&mut self, alloc: Global, script: &Script) -> Result<(), AllocError>
         ensures number { number_of self.new ≡ number_of self.old }
         ensures killed { is_killed self.new ≡ is_killed self.old }
         ensures follows { (mine : Journal) → Follows script.now self.old mine → Follows script.now self.new mine }
-        ensures ready { OnOk result (is_ready script.now self.new ≡ true) }
+        ensures ready { OnOk result (Rattle.hib_session.specs.Session.is_ready script.now self.new ≡ true) }
+        ensures still { Rattle.hib_session.specs.Session.is_ready script.now self.old ≡ true → (IsOk result) × (self.new ≡ self.old) }
         ensures left { left_in script.now self.new ≤ left_in script.now self.old }
     {
-        self.control.settle(alloc, script, &self.memory)
+        if self.is_ready(script) {
+            return Ok(());
+        }
+        self.copies = None;
+        self.ending = None;
+        self.control.settle(alloc, script, &self.memory)?;
+        self.memory.reserve()?;
+        self.copies = self.control.copies(alloc)?;
+        self.ending = self.control.ending(alloc, script, &self.memory)?;
+        Ok(())
     }
 
     /// The act that is due of a session that was not killed.
@@ -219,7 +249,9 @@ impl Session {
         }
     }
 
-    /// Takes the entry of the act that was due. Where memory runs out the session has come as far as before.
+    /// Takes the entry of the act that was due. It makes the session ready first. Of a session that is ready it answers Ok,
+    /// unless the act is Persist, Load, List, Get, Set or Remove. Where memory runs out the session follows the same entries as
+    /// before.
     pub fn advance(
         &mut self,
         alloc: Global,
@@ -233,10 +265,16 @@ impl Session {
         ensures less { OnOk result ((mine : Journal) → Follows script.now self.old mine → IsTaken script.now (number_of self.old) mine entry.now
             → left_in script.now self.new < left_in script.now self.old) }
         ensures err { OnErr result ((mine : Journal) → Follows script.now self.old mine → Follows script.now self.new mine) }
+        ensures room { (mine : Journal) → Follows script.now self.old mine → IsTaken script.now (number_of self.old) mine entry.now
+            → Rattle.hib_session.specs.Session.is_ready script.now self.old ≡ true → brings entry.now.act ≡ false → IsOk result }
     {
-        self.control.settle(alloc, script, &self.memory)?;
-        let (queue, stage) = self.control.prepared(alloc, script, &self.memory, entry)?;
-        self.memory.note(alloc, entry)?;
+        self.ready(alloc, script)?;
+        let copies = mem::replace(&mut self.copies, None);
+        let ending = mem::replace(&mut self.ending, None);
+        let (queue, stage) = self
+            .control
+            .prepared(alloc, script, &self.memory, entry, ending)?;
+        self.memory.note(alloc, entry, copies)?;
         self.control.step(queue, stage);
         Ok(())
     }

@@ -1,0 +1,38 @@
+-- What is made ready before the act that is due is done.
+use Rattle.std.specs.Prelude.{◌≡◌, Bool, true, false, List, [], ◌∷◌, Some, None, Option}
+use Rattle.std.specs.Option.{is_some}
+use Rattle.hib_journal.specs.Types.{Mode, Script, Act}
+use Rattle.hib_journal.specs.Sessions.{Journal}
+use Rattle.hib_journal.specs.Next.{completion}
+use Rattle.hib_session.specs.declared.control.Stage.{Stage}
+use Rattle.hib_session.specs.declared.ahead.Ending.{Ending}
+use Rattle.hib_session.specs.declared.written.Written.{Written}
+use Rattle.hib_session.specs.Rows.{row_left}
+use Rattle.hib_session.specs.Memory.{has_copies}
+
+-- the acts that complete a transaction with these entries, whichever way it ends
+abbrev pub Ends : Script → Mode → Journal → Option Ending → Type 0
+Ends script m mine None = Unit {0}
+Ends script m mine (Some e) = (e.committed ≡ completion script m true mine) × (e.refused ≡ completion script m false mine)
+
+-- the copies are those of the first write that is queued
+abbrev pub Copies : List Act → Option Written → Type 0
+Copies acts None = Unit {0}
+Copies acts (Some w) = ((rest : List Act) × (acts ≡ Act.Write w.change ∷ rest)) × (w.base ≡ row_left w.change)
+
+-- the stages whose answers bring a row or a list
+abbrev pub asks_rows : Stage → Bool
+asks_rows (Stage.Loading k) = true
+asks_rows (Stage.Listing q) = true
+asks_rows _ = false
+
+-- the acts that complete the transaction are there, where the stage ends it
+abbrev pub has_ending : Stage → Option Ending → Bool
+has_ending Stage.Committing e = is_some e
+has_ending Stage.RollingBack e = is_some e
+has_ending _ e = true
+
+-- what the entry of the next act needs is there
+abbrev pub is_made : List Act → Stage → Option Written → Option Ending → Bool
+is_made (a ∷ acts) stage w e = has_copies w a
+is_made [] stage w e = has_ending stage e

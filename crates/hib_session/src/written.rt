@@ -1,0 +1,37 @@
+// What is made ready for the entry of a write.
+ghost use Rattle.std.specs.Prelude.{◌≡◌, IfOk};
+ghost use Rattle.hib_session.specs.Rows.{row_left};
+
+use hib_base::{Change, Row};
+use std::alloc::{AllocError, Global};
+
+/// Copies of a change, for the memory that takes the entry of its write.
+#[derive(Drop)]
+pub struct Written {
+    /// The change.
+    pub change: Change,
+    /// The row that it leaves, where it leaves one.
+    pub base: Option<Row>,
+}
+
+/// The row that a change leaves, where it leaves one.
+fn left_row(alloc: Global, change: &Change) -> Result<Option<Row>, AllocError>
+    ensures { IfOk result (λ r. r ≡ row_left change.now) }
+{
+    match change {
+        Change::Insert { row, .. } | Change::Update { row, .. } => Ok(Some(row.copy(alloc)?)),
+        Change::Delete { .. } => Ok(None),
+    }
+}
+
+impl Written {
+    /// The copies of a change.
+    pub fn of(alloc: Global, change: &Change) -> Result<Written, AllocError>
+        ensures { IfOk result (λ w. (w.change ≡ change.now) × (w.base ≡ row_left change.now)) }
+    {
+        Ok(Written {
+            change: change.copy(alloc)?,
+            base: left_row(alloc, change)?,
+        })
+    }
+}
