@@ -21,4 +21,4 @@ one_more_said [] q = refl
 one_more_said (p ∷ qs) q = ap (λ rest. said p ∷ rest) (one_more_said qs q)
 
 pub as_many_said : (qs : List Query) → length (map said qs) ≡ length qs
-as_many_said qs = length-map said qs
+as_many_said qs = simp length-map

@@ -1,7 +1,8 @@
 -- Every script that is read keeps the limits.
-use Rattle.std.proofs.Common.{◌≡◌, ℕ, ◌+◌, ◌≤◌, ◌<◌, Bool, true, false, cond, ◌&&◌, nat_lt, nat_le, sum_by, List, [], ◌∷◌, ◌++◌, length, pos, Option, Some, None, codes, Result, Ok, Err, refl, ap, sym, ◌∙◌, arith, length-append}
+use Rattle.std.proofs.Common.{◌≡◌, ℕ, ◌+◌, ◌≤◌, ◌<◌, Bool, true, false, cond, ◌&&◌, nat_lt, nat_le, sum_by, List, [], ◌∷◌, ◌++◌, length, pos, Option, Some, None, codes, Result, Ok, Err, refl, sym, arith, lit≤, length-append, IfOk}
 use Rattle.std.specs.List.{list_all}
 use Rattle.std.proofs.lemmas.List.{length-map}
+use Rattle.std.proofs.lemmas.List.Sums.{sum_by-append}
 use Rattle.std.proofs.lemmas.Bool.{and_parts, and_from, ltb-true, le-leb}
 use Rattle.std.proofs.lemmas.Bool.Decides.{nat_tests}
 use Rattle.hib_base.specs.declared.numbers.Key.{Key}
@@ -14,7 +15,6 @@ use Rattle.hib_base.specs.declared.scripts.Script.{Script}
 use Rattle.hib_base.specs.declared.scripts.SessionDef.{SessionDef}
 use Rattle.hib_base.specs.declared.scripts.Statement.{Statement}
 use Rattle.hib_criteria.specs.Query.{Said, said, query_of}
-use Rattle.hib_lex.specs.Lines.{lex_of}
 use Rattle.hib_lex.specs.Words.{begins}
 use Rattle.hib_lex.specs.declared.lexer.Token.{Token}
 use Rattle.hib_lex.specs.declared.lines.Line.{Line}
@@ -31,6 +31,7 @@ use Rattle.hib_script.specs.Outline.{Outline, outline_of, query_names}
 use Rattle.hib_script.specs.Places.{may_follow, part_of}
 use Rattle.hib_script.specs.Script.{refused_at, at_line, step, reading, finished, ended_at, ended, start, script_in, script_of}
 use Rattle.hib_script.specs.Valid.{statement_count, is_over, is_valid}
+use Rattle.hib_script.specs.declared.errors.ScriptError.{ScriptError}
 use Rattle.hib_script.specs.declared.places.Part.{Part}
 use Rattle.hib_script.specs.declared.places.Place.{Place}
 
@@ -216,7 +217,7 @@ entity_keeps r followed ts h k =
 columns_keep : (r : Reader) (d : EntityDef) (e : Result EntityDef Kind) → Keeps r → r.entity ≡ Some d → Gives (lines.with_columns r e) Keeps
 columns_keep r d (Err x) k h = tt
 columns_keep r d (Ok e) k h =
-    let before : length (with_open r.outline.mapping (Some d)) ≤ 64 = rw (← h) k.entities in
+    let before : length (with_open r.outline.mapping (Some d)) ≤ 64 = rw h at k.entities in
     with_entity r (Some e) k (simp length-append (simp length-append at before))
 
 column_keeps : (r : Reader) (e : Option EntityDef) (ts : List Token) → Keeps r → r.entity ≡ e → Gives (lines.column_line r e ts) Keeps
@@ -314,8 +315,7 @@ statement_keeps r s (Ok t) k e =
     (λ _. tt)
 
 count_more : (ss : List SessionDef) (s : SessionDef) → statement_count (ss ++ s ∷ []) ≡ statement_count ss + length s.statements
-count_more [] s = omega arith
-count_more (t ∷ ss) s = omega (arith, count_more ss s)
+count_more ss s = rw (sum_by-append) (omega arith)
 
 over_more : (ss : List SessionDef) (s : SessionDef) → list_all is_over ss ≡ true → is_over s ≡ true → list_all is_over (ss ++ s ∷ []) ≡ true
 over_more [] s h e = and_from (is_over s) true e refl
@@ -330,8 +330,8 @@ with_session_keeps r s h k e = record {
   entities = k.entities;
   rows = k.rows;
   queries = k.queries;
-  sessions = simp length-append (rw e at k.sessions);
-  counted = rw (count_more r.outline.sessions s) (rw e at k.counted);
+  sessions = simp length-append (omega (arith, rw e at k.sessions));
+  counted = rw (count_more r.outline.sessions s) (omega (arith, rw e at k.counted));
   statements = k.statements;
   orders = k.orders;
   over = over_more r.outline.sessions s k.over h;
@@ -388,7 +388,7 @@ part_keeps r Part.Timeout followed ts h k = timeout_keeps r (lines.number_line 1
 part_keeps r Part.Results followed ts h k = results_keep r (lines.number_line 100000 ts) k (line_small 100000 ts)
 part_keeps r Part.Entities followed ts h k = entity_keeps r followed ts h k
 part_keeps r Part.Rows followed ts h k = row_keeps r (row_of r.outline.mapping r.outline.rows ts) k
-part_keeps r Part.Queries followed ts h k = query_keeps r (lines.has_name (query_names r.outline.queries) (lines.name_in ts)) (query_of r.outline.mapping ts) k
+part_keeps r Part.Queries followed ts h k = query_keeps r (lines.is_taken r ts) (query_of r.outline.mapping ts) k
 part_keeps r Part.Sessions followed ts h k = session_keeps r ts k
 part_keeps r Part.Schedule followed ts h k = schedule_line_keeps r ts k
 
@@ -473,6 +473,7 @@ valid s k =
     let h2 = and_from (nat_le s.results 100000) _ (le-leb s.results 100000 k.results) h3 in
     and_from (nat_le s.timeout 1000000) _ (le-leb s.timeout 1000000 k.timeout) h2
 
--- a script that a text is
-pub script_is_valid : (text : List ℕ) (s : Script) → script_of text ≡ Ok (outline_of s) → is_valid s ≡ true
-script_is_valid text s e = valid s (given (script_of text) IsKept (outline_of s) (script_kept (lex_of text)) e)
+-- a script that lines are
+pub read_valid : (l : Lines) (x : Result Script ScriptError) → IfOk x (λ s. script_in (Ok l) ≡ Ok (outline_of s)) → IfOk x (λ s. is_valid s ≡ true)
+read_valid l (Ok s) h = valid s (given (script_in (Ok l)) IsKept (outline_of s) (script_kept (Ok l)) h)
+read_valid l (Err e) h = h

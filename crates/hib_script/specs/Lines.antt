@@ -152,8 +152,11 @@ with_query r taken (Ok q) =
     (cond (nat_lt (length r.outline.queries) 1000)
     (Ok (behind Part.Queries (record r { outline = record r.outline { queries = r.outline.queries ++ q ∷ [] } }))) (Err Kind.Many))
 
+abbrev pub is_taken : Reader → List Token → Bool
+is_taken r ts = has_name (query_names r.outline.queries) (name_in ts)
+
 abbrev pub query_line : Reader → List Token → After
-query_line r ts = with_query r (has_name (query_names r.outline.queries) (name_in ts)) (query_of r.outline.mapping ts)
+query_line r ts = with_query r (is_taken r ts) (query_of r.outline.mapping ts)
 
 -- ---- session NAME, its statements, end
 abbrev pub has_session : List SessionDef → List ℕ → Bool

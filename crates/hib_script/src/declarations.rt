@@ -1,9 +1,9 @@
 // The lines before the sessions: header, settings, entities with their columns, rows and queries.
 ghost use Rattle.hib_script.specs.Drafts.{reader_of};
 ghost use Rattle.hib_script.specs.Lines as lines;
-ghost use Rattle.hib_script.specs.Outline as outline;
 ghost use Rattle.hib_criteria.specs.Query.{said};
-ghost use Rattle.std.specs.Prelude.{◌≡◌, IfOk, IfErr, map};
+ghost use Rattle.std.specs.List.{list_any};
+ghost use Rattle.std.specs.Prelude.{◌≡◌, IfOk, IfErr, bytes_eq};
 
 use crate::drafts::{Draft, behind};
 use crate::errors::LineError;
@@ -202,7 +202,7 @@ pub fn query_line(alloc: Global, draft: Draft, tokens: &[Token]) -> Result<Draft
     ensures step { IfOk result (λ d. lines.query_line (reader_of draft) tokens.now ≡ Ok (reader_of d)) }
     ensures fault { IfErr result (lines.IsFault (lines.query_line (reader_of draft) tokens.now)) }
 {
-    let is_taken = has_query(draft.script.queries.as_slice(), name_in(tokens));
+    let is_taken = is_query_taken(&draft, tokens);
     match check(alloc, &draft.script.mapping, tokens) {
         Ok(query) => with_query(draft, is_taken, query),
         Err(CriteriaError::Fault(kind)) => Err(LineError::Fault(or_taken(is_taken, kind))),
@@ -210,9 +210,16 @@ pub fn query_line(alloc: Global, draft: Draft, tokens: &[Token]) -> Result<Draft
     }
 }
 
+/// Whether the name that a query's line declares is taken.
 #[tactic(auto, using(crate::proofs::Queries::has_said))]
+fn is_query_taken(draft: &Draft, tokens: &[Token]) -> bool
+    ensures { result ≡ lines.is_taken (reader_of draft.now) tokens.now }
+{
+    has_query(draft.script.queries.as_slice(), name_in(tokens))
+}
+
 fn has_query(queries: &[Query], name: &[u8]) -> bool
-    ensures { result ≡ lines.has_name (outline.query_names (map said queries.now)) name.now }
+    ensures { result ≡ list_any (λ q. bytes_eq q.name name.now) queries.now }
 {
     queries.iter().any(|query| query.name.as_slice() == name)
 }

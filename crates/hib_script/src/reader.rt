@@ -22,7 +22,6 @@ use std::alloc::{AllocError, Global};
 /// of bytes, length and tokens over the whole text before all others; where the text ends too early, the line is the
 /// number of lines, and without a line that says something it is 1. `NoMemory` where there is none left. Nothing is
 /// changed.
-#[tactic(auto, using(crate::proofs::Valid::script_is_valid))]
 pub fn read(alloc: Global, text: &[u8]) -> Result<Script, ScriptError>
     requires { length text.now < 2 ^ 31 }
     ensures script { IfOk result (λ s. order.script_of text.now ≡ Ok (outline_of s)) }
