@@ -3,7 +3,7 @@ use Rattle.std.proofs.Common.{◌≡◌, ℕ, List, [], ◌∷◌, ◌++◌, len
 use Rattle.std.specs.List.{list_any}
 use Rattle.std.proofs.lemmas.List.{length-map}
 use Rattle.hib_base.specs.declared.scripts.Query.{Query}
-use Rattle.hib_criteria.specs.Query.{Said, said}
+use Rattle.hib_criteria.specs.Query.{said}
 use Rattle.hib_statements.specs.Statements.{names_of}
 use Rattle.hib_script.specs.Lines.{has_name}
 use Rattle.hib_script.specs.Outline.{query_names}

@@ -1,9 +1,8 @@
 -- The last of some statements, and where a line within a session stands.
-use Rattle.std.proofs.Common.{◌≡◌, ℕ, ◌-◌, ◌<◌, suc, false, List, [], ◌∷◌, length, get_or, Result, Ok, Err, refl, arith}
+use Rattle.std.proofs.Common.{◌≡◌, ◌-◌, ◌<◌, suc, List, [], ◌∷◌, length, get_or, Result, Ok, Err, refl, arith}
 use Rattle.hib_base.specs.declared.refusals.Kind.{Kind}
 use Rattle.hib_base.specs.declared.scripts.SessionDef.{SessionDef}
 use Rattle.hib_base.specs.declared.scripts.Statement.{Statement}
-use Rattle.hib_lex.specs.declared.lexer.Token.{Token}
 use Rattle.hib_script.specs.Lines.{Reader, at, ends_one, are_over, with_statement}
 use Rattle.hib_script.specs.declared.places.Place.{Place}
 

@@ -1,5 +1,5 @@
 -- Every script that is read keeps the limits.
-use Rattle.std.proofs.Common.{◌≡◌, ℕ, ◌+◌, ◌≤◌, ◌<◌, Bool, true, false, cond, ◌&&◌, nat_lt, nat_le, sum_by, List, [], ◌∷◌, ◌++◌, length, pos, Option, Some, None, codes, Result, Ok, Err, refl, sym, arith, lit≤, length-append, IfOk}
+use Rattle.std.proofs.Common.{◌≡◌, ℕ, ◌+◌, ◌≤◌, Bool, true, false, cond, nat_lt, nat_le, List, [], ◌∷◌, ◌++◌, length, pos, Option, Some, None, codes, Result, Ok, Err, refl, arith, lit≤, length-append, IfOk}
 use Rattle.std.specs.List.{list_all}
 use Rattle.std.proofs.lemmas.List.{length-map}
 use Rattle.std.proofs.lemmas.List.Sums.{sum_by-append}
@@ -14,7 +14,7 @@ use Rattle.hib_base.specs.declared.scripts.Order.{Order}
 use Rattle.hib_base.specs.declared.scripts.Script.{Script}
 use Rattle.hib_base.specs.declared.scripts.SessionDef.{SessionDef}
 use Rattle.hib_base.specs.declared.scripts.Statement.{Statement}
-use Rattle.hib_criteria.specs.Query.{Said, said, query_of}
+use Rattle.hib_criteria.specs.Query.{Said, query_of}
 use Rattle.hib_lex.specs.Words.{begins}
 use Rattle.hib_lex.specs.declared.lexer.Token.{Token}
 use Rattle.hib_lex.specs.declared.lines.Line.{Line}
@@ -29,7 +29,7 @@ use Rattle.hib_script.specs.Lines as lines
 use Rattle.hib_script.specs.Lines.{Reader, After}
 use Rattle.hib_script.specs.Outline.{Outline, outline_of, query_names}
 use Rattle.hib_script.specs.Places.{may_follow, part_of}
-use Rattle.hib_script.specs.Script.{refused_at, at_line, step, reading, finished, ended_at, ended, start, script_in, script_of}
+use Rattle.hib_script.specs.Script.{at_line, step, reading, finished, ended_at, ended, start, script_in}
 use Rattle.hib_script.specs.Valid.{statement_count, is_over, is_valid}
 use Rattle.hib_script.specs.declared.errors.ScriptError.{ScriptError}
 use Rattle.hib_script.specs.declared.places.Part.{Part}

@@ -1,5 +1,4 @@
 -- What a draft of a script says.
-use Rattle.std.specs.Prelude.{List}
 use Rattle.hib_script.specs.declared.drafts.Draft.{Draft}
 use Rattle.hib_script.specs.Lines.{Reader}
 use Rattle.hib_script.specs.Outline.{outline_of}

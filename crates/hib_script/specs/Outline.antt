@@ -1,5 +1,5 @@
 -- What a script says, with each query's condition as its parts, so that no place in memory is spoken of.
-use Rattle.std.specs.Prelude.{ℕ, List, [], ◌∷◌, map}
+use Rattle.std.specs.Prelude.{ℕ, List, map}
 use Rattle.hib_base.specs.declared.numbers.Key.{Key}
 use Rattle.hib_base.specs.declared.rows.Row.{Row}
 use Rattle.hib_base.specs.declared.scripts.EntityDef.{EntityDef}

@@ -9,7 +9,6 @@ use Rattle.hib_mapping.specs.Mapping.{begins_column}
 use Rattle.hib_script.specs.Lines.{Reader, After, after_line, closed}
 use Rattle.hib_script.specs.Outline.{Outline}
 use Rattle.hib_script.specs.declared.errors.ScriptError.{ScriptError}
-use Rattle.hib_script.specs.declared.places.Part.{Part}
 use Rattle.hib_script.specs.declared.places.Place.{Place}
 
 -- ---- line by line

@@ -1,7 +1,6 @@
 -- What every script keeps that was read.
-use Rattle.std.specs.Prelude.{ℕ, Bool, true, false, ◌&&◌, nat_le, nat_lt, sum_by, List, [], ◌∷◌, length, Option, Some, None}
+use Rattle.std.specs.Prelude.{ℕ, Bool, ◌&&◌, nat_le, sum_by, List, length}
 use Rattle.std.specs.List.{list_all}
-use Rattle.hib_base.specs.declared.scripts.EntityDef.{EntityDef}
 use Rattle.hib_base.specs.declared.scripts.Script.{Script}
 use Rattle.hib_base.specs.declared.scripts.SessionDef.{SessionDef}
 use Rattle.hib_script.specs.Lines.{are_over}
