@@ -1,5 +1,5 @@
 -- The place of a query by its name among the names of queries.
-use Rattle.std.proofs.Common.{◌≡◌, ℕ, not, true, false, cond, List, [], ◌∷◌, length, map, position, bytes_eq, refl, ap}
+use Rattle.std.proofs.Common.{◌≡◌, ℕ, not, List, [], ◌∷◌, position, bytes_eq, refl}
 use Rattle.std.specs.List.{prefix_len}
 use Rattle.std.proofs.lemmas.List.{length-map}
 use Rattle.hib_base.specs.declared.scripts.Query.{Query}

@@ -1,5 +1,5 @@
 -- The tokens of a row line from the fourth on.
-use Rattle.std.proofs.Common.{◌≡◌, ℕ, ◌-◌, ◌≤◌, List, [], ◌∷◌, length, take, drop, get_or, refl, ap, sym, ◌∙◌, arith}
+use Rattle.std.proofs.Common.{◌≡◌, ◌-◌, ◌≤◌, List, [], ◌∷◌, length, take, drop, get_or, refl, ap, sym, ◌∙◌, arith}
 use Rattle.hib_base.specs.declared.numbers.Key.{Key}
 use Rattle.hib_base.specs.declared.rows.Row.{Row}
 use Rattle.hib_base.specs.declared.scripts.EntityDef.{EntityDef}

@@ -1,6 +1,6 @@
 -- The row that a line gives, or the first thing that is wrong with it:
 -- row ENTITY ID vN CELL .. of a versioned entity, row ENTITY ID CELL .. of a plain one
-use Rattle.std.specs.Prelude.{ℕ, Bool, true, false, cond, ◌&&◌, ◌||◌, ◌==◌, nat_le, List, [], ◌∷◌, length, slice_get, Option, Some, None, Result, Ok, Err, ◌≡◌}
+use Rattle.std.specs.Prelude.{ℕ, Bool, true, false, cond, ◌||◌, ◌==◌, nat_le, List, [], ◌∷◌, length, slice_get, Option, Some, None, Result, Ok, Err, ◌≡◌}
 use Rattle.std.specs.List.{list_any}
 use Rattle.hib_base.specs.Keys.{same_key}
 use Rattle.hib_base.specs.declared.numbers.Key.{Key}
