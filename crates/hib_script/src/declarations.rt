@@ -5,7 +5,7 @@ ghost use Rattle.hib_criteria.specs.Query.{said};
 ghost use Rattle.std.specs.List.{list_any};
 ghost use Rattle.std.specs.Prelude.{◌≡◌, IfOk, IfErr, bytes_eq};
 
-use crate::drafts::{Draft, behind};
+use crate::drafts::{Draft, behind, has_room};
 use crate::errors::LineError;
 use crate::forms::{is_header, name_in, number_line};
 use crate::places::Part;
@@ -190,7 +190,7 @@ fn with_row(mut draft: Draft, row: (Key, Row)) -> Result<Draft, LineError>
     ensures step { IfOk result (λ d. lines.with_row (reader_of draft) (Ok row) ≡ Ok (reader_of d)) }
     ensures fault { IfErr result (lines.IsFault (lines.with_row (reader_of draft) (Ok row))) }
 {
-    if draft.script.rows.len() >= MOST_ROWS {
+    if !has_room(draft.script.rows.len(), MOST_ROWS) {
         return Err(LineError::Fault(Kind::Many));
     }
     draft.script.rows.push(row)?;
@@ -249,7 +249,7 @@ fn with_query(mut draft: Draft, is_taken: bool, query: Query) -> Result<Draft, L
     if is_taken {
         return Err(LineError::Fault(Kind::Taken));
     }
-    if draft.script.queries.len() >= MOST_QUERIES {
+    if !has_room(draft.script.queries.len(), MOST_QUERIES) {
         return Err(LineError::Fault(Kind::Many));
     }
     draft.script.queries.push(query)?;

@@ -2,7 +2,7 @@
 ghost use Rattle.hib_script.specs.Drafts.{reader_of};
 ghost use Rattle.hib_script.specs.Lines as lines;
 ghost use Rattle.hib_script.specs.Script as order;
-ghost use Rattle.std.specs.Prelude.{◌≡◌, IfOk};
+ghost use Rattle.std.specs.Prelude.{◌≡◌, IfOk, nat_lt};
 
 use crate::places::{Part, Place};
 use hib_base::{EntityDef, Script, Seq};
@@ -76,4 +76,11 @@ pub fn closed(draft: Draft) -> Result<Draft, AllocError>
         statements,
         place,
     })
+}
+
+/// Whether there is room for one more beside so many.
+pub fn has_room(count: usize, most: usize) -> bool
+    ensures { result ≡ nat_lt count most }
+{
+    count < most
 }

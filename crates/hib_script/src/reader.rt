@@ -100,7 +100,7 @@ fn ended(count: u32, draft: Draft) -> Result<Script, ScriptError>
             statements,
             place: Place::Behind(last),
         })?),
-        Place::Session(_) | Place::Schedule => Err(refused(count, Kind::NoEnd)),
+        Place::Session(_) | Place::Schedule => Err(unfinished(count)),
     }
 }
 
@@ -110,6 +110,13 @@ fn finished(draft: Draft) -> Result<Script, AllocError>
 {
     let Draft { script, .. } = closed(draft)?;
     Ok(script)
+}
+
+/// What is said where a text of so many lines ends within a session or a schedule.
+fn unfinished(count: u32) -> ScriptError
+    ensures { result ≡ ScriptError.Refused (order.refused_at count Kind.NoEnd) }
+{
+    refused(count, Kind::NoEnd)
 }
 
 fn refused(line: u32, kind: Kind) -> ScriptError

@@ -4,7 +4,7 @@ ghost use Rattle.hib_script.specs.Drafts.{reader_of};
 ghost use Rattle.hib_script.specs.Lines as lines;
 ghost use Rattle.std.specs.Prelude.{◌≡◌, IfOk, IfErr};
 
-use crate::drafts::{Draft, at, behind};
+use crate::drafts::{Draft, at, behind, has_room};
 use crate::errors::LineError;
 use crate::forms::is_alone;
 use crate::places::{Part, Place};
@@ -45,7 +45,7 @@ fn new_session(alloc: Global, draft: Draft, name: &Token) -> Result<Draft, LineE
     if has_session(draft.script.sessions.as_slice(), bytes) {
         return Err(LineError::Fault(Kind::Taken));
     }
-    if draft.script.sessions.len() >= MOST_SESSIONS {
+    if !has_room(draft.script.sessions.len(), MOST_SESSIONS) {
         return Err(LineError::Fault(Kind::Many));
     }
     let session = SessionDef {
@@ -199,7 +199,7 @@ fn with_order(mut draft: Draft, order: Result<Order, Kind>) -> Result<Draft, Lin
         Ok(order) => order,
         Err(kind) => return Err(LineError::Fault(kind)),
     };
-    if draft.script.schedule.len() >= MOST_ORDERS {
+    if !has_room(draft.script.schedule.len(), MOST_ORDERS) {
         return Err(LineError::Fault(Kind::Many));
     }
     draft.script.schedule.push(order)?;
