@@ -1,3 +1,4 @@
-pub mod Lines
-pub mod Cells
-pub mod Built
+pub mod Queries
+pub mod Statements
+pub mod Scan
+pub mod Valid

@@ -1,5 +1,7 @@
+pub mod Outline
+pub mod Places
 pub mod Lines
-pub mod Forms
+pub mod Drafts
 pub mod Script
-pub mod Built
-pub mod Reads
+pub mod Valid
+pub mod Unbuilt

@@ -1,20 +1,261 @@
--- The lines of a text.
-use Rattle.std.specs.Prelude.{ℕ, suc, List, [], ◌∷◌, cond, ◌==◌}
+-- What one line adds to a script that was read so far, or the first thing that is wrong with it.
+use Rattle.std.specs.Prelude.{◌≡◌, ℕ, ◌+◌, Bool, true, false, cond, not, ◌&&◌, nat_lt, List, [], ◌∷◌, ◌++◌, length, Option, Some, None, codes, bytes_eq, Result, Ok, Err}
+use Rattle.std.specs.List.{list_any}
+use Rattle.hib_base.specs.declared.numbers.Key.{Key}
+use Rattle.hib_base.specs.declared.refusals.Kind.{Kind}
+use Rattle.hib_base.specs.declared.rows.Row.{Row}
+use Rattle.hib_base.specs.declared.scripts.EntityDef.{EntityDef}
+use Rattle.hib_base.specs.declared.scripts.Order.{Order}
+use Rattle.hib_base.specs.declared.scripts.SessionDef.{SessionDef}
+use Rattle.hib_base.specs.declared.scripts.Statement.{Statement}
+use Rattle.hib_lex.specs.Words.{is_the_word, begins}
+use Rattle.hib_lex.specs.declared.lexer.Token.{Token}
+use Rattle.hib_mapping.specs.Declarations.{is_entity_line, entity_kind, entity_of, is_column_line, column_kind, with_column}
+use Rattle.hib_mapping.specs.Mapping.{with_open}
+use Rattle.hib_mapping.specs.Parts.{is_a_word, is_a_number, word_of, is_within, number_up_to, is_reserved}
+use Rattle.hib_criteria.specs.Query.{Said, query_of}
+use Rattle.hib_statements.specs.Statements.{statement_of}
+use Rattle.hib_statements.specs.Rows.{row_of}
+use Rattle.hib_statements.specs.Orders.{order_of}
+use Rattle.hib_script.specs.Outline.{Outline, query_names}
+use Rattle.hib_script.specs.Places.{may_follow, part_of}
+use Rattle.hib_script.specs.declared.errors.LineError.{LineError}
+use Rattle.hib_script.specs.declared.places.Part.{Part}
+use Rattle.hib_script.specs.declared.places.Place.{Place}
 
-abbrev pub line_feed : ℕ
-line_feed = 10
+-- a script as far as it was read
+pub record Reader : Type 0 where
+  -- what is finished
+  pub outline : Outline
+  -- the entity whose columns are read
+  pub entity : Option EntityDef
+  -- the statements of all sessions so far
+  pub statements : ℕ
+  pub place : Place
 
--- a byte before the first of some lines
-abbrev pub before_lines : ℕ → List (List ℕ) → List (List ℕ)
-before_lines b [] = (b ∷ []) ∷ []
-before_lines b (l ∷ ls) = (b ∷ l) ∷ ls
+-- what a line leaves
+abbrev pub After : Type 0
+After = Result Reader Kind
 
--- the lines of a text, without their line ends; the last line end may be missing
-abbrev pub lines_of : List ℕ → List (List ℕ)
-lines_of [] = []
-lines_of (b ∷ bs) = cond (b == line_feed) ([] ∷ lines_of bs) (before_lines b (lines_of bs))
+abbrev pub at : Place → Reader → Reader
+at p r = record r { place = p }
 
--- how many bytes stand before the first line end, or in all
-abbrev pub line_length : List ℕ → ℕ
-line_length [] = 0
-line_length (b ∷ bs) = cond (b == line_feed) 0 (suc (line_length bs))
+abbrev pub behind : Part → Reader → Reader
+behind p r = at (Place.Behind p) r
+
+-- the name that a line declares
+abbrev pub name_in : List Token → List ℕ
+name_in (first ∷ name ∷ ts) = word_of name
+name_in _ = []
+
+-- a line of one word
+abbrev pub is_alone : List Token → Bool
+is_alone (first ∷ []) = true
+is_alone _ = false
+
+-- ---- hib 1
+abbrev pub is_header : List Token → Bool
+is_header (first ∷ version ∷ []) = is_the_word (codes "hib") first && is_within 1 1 version
+is_header _ = false
+
+abbrev pub header_line : Reader → List Token → After
+header_line r ts = cond (is_header ts) (Ok (behind Part.Header r)) (Err Kind.Header)
+
+-- ---- timeout N, results N
+-- a number from 1 on
+abbrev pub number_within : ℕ → Token → Result ℕ Kind
+number_within most n =
+    cond (is_a_number n) (cond (is_within 1 most n) (Ok (number_up_to most n)) (Err Kind.Number)) (Err Kind.Words)
+
+abbrev pub number_line : ℕ → List Token → Result ℕ Kind
+number_line most (first ∷ n ∷ []) = number_within most n
+number_line most _ = Err Kind.Words
+
+abbrev pub with_timeout : Reader → Result ℕ Kind → After
+with_timeout r (Err k) = Err k
+with_timeout r (Ok n) = Ok (behind Part.Timeout (record r { outline = record r.outline { timeout = n } }))
+
+abbrev pub with_results : Reader → Result ℕ Kind → After
+with_results r (Err k) = Err k
+with_results r (Ok n) = Ok (behind Part.Results (record r { outline = record r.outline { results = n } }))
+
+abbrev pub timeout_line : Reader → List Token → After
+timeout_line r ts = with_timeout r (number_line 1000000 ts)
+
+abbrev pub results_line : Reader → List Token → After
+results_line r ts = with_results r (number_line 100000 ts)
+
+-- ---- entities and their columns
+-- a declared name may not be reserved
+abbrev pub or_reserved : List ℕ → Option Kind → Option Kind
+or_reserved w (Some k) = Some k
+or_reserved w None = cond (is_reserved w) (Some Kind.Reserved) None
+
+abbrev pub new_entity : Reader → List Token → Option Kind → After
+new_entity r ts (Some k) = Err k
+new_entity r ts None = Ok (behind Part.Entities (record r { entity = entity_of ts }))
+
+-- followed: the next line is a column's
+abbrev pub entity_line : Reader → Bool → List Token → After
+entity_line r followed ts =
+    cond (is_entity_line ts) (new_entity r ts (or_reserved (name_in ts) (entity_kind r.outline.mapping followed ts))) (Err Kind.Words)
+
+abbrev pub columns_unless : List EntityDef → EntityDef → List Token → Option Kind → Result EntityDef Kind
+columns_unless m e ts (Some k) = Err k
+columns_unless m e ts None = Ok (with_column m e ts)
+
+-- the entity with the column of a line
+abbrev pub more_columns : List EntityDef → EntityDef → List Token → Result EntityDef Kind
+more_columns m e ts =
+    cond (is_column_line ts) (columns_unless m e ts (or_reserved (name_in ts) (column_kind m e ts))) (Err Kind.Words)
+
+abbrev pub with_columns : Reader → Result EntityDef Kind → After
+with_columns r (Err k) = Err k
+with_columns r (Ok e) = Ok (record r { entity = Some e })
+
+-- a column belongs to the entity whose columns are read
+abbrev pub column_line : Reader → Option EntityDef → List Token → After
+column_line r None ts = Err Kind.Line
+column_line r (Some e) ts = with_columns r (more_columns r.outline.mapping e ts)
+
+-- an entity is finished by the next line that isn't a column's
+abbrev pub closed : Reader → Reader
+closed r = record r { outline = record r.outline { mapping = with_open r.outline.mapping r.entity }; entity = None }
+
+-- ---- rows
+abbrev pub with_row : Reader → Result (Key × Row) Kind → After
+with_row r (Err k) = Err k
+with_row r (Ok x) =
+    cond (nat_lt (length r.outline.rows) 10000)
+    (Ok (behind Part.Rows (record r { outline = record r.outline { rows = r.outline.rows ++ x ∷ [] } }))) (Err Kind.Many)
+
+abbrev pub row_line : Reader → List Token → After
+row_line r ts = with_row r (row_of r.outline.mapping r.outline.rows ts)
+
+-- ---- queries
+abbrev pub has_name : List (List ℕ) → List ℕ → Bool
+has_name names w = list_any (λ v. bytes_eq v w) names
+
+abbrev pub is_of_form : Kind → Bool
+is_of_form Kind.Words = true
+is_of_form Kind.Reserved = true
+is_of_form _ = false
+
+-- a name that is there already is found behind the form and before all else
+abbrev pub or_taken : Bool → Kind → Kind
+or_taken taken k = cond (taken && not (is_of_form k)) Kind.Taken k
+
+abbrev pub with_query : Reader → Bool → Result Said Kind → After
+with_query r taken (Err k) = Err (or_taken taken k)
+with_query r taken (Ok q) =
+    cond taken (Err Kind.Taken)
+    (cond (nat_lt (length r.outline.queries) 1000)
+    (Ok (behind Part.Queries (record r { outline = record r.outline { queries = r.outline.queries ++ q ∷ [] } }))) (Err Kind.Many))
+
+abbrev pub is_taken : Reader → List Token → Bool
+is_taken r ts = has_name (query_names r.outline.queries) (name_in ts)
+
+abbrev pub query_line : Reader → List Token → After
+query_line r ts = with_query r (is_taken r ts) (query_of r.outline.mapping ts)
+
+-- ---- session NAME, its statements, end
+abbrev pub has_session : List SessionDef → List ℕ → Bool
+has_session ss w = list_any (λ s. bytes_eq s.name w) ss
+
+abbrev pub begun : Reader → List ℕ → After
+begun r w = Ok (record r { place = Place.Session (record { name = w; statements = [] }) })
+
+abbrev pub new_session : Reader → List ℕ → After
+new_session r w =
+    cond (is_reserved w) (Err Kind.Reserved)
+    (cond (has_session r.outline.sessions w) (Err Kind.Taken)
+    (cond (nat_lt (length r.outline.sessions) 1000) (begun r w) (Err Kind.Many)))
+
+abbrev pub session_line : Reader → List Token → After
+session_line r (first ∷ name ∷ []) = cond (is_a_word name) (new_session r (word_of name)) (Err Kind.Words)
+session_line r _ = Err Kind.Words
+
+abbrev pub ends_one : Statement → Bool
+ends_one Statement.Commit = true
+ends_one Statement.Rollback = true
+ends_one _ = false
+
+-- the last of some statements is a commit or a rollback
+abbrev pub are_over : List Statement → Bool
+are_over [] = false
+are_over (t ∷ []) = ends_one t
+are_over (t ∷ u ∷ ts) = are_over (u ∷ ts)
+
+abbrev pub one_more : Reader → SessionDef → Statement → Reader
+one_more r s t =
+    record r { statements = r.statements + 1; place = Place.Session (record s { statements = s.statements ++ t ∷ [] }) }
+
+-- at most 5,000 statements of all sessions; none behind a commit or a rollback
+abbrev pub with_statement : Reader → SessionDef → Result Statement Kind → After
+with_statement r s (Err k) = Err k
+with_statement r s (Ok t) =
+    cond (nat_lt r.statements 5000) (cond (are_over s.statements) (Err Kind.Last) (Ok (one_more r s t))) (Err Kind.Many)
+
+abbrev pub with_session : Reader → SessionDef → Reader
+with_session r s = behind Part.Sessions (record r { outline = record r.outline { sessions = r.outline.sessions ++ s ∷ [] } })
+
+abbrev pub end_line : Reader → SessionDef → List Token → After
+end_line r s ts =
+    cond (is_alone ts) (cond (are_over s.statements) (Ok (with_session r s)) (Err Kind.Last)) (Err Kind.Words)
+
+abbrev pub statement_line : Reader → SessionDef → List Token → After
+statement_line r s ts = with_statement r s (statement_of r.outline.mapping (query_names r.outline.queries) ts)
+
+abbrev pub in_session : Reader → SessionDef → List Token → After
+in_session r s ts = cond (begins (codes "end") ts) (end_line r s ts) (statement_line r s ts)
+
+-- ---- schedule, its orders, end
+abbrev pub schedule_line : Reader → List Token → After
+schedule_line r ts = cond (is_alone ts) (Ok (record r { place = Place.Schedule })) (Err Kind.Words)
+
+abbrev pub with_order : Reader → Result Order Kind → After
+with_order r (Err k) = Err k
+with_order r (Ok o) =
+    cond (nat_lt (length r.outline.schedule) 20000)
+    (Ok (record r { outline = record r.outline { schedule = r.outline.schedule ++ o ∷ [] } })) (Err Kind.Many)
+
+abbrev pub schedule_end : Reader → List Token → After
+schedule_end r ts = cond (is_alone ts) (Ok (behind Part.Schedule r)) (Err Kind.Words)
+
+abbrev pub in_schedule : Reader → List Token → After
+in_schedule r ts =
+    cond (begins (codes "end") ts) (schedule_end r ts) (with_order r (order_of r.outline.mapping r.outline.sessions ts))
+
+-- ---- a line behind the line of a part
+abbrev pub part_line : Reader → Part → Bool → List Token → After
+part_line r Part.Timeout followed ts = timeout_line r ts
+part_line r Part.Results followed ts = results_line r ts
+part_line r Part.Entities followed ts = entity_line r followed ts
+part_line r Part.Rows followed ts = row_line r ts
+part_line r Part.Queries followed ts = query_line r ts
+part_line r Part.Sessions followed ts = session_line r ts
+part_line r Part.Schedule followed ts = schedule_line r ts
+part_line r Part.Header followed ts = Err Kind.Line
+
+abbrev pub next_part : Reader → Part → Option Part → Bool → List Token → After
+next_part r last None followed ts = Err Kind.Line
+next_part r last (Some p) followed ts = cond (may_follow last p) (part_line (closed r) p followed ts) (Err Kind.Line)
+
+abbrev pub behind_part : Reader → Part → Bool → List Token → After
+behind_part r last followed ts =
+    cond (begins (codes "column") ts) (column_line r r.entity ts) (next_part r last (part_of ts) followed ts)
+
+abbrev pub line_at : Reader → Place → Bool → List Token → After
+line_at r Place.Start followed ts = header_line r ts
+line_at r (Place.Behind last) followed ts = behind_part r last followed ts
+line_at r (Place.Session s) followed ts = in_session r s ts
+line_at r Place.Schedule followed ts = in_schedule r ts
+
+-- what a line of these tokens leaves, or the first thing that is wrong with it
+abbrev pub after_line : Reader → Bool → List Token → After
+after_line r followed ts = line_at r r.place followed ts
+
+-- what an error says; want of memory says nothing
+abbrev pub IsFault : {A : Type 0} → Result A Kind → LineError → Type 0
+IsFault r LineError.NoMemory = Unit {0}
+IsFault r (LineError.Fault k) = r ≡ Err k

@@ -1,67 +1,160 @@
 // The script of a text.
-ghost use Rattle.hib_script.specs.Built.{is_built};
-ghost use Rattle.hib_script.specs.Lines as lines;
-ghost use Rattle.hib_script.specs.Reads.{IsWhere};
-ghost use Rattle.hib_script.specs.Script.{script_of};
-ghost use Rattle.hib_script.specs.Script.Reading.{Is};
-ghost use Rattle.std.specs.Prelude.{◌≡◌, ◌^◌, ◌<◌, length, IfOk, IfErr, true};
+ghost use Rattle.hib_lex.specs.Lines.{lex_of};
+ghost use Rattle.hib_mapping.specs.Mapping.{begins_column};
+ghost use Rattle.hib_script.specs.Drafts.{reader_of};
+ghost use Rattle.hib_script.specs.Outline.{outline_of};
+ghost use Rattle.hib_script.specs.Script as order;
+ghost use Rattle.hib_script.specs.Unbuilt as unbuilt;
+ghost use Rattle.hib_script.specs.Valid.{is_valid};
+ghost use Rattle.std.specs.Prelude.{◌≡◌, ◌+◌, ◌^◌, ◌<◌, length, drop, IfOk, IfErr, true};
 
-use crate::drafts::{Draft, Place, after_line, ended};
-use crate::errors::ScriptError;
-use hib_base::{Kind, Refused, Script, Seq};
-use std::alloc::Global;
+use crate::drafts::{Draft, closed, start};
+use crate::errors::{LineError, ScriptError};
+use crate::lines::after_line;
+use crate::places::Place;
+use hib_base::{Kind, Refused, Script};
+use hib_lex::{LexError, Line, Lines, begins, lex};
+use std::alloc::{AllocError, Global};
 
-/// The script that a text is.
+/// The script that a text is. Its limits are kept, and each of its sessions ends its transaction.
 ///
-/// Errors: `Refused` exactly where the text is no script, with the first line that can't stand at its place, or with
-/// the last line where one must still come (1 in an empty text); `NoMemory` where there is none left. Nothing else is
+/// Errors: `Refused` exactly where the text is no script, with its first bad line and the first kind that this has, those
+/// of bytes, length and tokens over the whole text before all others; where the text ends too early, the line is the
+/// number of lines, and without a line that says something it is 1. `NoMemory` where there is none left. Nothing is
 /// changed.
-#[tactic(auto, using(crate::proofs::Lines::reading_done, crate::proofs::Lines::length_fits, crate::proofs::Built::script_of_built))]
 pub fn read(alloc: Global, text: &[u8]) -> Result<Script, ScriptError>
     requires { length text.now < 2 ^ 31 }
-    ensures script { IfOk result (λ s. script_of text.now ≡ Is s) }
-    ensures built { IfOk result (λ s. is_built s ≡ true) }
-    ensures refused { IfErr result (IsWhere (script_of text.now)) }
+    ensures script { IfOk result (λ s. order.script_of text.now ≡ Ok (outline_of s)) }
+    ensures valid { IfOk result (λ s. is_valid s ≡ true) }
+    ensures refused { IfErr result (order.IsWhere (order.script_of text.now)) }
 {
-    let mut draft = Draft {
-        mapping: Seq::new(alloc),
-        place: Place::Start,
-    };
-    let mut count: u32 = 0;
-    let mut start = 0;
-    while start < text.len() {
-        let end = start + line_length(&text[start..]);
-        count += 1;
-        draft = match after_line(alloc, draft, &text[start..end])? {
-            Some(next) => next,
-            None => return Err(refused(count)),
-        };
-        start = end + 1;
-    }
-    match ended(alloc, draft)? {
-        Some(script) => Ok(script),
-        None => Err(refused(count.max(1))),
+    match lex(alloc, text) {
+        Ok(lines) => read_lines(alloc, &lines),
+        Err(LexError::Refused(refused)) => Err(ScriptError::Refused(refused)),
+        Err(LexError::NoMemory) => Err(ScriptError::NoMemory),
     }
 }
 
-fn refused(line: u32) -> ScriptError
-    ensures { result ≡ ScriptError.Refused (record { line = line; kind = Kind.NotYet }) }
+/// The script of the lines of a text.
+fn read_lines(alloc: Global, lines: &Lines) -> Result<Script, ScriptError>
+    ensures script { IfOk result (λ s. order.script_in (Ok lines.now) ≡ Ok (outline_of s)) }
+    ensures refused { IfErr result (order.IsWhere (order.script_in (Ok lines.now))) }
 {
-    ScriptError::Refused(Refused {
-        line,
-        kind: Kind::NotYet,
-    })
+    match read_draft(alloc, lines.lines.as_slice()) {
+        Ok(draft) => ended(lines.count, draft),
+        Err(ScriptError::Refused(refused)) => Err(ScriptError::Refused(refused)),
+        Err(ScriptError::NoMemory) => Err(ScriptError::NoMemory),
+    }
 }
 
-/// How many bytes stand before the first line end, or in all.
-#[tactic(auto, using(crate::proofs::Lines::length_next, crate::proofs::Lines::length_done))]
-fn line_length(text: &[u8]) -> usize
-    ensures { result ≡ lines.line_length text.now }
+/// The draft behind all lines.
+#[tactic(auto, using(crate::proofs::Scan::reading_done, crate::proofs::Scan::reading_next, crate::proofs::Scan::where_on))]
+fn read_draft(alloc: Global, lines: &[Line]) -> Result<Draft, ScriptError>
+    ensures draft { IfOk result (λ d. order.reading (Ok order.start) lines.now ≡ Ok (reader_of d)) }
+    ensures refused { IfErr result (order.IsWhere (order.reading (Ok order.start) lines.now)) }
 {
-    for (i, byte) in text.iter().enumerate() {
-        if *byte == b'\n' {
-            return i;
+    let mut draft = start(alloc);
+    for i in 0..lines.len() {
+        draft = step(alloc, draft, is_column_next(lines, i), &lines[i])?;
+    }
+    Ok(draft)
+}
+
+/// Whether the line behind this one is a column's.
+#[tactic(auto, using(crate::proofs::Scan::next_column, crate::proofs::Scan::no_column))]
+fn is_column_next(lines: &[Line], i: usize) -> bool
+    requires { i < length lines.now }
+    ensures { result ≡ begins_column (drop (i + 1) lines.now) }
+{
+    i + 1 < lines.len() && begins(lines[i + 1].tokens.as_slice(), b"column")
+}
+
+/// The draft behind one more line.
+fn step(alloc: Global, draft: Draft, followed: bool, line: &Line) -> Result<Draft, ScriptError>
+    ensures step { IfOk result (λ d. order.step (reader_of draft) followed line.now ≡ Ok (reader_of d)) }
+    ensures refused { IfErr result (order.IsWhere (order.step (reader_of draft) followed line.now)) }
+{
+    match after_line(alloc, draft, followed, line.tokens.as_slice()) {
+        Ok(draft) => Ok(draft),
+        Err(LineError::Fault(kind)) => Err(refused(line.line, kind)),
+        Err(LineError::NoMemory) => Err(ScriptError::NoMemory),
+    }
+}
+
+/// The script of a draft at the end of a text of so many lines.
+fn ended(count: u32, draft: Draft) -> Result<Script, ScriptError>
+    ensures script { IfOk result (λ s. order.ended_at count (reader_of draft) draft.place ≡ Ok (outline_of s)) }
+    ensures refused { IfErr result (order.IsWhere (order.ended_at count (reader_of draft) draft.place)) }
+{
+    let Draft {
+        script,
+        entity,
+        statements,
+        place,
+    } = draft;
+    match place {
+        Place::Start => Err(refused(1, Kind::Header)),
+        Place::Behind(last) => Ok(finished(Draft {
+            script,
+            entity,
+            statements,
+            place: Place::Behind(last),
+        })?),
+        Place::Session(_) | Place::Schedule => Err(unfinished(count)),
+    }
+}
+
+/// The script of a draft.
+fn finished(draft: Draft) -> Result<Script, AllocError>
+    ensures { IfOk result (λ s. outline_of s ≡ order.finished (reader_of draft)) }
+{
+    let Draft { script, .. } = closed(draft)?;
+    Ok(script)
+}
+
+/// What is said where a text of so many lines ends within a session or a schedule.
+fn unfinished(count: u32) -> ScriptError
+    ensures { result ≡ ScriptError.Refused (order.refused_at count Kind.NoEnd) }
+{
+    refused(count, Kind::NoEnd)
+}
+
+fn refused(line: u32, kind: Kind) -> ScriptError
+    ensures { result ≡ ScriptError.Refused (order.refused_at line kind) }
+{
+    ScriptError::Refused(Refused { line, kind })
+}
+
+/// The first line of a text that lists a query or begins a schedule, which no session does yet; none where there is no
+/// such line, or where the text has a bad byte, a line that is too long or a part that is no token.
+///
+/// Errors: there is no memory left. Nothing is changed.
+pub fn unbuilt_line(alloc: Global, text: &[u8]) -> Result<Option<u32>, AllocError>
+    requires { length text.now < 2 ^ 31 }
+    ensures { IfOk result (λ o. o ≡ unbuilt.unbuilt_line text.now) }
+{
+    match lex(alloc, text) {
+        Ok(lines) => Ok(first_unbuilt(lines.lines.as_slice())),
+        Err(LexError::Refused(_)) => Ok(None),
+        Err(LexError::NoMemory) => Err(AllocError),
+    }
+}
+
+#[tactic(auto, using(crate::proofs::Scan::unbuilt_next, crate::proofs::Scan::unbuilt_done))]
+fn first_unbuilt(lines: &[Line]) -> Option<u32>
+    ensures { result ≡ unbuilt.first_unbuilt lines.now }
+{
+    for line in lines {
+        if is_unbuilt(line) {
+            return Some(line.line);
         }
     }
-    text.len()
+    None
+}
+
+fn is_unbuilt(line: &Line) -> bool
+    ensures { result ≡ unbuilt.is_unbuilt line.now }
+{
+    let tokens = line.tokens.as_slice();
+    begins(tokens, b"list") || begins(tokens, b"schedule")
 }

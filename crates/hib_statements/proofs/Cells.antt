@@ -40,7 +40,7 @@ pub pairs_done : (ds : List ColumnDef) (p : Draft) (ts : List Token) (i : ℕ) �
 pairs_done ds p ts i h = rw (drop_all i ts h) refl
 
 -- the tokens of a line from the fourth on, as code takes them
-from_fourth : (ts : List Token) → take (length ts - 3) (drop 3 ts) ≡ drop 3 ts
+pub from_fourth : (ts : List Token) → take (length ts - 3) (drop 3 ts) ≡ drop 3 ts
 from_fourth ts = take_all (length ts - 3) (drop 3 ts) (simp length-drop (omega arith))
 
 persist_split : (m : List EntityDef) (ts : List Token) (a b : Token) → 3 ≤ length ts → a ≡ get_or ts 1 a → b ≡ get_or ts 2 b → persist_of m ts ≡ persist_parts m a b (drop 3 ts)

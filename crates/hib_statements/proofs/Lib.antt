@@ -1,1 +1,4 @@
 pub mod Cells
+pub mod Digits
+pub mod Names
+pub mod RowLines

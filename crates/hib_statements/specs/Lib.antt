@@ -1,2 +1,4 @@
 pub mod Parts
 pub mod Statements
+pub mod Rows
+pub mod Orders

@@ -1,5 +1,5 @@
 -- The statement that a line is, or the first thing that is wrong with it.
-use Rattle.std.specs.Prelude.{◌≡◌, ℕ, cond, ◌==◌, List, [], ◌∷◌, length, Option, Some, None, option_and_then, position, codes, bytes_eq, Result, Ok, Err}
+use Rattle.std.specs.Prelude.{◌≡◌, ℕ, cond, ◌==◌, List, [], ◌∷◌, length, map, Option, Some, None, option_and_then, position, codes, bytes_eq, Result, Ok, Err}
 use Rattle.hib_base.specs.declared.numbers.Key.{Key}
 use Rattle.hib_base.specs.declared.refusals.Kind.{Kind}
 use Rattle.hib_base.specs.declared.rows.Cell.{Cell}
@@ -73,16 +73,20 @@ set_of m (first ∷ name ∷ id ∷ pairs) = set_parts m name id pairs
 set_of m _ = Err Kind.Words
 
 -- ---- list QUERY
-abbrev pub query_at : List Query → List ℕ → Option ℕ
-query_at qs w = option_and_then small (position (λ q. bytes_eq q.name w) qs)
+abbrev pub names_of : List Query → List (List ℕ)
+names_of qs = map (λ q. q.name) qs
+
+-- the query of a name, by its place among the names of the queries
+abbrev pub query_at : List (List ℕ) → List ℕ → Option ℕ
+query_at names w = option_and_then small (position (λ v. bytes_eq v w) names)
 
 abbrev pub listed : Option ℕ → Result Statement Kind
 listed None = Err Kind.Unknown
 listed (Some n) = Ok (Statement.List n)
 
-abbrev pub list_of : List Query → List Token → Result Statement Kind
-list_of qs (first ∷ name ∷ []) = cond (is_a_word name) (listed (query_at qs (word_of name))) (Err Kind.Words)
-list_of qs _ = Err Kind.Words
+abbrev pub list_of : List (List ℕ) → List Token → Result Statement Kind
+list_of names (first ∷ name ∷ []) = cond (is_a_word name) (listed (query_at names (word_of name))) (Err Kind.Words)
+list_of names _ = Err Kind.Words
 
 -- ---- mode M
 abbrev pub mode_named : Token → Result Statement Kind
@@ -102,22 +106,22 @@ alone s (first ∷ []) = Ok s
 alone s _ = Err Kind.Words
 
 -- the statements that list no cells
-abbrev pub plain_of : List EntityDef → List Query → List Token → Result Statement Kind
-plain_of m qs ts =
+abbrev pub plain_of : List EntityDef → List (List ℕ) → List Token → Result Statement Kind
+plain_of m names ts =
     cond (begins (codes "find") ts) (find_of m ts)
     (cond (begins (codes "remove") ts) (remove_of m ts)
-    (cond (begins (codes "list") ts) (list_of qs ts)
+    (cond (begins (codes "list") ts) (list_of names ts)
     (cond (begins (codes "mode") ts) (mode_of ts)
     (cond (begins (codes "flush") ts) (alone Statement.Flush ts)
     (cond (begins (codes "clear") ts) (alone Statement.Clear ts)
     (cond (begins (codes "commit") ts) (alone Statement.Commit ts)
     (cond (begins (codes "rollback") ts) (alone Statement.Rollback ts) (Err Kind.Line))))))))
 
--- the statement that a line is, by its first word
-abbrev pub statement_of : List EntityDef → List Query → List Token → Result Statement Kind
-statement_of m qs ts =
+-- the statement that a line is, by its first word, over a mapping and the names of the queries
+abbrev pub statement_of : List EntityDef → List (List ℕ) → List Token → Result Statement Kind
+statement_of m names ts =
     cond (begins (codes "persist") ts) (persist_of m ts)
-    (cond (begins (codes "set") ts) (set_of m ts) (plain_of m qs ts))
+    (cond (begins (codes "set") ts) (set_of m ts) (plain_of m names ts))
 
 -- what an error says; want of memory says nothing
 abbrev pub IsWhy : Result Statement Kind → StatementError → Type 0

@@ -1,4 +1,4 @@
-// Why a line is no statement.
+// Why a line is no statement and no row.
 ghost use Rattle.hib_statements.specs.declared.errors.StatementError.TheVariants.{NoMemory};
 ghost use Rattle.std.specs.Prelude.{◌≡◌};
 
@@ -6,14 +6,14 @@ use hib_base::Kind;
 use std::alloc::AllocError;
 use thiserror::Error;
 
-/// Why a line is no statement.
+/// Why a line is no statement and no row.
 #[derive(Clone, Copy, Debug, PartialEq, Eq, Error)]
 pub enum StatementError {
     /// There is no memory left.
     #[error("no memory")]
     NoMemory,
     /// The line has this fault.
-    #[error("the line is no statement")]
+    #[error("the line is no statement and no row")]
     Fault(Kind),
 }
 

@@ -1,9 +1,14 @@
-//! The statements of a script's sessions, from their lines.
+//! The lines of a script that are no declarations of entities or queries: rows, statements of sessions, and orders of a
+//! schedule.
 #![tactic(auto)]
 
 mod errors;
+mod orders;
 mod parts;
+mod rows;
 mod statements;
 
 pub use errors::StatementError;
+pub use orders::order;
+pub use rows::row;
 pub use statements::statement;

@@ -23,8 +23,8 @@ pub fn statement(
     queries: &Queries,
     line: &[Token],
 ) -> Result<Statement, StatementError>
-    ensures said { IfOk result (λ s. lines.statement_of mapping.now queries.now line.now ≡ Ok s) }
-    ensures fault { IfErr result (lines.IsWhy (lines.statement_of mapping.now queries.now line.now)) }
+    ensures said { IfOk result (λ s. lines.statement_of mapping.now (lines.names_of queries.now) line.now ≡ Ok s) }
+    ensures fault { IfErr result (lines.IsWhy (lines.statement_of mapping.now (lines.names_of queries.now) line.now)) }
 {
     if begins(line, b"persist") {
         return persist(alloc, mapping.as_slice(), line);
@@ -44,7 +44,7 @@ fn plain_statement(
     queries: &[Query],
     line: &[Token],
 ) -> Result<Statement, Kind>
-    ensures { result ≡ lines.plain_of mapping.now queries.now line.now }
+    ensures { result ≡ lines.plain_of mapping.now (lines.names_of queries.now) line.now }
 {
     if begins(line, b"find") {
         find(mapping, line)
@@ -104,7 +104,7 @@ fn removed(key: Result<Key, Kind>) -> Result<Statement, Kind>
 }
 
 fn list(queries: &[Query], line: &[Token]) -> Result<Statement, Kind>
-    ensures { result ≡ lines.list_of queries.now line.now }
+    ensures { result ≡ lines.list_of (lines.names_of queries.now) line.now }
 {
     match line {
         [_, name] if is_word(name) => listed(query_number(queries, word_bytes(name))),
@@ -121,8 +121,9 @@ fn listed(query: Option<QueryNo>) -> Result<Statement, Kind>
     }
 }
 
+#[tactic(auto, using(crate::proofs::Names::position_of_names))]
 fn query_number(queries: &[Query], name: &[u8]) -> Option<QueryNo>
-    ensures { result ≡ lines.query_at queries.now name.now }
+    ensures { result ≡ lines.query_at (lines.names_of queries.now) name.now }
 {
     query_no(query_position(queries, name)?)
 }
@@ -180,7 +181,8 @@ fn alone(statement: Statement, line: &[Token]) -> Result<Statement, Kind>
     }
 }
 
-fn named_columns<'a>(mapping: &'a [EntityDef], name: &Token) -> &'a [ColumnDef]
+/// The columns of the entity of a name; none where there is no such entity.
+pub fn named_columns<'a>(mapping: &'a [EntityDef], name: &Token) -> &'a [ColumnDef]
     ensures { result.now ≡ lines.named_columns mapping.now name.now }
 {
     let entity = entity_number(mapping, word_bytes(name));

@@ -1,0 +1,80 @@
+-- The order of a schedule that a line is, or the first thing that is wrong with it.
+use Rattle.std.specs.Prelude.{ℕ, ◌^◌, Bool, true, false, cond, ◌&&◌, nat_lt, List, [], ◌∷◌, slice_get, Option, Some, None, option_and_then, position, codes, bytes_eq, Result, Ok, Err}
+use Rattle.hib_base.specs.declared.numbers.Key.{Key}
+use Rattle.hib_base.specs.declared.refusals.Kind.{Kind}
+use Rattle.hib_base.specs.declared.scripts.EntityDef.{EntityDef}
+use Rattle.hib_base.specs.declared.scripts.Order.{Order}
+use Rattle.hib_base.specs.declared.scripts.SessionDef.{SessionDef}
+use Rattle.hib_base.specs.declared.scripts.Strategy.{Strategy}
+use Rattle.hib_lex.specs.Words.{begins}
+use Rattle.hib_lex.specs.declared.lexer.Token.{Token}
+use Rattle.hib_mapping.specs.Parts.{is_a_word, is_a_number, word_of, is_within, number_up_to, entity_at}
+use Rattle.hib_statements.specs.Parts.{is_key, key_of}
+
+-- places are counted from 0, below 2^32
+abbrev pub small32 : ℕ → Option ℕ
+small32 n = cond (nat_lt n (2 ^ 32)) (Some n) None
+
+-- the session of a name, by its place
+abbrev pub session_at : List SessionDef → List ℕ → Option ℕ
+session_at ss w = option_and_then small32 (position (λ s. bytes_eq s.name w) ss)
+
+-- ---- run SESSION N, of 1 to 1,000,000 steps
+abbrev pub run_from : Option ℕ → Token → Result Order Kind
+run_from None steps = Err Kind.Unknown
+run_from (Some s) steps = cond (is_within 1 1000000 steps) (Ok (Order.Run s (number_up_to 1000000 steps))) (Err Kind.Number)
+
+abbrev pub run_of : List SessionDef → List Token → Result Order Kind
+run_of ss (first ∷ name ∷ steps ∷ []) =
+    cond (is_a_word name && is_a_number steps) (run_from (session_at ss (word_of name)) steps) (Err Kind.Words)
+run_of ss _ = Err Kind.Words
+
+-- ---- kill SESSION
+abbrev pub kill_from : Option ℕ → Result Order Kind
+kill_from None = Err Kind.Unknown
+kill_from (Some s) = Ok (Order.Kill s)
+
+abbrev pub kill_of : List SessionDef → List Token → Result Order Kind
+kill_of ss (first ∷ name ∷ []) = cond (is_a_word name) (kill_from (session_at ss (word_of name))) (Err Kind.Words)
+kill_of ss _ = Err Kind.Words
+
+-- ---- evict ENTITY ID, of a cached entity
+abbrev pub caches : Strategy → Bool
+caches Strategy.Uncached = false
+caches _ = true
+
+abbrev pub is_cached : Option EntityDef → Bool
+is_cached None = false
+is_cached (Some e) = caches e.strategy
+
+abbrev pub is_cached_at : List EntityDef → ℕ → Bool
+is_cached_at m e = is_cached (slice_get m e)
+
+abbrev pub evicted : Result Key Kind → Result Order Kind
+evicted (Err k) = Err k
+evicted (Ok key) = Ok (Order.Evict key)
+
+-- an uncached entity is as unknown here as one that isn't declared
+abbrev pub evict_from : List EntityDef → Token → Token → Option ℕ → Result Order Kind
+evict_from m name id None = Err Kind.Unknown
+evict_from m name id (Some e) = cond (is_cached_at m e) (evicted (key_of m name id)) (Err Kind.Unknown)
+
+abbrev pub evict_parts : List EntityDef → Token → Token → Result Order Kind
+evict_parts m name id = evict_from m name id (entity_at m (word_of name))
+
+abbrev pub evict_of : List EntityDef → List Token → Result Order Kind
+evict_of m (first ∷ name ∷ id ∷ []) = cond (is_key name id) (evict_parts m name id) (Err Kind.Words)
+evict_of m _ = Err Kind.Words
+
+-- ---- restart
+abbrev pub restart_of : List Token → Result Order Kind
+restart_of (first ∷ []) = Ok Order.Restart
+restart_of _ = Err Kind.Words
+
+-- the order that a line is, by its first word
+abbrev pub order_of : List EntityDef → List SessionDef → List Token → Result Order Kind
+order_of m ss ts =
+    cond (begins (codes "run") ts) (run_of ss ts)
+    (cond (begins (codes "kill") ts) (kill_of ss ts)
+    (cond (begins (codes "evict") ts) (evict_of m ts)
+    (cond (begins (codes "restart") ts) (restart_of ts) (Err Kind.Line))))

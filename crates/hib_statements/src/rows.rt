@@ -1,0 +1,296 @@
+// The row that a line gives.
+ghost use Rattle.hib_base.specs.Keys.{same_key};
+ghost use Rattle.hib_lex.specs.Tokens as digits_of;
+ghost use Rattle.hib_mapping.specs.Parts.{entity_at, word_of};
+ghost use Rattle.hib_statements.specs.Rows as told_rows;
+ghost use Rattle.std.specs.List.{list_all};
+ghost use Rattle.std.specs.Prelude.{◌≡◌, IfOk, IfErr, None, cond};
+
+use crate::errors::StatementError;
+use crate::parts::{are_typed, cells, is_key, key};
+use crate::statements::named_columns;
+use hib_base::{Cells, ColumnDef, EntityDef, EntityNo, Key, Kind, Mapping, Row, Rows};
+use hib_lex::Token;
+use hib_mapping::{entity_number, word_bytes};
+use std::alloc::{AllocError, Global};
+
+/// The greatest version of a row.
+const MOST_VERSION: u32 = 1_000_000;
+
+/// What stands behind the key of a row.
+#[derive(Drop)]
+pub struct Told {
+    /// The version, where one stands there; one above the greatest is told as the number behind that.
+    pub version: Option<u32>,
+    /// The cells.
+    pub cells: Cells,
+}
+
+/// The key and the row of a row line, over a mapping and the rows that were given before.
+///
+/// Errors: `Fault` exactly where the line is no row, with the first kind that it has of words, taken, unknown, number,
+/// cells and type; `NoMemory` where there is none left. Nothing is changed.
+pub fn row(
+    alloc: Global,
+    mapping: &Mapping,
+    rows: &Rows,
+    line: &[Token],
+) -> Result<(Key, Row), StatementError>
+    ensures said { IfOk result (λ x. told_rows.row_of mapping.now rows.now line.now ≡ Ok x) }
+    ensures fault { IfErr result (told_rows.IsWhyNot (told_rows.row_of mapping.now rows.now line.now)) }
+{
+    match line {
+        [_, name, id, rest @ ..] => row_parts(
+            alloc,
+            mapping.as_slice(),
+            rows.as_slice(),
+            name,
+            id,
+            rest,
+        ),
+        _ => Err(StatementError::Fault(Kind::Words)),
+    }
+}
+
+fn row_parts(
+    alloc: Global,
+    mapping: &[EntityDef],
+    rows: &[(Key, Row)],
+    name: &Token,
+    id: &Token,
+    rest: &[Token],
+) -> Result<(Key, Row), StatementError>
+    ensures said { IfOk result (λ x. told_rows.row_parts mapping.now rows.now name.now id.now rest.now ≡ Ok x) }
+    ensures fault { IfErr result (told_rows.IsWhyNot (told_rows.row_parts mapping.now rows.now name.now id.now rest.now)) }
+{
+    if !is_key(name, id) {
+        return Err(StatementError::Fault(Kind::Words));
+    }
+    let told = told_in(alloc, versioning(mapping, name), rest)?;
+    let columns = named_columns(mapping, name);
+    judged(row_told(columns, rows, key(mapping, name, id), told))
+}
+
+fn judged(row: Result<(Key, Row), Kind>) -> Result<(Key, Row), StatementError>
+    ensures said { IfOk result (λ x. row ≡ Ok x) }
+    ensures fault { IfErr result (told_rows.IsWhyNot row) }
+{
+    match row {
+        Ok(row) => Ok(row),
+        Err(kind) => Err(StatementError::Fault(kind)),
+    }
+}
+
+/// Whether the entity of a name is versioned, where there is one.
+fn versioning(mapping: &[EntityDef], name: &Token) -> Option<bool>
+    ensures { result ≡ told_rows.versioning_in mapping.now (entity_at mapping.now (word_of name.now)) }
+{
+    match entity_number(mapping, word_bytes(name)) {
+        Some(entity) => entity_versioning(mapping, entity),
+        None => None,
+    }
+}
+
+fn entity_versioning(mapping: &[EntityDef], entity: EntityNo) -> Option<bool>
+    ensures { result ≡ told_rows.versioning_at mapping.now entity }
+{
+    match mapping.get(usize::from(entity.0)) {
+        Some(entity) => Some(entity.versioned),
+        None => None,
+    }
+}
+
+/// What these tokens tell of a row of a versioned entity, of a plain one, or of one that isn't known.
+fn told_in(
+    alloc: Global,
+    versioned: Option<bool>,
+    tokens: &[Token],
+) -> Result<Option<Told>, AllocError>
+    ensures { IfOk result (λ t. t ≡ told_rows.told_in versioned tokens.now) }
+{
+    match versioned {
+        Some(true) => versioned_told(alloc, tokens),
+        Some(false) => plain_told(alloc, tokens),
+        None => told_of_unknown(alloc, tokens),
+    }
+}
+
+fn told_of_unknown(alloc: Global, tokens: &[Token]) -> Result<Option<Told>, AllocError>
+    ensures { IfOk result (λ t. t ≡ told_rows.or_plain tokens.now (told_rows.versioned_told tokens.now)) }
+{
+    match versioned_told(alloc, tokens)? {
+        Some(told) => Ok(Some(told)),
+        None => plain_told(alloc, tokens),
+    }
+}
+
+fn plain_told(alloc: Global, tokens: &[Token]) -> Result<Option<Told>, AllocError>
+    ensures { IfOk result (λ t. t ≡ told_rows.plain_told tokens.now) }
+{
+    Ok(with_version(None, cells(alloc, tokens)?))
+}
+
+fn versioned_told(alloc: Global, tokens: &[Token]) -> Result<Option<Told>, AllocError>
+    ensures { IfOk result (λ t. t ≡ told_rows.versioned_told tokens.now) }
+{
+    match tokens {
+        [] => Ok(None),
+        [first, rest @ ..] => behind_version(alloc, version(first), rest),
+    }
+}
+
+fn behind_version(
+    alloc: Global,
+    version: Option<u32>,
+    tokens: &[Token],
+) -> Result<Option<Told>, AllocError>
+    ensures { IfOk result (λ t. t ≡ told_rows.behind_version version tokens.now) }
+{
+    match version {
+        Some(version) => Ok(with_version(Some(version), cells(alloc, tokens)?)),
+        None => Ok(None),
+    }
+}
+
+fn with_version(version: Option<u32>, cells: Option<Cells>) -> Option<Told>
+    ensures { result ≡ told_rows.with_version version cells }
+{
+    match cells {
+        Some(cells) => Some(Told { version, cells }),
+        None => None,
+    }
+}
+
+/// The version of a word `vN`.
+fn version(token: &Token) -> Option<u32>
+    ensures { result ≡ told_rows.version_of token.now }
+{
+    match token {
+        Token::Word(word) => version_word(word.as_slice()),
+        _ => None,
+    }
+}
+
+fn version_word(word: &[u8]) -> Option<u32>
+    ensures { result ≡ told_rows.version_word word.now }
+{
+    match word {
+        [] => None,
+        [first, digits @ ..] => version_digits(*first == b'v', digits),
+    }
+}
+
+fn version_digits(is_version: bool, digits: &[u8]) -> Option<u32>
+    ensures { result ≡ cond is_version (told_rows.size_named digits.now) None }
+{
+    if is_version && is_natural(digits) {
+        Some(size(digits))
+    } else {
+        None
+    }
+}
+
+/// Whether these bytes are `0`, or digits that don't begin with 0.
+fn is_natural(digits: &[u8]) -> bool
+    ensures { result ≡ told_rows.is_natural digits.now }
+{
+    matches!(digits, [b'0']) || is_positive(digits)
+}
+
+fn is_positive(digits: &[u8]) -> bool
+    ensures { result ≡ digits_of.is_positive digits.now }
+{
+    match digits {
+        [] => false,
+        [first, ..] => *first != b'0' && are_digits(digits),
+    }
+}
+
+fn are_digits(bytes: &[u8]) -> bool
+    ensures { result ≡ list_all digits_of.is_digit bytes.now }
+{
+    bytes.iter().all(|byte| byte.is_ascii_digit())
+}
+
+/// What digits come to; what is above the greatest version counts as the number behind that.
+#[tactic(auto, using(crate::proofs::Digits::digit_next, crate::proofs::Digits::size_grows, crate::proofs::Digits::size_done, crate::proofs::Digits::capped_above, crate::proofs::Digits::capped_within))]
+fn size(digits: &[u8]) -> u32
+    ensures { result ≡ told_rows.capped (digits_of.size_of digits.now) }
+{
+    let mut size: u32 = 0;
+    for digit in digits {
+        size = size * 10 + u32::from(digit.saturating_sub(b'0'));
+        if size > MOST_VERSION {
+            return MOST_VERSION + 1;
+        }
+    }
+    size
+}
+
+/// The row of a key and what is told behind it.
+fn row_told(
+    columns: &[ColumnDef],
+    rows: &[(Key, Row)],
+    key: Result<Key, Kind>,
+    told: Option<Told>,
+) -> Result<(Key, Row), Kind>
+    ensures { result ≡ told_rows.row_told columns.now rows.now key told }
+{
+    match told {
+        Some(told) => row_from(columns, rows, key, told),
+        None => Err(Kind::Words),
+    }
+}
+
+fn row_from(
+    columns: &[ColumnDef],
+    rows: &[(Key, Row)],
+    key: Result<Key, Kind>,
+    told: Told,
+) -> Result<(Key, Row), Kind>
+    ensures { result ≡ told_rows.row_from columns.now rows.now key told }
+{
+    match key {
+        Ok(key) if has_key(rows, key) => Err(Kind::Taken),
+        Ok(key) => fitted_row(columns, key, told),
+        Err(kind) => Err(kind),
+    }
+}
+
+fn has_key(rows: &[(Key, Row)], key: Key) -> bool
+    ensures { result ≡ told_rows.has_key rows.now key }
+{
+    rows.iter().any(|row| is_same(&row.0, &key))
+}
+
+fn is_same(a: &Key, b: &Key) -> bool
+    ensures { result ≡ same_key a.now b.now }
+{
+    a == b
+}
+
+fn fitted_row(columns: &[ColumnDef], key: Key, told: Told) -> Result<(Key, Row), Kind>
+    ensures { result ≡ told_rows.fitted_row columns.now key told }
+{
+    let Told { version, cells } = told;
+    if !is_small_version(version) {
+        return Err(Kind::Number);
+    }
+    if columns.len() != cells.len() {
+        return Err(Kind::Cells);
+    }
+    if are_typed(columns, cells.as_slice()) {
+        Ok((key, Row { version, cells }))
+    } else {
+        Err(Kind::CellType)
+    }
+}
+
+fn is_small_version(version: Option<u32>) -> bool
+    ensures { result ≡ told_rows.is_small_version version }
+{
+    match version {
+        Some(version) => version <= MOST_VERSION,
+        None => true,
+    }
+}
