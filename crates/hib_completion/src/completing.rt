@@ -158,15 +158,7 @@ pub fn acts(
 {
     let keys = keys(alloc, changes)?;
     let done = committed && does_put(mode);
-    let mut acts = all_completed(
-        alloc,
-        mapping,
-        changes,
-        locks,
-        done,
-        floor,
-        keys.as_slice(),
-    )?;
+    let mut acts = all_completed(alloc, mapping, changes, locks, done, floor, keys.as_slice())?;
     let tables = tables(alloc, mapping, changes)?;
     if !tables.is_empty() {
         acts.push(Act::Stamp { tables })?;

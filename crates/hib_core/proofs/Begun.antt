@@ -1,5 +1,5 @@
 -- What a factory is opened with stands for the empty journal.
-use Rattle.std.proofs.Common.{◌≡◌, ◌⊎◌, ℕ, zero, suc, ◌+◌, List, [], ◌∷◌, ◌++◌, length, map, Some, None, Option, refl, sym, ap, ◌∙◌, subst, arith, inl, inr}
+use Rattle.std.proofs.Common.{◌≡◌, ◌⊎◌, ℕ, zero, suc, ◌+◌, ◌≤◌, List, [], ◌∷◌, ◌++◌, length, map, Some, None, Option, refl, sym, ap, ◌∙◌, subst, arith, inl, inr}
 use Rattle.std.proofs.lemmas.List.{length-map, length-append, length-replicate}
 use Rattle.std.specs.Prelude.{slice_get}
 use Rattle.hib_base.specs.Tables.{Tables}
@@ -40,7 +40,7 @@ told_same : (told : Option Tables) → told ≡ told_committed told []
 told_same None = refl
 told_same (Some start) = refl
 
-pub parts_begin : Laws → (script : Script) (from : Origin) (x : PartsState) → x.store.tables ≡ from.tables → x.store.faults ≡ from.faults → x.store.written ≡ [] →
+pub parts_begin : Laws → (script : Script) (from : Origin) (x : PartsState) → x.store.tables ≡ from.tables → from.faults ≤ x.store.faults → x.store.written ≡ [] →
     x.registry ≡ [] → x.stamps ≡ unstamped (length script.mapping) → x.regions ≡ map (λ d. empty d.strategy d.capacity script.timeout) script.mapping → AreParts script from [] x
 parts_begin l script from x t f w r s g = record {
   store = record {

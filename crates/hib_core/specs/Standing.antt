@@ -1,7 +1,8 @@
 -- What a factory stands for: its parts are those that its journal's definitions give.
 use Rattle.std.specs.Prelude.{◌≡◌, ℕ, ◌+◌, ◌-◌, ◌^◌, ◌≤◌, ◌<◌, min, Bool, true, false, cond, List, ◌∷◌, length, map, slice_get, slice_set, Some, None, Option}
 use Rattle.std.specs.List.{All}
-use Rattle.hib_base.specs.Tables.{Tables}
+use Rattle.std.specs.Option.{option_map}
+use Rattle.hib_base.specs.Tables.{Tables, start}
 use Rattle.hib_journal.specs.Types.{Script, Act, Reply, Entry}
 use Rattle.hib_journal.specs.Sessions.{Journal, own, is_restart, is_begun, was_killed, changes_in, deferred}
 use Rattle.hib_journal.specs.Held.{is_begin}
@@ -20,6 +21,10 @@ pub record Origin : Type 0 where
   pub tables : Option Tables
   pub faults : ℕ
   pub asked : ℕ
+
+-- the committed rows at the start, where the keeper tells what it kept: the script's rows are beside it
+abbrev pub told_start : Script → Option Tables → Option Tables
+told_start script kept = option_map (λ t. start t script.rows) kept
 
 -- a count has risen by n at least, or stands at the last value of a u64
 abbrev pub RoseBy : ℕ → ℕ → ℕ → Type 0

@@ -1,11 +1,13 @@
 // The factory: sessions over shared parts, and the journal of their steps.
-ghost use Rattle.std.specs.Prelude.{◌≡◌, ◌<◌, ◌^◌, ◌==◌, ℕ, [], length, OnOk, OnErr, IfOk, IfErr, Ok, None, true, false};
+ghost use Rattle.std.specs.Prelude.{◌≡◌, ◌<◌, ◌≤◌, ◌^◌, ◌==◌, ℕ, [], length, OnOk, OnErr, IfOk, IfErr, Ok, None, true, false};
 ghost use Rattle.hib_journal.specs.Kept.{past};
 ghost use Rattle.hib_journal.specs.Sessions.{own};
 ghost use Rattle.hib_journal.specs.Next.{next};
 ghost use Rattle.hib_journal.specs.Legal.{IsLegal};
 ghost use Rattle.hib_journal.specs.Runs.{IsNumbered, told_committed, fault_count, ask_count};
-ghost use Rattle.hib_core.specs.Standing.{RoseBy, RoseWithin};
+ghost use Rattle.hib_core.specs.Standing.{RoseBy, RoseWithin, told_start};
+ghost use Rattle.hib_outside.specs.Causes.{Rose};
+ghost use Rattle.hib_store.specs.Stores.{handed_back, is_store_fault};
 ghost use Rattle.hib_core.specs.Factory.{Does, IsOver, AddsAtMost, AreOver, IsBuilt};
 
 use crate::laws::laws;
@@ -18,7 +20,7 @@ use hib_base::{Script, SessionNo};
 use hib_journal::Journal;
 use hib_outside::Keeper;
 use hib_session::Session;
-use hib_store::Store;
+use hib_store::{OpenFault, Store};
 use hib_update_stamps::Stamps;
 use std::alloc::{AllocError, Global};
 use std::marker::{Model, PhantomData};
@@ -46,26 +48,30 @@ impl<K: Keeper, N: Name> Model for Factory<K, N> {
 }
 
 impl<K: Keeper, N: Name> Factory<K, N> {
-    /// Opens the factory of this name, in which no session has begun. Where memory runs out the keeper is handed back.
-    pub fn open(alloc: Global, script: Script, keeper: K) -> Result<Factory<K, N>, K>
+    /// Opens the factory of this name, in which no session has begun. The keeper is seeded with the script's rows, each of
+    /// which it takes where its key has none. At an error the keeper is handed back, with the rows that it had.
+    pub fn open(alloc: Global, script: Script, keeper: K) -> Result<Factory<K, N>, OpenFault<K>>
         requires script { script ≡ N.script }
         requires built { IsBuilt N.script }
-        requires from { record { tables = K.tables keeper; faults = K.faults keeper; asked = K.asked keeper } ≡ N.from }
+        requires from { record { tables = told_start N.script (K.tables keeper); faults = K.faults keeper; asked = K.asked keeper } ≡ N.from }
         ensures empty { IfOk result (λ f. past f.journal ≡ []) }
         ensures going { IfOk result (λ f. f.refused ≡ false) }
-        ensures err { IfErr result (λ k. k ≡ keeper) }
+        ensures back { IfErr result (λ e. K.tables (handed_back e) ≡ K.tables keeper) }
+        ensures back_faults { IfErr result (λ e. K.faults keeper ≤ K.faults (handed_back e)) }
+        ensures back_asked { IfErr result (λ e. K.asked (handed_back e) ≡ K.asked keeper) }
+        ensures fault { IfErr result (λ e. is_store_fault e ≡ true → Rose (K.faults keeper) (K.faults (handed_back e))) }
     {
         laws();
         let Ok(regions) = open_regions(alloc, &script) else {
-            return Err(keeper);
+            return Err(OpenFault::NoMemory(keeper));
         };
         let Ok(stamps) = Stamps::open(alloc, script.mapping.len() as u16) else {
-            return Err(keeper);
+            return Err(OpenFault::NoMemory(keeper));
         };
         let Ok(sessions) = open_sessions(alloc, &script) else {
-            return Err(keeper);
+            return Err(OpenFault::NoMemory(keeper));
         };
-        let store = Store::open(alloc, keeper);
+        let store = Store::seeded(alloc, keeper, script.rows.as_slice())?;
         Ok(Factory {
             script,
             parts: Parts {

@@ -25,7 +25,10 @@ exit status:
   4   reading failed
   5   writing failed
   6   the input has more than 1,048,576 bytes
-  8   memory ran out";
+  8   memory ran out
+  9   the store didn't take the script's rows
+
+docs/SCRIPT.md tells what a script may say.";
 
 fn main(rt: HostRuntime) -> io::Result<ExitCode> {
     let alloc = rt.alloc();

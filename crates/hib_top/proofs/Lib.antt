@@ -1,4 +1,4 @@
-pub mod Serving
 pub mod Taken
-pub mod Form
+pub mod Ready
+pub mod Ends
 pub mod Complete

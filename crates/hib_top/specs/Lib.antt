@@ -1,6 +1,6 @@
-pub mod Run
 pub mod Streams
 pub mod Words
+pub mod Unbuilt
 pub mod Play
 pub mod Exits
 pub mod StatusLine

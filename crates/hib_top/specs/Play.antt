@@ -1,25 +1,45 @@
 -- What a call of the program promises.
-use Rattle.std.specs.Prelude.{◌≡◌, ◌⊎◌, ◌≤◌, ℕ, List, [], ⊤, length, slice_get, IfSome, Some, None, Option}
+use Rattle.std.specs.Prelude.{◌≡◌, ◌⊎◌, ◌≤◌, ℕ, Bool, true, false, List, [], ⊤, length, slice_get, IfSome, Some, None, Option, Result, Ok, Err}
 use Rattle.std.specs.Io.KnownBytes.{Appends}
 use Rattle.hib_base.specs.Tables.{Tables}
 use Rattle.hib_base.specs.declared.refusals.Refused.{Refused}
-use Rattle.hib_base.specs.declared.refusals.Kind.{Kind}
 use Rattle.hib_journal.specs.Types.{Script, SessionDef}
 use Rattle.hib_journal.specs.Kept.{Kept, past}
 use Rattle.hib_journal.specs.Sessions.{Journal, own}
 use Rattle.hib_journal.specs.Next.{next}
 use Rattle.hib_journal.specs.Legal.{IsLegal}
-use Rattle.hib_law.specs.Law.{Obeys}
-use Rattle.hib_report.specs.Report.{report}
-use Rattle.hib_script.specs.Script.{Reading, script_of}
-use Rattle.hib_top.specs.declared.status.Status.{Status}
 use Rattle.hib_journal.specs.Runs.{IsNumbered, told_committed}
+use Rattle.hib_law.specs.Law.{Obeys}
+use Rattle.hib_core.specs.Standing.{told_start}
+use Rattle.hib_report.specs.Report.{report}
+use Rattle.hib_script.specs.Outline.{Outline, outline_of}
+use Rattle.hib_script.specs.Script.{script_of}
+use Rattle.hib_top.specs.declared.run.End.{End}
+use Rattle.hib_top.specs.declared.status.Status.{Status}
 use Rattle.hib_top.specs.Streams.{TakesFront}
+use Rattle.hib_top.specs.Unbuilt.{is_unbuilt, not_yet}
 
+-- ---- a run
 -- each session is at its end: it has no next act
 abbrev pub AreEnded : Script → Journal → Type 0
 AreEnded script h = (s : ℕ) (d : SessionDef) → slice_get script.sessions s ≡ Some d → next script s (own s h) ≡ None
 
+-- the journal is legal for the script from the rows at the start, with its ticks in turn, and so obeys the law; the keeper has
+-- the rows that its commits gave
+pub record IsPlayed (script : Script) (start rows : Option Tables) (h : Journal) : Type 0 where
+  pub legal : IsLegal script start h
+  pub law : Obeys script start h
+  pub numbered : IsNumbered h
+  pub committed : rows ≡ told_committed start h
+
+-- what a run came to, from what the keeper kept: start is that with the script's rows
+abbrev pub CameTo : End → Script → Option Tables → Option Tables → Option Tables → Journal → Type 0
+CameTo (End.Over s) script kept start rows h = (s ≡ script) × IsPlayed script start rows h × AreEnded script h
+CameTo End.Stopped script kept start rows h = IsPlayed script start rows h
+CameTo End.Unopened script kept start rows h = (h ≡ []) × (rows ≡ kept)
+CameTo End.Unseeded script kept start rows h = (h ≡ []) × (rows ≡ kept)
+
+-- ---- a call
 -- the sessions are at their end at Done, and where only the writing failed
 abbrev pub EndsWell : Status → Script → Journal → Type 0
 EndsWell Status.Done script h = AreEnded script h
@@ -32,13 +52,9 @@ IsWritten Status.Done text old new = Appends old new text
 IsWritten Status.WriteFault text old new = TakesFront old new text
 IsWritten _ text old new = new ≡ old
 
--- the journal is legal for the script from the rows at the start, with its ticks in turn, and so obeys the law; the keeper has
--- the rows that its commits gave; and its report was written
+-- a script was run, and the report of its journal was written
 pub record IsRunOf (answer : Status) (script : Script) (start rows : Option Tables) (journal : Kept) (taken written : Option (List ℕ)) : Type 0 where
-  pub legal : IsLegal script start (past journal)
-  pub law : Obeys script start (past journal)
-  pub numbered : IsNumbered (past journal)
-  pub committed : rows ≡ told_committed start (past journal)
+  pub played : IsPlayed script start rows (past journal)
   pub ended : EndsWell answer script (past journal)
   pub report : IsWritten answer (report script journal.list) taken written
 
@@ -48,49 +64,65 @@ pub record IsIdle (start rows : Option Tables) (journal : Kept) (taken written :
   pub same : rows ≡ start
   pub silent : written ≡ taken
 
+-- what stands after the run of a script, by the status
+abbrev pub Runs : Status → Script → Option Tables → Option Tables → Kept → Option (List ℕ) → Option (List ℕ) → Type 0
+Runs Status.Done script kept rows journal taken written = IsRunOf Status.Done script (told_start script kept) rows journal taken written
+Runs Status.WriteFault script kept rows journal taken written = IsRunOf Status.WriteFault script (told_start script kept) rows journal taken written
+Runs Status.NoMemory script kept rows journal taken written =
+    IsIdle kept rows journal taken written ⊎ IsRunOf Status.NoMemory script (told_start script kept) rows journal taken written
+Runs Status.StoreFault script kept rows journal taken written = IsIdle kept rows journal taken written
+Runs _ script kept rows journal taken written = ⊥
+
 -- a text within the limit was read, all that the source had left where it tells, and this is what it is
-pub record Reads (left : Option (List ℕ)) (text : List ℕ) (reading : Reading) : Type 0 where
+pub record Reads (left : Option (List ℕ)) (text : List ℕ) (reading : Result Outline Refused) : Type 0 where
   pub whole : IfSome left (λ bytes. bytes ≡ text)
   pub few : length text ≤ 1048576
   pub is : script_of text ≡ reading
 
--- a script was read and run
-pub record PlaysScript (answer : Status) (left : Option (List ℕ)) (start rows : Option Tables) (journal : Kept) (taken written : Option (List ℕ)) : Type 0 where
+-- a script was read and run, from the keeper's rows and its own
+pub record PlaysScript (answer : Status) (left : Option (List ℕ)) (kept rows : Option Tables) (journal : Kept) (taken written : Option (List ℕ)) : Type 0 where
   pub text : List ℕ
   pub script : Script
-  pub read : Reads left text (Reading.Is script)
-  pub run : IsRunOf answer script start rows journal taken written
+  pub read : Reads left text (Ok (outline_of script))
+  pub run : IsRunOf answer script (told_start script kept) rows journal taken written
 
--- no script was read
-pub record Refuses (r : Refused) (left : Option (List ℕ)) (start rows : Option Tables) (journal : Kept) (taken written : Option (List ℕ)) : Type 0 where
+-- a text is refused where it is no script, with its first bad line; or where something of it isn't built yet
+abbrev pub IsRefused : Result Outline Refused → List ℕ → Refused → Type 0
+IsRefused (Err x) text r = r ≡ x
+IsRefused (Ok o) text r = (is_unbuilt o ≡ true) × (r ≡ not_yet text)
+
+-- no script was run
+pub record Refuses (r : Refused) (left : Option (List ℕ)) (kept rows : Option Tables) (journal : Kept) (taken written : Option (List ℕ)) : Type 0 where
   pub text : List ℕ
-  pub read : Reads left text (Reading.BadAt r.line)
-  pub kind : r.kind ≡ Kind.NotYet
-  pub idle : IsIdle start rows journal taken written
+  pub reading : Result Outline Refused
+  pub read : Reads left text reading
+  pub why : IsRefused reading text r
+  pub idle : IsIdle kept rows journal taken written
 
--- what stands after a call, by its status: left is what the source had to read
+-- what stands after a call, by its status: left is what the source had to read, kept the keeper's tables as they were handed in
 abbrev pub Plays : Status → Option (List ℕ) → Option Tables → Option Tables → Kept → Option (List ℕ) → Option (List ℕ) → Type 0
-Plays Status.Done left start rows journal taken written = PlaysScript Status.Done left start rows journal taken written
-Plays Status.WriteFault left start rows journal taken written = PlaysScript Status.WriteFault left start rows journal taken written
-Plays Status.NoMemory left start rows journal taken written =
-    IsIdle start rows journal taken written ⊎ PlaysScript Status.NoMemory left start rows journal taken written
-Plays (Status.Refused r) left start rows journal taken written = Refuses r left start rows journal taken written
-Plays _ left start rows journal taken written = IsIdle start rows journal taken written
+Plays Status.Done left kept rows journal taken written = PlaysScript Status.Done left kept rows journal taken written
+Plays Status.WriteFault left kept rows journal taken written = PlaysScript Status.WriteFault left kept rows journal taken written
+Plays Status.NoMemory left kept rows journal taken written =
+    IsIdle kept rows journal taken written ⊎ PlaysScript Status.NoMemory left kept rows journal taken written
+Plays (Status.Refused r) left kept rows journal taken written = Refuses r left kept rows journal taken written
+Plays _ left kept rows journal taken written = IsIdle kept rows journal taken written
 
--- the statuses that come after a run
+-- the statuses that come after a run to its end
 abbrev pub IsAfterRun : Status → Type 0
 IsAfterRun Status.Done = ⊤
 IsAfterRun Status.WriteFault = ⊤
 IsAfterRun Status.NoMemory = ⊤
 IsAfterRun _ = ⊥
 
--- what a source has left is told, and is a script within the limit
+-- what a source has left is told, and is a script within the limit of which all is built
 pub record HasScript (left : Option (List ℕ)) : Type 0 where
   pub text : List ℕ
   pub told : left ≡ Some text
   pub few : length text ≤ 1048576
   pub script : Script
-  pub is : script_of text ≡ Reading.Is script
+  pub is : script_of text ≡ Ok (outline_of script)
+  pub built : is_unbuilt (outline_of script) ≡ false
 
 -- all was done, or memory ran out
 abbrev pub IsCompleted : Status → Type 0

@@ -16,6 +16,7 @@ answer_text Status.ReadFault = codes "read fault"
 answer_text Status.WriteFault = codes "write fault"
 answer_text Status.TooLong = codes "too long"
 answer_text Status.NoMemory = codes "no memory"
+answer_text Status.StoreFault = codes "store fault"
 
 abbrev pub status_text : Status → List ℕ
 status_text s = codes "hib: " ++ answer_text s ++ codes "\n"

@@ -5,7 +5,7 @@ ghost use Rattle.hib_journal.specs.Runs.{ask_count, fault_count};
 ghost use Rattle.hib_outside.specs.Causes.{Rose};
 ghost use Rattle.hib_top.specs.Words.{IsPlay};
 ghost use Rattle.hib_top.specs.Play.{Plays, HasScript, IsCompleted};
-ghost use Rattle.hib_top.specs.Run.{RoseBy, RoseWithin};
+ghost use Rattle.hib_core.specs.Standing.{RoseBy, RoseWithin};
 ghost use Rattle.hib_top.specs.Streams.{ReadsFew};
 
 use crate::play::{Ended, play_words};
@@ -33,13 +33,14 @@ pub fn top<R: Threads + Wait + Sync, S: Source, W: Sink, K: Keeper, G: Gate, L: 
     ensures read { result.status ≡ Status.ReadFault → Rose (S.faults script.old) (S.faults script.new) }
     ensures write { result.status ≡ Status.WriteFault → Rose (W.faults out.old) (W.faults out.new) }
     ensures long { result.status ≡ Status.TooLong → IfSome (S.left script.old) (λ bytes. LIMIT < length bytes) }
+    ensures store { result.status ≡ Status.StoreFault → Rose (K.faults keeper) (K.faults result.keeper) }
     ensures faults { RoseBy (K.faults keeper) (fault_count (past result.journal)) (K.faults result.keeper) }
     ensures asked { result.status ≢ Status.NoMemory → RoseWithin (K.asked keeper) (ask_count (past result.journal)) (K.asked result.keeper) }
     // At most one piece of 4,096 bytes beyond the limit is read.
     ensures taken { ReadsFew 1052672 (S.left script.old) (S.left script.new) }
-    // A script is run to its end where source and sink don't fail, or memory runs out.
+    // A script is run to its end where source, sink and keeper don't fail, or memory runs out.
     ensures complete { IsPlay words.now → HasScript (S.left script.old) → (Rose (S.faults script.old) (S.faults script.new) → ⊥)
-        → (Rose (W.faults out.old) (W.faults out.new) → ⊥) → IsCompleted result.status }
+        → (Rose (W.faults out.old) (W.faults out.new) → ⊥) → (Rose (K.faults keeper) (K.faults result.keeper) → ⊥) → IsCompleted result.status }
     // The listeners are handed back untold.
     ensures listeners { result.listeners ≡ listeners }
 {

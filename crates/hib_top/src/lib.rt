@@ -4,7 +4,6 @@
 mod call;
 mod play;
 mod run;
-mod serve;
 mod status;
 mod streams;
 

@@ -23,6 +23,8 @@ pub enum Status {
     TooLong,
     /// Memory ran out.
     NoMemory,
+    /// The keeper didn't take the script's rows.
+    StoreFault,
 }
 
 impl Status {
@@ -38,6 +40,7 @@ impl Status {
             Status::WriteFault => 5,
             Status::TooLong => 6,
             Status::NoMemory => 8,
+            Status::StoreFault => 9,
         }
     }
 }
@@ -55,6 +58,7 @@ pub fn status_line(alloc: Global, status: &Status) -> Result<Bytes, AllocError>
         Status::WriteFault => line.extend_from_slice(b"write fault")?,
         Status::TooLong => line.extend_from_slice(b"too long")?,
         Status::NoMemory => line.extend_from_slice(b"no memory")?,
+        Status::StoreFault => line.extend_from_slice(b"store fault")?,
     }
     line.push(b'\n')?;
     Ok(Seq::from_vec(line))

@@ -1,8 +1,10 @@
-use Rattle.std.proofs.Common.{[], length, map, ap, ◌∙◌, subst}
+use Rattle.std.proofs.Common.{◌≤◌, ℕ, [], length, map, ap, ◌∙◌, subst}
+use Rattle.std.specs.Option.{option_map}
+use Rattle.hib_base.specs.Tables.{Tables, start}
 use Rattle.hib_base.specs.declared.scripts.Script.{Script}
 use Rattle.hib_update_stamps.specs.Stamped.{unstamped}
 use Rattle.hib_core.specs.Region.{empty}
-use Rattle.hib_core.specs.Standing.{Origin}
+use Rattle.hib_core.specs.Standing.{Origin, told_start}
 use Rattle.hib_core.specs.Factory.{AreSessions}
 use Rattle.hib_core.proofs.Begun.{standing_begins, parts_begin}
 use Rattle.hib_core.proofs.factory.Factory.open.Goals as goal
@@ -10,15 +12,17 @@ use Rattle.hib_core.proofs.factory.Factory.open.Goals as goal
 pub invariant_of-result : goal.invariant_of-result
 invariant_of-result g c =
     let q = c.requires.script in
-    let from = c.requires.from in (
+    let from = c.requires.from in
+    let kept : Rattle.std.specs.Prelude.Option Tables = g.K.Keeper.tables c.args.keeper in (
       q,
       standing_begins c.laws.ensures g.N.Name.script g.N.Name.from _ c.requires.built c.open-2.ensures.past
           (parts_begin c.laws.ensures g.N.Name.script g.N.Name.from _
-          (c.open-store.ensures.tables ∙ ap (λ (o : Origin). o.tables) from)
-          (c.open-store.ensures.faults ∙ ap (λ (o : Origin). o.faults) from)
-          c.open-store.ensures.written c.new.ensures
+          (c.in_ok-store.ensures.tables ∙ (ap (λ (rows : Tables). option_map (λ t. start t rows) kept) c.as_slice.ensures
+          ∙ (ap (λ (s : Script). told_start s kept) q ∙ ap (λ (o : Origin). o.tables) from)))
+          (subst (λ (n : ℕ). n ≤ c.in_ok-store.store.faults) (ap (λ (o : Origin). o.faults) from) c.in_ok-store.ensures.faults)
+          c.in_ok-store.ensures.written c.new.ensures
           (c.in-Ok-open.ensures ∙ ap unstamped (c.len.ensures ∙ ap (λ (s : Script). length s.mapping) q))
           (c.in-Ok.ensures ∙ ap (λ (s : Script). map (λ d. empty d.strategy d.capacity s.timeout) s.mapping) q))
-          (c.open-store.ensures.asked ∙ ap (λ (o : Origin). o.asked) from)
+          (c.in_ok-store.ensures.asked ∙ ap (λ (o : Origin). o.asked) from)
           (subst (λ (s : Script). AreSessions s [] c.in-Ok-open_sessions.sessions.items) q c.in-Ok-open_sessions.ensures),
     )

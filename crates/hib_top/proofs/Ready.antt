@@ -1,0 +1,76 @@
+-- A script that was read, and of which all is built, is one that a factory takes.
+use Rattle.std.proofs.Common.{◌≡◌, ℕ, zero, suc, ◌<◌, ◌≤◌, Bool, true, false, ◌&&◌, ◌||◌, nat_le, List, [], ◌∷◌, length, slice_get, Some, None, Option, refl, sym, ap, ◌∙◌, arith}
+use Rattle.std.proofs.lemmas.Bool.{false≢true, true≢false, and_parts, leb-true}
+use Rattle.std.specs.List.{list_all, list_any}
+use Rattle.hib_journal.specs.Types.{Statement, SessionDef, Script}
+use Rattle.hib_journal.specs.Sessions.{Journal}
+use Rattle.hib_journal.specs.Next.{statements}
+use Rattle.hib_session.specs.Due.{asks}
+use Rattle.hib_core.specs.Factory.{AsksNoQuery, IsBuilt, AreOver}
+use Rattle.hib_script.specs.Outline.{outline_of}
+use Rattle.hib_script.specs.Valid.{is_valid, is_over, statement_count}
+use Rattle.hib_top.specs.Play.{AreEnded}
+use Rattle.hib_top.specs.Unbuilt.{is_list, lists, has_orders, is_unbuilt}
+
+or_left_false : (a b : Bool) → (a || b) ≡ false → a ≡ false
+or_left_false true b p = absurd (true≢false p)
+or_left_false false b p = refl
+
+or_right_false : (a b : Bool) → (a || b) ≡ false → b ≡ false
+or_right_false true b p = absurd (true≢false p)
+or_right_false false b p = p
+
+asks_not : (q : ℕ) (t : Statement) → is_list t ≡ false → asks q t ≡ false
+asks_not q (Statement.List r) p = absurd (true≢false p)
+asks_not q _ p = refl
+
+unasked_in : (q : ℕ) (ts : List Statement) → list_any is_list ts ≡ false → list_any (λ t. asks q t) ts ≡ false
+unasked_in q [] p = refl
+unasked_in q (t ∷ ts) p = rw (asks_not q t (or_left_false (is_list t) (list_any is_list ts) p)) (unasked_in q ts (or_right_false (is_list t) (list_any is_list ts) p))
+
+unasked_by : (ds : List SessionDef) (s q : ℕ) → list_any lists ds ≡ false → list_any (λ t. asks q t) (statements (slice_get ds s)) ≡ false
+unasked_by [] s q p = refl
+unasked_by (d ∷ ds) zero q p = unasked_in q d.statements (or_left_false (lists d) (list_any lists ds) p)
+unasked_by (d ∷ ds) (suc s) q p = unasked_by ds s q (or_right_false (lists d) (list_any lists ds) p)
+
+asks_none : (script : Script) → is_unbuilt (outline_of script) ≡ false → AsksNoQuery script
+asks_none script p = λ s q. unasked_by script.sessions s q (or_left_false (list_any lists script.sessions) (has_orders script.schedule) p)
+
+-- the limits
+pub record Limits (s : Script) : Type 0 where
+  pub entities : length s.mapping ≤ 64
+  pub sessions : length s.sessions ≤ 1000
+
+limits : (s : Script) → is_valid s ≡ true → Limits s
+limits s p =
+    let h : Bool = nat_le (length s.schedule) 20000 && list_all is_over s.sessions in
+    let g : Bool = nat_le (statement_count s.sessions) 5000 && h in
+    let f : Bool = nat_le (length s.sessions) 1000 && g in
+    let e : Bool = nat_le (length s.queries) 1000 && f in
+    let d : Bool = nat_le (length s.rows) 10000 && e in
+    let c : Bool = nat_le (length s.mapping) 64 && d in
+    let b : Bool = nat_le s.results 100000 && c in
+    let pa : (nat_le s.timeout 1000000 ≡ true) × (b ≡ true) = and_parts (nat_le s.timeout 1000000) b p in
+    let pb : (nat_le s.results 100000 ≡ true) × (c ≡ true) = and_parts (nat_le s.results 100000) c pa.1 in
+    let pc : (nat_le (length s.mapping) 64 ≡ true) × (d ≡ true) = and_parts (nat_le (length s.mapping) 64) d pb.1 in
+    let pd : (nat_le (length s.rows) 10000 ≡ true) × (e ≡ true) = and_parts (nat_le (length s.rows) 10000) e pc.1 in
+    let pe : (nat_le (length s.queries) 1000 ≡ true) × (f ≡ true) = and_parts (nat_le (length s.queries) 1000) f pd.1 in
+    let pf : (nat_le (length s.sessions) 1000 ≡ true) × (g ≡ true) = and_parts (nat_le (length s.sessions) 1000) g pe.1 in
+    record { entities = leb-true (length s.mapping) 64 pc.0; sessions = leb-true (length s.sessions) 1000 pf.0 }
+
+pub ready : (script : Script) → is_valid script ≡ true → is_unbuilt (outline_of script) ≡ false → IsBuilt script
+ready script p q =
+    let l : Limits script = limits script p in
+    record { entities = omega (arith, l.entities); sessions = omega (arith, l.sessions); queries = asks_none script q }
+
+-- every session that there is has ended
+below : {A : Type 0} (xs : List A) (n : ℕ) (x : A) → slice_get xs n ≡ Some x → n < length xs
+below [] n x e = absurd (no e)
+  where
+    no : None ≡ Some x → ⊥
+    no p = cc
+below (y ∷ xs) zero x e = omega arith
+below (y ∷ xs) (suc n) x e = let l : n < length xs = below xs n x e in omega (arith, l)
+
+pub all_ended : (script : Script) (h : Journal) → AreOver script h → AreEnded script h
+all_ended script h over = λ s d e. over s (below script.sessions s d e)

@@ -1,0 +1,24 @@
+use Rattle.std.proofs.Common.{sym, subst}
+use Rattle.hib_journal.specs.Kept.{Kept, past}
+use Rattle.hib_core.specs.Factory.{AreOver}
+use Rattle.hib_top.specs.Play.{IsPlayed}
+use Rattle.hib_top.proofs.Ends.{over, stopped}
+use Rattle.hib_top.proofs.Ready.{all_ended}
+use Rattle.hib_top.proofs.run.named.Goals as goal
+use Rattle.hib_top.proofs.run.named.Goals.{in-Ok-finished, in-Err}
+
+pub returns-clause-came : goal.returns-clause-came
+returns-clause-came g c =
+    let h = past c.close-keeper.result.2 in
+    let played : IsPlayed g.N.Name.script g.N.Name.from.tables (g.K.Keeper.tables c.close-keeper.result.0) h =
+    record {
+      legal = c.close-keeper.ensures.legal;
+      law = c.law.ensures.obeyed g.N.Name.script g.N.Name.from.tables h c.close-keeper.ensures.legal;
+      numbered = c.close-keeper.ensures.numbered;
+      committed = c.close-keeper.ensures.rows;
+    } in
+    elim c.match-finished.branch [
+      | in-Ok-finished w ↦ over _ _ g.N.Name.script _ _ _ h w.end-is c.close-keeper.ensures.script played
+          (all_ended g.N.Name.script h (subst (λ (k : Kept). AreOver g.N.Name.script (past k)) (sym c.close-keeper.ensures.journal) w.in-Ok-finished.ensures.over))
+      | in-Err w ↦ stopped _ g.N.Name.script _ _ _ h w.end-is played
+    ]
