@@ -31,9 +31,9 @@ fn is_line(line: &[u8], text: &str) -> bool {
     }
 }
 
-/// Runs the top call on a row, over objects in memory.
-fn play(alloc: Global, row: &Row) -> Result<Came, AllocError> {
-    let input = row.input.as_slice().to_vec(alloc)?;
+/// Runs the top call on an input as a row says, over objects in memory.
+fn play(alloc: Global, row: &Row, input: &[u8]) -> Result<Came, AllocError> {
+    let input = input.to_vec(alloc)?;
     let source_fails = row.source_fails.as_slice().to_vec(alloc)?;
     let sink_fails = row.sink_fails.as_slice().to_vec(alloc)?;
     let keeper_fails = row.keeper_fails.as_slice().to_vec(alloc)?;
@@ -67,9 +67,75 @@ fn common(a: &[u8], b: &[u8]) -> usize {
     a.iter().zip(b.iter()).take_while(|(x, y)| *x == *y).count()
 }
 
+/// How many of these lines stand in a text in their order, each behind the one before it.
+fn found_in_order(lines: &[String], text: &str) -> usize {
+    let mut found = 0;
+    for line in text.lines() {
+        if found < lines.len() && lines[found].as_str() == line {
+            found += 1;
+        }
+    }
+    found
+}
+
+/// What is wrong with the output, if anything.
+fn output_fault(alloc: Global, row: &Row, output: &[u8]) -> Result<Option<String>, AllocError> {
+    if row.lines.is_empty() {
+        if output == row.output.as_slice() {
+            return Ok(None);
+        }
+        let at = common(output, row.output.as_slice());
+        return Ok(Some(format!(in alloc; "its output differs at byte {at}")?));
+    }
+    let text = String::from_utf8_lossy(alloc, output)?;
+    let found = found_in_order(row.lines.as_slice(), text.as_str());
+    match row.lines.get(found) {
+        Some(line) => Ok(Some(format!(in alloc;
+            "its output has no line {} there",
+            line.as_str()
+        )?)),
+        None => Ok(None),
+    }
+}
+
+/// Whether a front of a row's input ends with a line at which the script may end.
+fn may_end(row: &Row, front: &[u8], next: Option<&u8>) -> bool {
+    let mut line = 0;
+    for byte in front {
+        if *byte == b'\n' {
+            line += 1u32;
+        }
+    }
+    match front {
+        [] => return false,
+        [.., b'\n'] => {}
+        _ if next.is_none() || next == Some(&b'\n') => line += 1,
+        _ => return false,
+    }
+    row.ends.contains(&line)
+}
+
+/// The bytes of the first front of the input that came to another end than it must, if there is one.
+fn wrong_front(alloc: Global, row: &Row) -> Result<Option<usize>, AllocError> {
+    let input = row.input.as_slice();
+    for size in 0..input.len() {
+        let front = &input[..size];
+        let came = play(alloc, row, front)?;
+        let wanted = if may_end(row, front, input.get(size)) {
+            0
+        } else {
+            3
+        };
+        if came.status != wanted || (wanted == 3 && !came.output.is_empty()) {
+            return Ok(Some(size));
+        }
+    }
+    Ok(None)
+}
+
 /// The line of a row: that it is as it must be, or the first thing that differs.
 pub fn report(alloc: Global, row: Row) -> Result<String, AllocError> {
-    let came = play(alloc, &row)?;
+    let came = play(alloc, &row, row.input.as_slice())?;
     let name = row.name.as_str();
     if came.status != row.status {
         return format!(in alloc;
@@ -85,9 +151,8 @@ pub fn report(alloc: Global, row: Row) -> Result<String, AllocError> {
             row.says.as_str()
         );
     }
-    if came.output.as_slice() != row.output.as_slice() {
-        let at = common(came.output.as_slice(), row.output.as_slice());
-        return format!(in alloc; "row {name}: its output differs at byte {at}");
+    if let Some(fault) = output_fault(alloc, &row, came.output.as_slice())? {
+        return format!(in alloc; "row {name}: {}", fault.as_str());
     }
     if came.keeps != row.keeps as usize {
         return format!(in alloc;
@@ -102,6 +167,11 @@ pub fn report(alloc: Global, row: Row) -> Result<String, AllocError> {
             "row {name}: the keeper was asked {} times, and not {}",
             came.asks, asks
         );
+    }
+    if !row.ends.is_empty()
+        && let Some(size) = wrong_front(alloc, &row)?
+    {
+        return format!(in alloc; "row {name}: its first {size} bytes end otherwise");
     }
     format!(in alloc; "row {name}: ok")
 }

@@ -1,10 +1,11 @@
 //! Runs rows through the top call: each is an input of the program, with what must come of it. The rows come on
 //! standard input, in the form that the head of the file `stdin` describes, so that a row more is no code more.
-//! A line is printed for each row.
+//! A line is printed for each row, and at the end one for each thing that only direct calls can show.
 #![tactic(auto)]
 
 mod check;
 mod row;
+mod stale;
 
 use row::Row;
 use std::alloc::Global;
@@ -19,6 +20,12 @@ fn split(line: &str) -> (&str, &str) {
 fn finish(rt: &impl Print, alloc: Global, row: Row) -> io::Result<()> {
     let report = check::report(alloc, row)?;
     rt.println(report.as_str())
+}
+
+/// Prints the line of what is tried by direct calls.
+fn tell(rt: &impl Print, name: &str, is_right: bool) -> io::Result<()> {
+    let end = if is_right { "ok" } else { "it isn't so" };
+    println!(rt; "call {name}: {end}")
 }
 
 /// Prints a line that says nothing of a row.
@@ -50,8 +57,9 @@ fn main(rt: HostRuntime) -> io::Result<()> {
             complain(&rt, line.as_str())?;
         }
     }
-    match open {
-        Some(row) => finish(&rt, alloc, row),
-        None => Ok(()),
+    if let Some(row) = open {
+        finish(&rt, alloc, row)?;
     }
+    tell(&rt, "stale-version", stale::finds_the_version(alloc)?)?;
+    tell(&rt, "stale-row", stale::finds_no_row(alloc)?)
 }

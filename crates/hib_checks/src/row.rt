@@ -28,8 +28,13 @@ pub struct Row {
     pub status: u32,
     /// What the program is to say on standard error, without the line's end.
     pub says: String,
-    /// The bytes that are to be written.
+    /// The bytes that are to be written, where no lines of them are named.
     pub output: Vec<u8>,
+    /// Lines that are to be written, in their order, with others between them.
+    pub lines: Vec<String>,
+    /// The lines at which the script may end: then each front of the input is run too, and is played where it ends with such
+    /// a line, and else refused.
+    pub ends: Vec<u32>,
     /// How many rows the keeper is to have at the end.
     pub keeps: u32,
     /// How often the keeper is to have been asked for rows, where the row says so.
@@ -51,6 +56,8 @@ impl Row {
             status: 0,
             says: String::new(alloc),
             output: Vec::new(alloc),
+            lines: Vec::new(alloc),
+            ends: Vec::new(alloc),
             keeps: 0,
             asks: None,
         })
@@ -63,6 +70,7 @@ impl Row {
             "in" => add_line(&mut self.input, text)?,
             "part" => self.input.extend_from_slice(text.as_bytes())?,
             "out" => add_line(&mut self.output, text)?,
+            "has" => self.lines.push(String::from_str(alloc, text)?)?,
             "piece" => self.output.extend_from_slice(text.as_bytes())?,
             "says" => self.says.push_str(text)?,
             "kept" => return add_kept(alloc, &mut self.kept, text),
@@ -79,6 +87,7 @@ impl Row {
             "status" => self.status = number,
             "keeps" => self.keeps = number,
             "asks" => self.asks = Some(number),
+            "may-end" => self.ends.push(number)?,
             "room" => self.room = number as usize,
             "fill" => fill(&mut self.input, number as usize)?,
             "source-fails" => self.source_fails.push(number)?,
