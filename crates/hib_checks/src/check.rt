@@ -79,7 +79,8 @@ fn found_in_order(lines: &[String], text: &str) -> usize {
 }
 
 /// What is wrong with the output, if anything.
-fn output_fault(alloc: Global, row: &Row, output: &[u8]) -> Result<Option<String>, AllocError> {
+fn output_fault(alloc: Global, row: &Row, came: &Came) -> Result<Option<String>, AllocError> {
+    let output = came.output.as_slice();
     if row.lines.is_empty() {
         if output == row.output.as_slice() {
             return Ok(None);
@@ -100,16 +101,16 @@ fn output_fault(alloc: Global, row: &Row, output: &[u8]) -> Result<Option<String
 
 /// Whether a front of a row's input ends with a line at which the script may end.
 fn may_end(row: &Row, front: &[u8], next: Option<&u8>) -> bool {
-    let mut line = 0;
+    let mut line: u32 = 0;
     for byte in front {
         if *byte == b'\n' {
-            line += 1u32;
+            line = line.saturating_add(1);
         }
     }
     match front {
         [] => return false,
         [.., b'\n'] => {}
-        _ if next.is_none() || next == Some(&b'\n') => line += 1,
+        _ if next.is_none() || next == Some(&b'\n') => line = line.saturating_add(1),
         _ => return false,
     }
     row.ends.contains(&line)
@@ -133,8 +134,14 @@ fn wrong_front(alloc: Global, row: &Row) -> Result<Option<usize>, AllocError> {
     Ok(None)
 }
 
+/// The line that says this of a row.
+fn told(alloc: Global, name: &str, what: &str) -> Result<String, AllocError> {
+    format!(in alloc; "row {name}: {what}")
+}
+
 /// The line of a row: that it is as it must be, or the first thing that differs.
 pub fn report(alloc: Global, row: Row) -> Result<String, AllocError> {
+    let asks = row.asks;
     let came = play(alloc, &row, row.input.as_slice())?;
     let name = row.name.as_str();
     if came.status != row.status {
@@ -151,8 +158,8 @@ pub fn report(alloc: Global, row: Row) -> Result<String, AllocError> {
             row.says.as_str()
         );
     }
-    if let Some(fault) = output_fault(alloc, &row, came.output.as_slice())? {
-        return format!(in alloc; "row {name}: {}", fault.as_str());
+    if let Some(fault) = output_fault(alloc, &row, &came)? {
+        return told(alloc, name, fault.as_str());
     }
     if came.keeps != row.keeps as usize {
         return format!(in alloc;
@@ -160,7 +167,7 @@ pub fn report(alloc: Global, row: Row) -> Result<String, AllocError> {
             came.keeps, row.keeps
         );
     }
-    if let Some(asks) = row.asks
+    if let Some(asks) = asks
         && came.asks != u64::from(asks)
     {
         return format!(in alloc;
