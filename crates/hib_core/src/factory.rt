@@ -71,7 +71,7 @@ impl<K: Keeper, N: Name> Factory<K, N> {
         let Ok(sessions) = open_sessions(alloc, &script) else {
             return Err(OpenFault::NoMemory(keeper));
         };
-        let store = Store::seeded(alloc, keeper, script.rows.as_slice())?;
+        let store = Store::open(alloc, keeper, script.rows.as_slice())?;
         Ok(Factory {
             script,
             parts: Parts {

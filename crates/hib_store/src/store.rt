@@ -56,7 +56,7 @@ impl<K: Keeper> Store<K> {
     ghost use Rattle.hib_store.specs.Types.{Commit};
 
     /// The store over a keeper, in which no session has written. It asks the keeper for nothing.
-    pub fn open(alloc: Global, keeper: K) -> Store<K>
+    fn over(alloc: Global, keeper: K) -> Store<K>
         ensures tables { result.tables ≡ K.tables keeper }
         ensures faults { result.faults ≡ K.faults keeper }
         ensures asked { result.asked ≡ K.asked keeper }
@@ -71,11 +71,7 @@ impl<K: Keeper> Store<K> {
 
     /// The store over a keeper that is seeded by one call: each of these rows whose key has none is added. No session has
     /// written. At an error the keeper is handed back, with the rows that it had.
-    pub fn seeded(
-        alloc: Global,
-        mut keeper: K,
-        rows: &[(Key, Row)],
-    ) -> Result<Store<K>, OpenFault<K>>
+    pub fn open(alloc: Global, mut keeper: K, rows: &[(Key, Row)]) -> Result<Store<K>, OpenFault<K>>
         ensures tables { IfOk result (λ s. s.tables ≡ option_map (λ m. start m rows.now) (K.tables keeper)) }
         ensures faults { IfOk result (λ s. K.faults keeper ≤ s.faults) }
         ensures asked { IfOk result (λ s. s.asked ≡ K.asked keeper) }
@@ -87,7 +83,7 @@ impl<K: Keeper> Store<K> {
         ensures fault { IfErr result (λ e. is_store_fault e ≡ true → Rose (K.faults keeper) (K.faults (handed_back e))) }
     {
         match keeper.seed(alloc, rows) {
-            Ok(()) => Ok(Store::open(alloc, keeper)),
+            Ok(()) => Ok(Store::over(alloc, keeper)),
             Err(KeepFault::NoMemory) => Err(OpenFault::NoMemory(keeper)),
             Err(KeepFault::Failed) => Err(OpenFault::StoreFault(keeper)),
         }

@@ -1,5 +1,5 @@
 -- A call on a script ends well, unless something outside failed.
-use Rattle.std.proofs.Common.{◌≡◌, ◌<◌, ◌≤◌, ℕ, List, [], ◌↔◌, Bool, true, false, length, Some, Option, IfSome, Result, Ok, Err, refl, sym, ◌∙◌, ap, subst, arith, inl, inr}
+use Rattle.std.proofs.Common.{◌≡◌, ◌<◌, ◌≤◌, ℕ, List, [], ◌↔◌, true, false, length, Some, Option, IfSome, Result, Ok, Err, refl, sym, ◌∙◌, ap, subst, arith, inl, inr}
 use Rattle.std.proofs.lemmas.Bool.{true≢false}
 use Rattle.hib_base.specs.Tables.{Tables}
 use Rattle.hib_base.specs.declared.refusals.Refused.{Refused}
@@ -8,7 +8,7 @@ use Rattle.hib_journal.specs.Types.{Script}
 use Rattle.hib_script.specs.Outline.{Outline, outline_of}
 use Rattle.hib_script.specs.Script.{script_of}
 use Rattle.hib_top.specs.declared.status.Status.{Status}
-use Rattle.hib_top.specs.Play.{Plays, Runs, Reads, PlaysScript, IsRefused, Refuses, HasScript, IsCompleted}
+use Rattle.hib_top.specs.Play.{Plays, Runs, Reads, IsRefused, HasScript, IsCompleted}
 use Rattle.hib_top.specs.Unbuilt.{is_unbuilt, not_yet}
 
 -- what a run leaves is what the call leaves that read the script
@@ -38,18 +38,18 @@ refused_not (Ok p) text o q w e f = true≢false (sym w.0 ∙ (ap is_unbuilt (sa
     same : ◌≡◌ {A = Result Outline Refused} (Ok p) (Ok o) → p ≡ o
     same z = cc
 
-pub completes : (answer : Status) (left : Option (List ℕ)) (kept rows : Option Tables) (journal : Kept) (taken written : Option (List ℕ)) (word read write store : Type 0) →
+pub completes : (answer : Status) (left : Option (List ℕ)) (kept rows : Option Tables) (journal : Kept) (taken written : Option (List ℕ)) (word read write : Type 0) →
     Plays answer left kept rows journal taken written → ((answer ≡ Status.Usage) ↔ (word → ⊥)) → (answer ≡ Status.ReadFault → read) → (answer ≡ Status.WriteFault → write) →
-    (answer ≡ Status.TooLong → IfSome left (λ bytes. 1048576 < length bytes)) → (answer ≡ Status.StoreFault → store) →
-    word → HasScript left → (read → ⊥) → (write → ⊥) → (store → ⊥) → IsCompleted answer
-completes Status.Done left kept rows journal taken written word read write store p u r w l s x y nr nw ns = tt
-completes Status.NoMemory left kept rows journal taken written word read write store p u r w l s x y nr nw ns = tt
-completes Status.Usage left kept rows journal taken written word read write store p u r w l s x y nr nw ns = absurd (u.0 refl x)
-completes (Status.Refused q) left kept rows journal taken written word read write store p u r w l s x y nr nw ns =
+    (answer ≡ Status.TooLong → IfSome left (λ bytes. 1048576 < length bytes)) →
+    word → HasScript left → (read → ⊥) → (write → ⊥) → IsCompleted answer
+completes Status.Done left kept rows journal taken written word read write p u r w l x y nr nw = tt
+completes Status.NoMemory left kept rows journal taken written word read write p u r w l x y nr nw = tt
+completes Status.Usage left kept rows journal taken written word read write p u r w l x y nr nw = absurd (u.0 refl x)
+completes (Status.Refused q) left kept rows journal taken written word read write p u r w l x y nr nw =
     absurd (refused_not p.reading p.text (outline_of y.script) q p.why
     (sym p.read.is ∙ (ap script_of (sym (told_is left y.text (λ bytes. bytes ≡ p.text) y.told p.read.whole)) ∙ y.is)) y.built)
-completes Status.ReadFault left kept rows journal taken written word read write store p u r w l s x y nr nw ns = absurd (nr (r refl))
-completes Status.WriteFault left kept rows journal taken written word read write store p u r w l s x y nr nw ns = absurd (nw (w refl))
-completes Status.StoreFault left kept rows journal taken written word read write store p u r w l s x y nr nw ns = absurd (ns (s refl))
-completes Status.TooLong left kept rows journal taken written word read write store p u r w l s x y nr nw ns =
+completes Status.ReadFault left kept rows journal taken written word read write p u r w l x y nr nw = absurd (nr (r refl))
+completes Status.WriteFault left kept rows journal taken written word read write p u r w l x y nr nw = absurd (nw (w refl))
+completes Status.StoreFault left kept rows journal taken written word read write p u r w l x y nr nw = tt
+completes Status.TooLong left kept rows journal taken written word read write p u r w l x y nr nw =
     absurd (let m : 1048576 < length y.text = told_is left y.text (λ bytes. 1048576 < length bytes) y.told (l refl) in let few : length y.text ≤ 1048576 = y.few in omega (arith, m, few))

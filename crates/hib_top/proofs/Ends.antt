@@ -9,7 +9,7 @@ use Rattle.hib_core.specs.Standing.{told_start}
 use Rattle.hib_report.specs.Report.{report}
 use Rattle.hib_top.specs.declared.run.End.{End}
 use Rattle.hib_top.specs.declared.status.Status.{Status}
-use Rattle.hib_top.specs.Play.{AreEnded, IsPlayed, CameTo, IsIdle, IsWritten, IsAfterRun, Runs}
+use Rattle.hib_top.specs.Play.{AreEnded, IsPlayed, CameTo, IsWritten, IsAfterRun, Runs}
 
 -- the run
 pub over : (e : End) (s script : Script) (kept start rows : Option Tables) (h : Journal) → e ≡ End.Over s → s ≡ script → IsPlayed script start rows h → AreEnded script h →

@@ -1,6 +1,6 @@
 -- A script that was read, and of which all is built, is one that a factory takes.
-use Rattle.std.proofs.Common.{◌≡◌, ℕ, zero, suc, ◌<◌, ◌≤◌, Bool, true, false, ◌&&◌, ◌||◌, nat_le, List, [], ◌∷◌, length, slice_get, Some, None, Option, refl, sym, ap, ◌∙◌, arith}
-use Rattle.std.proofs.lemmas.Bool.{false≢true, true≢false, and_parts, leb-true}
+use Rattle.std.proofs.Common.{◌≡◌, ℕ, zero, suc, ◌<◌, ◌≤◌, Bool, true, false, ◌&&◌, ◌||◌, nat_le, List, [], ◌∷◌, length, slice_get, Some, None, refl, arith}
+use Rattle.std.proofs.lemmas.Bool.{true≢false, and_parts, leb-true}
 use Rattle.std.specs.List.{list_all, list_any}
 use Rattle.hib_journal.specs.Types.{Statement, SessionDef, Script}
 use Rattle.hib_journal.specs.Sessions.{Journal}

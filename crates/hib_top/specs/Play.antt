@@ -1,5 +1,5 @@
 -- What a call of the program promises.
-use Rattle.std.specs.Prelude.{◌≡◌, ◌⊎◌, ◌≤◌, ℕ, Bool, true, false, List, [], ⊤, length, slice_get, IfSome, Some, None, Option, Result, Ok, Err}
+use Rattle.std.specs.Prelude.{◌≡◌, ◌⊎◌, ◌≤◌, ℕ, true, false, List, [], ⊤, length, slice_get, IfSome, Some, None, Option, Result, Ok, Err}
 use Rattle.std.specs.Io.KnownBytes.{Appends}
 use Rattle.hib_base.specs.Tables.{Tables}
 use Rattle.hib_base.specs.declared.refusals.Refused.{Refused}
@@ -124,8 +124,9 @@ pub record HasScript (left : Option (List ℕ)) : Type 0 where
   pub is : script_of text ≡ Ok (outline_of script)
   pub built : is_unbuilt (outline_of script) ≡ false
 
--- all was done, or memory ran out
+-- all was done, or memory ran out, or the keeper didn't take the script's rows
 abbrev pub IsCompleted : Status → Type 0
 IsCompleted Status.Done = ⊤
 IsCompleted Status.NoMemory = ⊤
+IsCompleted Status.StoreFault = ⊤
 IsCompleted _ = ⊥

@@ -38,9 +38,9 @@ pub fn top<R: Threads + Wait + Sync, S: Source, W: Sink, K: Keeper, G: Gate, L: 
     ensures asked { result.status ≢ Status.NoMemory → RoseWithin (K.asked keeper) (ask_count (past result.journal)) (K.asked result.keeper) }
     // At most one piece of 4,096 bytes beyond the limit is read.
     ensures taken { ReadsFew 1052672 (S.left script.old) (S.left script.new) }
-    // A script is run to its end where source, sink and keeper don't fail, or memory runs out.
+    // A script is run to its end where source and sink don't fail, unless memory runs out or the keeper doesn't take its rows.
     ensures complete { IsPlay words.now → HasScript (S.left script.old) → (Rose (S.faults script.old) (S.faults script.new) → ⊥)
-        → (Rose (W.faults out.old) (W.faults out.new) → ⊥) → (Rose (K.faults keeper) (K.faults result.keeper) → ⊥) → IsCompleted result.status }
+        → (Rose (W.faults out.old) (W.faults out.new) → ⊥) → IsCompleted result.status }
     // The listeners are handed back untold.
     ensures listeners { result.listeners ≡ listeners }
 {

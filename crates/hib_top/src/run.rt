@@ -33,10 +33,13 @@ pub enum End {
     Unseeded,
 }
 
-/// A run that has come to an end, with the keeper that was handed in.
+/// A run that has come to an end.
 pub struct Ran<K> {
+    /// What it came to.
     pub end: End,
+    /// The keeper that was handed in.
     pub keeper: K,
+    /// The entries of its steps; none where nothing was run.
     pub journal: Journal,
 }
 

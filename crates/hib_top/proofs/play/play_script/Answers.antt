@@ -1,7 +1,6 @@
-use Rattle.std.proofs.Common.{◌∙◌, ℕ, List, Option, ap, sym, subst}
-use Rattle.hib_base.specs.Tables.{Tables}
+use Rattle.std.proofs.Common.{ℕ, List, Option, ap, sym, subst}
 use Rattle.hib_report.specs.Report.{report}
-use Rattle.hib_top.specs.Play.{Runs, IsAfterRun, IsWritten}
+use Rattle.hib_top.specs.Play.{Runs, IsWritten}
 use Rattle.hib_top.specs.declared.run.End.{End}
 use Rattle.hib_top.specs.declared.status.Status.{Status}
 use Rattle.hib_top.proofs.Ends.{runs_over, runs_short, is_short}
