@@ -1,5 +1,5 @@
 -- What a factory is opened with stands for the empty journal.
-use Rattle.std.proofs.Common.{◌≡◌, ◌⊎◌, ℕ, zero, suc, ◌+◌, ◌≤◌, List, [], ◌∷◌, ◌++◌, length, map, Some, None, Option, refl, sym, ap, ◌∙◌, subst, arith, inl, inr}
+use Rattle.std.proofs.Common.{◌≡◌, ◌⊎◌, ℕ, zero, suc, ◌+◌, ◌≤◌, false, List, [], ◌∷◌, ◌++◌, length, map, Some, None, Option, refl, sym, ap, ◌∙◌, subst, arith, inl, inr}
 use Rattle.std.proofs.lemmas.List.{length-map, length-append, length-replicate}
 use Rattle.std.specs.Prelude.{slice_get}
 use Rattle.hib_base.specs.Tables.{Tables}
@@ -9,7 +9,7 @@ use Rattle.hib_journal.specs.Runs.{told_committed}
 use Rattle.hib_update_stamps.specs.Stamped.{unstamped}
 use Rattle.hib_store.specs.Stores.{StoreState}
 use Rattle.hib_session.specs.declared.session.Session.{Session}
-use Rattle.hib_session.specs.Session.{Follows, number_of}
+use Rattle.hib_session.specs.Session.{Follows, number_of, is_killed}
 use Rattle.hib_core.specs.Region.{empty, IsPlaced}
 use Rattle.hib_core.specs.Laws.{Laws}
 use Rattle.hib_core.specs.Standing.{Origin, PartsState, AreParts, region_of}
@@ -21,6 +21,7 @@ use Rattle.hib_core.proofs.Opened.{registry_begins}
 pub record AreOpened (n : ℕ) (script : Script) (sessions : List Session) : Type 0 where
   pub all : length sessions ≡ n
   pub numbers : (s : ℕ) (y : Session) → slice_get sessions s ≡ Some y → number_of y ≡ s
+  pub killed : (s : ℕ) (y : Session) → slice_get sessions s ≡ Some y → is_killed y ≡ false
   pub follow : (s : ℕ) (y : Session) → slice_get sessions s ≡ Some y → Follows script y []
 
 -- the regions
@@ -59,7 +60,7 @@ parts_begin l script from x t f w r s g = record {
 pub standing_begins : Laws → (script : Script) (from : Origin) (x : FactoryState) → IsBuilt script → Rattle.hib_journal.specs.Kept.past x.journal ≡ [] →
     AreParts script from [] x.parts → x.parts.store.asked ≡ from.asked → AreSessions script [] x.sessions → IsStanding script from x
 standing_begins l script from x b e p a s = record {
-  run = rw e (record { legal = tt; numbered = tt; alive = λ n. refl; parts = p; built = b });
+  run = rw e (record { legal = tt; numbered = tt; parts = p; built = b });
   going = λ u. rw e (record { asked = record { later = omega (arith, a); few = omega (arith, a) }; sessions = s });
 }
 
@@ -81,10 +82,12 @@ at_end (x ∷ xs) y (suc s) z p = more (at_end xs y s z p)
     more (inl q) = inl q
     more (inr q) = inr (ap suc q.0, q.1)
 
-pub opened_more : (n : ℕ) (script : Script) (xs : List Session) (y : Session) → AreOpened n script xs → number_of y ≡ n → Follows script y [] → AreOpened (n + 1) script (xs ++ y ∷ [])
-opened_more n script xs y w e f = record {
+pub opened_more : (n : ℕ) (script : Script) (xs : List Session) (y : Session) → AreOpened n script xs → number_of y ≡ n → is_killed y ≡ false → Follows script y [] →
+    AreOpened (n + 1) script (xs ++ y ∷ [])
+opened_more n script xs y w e d f = record {
   all = length-append xs (y ∷ []) ∙ ap (λ m. m + 1) w.all;
   numbers = λ s z p. number s z (by_place s z p);
+  killed = λ s z p. killed s z (by_place s z p);
   follow = λ s z p. follow s z (by_place s z p);
 }
   where
@@ -99,6 +102,13 @@ opened_more n script xs y w e f = record {
     number s z (inl q) = w.numbers s z q
     number s z (inr q) = ap number_of q.1 ∙ (e ∙ sym q.0)
 
+    killed : (s : ℕ) (z : Session) → (slice_get xs s ≡ Some z) ⊎ ((s ≡ n) × (z ≡ y)) → is_killed z ≡ false
+    killed s z (inl q) = w.killed s z q
+    killed s z (inr q) = ap is_killed q.1 ∙ d
+
     follow : (s : ℕ) (z : Session) → (slice_get xs s ≡ Some z) ⊎ ((s ≡ n) × (z ≡ y)) → Follows script z []
     follow s z (inl q) = w.follow s z q
     follow s z (inr q) = subst (λ v. Follows script v []) (sym q.1) f
+
+pub all_opened : (n m : ℕ) (script : Script) (xs : List Session) → n ≤ m → m ≤ n → m ≡ length script.sessions → AreOpened n script xs → AreSessions script [] xs
+all_opened n m script xs k l e w = record { all = omega (arith, w.all, k, l, e); numbers = w.numbers; killed = w.killed; follow = λ s y p live. w.follow s y p }

@@ -9,3 +9,5 @@ pub mod OwnServed
 pub mod Allowed
 pub mod Begun
 pub mod Going
+pub mod Playing
+pub mod FromOutside

@@ -38,10 +38,10 @@ or_is (Some x) = refl
 region_is : (xs : List Region) (n : ℕ) → region_of xs n ≡ get_or xs n Region.Uncached
 region_is xs n = or_is (slice_get xs n) ∙ unwrap_or-slice_get xs n Region.Uncached
 
-region_same : (xs : List Region) (n : ℕ) (y : Region) → n < length xs → region_of (slice_set xs n y) n ≡ y
+pub region_same : (xs : List Region) (n : ℕ) (y : Region) → n < length xs → region_of (slice_set xs n y) n ≡ y
 region_same xs n y l = region_is (slice_set xs n y) n ∙ get_or-set_same xs n y Region.Uncached l
 
-region_other : (xs : List Region) (n m : ℕ) (y : Region) → m ≢ n → region_of (slice_set xs n y) m ≡ region_of xs m
+pub region_other : (xs : List Region) (n m : ℕ) (y : Region) → m ≢ n → region_of (slice_set xs n y) m ≡ region_of xs m
 region_other xs n m y d = region_is (slice_set xs n y) m ∙ (get_or-set_other xs n m y Region.Uncached d ∙ sym (region_is xs m))
 
 none_past : (xs : List Region) (n : ℕ) → length xs ≤ n → region_of xs n ≡ Region.Uncached

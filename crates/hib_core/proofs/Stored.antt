@@ -47,7 +47,7 @@ pub no_fault : (r : Reply) (o w : ℕ) → is_fault r ≡ false → o ≤ w → 
 no_fault r o w p q = rw p (omega (arith, q))
 
 -- a session that lives has lived before
-lived : (n : ℕ) (e : Entry) (h : Journal) → was_killed n (e ∷ h) ≡ false → was_killed n h ≡ false
+pub lived : (n : ℕ) (e : Entry) (h : Journal) → was_killed n (e ∷ h) ≡ false → was_killed n h ≡ false
 lived n e h p = by_test (killed_by n e.act (is_open n h)) p
   where
     by_test : (b : Bool) → (b || was_killed n h) ≡ false → was_killed n h ≡ false

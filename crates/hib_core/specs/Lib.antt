@@ -3,3 +3,4 @@ pub mod Region
 pub mod Laws
 pub mod Standing
 pub mod Factory
+pub mod Playing

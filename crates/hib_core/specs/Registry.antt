@@ -1,6 +1,6 @@
 -- The open sessions, and that they are those of a journal.
-use Rattle.std.specs.Prelude.{◌≡◌, ℕ, ◌≤◌, ◌<◌, cond, not, ◌==◌, List, [], ◌∷◌, ◌++◌, length, Some, None, Option}
-use Rattle.std.specs.List.{filter}
+use Rattle.std.specs.Prelude.{◌≡◌, ℕ, ◌≤◌, ◌<◌, Bool, cond, not, ◌==◌, List, [], ◌∷◌, ◌++◌, length, Some, None, Option}
+use Rattle.std.specs.List.{filter, list_any}
 use Rattle.hib_journal.specs.Types.{Act}
 use Rattle.hib_journal.specs.Sessions.{Journal, is_open, time}
 
@@ -45,6 +45,10 @@ Each P (p ∷ ps) = P p.1 × Each P ps
 abbrev pub AreRising : Opened → Type 0
 AreRising [] = Unit {0}
 AreRising (p ∷ ps) = Each (λ t. p.1 < t) ps × AreRising ps
+
+-- whether a session is open
+abbrev pub holds : ℕ → Opened → Bool
+holds s ps = list_any (λ p. p.0 == s) ps
 
 abbrev pub time_if_open : ℕ → Journal → Option ℕ
 time_if_open s h = cond (is_open s h) (Some (time s h)) None

@@ -39,6 +39,10 @@ pub record RoseWithin (before n now : ℕ) : Type 0 where
 abbrev pub entry_of : Journal → ℕ → Act → Reply → Entry
 entry_of h s a r = record { tick = length h + 1; session = Some s; part = part_of a s; act = a; reply = r }
 
+-- the next entry of an act from outside of the sessions
+abbrev pub outside_entry : Journal → Act → Reply → Entry
+outside_entry h a r = record { tick = length h + 1; session = None; part = part_of a 0; act = a; reply = r }
+
 -- the store: its rows are the committed ones, it defers what the sessions have not committed yet, and its keeper has failed
 -- as often as the journal says
 pub record IsStore (from : Origin) (h : Journal) (store : StoreState) : Type 0 where
@@ -64,6 +68,11 @@ abbrev pub regions_after : ℕ → Act → List Region → List Region
 regions_after now a xs =
     cond (is_restart a) (map emptied xs)
     (cond (is_regional a) (slice_set xs (acts_on a) (region_after (region_of xs (acts_on a)) now a)) xs)
+
+-- each region is emptied
+pub record AreEmptied (xs ys : List Region) : Type 0 where
+  pub all : length ys ≡ length xs
+  pub each : (n : ℕ) → region_of ys n ≡ emptied (region_of xs n)
 
 -- what an act of a session's own leaves of the open sessions
 abbrev pub own_after : ℕ → Act → Opened → Opened

@@ -1,22 +1,26 @@
 // The factory: sessions over shared parts, and the journal of their steps.
-ghost use Rattle.std.specs.Prelude.{◌≡◌, ◌<◌, ◌≤◌, ◌^◌, ◌==◌, ℕ, [], length, OnOk, OnErr, IfOk, IfErr, Ok, None, true, false};
+ghost use Rattle.std.specs.Prelude.{◌≡◌, ◌<◌, ◌≤◌, ◌^◌, ◌==◌, ℕ, [], length, slice_get, OnOk, OnErr, IfOk, IfErr, Ok, Some, None, true, false};
+ghost use Rattle.std.specs.List.{range_with_len};
 ghost use Rattle.hib_journal.specs.Kept.{past};
-ghost use Rattle.hib_journal.specs.Sessions.{own};
-ghost use Rattle.hib_journal.specs.Next.{next};
+ghost use Rattle.hib_base.specs.declared.scripts.Order.{Order};
+ghost use Rattle.hib_journal.specs.Next.{is_cached};
+ghost use Rattle.hib_journal.specs.Played.{has_next, play_steps, play_order, play_orders, play_sessions, is_played};
 ghost use Rattle.hib_journal.specs.Legal.{IsLegal};
 ghost use Rattle.hib_journal.specs.Runs.{IsNumbered, told_committed, fault_count, ask_count};
 ghost use Rattle.hib_core.specs.Standing.{RoseBy, RoseWithin, told_start};
 ghost use Rattle.hib_outside.specs.Causes.{Rose};
 ghost use Rattle.hib_store.specs.Stores.{handed_back, is_store_fault};
-ghost use Rattle.hib_core.specs.Factory.{Does, IsOver, AddsAtMost, AreOver, IsBuilt};
+ghost use Rattle.hib_core.specs.Factory.{Does, IsOver, AddsAtMost, AreOver, IsBuilt, IsSound};
+ghost use Rattle.hib_core.specs.Playing.{played, play_all, Leads};
 
 use crate::laws::laws;
 use crate::names::Name;
 use crate::opening::{open_regions, open_sessions};
+use crate::outside;
 use crate::parts::Parts;
 use crate::registry::Registry;
 use crate::turns::{Stepped, turn};
-use hib_base::{Script, SessionNo};
+use hib_base::{Key, Order, Script, SessionNo};
 use hib_journal::Journal;
 use hib_outside::Keeper;
 use hib_session::Session;
@@ -124,11 +128,52 @@ impl<K: Keeper, N: Name> Factory<K, N> {
         self.script.sessions.len()
     }
 
+    /// How many orders the schedule has.
+    fn orders(&self) -> usize
+        ensures count { result ≡ length N.script.schedule }
+    {
+        self.script.schedule.len()
+    }
+
+    /// An order of the schedule.
+    fn order(&self, at: usize) -> Order
+        requires there { at < length N.script.schedule }
+        ensures order { slice_get N.script.schedule at ≡ Some result }
+        ensures sound { IsSound N.script result }
+    {
+        *self.script.schedule.at(at)
+    }
+
+    /// Runs a session for so many steps, or to its end where that comes before; one that isn't there has none. Where memory
+    /// runs out no session goes on, and the journal so far stands.
+    pub fn run_steps(
+        &mut self,
+        alloc: Global,
+        number: SessionNo,
+        steps: u32,
+    ) -> Result<(), AllocError>
+        ensures played { OnOk result (Leads (play_steps N.script number steps) played (past self.old.journal) (past self.new.journal)) }
+        ensures going { OnOk result (self.old.refused ≡ false → self.new.refused ≡ false) }
+        ensures refused { OnErr result (self.new.refused ≡ true) }
+    {
+        if number.0 as usize >= self.sessions() {
+            return Ok(());
+        }
+        for step in 0..steps {
+            match self.step(alloc, number)? {
+                Stepped::Did => {}
+                Stepped::Done => return Ok(()),
+            }
+        }
+        Ok(())
+    }
+
     /// Runs a session to its end. Where memory runs out no session goes on, and the journal so far stands.
     pub fn run_session(&mut self, alloc: Global, number: SessionNo) -> Result<(), AllocError>
         requires known { number < length N.script.sessions }
-        ensures over { OnOk result (next N.script number (own number (past self.new.journal)) ≡ None) }
-        ensures others { OnOk result ((s : ℕ) → (number == s) ≡ false → own s (past self.new.journal) ≡ own s (past self.old.journal)) }
+        ensures played { OnOk result (Leads (play_all N.script number) played (past self.old.journal) (past self.new.journal)) }
+        ensures over { OnOk result (has_next N.script (past self.new.journal) number ≡ false) }
+        ensures others { OnOk result ((s : ℕ) → (number == s) ≡ false → has_next N.script (past self.new.journal) s ≡ has_next N.script (past self.old.journal) s) }
         ensures going { OnOk result (self.new.refused ≡ false) }
         ensures refused { OnErr result (self.new.refused ≡ true) }
     {
@@ -143,6 +188,7 @@ impl<K: Keeper, N: Name> Factory<K, N> {
     /// Runs each session to its end, the first one first. Where memory runs out no session goes on, and the journal so far
     /// stands.
     pub fn finish(&mut self, alloc: Global) -> Result<(), AllocError>
+        ensures played { OnOk result (Leads (play_sessions N.script (range_with_len 0 (length N.script.sessions))) played (past self.old.journal) (past self.new.journal)) }
         ensures over { OnOk result (AreOver N.script (past self.new.journal)) }
         ensures going { OnOk result (self.old.refused ≡ false → self.new.refused ≡ false) }
         ensures refused { OnErr result (self.new.refused ≡ true) }
@@ -151,6 +197,101 @@ impl<K: Keeper, N: Name> Factory<K, N> {
             self.run_session(alloc, SessionNo(number as u32))?;
         }
         Ok(())
+    }
+
+    /// Kills a session, if it is open: no act of it is due from then on, and its locks stay until their time is over. Where
+    /// memory runs out no session goes on, and the journal so far stands.
+    pub fn kill(&mut self, number: SessionNo) -> Result<(), AllocError>
+        ensures played { OnOk result (Leads (play_order N.script (Order.Kill number)) played (past self.old.journal) (past self.new.journal)) }
+        ensures going { OnOk result (self.old.refused ≡ false → self.new.refused ≡ false) }
+        ensures refused { OnErr result (self.new.refused ≡ true) }
+    {
+        if self.refused {
+            return Err(AllocError);
+        }
+        let killed = outside::kill::<K, N>(
+            number,
+            &mut self.sessions,
+            &mut self.parts,
+            &mut self.journal,
+        );
+        self.refused = killed.is_err();
+        killed
+    }
+
+    /// Evicts a row of a cached entity from its region. Where memory runs out no session goes on, and the journal so far
+    /// stands.
+    pub fn evict(&mut self, alloc: Global, key: Key) -> Result<(), AllocError>
+        requires cached { is_cached N.script key.entity ≡ true }
+        ensures played { OnOk result (Leads (play_order N.script (Order.Evict key)) played (past self.old.journal) (past self.new.journal)) }
+        ensures going { OnOk result (self.old.refused ≡ false → self.new.refused ≡ false) }
+        ensures refused { OnErr result (self.new.refused ≡ true) }
+    {
+        if self.refused {
+            return Err(AllocError);
+        }
+        let evicted = outside::evict::<K, N>(alloc, key, &mut self.parts, &mut self.journal);
+        self.refused = evicted.is_err();
+        evicted
+    }
+
+    /// A restart: the sessions that are open are killed, and nothing is cached, locked or stamped any more. Where memory runs
+    /// out no session goes on, and the journal so far stands.
+    pub fn restart(&mut self) -> Result<(), AllocError>
+        ensures played { OnOk result (Leads (play_order N.script Order.Restart) played (past self.old.journal) (past self.new.journal)) }
+        ensures going { OnOk result (self.old.refused ≡ false → self.new.refused ≡ false) }
+        ensures refused { OnErr result (self.new.refused ≡ true) }
+    {
+        if self.refused {
+            return Err(AllocError);
+        }
+        let restarted = outside::restart::<K, N>(
+            &mut self.sessions,
+            &mut self.parts,
+            &mut self.journal,
+        );
+        self.refused = restarted.is_err();
+        restarted
+    }
+
+    /// Carries an order of the schedule out.
+    fn obey(&mut self, alloc: Global, order: Order) -> Result<(), AllocError>
+        requires sound { IsSound N.script order }
+        ensures played { OnOk result (Leads (play_order N.script order) played (past self.old.journal) (past self.new.journal)) }
+        ensures going { OnOk result (self.old.refused ≡ false → self.new.refused ≡ false) }
+        ensures refused { OnErr result (self.new.refused ≡ true) }
+    {
+        match order {
+            Order::Run { session, steps } => self.run_steps(alloc, session, steps),
+            Order::Kill { session } => self.kill(session),
+            Order::Evict { key } => self.evict(alloc, key),
+            Order::Restart => self.restart(),
+        }
+    }
+
+    /// Carries the orders of the schedule out, one after the other.
+    fn follow_schedule(&mut self, alloc: Global) -> Result<(), AllocError>
+        ensures played { OnOk result (Leads (play_orders N.script N.script.schedule) played (past self.old.journal) (past self.new.journal)) }
+        ensures going { OnOk result (self.old.refused ≡ false → self.new.refused ≡ false) }
+        ensures refused { OnErr result (self.new.refused ≡ true) }
+    {
+        for at in 0..self.orders() {
+            let order = self.order(at);
+            self.obey(alloc, order)?;
+        }
+        Ok(())
+    }
+
+    /// Plays the script: the orders of its schedule, one after the other, and then each session to its end, the first one
+    /// first. Where memory runs out no session goes on, and the journal so far stands.
+    pub fn play(&mut self, alloc: Global) -> Result<(), AllocError>
+        ensures played { OnOk result (past self.old.journal ≡ [] → is_played N.script (past self.new.journal) ≡ true) }
+        ensures over { OnOk result (AreOver N.script (past self.new.journal)) }
+        ensures going { OnOk result (self.old.refused ≡ false → self.new.refused ≡ false) }
+        ensures refused { OnErr result (self.new.refused ≡ true) }
+    {
+        self.follow_schedule(alloc)?;
+        self.finish(alloc)
     }
 
     /// The keeper, the script and the journal, with what the factory promises of them.

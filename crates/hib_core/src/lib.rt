@@ -5,6 +5,7 @@ mod factory;
 mod laws;
 mod names;
 mod opening;
+mod outside;
 mod parts;
 mod region;
 mod registry;

@@ -1,16 +1,16 @@
 // The parts of a factory that sessions share, and what they answer.
-ghost use Rattle.std.specs.Prelude.{◌≡◌, ◌≤◌, ◌<◌, ◌^◌, ◌+◌, length, IfOk, OnOk, OnErr, Some, None, slice_set, ℕ};
+ghost use Rattle.std.specs.Prelude.{◌≡◌, ◌≤◌, ◌<◌, ◌^◌, ◌+◌, [], length, IfOk, OnOk, OnErr, Some, None, slice_set, ℕ};
 ghost use Rattle.hib_base.specs.declared.entries.Act.{Act};
 ghost use Rattle.hib_base.specs.declared.replies.Reply.{Reply};
 ghost use Rattle.hib_journal.specs.Slot.{key_in};
 ghost use Rattle.std.specs.List.{All};
-ghost use Rattle.hib_update_stamps.specs.Stamped.{stamped};
+ghost use Rattle.hib_update_stamps.specs.Stamped.{stamped, unstamped};
 ghost use Rattle.hib_core.specs.Registry.{floor_in, opened_after, without};
 ghost use Rattle.hib_core.specs.Region.{answer_in, region_after, HasRoomFor, acts_on, entity_in};
 ghost use Rattle.hib_base.specs.declared.scripts.Script.{Script};
 ghost use Rattle.hib_journal.specs.Sessions.{Journal, own};
 ghost use Rattle.hib_session.specs.Session.{own_reply};
-ghost use Rattle.hib_core.specs.Standing.{Origin, region_of, own_after, AreParts, AreWithin, IsReady, IsAnswered, IsAskedFor, reply_of_loaded};
+ghost use Rattle.hib_core.specs.Standing.{Origin, region_of, own_after, AreParts, AreWithin, IsReady, IsAnswered, IsAskedFor, AreEmptied, reply_of_loaded};
 
 use crate::laws::laws;
 use crate::region::Region;
@@ -52,6 +52,15 @@ fn entity_of(act: &Act) -> Option<EntityNo>
         | Act::RegionRemove { key }
         | Act::Evict { key } => Some(key.entity),
         _ => None,
+    }
+}
+
+/// Each region drops all that it holds.
+fn clear_all(regions: &mut Vec<Region>)
+    ensures { AreEmptied regions.old.items regions.new.items }
+{
+    for at in 0..regions.len() {
+        regions[at].clear();
     }
 }
 
@@ -106,8 +115,20 @@ impl<K: Keeper> Parts<K> {
         self.registry.end(session);
     }
 
+    /// A restart: no session is open, no table has a stamp, and no region holds anything. The store stays. It takes no memory.
+    pub fn restart(&mut self)
+        ensures store { self.new.store ≡ self.old.store }
+        ensures registry { self.new.registry ≡ [] }
+        ensures stamps { self.new.stamps ≡ unstamped (length self.old.stamps) }
+        ensures regions { AreEmptied self.old.regions self.new.regions }
+    {
+        self.registry.clear();
+        self.stamps.clear();
+        clear_all(&mut self.regions);
+    }
+
     /// An act of a region.
-    fn serve_entity(
+    pub fn serve_entity(
         &mut self,
         alloc: Global,
         entity: EntityNo,

@@ -1,6 +1,6 @@
 // Which sessions have a transaction open.
 ghost use Rattle.std.specs.Prelude.{◌≡◌, ◌∷◌, ◌++◌, [], OnErr, OnOk, IfOk};
-ghost use Rattle.hib_core.specs.Registry.{floor_in, without};
+ghost use Rattle.hib_core.specs.Registry.{floor_in, without, holds};
 
 use hib_base::{SessionNo, Tick};
 use std::alloc::{AllocError, Global};
@@ -47,6 +47,20 @@ impl Registry {
     {
         self.open.push((session, now))?;
         Ok(())
+    }
+
+    /// Whether a session is open.
+    pub fn is_open(&self, session: SessionNo) -> bool
+        ensures { result ≡ holds session self.now }
+    {
+        self.open.iter().any(|entry| entry.0 == session)
+    }
+
+    /// No session is open any more. It takes no memory.
+    pub fn clear(&mut self)
+        ensures { self.new ≡ [] }
+    {
+        self.open.clear();
     }
 
     /// A session has ended, or was killed. It takes no memory.

@@ -7,7 +7,7 @@ ghost use Rattle.hib_journal.specs.Kept.{past};
 ghost use Rattle.hib_journal.specs.Sessions.{Journal as Past, own};
 ghost use Rattle.hib_journal.specs.Next.{next};
 ghost use Rattle.hib_journal.specs.Legal;
-ghost use Rattle.hib_session.specs.Session.{Follows, IsTaken, number_of, left_in};
+ghost use Rattle.hib_session.specs.Session.{Follows, IsTaken, number_of, is_killed, left_in};
 ghost use Rattle.hib_core.specs.Region.{HasRoomFor, acts_on};
 ghost use Rattle.hib_core.specs.Standing.{Origin, region_of, AreParts, AreWithin, IsDue, IsReady, entry_of};
 ghost use Rattle.hib_core.specs.Factory.{IsTold, IsRun, IsGoing, IsTurn, Serves, Does, IsOver, AddsAtMost, AsksNoQuery};
@@ -35,6 +35,7 @@ fn due_act(alloc: Global, script: &Script, session: &Session) -> Result<Option<A
     requires queries { AsksNoQuery script.now }
     ensures act { IfOk result (λ a. (mine : Past) → Follows script.now session.now mine → a ≡ next script.now (number_of session.now) mine) }
     ensures due { IfOk result (λ a. (mine : Past) → Follows script.now session.now mine → IfSome a (IsDue script.now mine)) }
+    ensures killed { IfOk result (λ a. is_killed session.now ≡ true → a ≡ None) }
 {
     let act = session.next_act(alloc, script)?;
     Ok(act)
@@ -68,7 +69,7 @@ fn answer<K: Keeper>(
 }
 
 /// The part of an act of a session.
-fn part_of(act: &Act, session: SessionNo) -> Part
+pub fn part_of(act: &Act, session: SessionNo) -> Part
     ensures { result ≡ Legal.part_of act.now session }
 {
     match act {
@@ -144,6 +145,7 @@ fn take_last(
     journal: &Journal,
 ) -> Result<(), AllocError>
     ensures number { number_of session.new ≡ number_of session.old }
+    ensures killed { is_killed session.new ≡ is_killed session.old }
     ensures follows { OnOk result ((e : Entry) (h mine : List Entry) → past journal.now ≡ e ∷ h → Follows script.now session.old mine
         → IsTaken script.now (number_of session.old) mine e → Follows script.now session.new (e ∷ mine)) }
     ensures less { OnOk result ((e : Entry) (h mine : List Entry) → past journal.now ≡ e ∷ h → Follows script.now session.old mine

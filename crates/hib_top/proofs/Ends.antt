@@ -1,5 +1,5 @@
 -- What a run comes to, and what the call makes of it.
-use Rattle.std.proofs.Common.{◌≡◌, ℕ, List, [], Option, sym, subst, inl, inr}
+use Rattle.std.proofs.Common.{◌≡◌, ℕ, List, Option, sym, subst, inl, inr}
 use Rattle.std.specs.Prelude.{⊤}
 use Rattle.hib_base.specs.Tables.{Tables}
 use Rattle.hib_journal.specs.Types.{Script}
@@ -9,10 +9,10 @@ use Rattle.hib_core.specs.Standing.{told_start}
 use Rattle.hib_report.specs.Report.{report}
 use Rattle.hib_top.specs.declared.run.End.{End}
 use Rattle.hib_top.specs.declared.status.Status.{Status}
-use Rattle.hib_top.specs.Play.{AreEnded, IsPlayed, CameTo, IsWritten, IsAfterRun, Runs}
+use Rattle.hib_top.specs.Play.{IsFinished, IsPlayed, CameTo, IsWritten, IsAfterRun, Runs}
 
 -- the run
-pub over : (e : End) (s script : Script) (kept start rows : Option Tables) (h : Journal) → e ≡ End.Over s → s ≡ script → IsPlayed script start rows h → AreEnded script h →
+pub over : (e : End) (s script : Script) (kept start rows : Option Tables) (h : Journal) → e ≡ End.Over s → s ≡ script → IsPlayed script start rows h → IsFinished script h →
     CameTo e script kept start rows h
 over e s script kept start rows h p q x y = subst (λ z. CameTo z script kept start rows h) (sym p) (q, x, y)
 
@@ -27,7 +27,7 @@ IsShort End.Unseeded Status.StoreFault = ⊤
 IsShort _ _ = ⊥
 
 told : (answer : Status) (s script : Script) (kept rows : Option Tables) (journal : Kept) (taken written : Option (List ℕ)) → s ≡ script →
-    IsPlayed script (told_start script kept) rows (past journal) → AreEnded script (past journal) → IsAfterRun answer → IsWritten answer (report s journal.list) taken written →
+    IsPlayed script (told_start script kept) rows (past journal) → IsFinished script (past journal) → IsAfterRun answer → IsWritten answer (report s journal.list) taken written →
     Runs answer script kept rows journal taken written
 told Status.Done s script kept rows journal taken written q x y a w =
     record { played = x; ended = y; report = subst (λ z. IsWritten Status.Done (report z journal.list) taken written) q w }
@@ -40,7 +40,7 @@ pub runs_over : (e : End) (answer : Status) (s script : Script) (kept rows : Opt
     CameTo e script kept (told_start script kept) rows (past journal) → IsAfterRun answer → IsWritten answer (report s journal.list) taken written →
     Runs answer script kept rows journal taken written
 runs_over e answer s script kept rows journal taken written p c a w =
-    let k : (s ≡ script) × IsPlayed script (told_start script kept) rows (past journal) × AreEnded script (past journal) =
+    let k : (s ≡ script) × IsPlayed script (told_start script kept) rows (past journal) × IsFinished script (past journal) =
     subst (λ z. CameTo z script kept (told_start script kept) rows (past journal)) p c in
     told answer s script kept rows journal taken written k.0 k.1 k.2 a w
 

@@ -1,16 +1,17 @@
 -- A script that was read, and of which all is built, is one that a factory takes.
-use Rattle.std.proofs.Common.{◌≡◌, ℕ, zero, suc, ◌<◌, ◌≤◌, Bool, true, false, ◌&&◌, ◌||◌, nat_le, List, [], ◌∷◌, length, slice_get, Some, None, refl, arith}
+use Rattle.std.proofs.Common.{◌≡◌, ℕ, zero, suc, ◌<◌, ◌≤◌, Bool, true, false, not, ◌&&◌, ◌||◌, nat_le, List, [], ◌∷◌, length, slice_get, Some, None, Option, refl, subst, arith}
 use Rattle.std.proofs.lemmas.Bool.{true≢false, and_parts, leb-true}
 use Rattle.std.specs.List.{list_all, list_any}
-use Rattle.hib_journal.specs.Types.{Statement, SessionDef, Script}
+use Rattle.hib_journal.specs.Types.{Order, Statement, SessionDef, Script}
 use Rattle.hib_journal.specs.Sessions.{Journal}
-use Rattle.hib_journal.specs.Next.{statements}
+use Rattle.hib_journal.specs.Next.{is_cached, statements}
+use Rattle.hib_journal.specs.Played.{is_played}
 use Rattle.hib_session.specs.Due.{asks}
-use Rattle.hib_core.specs.Factory.{AsksNoQuery, IsBuilt, AreOver}
+use Rattle.hib_core.specs.Factory.{AsksNoQuery, IsSound, IsBuilt, AreOver}
 use Rattle.hib_script.specs.Outline.{outline_of}
 use Rattle.hib_script.specs.Valid.{is_valid, is_over, statement_count}
-use Rattle.hib_top.specs.Play.{AreEnded}
-use Rattle.hib_top.specs.Unbuilt.{is_list, lists, has_orders, is_unbuilt}
+use Rattle.hib_top.specs.Play.{IsFinished}
+use Rattle.hib_top.specs.Unbuilt.{is_list, lists, evicts_uncached, is_unbuilt}
 
 or_left_false : (a b : Bool) → (a || b) ≡ false → a ≡ false
 or_left_false true b p = absurd (true≢false p)
@@ -34,7 +35,23 @@ unasked_by (d ∷ ds) zero q p = unasked_in q d.statements (or_left_false (lists
 unasked_by (d ∷ ds) (suc s) q p = unasked_by ds s q (or_right_false (lists d) (list_any lists ds) p)
 
 asks_none : (script : Script) → is_unbuilt (outline_of script) ≡ false → AsksNoQuery script
-asks_none script p = λ s q. unasked_by script.sessions s q (or_left_false (list_any lists script.sessions) (has_orders script.schedule) p)
+asks_none script p = λ s q. unasked_by script.sessions s q (or_left_false (list_any lists script.sessions) (list_any (λ o. evicts_uncached script.mapping o) script.schedule) p)
+
+no_uncached : (b : Bool) → not b ≡ false → b ≡ true
+no_uncached true p = refl
+no_uncached false p = absurd (true≢false p)
+
+sound : (script : Script) (o : Order) → evicts_uncached script.mapping o ≡ false → IsSound script o
+sound script (Order.Evict k) p = no_uncached (is_cached script k.entity) p
+sound script _ p = tt
+
+all_sound : (script : Script) (os : List Order) (i : ℕ) (o : Order) → list_any (λ x. evicts_uncached script.mapping x) os ≡ false → slice_get os i ≡ Some o → IsSound script o
+all_sound script [] i o p e = absurd (no e)
+  where
+    no : ◌≡◌ {A = Option Order} None (Some o) → ⊥
+    no q = cc
+all_sound script (x ∷ os) zero o p e = let same : x ≡ o = cc in subst (IsSound script) same (sound script x (or_left_false (evicts_uncached script.mapping x) (list_any (λ y. evicts_uncached script.mapping y) os) p))
+all_sound script (x ∷ os) (suc i) o p e = all_sound script os i o (or_right_false (evicts_uncached script.mapping x) (list_any (λ y. evicts_uncached script.mapping y) os) p) e
 
 -- the limits
 pub record Limits (s : Script) : Type 0 where
@@ -61,7 +78,12 @@ limits s p =
 pub ready : (script : Script) → is_valid script ≡ true → is_unbuilt (outline_of script) ≡ false → IsBuilt script
 ready script p q =
     let l : Limits script = limits script p in
-    record { entities = omega (arith, l.entities); sessions = omega (arith, l.sessions); queries = asks_none script q }
+    record {
+      entities = omega (arith, l.entities);
+      sessions = omega (arith, l.sessions);
+      orders = λ i o e. all_sound script script.schedule i o (or_right_false (list_any lists script.sessions) (list_any (λ x. evicts_uncached script.mapping x) script.schedule) q) e;
+      queries = asks_none script q;
+    }
 
 -- every session that there is has ended
 below : {A : Type 0} (xs : List A) (n : ℕ) (x : A) → slice_get xs n ≡ Some x → n < length xs
@@ -72,5 +94,5 @@ below [] n x e = absurd (no e)
 below (y ∷ xs) zero x e = omega arith
 below (y ∷ xs) (suc n) x e = let l : n < length xs = below xs n x e in omega (arith, l)
 
-pub all_ended : (script : Script) (h : Journal) → AreOver script h → AreEnded script h
-all_ended script h over = λ s d e. over s (below script.sessions s d e)
+pub all_ended : (script : Script) (h : Journal) → AreOver script h → is_played script h ≡ true → IsFinished script h
+all_ended script h over played = record { ended = λ s d e. over s (below script.sessions s d e); scheduled = played }

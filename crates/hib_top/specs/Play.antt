@@ -1,12 +1,12 @@
 -- What a call of the program promises.
-use Rattle.std.specs.Prelude.{◌≡◌, ◌⊎◌, ◌≤◌, ℕ, true, false, List, [], ⊤, length, slice_get, IfSome, Some, None, Option, Result, Ok, Err}
+use Rattle.std.specs.Prelude.{◌≡◌, ◌⊎◌, ◌≤◌, ℕ, true, false, List, [], ⊤, length, slice_get, IfSome, Some, Option, Result, Ok, Err}
 use Rattle.std.specs.Io.KnownBytes.{Appends}
 use Rattle.hib_base.specs.Tables.{Tables}
 use Rattle.hib_base.specs.declared.refusals.Refused.{Refused}
 use Rattle.hib_journal.specs.Types.{Script, SessionDef}
 use Rattle.hib_journal.specs.Kept.{Kept, past}
-use Rattle.hib_journal.specs.Sessions.{Journal, own}
-use Rattle.hib_journal.specs.Next.{next}
+use Rattle.hib_journal.specs.Sessions.{Journal}
+use Rattle.hib_journal.specs.Played.{has_next, is_played}
 use Rattle.hib_journal.specs.Legal.{IsLegal}
 use Rattle.hib_journal.specs.Runs.{IsNumbered, told_committed}
 use Rattle.hib_law.specs.Law.{Obeys}
@@ -20,9 +20,11 @@ use Rattle.hib_top.specs.Streams.{TakesFront}
 use Rattle.hib_top.specs.Unbuilt.{is_unbuilt, not_yet}
 
 -- ---- a run
--- each session is at its end: it has no next act
-abbrev pub AreEnded : Script → Journal → Type 0
-AreEnded script h = (s : ℕ) (d : SessionDef) → slice_get script.sessions s ≡ Some d → next script s (own s h) ≡ None
+-- each session is at its end, where it has no next act, or was killed; and the entries are those of the orders of the schedule,
+-- one after the other, and then of the rest of each session
+pub record IsFinished (script : Script) (h : Journal) : Type 0 where
+  pub ended : (s : ℕ) (d : SessionDef) → slice_get script.sessions s ≡ Some d → has_next script h s ≡ false
+  pub scheduled : is_played script h ≡ true
 
 -- the journal is legal for the script from the rows at the start, with its ticks in turn, and so obeys the law; the keeper has
 -- the rows that its commits gave
@@ -34,16 +36,16 @@ pub record IsPlayed (script : Script) (start rows : Option Tables) (h : Journal)
 
 -- what a run came to, from what the keeper kept: start is that with the script's rows
 abbrev pub CameTo : End → Script → Option Tables → Option Tables → Option Tables → Journal → Type 0
-CameTo (End.Over s) script kept start rows h = (s ≡ script) × IsPlayed script start rows h × AreEnded script h
+CameTo (End.Over s) script kept start rows h = (s ≡ script) × IsPlayed script start rows h × IsFinished script h
 CameTo End.Stopped script kept start rows h = IsPlayed script start rows h
 CameTo End.Unopened script kept start rows h = (h ≡ []) × (rows ≡ kept)
 CameTo End.Unseeded script kept start rows h = (h ≡ []) × (rows ≡ kept)
 
 -- ---- a call
--- the sessions are at their end at Done, and where only the writing failed
+-- the run is finished at Done, and where only the writing failed
 abbrev pub EndsWell : Status → Script → Journal → Type 0
-EndsWell Status.Done script h = AreEnded script h
-EndsWell Status.WriteFault script h = AreEnded script h
+EndsWell Status.Done script h = IsFinished script h
+EndsWell Status.WriteFault script h = IsFinished script h
 EndsWell _ script h = ⊤
 
 -- what was written: the text at Done, a front of it where the sink failed, else nothing

@@ -11,7 +11,7 @@ ghost use Rattle.hib_script.specs.Valid.{is_valid};
 ghost use Rattle.hib_top.specs.Play.{CameTo};
 ghost use Rattle.hib_top.specs.Unbuilt as unbuilt;
 
-use hib_base::{Script, SessionDef, Statement};
+use hib_base::{EntityDef, Order, Script, SessionDef, Statement, Strategy};
 use hib_core::{Factory, Name};
 use hib_journal::Journal;
 use hib_law::law;
@@ -23,7 +23,7 @@ use std::marker::Brand;
 /// What a run came to.
 #[derive(Drop)]
 pub enum End {
-    /// Each session is at its end.
+    /// The schedule was played, and each session is at its end.
     Over(Script),
     /// Memory ran out on the way.
     Stopped,
@@ -47,7 +47,8 @@ pub struct Ran<K> {
 pub fn is_unbuilt(script: &Script) -> bool
     ensures { result ≡ unbuilt.is_unbuilt (outline_of script.now) }
 {
-    list_queries(script.sessions.as_slice()) || !script.schedule.is_empty()
+    list_queries(script.sessions.as_slice())
+        || evict_uncached(script.mapping.as_slice(), script.schedule.as_slice())
 }
 
 /// Whether a session lists a query.
@@ -65,6 +66,25 @@ fn lists(session: &SessionDef) -> bool
         .as_slice()
         .iter()
         .any(|statement| is_list(statement))
+}
+
+/// Whether an order evicts a row of an entity that isn't cached.
+fn evict_uncached(mapping: &[EntityDef], schedule: &[Order]) -> bool
+    ensures { result ≡ list_any (λ o. unbuilt.evicts_uncached mapping.now o) schedule.now }
+{
+    schedule.iter().any(|order| evicts_uncached(mapping, order))
+}
+
+fn evicts_uncached(mapping: &[EntityDef], order: &Order) -> bool
+    ensures { result ≡ unbuilt.evicts_uncached mapping.now order.now }
+{
+    match order {
+        Order::Evict { key } => match mapping.get(key.entity.0 as usize) {
+            Some(entity) => entity.strategy == Strategy::Uncached,
+            None => true,
+        },
+        _ => false,
+    }
 }
 
 fn is_list(statement: &Statement) -> bool
@@ -102,7 +122,7 @@ fn named<N: Name, K: Keeper>(alloc: Global, script: Script, keeper: K) -> Ran<K>
         Err(OpenFault::NoMemory(keeper)) => return not_run(alloc, End::Unopened, keeper),
         Err(OpenFault::StoreFault(keeper)) => return not_run(alloc, End::Unseeded, keeper),
     };
-    let finished = factory.finish(alloc);
+    let finished = factory.play(alloc);
     let (keeper, script, journal) = factory.close();
     let end = match finished {
         Ok(()) => End::Over(script),
@@ -115,7 +135,8 @@ fn named<N: Name, K: Keeper>(alloc: Global, script: Script, keeper: K) -> Ran<K>
     }
 }
 
-/// Runs a script over a keeper: each session to its end, the first one first. Where memory runs out the journal so far stands.
+/// Runs a script over a keeper: the orders of its schedule, and then each session to its end, the first one first. Where memory
+/// runs out the journal so far stands.
 pub fn run<K: Keeper>(alloc: Global, script: Script, keeper: K) -> Ran<K>
     requires valid { is_valid script ≡ true }
     requires built { unbuilt.is_unbuilt (outline_of script) ≡ false }

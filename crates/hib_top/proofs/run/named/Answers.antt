@@ -1,5 +1,6 @@
-use Rattle.std.proofs.Common.{sym, subst}
+use Rattle.std.proofs.Common.{◌≡◌, true, sym, subst}
 use Rattle.hib_journal.specs.Kept.{Kept, past}
+use Rattle.hib_journal.specs.Played.{is_played}
 use Rattle.hib_core.specs.Factory.{AreOver}
 use Rattle.hib_top.specs.Play.{IsPlayed}
 use Rattle.hib_top.proofs.Ends.{over, stopped}
@@ -19,6 +20,7 @@ returns-clause-came g c =
     } in
     elim c.match-finished.branch [
       | in-Ok-finished w ↦ over _ _ g.N.Name.script _ _ _ h w.end-is c.close-keeper.ensures.script played
-          (all_ended g.N.Name.script h (subst (λ (k : Kept). AreOver g.N.Name.script (past k)) (sym c.close-keeper.ensures.journal) w.in-Ok-finished.ensures.over))
+          (all_ended g.N.Name.script h (subst (λ (k : Kept). AreOver g.N.Name.script (past k)) (sym c.close-keeper.ensures.journal) w.in-Ok-finished.ensures.over)
+          (subst (λ (k : Kept). is_played g.N.Name.script (past k) ≡ true) (sym c.close-keeper.ensures.journal) (w.in-Ok-finished.ensures.played c.in-Ok.ensures.empty)))
       | in-Err w ↦ stopped _ g.N.Name.script _ _ _ h w.end-is played
     ]

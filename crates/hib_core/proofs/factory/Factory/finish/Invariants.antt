@@ -1,12 +1,15 @@
-use Rattle.std.proofs.Common.{◌≡◌, ℕ, ◌<◌, false, None}
+use Rattle.std.proofs.Common.{◌≡◌, ℕ, ◌-◌, ◌<◌, length, false}
+use Rattle.std.specs.List.{range_with_len}
 use Rattle.hib_journal.specs.Kept.{past}
-use Rattle.hib_journal.specs.Sessions.{own}
-use Rattle.hib_journal.specs.Next.{next}
+use Rattle.hib_journal.specs.Played.{has_next, play_sessions}
+use Rattle.hib_core.specs.Playing.{Leads}
 use Rattle.hib_core.proofs.factory.Factory.finish.Given as goal
 
 -- the sessions so far are at their end, and memory has not run out
 abbrev pub invariant-loop-number : goal.invariant-loop-number
 invariant-loop-number g l = record {
-  over : (s : ℕ) → s < l.number → next g.N.Name.script s (own s (past l.self.journal)) ≡ None;
+  played : Leads (play_sessions g.N.Name.script (range_with_len 0 (length g.N.Name.script.sessions)))
+      (play_sessions g.N.Name.script (range_with_len l.number (length g.N.Name.script.sessions - l.number))) (past l.fn.self.journal) (past l.self.journal);
+  over : (s : ℕ) → s < l.number → has_next g.N.Name.script (past l.self.journal) s ≡ false;
   going : l.fn.self.refused ≡ false → l.self.refused ≡ false;
 }

@@ -1,0 +1,377 @@
+-- A factory goes on by an act from outside of its sessions.
+use Rattle.std.proofs.Common.{◌≡◌, ℕ, ◌+◌, ◌≤◌, ◌<◌, ◌^◌, ◌==◌, Bool, true, false, cond, ◌||◌, ◌&&◌, nat_lt, List, [], ◌∷◌, length, get_or, IsSome, Some, None, Option, refl, sym, ap, ◌∙◌, subst, arith, inl, inr}
+use Rattle.std.proofs.lemmas.Bool.{true≢false, false≢true, eqb-true}
+use Rattle.std.proofs.lemmas.Bool.Decides.{nat_tests}
+use Rattle.std.proofs.lemmas.List.{get_or-set_same, get_or-set_other, length-set, length-replicate}
+use Rattle.std.proofs.lemmas.Option.{slice_get_within, get_or_from_slice_get, slice_get-get_or}
+use Rattle.std.specs.Prelude.{slice_get, slice_set}
+use Rattle.hib_base.specs.Tables.{Tables}
+use Rattle.hib_base.proofs.Tables.{Tested, tested, same_key_refl}
+use Rattle.hib_journal.specs.Types.{Key, Change, Order, Script, Act, Reply}
+use Rattle.hib_journal.specs.Sessions.{Journal, own, is_open, was_killed, killed_by, committer, committed, committed_by, changes, IsTimely}
+use Rattle.hib_journal.specs.Held.{is_begin}
+use Rattle.hib_journal.specs.Next.{is_cached}
+use Rattle.hib_journal.specs.Played.{play_order}
+use Rattle.hib_journal.specs.Legal.{IsReply, part_of, due, may_come, is_outside}
+use Rattle.hib_journal.specs.Runs.{IsNumbered, told_committed, asks, ask_count, is_fault, fault_count}
+use Rattle.hib_store.specs.Stores.{StoreState}
+use Rattle.hib_session.specs.declared.session.Session.{Session}
+use Rattle.hib_session.specs.Session.{Follows, number_of, is_killed}
+use Rattle.hib_update_stamps.specs.Stamped.{Stamped, unstamped}
+use Rattle.hib_update_stamps.specs.Standing.{IsStamps, stamps_after}
+use Rattle.hib_core.specs.declared.region.Region.{Region}
+use Rattle.hib_core.specs.Laws.{Laws}
+use Rattle.hib_core.specs.Registry.{Opened, IsRegistry, opened_after, holds, time_of, time_if_open}
+use Rattle.hib_core.specs.Region.{answer_in, region_after, emptied, IsPlaced}
+use Rattle.hib_core.specs.Standing.{Origin, RoseBy, RoseWithin, IsStore, PartsState, AreParts, region_of, regions_after, outside_entry, AreEmptied}
+use Rattle.hib_core.specs.Factory.{AreSessions, IsRun, IsGoing, IsAsBefore, AreKilled}
+use Rattle.hib_core.specs.Playing.{played, Leads}
+use Rattle.hib_core.proofs.Opened.{registry_step}
+use Rattle.hib_core.proofs.Regions.{answers}
+use Rattle.hib_core.proofs.Grows.{IsServed, restarts}
+use Rattle.hib_core.proofs.Stored.{self_by, lived, reply_any}
+use Rattle.hib_core.proofs.Served.{last_le, before_now, regions_step, region_same, region_other}
+use Rattle.hib_core.proofs.Playing.{leads_none}
+
+-- the sessions
+
+either : (b c : Bool) → (b || c) ≡ false → (b ≡ false) × (c ≡ false)
+either true c p = absurd (true≢false p)
+either false c p = (refl, p)
+
+pub sessions_outside : (script : Script) (h : Journal) (a : Act) (r : Reply) (xs ys : List Session) → AreSessions script h xs → AreKilled (λ s. killed_by s a (is_open s h)) xs ys →
+    AreSessions script (outside_entry h a r ∷ h) ys
+sessions_outside script h a r xs ys w k = record {
+  all = k.all ∙ w.all;
+  numbers = λ s y p. number s y (k.each s y p);
+  killed = λ s y p. killed s y (k.each s y p);
+  follow = λ s y p live. follow s y (k.each s y p) (either (killed_by s a (is_open s h)) (was_killed s h) live);
+}
+  where
+    number : (s : ℕ) (y : Session) → IsAsBefore (killed_by s a (is_open s h)) xs s y → number_of y ≡ s
+    number s y b = b.number ∙ w.numbers s b.before b.there
+
+    killed : (s : ℕ) (y : Session) → IsAsBefore (killed_by s a (is_open s h)) xs s y → is_killed y ≡ (killed_by s a (is_open s h) || was_killed s h)
+    killed s y b = b.killed ∙ ap (λ o. killed_by s a (is_open s h) || o) (w.killed s b.before b.there)
+
+    follow : (s : ℕ) (y : Session) → IsAsBefore (killed_by s a (is_open s h)) xs s y → (killed_by s a (is_open s h) ≡ false) × (was_killed s h ≡ false) → Follows script y (own s h)
+    follow s y b q = subst (λ v. Follows script v (own s h)) (sym (b.same q.0)) (w.follow s b.before b.there q.1)
+
+pub none_killed : (xs : List Session) → AreKilled (λ s. false) xs xs
+none_killed xs = record { all = refl; each = λ s y p. record { before = y; there = p; number = refl; killed = refl; same = λ q. refl } }
+
+-- the session at a place
+pub one_killed : (xs : List Session) (n : ℕ) (y z : Session) → n < length xs → y ≡ get_or xs n y → number_of z ≡ number_of y → is_killed z ≡ true → AreKilled (λ s. n == s) xs (slice_set xs n z)
+one_killed xs n y z l v m k = record { all = length-set xs n z; each = λ s u p. by_place s u p (tested (n == s)) }
+  where
+    place : slice_get xs n ≡ Some y
+    place = slice_get-get_or xs n y l ∙ ap Some (sym v)
+
+    by_place : (s : ℕ) (u : Session) → slice_get (slice_set xs n z) s ≡ Some u → Tested (n == s) → IsAsBefore (n == s) xs s u
+    by_place s u p (inl q) =
+        let e : n ≡ s = eqb-true n s q in
+        let f : u ≡ z = sym (get_or_from_slice_get (slice_set xs n z) n u z (subst (λ m. slice_get (slice_set xs n z) m ≡ Some u) (sym e) p)) ∙ get_or-set_same xs n z z l in
+        rw q (record {
+          before = y;
+          there = subst (λ j. slice_get xs j ≡ Some y) e place;
+          number = ap number_of f ∙ m;
+          killed = ap is_killed f ∙ k;
+          same = λ t. absurd (true≢false t);
+        })
+    by_place s u p (inr q) = rw q (record {
+      before = u;
+      there = slice_get-get_or xs s u (omega (arith, length-set xs n z, slice_get_within (slice_set xs n z) s u p))
+          ∙ ap Some (sym (get_or-set_other xs n s z u (λ e. true≢false (sym (ap (λ m. n == m) e ∙ self_by n) ∙ q))) ∙ get_or_from_slice_get (slice_set xs n z) s u u p);
+      number = refl;
+      killed = refl;
+      same = λ t. refl;
+    })
+
+pub no_place : (xs : List Session) (n : ℕ) → length xs ≤ n → AreKilled (λ s. n == s) xs xs
+no_place xs n l = record { all = refl; each = λ s y p. by_place s y p (tested (n == s)) }
+  where
+    by_place : (s : ℕ) (y : Session) → slice_get xs s ≡ Some y → Tested (n == s) → IsAsBefore (n == s) xs s y
+    by_place s y p (inl q) = let e : n ≡ s = eqb-true n s q in let m : s < length xs = slice_get_within xs s y p in absurd (omega (arith, e, m, l))
+    by_place s y p (inr q) = rw q (record { before = y; there = p; number = refl; killed = refl; same = λ t. refl })
+
+pub killed_as : (p q : ℕ → Bool) (xs ys : List Session) → ((s : ℕ) → s < length xs → p s ≡ q s) → AreKilled p xs ys → AreKilled q xs ys
+killed_as p q xs ys f w = record {
+  all = w.all;
+  each = λ s y e. subst (λ b. IsAsBefore b xs s y) (f s (omega (arith, w.all, slice_get_within ys s y e))) (w.each s y e);
+}
+
+then_killed : (p q : ℕ → Bool) (xs ys zs : List Session) → AreKilled p xs ys → AreKilled q ys zs → AreKilled (λ s. q s || p s) xs zs
+then_killed p q xs ys zs w v = record { all = v.all ∙ w.all; each = λ s z e. both s z (v.each s z e) }
+  where
+    both : (s : ℕ) (z : Session) → IsAsBefore (q s) ys s z → IsAsBefore (q s || p s) xs s z
+    both s z b = on (w.each s b.before b.there)
+      where
+        or_assoc : (x y o : Bool) → (x || (y || o)) ≡ ((x || y) || o)
+        or_assoc true y o = refl
+        or_assoc false y o = refl
+
+        on : IsAsBefore (p s) xs s b.before → IsAsBefore (q s || p s) xs s z
+        on c = record {
+          before = c.before;
+          there = c.there;
+          number = b.number ∙ c.number;
+          killed = b.killed ∙ (ap (λ o. q s || o) c.killed ∙ or_assoc (q s) (p s) (is_killed c.before));
+          same = λ t. let u : (q s ≡ false) × (p s ≡ false) = either (q s) (p s) t in b.same u.0 ∙ c.same u.1;
+        }
+
+-- those that are open, up to a number
+
+below_next : (n s : ℕ) (b : Bool) → b ≡ false → (n == s) ≡ b → nat_lt s n ≡ nat_lt s (n + 1)
+below_next n s b p q = let d : (n == s) ≡ false = q ∙ p in grind (arith, nat_tests, d)
+
+below_self : (n : ℕ) → nat_lt n (n + 1) ≡ true
+below_self n = grind (arith, nat_tests)
+
+or_true : (b : Bool) → (true || b) ≡ true
+or_true b = refl
+
+pub killed_more : (p : ℕ → Bool) (n : ℕ) (xs ys zs : List Session) → AreKilled (λ s. nat_lt s n && p s) xs ys → p n ≡ true → AreKilled (λ s. n == s) ys zs →
+    AreKilled (λ s. nat_lt s (n + 1) && p s) xs zs
+killed_more p n xs ys zs w t v = killed_as (λ s. (n == s) || (nat_lt s n && p s)) (λ s. nat_lt s (n + 1) && p s) xs zs (λ s l. same s (tested (n == s)))
+    (then_killed (λ s. nat_lt s n && p s) (λ s. n == s) xs ys zs w v)
+  where
+    same : (s : ℕ) → Tested (n == s) → ((n == s) || (nat_lt s n && p s)) ≡ (nat_lt s (n + 1) && p s)
+    same s (inl q) = let e : n ≡ s = eqb-true n s q in
+        rw q (sym (subst (λ m. (nat_lt m (n + 1) && p m) ≡ true) e (rw (below_self n, t) refl)))
+    same s (inr q) = rw q (ap (λ b. b && p s) (below_next n s false refl q))
+
+pub killed_still : (p : ℕ → Bool) (n : ℕ) (xs ys : List Session) → AreKilled (λ s. nat_lt s n && p s) xs ys → p n ≡ false → AreKilled (λ s. nat_lt s (n + 1) && p s) xs ys
+killed_still p n xs ys w f = killed_as (λ s. nat_lt s n && p s) (λ s. nat_lt s (n + 1) && p s) xs ys (λ s l. same s (tested (n == s))) w
+  where
+    and_false : (b : Bool) → (b && false) ≡ false
+    and_false true = refl
+    and_false false = refl
+
+    same : (s : ℕ) → Tested (n == s) → (nat_lt s n && p s) ≡ (nat_lt s (n + 1) && p s)
+    same s (inl q) = let e : n ≡ s = eqb-true n s q in
+        let g : p s ≡ false = subst (λ m. p m ≡ false) e f in
+        ap (λ b. nat_lt s n && b) g ∙ (and_false (nat_lt s n) ∙ sym (ap (λ b. nat_lt s (n + 1) && b) g ∙ and_false (nat_lt s (n + 1))))
+    same s (inr q) = ap (λ b. b && p s) (below_next n s false refl q)
+
+pub killed_none : (p : ℕ → Bool) (xs : List Session) → AreKilled (λ s. nat_lt s 0 && p s) xs xs
+killed_none p xs = killed_as (λ s. false) (λ s. nat_lt s 0 && p s) xs xs (λ s l. none s) (none_killed xs)
+  where
+    none : (s : ℕ) → false ≡ (nat_lt s 0 && p s)
+    none s = let z : nat_lt s 0 ≡ false = grind (arith, nat_tests) in rw z refl
+
+pub killed_all : (p : ℕ → Bool) (n : ℕ) (xs ys : List Session) → length xs ≤ n → AreKilled (λ s. nat_lt s n && p s) xs ys → AreKilled p xs ys
+killed_all p n xs ys l w = killed_as (λ s. nat_lt s n && p s) p xs ys (λ s m. all s m) w
+  where
+    all : (s : ℕ) → s < length xs → (nat_lt s n && p s) ≡ p s
+    all s m = let k : s < n = omega (arith, l, m) in let t : nat_lt s n ≡ true = grind (arith, nat_tests, k) in rw t refl
+
+-- the registry says who is open
+
+open_shown : (o : Bool) (t : ℕ) → Rattle.std.specs.Prelude.is_some (cond o (Some t) None) ≡ o
+open_shown true t = refl
+open_shown false t = refl
+
+held_time : (ps : Opened) (s : ℕ) → holds s ps ≡ Rattle.std.specs.Prelude.is_some (time_of ps s)
+held_time [] s = refl
+held_time (p ∷ ps) s = by_test (tested (p.0 == s)) (held_time ps s)
+  where
+    by_test : Tested (p.0 == s) → holds s ps ≡ Rattle.std.specs.Prelude.is_some (time_of ps s) → holds s (p ∷ ps) ≡ Rattle.std.specs.Prelude.is_some (time_of (p ∷ ps) s)
+    by_test (inl q) i = rw q refl
+    by_test (inr q) i = rw q i
+
+pub holds_open : (ps : Opened) (h : Journal) (s : ℕ) → IsRegistry ps h → holds s ps ≡ is_open s h
+holds_open ps h s w = held_time ps s ∙ (ap (λ o. Rattle.std.specs.Prelude.is_some o) (w.each s) ∙ open_shown (is_open s h) (Rattle.hib_journal.specs.Sessions.time s h))
+
+-- the regions of a restart
+
+pub emptied_more : (n : ℕ) (xs ys : List Region) (z : Region) → n < length xs → length ys ≡ length xs →
+    ((m : ℕ) → region_of ys m ≡ cond (nat_lt m n) (emptied (region_of xs m)) (region_of xs m)) → z ≡ emptied (region_of ys n) →
+    (m : ℕ) → region_of (slice_set ys n z) m ≡ cond (nat_lt m (n + 1)) (emptied (region_of xs m)) (region_of xs m)
+emptied_more n xs ys z l e f p m = by_test (tested (n == m))
+  where
+    here : region_of ys n ≡ region_of xs n
+    here = let k : nat_lt n n ≡ false = grind (arith, nat_tests) in f n ∙ rw k refl
+
+    by_test : Tested (n == m) → region_of (slice_set ys n z) m ≡ cond (nat_lt m (n + 1)) (emptied (region_of xs m)) (region_of xs m)
+    by_test (inl q) = let d : n ≡ m = eqb-true n m q in
+        subst (λ i. region_of (slice_set ys n z) i ≡ cond (nat_lt i (n + 1)) (emptied (region_of xs i)) (region_of xs i)) d
+        (region_same ys n z (omega (arith, l, e)) ∙ (p ∙ (ap emptied here ∙ sym (rw (below_self n) refl))))
+    by_test (inr q) = region_other ys n m z (λ d. true≢false (sym (ap (λ i. n == i) d ∙ self_by n) ∙ q))
+        ∙ (f m ∙ ap (λ b. cond b (emptied (region_of xs m)) (region_of xs m)) (below_next n m false refl q))
+
+pub emptied_none : (xs : List Region) (m : ℕ) → region_of xs m ≡ cond (nat_lt m 0) (emptied (region_of xs m)) (region_of xs m)
+emptied_none xs m = let z : nat_lt m 0 ≡ false = grind (arith, nat_tests) in rw z refl
+
+pub emptied_all : (n : ℕ) (xs ys : List Region) → length xs ≤ n → length ys ≡ length xs → ((m : ℕ) → region_of ys m ≡ cond (nat_lt m n) (emptied (region_of xs m)) (region_of xs m)) →
+    AreEmptied xs ys
+emptied_all n xs ys l e f = record { all = e; each = λ m. by_test m (tested (nat_lt m n)) }
+  where
+    none : (m : ℕ) → length xs ≤ m → region_of xs m ≡ emptied (region_of xs m)
+    none m k = let u : region_of xs m ≡ Region.Uncached = ap Rattle.hib_core.specs.Standing.or_uncached (Rattle.std.proofs.lemmas.Option.slice_get_past xs m k) in u ∙ sym (ap emptied u)
+
+    by_test : (m : ℕ) → Tested (nat_lt m n) → region_of ys m ≡ emptied (region_of xs m)
+    by_test m (inl q) = f m ∙ rw q refl
+    by_test m (inr q) = let k : length xs ≤ m = grind (arith, nat_tests, l, q) in (f m ∙ rw q refl) ∙ none m k
+
+-- the journal, its parts and its legality
+
+timely : (h : Journal) (a : Act) (r : Reply) → IsNumbered h → length h < 2 ^ 62 → IsTimely (outside_entry h a r) h
+timely h a r n l = record {
+  positive = omega arith;
+  bounded = omega (arith, l);
+  ordered = omega (arith, last_le (λ d. true) h n);
+  in_part = omega (arith, last_le (λ d. Rattle.hib_journal.specs.Sessions.same_part (part_of a 0) d.part) h n);
+  in_session = omega (arith, last_le (λ d. Rattle.hib_journal.specs.Sessions.same_session None d.session) h n);
+}
+
+some_is : {A : Type 0} (x : Option A) (a : A) → x ≡ Some a → IsSome x
+some_is x a p = rw p refl
+
+pub goes_outside : (script : Script) (from : Origin) (h : Journal) (a : Act) (r : Reply) (x y : PartsState) → IsRun script from h x → is_outside a ≡ true → may_come script h (Some a) ≡ Some a →
+    IsReply script from.tables h (outside_entry h a r) → AreParts script from (outside_entry h a r ∷ h) y → length h < 2 ^ 62 → IsRun script from (outside_entry h a r ∷ h) y
+goes_outside script from h a r x y run o m v p l = record {
+  legal = (
+    run.legal,
+    record {
+      tick = timely h a r run.numbered l;
+      session = some_is (due script h (outside_entry h a r)) a is_due;
+      part = ap (λ z. Rattle.hib_journal.specs.Legal.part_due z 0) is_due;
+      act = ap (λ z. may_come script h z) is_due ∙ m;
+      reply = v;
+    },
+  );
+  numbered = (refl, run.numbered);
+  parts = p;
+  built = run.built;
+}
+  where
+    is_due : due script h (outside_entry h a r) ≡ Some a
+    is_due = rw o refl
+
+asks_nothing : (cs : List Change) (a : Act) → is_outside a ≡ true → asks cs a ≡ false
+asks_nothing cs (Act.Kill n) o = refl
+asks_nothing cs Act.Restart o = refl
+asks_nothing cs (Act.Evict k) o = refl
+asks_nothing cs _ o = absurd (false≢true o)
+
+pub going_outside : (script : Script) (from : Origin) (h : Journal) (a : Act) (r : Reply) (x y : PartsState) (xs ys : List Session) → IsGoing script from h x xs → is_outside a ≡ true →
+    y.store ≡ x.store → AreKilled (λ s. killed_by s a (is_open s h)) xs ys → IsGoing script from (outside_entry h a r ∷ h) y ys
+going_outside script from h a r x y xs ys g o e k = record {
+  asked = subst (λ n. RoseWithin from.asked (ask_count h + n) y.store.asked) (sym (ap Rattle.hib_journal.specs.Runs.one_if (asks_nothing (changes 0 h) a o))) (record {
+    later = omega (arith, g.asked.later, ap (λ v. v.asked) e);
+    few = omega (arith, g.asked.few, ap (λ v. v.asked) e);
+  });
+  sessions = sessions_outside script h a r xs ys g.sessions k;
+}
+
+commits_nothing : (a : Act) (r : Reply) → is_outside a ≡ true → committer a r None ≡ None
+commits_nothing (Act.Kill n) r o = refl
+commits_nothing Act.Restart r o = refl
+commits_nothing (Act.Evict k) r o = refl
+commits_nothing _ r o = absurd (false≢true o)
+
+rows_same : (told : Option Tables) (h : Journal) (a : Act) (r : Reply) → is_outside a ≡ true → told_committed told (outside_entry h a r ∷ h) ≡ told_committed told h
+rows_same None h a r o = refl
+rows_same (Some start) h a r o = ap (λ by. Some (committed_by by h (committed start h))) (commits_nothing a r o)
+
+store_outside : (from : Origin) (h : Journal) (a : Act) (r : Reply) (store : StoreState) → IsStore from h store → is_outside a ≡ true → is_fault r ≡ false → IsStore from (outside_entry h a r ∷ h) store
+store_outside from h a r store k o f = record {
+  rows = k.rows ∙ sym (rows_same from.tables h a r o);
+  changes = λ n w. k.changes n (lived n (outside_entry h a r) h w);
+  faults = rw f (omega (arith, k.faults));
+}
+
+no_begin : (a : Act) → is_outside a ≡ true → is_begin a ≡ true → ⊥
+no_begin Act.Begin o b = false≢true o
+no_begin _ o b = false≢true b
+
+stamps_length : (timeout now : ℕ) (a : Act) (xs : Stamped) → is_outside a ≡ true → length (stamps_after timeout now a xs) ≡ length xs
+stamps_length timeout now (Act.Kill n) xs o = refl
+stamps_length timeout now Act.Restart xs o = length-replicate (length xs) None
+stamps_length timeout now (Act.Evict k) xs o = refl
+stamps_length timeout now _ xs o = absurd (false≢true o)
+
+pub parts_outside : Laws → (script : Script) (from : Origin) (h : Journal) (a : Act) (r : Reply) (x y : PartsState) → AreParts script from h x → is_outside a ≡ true → is_fault r ≡ false →
+    y.store ≡ x.store → y.registry ≡ opened_after (length h + 1) None a x.registry → y.stamps ≡ stamps_after script.timeout (length h + 1) a x.stamps →
+    ((n : ℕ) → IsPlaced script n (outside_entry h a r ∷ h) (region_of y.regions n)) → length y.regions ≡ length x.regions → AreParts script from (outside_entry h a r ∷ h) y
+parts_outside l script from h a r x y p o f st rg sp rs ln = record {
+  store = subst (λ v. IsStore from (outside_entry h a r ∷ h) v) (sym st) (store_outside from h a r x.store p.store o f);
+  registry = subst (λ ps. IsRegistry ps (outside_entry h a r ∷ h)) (sym rg)
+      (registry_step x.registry (outside_entry h a r) h p.registry refl (λ b n q. absurd (no_begin a o b)));
+  stamps = subst (λ ss. IsStamps script.timeout ss (outside_entry h a r ∷ h)) (sym sp) (l.stamps_follow script.timeout x.stamps h (outside_entry h a r) p.stamps);
+  tables = ap length sp ∙ (stamps_length script.timeout (length h + 1) a x.stamps o ∙ p.tables);
+  regions = rs;
+  entities = ln ∙ p.entities;
+}
+
+-- ---- a kill
+
+kill_reply : (script : Script) (from : Origin) (h : Journal) (n : ℕ) → IsReply script from.tables h (outside_entry h (Act.Kill n) Reply.Done)
+kill_reply script from h n = reply_any script from.tables h (outside_entry h (Act.Kill n) Reply.Done) (λ start. refl) refl
+
+pub kill_run : Laws → (script : Script) (from : Origin) (h : Journal) (n : ℕ) (x y : PartsState) → IsRun script from h x → is_open n h ≡ true → length h < 2 ^ 62 →
+    y ≡ record x { registry = Rattle.hib_core.specs.Registry.without n x.registry } → IsRun script from (outside_entry h (Act.Kill n) Reply.Done ∷ h) y
+kill_run l script from h n x y run o few e = subst (λ v. IsRun script from (outside_entry h (Act.Kill n) Reply.Done ∷ h) v) (sym e)
+    (goes_outside script from h (Act.Kill n) Reply.Done x z run refl (rw o refl) (kill_reply script from h n)
+    (parts_outside l script from h (Act.Kill n) Reply.Done x z run.parts refl refl refl refl refl
+    (λ m. regions_step l script h (outside_entry h (Act.Kill n) Reply.Done) 0 x.regions (Act.Kill n) refl refl refl run.parts.regions tt (λ t. absurd (false≢true t)) m) refl) few)
+  where
+    z : PartsState
+    z = record x { registry = Rattle.hib_core.specs.Registry.without n x.registry }
+
+pub kill_leads : (script : Script) (h : Journal) (n : ℕ) → is_open n h ≡ true → Leads (play_order script (Order.Kill n)) played h (outside_entry h (Act.Kill n) Reply.Done ∷ h)
+kill_leads script h n o = record { added = outside_entry h (Act.Kill n) Reply.Done ∷ []; grown = refl; plays = λ rest. rw (o, self_by n) refl }
+
+pub no_kill_leads : (script : Script) (h : Journal) (n : ℕ) → is_open n h ≡ false → Leads (play_order script (Order.Kill n)) played h h
+no_kill_leads script h n o = leads_none (play_order script (Order.Kill n)) played h (λ rest. rw o refl)
+
+-- ---- an eviction
+
+pub evict_run : Laws → (script : Script) (from : Origin) (h : Journal) (k : Key) (now : ℕ) (r : Reply) (x y : PartsState) → IsRun script from h x → is_cached script k.entity ≡ true → length h < 2 ^ 62 →
+    now ≡ length h + 1 → r ≡ answer_in (region_of x.regions k.entity) now (Act.Evict k) →
+    y ≡ record x { regions = slice_set x.regions k.entity (region_after (region_of x.regions k.entity) now (Act.Evict k)) } → IsRun script from (outside_entry h (Act.Evict k) r ∷ h) y
+evict_run l script from h k now r x y run c few e p q = subst (λ v. IsRun script from (outside_entry h (Act.Evict k) r ∷ h) v) (sym (q ∙ at_tick))
+    (goes_outside script from h (Act.Evict k) r x z run refl (rw c refl) reply
+    (parts_outside l script from h (Act.Evict k) r x z run.parts refl no_fault refl refl refl
+    (λ m. regions_step l script h (outside_entry h (Act.Evict k) r) 0 x.regions (Act.Evict k) refl refl refl run.parts.regions c (λ t. served) m)
+    (length-set x.regions k.entity (region_after (region_of x.regions k.entity) (length h + 1) (Act.Evict k)))) few)
+  where
+    z : PartsState
+    z = record x { regions = slice_set x.regions k.entity (region_after (region_of x.regions k.entity) (length h + 1) (Act.Evict k)) }
+
+    at_tick : record x { regions = slice_set x.regions k.entity (region_after (region_of x.regions k.entity) now (Act.Evict k)) } ≡ z
+    at_tick = ap (λ (t : ℕ). record x { regions = slice_set x.regions k.entity (region_after (region_of x.regions k.entity) t (Act.Evict k)) }) e
+
+    answer : r ≡ answer_in (region_of x.regions k.entity) (length h + 1) (Act.Evict k)
+    answer = p ∙ ap (λ (t : ℕ). answer_in (region_of x.regions k.entity) t (Act.Evict k)) e
+
+    no_fault : is_fault r ≡ false
+    no_fault = ap is_fault p
+
+    reply : IsReply script from.tables h (outside_entry h (Act.Evict k) r)
+    reply = reply_any script from.tables h (outside_entry h (Act.Evict k) r)
+        (λ start. answer ∙ answers l script start h 0 (length h + 1) (region_of x.regions k.entity) (Act.Evict k) refl (run.parts.regions k.entity) c) refl
+
+    served : IsServed h (outside_entry h (Act.Evict k) r) (Act.Evict k) (region_of x.regions k.entity)
+    served = record { act = refl; part = refl; later = before_now k.entity h run.numbered; reply = answer }
+
+pub evict_leads : (script : Script) (h : Journal) (k : Key) (r : Reply) → Leads (play_order script (Order.Evict k)) played h (outside_entry h (Act.Evict k) r ∷ h)
+evict_leads script h k r = record { added = outside_entry h (Act.Evict k) r ∷ []; grown = refl; plays = λ rest. rw (same_key_refl k) refl }
+
+-- ---- a restart
+
+pub restart_run : Laws → (script : Script) (from : Origin) (h : Journal) (x y : PartsState) → IsRun script from h x → length h < 2 ^ 62 → y.store ≡ x.store → y.registry ≡ [] →
+    y.stamps ≡ unstamped (length x.stamps) → AreEmptied x.regions y.regions → IsRun script from (outside_entry h Act.Restart Reply.Done ∷ h) y
+restart_run l script from h x y run few st rg sp rs =
+    goes_outside script from h Act.Restart Reply.Done x y run refl refl
+    (reply_any script from.tables h (outside_entry h Act.Restart Reply.Done) (λ start. refl) refl)
+    (parts_outside l script from h Act.Restart Reply.Done x y run.parts refl refl st rg sp
+    (λ n. subst (λ v. IsPlaced script n (outside_entry h Act.Restart Reply.Done ∷ h) v) (sym (rs.each n))
+    (restarts l script h (outside_entry h Act.Restart Reply.Done) n (region_of x.regions n) refl (run.parts.regions n))) rs.all) few
+
+pub restart_leads : (script : Script) (h : Journal) → Leads (play_order script Order.Restart) played h (outside_entry h Act.Restart Reply.Done ∷ h)
+restart_leads script h = record { added = outside_entry h Act.Restart Reply.Done ∷ []; grown = refl; plays = λ rest. refl }
+
+-- a region at its place
+pub region_at : (xs : List Region) (n : ℕ) (y : Region) → n < length xs → y ≡ get_or xs n y → region_of xs n ≡ y
+region_at xs n y l v = ap Rattle.hib_core.specs.Standing.or_uncached (slice_get-get_or xs n y l ∙ ap Some (sym v))

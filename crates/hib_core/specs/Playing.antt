@@ -1,0 +1,23 @@
+-- What is played of a run, and what is left to play.
+use Rattle.std.specs.Prelude.{◌≡◌, ℕ, suc, length, ◌++◌, reverse, Some, Option}
+use Rattle.hib_journal.specs.Types.{Script}
+use Rattle.hib_journal.specs.Sessions.{Journal}
+use Rattle.hib_journal.specs.Played.{Playing, play_steps}
+
+-- what plays, after a journal, the entries that come, the oldest first
+abbrev pub Play : Type 0
+Play = Journal → Journal → Option Playing
+
+-- nothing more
+abbrev pub played : Play
+played past rest = Some (past, rest)
+
+-- a session, to its end
+abbrev pub play_all : Script → ℕ → Play
+play_all script s past rest = play_steps script s (suc (length rest)) past rest
+
+-- entries were added to a journal, the oldest first: to play all from the old journal is to play them, and then what is left
+pub record Leads (all left : Play) (old new : Journal) : Type 0 where
+  pub added : Journal
+  pub grown : new ≡ reverse added ++ old
+  pub plays : (rest : Journal) → all old (added ++ rest) ≡ left new rest
