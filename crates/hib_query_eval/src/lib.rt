@@ -6,8 +6,6 @@ mod conditions;
 mod laws;
 mod listing;
 mod orders;
-#[cfg(test)]
-mod tests;
 
 pub use laws::other_tables_leave_what_is_given;
 pub use listing::gives;
