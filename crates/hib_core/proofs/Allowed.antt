@@ -1,5 +1,5 @@
 -- What a session says of the act that is due in it is what the parts want to know.
-use Rattle.std.proofs.Common.{◌≡◌, ◌⊎◌, ℕ, Bool, true, false, not, List, [], ◌∷◌, length, ◌<◌, refl, sym, ap, ◌∙◌, ◌&&◌, inl, inr}
+use Rattle.std.proofs.Common.{◌≡◌, ◌⊎◌, ℕ, Bool, true, false, not, List, [], ◌∷◌, length, ◌<◌, refl, ap, ◌∙◌, ◌&&◌, inl, inr}
 use Rattle.std.proofs.lemmas.Bool.{true≢false, false≢true, ltb-true}
 use Rattle.std.proofs.lemmas.List.Elements.{All-nil, All-cons}
 use Rattle.std.specs.Prelude.{nat_lt}
@@ -10,8 +10,8 @@ use Rattle.hib_journal.specs.Next.{strategy}
 use Rattle.hib_session.specs.Due.{IsAllowed, asks_store, is_asked, is_inserting, is_removing, are_declared, are_tables}
 use Rattle.hib_session.specs.Due as Due
 use Rattle.hib_core.specs.Region.{acts_on, Suits}
-use Rattle.hib_core.specs.Standing.{AreWithin, AreStored, is_built, IsDue}
-use Rattle.hib_core.specs.Factory.{AsksNoQuery}
+use Rattle.hib_core.specs.Standing.{AreWithin, AreStored, HasQuery, IsDue}
+use Rattle.hib_core.specs.Factory.{HasQueries}
 
 stored : (mine : Journal) (a : Act) → (asks_store a ≡ true → deferred mine ≡ changes_in mine) → AreStored mine a
 stored mine (Act.Load k) f = f refl
@@ -57,19 +57,19 @@ suits script s mine (Act.RegionRemove k) o w = removes (strategy script k.entity
 suits script s mine (Act.Evict k) o w = absurd (true≢false o)
 suits script s mine _ o w = tt
 
-built : (script : Script) (s : ℕ) (mine : Journal) (a : Act) → AsksNoQuery script → Due.Suits script s mine a → is_built a ≡ true
-built script s mine (Act.List q) n w = absurd (true≢false (sym w ∙ n s q))
-built script s mine (Act.Look q) n w = absurd (true≢false (sym w ∙ n s q))
-built script s mine (Act.Check q t) n w = absurd (true≢false (sym w.0 ∙ n s q))
-built script s mine (Act.Keep q t l) n w = absurd (true≢false (sym w.0 ∙ n s q))
-built script s mine _ n w = refl
+query : (script : Script) (s : ℕ) (mine : Journal) (a : Act) → HasQueries script → Due.Suits script s mine a → HasQuery script a
+query script s mine (Act.List q) n w = n s q w
+query script s mine (Act.Look q) n w = n s q w
+query script s mine (Act.Check q t) n w = n s q w.0
+query script s mine (Act.Keep q t l) n w = n s q w.0
+query script s mine _ n w = tt
 
-pub is_due : (script : Script) (s : ℕ) (mine : Journal) (a : Act) → AsksNoQuery script → IsAllowed script s mine a → IsDue script mine a
+pub is_due : (script : Script) (s : ℕ) (mine : Journal) (a : Act) → HasQueries script → IsAllowed script s mine a → IsDue script mine a
 is_due script s mine a n w = record {
   begins = λ p. w.begun ∙ ap not p;
   stored = stored mine a w.deferred;
   known = known script s mine a w.suits;
   suits = suits script s mine a w.inside w.suits;
   inside = w.inside;
-  built = built script s mine a n w.suits;
+  query = query script s mine a n w.suits;
 }

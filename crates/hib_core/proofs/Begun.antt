@@ -1,5 +1,5 @@
 -- What a factory is opened with stands for the empty journal.
-use Rattle.std.proofs.Common.{◌≡◌, ◌⊎◌, ℕ, zero, suc, ◌+◌, ◌≤◌, false, List, [], ◌∷◌, ◌++◌, length, map, Some, None, Option, refl, sym, ap, ◌∙◌, subst, arith, inl, inr}
+use Rattle.std.proofs.Common.{◌≡◌, ◌⊎◌, ℕ, zero, suc, ◌+◌, ◌<◌, ◌≤◌, false, List, [], ◌∷◌, ◌++◌, length, map, Some, None, Option, refl, sym, ap, ◌∙◌, subst, arith, inl, inr}
 use Rattle.std.proofs.lemmas.List.{length-map, length-append, length-replicate}
 use Rattle.std.specs.Prelude.{slice_get}
 use Rattle.hib_base.specs.Tables.{Tables}
@@ -7,6 +7,7 @@ use Rattle.hib_journal.specs.Types.{EntityDef, Script}
 use Rattle.hib_journal.specs.Next.{strategy, strategy_in, capacity_in}
 use Rattle.hib_journal.specs.Runs.{told_committed}
 use Rattle.hib_update_stamps.specs.Stamped.{unstamped}
+use Rattle.hib_query_cache.specs.Standing.{IsResults}
 use Rattle.hib_store.specs.Stores.{StoreState}
 use Rattle.hib_session.specs.declared.session.Session.{Session}
 use Rattle.hib_session.specs.Session.{Follows, number_of, is_killed}
@@ -42,8 +43,9 @@ told_same None = refl
 told_same (Some start) = refl
 
 pub parts_begin : Laws → (script : Script) (from : Origin) (x : PartsState) → x.store.tables ≡ from.tables → from.faults ≤ x.store.faults → x.store.written ≡ [] →
-    x.registry ≡ [] → x.stamps ≡ unstamped (length script.mapping) → x.regions ≡ map (λ d. empty d.strategy d.capacity script.timeout) script.mapping → AreParts script from [] x
-parts_begin l script from x t f w r s g = record {
+    x.registry ≡ [] → x.stamps ≡ unstamped (length script.mapping) → x.regions ≡ map (λ d. empty d.strategy d.capacity script.timeout) script.mapping →
+    x.results ≡ record { capacity = script.results; kept = [] } → 0 < script.results → AreParts script from [] x
+parts_begin l script from x t f w r s g u c = record {
   store = record {
     rows = t ∙ told_same from.tables;
     changes = λ n live. ap (λ v. Rattle.hib_store.specs.Stores.changes_in v n) w;
@@ -54,6 +56,8 @@ parts_begin l script from x t f w r s g = record {
   tables = ap length s ∙ length-replicate (length script.mapping) None;
   regions = λ n. subst (λ v. IsPlaced script n [] (region_of v n)) (sym g) (regions_begin l script n);
   entities = ap length g ∙ length-map script.mapping (λ d. empty d.strategy d.capacity script.timeout);
+  results = subst (λ v. IsResults (length script.queries) v []) (sym u) (l.results_begin (length script.queries) script.results c);
+  capacity = ap (λ v. v.capacity) u;
 }
 
 -- the factory

@@ -19,6 +19,7 @@ use Rattle.hib_session.specs.declared.session.Session.{Session}
 use Rattle.hib_session.specs.Session.{Follows, number_of, is_killed}
 use Rattle.hib_update_stamps.specs.Stamped.{Stamped, unstamped}
 use Rattle.hib_update_stamps.specs.Standing.{IsStamps, stamps_after}
+use Rattle.hib_query_cache.specs.Standing.{IsResults, results_after}
 use Rattle.hib_core.specs.declared.region.Region.{Region}
 use Rattle.hib_core.specs.Laws.{Laws}
 use Rattle.hib_core.specs.Registry.{Opened, IsRegistry, opened_after, holds, time_of, time_if_open}
@@ -30,7 +31,7 @@ use Rattle.hib_core.proofs.Opened.{registry_step}
 use Rattle.hib_core.proofs.Regions.{answers}
 use Rattle.hib_core.proofs.Grows.{IsServed, restarts}
 use Rattle.hib_core.proofs.Stored.{self_by, lived, reply_any}
-use Rattle.hib_core.proofs.Served.{last_le, before_now, regions_step, region_same, region_other}
+use Rattle.hib_core.proofs.Served.{is_of_results, unasked, results_capacity, last_le, before_now, regions_step, region_same, region_other}
 use Rattle.hib_core.proofs.Playing.{leads_none}
 
 -- the sessions
@@ -281,6 +282,11 @@ store_outside from h a r store k o f = record {
   faults = rw f (omega (arith, k.faults));
 }
 
+no_results : (a : Act) → is_outside a ≡ true → is_of_results a ≡ false
+no_results (Act.Look q) o = absurd (false≢true o)
+no_results (Act.Keep q t l) o = absurd (false≢true o)
+no_results _ o = refl
+
 no_begin : (a : Act) → is_outside a ≡ true → is_begin a ≡ true → ⊥
 no_begin Act.Begin o b = false≢true o
 no_begin _ o b = false≢true b
@@ -293,8 +299,9 @@ stamps_length timeout now _ xs o = absurd (false≢true o)
 
 pub parts_outside : Laws → (script : Script) (from : Origin) (h : Journal) (a : Act) (r : Reply) (x y : PartsState) → AreParts script from h x → is_outside a ≡ true → is_fault r ≡ false →
     y.store ≡ x.store → y.registry ≡ opened_after (length h + 1) None a x.registry → y.stamps ≡ stamps_after script.timeout (length h + 1) a x.stamps →
-    ((n : ℕ) → IsPlaced script n (outside_entry h a r ∷ h) (region_of y.regions n)) → length y.regions ≡ length x.regions → AreParts script from (outside_entry h a r ∷ h) y
-parts_outside l script from h a r x y p o f st rg sp rs ln = record {
+    ((n : ℕ) → IsPlaced script n (outside_entry h a r ∷ h) (region_of y.regions n)) → length y.regions ≡ length x.regions → y.results ≡ results_after a r x.results →
+    AreParts script from (outside_entry h a r ∷ h) y
+parts_outside l script from h a r x y p o f st rg sp rs ln re = record {
   store = subst (λ v. IsStore from (outside_entry h a r ∷ h) v) (sym st) (store_outside from h a r x.store p.store o f);
   registry = subst (λ ps. IsRegistry ps (outside_entry h a r ∷ h)) (sym rg)
       (registry_step x.registry (outside_entry h a r) h p.registry refl (λ b n q. absurd (no_begin a o b)));
@@ -302,6 +309,9 @@ parts_outside l script from h a r x y p o f st rg sp rs ln = record {
   tables = ap length sp ∙ (stamps_length script.timeout (length h + 1) a x.stamps o ∙ p.tables);
   regions = rs;
   entities = ln ∙ p.entities;
+  results = subst (λ v. IsResults (length script.queries) v (outside_entry h a r ∷ h)) (sym re)
+      (l.results_follow (length script.queries) x.results h (outside_entry h a r) p.results (unasked (length script.queries) x.results a r (no_results a o)));
+  capacity = ap (λ v. v.capacity) re ∙ (results_capacity a r x.results ∙ p.capacity);
 }
 
 -- ---- a kill
@@ -314,7 +324,7 @@ pub kill_run : Laws → (script : Script) (from : Origin) (h : Journal) (n : ℕ
 kill_run l script from h n x y run o few e = subst (λ v. IsRun script from (outside_entry h (Act.Kill n) Reply.Done ∷ h) v) (sym e)
     (goes_outside script from h (Act.Kill n) Reply.Done x z run refl (rw o refl) (kill_reply script from h n)
     (parts_outside l script from h (Act.Kill n) Reply.Done x z run.parts refl refl refl refl refl
-    (λ m. regions_step l script h (outside_entry h (Act.Kill n) Reply.Done) 0 x.regions (Act.Kill n) refl refl refl run.parts.regions tt (λ t. absurd (false≢true t)) m) refl) few)
+    (λ m. regions_step l script h (outside_entry h (Act.Kill n) Reply.Done) 0 x.regions (Act.Kill n) refl refl refl run.parts.regions tt (λ t. absurd (false≢true t)) m) refl refl) few)
   where
     z : PartsState
     z = record x { registry = Rattle.hib_core.specs.Registry.without n x.registry }
@@ -334,7 +344,7 @@ evict_run l script from h k now r x y run c few e p q = subst (λ v. IsRun scrip
     (goes_outside script from h (Act.Evict k) r x z run refl (rw c refl) reply
     (parts_outside l script from h (Act.Evict k) r x z run.parts refl no_fault refl refl refl
     (λ m. regions_step l script h (outside_entry h (Act.Evict k) r) 0 x.regions (Act.Evict k) refl refl refl run.parts.regions c (λ t. served) m)
-    (length-set x.regions k.entity (region_after (region_of x.regions k.entity) (length h + 1) (Act.Evict k)))) few)
+    (length-set x.regions k.entity (region_after (region_of x.regions k.entity) (length h + 1) (Act.Evict k))) refl) few)
   where
     z : PartsState
     z = record x { regions = slice_set x.regions k.entity (region_after (region_of x.regions k.entity) (length h + 1) (Act.Evict k)) }
@@ -361,13 +371,13 @@ evict_leads script h k r = record { added = outside_entry h (Act.Evict k) r ∷ 
 -- ---- a restart
 
 pub restart_run : Laws → (script : Script) (from : Origin) (h : Journal) (x y : PartsState) → IsRun script from h x → length h < 2 ^ 62 → y.store ≡ x.store → y.registry ≡ [] →
-    y.stamps ≡ unstamped (length x.stamps) → AreEmptied x.regions y.regions → IsRun script from (outside_entry h Act.Restart Reply.Done ∷ h) y
-restart_run l script from h x y run few st rg sp rs =
+    y.stamps ≡ unstamped (length x.stamps) → AreEmptied x.regions y.regions → y.results ≡ record x.results { kept = [] } → IsRun script from (outside_entry h Act.Restart Reply.Done ∷ h) y
+restart_run l script from h x y run few st rg sp rs re =
     goes_outside script from h Act.Restart Reply.Done x y run refl refl
     (reply_any script from.tables h (outside_entry h Act.Restart Reply.Done) (λ start. refl) refl)
     (parts_outside l script from h Act.Restart Reply.Done x y run.parts refl refl st rg sp
     (λ n. subst (λ v. IsPlaced script n (outside_entry h Act.Restart Reply.Done ∷ h) v) (sym (rs.each n))
-    (restarts l script h (outside_entry h Act.Restart Reply.Done) n (region_of x.regions n) refl (run.parts.regions n))) rs.all) few
+    (restarts l script h (outside_entry h Act.Restart Reply.Done) n (region_of x.regions n) refl (run.parts.regions n))) rs.all re) few
 
 pub restart_leads : (script : Script) (h : Journal) → Leads (play_order script Order.Restart) played h (outside_entry h Act.Restart Reply.Done ∷ h)
 restart_leads script h = record { added = outside_entry h Act.Restart Reply.Done ∷ []; grown = refl; plays = λ rest. refl }

@@ -11,3 +11,4 @@ pub mod Begun
 pub mod Going
 pub mod Playing
 pub mod FromOutside
+pub mod QueriesServed

@@ -13,7 +13,7 @@ use Rattle.hib_core.specs.Laws.{Laws}
 use Rattle.hib_core.specs.Standing.{Origin, RoseWithin, entry_of, own_after, PartsState, IsReady, IsAnswered, IsAskedFor}
 use Rattle.hib_core.specs.Factory.{IsTold}
 use Rattle.hib_core.proofs.Stored.{reply_any, own_is, own_kind}
-use Rattle.hib_core.proofs.Served.{is_quiet, quiet_served, ArePartsAfter}
+use Rattle.hib_core.proofs.Served.{is_quiet, is_of_results, unasked, quiet_served, ArePartsAfter}
 
 -- a session answers no fault
 abbrev is_calm : Option Reply → Bool
@@ -73,15 +73,16 @@ pub record IsOwnAct (script : Script) (now s : ℕ) (a : Act) (x : PartsState) :
   pub quiet : is_quiet a ≡ true
   pub apart : is_regional a ≡ true → ⊥
   pub silent : (cs : List Rattle.hib_journal.specs.Types.Change) → asks cs a ≡ false
+  pub unasked : is_of_results a ≡ false
   pub after : ArePartsAfter script now s a x (record x { registry = own_after s a x.registry })
 
 own_act : (script : Script) (now s : ℕ) (a : Act) (x : PartsState) → is_own a ≡ true → IsOwnAct script now s a x
-own_act script now s Act.End x p = record { quiet = refl; apart = λ g. false≢true g; silent = λ cs. refl; after = record { registry = refl; stamps = refl; regions = refl } }
-own_act script now s (Act.Find k) x p = record { quiet = refl; apart = λ g. false≢true g; silent = λ cs. refl; after = record { registry = refl; stamps = refl; regions = refl } }
-own_act script now s (Act.Persist k r) x p = record { quiet = refl; apart = λ g. false≢true g; silent = λ cs. refl; after = record { registry = refl; stamps = refl; regions = refl } }
-own_act script now s (Act.Set k cells) x p = record { quiet = refl; apart = λ g. false≢true g; silent = λ cs. refl; after = record { registry = refl; stamps = refl; regions = refl } }
-own_act script now s (Act.Remove k) x p = record { quiet = refl; apart = λ g. false≢true g; silent = λ cs. refl; after = record { registry = refl; stamps = refl; regions = refl } }
-own_act script now s Act.Clear x p = record { quiet = refl; apart = λ g. false≢true g; silent = λ cs. refl; after = record { registry = refl; stamps = refl; regions = refl } }
+own_act script now s Act.End x p = record { quiet = refl; apart = λ g. false≢true g; silent = λ cs. refl; unasked = refl; after = record { registry = refl; stamps = refl; regions = refl; results = λ r. refl } }
+own_act script now s (Act.Find k) x p = record { quiet = refl; apart = λ g. false≢true g; silent = λ cs. refl; unasked = refl; after = record { registry = refl; stamps = refl; regions = refl; results = λ r. refl } }
+own_act script now s (Act.Persist k r) x p = record { quiet = refl; apart = λ g. false≢true g; silent = λ cs. refl; unasked = refl; after = record { registry = refl; stamps = refl; regions = refl; results = λ r. refl } }
+own_act script now s (Act.Set k cells) x p = record { quiet = refl; apart = λ g. false≢true g; silent = λ cs. refl; unasked = refl; after = record { registry = refl; stamps = refl; regions = refl; results = λ r. refl } }
+own_act script now s (Act.Remove k) x p = record { quiet = refl; apart = λ g. false≢true g; silent = λ cs. refl; unasked = refl; after = record { registry = refl; stamps = refl; regions = refl; results = λ r. refl } }
+own_act script now s Act.Clear x p = record { quiet = refl; apart = λ g. false≢true g; silent = λ cs. refl; unasked = refl; after = record { registry = refl; stamps = refl; regions = refl; results = λ r. refl } }
 own_act script now s _ x p = absurd (false≢true p)
 
 same_some : (x z : Reply) → Some x ≡ Some z → x ≡ z
@@ -96,7 +97,7 @@ own_told l script from h s a r x y k p q =
       answered = subst (λ v. IsAnswered script from h s a r v) (sym q)
           (quiet_served l script from h s a r x z k w.quiet (own_no_fault script (own s h) a r (sym p))
           (reply_any script from.tables h (entry_of h s a r) (own_is script h s (length h + 1) a r (sym p)) (own_kind script (own s h) a r r (sym p)))
-          refl w.after (λ g. absurd (w.apart g)));
+          refl w.after (λ g. absurd (w.apart g)) (unasked (length script.queries) x.results a r w.unasked));
       mine = λ t e. same_some r t (p ∙ e);
       asked = subst (λ b. RoseWithin x.store.asked (one_if b) y.store.asked) (sym (w.silent (changes_in (own s h))))
           (subst (λ v. RoseWithin x.store.asked 0 v.store.asked) (sym q) (record { later = omega arith; few = omega arith }));

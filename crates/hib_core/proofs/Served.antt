@@ -19,6 +19,9 @@ use Rattle.hib_journal.proofs.Open.{begun_open}
 use Rattle.hib_room_laws.specs.Elsewhere.{last_of}
 use Rattle.hib_update_stamps.specs.Stamped.{Stamped, stamped}
 use Rattle.hib_update_stamps.specs.Standing.{IsStamps, stamps_after}
+use Rattle.hib_query_cache.specs.Ranked.{Ranked}
+use Rattle.hib_query_cache.specs.Standing.{IsResults, results_after}
+use Rattle.hib_query_cache.specs.Standing as Cache
 use Rattle.hib_core.specs.declared.region.Region.{Region}
 use Rattle.hib_core.specs.Registry.{IsRegistry, opened_after, floor_in}
 use Rattle.hib_core.specs.Region.{answer_in, region_after, is_of_key, is_regional, entity_of, entity_in, acts_on, IsPlaced, Suits}
@@ -123,16 +126,35 @@ not_outside : (a : Act) → is_outside a ≡ false → is_restart a ≡ false
 not_outside Act.Restart p = absurd (true≢false p)
 not_outside _ p = refl
 
+-- results
+
+pub results_capacity : (a : Act) (r : Reply) (x : Ranked) → (results_after a r x).capacity ≡ x.capacity
+results_capacity (Act.Keep q t l) r x = refl
+results_capacity (Act.Look q) r x = refl
+results_capacity Act.Restart r x = refl
+results_capacity _ r x = refl
+
+abbrev pub is_of_results : Act → Bool
+is_of_results (Act.Look q) = true
+is_of_results (Act.Keep q t l) = true
+is_of_results _ = false
+
+pub unasked : (n : ℕ) (x : Ranked) (a : Act) (r : Reply) → is_of_results a ≡ false → Cache.IsAnswered n x a r
+unasked n x (Act.Look q) r p = absurd (true≢false p)
+unasked n x (Act.Keep q t l) r p = absurd (true≢false p)
+unasked n x _ r p = tt
+
 -- what the parts are after an entry of a session
 pub record ArePartsAfter (script : Script) (now s : ℕ) (a : Act) (x y : PartsState) : Type 0 where
   pub registry : y.registry ≡ opened_after now (Some s) a x.registry
   pub stamps : y.stamps ≡ stamps_after script.timeout now a x.stamps
   pub regions : y.regions ≡ regions_after now a x.regions
+  pub results : (r : Reply) → y.results ≡ results_after a r x.results
 
 pub parts_step : Laws → (script : Script) (from : Origin) (h : Journal) (s : ℕ) (a : Act) (r : Reply) (x y : PartsState) → IsReady script from h s a x →
-    (is_regional a ≡ true → r ≡ answer_in (region_of x.regions (acts_on a)) (length h + 1) a) → IsStore from (entry_of h s a r ∷ h) y.store →
-    ArePartsAfter script (length h + 1) s a x y → AreParts script from (entry_of h s a r ∷ h) y
-parts_step l script from h s a r x y k answer store z = record {
+    (is_regional a ≡ true → r ≡ answer_in (region_of x.regions (acts_on a)) (length h + 1) a) → Cache.IsAnswered (length script.queries) x.results a r →
+    IsStore from (entry_of h s a r ∷ h) y.store → ArePartsAfter script (length h + 1) s a x y → AreParts script from (entry_of h s a r ∷ h) y
+parts_step l script from h s a r x y k answer kept store z = record {
   store = store;
   registry = subst (λ ps. IsRegistry ps (e ∷ h)) (sym z.registry) (registry_step x.registry e h k.parts.registry refl (λ b n q. closed b n q));
   stamps = subst (λ ss. IsStamps script.timeout ss (e ∷ h)) (sym z.stamps) (l.stamps_follow script.timeout x.stamps h e k.parts.stamps);
@@ -140,6 +162,8 @@ parts_step l script from h s a r x y k answer store z = record {
   regions = λ n. subst (λ rs. IsPlaced script n (e ∷ h) (region_of rs n)) (sym z.regions)
       (regions_step l script h e s x.regions a refl refl no_restart k.parts.regions k.due.suits served n);
   entities = ap length z.regions ∙ (regions_length (length h + 1) a x.regions no_restart ∙ k.parts.entities);
+  results = subst (λ v. IsResults (length script.queries) v (e ∷ h)) (sym (z.results r)) (l.results_follow (length script.queries) x.results h e k.parts.results kept);
+  capacity = ap (λ v. v.capacity) (z.results r) ∙ (results_capacity a r x.results ∙ k.parts.capacity);
 }
   where
     e : Entry
@@ -177,6 +201,7 @@ begin_reply script from h s x k = reply_any script from.tables h (entry_of h s A
 
 abbrev pub is_of_the_store : Act → Bool
 is_of_the_store (Act.Load k) = true
+is_of_the_store (Act.List q) = true
 is_of_the_store (Act.Write c) = true
 is_of_the_store Act.Commit = true
 is_of_the_store Act.Rollback = true
@@ -184,25 +209,32 @@ is_of_the_store _ = false
 
 not_regional : (a : Act) → is_of_the_store a ≡ true → is_regional a ≡ true → ⊥
 not_regional (Act.Load k) p q = false≢true q
+not_regional (Act.List n) p q = false≢true q
 not_regional (Act.Write c) p q = false≢true q
 not_regional Act.Commit p q = false≢true q
 not_regional Act.Rollback p q = false≢true q
 not_regional _ p q = false≢true p
 
 store_after : (script : Script) (now s : ℕ) (a : Act) (x y : PartsState) → is_of_the_store a ≡ true → y.registry ≡ x.registry → y.stamps ≡ x.stamps → y.regions ≡ x.regions →
-    ArePartsAfter script now s a x y
-store_after script now s (Act.Load k) x y p q t u = record { registry = q; stamps = t; regions = u }
-store_after script now s (Act.Write c) x y p q t u = record { registry = q; stamps = t; regions = u }
-store_after script now s Act.Commit x y p q t u = record { registry = q; stamps = t; regions = u }
-store_after script now s Act.Rollback x y p q t u = record { registry = q; stamps = t; regions = u }
-store_after script now s _ x y p q t u = absurd (false≢true p)
+    y.results ≡ x.results → ArePartsAfter script now s a x y
+store_after script now s (Act.Load k) x y p q t u v = record { registry = q; stamps = t; regions = u; results = λ r. v }
+store_after script now s (Act.List n) x y p q t u v = record { registry = q; stamps = t; regions = u; results = λ r. v }
+store_after script now s (Act.Write c) x y p q t u v = record { registry = q; stamps = t; regions = u; results = λ r. v }
+store_after script now s Act.Commit x y p q t u v = record { registry = q; stamps = t; regions = u; results = λ r. v }
+store_after script now s Act.Rollback x y p q t u v = record { registry = q; stamps = t; regions = u; results = λ r. v }
+store_after script now s _ x y p q t u v = absurd (false≢true p)
+
+store_results : (a : Act) → is_of_the_store a ≡ true → is_of_results a ≡ false
+store_results (Act.Look n) p = absurd (false≢true p)
+store_results (Act.Keep n t l) p = absurd (false≢true p)
+store_results _ p = refl
 
 pub store_served : Laws → (script : Script) (from : Origin) (h : Journal) (s : ℕ) (a : Act) (r : Reply) (x y : PartsState) → is_of_the_store a ≡ true → IsReady script from h s a x →
     IsReply script from.tables h (entry_of h s a r) → IsStore from (entry_of h s a r ∷ h) y.store → y.registry ≡ x.registry → y.stamps ≡ x.stamps → y.regions ≡ x.regions →
-    IsAnswered script from h s a r y
-store_served l script from h s a r x y i k reply store p q t = record {
+    y.results ≡ x.results → IsAnswered script from h s a r y
+store_served l script from h s a r x y i k reply store p q t u = record {
   reply = reply;
-  parts = parts_step l script from h s a r x y k (λ g. absurd (not_regional a i g)) store (store_after script (length h + 1) s a x y i p q t);
+  parts = parts_step l script from h s a r x y k (λ g. absurd (not_regional a i g)) (unasked (length script.queries) x.results a r (store_results a i)) store (store_after script (length h + 1) s a x y i p q t u);
 }
 
 -- and where it leaves the store
@@ -224,12 +256,12 @@ same_le a b e = omega (arith, e)
 
 pub quiet_served : Laws → (script : Script) (from : Origin) (h : Journal) (s : ℕ) (a : Act) (r : Reply) (x y : PartsState) → IsReady script from h s a x → is_quiet a ≡ true →
     is_fault r ≡ false → IsReply script from.tables h (entry_of h s a r) → y.store ≡ x.store → ArePartsAfter script (length h + 1) s a x y →
-    (is_regional a ≡ true → r ≡ answer_in (region_of x.regions (acts_on a)) (length h + 1) a) → IsAnswered script from h s a r y
-quiet_served l script from h s a r x y k q f reply e z t =
+    (is_regional a ≡ true → r ≡ answer_in (region_of x.regions (acts_on a)) (length h + 1) a) → Cache.IsAnswered (length script.queries) x.results a r → IsAnswered script from h s a r y
+quiet_served l script from h s a r x y k q f reply e z t u =
     let w : (committer a r (Some s) ≡ None) × ((cs : List Change) → deferred_after a cs ≡ cs) = quiet a r s q in
     record {
       reply = reply;
-      parts = parts_step l script from h s a r x y k t
+      parts = parts_step l script from h s a r x y k t u
           (keeps_same from h s a r x.store y.store k.parts.store k.live w.0 w.1 (ap (λ v. v.tables) e) (ap (λ v. v.written) e)
           (no_fault r x.store.faults y.store.faults f (same_le x.store.faults y.store.faults (ap (λ v. v.faults) e)))) z;
     }
@@ -239,24 +271,24 @@ pub begin_served : Laws → (script : Script) (from : Origin) (h : Journal) (s n
 begin_served l script from h s now r x y n k p q = quiet_served l script from h s Act.Begin r x y k refl (ap is_fault p)
     (subst (λ z. IsReply script from.tables h (entry_of h s Act.Begin z)) (sym (p ∙ ap (λ t. Reply.Began (floor_in x.registry t)) n)) (begin_reply script from h s x k))
     (ap (λ z. z.store) q)
-    (record { registry = ap (λ z. z.registry) q ∙ ap (λ t. opened_after t (Some s) Act.Begin x.registry) n; stamps = ap (λ z. z.stamps) q; regions = ap (λ z. z.regions) q })
-    (λ g. absurd (false≢true g))
+    (record { registry = ap (λ z. z.registry) q ∙ ap (λ t. opened_after t (Some s) Act.Begin x.registry) n; stamps = ap (λ z. z.stamps) q; regions = ap (λ z. z.regions) q; results = λ v. ap (λ z. z.results) q })
+    (λ g. absurd (false≢true g)) tt
 
 pub pre_served : Laws → (script : Script) (from : Origin) (h : Journal) (s now : ℕ) (ts : List ℕ) (r : Reply) (x y : PartsState) → now ≡ length h + 1 → IsReady script from h s (Act.Pre ts) x →
     r ≡ Reply.Stamped (now + script.timeout) → y ≡ record x { stamps = stamped ts (now + script.timeout) x.stamps } → IsAnswered script from h s (Act.Pre ts) r y
 pre_served l script from h s now ts r x y n k p q = quiet_served l script from h s (Act.Pre ts) r x y k refl (ap is_fault p)
     (reply_any script from.tables h (entry_of h s (Act.Pre ts) r) (λ start. p ∙ ap (λ t. Reply.Stamped (t + script.timeout)) n) refl)
     (ap (λ z. z.store) q)
-    (record { registry = ap (λ z. z.registry) q; stamps = ap (λ z. z.stamps) q ∙ ap (λ t. stamped ts (t + script.timeout) x.stamps) n; regions = ap (λ z. z.regions) q })
-    (λ g. absurd (false≢true g))
+    (record { registry = ap (λ z. z.registry) q; stamps = ap (λ z. z.stamps) q ∙ ap (λ t. stamped ts (t + script.timeout) x.stamps) n; regions = ap (λ z. z.regions) q; results = λ v. ap (λ z. z.results) q })
+    (λ g. absurd (false≢true g)) tt
 
 pub stamp_served : Laws → (script : Script) (from : Origin) (h : Journal) (s now : ℕ) (ts : List ℕ) (r : Reply) (x y : PartsState) → now ≡ length h + 1 → IsReady script from h s (Act.Stamp ts) x →
     r ≡ Reply.Stamped now → y ≡ record x { stamps = stamped ts now x.stamps } → IsAnswered script from h s (Act.Stamp ts) r y
 stamp_served l script from h s now ts r x y n k p q = quiet_served l script from h s (Act.Stamp ts) r x y k refl (ap is_fault p)
     (reply_any script from.tables h (entry_of h s (Act.Stamp ts) r) (λ start. p ∙ ap (λ t. Reply.Stamped t) n) refl)
     (ap (λ z. z.store) q)
-    (record { registry = ap (λ z. z.registry) q; stamps = ap (λ z. z.stamps) q ∙ ap (λ t. stamped ts t x.stamps) n; regions = ap (λ z. z.regions) q })
-    (λ g. absurd (false≢true g))
+    (record { registry = ap (λ z. z.registry) q; stamps = ap (λ z. z.stamps) q ∙ ap (λ t. stamped ts t x.stamps) n; regions = ap (λ z. z.regions) q; results = λ v. ap (λ z. z.results) q })
+    (λ g. absurd (false≢true g)) tt
 
 -- a region's answer is no fault
 
@@ -302,16 +334,21 @@ regional_quiet Act.Rollback t = absurd (false≢true t)
 regional_quiet _ t = refl
 
 regional_after : (script : Script) (now s : ℕ) (a : Act) (x y : PartsState) → is_regional a ≡ true → y.registry ≡ x.registry → y.stamps ≡ x.stamps →
-    y.regions ≡ slice_set x.regions (acts_on a) (region_after (region_of x.regions (acts_on a)) now a) → ArePartsAfter script now s a x y
-regional_after script now s (Act.Get k t) x y g p q u = record { registry = p; stamps = q; regions = u }
-regional_after script now s (Act.Put k row t f) x y g p q u = record { registry = p; stamps = q; regions = u }
-regional_after script now s (Act.Lock k v f) x y g p q u = record { registry = p; stamps = q; regions = u }
-regional_after script now s (Act.Unlock k i) x y g p q u = record { registry = p; stamps = q; regions = u }
-regional_after script now s (Act.AfterInsert k row f) x y g p q u = record { registry = p; stamps = q; regions = u }
-regional_after script now s (Act.AfterUpdate k i row) x y g p q u = record { registry = p; stamps = q; regions = u }
-regional_after script now s (Act.RegionRemove k) x y g p q u = record { registry = p; stamps = q; regions = u }
-regional_after script now s (Act.Evict k) x y g p q u = record { registry = p; stamps = q; regions = u }
-regional_after script now s _ x y g p q u = absurd (false≢true g)
+    y.regions ≡ slice_set x.regions (acts_on a) (region_after (region_of x.regions (acts_on a)) now a) → y.results ≡ x.results → ArePartsAfter script now s a x y
+regional_after script now s (Act.Get k t) x y g p q u w = record { registry = p; stamps = q; regions = u; results = λ z. w }
+regional_after script now s (Act.Put k row t f) x y g p q u w = record { registry = p; stamps = q; regions = u; results = λ z. w }
+regional_after script now s (Act.Lock k v f) x y g p q u w = record { registry = p; stamps = q; regions = u; results = λ z. w }
+regional_after script now s (Act.Unlock k i) x y g p q u w = record { registry = p; stamps = q; regions = u; results = λ z. w }
+regional_after script now s (Act.AfterInsert k row f) x y g p q u w = record { registry = p; stamps = q; regions = u; results = λ z. w }
+regional_after script now s (Act.AfterUpdate k i row) x y g p q u w = record { registry = p; stamps = q; regions = u; results = λ z. w }
+regional_after script now s (Act.RegionRemove k) x y g p q u w = record { registry = p; stamps = q; regions = u; results = λ z. w }
+regional_after script now s (Act.Evict k) x y g p q u w = record { registry = p; stamps = q; regions = u; results = λ z. w }
+regional_after script now s _ x y g p q u w = absurd (false≢true g)
+
+regional_results : (a : Act) → is_regional a ≡ true → is_of_results a ≡ false
+regional_results (Act.Look n) g = absurd (false≢true g)
+regional_results (Act.Keep n t l) g = absurd (false≢true g)
+regional_results _ g = refl
 
 named : (o : Option Key) (n : ℕ) → option_map (λ k. k.entity) o ≡ Some n → (is_of_key o ≡ true) × (entity_of o ≡ n)
 named None n e = absurd (no e)
@@ -337,5 +374,5 @@ region_served l script from h s now n a r x y m k w p q =
     (ap is_fault answer ∙ answer_calm (region_of x.regions (acts_on a)) (length h + 1) a)
     (subst (λ z. IsReply script from.tables h (entry_of h s a z)) (sym answer) (region_reply l script from h s a x k t.0))
     (ap (λ z. z.store) q)
-    (regional_after script (length h + 1) s a x y t.0 (ap (λ z. z.registry) q) (ap (λ z. z.stamps) q) left)
-    (λ g. answer)
+    (regional_after script (length h + 1) s a x y t.0 (ap (λ z. z.registry) q) (ap (λ z. z.stamps) q) left (ap (λ z. z.results) q))
+    (λ g. answer) (unasked (length script.queries) x.results a r (regional_results a t.0))

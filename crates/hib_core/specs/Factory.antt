@@ -26,21 +26,23 @@ pub record AreSessions (script : Script) (h : Journal) (sessions : List Session)
   pub killed : (s : ℕ) (y : Session) → slice_get sessions s ≡ Some y → is_killed y ≡ was_killed s h
   pub follow : (s : ℕ) (y : Session) → slice_get sessions s ≡ Some y → was_killed s h ≡ false → Follows script y (own s h)
 
--- no session asks a query
-abbrev pub AsksNoQuery : Script → Type 0
-AsksNoQuery script = (s q : ℕ) → is_asked script s q ≡ false
+-- a session asks queries of the script alone
+abbrev pub HasQueries : Script → Type 0
+HasQueries script = (s q : ℕ) → is_asked script s q ≡ true → q < length script.queries
 
 -- an order evicts rows of cached entities alone
 abbrev pub IsSound : Script → Order → Type 0
 IsSound script (Order.Evict k) = is_cached script k.entity ≡ true
 IsSound script _ = Unit {0}
 
--- what is built so far: scripts whose entities and sessions have numbers, whose schedule evicts rows of cached entities alone, and without queries
+-- a script that a factory takes: its entities and sessions have numbers, there is room for a result, the schedule evicts rows of
+-- cached entities alone, and the queries that are asked are there
 pub record IsBuilt (script : Script) : Type 0 where
   pub entities : length script.mapping < 2 ^ 16
   pub sessions : length script.sessions < 2 ^ 32
   pub orders : (i : ℕ) (o : Order) → slice_get script.schedule i ≡ Some o → IsSound script o
-  pub queries : AsksNoQuery script
+  pub results : 0 < script.results
+  pub queries : HasQueries script
 
 -- the journal is legal, with its ticks in turn, and the parts stand for it
 pub record IsRun (script : Script) (from : Origin) (h : Journal) (x : PartsState) : Type 0 where

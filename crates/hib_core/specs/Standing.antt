@@ -1,5 +1,5 @@
 -- What a factory stands for: its parts are those that its journal's definitions give.
-use Rattle.std.specs.Prelude.{◌≡◌, ℕ, ◌+◌, ◌-◌, ◌^◌, ◌≤◌, ◌<◌, min, Bool, true, false, cond, List, ◌∷◌, length, map, slice_get, slice_set, Some, None, Option}
+use Rattle.std.specs.Prelude.{◌≡◌, ℕ, ◌+◌, ◌-◌, ◌^◌, ◌≤◌, ◌<◌, min, true, false, cond, List, ◌∷◌, length, map, slice_get, slice_set, Some, None, Option}
 use Rattle.std.specs.List.{All}
 use Rattle.std.specs.Option.{option_map}
 use Rattle.hib_base.specs.Tables.{Tables, start}
@@ -11,7 +11,10 @@ use Rattle.hib_journal.specs.Legal.{IsReply, part_of, is_outside}
 use Rattle.hib_journal.specs.Runs.{IsNumbered, told_committed, one_if, asks, fault_count}
 use Rattle.hib_store.specs.Stores.{StoreState, changes_of}
 use Rattle.hib_store.specs.declared.asking.Loaded.{Loaded}
+use Rattle.hib_store.specs.declared.store.Listed.{Listed}
 use Rattle.hib_update_stamps.specs.Standing.{IsStamps}
+use Rattle.hib_query_cache.specs.Ranked.{Ranked}
+use Rattle.hib_query_cache.specs.Standing.{IsResults}
 use Rattle.hib_core.specs.declared.region.Region.{Region}
 use Rattle.hib_core.specs.Registry.{Opened, without, IsRegistry}
 use Rattle.hib_core.specs.Region.{is_regional, acts_on, region_after, emptied, IsPlaced, Suits}
@@ -55,6 +58,11 @@ abbrev pub reply_of_loaded : Loaded → Reply
 reply_of_loaded (Loaded.Row row) = Reply.Row row
 reply_of_loaded Loaded.Fault = Reply.Fault
 
+-- the reply that a list is
+abbrev pub reply_of_listed : Listed → Reply
+reply_of_listed (Listed.List cells) = Reply.Listed cells
+reply_of_listed Listed.Fault = Reply.Fault
+
 -- the region of an entity; none is uncached
 abbrev pub or_uncached : Option Region → Region
 or_uncached None = Region.Uncached
@@ -85,6 +93,7 @@ pub record PartsState : Type 0 where
   pub registry : List (ℕ × ℕ)
   pub stamps : List (Option ℕ)
   pub regions : List Region
+  pub results : Ranked
 
 pub record AreParts (script : Script) (from : Origin) (h : Journal) (x : PartsState) : Type 0 where
   pub store : IsStore from h x.store
@@ -93,6 +102,8 @@ pub record AreParts (script : Script) (from : Origin) (h : Journal) (x : PartsSt
   pub tables : length x.stamps ≡ length script.mapping
   pub regions : (n : ℕ) → IsPlaced script n h (region_of x.regions n)
   pub entities : length x.regions ≡ length script.mapping
+  pub results : IsResults (length script.queries) x.results h
+  pub capacity : x.results.capacity ≡ script.results
 
 -- the tables that an act names are below a number
 abbrev pub AreWithin : ℕ → Act → Type 0
@@ -107,13 +118,13 @@ AreStored mine (Act.List q) = deferred mine ≡ changes_in mine
 AreStored mine Act.Commit = deferred mine ≡ changes_in mine
 AreStored mine _ = Unit {0}
 
--- the acts that are built: all but those of queries
-abbrev pub is_built : Act → Bool
-is_built (Act.List q) = false
-is_built (Act.Look q) = false
-is_built (Act.Check q t) = false
-is_built (Act.Keep q t l) = false
-is_built a = true
+-- the query that an act names is there
+abbrev pub HasQuery : Script → Act → Type 0
+HasQuery script (Act.List q) = q < length script.queries
+HasQuery script (Act.Look q) = q < length script.queries
+HasQuery script (Act.Check q t) = q < length script.queries
+HasQuery script (Act.Keep q t l) = q < length script.queries
+HasQuery script _ = Unit {0}
 
 -- what is known of the act that is due in a session with these entries
 pub record IsDue (script : Script) (mine : Journal) (a : Act) : Type 0 where
@@ -122,7 +133,7 @@ pub record IsDue (script : Script) (mine : Journal) (a : Act) : Type 0 where
   pub known : AreWithin (length script.mapping) a
   pub suits : Suits (strategy script (acts_on a)) a
   pub inside : is_outside a ≡ false
-  pub built : is_built a ≡ true
+  pub query : HasQuery script a
 
 -- an act was answered: with the reply that is due, and the parts stand for the journal with its entry
 pub record IsAnswered (script : Script) (from : Origin) (h : Journal) (s : ℕ) (a : Act) (r : Reply) (y : PartsState) : Type 0 where

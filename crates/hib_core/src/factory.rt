@@ -23,6 +23,7 @@ use crate::turns::{Stepped, turn};
 use hib_base::{Key, Order, Script, SessionNo};
 use hib_journal::Journal;
 use hib_outside::Keeper;
+use hib_query_cache::Results;
 use hib_session::Session;
 use hib_store::{OpenFault, Store};
 use hib_update_stamps::Stamps;
@@ -72,6 +73,9 @@ impl<K: Keeper, N: Name> Factory<K, N> {
         let Ok(stamps) = Stamps::open(alloc, script.mapping.len() as u16) else {
             return Err(OpenFault::NoMemory(keeper));
         };
+        let Ok(results) = Results::open(alloc, script.results) else {
+            return Err(OpenFault::NoMemory(keeper));
+        };
         let Ok(sessions) = open_sessions(alloc, &script) else {
             return Err(OpenFault::NoMemory(keeper));
         };
@@ -83,6 +87,7 @@ impl<K: Keeper, N: Name> Factory<K, N> {
                 registry: Registry::new(alloc),
                 stamps,
                 regions,
+                results,
             },
             sessions,
             journal: Journal::open(alloc),
@@ -317,6 +322,7 @@ impl<K: Keeper, N: Name> Factory<K, N> {
             registry: _,
             stamps: _,
             regions: _,
+            results: _,
         } = parts;
         (store.close(), script, journal)
     }

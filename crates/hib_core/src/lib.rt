@@ -7,6 +7,7 @@ mod names;
 mod opening;
 mod outside;
 mod parts;
+mod queries;
 mod region;
 mod registry;
 mod turns;

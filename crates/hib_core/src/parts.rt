@@ -17,17 +17,19 @@ use crate::region::Region;
 use crate::registry::Registry;
 use hib_base::{Act, Change, EntityNo, Key, Names, Reply, Script, SessionNo, Tick};
 use hib_outside::Keeper;
+use hib_query_cache::Results;
 use hib_store::{Loaded, Store};
 use hib_update_stamps::Stamps;
 use std::alloc::{AllocError, Global};
 use std::marker::Model;
 
-/// The store, the open sessions, the stamps of tables and the regions, one for each entity.
+/// The store, the open sessions, the stamps of tables, the regions, one for each entity, and the results of queries.
 pub struct Parts<K: Keeper> {
     pub store: Store<K>,
     pub registry: Registry,
     pub stamps: Stamps,
     pub regions: Vec<Region>,
+    pub results: Results,
 }
 
 impl<K: Keeper> Model for Parts<K> {
@@ -35,7 +37,7 @@ impl<K: Keeper> Model for Parts<K> {
 
     ghost Value = { PartsState };
 
-    ghost view = { λ p. record { store = p.store; registry = p.registry; stamps = p.stamps; regions = p.regions.items } };
+    ghost view = { λ p. record { store = p.store; registry = p.registry; stamps = p.stamps; regions = p.regions.items; results = p.results } };
 }
 
 /// The entity of the region that an act is on, or none.
@@ -115,16 +117,19 @@ impl<K: Keeper> Parts<K> {
         self.registry.end(session);
     }
 
-    /// A restart: no session is open, no table has a stamp, and no region holds anything. The store stays. It takes no memory.
+    /// A restart: no session is open, no table has a stamp, no region holds anything, and no result is kept. The store stays. It
+    /// takes no memory.
     pub fn restart(&mut self)
         ensures store { self.new.store ≡ self.old.store }
         ensures registry { self.new.registry ≡ [] }
         ensures stamps { self.new.stamps ≡ unstamped (length self.old.stamps) }
         ensures regions { AreEmptied self.old.regions self.new.regions }
+        ensures results { self.new.results ≡ record self.old.results { kept = [] } }
     {
         self.registry.clear();
         self.stamps.clear();
         clear_all(&mut self.regions);
+        self.results.clear();
     }
 
     /// An act of a region.
@@ -243,6 +248,8 @@ impl<K: Keeper> Parts<K> {
         requires late { now ≤ 2 ^ 62 }
         requires few { HasRoomFor (region_of self.old.regions (acts_on act.now)) act.now now }
         requires tables { AreWithin (length self.old.stamps) act.now }
+        requires entities { length self.old.stamps ≡ length script.now.mapping }
+        requires mapping { length script.now.mapping < 2 ^ 16 }
         ensures answered { IfOk result (λ r. (from : Origin) (h : Journal) → now ≡ length h + 1 → IsReady script.now from h session act.now self.old
             → own_reply script.now (own session h) act.now ≡ None → IsAnswered script.now from h session act.now r self.new) }
         ensures asked { IfOk result (λ _. (from : Origin) (h : Journal) → IsReady script.now from h session act.now self.old
@@ -261,6 +268,10 @@ impl<K: Keeper> Parts<K> {
             Act::Rollback => Ok(self.rollback(session)),
             Act::Pre { tables } => Ok(self.stamp_before(tables, script.timeout, now)),
             Act::Stamp { tables } => Ok(self.stamp_after(tables, now)),
+            Act::List { query } => self.list(alloc, script, session, *query),
+            Act::Look { query } => self.look(alloc, *query),
+            Act::Keep { query, time, list } => self.keep(alloc, *query, *time, list),
+            Act::Check { query, time } => self.check(alloc, script, *query, *time),
             // No other act is due in a session.
             _ => Ok(Reply::Done),
         }

@@ -10,7 +10,7 @@ ghost use Rattle.hib_journal.specs.Legal;
 ghost use Rattle.hib_session.specs.Session.{Follows, IsTaken, number_of, is_killed, left_in};
 ghost use Rattle.hib_core.specs.Region.{HasRoomFor, acts_on};
 ghost use Rattle.hib_core.specs.Standing.{Origin, region_of, AreParts, AreWithin, IsDue, IsReady, entry_of};
-ghost use Rattle.hib_core.specs.Factory.{IsTold, IsRun, IsGoing, IsTurn, Serves, Does, IsOver, AddsAtMost, AsksNoQuery};
+ghost use Rattle.hib_core.specs.Factory.{IsTold, IsRun, IsGoing, IsTurn, Serves, Does, IsOver, AddsAtMost, HasQueries};
 
 use crate::laws::laws;
 use crate::names::Name;
@@ -32,7 +32,7 @@ pub enum Stepped {
 
 /// The act that is due in a session.
 fn due_act(alloc: Global, script: &Script, session: &Session) -> Result<Option<Act>, AllocError>
-    requires queries { AsksNoQuery script.now }
+    requires queries { HasQueries script.now }
     ensures act { IfOk result (λ a. (mine : Past) → Follows script.now session.now mine → a ≡ next script.now (number_of session.now) mine) }
     ensures due { IfOk result (λ a. (mine : Past) → Follows script.now session.now mine → IfSome a (IsDue script.now mine)) }
     ensures killed { IfOk result (λ a. is_killed session.now ≡ true → a ≡ None) }
@@ -54,6 +54,8 @@ fn answer<K: Keeper>(
     requires late { now ≤ 2 ^ 62 }
     requires few { HasRoomFor (region_of parts.old.regions (acts_on act.now)) act.now now }
     requires tables { AreWithin (length parts.old.stamps) act.now }
+    requires entities { length parts.old.stamps ≡ length script.now.mapping }
+    requires mapping { length script.now.mapping < 2 ^ 16 }
     ensures answered { IfOk result (λ r. (from : Origin) (h : Past) → now ≡ length h + 1 → Follows script.now session.now (own (number_of session.now) h)
         → IsReady script.now from h (number_of session.now) act.now parts.old
         → IsTold script.now from h (number_of session.now) act.now r parts.old parts.new) }

@@ -1,21 +1,19 @@
 // What a query gives.
-ghost use Rattle.std.specs.Prelude.{◌≡◌, ◌∷◌, pos, take, drop, map, length, true, slice_get, nat_lt, ◌<◌, ◌^◌, [], IfOk};
-ghost use Rattle.std.specs.List.{list_all};
+ghost use Rattle.std.specs.Prelude.{◌≡◌, ◌∷◌, pos, take, drop, map, length, true, slice_get, ◌<◌, ◌^◌, [], IfOk};
 ghost use Rattle.hib_base.specs.Tables.{in_order};
 ghost use Rattle.hib_journal.specs.Query.{listed, sorted, or_false, selected, gives};
-ghost use Rattle.hib_query_eval.specs.Fits.{fit_cells};
 
 use crate::{conditions, orders};
 use hib_base::{Cell, Key, Listing, Query, Row, Rows, Select, Seq};
 use std::alloc::{AllocError, Global};
 
 /// What a query gives over rows in order of keys: of the rows of its entity that meet its condition the count; or
-/// else, in its order and cut by its offset and limit, their identifiers or the cells of a column. What is listed is
-/// free where an identifier of its entity is 2^63 or more, which no cell holds.
+/// else, in its order and cut by its offset and limit, their identifiers or the cells of a column. An identifier of 2^63
+/// or more, which no cell holds, finds no memory either.
 #[tactic(auto, unfolding(hib_journal::specs::Query::gives))]
 pub fn gives(alloc: Global, query: &Query, rows: &Rows) -> Result<Listing, AllocError>
     requires { in_order rows.now ≡ true }
-    ensures { fit_cells query.now.entity rows.now ≡ true → IfOk result (λ l. l ≡ gives query.now rows.now) }
+    ensures { IfOk result (λ l. l ≡ gives query.now rows.now) }
 {
     let met = listed(alloc, query, rows.as_slice())?;
     match query.select {
@@ -70,12 +68,14 @@ fn count(alloc: Global, rows: usize) -> Result<Listing, AllocError>
 }
 
 fn identifiers(alloc: Global, rows: &[&(Key, Row)]) -> Result<Listing, AllocError>
-    ensures { list_all (λ a. nat_lt a.now.0.id 9223372036854775808) rows.now ≡ true
-        → IfOk result (λ l. l ≡ map (λ a. Cell.Int (pos a.now.0.id)) rows.now) }
+    ensures { IfOk result (λ l. l ≡ map (λ a. Cell.Int (pos a.now.0.id)) rows.now) }
 {
     let mut list = Seq::new(alloc);
     for row in rows {
-        list.push(Cell::Int(i64::try_from(row.0.id).unwrap_or(i64::MAX)))?;
+        let Ok(id) = i64::try_from(row.0.id) else {
+            return Err(AllocError);
+        };
+        list.push(Cell::Int(id))?;
     }
     Ok(list)
 }

@@ -1,7 +1,7 @@
 -- The rows that a query reads, with a session's changes laid over them, give what the session's view gives.
-use Rattle.std.proofs.Common.{◌≡◌, ℕ, Bool, true, false, cond, not, ◌&&◌, ◌||◌, ◌==◌, nat_lt, List, [], ◌∷◌, Some, None, Option, IfSome, refl, sym, ap, ◌∙◌, subst, inl, inr, eq-eqb}
+use Rattle.std.proofs.Common.{◌≡◌, ℕ, Bool, true, false, cond, ◌==◌, List, [], ◌∷◌, Some, None, Option, IfSome, refl, sym, ap, ◌∙◌, subst, inl, inr, eq-eqb}
 use Rattle.std.proofs.lemmas.Bool.{eqb-true, or_left, or_right, and_from, both_ways}
-use Rattle.std.specs.List.{filter, list_all}
+use Rattle.std.specs.List.{filter}
 use Rattle.hib_base.specs.Keys.{same_key, is_before}
 use Rattle.hib_base.specs.Tables.{Tables, row_at, with_row, unless_there, start, last_on, after_changes, is_first, in_order}
 use Rattle.hib_base.proofs.Tables.{Tested, tested, same_key_eq, same_key_refl, left_by, row_at_changes, row_at_with_same, row_at_with_other}
@@ -9,7 +9,6 @@ use Rattle.hib_outside.specs.Keeps.{is_listed, rows_of}
 use Rattle.hib_outside.proofs.Orders.{is_before_total, is_first_trans, rest_in_order, row_at_before, in_order_changes, in_order_start}
 use Rattle.hib_journal.specs.Query.{reads, mentions_in, gives}
 use Rattle.hib_journal.specs.Room.{key}
-use Rattle.hib_query_eval.specs.Fits.{fit_cells}
 use Rattle.hib_query_eval.proofs.Untouched.{rows_in, gives_alike}
 use Rattle.hib_store.specs.Types.{Key, Row, Change, Query}
 use Rattle.hib_store.specs.Stores.{read_by}
@@ -181,25 +180,10 @@ gives_view q cs m o =
     gives_alike q (view q cs m) (after_changes cs m) (rows_view q cs m o)
     (λ n i e. row_at_view q cs m (key n i) (or_right (q.entity == n) (mentions_in n q.condition) e))
 
-fit_in : (n : ℕ) (t : Tables) → fit_cells n t ≡ list_all (λ e. nat_lt e.0.id 9223372036854775808) (rows_in n t)
-fit_in n [] = refl
-fit_in n (e ∷ t) = at (e.0.entity == n) (fit_in n t)
-  where
-    at : (b : Bool) → fit_cells n t ≡ list_all (λ e. nat_lt e.0.id 9223372036854775808) (rows_in n t)
-        → ((not b || nat_lt e.0.id 9223372036854775808) && fit_cells n t) ≡ list_all (λ e. nat_lt e.0.id 9223372036854775808) (cond b (e ∷ rows_in n t) (rows_in n t))
-    at true h = ap (λ c. nat_lt e.0.id 9223372036854775808 && c) h
-    at false h = h
-
-fit_view : (q : Query) (cs : List Change) (m : Tables) → in_order m ≡ true → fit_cells q.entity (view q cs m) ≡ fit_cells q.entity (after_changes cs m)
-fit_view q cs m o =
-    fit_in q.entity (view q cs m) ∙ ap (list_all (λ e. nat_lt e.0.id 9223372036854775808)) (rows_view q cs m o) ∙ sym (fit_in q.entity (after_changes cs m))
-
 -- what is given over the view of the rows that were read, as what is given over the session's view
 pub read_gives : (q : Query) (cs : List Change) (m rows v : Tables) → in_order m ≡ true → rows ≡ read_by q m → v ≡ after_changes cs (start [] rows)
-    → fit_cells q.entity (after_changes cs m) ≡ true → (fit_cells q.entity v ≡ true) × (gives q v ≡ gives q (after_changes cs m))
-read_gives q cs m rows v o r e f =
-    let w : v ≡ view q cs m = e ∙ ap (λ xs. after_changes cs (start [] xs)) r in
-    (ap (fit_cells q.entity) w ∙ fit_view q cs m o ∙ f, ap (gives q) w ∙ gives_view q cs m o)
+    → gives q v ≡ gives q (after_changes cs m)
+read_gives q cs m rows v o r e = ap (gives q) (e ∙ ap (λ xs. after_changes cs (start [] xs)) r) ∙ gives_view q cs m o
 
 -- and so of a keeper's rows, where it tells its tables
 pub listed_told : (es : List ℕ) (q : Query) (told : Option Tables) (rows : Tables) → ((n : ℕ) → is_listed n es ≡ reads q n)

@@ -1,4 +1,3 @@
 pub mod Answers
-pub mod Fitting
 pub mod Laid
 pub mod Sessions

@@ -6,7 +6,6 @@ use Rattle.std.specs.declared.alloc.AllocError.{AllocError}
 use Rattle.hib_base.specs.Keys.{same_key}
 use Rattle.hib_base.specs.Tables.{Tables, row_at, after_changes, key_of}
 use Rattle.hib_journal.specs.Query.{gives, reads}
-use Rattle.hib_query_eval.specs.Fits.{fit_cells}
 use Rattle.hib_store.specs.Types.{Key, Change, Commit, Query}
 use Rattle.hib_store.specs.declared.asking.Loaded.{Loaded}
 use Rattle.hib_store.specs.declared.store.Listed.{Listed}
@@ -58,11 +57,10 @@ IsView (Some m) cs k Loaded.Fault = Unit {0}
 abbrev pub read_by : Query → Tables → Tables
 read_by q m = filter (λ e. reads q e.0.entity) m
 
--- what is listed is what the query gives over what the changes leave of the committed rows, where these are told and the
--- identifiers fit in cells
+-- what is listed is what the query gives over what the changes leave of the committed rows, where these are told
 abbrev pub IsListed : Option Tables → List Change → Query → Listed → Type 0
 IsListed None cs q listed = Unit {0}
-IsListed (Some m) cs q (Listed.List cells) = fit_cells q.entity (after_changes cs m) ≡ true → cells ≡ gives q (after_changes cs m)
+IsListed (Some m) cs q (Listed.List cells) = cells ≡ gives q (after_changes cs m)
 IsListed (Some m) cs q Listed.Fault = Unit {0}
 
 -- the keeper that is handed back where a store is not opened

@@ -8,4 +8,5 @@ mod views;
 mod written;
 
 pub use asking::Loaded;
+pub use queries::tables_of;
 pub use store::{Listed, OpenFault, Store};

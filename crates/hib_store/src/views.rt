@@ -2,7 +2,6 @@
 ghost use Rattle.std.specs.Prelude.{◌≡◌, true, IfOk};
 ghost use Rattle.hib_base.specs.Tables.{Tables, after_changes, in_order};
 ghost use Rattle.hib_journal.specs.Query.{gives};
-ghost use Rattle.hib_query_eval.specs.Fits.{fit_cells};
 ghost use Rattle.hib_store.specs.Stores.{read_by};
 
 use hib_base::{Change, Listing, Query, Rows};
@@ -16,7 +15,6 @@ pub fn listed(
     changes: &[Change],
 ) -> Result<Listing, AllocError>
     ensures { (m : Tables) → in_order m ≡ true → rows ≡ read_by query.now m
-        → fit_cells query.now.entity (after_changes changes.now m) ≡ true
         → IfOk result (λ l. l ≡ gives query.now (after_changes changes.now m)) }
 {
     let view = hib_outside::laid_over(alloc, rows, changes)?;

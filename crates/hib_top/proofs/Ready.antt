@@ -1,17 +1,20 @@
 -- A script that was read, and of which all is built, is one that a factory takes.
-use Rattle.std.proofs.Common.{◌≡◌, ℕ, zero, suc, ◌<◌, ◌≤◌, Bool, true, false, not, ◌&&◌, ◌||◌, nat_le, List, [], ◌∷◌, length, slice_get, Some, None, Option, refl, subst, arith}
-use Rattle.std.proofs.lemmas.Bool.{true≢false, and_parts, leb-true}
+use Rattle.std.proofs.Common.{◌≡◌, ℕ, zero, suc, ◌<◌, ◌≤◌, ◌==◌, map, Bool, true, false, not, ◌&&◌, ◌||◌, nat_le, List, [], ◌∷◌, length, slice_get, Some, None, Option, refl, subst, arith}
+use Rattle.std.proofs.lemmas.Bool.{true≢false, false≢true, and_parts, leb-true, ltb-true, eqb-true}
+use Rattle.std.proofs.lemmas.List.{length-map}
+use Rattle.std.specs.Prelude.{nat_lt}
+use Rattle.hib_criteria.specs.Query.{said}
 use Rattle.std.specs.List.{list_all, list_any}
-use Rattle.hib_journal.specs.Types.{Order, Statement, SessionDef, Script}
+use Rattle.hib_journal.specs.Types.{Order, Query, Statement, SessionDef, Script}
 use Rattle.hib_journal.specs.Sessions.{Journal}
 use Rattle.hib_journal.specs.Next.{is_cached, statements}
 use Rattle.hib_journal.specs.Played.{is_played}
 use Rattle.hib_session.specs.Due.{asks}
-use Rattle.hib_core.specs.Factory.{AsksNoQuery, IsSound, IsBuilt, AreOver}
+use Rattle.hib_core.specs.Factory.{IsSound, IsBuilt, AreOver}
 use Rattle.hib_script.specs.Outline.{outline_of}
 use Rattle.hib_script.specs.Valid.{is_valid, is_over, statement_count}
 use Rattle.hib_top.specs.Play.{IsFinished}
-use Rattle.hib_top.specs.Unbuilt.{is_list, lists, evicts_uncached, is_unbuilt}
+use Rattle.hib_top.specs.Unbuilt.{is_unknown, lists_unknown, evicts_uncached, is_unbuilt}
 
 or_left_false : (a b : Bool) → (a || b) ≡ false → a ≡ false
 or_left_false true b p = absurd (true≢false p)
@@ -21,21 +24,37 @@ or_right_false : (a b : Bool) → (a || b) ≡ false → b ≡ false
 or_right_false true b p = absurd (true≢false p)
 or_right_false false b p = p
 
-asks_not : (q : ℕ) (t : Statement) → is_list t ≡ false → asks q t ≡ false
-asks_not q (Statement.List r) p = absurd (true≢false p)
-asks_not q _ p = refl
+below_from : (q n : ℕ) → not (nat_lt q n) ≡ false → q < n
+below_from q n p = by_test (nat_lt q n) refl p
+  where
+    by_test : (b : Bool) → nat_lt q n ≡ b → not b ≡ false → q < n
+    by_test true e p = ltb-true q n e
+    by_test false e p = absurd (true≢false p)
 
-unasked_in : (q : ℕ) (ts : List Statement) → list_any is_list ts ≡ false → list_any (λ t. asks q t) ts ≡ false
-unasked_in q [] p = refl
-unasked_in q (t ∷ ts) p = rw (asks_not q t (or_left_false (is_list t) (list_any is_list ts) p)) (unasked_in q ts (or_right_false (is_list t) (list_any is_list ts) p))
+known_one : (n q : ℕ) (t : Statement) → is_unknown n t ≡ false → asks q t ≡ true → q < n
+known_one n q (Statement.List r) p a = subst (λ m. m < n) (eqb-true r q a) (below_from r n p)
+known_one n q _ p a = absurd (false≢true a)
 
-unasked_by : (ds : List SessionDef) (s q : ℕ) → list_any lists ds ≡ false → list_any (λ t. asks q t) (statements (slice_get ds s)) ≡ false
-unasked_by [] s q p = refl
-unasked_by (d ∷ ds) zero q p = unasked_in q d.statements (or_left_false (lists d) (list_any lists ds) p)
-unasked_by (d ∷ ds) (suc s) q p = unasked_by ds s q (or_right_false (lists d) (list_any lists ds) p)
+known_in : (n q : ℕ) (ts : List Statement) → list_any (λ t. is_unknown n t) ts ≡ false → list_any (λ t. asks q t) ts ≡ true → q < n
+known_in n q [] p a = absurd (false≢true a)
+known_in n q (t ∷ ts) p a = by_test (asks q t) refl a (λ w. known_in n q ts (or_right_false (is_unknown n t) (list_any (λ u. is_unknown n u) ts) p) w)
+  where
+    by_test : (b : Bool) → asks q t ≡ b → (b || list_any (λ u. asks q u) ts) ≡ true → (list_any (λ u. asks q u) ts ≡ true → q < n) → q < n
+    by_test true e w f = known_one n q t (or_left_false (is_unknown n t) (list_any (λ u. is_unknown n u) ts) p) e
+    by_test false e w f = f w
 
-asks_none : (script : Script) → is_unbuilt (outline_of script) ≡ false → AsksNoQuery script
-asks_none script p = λ s q. unasked_by script.sessions s q (or_left_false (list_any lists script.sessions) (list_any (λ o. evicts_uncached script.mapping o) script.schedule) p)
+known_by : (n q s : ℕ) (ds : List SessionDef) → list_any (λ d. lists_unknown n d) ds ≡ false → list_any (λ t. asks q t) (statements (slice_get ds s)) ≡ true → q < n
+known_by n q s [] p a = absurd (false≢true a)
+known_by n q zero (d ∷ ds) p a = known_in n q d.statements (or_left_false (lists_unknown n d) (list_any (λ c. lists_unknown n c) ds) p) a
+known_by n q (suc s) (d ∷ ds) p a = known_by n q s ds (or_right_false (lists_unknown n d) (list_any (λ c. lists_unknown n c) ds) p) a
+
+-- an outline has as many queries as the script
+pub as_many_said : (qs : List Query) → length (map said qs) ≡ length qs
+as_many_said qs = length-map qs said
+
+positive : (n : ℕ) → (n == 0) ≡ false → 0 < n
+positive zero p = absurd (true≢false p)
+positive (suc n) p = omega arith
 
 no_uncached : (b : Bool) → not b ≡ false → b ≡ true
 no_uncached true p = refl
@@ -78,11 +97,16 @@ limits s p =
 pub ready : (script : Script) → is_valid script ≡ true → is_unbuilt (outline_of script) ≡ false → IsBuilt script
 ready script p q =
     let l : Limits script = limits script p in
+    let n : ℕ = length (map said script.queries) in
+    let unknown : Bool = list_any (λ d. lists_unknown n d) script.sessions in
+    let uncached : Bool = list_any (λ x. evicts_uncached script.mapping x) script.schedule in
+    let rest : (unknown || uncached) ≡ false = or_right_false (script.results == 0) (unknown || uncached) q in
     record {
       entities = omega (arith, l.entities);
       sessions = omega (arith, l.sessions);
-      orders = λ i o e. all_sound script script.schedule i o (or_right_false (list_any lists script.sessions) (list_any (λ x. evicts_uncached script.mapping x) script.schedule) q) e;
-      queries = asks_none script q;
+      orders = λ i o e. all_sound script script.schedule i o (or_right_false unknown uncached rest) e;
+      results = positive script.results (or_left_false (script.results == 0) (unknown || uncached) q);
+      queries = λ s i a. subst (λ m. i < m) (as_many_said script.queries) (known_by n i s script.sessions (or_left_false unknown uncached rest) a);
     }
 
 -- every session that there is has ended

@@ -43,29 +43,43 @@ pub struct Ran<K> {
     pub journal: Journal,
 }
 
-/// Whether something of a script isn't built yet.
+/// Whether a script is one that no factory takes: without room for a result, or with a session that lists a query that isn't
+/// there, or with an order that evicts a row of an entity that isn't cached. The reader gives no such script.
+#[tactic(auto, using(crate::proofs::Ready::as_many_said))]
 pub fn is_unbuilt(script: &Script) -> bool
     ensures { result ≡ unbuilt.is_unbuilt (outline_of script.now) }
 {
-    list_queries(script.sessions.as_slice())
+    script.results == 0
+        || list_unknown(script.queries.len(), script.sessions.as_slice())
         || evict_uncached(script.mapping.as_slice(), script.schedule.as_slice())
 }
 
-/// Whether a session lists a query.
-fn list_queries(sessions: &[SessionDef]) -> bool
-    ensures { result ≡ list_any unbuilt.lists sessions.now }
+/// Whether a session lists a query that isn't there.
+fn list_unknown(queries: usize, sessions: &[SessionDef]) -> bool
+    ensures { result ≡ list_any (λ d. unbuilt.lists_unknown queries d) sessions.now }
 {
-    sessions.iter().any(|session| lists(session))
+    sessions
+        .iter()
+        .any(|session| lists_unknown(queries, session))
 }
 
-fn lists(session: &SessionDef) -> bool
-    ensures { result ≡ unbuilt.lists session.now }
+fn lists_unknown(queries: usize, session: &SessionDef) -> bool
+    ensures { result ≡ unbuilt.lists_unknown queries session.now }
 {
     session
         .statements
         .as_slice()
         .iter()
-        .any(|statement| is_list(statement))
+        .any(|statement| is_unknown(queries, statement))
+}
+
+fn is_unknown(queries: usize, statement: &Statement) -> bool
+    ensures { result ≡ unbuilt.is_unknown queries statement.now }
+{
+    match statement {
+        Statement::List { query } => query.0 as usize >= queries,
+        _ => false,
+    }
 }
 
 /// Whether an order evicts a row of an entity that isn't cached.
@@ -85,12 +99,6 @@ fn evicts_uncached(mapping: &[EntityDef], order: &Order) -> bool
         },
         _ => false,
     }
-}
-
-fn is_list(statement: &Statement) -> bool
-    ensures { result ≡ unbuilt.is_list statement.now }
-{
-    matches!(statement, Statement::List { .. })
 }
 
 /// Nothing is run.

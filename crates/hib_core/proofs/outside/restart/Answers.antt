@@ -15,7 +15,7 @@ returns-clause-run g c =
     let h = past c.args.journal.now in
     subst (λ (j : Journal). IsRun g.N.Name.script g.N.Name.from j c.restart.new.self) (sym c.in_ok-tell.ensures.grown)
     (restart_run c.laws.ensures g.N.Name.script g.N.Name.from h c.args.parts.now c.restart.new.self c.requires.run c.in_ok-tell.ensures.few
-    c.restart.ensures.store c.restart.ensures.registry c.restart.ensures.stamps c.restart.ensures.regions)
+    c.restart.ensures.store c.restart.ensures.registry c.restart.ensures.stamps c.restart.ensures.regions c.restart.ensures.results)
 
 pub returns-clause-going : goal.returns-clause-going
 returns-clause-going g c =

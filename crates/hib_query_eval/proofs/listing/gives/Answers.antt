@@ -1,33 +1,29 @@
-use Rattle.std.proofs.Common.{◌≡◌, true, map, take, drop, slice_get, sym, ◌∙◌, ap}
+use Rattle.std.proofs.Common.{◌≡◌, map, take, drop, slice_get, sym, ◌∙◌, ap}
 use Rattle.std.specs.Prelude.{pos}
-use Rattle.std.specs.List.{list_all}
 use Rattle.std.proofs.lemmas.Result.{IfOk-weaker}
 use Rattle.hib_journal.specs.Types.{Cell}
-use Rattle.hib_journal.specs.Query.{gives, selected, listed, sorted, or_false, meets}
+use Rattle.hib_journal.specs.Query.{gives, selected, listed, sorted, or_false}
 use Rattle.hib_base.specs.Tables.{Tables}
-use Rattle.hib_query_eval.proofs.Walks.{cut_rows, cut_small, all_sorted, all_small, is_small, sorted_rows}
+use Rattle.hib_query_eval.proofs.Walks.{cut_rows, sorted_rows}
 use Rattle.hib_query_eval.proofs.listing.gives.Goals as goal
 
 pub returns-in-Ids : goal.returns-in-Ids
 unfolding gives
-returns-in-Ids c fit =
+returns-in-Ids c =
     let found : Tables = listed c.args.query.now c.args.rows.now in
     let placed : map (λ r. r.now) c.in_ok-placed-in-Ids.placed.items ≡ sorted c.args.query.now.order found =
     sorted_rows (λ r. r.now) c.in_ok-placed-in-Ids.placed.items c.in_ok-met.met.items c.as_slice-in-Ids-2.result.now c.args.query.now.order c.as_slice-in-Ids.result.now found
     c.in_ok-placed-in-Ids.ensures c.as_slice-in-Ids.ensures c.as_slice-in-Ids-2.ensures.value (c.in_ok-met.ensures ∙ ap (listed c.args.query.now) c.as_slice.ensures) in
-    let small : list_all is_small (sorted c.args.query.now.order found) ≡ true =
-    all_sorted is_small c.args.query.now.order found (all_small c.args.query.now.entity (λ a. meets c.args.rows.now a.1 c.args.query.now.condition) c.args.rows.now fit) in
     IfOk-weaker c.identifiers.result _ _
     (λ l e. e
     ∙ cut_rows (λ r. r.now) (λ a. Cell.Int (pos a.0.id)) c.cut.result.now c.in_ok-placed-in-Ids.placed.items (sorted c.args.query.now.order found)
     c.args.query.now.offset c.args.query.now.limit (c.cut.ensures ∙ ap (λ xs. take c.args.query.now.limit (drop c.args.query.now.offset xs)) c.as_slice-in-Ids-3.ensures.value) placed
     ∙ sym (ap (selected c.args.query.now found) c.in-Ids.is))
-    (c.identifiers.ensures (cut_small (λ r. r.now) is_small c.cut.result.now c.in_ok-placed-in-Ids.placed.items (sorted c.args.query.now.order found)
-    c.args.query.now.offset c.args.query.now.limit (c.cut.ensures ∙ ap (λ xs. take c.args.query.now.limit (drop c.args.query.now.offset xs)) c.as_slice-in-Ids-3.ensures.value) placed small))
+    c.identifiers.ensures
 
 pub returns : goal.returns
 unfolding gives
-returns c fit =
+returns c =
     let found : Tables = listed c.args.query.now c.args.rows.now in
     let placed : map (λ r. r.now) c.in_ok-placed-in-Column.placed.items ≡ sorted c.args.query.now.order found =
     sorted_rows (λ r. r.now) c.in_ok-placed-in-Column.placed.items c.in_ok-met.met.items c.as_slice-in-Column-2.result.now c.args.query.now.order c.as_slice-in-Column.result.now found

@@ -1,6 +1,7 @@
-use Rattle.std.proofs.Common.{sym, subst}
+use Rattle.std.proofs.Common.{sym, subst, refl}
 use Rattle.hib_core.specs.Standing.{IsReady, IsAnswered, IsAskedFor}
 use Rattle.hib_core.proofs.Outcomes.{map_ok, both_ok, map_err}
+use Rattle.hib_core.proofs.QueriesServed.{look_served, keep_served, check_served}
 use Rattle.hib_core.proofs.Served.{begin_served, pre_served, stamp_served, region_served}
 use Rattle.hib_core.proofs.parts.Parts.serve.Goals as goal
 
@@ -56,3 +57,24 @@ returns-in-Stamp-clause-answered g c = λ from h n k o.
     subst (λ a. IsAnswered c.args.script.now from h c.args.session a c.stamp_after.result c.stamp_after.new.self) (sym c.in-Stamp.is)
     (stamp_served c.laws.ensures c.args.script.now from h c.args.session c.args.now c.in-Stamp.tables c.stamp_after.result c.args.self.now c.stamp_after.new.self n
     (subst (λ a. IsReady c.args.script.now from h c.args.session a c.args.self.now) c.in-Stamp.is k) c.stamp_after.ensures.reply c.stamp_after.ensures.state)
+
+pub returns-in-List-clause-err : goal.returns-in-List-clause-err
+returns-in-List-clause-err g c = map_err c.list.result _ _ c.list.ensures.err (λ p from h k. p c.args.script.now from h k)
+
+pub returns-in-Look-clause-answered : goal.returns-in-Look-clause-answered
+returns-in-Look-clause-answered g c = both_ok c.look.result _ _ _ c.look.ensures.reply c.look.ensures.state (λ r p q from h n k o.
+    subst (λ a. IsAnswered c.args.script.now from h c.args.session a r c.look.new.self) (sym c.in-Look.is)
+    (look_served c.laws.ensures c.args.script.now from h c.args.session c.in-Look.query r c.args.self.now c.look.new.self
+    (subst (λ a. IsReady c.args.script.now from h c.args.session a c.args.self.now) c.in-Look.is k) p q))
+
+pub returns-in-Keep-clause-answered : goal.returns-in-Keep-clause-answered
+returns-in-Keep-clause-answered g c = both_ok c.keep.result _ _ _ c.keep.ensures.reply c.keep.ensures.state (λ r p q from h n k o.
+    subst (λ a. IsAnswered c.args.script.now from h c.args.session a r c.keep.new.self) (sym c.in-Keep.is)
+    (keep_served c.laws.ensures c.args.script.now from h c.args.session c.in-Keep.query c.in-Keep.time c.in-Keep.list r c.args.self.now c.keep.new.self
+    (subst (λ a. IsReady c.args.script.now from h c.args.session a c.args.self.now) c.in-Keep.is k) p q))
+
+pub returns-in-Check-clause-answered : goal.returns-in-Check-clause-answered
+returns-in-Check-clause-answered g c = map_ok c.check.result _ _ c.check.ensures (λ r p from h n k o.
+    subst (λ a. IsAnswered c.args.script.now from h c.args.session a r c.args.self.now) (sym c.in-Check.is)
+    (check_served c.laws.ensures c.args.script.now from h c.args.session c.in-Check.query c.in-Check.time r c.args.self.now c.args.self.now
+    (subst (λ a. IsReady c.args.script.now from h c.args.session a c.args.self.now) c.in-Check.is k) p refl))
