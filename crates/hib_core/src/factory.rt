@@ -205,9 +205,10 @@ impl<K: Keeper, N: Name> Factory<K, N> {
     }
 
     /// Kills a session, if it is open: no act of it is due from then on, and its locks stay until their time is over. Where
-    /// memory runs out no session goes on, and the journal so far stands.
+    /// memory runs out no entry is added, and no session goes on.
     pub fn kill(&mut self, number: SessionNo) -> Result<(), AllocError>
         ensures played { OnOk result (Leads (play_order N.script (Order.Kill number)) played (past self.old.journal) (past self.new.journal)) }
+        ensures same { OnErr result (past self.new.journal ≡ past self.old.journal) }
         ensures going { OnOk result (self.old.refused ≡ false → self.new.refused ≡ false) }
         ensures refused { OnErr result (self.new.refused ≡ true) }
     {
@@ -224,11 +225,11 @@ impl<K: Keeper, N: Name> Factory<K, N> {
         killed
     }
 
-    /// Evicts a row of a cached entity from its region. Where memory runs out no session goes on, and the journal so far
-    /// stands.
+    /// Evicts a row of a cached entity from its region. Where memory runs out no entry is added, and no session goes on.
     pub fn evict(&mut self, alloc: Global, key: Key) -> Result<(), AllocError>
         requires cached { is_cached N.script key.entity ≡ true }
         ensures played { OnOk result (Leads (play_order N.script (Order.Evict key)) played (past self.old.journal) (past self.new.journal)) }
+        ensures same { OnErr result (past self.new.journal ≡ past self.old.journal) }
         ensures going { OnOk result (self.old.refused ≡ false → self.new.refused ≡ false) }
         ensures refused { OnErr result (self.new.refused ≡ true) }
     {
@@ -240,10 +241,11 @@ impl<K: Keeper, N: Name> Factory<K, N> {
         evicted
     }
 
-    /// A restart: the sessions that are open are killed, and nothing is cached, locked or stamped any more. Where memory runs
-    /// out no session goes on, and the journal so far stands.
+    /// A restart: the sessions that are open are killed, and nothing is cached, locked, stamped or kept any more. Where memory
+    /// runs out no entry is added, and no session goes on.
     pub fn restart(&mut self) -> Result<(), AllocError>
         ensures played { OnOk result (Leads (play_order N.script Order.Restart) played (past self.old.journal) (past self.new.journal)) }
+        ensures same { OnErr result (past self.new.journal ≡ past self.old.journal) }
         ensures going { OnOk result (self.old.refused ≡ false → self.new.refused ≡ false) }
         ensures refused { OnErr result (self.new.refused ≡ true) }
     {

@@ -72,6 +72,7 @@ pub fn kill<K: Keeper, N: Name>(
     ensures run { IsRun N.script N.from (past journal.new) parts.new }
     ensures going { OnOk result (IsGoing N.script N.from (past journal.new) parts.new sessions.new.items) }
     ensures played { OnOk result (Leads (play_order N.script (Order.Kill number)) played (past journal.old) (past journal.new)) }
+    ensures same { OnErr result (past journal.new ≡ past journal.old) }
 {
     laws();
     if !parts.registry.is_open(number) {
@@ -96,6 +97,7 @@ pub fn evict<K: Keeper, N: Name>(
     ensures run { IsRun N.script N.from (past journal.new) parts.new }
     ensures going { OnOk result ((xs : List Session) → IsGoing N.script N.from (past journal.old) parts.old xs → IsGoing N.script N.from (past journal.new) parts.new xs) }
     ensures played { OnOk result (Leads (play_order N.script (Order.Evict key)) played (past journal.old) (past journal.new)) }
+    ensures same { OnErr result (past journal.new ≡ past journal.old) }
 {
     laws();
     journal.reserve()?;
@@ -119,6 +121,7 @@ pub fn restart<K: Keeper, N: Name>(
     ensures run { IsRun N.script N.from (past journal.new) parts.new }
     ensures going { OnOk result (IsGoing N.script N.from (past journal.new) parts.new sessions.new.items) }
     ensures played { OnOk result (Leads (play_order N.script Order.Restart) played (past journal.old) (past journal.new)) }
+    ensures same { OnErr result (past journal.new ≡ past journal.old) }
 {
     laws();
     tell(journal, Act::Restart, Reply::Done)?;
