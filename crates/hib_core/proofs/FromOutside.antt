@@ -32,6 +32,7 @@ use Rattle.hib_core.proofs.Regions.{answers}
 use Rattle.hib_core.proofs.Grows.{IsServed, restarts}
 use Rattle.hib_core.proofs.Stored.{self_by, lived, reply_any}
 use Rattle.hib_core.proofs.Served.{is_of_results, unasked, results_capacity, last_le, before_now, regions_step, region_same, region_other}
+use Rattle.hib_core.proofs.Going.{timely, some_is}
 use Rattle.hib_core.proofs.Playing.{leads_none}
 
 -- the sessions
@@ -216,25 +217,13 @@ emptied_all n xs ys l e f = record { all = e; each = λ m. by_test m (tested (na
 
 -- the journal, its parts and its legality
 
-timely : (h : Journal) (a : Act) (r : Reply) → IsNumbered h → length h < 2 ^ 62 → IsTimely (outside_entry h a r) h
-timely h a r n l = record {
-  positive = omega arith;
-  bounded = omega (arith, l);
-  ordered = omega (arith, last_le (λ d. true) h n);
-  in_part = omega (arith, last_le (λ d. Rattle.hib_journal.specs.Sessions.same_part (part_of a 0) d.part) h n);
-  in_session = omega (arith, last_le (λ d. Rattle.hib_journal.specs.Sessions.same_session None d.session) h n);
-}
-
-some_is : {A : Type 0} (x : Option A) (a : A) → x ≡ Some a → IsSome x
-some_is x a p = rw p refl
-
 pub goes_outside : (script : Script) (from : Origin) (h : Journal) (a : Act) (r : Reply) (x y : PartsState) → IsRun script from h x → is_outside a ≡ true → may_come script h (Some a) ≡ Some a →
     IsReply script from.tables h (outside_entry h a r) → AreParts script from (outside_entry h a r ∷ h) y → length h < 2 ^ 62 → IsRun script from (outside_entry h a r ∷ h) y
 goes_outside script from h a r x y run o m v p l = record {
   legal = (
     run.legal,
     record {
-      tick = timely h a r run.numbered l;
+      tick = timely h None 0 a r run.numbered l;
       session = some_is (due script h (outside_entry h a r)) a is_due;
       part = ap (λ z. Rattle.hib_journal.specs.Legal.part_due z 0) is_due;
       act = ap (λ z. may_come script h z) is_due ∙ m;

@@ -21,16 +21,17 @@ use Rattle.hib_core.proofs.Served.{last_le, before_now}
 use Rattle.hib_core.proofs.Grows.{has_room}
 use Rattle.hib_core.proofs.Stored.{self_by, own_self, own_other}
 
-timely : (h : Journal) (s : ℕ) (a : Act) (r : Reply) → IsNumbered h → length h < 2 ^ 62 → IsTimely (entry_of h s a r) h
-timely h s a r n l = record {
+pub timely : (h : Journal) (by : Option ℕ) (s : ℕ) (a : Act) (r : Reply) → IsNumbered h → length h < 2 ^ 62 →
+    IsTimely (record { tick = length h + 1; session = by; part = part_of a s; act = a; reply = r }) h
+timely h by s a r n l = record {
   positive = omega arith;
   bounded = omega (arith, l);
   ordered = omega (arith, last_le (λ d. true) h n);
   in_part = omega (arith, last_le (λ d. Rattle.hib_journal.specs.Sessions.same_part (part_of a s) d.part) h n);
-  in_session = omega (arith, last_le (λ d. Rattle.hib_journal.specs.Sessions.same_session (Some s) d.session) h n);
+  in_session = omega (arith, last_le (λ d. Rattle.hib_journal.specs.Sessions.same_session by d.session) h n);
 }
 
-some_is : {A : Type 0} (x : Option A) (a : A) → x ≡ Some a → IsSome x
+pub some_is : {A : Type 0} (x : Option A) (a : A) → x ≡ Some a → IsSome x
 some_is x a p = rw p refl
 
 stays : (script : Script) (h : Journal) (a : Act) → is_outside a ≡ false → may_come script h (Some a) ≡ Some a
@@ -54,7 +55,7 @@ goes_on script from h s a r x y run live p inside v l = record {
   legal = (
     run.legal,
     record {
-      tick = timely h s a r run.numbered l;
+      tick = timely h (Some s) s a r run.numbered l;
       session = some_is (due script h (entry_of h s a r)) a is_due;
       part = ap (λ z. part_due z s) is_due;
       act = ap (λ z. may_come script h z) is_due ∙ stays script h a inside;

@@ -147,16 +147,21 @@ is_all_played script mid h x y = ap is_over (ap (all []) at_once ∙ z.plays [])
     at_once : reverse h ≡ z.added ++ []
     at_once = ap reverse (z.grown ∙ append-nil (reverse z.added)) ∙ (reverse-reverse z.added ∙ sym (append-nil z.added))
 
--- a step of one session leaves what is due in the others
-pub others_more : (script : Script) (n : ℕ) (old mid new : Journal) (xs ys : List Rattle.hib_session.specs.declared.session.Session.Session) →
-    ((s : ℕ) → (n == s) ≡ false → has_next script mid s ≡ has_next script old s) → Does script n mid new xs ys → (s : ℕ) → (n == s) ≡ false → has_next script new s ≡ has_next script old s
-others_more script n old mid new xs ys f w s d = ap (λ j. has_next script j s) w.grown ∙ (not_by ∙ f s d)
-  where
-    still : own s (w.entry ∷ mid) ≡ own s mid
-    still = rw (w.by, d) refl
+-- a step of one session leaves the entries of the others, and what is due in them
+not_by : (s n : ℕ) (e : Entry) (h : Journal) → e.session ≡ Some n → (n == s) ≡ false → own s (e ∷ h) ≡ own s h
+not_by s n e h p d = rw (p, d) refl
 
-    not_by : has_next script (w.entry ∷ mid) s ≡ has_next script mid s
-    not_by = ap (λ b. not b && is_some (next script s (own s (w.entry ∷ mid)))) (killed_same s w.entry mid w.inside) ∙ ap (λ m. not (was_killed s mid) && is_some (next script s m)) still
+pub others_more : (script : Script) (n : ℕ) (old mid new : Journal) (xs ys : List Rattle.hib_session.specs.declared.session.Session.Session) →
+    ((s : ℕ) → (n == s) ≡ false → own s mid ≡ own s old) → Does script n mid new xs ys → (s : ℕ) → (n == s) ≡ false → own s new ≡ own s old
+others_more script n old mid new xs ys f w s d = ap (own s) w.grown ∙ (not_by s n w.entry mid w.by d ∙ f s d)
+
+pub stay_more : (script : Script) (n : ℕ) (old mid new : Journal) (xs ys : List Rattle.hib_session.specs.declared.session.Session.Session) →
+    ((s : ℕ) → (n == s) ≡ false → has_next script mid s ≡ has_next script old s) → Does script n mid new xs ys → (s : ℕ) → (n == s) ≡ false → has_next script new s ≡ has_next script old s
+stay_more script n old mid new xs ys f w s d = ap (λ j. has_next script j s) w.grown ∙ (same ∙ f s d)
+  where
+    same : has_next script (w.entry ∷ mid) s ≡ has_next script mid s
+    same = ap (λ b. not b && is_some (next script s (own s (w.entry ∷ mid)))) (killed_same s w.entry mid w.inside)
+        ∙ ap (λ m. not (was_killed s mid) && is_some (next script s m)) (not_by s n w.entry mid w.by d)
 
 -- the sessions so far are at their end, and so is one more
 pub over_more : (script : Script) (n : ℕ) (mid new : Journal) → ((s : ℕ) → s < n → has_next script mid s ≡ false) → has_next script new n ≡ false →

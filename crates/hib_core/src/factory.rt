@@ -3,6 +3,7 @@ ghost use Rattle.std.specs.Prelude.{◌≡◌, ◌<◌, ◌≤◌, ◌^◌, ◌=
 ghost use Rattle.std.specs.List.{range_with_len};
 ghost use Rattle.hib_journal.specs.Kept.{past};
 ghost use Rattle.hib_base.specs.declared.scripts.Order.{Order};
+ghost use Rattle.hib_journal.specs.Sessions.{own};
 ghost use Rattle.hib_journal.specs.Next.{is_cached};
 ghost use Rattle.hib_journal.specs.Played.{has_next, play_steps, play_order, play_orders, play_sessions, is_played};
 ghost use Rattle.hib_journal.specs.Legal.{IsLegal};
@@ -178,7 +179,8 @@ impl<K: Keeper, N: Name> Factory<K, N> {
         requires known { number < length N.script.sessions }
         ensures played { OnOk result (Leads (play_all N.script number) played (past self.old.journal) (past self.new.journal)) }
         ensures over { OnOk result (has_next N.script (past self.new.journal) number ≡ false) }
-        ensures others { OnOk result ((s : ℕ) → (number == s) ≡ false → has_next N.script (past self.new.journal) s ≡ has_next N.script (past self.old.journal) s) }
+        ensures others { OnOk result ((s : ℕ) → (number == s) ≡ false → own s (past self.new.journal) ≡ own s (past self.old.journal)) }
+        ensures stay { OnOk result ((s : ℕ) → (number == s) ≡ false → has_next N.script (past self.new.journal) s ≡ has_next N.script (past self.old.journal) s) }
         ensures going { OnOk result (self.new.refused ≡ false) }
         ensures refused { OnErr result (self.new.refused ≡ true) }
     {

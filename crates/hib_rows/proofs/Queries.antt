@@ -1,6 +1,6 @@
 -- What queries give over seven rows: by conditions, orders, offsets, limits and selections. Book 1 is its own sequel; the sequels
 -- of 2 and 5 are missing.
-use Rattle.std.proofs.Common.{◌≡◌, ℕ, Bool, true, false, ℤ, pos, neg_ℤ, List, [], ◌∷◌, map, Some, None, Option, refl}
+use Rattle.std.proofs.Common.{Box, Global, ◌≡◌, ℕ, zero, suc, Bool, true, false, ℤ, pos, neg_ℤ, List, [], ◌∷◌, map, Some, None, Option, refl}
 use Rattle.hib_base.specs.Tables.{Tables}
 use Rattle.hib_journal.specs.Types.{Cell, Row, Op, Path, Target, Cond, Sort, Select, Query}
 use Rattle.hib_journal.specs.Room.{key}
@@ -143,9 +143,14 @@ either : (p q : _) → those (Cond.Or' p (pages Op.Eq 7) q (pages Op.Eq 412)) �
 unfolding gives
 either p q = refl
 
-thrice_negated : (p q r : _) → those (Cond.Not' p (Cond.Not' q (Cond.Not' r (pages Op.Eq 7)))) ≡ numbers (1 ∷ 2 ∷ 3 ∷ 4 ∷ 6 ∷ [])
+-- as deep as a condition may be
+abbrev pub negations : Box (Unit {0}) Global → ℕ → Cond → Cond
+negations p zero c = c
+negations p (suc n) c = Cond.Not' p (negations p n c)
+
+fifteen_negations : (p : _) → those (negations p 15 (pages Op.Eq 7)) ≡ numbers (1 ∷ 2 ∷ 3 ∷ 4 ∷ 6 ∷ [])
 unfolding gives
-thrice_negated p q r = refl
+fifteen_negations p = refl
 
 -- orders, offsets, limits and selections
 

@@ -147,7 +147,7 @@ fn play<S: Source, W: Sink, K: Keeper>(
     }
 }
 
-/// Where a script is refused of which not all is built yet.
+/// Where a script is refused that no factory takes.
 fn refusal(alloc: Global, text: &[u8]) -> Result<Refused, AllocError>
     requires { length text.now < 2 ^ 31 }
     ensures { IfOk result (λ r. r ≡ not_yet text.now) }

@@ -14,7 +14,7 @@ loop-number-preserved g c =
     record {
       played = sessions_more script n (length script.sessions) all (past c.args.self.now.journal) (past c.loop-number.self.journal) (past c.run_session.new.self.journal)
           (subst (λ (m : ℕ). n < m) c.sessions-number-end.ensures.count c.loop-number-test.true) c.loop-number.invariant.played c.in_ok-run_session.ensures.played;
-      over = over_more script n (past c.loop-number.self.journal) (past c.run_session.new.self.journal) c.loop-number.invariant.over c.in_ok-run_session.ensures.over c.in_ok-run_session.ensures.others;
+      over = over_more script n (past c.loop-number.self.journal) (past c.run_session.new.self.journal) c.loop-number.invariant.over c.in_ok-run_session.ensures.over c.in_ok-run_session.ensures.stay;
       going = λ p. c.in_ok-run_session.ensures.going;
     }
 

@@ -1,5 +1,6 @@
 use Rattle.std.proofs.Common.{◌≡◌, ℕ, ◌==◌, false}
 use Rattle.hib_journal.specs.Kept.{past}
+use Rattle.hib_journal.specs.Sessions.{own}
 use Rattle.hib_journal.specs.Played.{has_next}
 use Rattle.hib_core.specs.Factory.{left_at}
 use Rattle.hib_core.specs.Playing.{play_all, Leads}
@@ -8,7 +9,8 @@ use Rattle.hib_core.proofs.factory.Factory.run_session.Given as goal
 abbrev pub invariant-steps : goal.invariant-steps
 invariant-steps g l = record {
   played : Leads (play_all g.N.Name.script l.number) (play_all g.N.Name.script l.number) (past l.fn.self.journal) (past l.self.journal);
-  others : (s : ℕ) → (l.number == s) ≡ false → has_next g.N.Name.script (past l.self.journal) s ≡ has_next g.N.Name.script (past l.fn.self.journal) s;
+  others : (s : ℕ) → (l.number == s) ≡ false → own s (past l.self.journal) ≡ own s (past l.fn.self.journal);
+  stay : (s : ℕ) → (l.number == s) ≡ false → has_next g.N.Name.script (past l.self.journal) s ≡ has_next g.N.Name.script (past l.fn.self.journal) s;
 }
 
 abbrev pub decreases-steps : goal.decreases-steps
