@@ -2,7 +2,7 @@
 use crate::row::Row;
 use hib_base::Seq;
 use hib_outside::{Keeper, Listener, MemKeeper, MemSink, MemSource};
-use hib_top::{Status, play_words, status_line};
+use hib_top::{Ended, Status, play_words, status_line};
 use std::alloc::{AllocError, Global};
 
 /// What the top call left.
@@ -16,10 +16,10 @@ struct Came {
 }
 
 /// The line that the program prints on standard error, with its end; nothing where all is done.
-fn said(alloc: Global, status: Status) -> Result<Vec<u8>, AllocError> {
+fn said(alloc: Global, status: &Status) -> Result<Vec<u8>, AllocError> {
     match status {
         Status::Done => Ok(Vec::new(alloc)),
-        _ => Ok(status_line(alloc, &status)?.into_vec()),
+        _ => Ok(status_line(alloc, status)?.into_vec()),
     }
 }
 
@@ -31,35 +31,65 @@ fn is_line(line: &[u8], text: &str) -> bool {
     }
 }
 
-/// Runs the top call on an input as a row says, over objects in memory.
-fn play(alloc: Global, row: &Row, input: &[u8]) -> Result<Came, AllocError> {
-    let input = input.to_vec(alloc)?;
-    let source_fails = row.source_fails.as_slice().to_vec(alloc)?;
-    let sink_fails = row.sink_fails.as_slice().to_vec(alloc)?;
-    let keeper_fails = row.keeper_fails.as_slice().to_vec(alloc)?;
-    let mut source = MemSource::new(Seq::from_vec(input), Seq::from_vec(source_fails));
-    let mut sink = MemSink::new(alloc, row.room, Seq::from_vec(sink_fails))?;
-    let mut keeper = MemKeeper::new(alloc, Seq::from_vec(keeper_fails));
+/// The objects in memory that the top call works on.
+struct World {
+    source: MemSource,
+    sink: MemSink,
+    keeper: MemKeeper,
+}
+
+/// A source with these bytes, a sink and a keeper, which fail as a row says.
+fn world(alloc: Global, row: &Row, input: &[u8]) -> Result<World, AllocError> {
+    let input = Seq::from_vec(input.to_vec(alloc)?);
+    let source_fails = Seq::from_vec(row.source_fails.as_slice().to_vec(alloc)?);
+    let sink_fails = Seq::from_vec(row.sink_fails.as_slice().to_vec(alloc)?);
+    let keeper_fails = Seq::from_vec(row.keeper_fails.as_slice().to_vec(alloc)?);
+    Ok(World {
+        source: MemSource::new(input, source_fails),
+        sink: MemSink::new(alloc, row.room, sink_fails)?,
+        keeper: MemKeeper::new(alloc, keeper_fails),
+    })
+}
+
+/// Places the rows that the keeper has at first. A row may say that even this call fails; then the keeper has nothing.
+fn place(alloc: Global, keeper: &mut MemKeeper, row: &Row) {
     if !row.kept.is_empty() {
-        // A row may say that even this call fails; then the keeper has nothing.
         let _ = keeper.seed(alloc, row.kept.as_slice());
     }
-    let listeners: Vec<Box<dyn Listener>> = Vec::new(alloc);
+}
+
+/// What the top call left of the sink.
+fn left_by(
+    alloc: Global,
+    ended: &Ended<MemKeeper, Box<dyn Listener>>,
+    sink: &MemSink,
+) -> Result<Came, AllocError> {
+    Ok(Came {
+        status: u32::from(ended.status.number()),
+        says: said(alloc, &ended.status)?,
+        output: sink.bytes().to_vec(alloc)?,
+        keeps: ended.keeper.rows.len(),
+        asks: ended.keeper.asked(),
+    })
+}
+
+/// Runs the top call on an input as a row says, over objects in memory.
+fn play(alloc: Global, row: &Row, input: &[u8]) -> Result<Came, AllocError> {
+    let World {
+        mut source,
+        mut sink,
+        mut keeper,
+    } = world(alloc, row, input)?;
+    place(alloc, &mut keeper, row);
     let ended = play_words(
         alloc,
         row.words.as_slice(),
         &mut source,
         &mut sink,
         keeper,
-        listeners,
+        Vec::new(alloc),
     );
-    Ok(Came {
-        status: u32::from(ended.status.number()),
-        says: said(alloc, ended.status)?,
-        output: sink.bytes().to_vec(alloc)?,
-        keeps: ended.keeper.rows.len(),
-        asks: ended.keeper.asked(),
-    })
+    left_by(alloc, &ended, &sink)
 }
 
 /// How many bytes two texts have in common at their heads.
@@ -140,9 +170,14 @@ fn told(alloc: Global, name: &str, what: &str) -> Result<String, AllocError> {
 }
 
 /// The line of a row: that it is as it must be, or the first thing that differs.
-pub fn report(alloc: Global, row: Row) -> Result<String, AllocError> {
+pub fn report(alloc: Global, row: &Row) -> Result<String, AllocError> {
+    let came = play(alloc, row, row.input.as_slice())?;
+    judged(alloc, row, &came)
+}
+
+/// The line of a row of which this came.
+fn judged(alloc: Global, row: &Row, came: &Came) -> Result<String, AllocError> {
     let asks = row.asks;
-    let came = play(alloc, &row, row.input.as_slice())?;
     let name = row.name.as_str();
     if came.status != row.status {
         return format!(in alloc;
@@ -158,7 +193,7 @@ pub fn report(alloc: Global, row: Row) -> Result<String, AllocError> {
             row.says.as_str()
         );
     }
-    if let Some(fault) = output_fault(alloc, &row, &came)? {
+    if let Some(fault) = output_fault(alloc, row, came)? {
         return told(alloc, name, fault.as_str());
     }
     if came.keeps != row.keeps as usize {
@@ -176,7 +211,7 @@ pub fn report(alloc: Global, row: Row) -> Result<String, AllocError> {
         );
     }
     if !row.ends.is_empty()
-        && let Some(size) = wrong_front(alloc, &row)?
+        && let Some(size) = wrong_front(alloc, row)?
     {
         return format!(in alloc; "row {name}: its first {size} bytes end otherwise");
     }

@@ -4,11 +4,12 @@
 #![tactic(auto)]
 
 mod check;
+mod evicting;
 mod row;
 mod stale;
 
 use row::Row;
-use std::alloc::Global;
+use std::alloc::{AllocError, Global};
 use std::io;
 
 /// The word and the text behind it.
@@ -17,7 +18,7 @@ fn split(line: &str) -> (&str, &str) {
 }
 
 /// Runs a row and prints its line.
-fn finish(rt: &impl Print, alloc: Global, row: Row) -> io::Result<()> {
+fn finish(rt: &impl Print, alloc: Global, row: &Row) -> io::Result<()> {
     let report = check::report(alloc, row)?;
     rt.println(report.as_str())
 }
@@ -33,33 +34,54 @@ fn complain(rt: &impl Print, line: &str) -> io::Result<()> {
     println!(rt; "no form: {line}")
 }
 
+/// Begins a row of this name, and runs the one before it.
+fn begin(rt: &impl Print, alloc: Global, open: &mut Option<Row>, name: &str) -> io::Result<()> {
+    let row = Row::new(alloc, name)?;
+    match open.replace(row) {
+        Some(done) => finish(rt, alloc, &done),
+        None => Ok(()),
+    }
+}
+
+/// Takes a line of the description of the row that is open, and answers whether it has a form.
+fn describe(
+    alloc: Global,
+    open: &mut Option<Row>,
+    word: &str,
+    text: &str,
+) -> Result<bool, AllocError> {
+    match open {
+        Some(row) => row.take(alloc, word, text),
+        None => Ok(false),
+    }
+}
+
+/// Takes a line of the input.
+fn take_line(rt: &impl Print, alloc: Global, open: &mut Option<Row>, line: &str) -> io::Result<()> {
+    let (word, text) = split(line);
+    if word.is_empty() || word == "#" {
+        return Ok(());
+    }
+    if word == "row" {
+        return begin(rt, alloc, open, text);
+    }
+    if describe(alloc, open, word, text)? {
+        return Ok(());
+    }
+    complain(rt, line)
+}
+
 fn main(rt: HostRuntime) -> io::Result<()> {
     let alloc = rt.alloc();
     let mut open: Option<Row> = None;
     for line in rt.lines(alloc) {
         let line = line?;
-        let (word, text) = split(line.as_str());
-        if word.is_empty() || word == "#" {
-            continue;
-        }
-        if word == "row" {
-            let row = Row::new(alloc, text)?;
-            if let Some(done) = open.replace(row) {
-                finish(&rt, alloc, done)?;
-            }
-            continue;
-        }
-        let taken = match &mut open {
-            Some(row) => row.take(alloc, word, text)?,
-            None => false,
-        };
-        if !taken {
-            complain(&rt, line.as_str())?;
-        }
+        take_line(&rt, alloc, &mut open, line.as_str())?;
     }
-    if let Some(row) = open {
+    if let Some(row) = &open {
         finish(&rt, alloc, row)?;
     }
     tell(&rt, "stale-version", stale::finds_the_version(alloc)?)?;
-    tell(&rt, "stale-row", stale::finds_no_row(alloc)?)
+    tell(&rt, "stale-row", stale::finds_no_row(alloc)?)?;
+    tell(&rt, "long-eviction", evicting::leaves_in_turn(alloc)?)
 }

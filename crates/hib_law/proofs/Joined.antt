@@ -1,6 +1,6 @@
 -- All claims together.
-use Rattle.hib_journal.specs.Types.{Script}
-use Rattle.std.proofs.Common.{Some, None, Option}
+use Rattle.hib_journal.specs.Types.{Key, Strategy, Script}
+use Rattle.std.proofs.Common.{◌≡◌, [], ◌∷◌, Some, None, Option}
 use Rattle.hib_base.specs.Tables.{Tables}
 use Rattle.hib_journal.specs.Sessions.{Journal}
 use Rattle.hib_journal.specs.Legal.{IsLegal}
@@ -12,6 +12,24 @@ use Rattle.hib_law.proofs.Misses.{have_causes}
 use Rattle.hib_law.proofs.Stored.{items_old}
 use Rattle.hib_law.proofs.ReadOnly.{items_given}
 use Rattle.hib_law.proofs.Ids.{locks_kept}
+use Rattle.hib_journal.specs.Next.{strategy}
+use Rattle.hib_law.specs.Prefixes.{AtEachPrefix}
+use Rattle.hib_law.specs.Seen.{AreSeenSafe, AreFloorsLow}
+use Rattle.hib_law.proofs.Floors.{floors_le}
+use Rattle.hib_law.proofs.Whole.{coherent}
+
+-- what holds of every legal journal holds at each prefix of one
+each : (P : Journal → Type 0) (script : Script) (start : Tables) → ((g : Journal) → IsLegal script (Some start) g → P g) →
+    (h : Journal) → IsLegal script (Some start) h → AtEachPrefix P h
+each P script start f [] l = f [] l
+each P script start f (e ∷ h) l = (f (e ∷ h) l, each P script start f h l.0)
+
+pub seen_safe : (script : Script) (start : Tables) (k : Key) → strategy script k.entity ≡ Strategy.ReadWrite →
+    (h : Journal) → IsLegal script (Some start) h → AtEachPrefix (AreSeenSafe script start k) h
+seen_safe script start k p = each (AreSeenSafe script start k) script start (λ g l w s b o n. (coherent script start k p g l w).safe s b o n)
+
+pub floors_low : (script : Script) (start : Tables) (h : Journal) → IsLegal script (Some start) h → AtEachPrefix AreFloorsLow h
+floors_low script start = each AreFloorsLow script start (λ g l. floors_le script start g l)
 
 pub coheres : (script : Script) (start : Tables) (h : Journal) → IsLegal script (Some start) h → Coheres script start h
 coheres script start h l = record {
@@ -22,6 +40,8 @@ coheres script start h l = record {
   items = λ k. items_old script start k h l;
   given = λ k p. items_given script start k p h l;
   locks = λ k p. locks_kept script start k p h l;
+  safe = λ k p. seen_safe script start k p h l;
+  floors = floors_low script start h l;
   steps = λ s. steps_in_order script (Some start) s h l;
 }
 

@@ -8,6 +8,7 @@ use Rattle.hib_journal.specs.Room.{may_leave}
 use Rattle.hib_journal.specs.Regions.{is_below, free_answer, put}
 use Rattle.hib_journal.specs.Coherence.{remove}
 use Rattle.hib_law.specs.Locks.{holder_count}
+use Rattle.hib_law.specs.Seen.{IsGuarded, IsNotBelow, IsSafe}
 use Rattle.hib_journal.proofs.Slots.{touched, freed}
 
 -- lists of sessions
@@ -15,22 +16,6 @@ use Rattle.hib_journal.proofs.Slots.{touched, freed}
 abbrev pub In : ℕ → List ℕ → Type 0
 In s [] = ⊥
 In s (x ∷ xs) = (x ≡ s) ⊎ In s xs
-
--- what a key's slot says to a session of this time: that a put of an older row will be refused
-abbrev pub IsGuarded : ℕ → Slot → Type 0
-IsGuarded t Slot.Vacant = ⊥
-IsGuarded t (Slot.Item r stamp) = t < stamp
-IsGuarded t (Slot.Lock l) = (0 < l.holders) ⊎ (t < l.unlock)
-
--- an item's version is not below w, nor is that of a lock that is not shared
-abbrev pub IsNotBelow : Option ℕ → Slot → Type 0
-IsNotBelow w Slot.Vacant = Unit {0}
-IsNotBelow w (Slot.Item r stamp) = is_below r.version w ≡ false
-IsNotBelow w (Slot.Lock l) = l.shared ≡ false → is_below l.version w ≡ false
-
--- a row that a session of this time has seen: it is committed still, or a put of it will be refused
-abbrev pub IsSafe : ℕ → Row → Slot → Option Row → Type 0
-IsSafe t b slot row = (row ≡ Some b) ⊎ (IsGuarded t slot × IsNotBelow b.version slot)
 
 -- a row that was committed once: the committed one is not below it, or the key was deleted
 pub record IsGrown (b : Row) (row : Option Row) (deleted : Bool) : Type 0 where

@@ -11,6 +11,7 @@ use Rattle.hib_law.specs.Items.{IsItemOld, IsItemGiven}
 use Rattle.hib_law.specs.Hits.{AreHitsTrue}
 use Rattle.hib_law.specs.Misses.{HasCause}
 use Rattle.hib_law.specs.Locks.{AreLocksKept}
+use Rattle.hib_law.specs.Seen.{AreSeenSafe, AreFloorsLow}
 
 pub record Coheres (script : Script) (start : Tables) (h : Journal) : Type 0 where
   -- a sound read-write key: its item is the committed row, and so is a hit of it
@@ -26,6 +27,10 @@ pub record Coheres (script : Script) (start : Tables) (h : Journal) : Type 0 whe
   pub given : (k : Key) → strategy script k.entity ≡ Strategy.ReadOnly → AtEachPrefix (IsItemGiven start k) h
   -- the lock of a sound read-write key is held by those who took it, and is given back
   pub locks : (k : Key) → strategy script k.entity ≡ Strategy.ReadWrite → AreLocksKept script k h
+  -- what an open session has seen of a sound read-write key is committed still, or a put of it will be refused
+  pub safe : (k : Key) → strategy script k.entity ≡ Strategy.ReadWrite → AtEachPrefix (AreSeenSafe script start k) h
+  -- the floor of an open session is no later than the time of any open session
+  pub floors : AtEachPrefix AreFloorsLow h
   -- each session's entries are the acts of its plan, each once and in order
   pub steps : (s : ℕ) → InOrder (plan_of script s) (own s h)
 

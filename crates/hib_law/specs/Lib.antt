@@ -4,4 +4,5 @@ pub mod Items
 pub mod Hits
 pub mod Locks
 pub mod Misses
+pub mod Seen
 pub mod Law

@@ -18,6 +18,7 @@ ghost use Rattle.hib_law.specs.Locks.{AreLocksKept};
 ghost use Rattle.hib_law.specs.Misses.{HasCause};
 ghost use Rattle.hib_law.specs.Prefixes.{AtEachEntry, AtEachPrefix};
 ghost use Rattle.hib_law.specs.Rows.{IsFindAnswered, IsKeyCoherent};
+ghost use Rattle.hib_law.specs.Seen.{AreFloorsLow, AreSeenSafe};
 ghost use Rattle.std.specs.Prelude.{◌≡◌, ℕ, Option, Some};
 
 /// Each session's entries are the acts of its plan, each once and in order, whether the rows at the start are told or not.
@@ -65,6 +66,18 @@ pub fn read_only_items_were_given()
 pub fn locks_are_kept()
     ensures locks { (script : Script) (start : Tables) (k : Key) → strategy script k.entity ≡ Strategy.ReadWrite →
         (h : Journal) → IsLegal script (Some start) h → AreLocksKept script k h }
+{}
+
+/// At every entry, of a read-write key that is sound there: what an open session has seen of it is committed still, or the key's
+/// slot will refuse a put of it. The claims on rows follow from this.
+pub fn seen_rows_are_safe()
+    ensures safe { (script : Script) (start : Tables) (k : Key) → strategy script k.entity ≡ Strategy.ReadWrite →
+        (h : Journal) → IsLegal script (Some start) h → AtEachPrefix (AreSeenSafe script start k) h }
+{}
+
+/// At every entry the floor of an open session is no later than the time of any open session.
+pub fn floors_are_low()
+    ensures floors { (script : Script) (start : Tables) (h : Journal) → IsLegal script (Some start) h → AtEachPrefix AreFloorsLow h }
 {}
 
 /// The whole law: all of the above, of every legal journal over told rows. Where the rows at the start aren't told, the order

@@ -8,8 +8,6 @@ mod items;
 pub mod laws;
 mod nonstrict;
 mod read_only;
-#[cfg(test)]
-mod tests;
 
 pub use nonstrict::NonstrictRegion;
 pub use read_only::ReadOnlyRegion;

@@ -3,8 +3,6 @@
 
 mod laws;
 mod results;
-#[cfg(test)]
-mod tests;
 
 pub use laws::{
     no_results_stand_for_no_entry, other_acts_leave_results, results_answer, results_follow,

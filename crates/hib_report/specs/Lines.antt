@@ -245,7 +245,7 @@ actor_text script None = codes "-"
 actor_text script (Some s) = session_text script s
 
 -- the line of an entry, without its end
-abbrev pub line_text : Script → Entry → List ℕ
+unfoldable pub line_text : Script → Entry → List ℕ
 line_text script e =
     decimal e.tick ++ codes " " ++ actor_text script e.session ++ codes " " ++ part_text e.part ++ codes " "
     ++ act_text script e.act ++ codes " = " ++ reply_text script e.reply

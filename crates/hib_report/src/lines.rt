@@ -21,6 +21,7 @@ fn put_actor(
     }
 }
 
+#[tactic(auto, unfolding(crate::specs::Lines::line_text))]
 fn put_line(
     alloc: Global,
     out: &mut Vec<u8>,

@@ -6,7 +6,5 @@
 pub mod laws;
 mod region;
 mod slots;
-#[cfg(test)]
-mod tests;
 
 pub use region::RwRegion;

@@ -3,8 +3,6 @@
 
 mod laws;
 mod stamps;
-#[cfg(test)]
-mod tests;
 
 pub use laws::{
     other_acts_leave_stamps, stamps_answer, stamps_follow, unstamped_stand_for_no_entry,
