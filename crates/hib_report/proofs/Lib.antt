@@ -1,2 +1,5 @@
 pub mod Passed
+pub mod Watched
+pub mod Keys
+pub mod Fated
 pub mod Whole

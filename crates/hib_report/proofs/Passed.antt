@@ -4,22 +4,15 @@ use Rattle.std.specs.List.{list_any}
 use Rattle.std.proofs.Math.Bool.{or_comm, or-false}
 use Rattle.std.proofs.lemmas.List.{take_more, reverse-append}
 use Rattle.std.proofs.lemmas.List.Folds.{list_any-append}
-use Rattle.hib_journal.specs.Types.{Key, Change, Outcome, Act, Reply, Put, Unlocked, Inserted, Updated, Evicted, Entry}
-use Rattle.hib_journal.specs.Sessions.{Journal, is_by, is_open, was_killed, own, changes_after, changes_in, changes, is_restart}
+use Rattle.hib_journal.specs.Types.{Key, Change, Act, Reply, Put, Unlocked, Inserted, Updated, Evicted, Entry}
+use Rattle.hib_journal.specs.Sessions.{Journal, is_by, own, changes_after, changes_in, changes, is_restart}
 use Rattle.hib_journal.specs.Slot.{Touch, History, touch_here, touch, with_touch, history}
-use Rattle.hib_journal.specs.Sound.{all_calm, was_deleted, was_reused}
-use Rattle.hib_journal.specs.Legal.{outcome}
+use Rattle.hib_journal.specs.Sound.{all_calm}
 use Rattle.hib_report.specs.Unsound.{leaves_calm, is_upset}
 
 -- one more entry stands at the head of the past
 pub reverse_more : {X : Type 0} → (xs : List X) (i : ℕ) (d : X) → i < length xs → reverse (take (i + 1) xs) ≡ get_or xs i d ∷ reverse (take i xs)
 reverse_more xs i d h = ap reverse (take_more xs i d h) ∙ reverse-append (take i xs) (get_or xs i d ∷ [])
-
--- what is known of a session behind these entries
-pub record Fated (s : ℕ) (past : Journal) (opened killed : Bool) (last : Outcome) : Type 0 where
-  pub open_now : opened ≡ is_open s past
-  pub killed_once : killed ≡ was_killed s past
-  pub last_outcome : last ≡ outcome (own s past)
 
 -- only an answer that says so upsets a key
 pub calm_here : (a : Act) (r : Reply) → leaves_calm (touch_here a r) ≡ not (is_upset a r)
@@ -46,12 +39,6 @@ calm_by false (Some t) now s = refl
 -- a key is calm behind one more entry
 pub calm_more : (k : Key) (e : Entry) (h : Journal) → all_calm (history k (e ∷ h)) ≡ cond (is_restart e.act) true (leaves_calm (touch k e) && all_calm (history k h))
 calm_more k e h = calm_by (is_restart e.act) (touch k e) e.tick (history k h)
-
--- what is known of a key behind these entries
-pub record Sounded (k : Key) (past : Journal) (calm deleted reused : Bool) : Type 0 where
-  pub calm_now : calm ≡ all_calm (history k past)
-  pub deleted_once : deleted ≡ was_deleted k past
-  pub reused_once : reused ≡ was_reused k past
 
 -- what a session wrote, behind one more entry of any session
 

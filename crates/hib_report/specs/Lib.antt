@@ -1,4 +1,6 @@
 pub mod Lines
 pub mod Counts
 pub mod Unsound
+pub mod Watch
+pub mod Fates
 pub mod Report

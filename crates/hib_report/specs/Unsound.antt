@@ -4,12 +4,11 @@ use Rattle.std.specs.List.{filter}
 use Rattle.std.specs.Fmt.{decimal}
 use Rattle.hib_base.specs.Keys.{same_key, is_before}
 use Rattle.hib_base.specs.Tables.{key_of}
-use Rattle.hib_journal.specs.Types.{Key, Change, Strategy, Act, Put, Unlocked, Updated, Reply, Script}
+use Rattle.hib_journal.specs.Types.{Key, Strategy, Act, Put, Unlocked, Updated, Reply, Script}
 use Rattle.hib_journal.specs.Sessions.{Journal}
 use Rattle.hib_journal.specs.Slot.{Touch, key_in}
 use Rattle.hib_journal.specs.Next.{strategy}
-use Rattle.hib_journal.specs.Sound.{is_calm, is_sound, inserts_key, deletes_key}
-use Rattle.hib_report.specs.declared.unsound.Edit.{Edit}
+use Rattle.hib_journal.specs.Sound.{is_calm, is_sound}
 use Rattle.hib_report.specs.Lines.{key_text}
 
 -- the key that an act names, in a region or in a change of the store
@@ -67,8 +66,3 @@ is_upset _ reply = false
 abbrev pub leaves_calm : Option Touch → Bool
 leaves_calm None = true
 leaves_calm (Some t) = is_calm t
-
--- whether a change inserts the key, or deletes it
-abbrev pub is_edit : Edit → Key → Change → Bool
-is_edit Edit.Inserts k c = inserts_key k c
-is_edit Edit.Deletes k c = deletes_key k c

@@ -3,6 +3,7 @@
 
 mod acts;
 mod counts;
+mod fates;
 mod lines;
 mod regions;
 mod replies;
@@ -10,6 +11,7 @@ mod report;
 mod rows;
 mod sessions;
 mod unsound;
+mod watch;
 
 pub use lines::line;
 pub use report::{summary, text};
