@@ -2,3 +2,4 @@ pub mod Queries
 pub mod Statements
 pub mod Scan
 pub mod Valid
+pub mod Named

@@ -6,9 +6,9 @@ ghost use Rattle.hib_script.specs.Outline.{outline_of};
 ghost use Rattle.hib_script.specs.Script as order;
 ghost use Rattle.hib_script.specs.Unbuilt as unbuilt;
 ghost use Rattle.hib_script.specs.Valid.{is_valid};
-ghost use Rattle.std.specs.Prelude.{◌≡◌, ◌+◌, ◌^◌, ◌<◌, length, drop, IfOk, IfErr, true};
+ghost use Rattle.std.specs.Prelude.{◌≡◌, ◌+◌, ◌^◌, ◌<◌, length, drop, IfOk, IfErr, OnOk, Ok, true};
 
-use crate::drafts::{Draft, closed, start};
+use crate::drafts::{Draft, close, start};
 use crate::errors::{LineError, ScriptError};
 use crate::lines::after_line;
 use crate::places::Place;
@@ -55,7 +55,7 @@ fn read_draft(alloc: Global, lines: &[Line]) -> Result<Draft, ScriptError>
 {
     let mut draft = start(alloc);
     for i in 0..lines.len() {
-        draft = step(alloc, draft, is_column_next(lines, i), &lines[i])?;
+        step(alloc, &mut draft, is_column_next(lines, i), &lines[i])?;
     }
     Ok(draft)
 }
@@ -69,13 +69,13 @@ fn is_column_next(lines: &[Line], i: usize) -> bool
     i + 1 < lines.len() && begins(lines[i + 1].tokens.as_slice(), b"column")
 }
 
-/// The draft behind one more line.
-fn step(alloc: Global, draft: Draft, followed: bool, line: &Line) -> Result<Draft, ScriptError>
-    ensures step { IfOk result (λ d. order.step (reader_of draft) followed line.now ≡ Ok (reader_of d)) }
-    ensures refused { IfErr result (order.IsWhere (order.step (reader_of draft) followed line.now)) }
+/// Takes one more line into a draft.
+fn step(alloc: Global, draft: &mut Draft, followed: bool, line: &Line) -> Result<(), ScriptError>
+    ensures step { OnOk result (order.step (reader_of draft.old) followed line.now ≡ Ok (reader_of draft.new)) }
+    ensures refused { IfErr result (order.IsWhere (order.step (reader_of draft.old) followed line.now)) }
 {
     match after_line(alloc, draft, followed, line.tokens.as_slice()) {
-        Ok(draft) => Ok(draft),
+        Ok(()) => Ok(()),
         Err(LineError::Fault(kind)) => Err(refused(line.line, kind)),
         Err(LineError::NoMemory) => Err(ScriptError::NoMemory),
     }
@@ -86,29 +86,19 @@ fn ended(count: u32, draft: Draft) -> Result<Script, ScriptError>
     ensures script { IfOk result (λ s. order.ended_at count (reader_of draft) draft.place ≡ Ok (outline_of s)) }
     ensures refused { IfErr result (order.IsWhere (order.ended_at count (reader_of draft) draft.place)) }
 {
-    let Draft {
-        script,
-        entity,
-        statements,
-        place,
-    } = draft;
-    match place {
+    match draft.place {
         Place::Start => Err(refused(1, Kind::Header)),
-        Place::Behind(last) => Ok(finished(Draft {
-            script,
-            entity,
-            statements,
-            place: Place::Behind(last),
-        })?),
+        Place::Behind(_) => Ok(finished(draft)?),
         Place::Session(_) | Place::Schedule => Err(unfinished(count)),
     }
 }
 
 /// The script of a draft.
-fn finished(draft: Draft) -> Result<Script, AllocError>
+fn finished(mut draft: Draft) -> Result<Script, AllocError>
     ensures { IfOk result (λ s. outline_of s ≡ order.finished (reader_of draft)) }
 {
-    let Draft { script, .. } = closed(draft)?;
+    close(&mut draft)?;
+    let Draft { script, .. } = draft;
     Ok(script)
 }
 
