@@ -1,1 +1,3 @@
 pub mod Scan
+pub mod Places
+pub mod Columns

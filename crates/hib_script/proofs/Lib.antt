@@ -1,5 +1,6 @@
 pub mod Queries
 pub mod Statements
 pub mod Scan
+pub mod Keeps
 pub mod Valid
 pub mod Named

@@ -1,9 +1,9 @@
--- Every script that is read keeps the limits.
-use Rattle.std.proofs.Common.{◌≡◌, ℕ, ◌+◌, ◌≤◌, Bool, true, false, cond, nat_lt, nat_le, List, [], ◌∷◌, ◌++◌, length, pos, Option, Some, None, codes, Result, Ok, Err, refl, arith, lit≤, length-append, IfOk}
+-- Every script that is read is valid: each line keeps what is kept.
+use Rattle.std.proofs.Common.{◌≡◌, ℕ, ◌+◌, ◌≤◌, Bool, true, false, cond, ◌&&◌, nat_lt, nat_le, List, [], ◌∷◌, ◌++◌, length, map, pos, Option, Some, None, codes, Result, Ok, Err, refl, sym, ◌∙◌, subst, arith, lit≤, length-append, IfOk}
 use Rattle.std.specs.List.{list_all}
 use Rattle.std.proofs.lemmas.List.{length-map}
 use Rattle.std.proofs.lemmas.List.Sums.{sum_by-append}
-use Rattle.std.proofs.lemmas.Bool.{and_parts, and_from, ltb-true, le-leb}
+use Rattle.std.proofs.lemmas.Bool.{and_parts, and_from, ltb-true, leb-true, false≢true}
 use Rattle.std.proofs.lemmas.Bool.Decides.{nat_tests}
 use Rattle.hib_base.specs.declared.numbers.Key.{Key}
 use Rattle.hib_base.specs.declared.refusals.Kind.{Kind}
@@ -11,79 +11,59 @@ use Rattle.hib_base.specs.declared.refusals.Refused.{Refused}
 use Rattle.hib_base.specs.declared.rows.Row.{Row}
 use Rattle.hib_base.specs.declared.scripts.EntityDef.{EntityDef}
 use Rattle.hib_base.specs.declared.scripts.Order.{Order}
+use Rattle.hib_base.specs.declared.scripts.Query.{Query}
 use Rattle.hib_base.specs.declared.scripts.Script.{Script}
 use Rattle.hib_base.specs.declared.scripts.SessionDef.{SessionDef}
 use Rattle.hib_base.specs.declared.scripts.Statement.{Statement}
-use Rattle.hib_criteria.specs.Query.{Said, query_of}
+use Rattle.hib_base.specs.Scripts.{are_over, is_over, statement_count, is_known, lists_known, is_declared, evicts_cached}
+use Rattle.hib_base.specs.Valid.{are_columns, is_valid}
+use Rattle.hib_base.specs.Words.{has_name, is_reserved}
+use Rattle.hib_base.proofs.Gives.{Gives, gives_cond, given}
+use Rattle.hib_base.proofs.Lists.{all_more, some_none}
+use Rattle.hib_base.proofs.Valid.{Rules}
+use Rattle.hib_base.proofs.Valid as rules
+use Rattle.hib_criteria.specs.Query.{Said, said, query_of, parts_in}
+use Rattle.hib_criteria.proofs.Declared.{is_said_below, are_nodes_below, targets_below, IsLineOf, line_of}
 use Rattle.hib_lex.specs.Words.{begins}
 use Rattle.hib_lex.specs.declared.lexer.Token.{Token}
 use Rattle.hib_lex.specs.declared.lines.Line.{Line}
 use Rattle.hib_lex.specs.declared.lines.Lines.{Lines}
-use Rattle.hib_mapping.specs.Declarations.{is_entity_line, entity_kind, entity_of}
+use Rattle.hib_mapping.specs.Declarations.{is_entity_line, entity_kind, entity_of, is_column_line, column_kind, with_column}
 use Rattle.hib_mapping.specs.Mapping.{begins_column, with_open}
-use Rattle.hib_mapping.specs.Parts.{is_a_word, is_a_number, word_of, is_within, number_up_to, is_reserved}
+use Rattle.hib_mapping.specs.Parts.{is_a_word, is_a_number, word_of, is_within, number_up_to}
+use Rattle.hib_mapping.proofs.Columns.{new_columns, column_more}
 use Rattle.hib_statements.specs.Orders.{order_of}
 use Rattle.hib_statements.specs.Rows.{row_of}
 use Rattle.hib_statements.specs.Statements.{statement_of}
+use Rattle.hib_statements.proofs.Known.{statement_known, order_cached}
 use Rattle.hib_script.specs.Lines as lines
 use Rattle.hib_script.specs.Lines.{Reader, After}
 use Rattle.hib_script.specs.Outline.{Outline, outline_of, query_names}
 use Rattle.hib_script.specs.Places.{may_follow, part_of}
 use Rattle.hib_script.specs.Script.{at_line, step, reading, finished, ended_at, ended, start, script_in}
-use Rattle.hib_script.specs.Valid.{statement_count, is_over, is_valid}
 use Rattle.hib_script.specs.declared.errors.ScriptError.{ScriptError}
 use Rattle.hib_script.specs.declared.places.Part.{Part}
 use Rattle.hib_script.specs.declared.places.Place.{Place}
-
--- ---- what holds of the value in an `Ok`
-abbrev pub Gives : {A E : Type 0} → Result A E → (A → Type 0) → Type 0
-Gives (Err k) P = Unit {0}
-Gives (Ok x) P = P x
-
-gives_cond : {A E : Type 0} (b : Bool) (x y : Result A E) (P : A → Type 0) → (b ≡ true → Gives x P) → (b ≡ false → Gives y P) → Gives (cond b x y) P
-gives_cond true x y P f g = f refl
-gives_cond false x y P f g = g refl
-
-given : {A E : Type 0} (x : Result A E) (P : A → Type 0) (a : A) → Gives x P → x ≡ Ok a → P a
-given (Err k) P a g e = absurd (cc)
-given (Ok b) P a g e = let same : b ≡ a = cc in rw (← same) g
-
--- ---- what a reader keeps
-abbrev pub open_sessions : Place → ℕ
-open_sessions (Place.Session s) = 1
-open_sessions _ = 0
-
-abbrev pub open_statements : Place → ℕ
-open_statements (Place.Session s) = length s.statements
-open_statements _ = 0
-
-pub record Keeps (r : Reader) : Type 0 where
-  pub timeout : r.outline.timeout ≤ 1000000
-  pub results : r.outline.results ≤ 100000
-  pub entities : length (with_open r.outline.mapping r.entity) ≤ 64
-  pub rows : length r.outline.rows ≤ 10000
-  pub queries : length r.outline.queries ≤ 1000
-  pub sessions : length r.outline.sessions + open_sessions r.place ≤ 1000
-  pub counted : statement_count r.outline.sessions + open_statements r.place ≤ r.statements
-  pub statements : r.statements ≤ 5000
-  pub orders : length r.outline.schedule ≤ 20000
-  pub over : list_all is_over r.outline.sessions ≡ true
+use Rattle.hib_script.proofs.Keeps.{IsLimit, HasEntities, HasRows, HasQueries, HasSessions, HasOrders, Keeps, one_more_length, linked, entities_closed, rows_closed, queries_closed, orders_closed, sessions_more}
 
 pub start_keeps : Keeps start
 start_keeps = record {
-  timeout = lit≤ tt;
-  results = lit≤ tt;
-  entities = lit≤ tt;
-  rows = lit≤ tt;
-  queries = lit≤ tt;
-  sessions = lit≤ tt;
-  counted = lit≤ tt;
-  statements = lit≤ tt;
-  orders = lit≤ tt;
-  over = refl;
+  timeout = (lit≤ tt, lit≤ tt);
+  results = (lit≤ tt, lit≤ tt);
+  entities = record { few = lit≤ tt; closed = refl; opened = tt };
+  rows = record { few = lit≤ tt };
+  queries = record { few = lit≤ tt; below = refl };
+  sessions = record { few = lit≤ tt; counted = lit≤ tt; statements = lit≤ tt; over = refl; known = refl; opened = refl };
+  orders = record { few = lit≤ tt; cached = refl };
 }
 
 -- behind a line of a part, or within the schedule, no session is open
+none_open : (n : ℕ) (ss : List SessionDef) (p : Place) (count : ℕ) → HasSessions n ss p count → HasSessions n ss Place.Schedule count
+none_open n ss p count k = record { few = omega (arith, k.few); counted = omega (arith, k.counted); statements = k.statements; over = k.over; known = k.known; opened = refl }
+
+behind_open : (n : ℕ) (ss : List SessionDef) (p : Place) (q : Part) (count : ℕ) → HasSessions n ss p count → HasSessions n ss (Place.Behind q) count
+behind_open n ss p q count k = record { few = omega (arith, k.few); counted = omega (arith, k.counted); statements = k.statements; over = k.over; known = k.known; opened = refl }
+
 behind_keeps : (r : Reader) (p : Part) → Keeps r → Keeps (lines.behind p r)
 behind_keeps r p k = record {
   timeout = k.timeout;
@@ -91,11 +71,8 @@ behind_keeps r p k = record {
   entities = k.entities;
   rows = k.rows;
   queries = k.queries;
-  sessions = omega (arith, k.sessions);
-  counted = omega (arith, k.counted);
-  statements = k.statements;
+  sessions = behind_open (length r.outline.queries) r.outline.sessions r.place p r.statements k.sessions;
   orders = k.orders;
-  over = k.over;
 }
 
 schedule_keeps : (r : Reader) → Keeps r → Keeps (lines.at Place.Schedule r)
@@ -105,46 +82,42 @@ schedule_keeps r k = record {
   entities = k.entities;
   rows = k.rows;
   queries = k.queries;
-  sessions = omega (arith, k.sessions);
-  counted = omega (arith, k.counted);
-  statements = k.statements;
+  sessions = none_open (length r.outline.queries) r.outline.sessions r.place r.statements k.sessions;
   orders = k.orders;
-  over = k.over;
 }
 
 closed_keeps : (r : Reader) → Keeps r → Keeps (lines.closed r)
 closed_keeps r k = record {
   timeout = k.timeout;
   results = k.results;
-  entities = k.entities;
-  rows = k.rows;
-  queries = k.queries;
+  entities = entities_closed r.outline.mapping r.entity k.entities;
+  rows = rows_closed r.outline.mapping r.entity r.outline.rows k.rows;
+  queries = queries_closed r.outline.mapping r.entity r.outline.queries k.queries;
   sessions = k.sessions;
-  counted = k.counted;
-  statements = k.statements;
-  orders = k.orders;
-  over = k.over;
+  orders = orders_closed r.outline.mapping r.entity r.outline.schedule k.orders;
 }
 
 -- ---- header, timeout, results
 header_keeps : (r : Reader) (ts : List Token) → Keeps r → Gives (lines.header_line r ts) Keeps
 header_keeps r ts k = gives_cond (lines.is_header ts) (Ok (lines.behind Part.Header r)) (Err Kind.Header) Keeps (λ _. behind_keeps r Part.Header k) (λ _. tt)
 
-number_small : (most : ℕ) (t : Token) → number_up_to most t ≤ most
-number_small most (Token.Number (pos n)) = elim (nat_le n most) as (λ b. nat_le n most ≡ b → cond b n 0 ≤ most) [ true ↦ λ e. grind (arith, nat_tests) | false ↦ λ e. omega arith ] refl
-number_small most t = omega arith
+number_from : (most : ℕ) (t : Token) → is_within 1 most t ≡ true → IsLimit most (number_up_to most t)
+number_from most (Token.Number (pos n)) h =
+    let both : (nat_le 1 n ≡ true) × (nat_le n most ≡ true) = and_parts (nat_le 1 n) (nat_le n most) h in
+    subst (λ b. IsLimit most (cond b n 0)) (sym both.1) (leb-true 1 n both.0, leb-true n most both.1)
+number_from most _ h = absurd (false≢true h)
 
-within_small : (most : ℕ) (t : Token) → Gives (lines.number_within most t) (λ n. n ≤ most)
-within_small most t =
-    gives_cond (is_a_number t) (cond (is_within 1 most t) (Ok (number_up_to most t)) (Err Kind.Number)) (Err Kind.Words) (λ n. n ≤ most)
-    (λ _. gives_cond (is_within 1 most t) (Ok (number_up_to most t)) (Err Kind.Number) (λ n. n ≤ most) (λ _. number_small most t) (λ _. tt))
+within_limits : (most : ℕ) (t : Token) → Gives (lines.number_within most t) (IsLimit most)
+within_limits most t =
+    gives_cond (is_a_number t) (cond (is_within 1 most t) (Ok (number_up_to most t)) (Err Kind.Number)) (Err Kind.Words) (IsLimit most)
+    (λ _. gives_cond (is_within 1 most t) (Ok (number_up_to most t)) (Err Kind.Number) (IsLimit most) (λ h. number_from most t h) (λ _. tt))
     (λ _. tt)
 
-line_small : (most : ℕ) (ts : List Token) → Gives (lines.number_line most ts) (λ n. n ≤ most)
-line_small most (a ∷ t ∷ []) = within_small most t
-line_small most ts = tt
+line_limits : (most : ℕ) (ts : List Token) → Gives (lines.number_line most ts) (IsLimit most)
+line_limits most (a ∷ t ∷ []) = within_limits most t
+line_limits most _ = tt
 
-timeout_keeps : (r : Reader) (n : Result ℕ Kind) → Keeps r → Gives n (λ n. n ≤ 1000000) → Gives (lines.with_timeout r n) Keeps
+timeout_keeps : (r : Reader) (n : Result ℕ Kind) → Keeps r → Gives n (IsLimit 1000000) → Gives (lines.with_timeout r n) Keeps
 timeout_keeps r (Err e) k h = tt
 timeout_keeps r (Ok n) k h = behind_keeps (record r { outline = record r.outline { timeout = n } }) Part.Timeout (record {
   timeout = h;
@@ -153,13 +126,10 @@ timeout_keeps r (Ok n) k h = behind_keeps (record r { outline = record r.outline
   rows = k.rows;
   queries = k.queries;
   sessions = k.sessions;
-  counted = k.counted;
-  statements = k.statements;
   orders = k.orders;
-  over = k.over;
 })
 
-results_keep : (r : Reader) (n : Result ℕ Kind) → Keeps r → Gives n (λ n. n ≤ 100000) → Gives (lines.with_results r n) Keeps
+results_keep : (r : Reader) (n : Result ℕ Kind) → Keeps r → Gives n (IsLimit 100000) → Gives (lines.with_results r n) Keeps
 results_keep r (Err e) k h = tt
 results_keep r (Ok n) k h = behind_keeps (record r { outline = record r.outline { results = n } }) Part.Results (record {
   timeout = k.timeout;
@@ -168,10 +138,7 @@ results_keep r (Ok n) k h = behind_keeps (record r { outline = record r.outline 
   rows = k.rows;
   queries = k.queries;
   sessions = k.sessions;
-  counted = k.counted;
-  statements = k.statements;
   orders = k.orders;
-  over = k.over;
 })
 
 -- ---- entities and columns
@@ -182,14 +149,11 @@ no_kind w None e = refl
 room_below : (n : ℕ) (k : Kind) (o : Option Kind) → cond (nat_le 64 n) (Some k) o ≡ None → n + 1 ≤ 64
 room_below n k o e = elim (nat_le 64 n) as (λ b. nat_le 64 n ≡ b → cond b (Some k) o ≡ None → n + 1 ≤ 64) [ true ↦ λ h f. absurd (cc) | false ↦ λ h f. grind (arith, nat_tests) ] refl e
 
-one_more_length : {A : Type 0} (xs : List A) (x : A) → length (xs ++ x ∷ []) ≡ length xs + 1
-one_more_length xs x = length-append xs (x ∷ [])
-
 entity_room : (m : List EntityDef) (followed : Bool) (ts : List Token) → length m ≤ 64 → entity_kind m followed ts ≡ None → length (with_open m (entity_of ts)) ≤ 64
 entity_room m followed (a ∷ name ∷ strategy ∷ versioning ∷ capacity ∷ []) h e = rw (length-append) (room_below (length m) Kind.ManyEntities _ e)
 entity_room m followed ts h e = h
 
-with_entity : (r : Reader) (e : Option EntityDef) → Keeps r → length (with_open r.outline.mapping e) ≤ 64 → Keeps (record r { entity = e })
+with_entity : (r : Reader) (e : Option EntityDef) → Keeps r → HasEntities r.outline.mapping e → Keeps (record r { entity = e })
 with_entity r e k h = record {
   timeout = k.timeout;
   results = k.results;
@@ -197,15 +161,14 @@ with_entity r e k h = record {
   rows = k.rows;
   queries = k.queries;
   sessions = k.sessions;
-  counted = k.counted;
-  statements = k.statements;
   orders = k.orders;
-  over = k.over;
 }
 
 new_entity_keeps : (r : Reader) (ts : List Token) (kind : Option Kind) → Keeps r → (kind ≡ None → length (with_open r.outline.mapping (entity_of ts)) ≤ 64) → Gives (lines.new_entity r ts kind) Keeps
 new_entity_keeps r ts (Some x) k h = tt
-new_entity_keeps r ts None k h = behind_keeps (record r { entity = entity_of ts }) Part.Entities (with_entity r (entity_of ts) k (h refl))
+new_entity_keeps r ts None k h =
+    behind_keeps (record r { entity = entity_of ts }) Part.Entities
+    (with_entity r (entity_of ts) k (record { few = h refl; closed = k.entities.closed; opened = new_columns (length r.outline.mapping + 1) ts }))
 
 entity_keeps : (r : Reader) (followed : Bool) (ts : List Token) → length r.outline.mapping ≤ 64 → Keeps r → Gives (lines.entity_line r followed ts) Keeps
 entity_keeps r followed ts h k =
@@ -214,15 +177,24 @@ entity_keeps r followed ts h k =
     (λ e. entity_room r.outline.mapping followed ts h (no_kind (lines.name_in ts) (entity_kind r.outline.mapping followed ts) e)))
     (λ _. tt)
 
-columns_keep : (r : Reader) (d : EntityDef) (e : Result EntityDef Kind) → Keeps r → r.entity ≡ Some d → Gives (lines.with_columns r e) Keeps
-columns_keep r d (Err x) k h = tt
-columns_keep r d (Ok e) k h =
-    let before : length (with_open r.outline.mapping (Some d)) ≤ 64 = rw h at k.entities in
-    with_entity r (Some e) k (simp length-append (simp length-append at before))
+columns_unless_keep : (m : List EntityDef) (d : EntityDef) (ts : List Token) (o : Option Kind) → are_columns (length m + 1) d ≡ true → (o ≡ None → column_kind m d ts ≡ None) →
+    Gives (lines.columns_unless m d ts o) (λ e. are_columns (length m + 1) e ≡ true)
+columns_unless_keep m d ts (Some x) h f = tt
+columns_unless_keep m d ts None h f = column_more m d ts h (f refl)
 
-column_keeps : (r : Reader) (e : Option EntityDef) (ts : List Token) → Keeps r → r.entity ≡ e → Gives (lines.column_line r e ts) Keeps
+more_columns_keep : (m : List EntityDef) (d : EntityDef) (ts : List Token) → are_columns (length m + 1) d ≡ true → Gives (lines.more_columns m d ts) (λ e. are_columns (length m + 1) e ≡ true)
+more_columns_keep m d ts h =
+    gives_cond (is_column_line ts) (lines.columns_unless m d ts (lines.or_reserved (lines.name_in ts) (column_kind m d ts))) (Err Kind.Words) (λ e. are_columns (length m + 1) e ≡ true)
+    (λ _. columns_unless_keep m d ts (lines.or_reserved (lines.name_in ts) (column_kind m d ts)) h (λ e. no_kind (lines.name_in ts) (column_kind m d ts) e)) (λ _. tt)
+
+columns_keep : (r : Reader) (d : EntityDef) (e : Result EntityDef Kind) → Keeps r → HasEntities r.outline.mapping (Some d) → Gives e (λ x. are_columns (length r.outline.mapping + 1) x ≡ true) → Gives (lines.with_columns r e) Keeps
+columns_keep r d (Err x) k h g = tt
+columns_keep r d (Ok e) k h g =
+    with_entity r (Some e) k (record { few = rw (one_more_length r.outline.mapping e) (rw (one_more_length r.outline.mapping d) at h.few); closed = h.closed; opened = g })
+
+column_keeps : (r : Reader) (e : Option EntityDef) (ts : List Token) → Keeps r → HasEntities r.outline.mapping e → Gives (lines.column_line r e ts) Keeps
 column_keeps r None ts k h = tt
-column_keeps r (Some d) ts k h = columns_keep r d (lines.more_columns r.outline.mapping d ts) k h
+column_keeps r (Some d) ts k h = columns_keep r d (lines.more_columns r.outline.mapping d ts) k h (more_columns_keep r.outline.mapping d ts h.opened)
 
 -- ---- rows and queries
 row_keeps : (r : Reader) (x : Result (Key × Row) Kind) → Keeps r → Gives (lines.with_row r x) Keeps
@@ -234,19 +206,16 @@ row_keeps r (Ok x) k =
       timeout = k.timeout;
       results = k.results;
       entities = k.entities;
-      rows = simp length-append (omega (arith, ltb-true (length r.outline.rows) 10000 h));
+      rows = record { few = simp length-append (omega (arith, ltb-true (length r.outline.rows) 10000 h)) };
       queries = k.queries;
       sessions = k.sessions;
-      counted = k.counted;
-      statements = k.statements;
       orders = k.orders;
-      over = k.over;
     }))
     (λ _. tt)
 
-query_keeps : (r : Reader) (taken : Bool) (x : Result Said Kind) → Keeps r → Gives (lines.with_query r taken x) Keeps
-query_keeps r taken (Err e) k = tt
-query_keeps r taken (Ok q) k =
+query_keeps : (r : Reader) (taken : Bool) (x : Result Said Kind) (ts : List Token) → Keeps r → Gives x (IsLineOf r.outline.mapping ts) → Gives (lines.with_query r taken x) Keeps
+query_keeps r taken (Err e) ts k g = tt
+query_keeps r taken (Ok q) ts k g =
     let more : Reader = record r { outline = record r.outline { queries = r.outline.queries ++ q ∷ [] } } in
     let room : After = cond (nat_lt (length r.outline.queries) 1000) (Ok (lines.behind Part.Queries more)) (Err Kind.Many) in
     gives_cond taken (Err Kind.Taken) room Keeps (λ _. tt)
@@ -256,12 +225,12 @@ query_keeps r taken (Ok q) k =
       results = k.results;
       entities = k.entities;
       rows = k.rows;
-      queries = simp length-append (omega (arith, ltb-true (length r.outline.queries) 1000 h));
-      sessions = k.sessions;
-      counted = k.counted;
-      statements = k.statements;
+      queries = record {
+        few = simp length-append (omega (arith, ltb-true (length r.outline.queries) 1000 h));
+        below = all_more (λ (q : Said). is_said_below (length r.outline.mapping) q) r.outline.queries q k.queries.below g.below;
+      };
+      sessions = sessions_more r.outline.queries q r.outline.sessions r.place r.statements k.sessions;
       orders = k.orders;
-      over = k.over;
     }))
     (λ _. tt))
 
@@ -273,11 +242,15 @@ begun_keeps r w h k = record {
   entities = k.entities;
   rows = k.rows;
   queries = k.queries;
-  sessions = omega (arith, ltb-true (length r.outline.sessions) 1000 h);
-  counted = omega (arith, k.counted);
-  statements = k.statements;
+  sessions = record {
+    few = omega (arith, ltb-true (length r.outline.sessions) 1000 h);
+    counted = omega (arith, k.sessions.counted);
+    statements = k.sessions.statements;
+    over = k.sessions.over;
+    known = k.sessions.known;
+    opened = refl;
+  };
   orders = k.orders;
-  over = k.over;
 }
 
 new_session_keeps : (r : Reader) (w : List ℕ) → Keeps r → Gives (lines.new_session r w) Keeps
@@ -292,71 +265,86 @@ session_keeps r (a ∷ name ∷ []) k =
     gives_cond (is_a_word name) (lines.new_session r (word_of name)) (Err Kind.Words) Keeps (λ _. new_session_keeps r (word_of name) k) (λ _. tt)
 session_keeps r ts k = tt
 
-one_more_keeps : (r : Reader) (s : SessionDef) (t : Statement) → nat_lt r.statements 5000 ≡ true → Keeps r → r.place ≡ Place.Session s → Keeps (lines.one_more r s t)
-one_more_keeps r s t h k e = record {
-  timeout = k.timeout;
-  results = k.results;
-  entities = k.entities;
-  rows = k.rows;
-  queries = k.queries;
-  sessions = rw e at k.sessions;
-  counted = simp length-append (omega (arith, rw e at k.counted));
-  statements = omega (arith, ltb-true r.statements 5000 h);
-  orders = k.orders;
-  over = k.over;
-}
+-- the sessions with the open one, at a place that is known
+at_place : (r : Reader) (s : SessionDef) → Keeps r → r.place ≡ Place.Session s → HasSessions (length r.outline.queries) r.outline.sessions (Place.Session s) r.statements
+at_place r s k e = subst (λ p. HasSessions (length r.outline.queries) r.outline.sessions p r.statements) e k.sessions
 
-statement_keeps : (r : Reader) (s : SessionDef) (t : Result Statement Kind) → Keeps r → r.place ≡ Place.Session s → Gives (lines.with_statement r s t) Keeps
-statement_keeps r s (Err x) k e = tt
-statement_keeps r s (Ok t) k e =
-    let open_still : After = cond (lines.are_over s.statements) (Err Kind.Last) (Ok (lines.one_more r s t)) in
+one_more_keeps : (r : Reader) (s : SessionDef) (t : Statement) → nat_lt r.statements 5000 ≡ true → Keeps r → r.place ≡ Place.Session s → is_known (length r.outline.queries) t ≡ true → Keeps (lines.one_more r s t)
+one_more_keeps r s t h k e i =
+    let o : HasSessions (length r.outline.queries) r.outline.sessions (Place.Session s) r.statements = at_place r s k e in
+    record {
+      timeout = k.timeout;
+      results = k.results;
+      entities = k.entities;
+      rows = k.rows;
+      queries = k.queries;
+      sessions = record {
+        few = o.few;
+        counted = simp length-append (omega (arith, o.counted));
+        statements = omega (arith, ltb-true r.statements 5000 h);
+        over = o.over;
+        known = o.known;
+        opened = all_more (λ (t : Statement). is_known (length r.outline.queries) t) s.statements t o.opened i;
+      };
+      orders = k.orders;
+    }
+
+statement_keeps : (r : Reader) (s : SessionDef) (t : Result Statement Kind) → Keeps r → r.place ≡ Place.Session s → Gives t (λ x. is_known (length r.outline.queries) x ≡ true) → Gives (lines.with_statement r s t) Keeps
+statement_keeps r s (Err x) k e g = tt
+statement_keeps r s (Ok t) k e g =
+    let open_still : After = cond (are_over s.statements) (Err Kind.Last) (Ok (lines.one_more r s t)) in
     gives_cond (nat_lt r.statements 5000) open_still (Err Kind.Many) Keeps
-    (λ h. gives_cond (lines.are_over s.statements) (Err Kind.Last) (Ok (lines.one_more r s t)) Keeps (λ _. tt) (λ _. one_more_keeps r s t h k e))
+    (λ h. gives_cond (are_over s.statements) (Err Kind.Last) (Ok (lines.one_more r s t)) Keeps (λ _. tt) (λ _. one_more_keeps r s t h k e g))
     (λ _. tt)
 
 count_more : (ss : List SessionDef) (s : SessionDef) → statement_count (ss ++ s ∷ []) ≡ statement_count ss + length s.statements
 count_more ss s = rw (sum_by-append) (omega arith)
 
-over_more : (ss : List SessionDef) (s : SessionDef) → list_all is_over ss ≡ true → is_over s ≡ true → list_all is_over (ss ++ s ∷ []) ≡ true
-over_more [] s h e = and_from (is_over s) true e refl
-over_more (t ∷ ss) s h e =
-    let parts : (is_over t ≡ true) × (list_all is_over ss ≡ true) = and_parts (is_over t) (list_all is_over ss) h in
-    and_from (is_over t) (list_all is_over (ss ++ s ∷ [])) parts.0 (over_more ss s parts.1 e)
-
-with_session_keeps : (r : Reader) (s : SessionDef) → lines.are_over s.statements ≡ true → Keeps r → r.place ≡ Place.Session s → Keeps (lines.with_session r s)
-with_session_keeps r s h k e = record {
-  timeout = k.timeout;
-  results = k.results;
-  entities = k.entities;
-  rows = k.rows;
-  queries = k.queries;
-  sessions = simp length-append (omega (arith, rw e at k.sessions));
-  counted = rw (count_more r.outline.sessions s) (omega (arith, rw e at k.counted));
-  statements = k.statements;
-  orders = k.orders;
-  over = over_more r.outline.sessions s k.over h;
-}
+with_session_keeps : (r : Reader) (s : SessionDef) → are_over s.statements ≡ true → Keeps r → r.place ≡ Place.Session s → Keeps (lines.with_session r s)
+with_session_keeps r s h k e =
+    let o : HasSessions (length r.outline.queries) r.outline.sessions (Place.Session s) r.statements = at_place r s k e in
+    record {
+      timeout = k.timeout;
+      results = k.results;
+      entities = k.entities;
+      rows = k.rows;
+      queries = k.queries;
+      sessions = record {
+        few = simp length-append (omega (arith, o.few));
+        counted = rw (count_more r.outline.sessions s) (omega (arith, o.counted));
+        statements = o.statements;
+        over = all_more (λ (d : SessionDef). is_over d) r.outline.sessions s o.over h;
+        known = all_more (λ (d : SessionDef). lists_known (length r.outline.queries) d) r.outline.sessions s o.known o.opened;
+        opened = refl;
+      };
+      orders = k.orders;
+    }
 
 end_keeps : (r : Reader) (s : SessionDef) (ts : List Token) → Keeps r → r.place ≡ Place.Session s → Gives (lines.end_line r s ts) Keeps
 end_keeps r s ts k e =
-    let over_now : After = cond (lines.are_over s.statements) (Ok (lines.with_session r s)) (Err Kind.Last) in
+    let over_now : After = cond (are_over s.statements) (Ok (lines.with_session r s)) (Err Kind.Last) in
     gives_cond (lines.is_alone ts) over_now (Err Kind.Words) Keeps
-    (λ _. gives_cond (lines.are_over s.statements) (Ok (lines.with_session r s)) (Err Kind.Last) Keeps (λ h. with_session_keeps r s h k e) (λ _. tt))
+    (λ _. gives_cond (are_over s.statements) (Ok (lines.with_session r s)) (Err Kind.Last) Keeps (λ h. with_session_keeps r s h k e) (λ _. tt))
     (λ _. tt)
+
+statement_given : (r : Reader) (ts : List Token) → Gives (statement_of r.outline.mapping (query_names r.outline.queries) ts) (λ x. is_known (length r.outline.queries) x ≡ true)
+statement_given r ts =
+    subst (λ n. Gives (statement_of r.outline.mapping (query_names r.outline.queries) ts) (λ x. is_known n x ≡ true)) (length-map r.outline.queries (λ q. q.name))
+    (statement_known r.outline.mapping (query_names r.outline.queries) ts)
 
 in_session_keeps : (r : Reader) (s : SessionDef) (ts : List Token) → Keeps r → r.place ≡ Place.Session s → Gives (lines.in_session r s ts) Keeps
 in_session_keeps r s ts k e =
     gives_cond (begins (codes "end") ts) (lines.end_line r s ts) (lines.statement_line r s ts) Keeps
     (λ _. end_keeps r s ts k e)
-    (λ _. statement_keeps r s (statement_of r.outline.mapping (query_names r.outline.queries) ts) k e)
+    (λ _. statement_keeps r s (statement_of r.outline.mapping (query_names r.outline.queries) ts) k e (statement_given r ts))
 
 -- ---- the schedule
 schedule_line_keeps : (r : Reader) (ts : List Token) → Keeps r → Gives (lines.schedule_line r ts) Keeps
 schedule_line_keeps r ts k = gives_cond (lines.is_alone ts) (Ok (lines.at Place.Schedule r)) (Err Kind.Words) Keeps (λ _. schedule_keeps r k) (λ _. tt)
 
-order_keeps : (r : Reader) (o : Result Order Kind) → Keeps r → Gives (lines.with_order r o) Keeps
-order_keeps r (Err x) k = tt
-order_keeps r (Ok o) k =
+order_keeps : (r : Reader) (o : Result Order Kind) → Keeps r → Gives o (λ x. evicts_cached r.outline.mapping x ≡ true) → Gives (lines.with_order r o) Keeps
+order_keeps r (Err x) k g = tt
+order_keeps r (Ok o) k g =
     gives_cond (nat_lt (length r.outline.schedule) 20000) (Ok (record r { outline = record r.outline { schedule = r.outline.schedule ++ o ∷ [] } })) (Err Kind.Many) Keeps
     (λ h. record {
       timeout = k.timeout;
@@ -365,10 +353,10 @@ order_keeps r (Ok o) k =
       rows = k.rows;
       queries = k.queries;
       sessions = k.sessions;
-      counted = k.counted;
-      statements = k.statements;
-      orders = simp length-append (omega (arith, ltb-true (length r.outline.schedule) 20000 h));
-      over = k.over;
+      orders = record {
+        few = simp length-append (omega (arith, ltb-true (length r.outline.schedule) 20000 h));
+        cached = all_more (λ (o : Order). evicts_cached r.outline.mapping o) r.outline.schedule o k.orders.cached g;
+      };
     })
     (λ _. tt)
 
@@ -379,16 +367,17 @@ in_schedule_keeps : (r : Reader) (ts : List Token) → Keeps r → Gives (lines.
 in_schedule_keeps r ts k =
     gives_cond (begins (codes "end") ts) (lines.schedule_end r ts) (lines.with_order r (order_of r.outline.mapping r.outline.sessions ts)) Keeps
     (λ _. schedule_end_keeps r ts k)
-    (λ _. order_keeps r (order_of r.outline.mapping r.outline.sessions ts) k)
+    (λ _. order_keeps r (order_of r.outline.mapping r.outline.sessions ts) k (order_cached r.outline.mapping r.outline.sessions ts))
 
 -- ---- each line keeps it
 part_keeps : (r : Reader) (p : Part) (followed : Bool) (ts : List Token) → length r.outline.mapping ≤ 64 → Keeps r → Gives (lines.part_line r p followed ts) Keeps
 part_keeps r Part.Header followed ts h k = tt
-part_keeps r Part.Timeout followed ts h k = timeout_keeps r (lines.number_line 1000000 ts) k (line_small 1000000 ts)
-part_keeps r Part.Results followed ts h k = results_keep r (lines.number_line 100000 ts) k (line_small 100000 ts)
+part_keeps r Part.Timeout followed ts h k = timeout_keeps r (lines.number_line 1000000 ts) k (line_limits 1000000 ts)
+part_keeps r Part.Results followed ts h k = results_keep r (lines.number_line 100000 ts) k (line_limits 100000 ts)
 part_keeps r Part.Entities followed ts h k = entity_keeps r followed ts h k
 part_keeps r Part.Rows followed ts h k = row_keeps r (row_of r.outline.mapping r.outline.rows ts) k
-part_keeps r Part.Queries followed ts h k = query_keeps r (lines.is_taken r ts) (query_of r.outline.mapping ts) k
+part_keeps r Part.Queries followed ts h k =
+    query_keeps r (lines.is_taken r ts) (query_of r.outline.mapping ts) ts k (line_of r.outline.mapping ts (linked r.outline.mapping k.entities.closed))
 part_keeps r Part.Sessions followed ts h k = session_keeps r ts k
 part_keeps r Part.Schedule followed ts h k = schedule_line_keeps r ts k
 
@@ -396,13 +385,13 @@ next_keeps : (r : Reader) (last : Part) (next : Option Part) (followed : Bool) (
 next_keeps r last None followed ts k = tt
 next_keeps r last (Some p) followed ts k =
     gives_cond (may_follow last p) (lines.part_line (lines.closed r) p followed ts) (Err Kind.Line) Keeps
-    (λ _. part_keeps (lines.closed r) p followed ts k.entities (closed_keeps r k))
+    (λ _. part_keeps (lines.closed r) p followed ts k.entities.few (closed_keeps r k))
     (λ _. tt)
 
 behind_part_keeps : (r : Reader) (last : Part) (followed : Bool) (ts : List Token) → Keeps r → Gives (lines.behind_part r last followed ts) Keeps
 behind_part_keeps r last followed ts k =
     gives_cond (begins (codes "column") ts) (lines.column_line r r.entity ts) (lines.next_part r last (part_of ts) followed ts) Keeps
-    (λ _. column_keeps r r.entity ts k refl)
+    (λ _. column_keeps r r.entity ts k k.entities)
     (λ _. next_keeps r last (part_of ts) followed ts k)
 
 line_keeps : (r : Reader) (p : Place) (followed : Bool) (ts : List Token) → Keeps r → r.place ≡ p → Gives (lines.line_at r p followed ts) Keeps
@@ -423,33 +412,16 @@ reading_keeps (Ok r) (l ∷ ls) g =
     reading_keeps (step r (begins_column ls) l) ls (at_keeps l (lines.after_line r (begins_column ls) l.tokens) (line_keeps r r.place (begins_column ls) l.tokens g refl))
 
 -- ---- the script at the end
-pub record IsKept (o : Outline) : Type 0 where
-  pub timeout : o.timeout ≤ 1000000
-  pub results : o.results ≤ 100000
-  pub entities : length o.mapping ≤ 64
-  pub rows : length o.rows ≤ 10000
-  pub queries : length o.queries ≤ 1000
-  pub sessions : length o.sessions ≤ 1000
-  pub statements : statement_count o.sessions ≤ 5000
-  pub orders : length o.schedule ≤ 20000
-  pub over : list_all is_over o.sessions ≡ true
+abbrev at_end : Outline → ℕ → Reader
+at_end o n = record { outline = o; entity = None; statements = n; place = Place.Schedule }
 
-kept : (r : Reader) → Keeps r → IsKept (finished r)
-kept r k = record {
-  timeout = k.timeout;
-  results = k.results;
-  entities = k.entities;
-  rows = k.rows;
-  queries = k.queries;
-  sessions = omega (arith, k.sessions);
-  statements = omega (arith, k.counted, k.statements);
-  orders = k.orders;
-  over = k.over;
-}
+record IsKept (o : Outline) : Type 0 where
+  statements : ℕ
+  keeps : Keeps (at_end o statements)
 
 ended_at_kept : (n : ℕ) (r : Reader) (p : Place) → Keeps r → Gives (ended_at n r p) IsKept
 ended_at_kept n r Place.Start k = tt
-ended_at_kept n r (Place.Behind last) k = kept r k
+ended_at_kept n r (Place.Behind last) k = record { statements = r.statements; keeps = schedule_keeps (lines.closed r) (closed_keeps r k) }
 ended_at_kept n r (Place.Session s) k = tt
 ended_at_kept n r Place.Schedule k = tt
 
@@ -461,17 +433,40 @@ script_kept : (x : Result Lines Refused) → Gives (script_in x) IsKept
 script_kept (Err x) = tt
 script_kept (Ok l) = ended_kept l.count (reading (Ok start) l.lines) (reading_keeps (Ok start) l.lines start_keeps)
 
+declared_one : (s : Script) (q : Query) → is_said_below (length s.mapping) (said q) ≡ true → is_declared s q ≡ true
+declared_one s q h =
+    let both : (nat_lt q.entity (length s.mapping) ≡ true) × (are_nodes_below (length s.mapping) (parts_in q.condition) ≡ true) =
+    and_parts (nat_lt q.entity (length s.mapping)) (are_nodes_below (length s.mapping) (parts_in q.condition)) h in
+    and_from (nat_lt q.entity (length s.mapping)) _ both.0 (targets_below (length s.mapping) q.condition both.1)
+
+declared_all : (s : Script) (qs : List Query) → list_all (λ q. is_said_below (length s.mapping) q) (map said qs) ≡ true → list_all (λ q. is_declared s q) qs ≡ true
+declared_all s [] h = refl
+declared_all s (q ∷ qs) h =
+    let both : (is_said_below (length s.mapping) (said q) ≡ true) × (list_all (λ q. is_said_below (length s.mapping) q) (map said qs) ≡ true) =
+    and_parts (is_said_below (length s.mapping) (said q)) (list_all (λ q. is_said_below (length s.mapping) q) (map said qs)) h in
+    and_from (is_declared s q) (list_all (λ q. is_declared s q) qs) (declared_one s q both.0) (declared_all s qs both.1)
+
 valid : (s : Script) → IsKept (outline_of s) → is_valid s ≡ true
-valid s k =
-    let queries : length s.queries ≤ 1000 = rw (length-map) at k.queries in
-    let h8 = and_from (nat_le (length s.schedule) 20000) (list_all is_over s.sessions) (le-leb (length s.schedule) 20000 k.orders) k.over in
-    let h7 = and_from (nat_le (statement_count s.sessions) 5000) _ (le-leb (statement_count s.sessions) 5000 k.statements) h8 in
-    let h6 = and_from (nat_le (length s.sessions) 1000) _ (le-leb (length s.sessions) 1000 k.sessions) h7 in
-    let h5 = and_from (nat_le (length s.queries) 1000) _ (le-leb (length s.queries) 1000 queries) h6 in
-    let h4 = and_from (nat_le (length s.rows) 10000) _ (le-leb (length s.rows) 10000 k.rows) h5 in
-    let h3 = and_from (nat_le (length s.mapping) 64) _ (le-leb (length s.mapping) 64 k.entities) h4 in
-    let h2 = and_from (nat_le s.results 100000) _ (le-leb s.results 100000 k.results) h3 in
-    and_from (nat_le s.timeout 1000000) _ (le-leb s.timeout 1000000 k.timeout) h2
+valid s i =
+    let k : Keeps (at_end (outline_of s) i.statements) = i.keeps in
+    let queries : length s.queries ≤ 1000 = rw (length-map) at k.queries.few in
+    rules.valid s (record {
+      timeout_low = k.timeout.0;
+      timeout = k.timeout.1;
+      results_low = k.results.0;
+      results = k.results.1;
+      entities = k.entities.few;
+      columns = k.entities.closed;
+      rows = k.rows.few;
+      queries = queries;
+      declared = declared_all s s.queries k.queries.below;
+      sessions = omega (arith, k.sessions.few);
+      statements = omega (arith, k.sessions.counted, k.sessions.statements);
+      over = k.sessions.over;
+      known = subst (λ n. list_all (λ (d : SessionDef). lists_known n d) s.sessions ≡ true) (length-map s.queries said) k.sessions.known;
+      orders = k.orders.few;
+      cached = k.orders.cached;
+    })
 
 -- a script that lines are
 pub read_valid : (l : Lines) (x : Result Script ScriptError) → IfOk x (λ s. script_in (Ok l) ≡ Ok (outline_of s)) → IfOk x (λ s. is_valid s ≡ true)

@@ -1,4 +1,5 @@
 // The lines of sessions and of the schedule.
+ghost use Rattle.hib_base.specs.Scripts.{ends, are_over};
 ghost use Rattle.hib_base.specs.declared.refusals.Kind.{Kind};
 ghost use Rattle.hib_mapping.specs.Parts.{is_a_word, word_of};
 ghost use Rattle.hib_script.specs.Drafts.{reader_of};
@@ -132,7 +133,7 @@ fn with_statement(
 
 /// Whether a statement ends its transaction.
 fn ends_one(statement: &Statement) -> bool
-    ensures { result ≡ lines.ends_one statement.now }
+    ensures { result ≡ ends statement.now }
 {
     matches!(statement, Statement::Commit | Statement::Rollback)
 }
@@ -140,7 +141,7 @@ fn ends_one(statement: &Statement) -> bool
 /// Whether the last statement ends its transaction.
 #[tactic(auto, using(crate::proofs::Statements::over_last))]
 fn are_over(statements: &[Statement]) -> bool
-    ensures { result ≡ lines.are_over statements.now }
+    ensures { result ≡ are_over statements.now }
 {
     match statements.last() {
         Some(last) => ends_one(last),

@@ -2,3 +2,4 @@ pub mod Cells
 pub mod Digits
 pub mod Names
 pub mod RowLines
+pub mod Known
