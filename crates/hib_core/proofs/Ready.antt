@@ -18,14 +18,13 @@ known_one n q _ p a = absurd (false≢true a)
 
 known_in : (n q : ℕ) (ts : List Statement) → list_all (λ t. is_known n t) ts ≡ true → list_any (λ t. asks q t) ts ≡ true → q < n
 known_in n q [] p a = absurd (false≢true a)
-known_in n q (t ∷ ts) p a = by_test (asks q t) refl a
+known_in n q (t ∷ ts) p a =
+    let both : (is_known n t ≡ true) × (list_all (λ u. is_known n u) ts ≡ true) = and_parts (is_known n t) (list_all (λ u. is_known n u) ts) p in
+    by_test (asks q t) refl a both.0 (λ w. known_in n q ts both.1 w)
   where
-    both : (is_known n t ≡ true) × (list_all (λ u. is_known n u) ts ≡ true)
-    both = and_parts (is_known n t) (list_all (λ u. is_known n u) ts) p
-
-    by_test : (b : Bool) → asks q t ≡ b → (b || list_any (λ u. asks q u) ts) ≡ true → q < n
-    by_test true e w = known_one n q t both.0 e
-    by_test false e w = known_in n q ts both.1 w
+    by_test : (b : Bool) → asks q t ≡ b → (b || list_any (λ u. asks q u) ts) ≡ true → is_known n t ≡ true → (list_any (λ u. asks q u) ts ≡ true → q < n) → q < n
+    by_test true e w k f = known_one n q t k e
+    by_test false e w k f = f w
 
 -- the queries that a session asks are there
 known_by : (n q s : ℕ) (ds : List SessionDef) → list_all (λ d. lists_known n d) ds ≡ true → list_any (λ t. asks q t) (statements (slice_get ds s)) ≡ true → q < n
