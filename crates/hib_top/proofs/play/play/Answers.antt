@@ -5,8 +5,8 @@ use Rattle.hib_top.specs.Play.{Reads}
 use Rattle.hib_top.proofs.Complete.{played}
 use Rattle.hib_top.proofs.play.play.Goals as goal
 
-pub returns-in-Ok-clause-run : goal.returns-in-Ok-clause-run
-returns-in-Ok-clause-run g c =
+pub returns-clause-run : goal.returns-clause-run
+returns-clause-run g c =
     let reads : Reads (g.S.Source.left c.args.source.now) _ c.in-Ok.text.items (Ok (outline_of c.in-Ok-read.script)) =
     record {
       whole = c.in-Ok.ensures.bytes;
