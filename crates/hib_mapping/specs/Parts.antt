@@ -1,5 +1,5 @@
 -- What single tokens are, and what names stand for.
-use Rattle.std.specs.Prelude.{ℕ, Bool, true, false, cond, ◌&&◌, nat_le, nat_lt, List, [], pos, Option, Some, None, option_and_then, position, bytes_eq}
+use Rattle.std.specs.Prelude.{ℕ, Bool, true, false, cond, ◌&&◌, nat_le, nat_lt, List, [], ◌∷◌, pos, Option, Some, None, option_and_then, position, bytes_eq}
 pub use Rattle.hib_base.specs.Words.{is_reserved}
 use Rattle.hib_base.specs.declared.scripts.ColumnDef.{ColumnDef}
 use Rattle.hib_base.specs.declared.scripts.EntityDef.{EntityDef}
@@ -18,6 +18,11 @@ is_a_number _ = false
 abbrev pub word_of : Token → List ℕ
 word_of (Token.Word w) = w
 word_of _ = []
+
+-- the name that a line declares
+abbrev pub name_in : List Token → List ℕ
+name_in (first ∷ name ∷ ts) = word_of name
+name_in _ = []
 
 -- a number from low to high
 abbrev pub is_within : ℕ → ℕ → Token → Bool

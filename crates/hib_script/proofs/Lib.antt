@@ -3,4 +3,5 @@ pub mod Statements
 pub mod Scan
 pub mod Keeps
 pub mod Valid
+pub mod Whole
 pub mod Named

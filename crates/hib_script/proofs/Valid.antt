@@ -1,68 +1,65 @@
--- Every script that is read is valid: each line keeps what is kept.
-use Rattle.std.proofs.Common.{◌≡◌, ℕ, ◌+◌, ◌≤◌, Bool, true, false, cond, ◌&&◌, nat_lt, nat_le, List, [], ◌∷◌, ◌++◌, length, map, pos, Option, Some, None, codes, Result, Ok, Err, refl, sym, ◌∙◌, subst, arith, lit≤, length-append, IfOk}
-use Rattle.std.specs.List.{list_all}
+-- Each line of a script keeps what is kept.
+use Rattle.std.proofs.Common.{◌≡◌, ℕ, ◌+◌, ◌≤◌, Bool, true, false, cond, ◌&&◌, nat_lt, nat_le, List, [], ◌∷◌, ◌++◌, length, pos, bytes_eq, Option, Some, None, codes, Result, Ok, Err, refl, sym, ◌∙◌, subst, arith, lit≤, length-append}
+use Rattle.std.specs.Prelude.{slice_get}
+use Rattle.std.specs.List.{list_any}
 use Rattle.std.proofs.lemmas.List.{length-map}
 use Rattle.std.proofs.lemmas.List.Sums.{sum_by-append}
 use Rattle.std.proofs.lemmas.Bool.{and_parts, and_from, ltb-true, leb-true, false≢true}
 use Rattle.std.proofs.lemmas.Bool.Decides.{nat_tests}
 use Rattle.hib_base.specs.declared.numbers.Key.{Key}
 use Rattle.hib_base.specs.declared.refusals.Kind.{Kind}
-use Rattle.hib_base.specs.declared.refusals.Refused.{Refused}
 use Rattle.hib_base.specs.declared.rows.Row.{Row}
 use Rattle.hib_base.specs.declared.scripts.EntityDef.{EntityDef}
 use Rattle.hib_base.specs.declared.scripts.Order.{Order}
-use Rattle.hib_base.specs.declared.scripts.Query.{Query}
-use Rattle.hib_base.specs.declared.scripts.Script.{Script}
 use Rattle.hib_base.specs.declared.scripts.SessionDef.{SessionDef}
 use Rattle.hib_base.specs.declared.scripts.Statement.{Statement}
-use Rattle.hib_base.specs.Scripts.{are_over, is_over, statement_count, is_known, lists_known, is_declared, evicts_cached}
-use Rattle.hib_base.specs.Valid.{are_columns, is_valid}
-use Rattle.hib_base.specs.Words.{has_name, is_reserved}
-use Rattle.hib_base.proofs.Gives.{Gives, gives_cond, given}
+use Rattle.hib_base.specs.Fits.{fits_entity}
+use Rattle.hib_base.specs.Scripts.{is_row_below, are_over, is_over, statement_count, is_known, lists_known, evicts_cached}
+use Rattle.hib_base.specs.Valid.{are_columns}
+use Rattle.hib_base.specs.Words.{is_reserved, is_name, has_name}
+use Rattle.hib_base.proofs.Gives.{Gives, gives_cond}
 use Rattle.hib_base.proofs.Lists.{all_more, some_none}
-use Rattle.hib_base.proofs.Valid.{Rules}
-use Rattle.hib_base.proofs.Valid as rules
-use Rattle.hib_criteria.specs.Query.{Said, said, query_of, parts_in}
-use Rattle.hib_criteria.proofs.Declared.{is_said_below, are_nodes_below, targets_below, IsLineOf, line_of}
+use Rattle.hib_base.proofs.Names.{named_more}
+use Rattle.hib_criteria.specs.Query.{Said, query_of}
+use Rattle.hib_criteria.proofs.Declared.{is_said_below, IsLineOf, line_of}
 use Rattle.hib_lex.specs.Words.{begins}
 use Rattle.hib_lex.specs.declared.lexer.Token.{Token}
-use Rattle.hib_lex.specs.declared.lines.Line.{Line}
-use Rattle.hib_lex.specs.declared.lines.Lines.{Lines}
+use Rattle.hib_lex.proofs.Lexed.{are_lexed}
 use Rattle.hib_mapping.specs.Declarations.{is_entity_line, entity_kind, entity_of, is_column_line, column_kind, with_column}
-use Rattle.hib_mapping.specs.Mapping.{begins_column, with_open}
-use Rattle.hib_mapping.specs.Parts.{is_a_word, is_a_number, word_of, is_within, number_up_to}
-use Rattle.hib_mapping.proofs.Columns.{new_columns, column_more}
+use Rattle.hib_mapping.specs.Mapping.{with_open}
+use Rattle.hib_mapping.specs.Parts.{is_a_word, is_a_number, word_of, name_in, is_within, number_up_to}
+use Rattle.hib_mapping.proofs.Columns.{new_columns, column_more, name_from, second_lexed, entity_named, column_named, entity_fresh, same_name}
 use Rattle.hib_statements.specs.Orders.{order_of}
 use Rattle.hib_statements.specs.Rows.{row_of}
 use Rattle.hib_statements.specs.Statements.{statement_of}
+use Rattle.hib_statements.proofs.Fitting.{row_fits}
 use Rattle.hib_statements.proofs.Known.{statement_known, order_cached}
 use Rattle.hib_script.specs.Lines as lines
 use Rattle.hib_script.specs.Lines.{Reader, After}
-use Rattle.hib_script.specs.Outline.{Outline, outline_of, query_names}
+use Rattle.hib_script.specs.Outline.{query_names}
 use Rattle.hib_script.specs.Places.{may_follow, part_of}
-use Rattle.hib_script.specs.Script.{at_line, step, reading, finished, ended_at, ended, start, script_in}
-use Rattle.hib_script.specs.declared.errors.ScriptError.{ScriptError}
+use Rattle.hib_script.specs.Script.{start}
 use Rattle.hib_script.specs.declared.places.Part.{Part}
 use Rattle.hib_script.specs.declared.places.Place.{Place}
-use Rattle.hib_script.proofs.Keeps.{IsLimit, HasEntities, HasRows, HasQueries, HasSessions, HasOrders, Keeps, one_more_length, linked, entities_closed, rows_closed, queries_closed, orders_closed, sessions_more}
+use Rattle.hib_script.proofs.Keeps.{IsLimit, HasEntities, HasRows, HasQueries, HasSessions, HasOrders, Keeps, one_more_length, linked, entities_closed, rows_closed, queries_closed, orders_closed, sessions_more, query_named}
 
 pub start_keeps : Keeps start
 start_keeps = record {
   timeout = (lit≤ tt, lit≤ tt);
   results = (lit≤ tt, lit≤ tt);
-  entities = record { few = lit≤ tt; closed = refl; opened = tt };
-  rows = record { few = lit≤ tt };
-  queries = record { few = lit≤ tt; below = refl };
-  sessions = record { few = lit≤ tt; counted = lit≤ tt; statements = lit≤ tt; over = refl; known = refl; opened = refl };
+  entities = record { few = lit≤ tt; closed = refl; opened = tt; names = refl; named = tt };
+  rows = record { few = lit≤ tt; below = refl; fit = refl };
+  queries = record { few = lit≤ tt; below = refl; names = refl };
+  sessions = record { few = lit≤ tt; counted = lit≤ tt; statements = lit≤ tt; over = refl; known = refl; opened = refl; names = refl; named = tt };
   orders = record { few = lit≤ tt; cached = refl };
 }
 
 -- behind a line of a part, or within the schedule, no session is open
 none_open : (n : ℕ) (ss : List SessionDef) (p : Place) (count : ℕ) → HasSessions n ss p count → HasSessions n ss Place.Schedule count
-none_open n ss p count k = record { few = omega (arith, k.few); counted = omega (arith, k.counted); statements = k.statements; over = k.over; known = k.known; opened = refl }
+none_open n ss p count k = record { few = omega (arith, k.few); counted = omega (arith, k.counted); statements = k.statements; over = k.over; known = k.known; opened = refl; names = k.names; named = tt }
 
 behind_open : (n : ℕ) (ss : List SessionDef) (p : Place) (q : Part) (count : ℕ) → HasSessions n ss p count → HasSessions n ss (Place.Behind q) count
-behind_open n ss p q count k = record { few = omega (arith, k.few); counted = omega (arith, k.counted); statements = k.statements; over = k.over; known = k.known; opened = refl }
+behind_open n ss p q count k = record { few = omega (arith, k.few); counted = omega (arith, k.counted); statements = k.statements; over = k.over; known = k.known; opened = refl; names = k.names; named = tt }
 
 behind_keeps : (r : Reader) (p : Part) → Keeps r → Keeps (lines.behind p r)
 behind_keeps r p k = record {
@@ -75,7 +72,7 @@ behind_keeps r p k = record {
   orders = k.orders;
 }
 
-schedule_keeps : (r : Reader) → Keeps r → Keeps (lines.at Place.Schedule r)
+pub schedule_keeps : (r : Reader) → Keeps r → Keeps (lines.at Place.Schedule r)
 schedule_keeps r k = record {
   timeout = k.timeout;
   results = k.results;
@@ -86,7 +83,7 @@ schedule_keeps r k = record {
   orders = k.orders;
 }
 
-closed_keeps : (r : Reader) → Keeps r → Keeps (lines.closed r)
+pub closed_keeps : (r : Reader) → Keeps r → Keeps (lines.closed r)
 closed_keeps r k = record {
   timeout = k.timeout;
   results = k.results;
@@ -142,6 +139,14 @@ results_keep r (Ok n) k h = behind_keeps (record r { outline = record r.outline 
 })
 
 -- ---- entities and columns
+not_reserved : (w : List ℕ) (k : Option Kind) → lines.or_reserved w k ≡ None → is_reserved w ≡ false
+not_reserved w (Some k) e = absurd (some_none k e)
+not_reserved w None e = by_test (is_reserved w) e
+  where
+    by_test : (b : Bool) → cond b (Some Kind.Reserved) None ≡ None → b ≡ false
+    by_test true f = absurd (some_none Kind.Reserved f)
+    by_test false f = refl
+
 no_kind : (w : List ℕ) (k : Option Kind) → lines.or_reserved w k ≡ None → k ≡ None
 no_kind w (Some k) e = e
 no_kind w None e = refl
@@ -164,63 +169,90 @@ with_entity r e k h = record {
   orders = k.orders;
 }
 
-new_entity_keeps : (r : Reader) (ts : List Token) (kind : Option Kind) → Keeps r → (kind ≡ None → length (with_open r.outline.mapping (entity_of ts)) ≤ 64) → Gives (lines.new_entity r ts kind) Keeps
-new_entity_keeps r ts (Some x) k h = tt
-new_entity_keeps r ts None k h =
+new_entity_keeps : (r : Reader) (followed : Bool) (ts : List Token) (kind : Option Kind) → Keeps r → length r.outline.mapping ≤ 64 →
+    (kind ≡ None → (entity_kind r.outline.mapping followed ts ≡ None) × (is_name (name_in ts) ≡ true)) → Gives (lines.new_entity r ts kind) Keeps
+new_entity_keeps r followed ts (Some x) k few h = tt
+new_entity_keeps r followed ts None k few h =
+    let fine : (entity_kind r.outline.mapping followed ts ≡ None) × (is_name (name_in ts) ≡ true) = h refl in
     behind_keeps (record r { entity = entity_of ts }) Part.Entities
-    (with_entity r (entity_of ts) k (record { few = h refl; closed = k.entities.closed; opened = new_columns (length r.outline.mapping + 1) ts }))
+    (with_entity r (entity_of ts) k (record {
+      few = entity_room r.outline.mapping followed ts few fine.0;
+      closed = k.entities.closed;
+      opened = new_columns (length r.outline.mapping + 1) ts;
+      names = k.entities.names;
+      named = entity_fresh r.outline.mapping followed ts few fine.1 fine.0;
+    }))
 
-entity_keeps : (r : Reader) (followed : Bool) (ts : List Token) → length r.outline.mapping ≤ 64 → Keeps r → Gives (lines.entity_line r followed ts) Keeps
-entity_keeps r followed ts h k =
-    gives_cond (is_entity_line ts) (lines.new_entity r ts (lines.or_reserved (lines.name_in ts) (entity_kind r.outline.mapping followed ts))) (Err Kind.Words) Keeps
-    (λ _. new_entity_keeps r ts (lines.or_reserved (lines.name_in ts) (entity_kind r.outline.mapping followed ts)) k
-    (λ e. entity_room r.outline.mapping followed ts h (no_kind (lines.name_in ts) (entity_kind r.outline.mapping followed ts) e)))
+entity_keeps : (r : Reader) (followed : Bool) (ts : List Token) → length r.outline.mapping ≤ 64 → are_lexed ts ≡ true → Keeps r → Gives (lines.entity_line r followed ts) Keeps
+entity_keeps r followed ts h l k =
+    let kind : Option Kind = entity_kind r.outline.mapping followed ts in
+    gives_cond (is_entity_line ts) (lines.new_entity r ts (lines.or_reserved (name_in ts) kind)) (Err Kind.Words) Keeps
+    (λ f. new_entity_keeps r followed ts (lines.or_reserved (name_in ts) kind) k h
+    (λ e. (no_kind (name_in ts) kind e, entity_named ts f l (not_reserved (name_in ts) kind e))))
     (λ _. tt)
 
-columns_unless_keep : (m : List EntityDef) (d : EntityDef) (ts : List Token) (o : Option Kind) → are_columns (length m + 1) d ≡ true → (o ≡ None → column_kind m d ts ≡ None) →
-    Gives (lines.columns_unless m d ts o) (λ e. are_columns (length m + 1) e ≡ true)
+-- the columns of the entity, which is still of that name
+abbrev Widens : List EntityDef → EntityDef → EntityDef → Type 0
+Widens m d e = (are_columns (length m + 1) e ≡ true) × (e.name ≡ d.name)
+
+columns_unless_keep : (m : List EntityDef) (d : EntityDef) (ts : List Token) (o : Option Kind) → are_columns (length m + 1) d ≡ true →
+    (o ≡ None → (column_kind m d ts ≡ None) × (is_name (name_in ts) ≡ true)) → Gives (lines.columns_unless m d ts o) (Widens m d)
 columns_unless_keep m d ts (Some x) h f = tt
-columns_unless_keep m d ts None h f = column_more m d ts h (f refl)
+columns_unless_keep m d ts None h f = (column_more m d ts h (f refl).1 (f refl).0, same_name m d ts)
 
-more_columns_keep : (m : List EntityDef) (d : EntityDef) (ts : List Token) → are_columns (length m + 1) d ≡ true → Gives (lines.more_columns m d ts) (λ e. are_columns (length m + 1) e ≡ true)
-more_columns_keep m d ts h =
-    gives_cond (is_column_line ts) (lines.columns_unless m d ts (lines.or_reserved (lines.name_in ts) (column_kind m d ts))) (Err Kind.Words) (λ e. are_columns (length m + 1) e ≡ true)
-    (λ _. columns_unless_keep m d ts (lines.or_reserved (lines.name_in ts) (column_kind m d ts)) h (λ e. no_kind (lines.name_in ts) (column_kind m d ts) e)) (λ _. tt)
+more_columns_keep : (m : List EntityDef) (d : EntityDef) (ts : List Token) → are_lexed ts ≡ true → are_columns (length m + 1) d ≡ true → Gives (lines.more_columns m d ts) (Widens m d)
+more_columns_keep m d ts l h =
+    gives_cond (is_column_line ts) (lines.columns_unless m d ts (lines.or_reserved (name_in ts) (column_kind m d ts))) (Err Kind.Words) (Widens m d)
+    (λ f. columns_unless_keep m d ts (lines.or_reserved (name_in ts) (column_kind m d ts)) h
+    (λ e. (no_kind (name_in ts) (column_kind m d ts) e, column_named ts f l (not_reserved (name_in ts) (column_kind m d ts) e)))) (λ _. tt)
 
-columns_keep : (r : Reader) (d : EntityDef) (e : Result EntityDef Kind) → Keeps r → HasEntities r.outline.mapping (Some d) → Gives e (λ x. are_columns (length r.outline.mapping + 1) x ≡ true) → Gives (lines.with_columns r e) Keeps
+columns_keep : (r : Reader) (d : EntityDef) (e : Result EntityDef Kind) → Keeps r → HasEntities r.outline.mapping (Some d) → Gives e (Widens r.outline.mapping d) → Gives (lines.with_columns r e) Keeps
 columns_keep r d (Err x) k h g = tt
 columns_keep r d (Ok e) k h g =
-    with_entity r (Some e) k (record { few = rw (one_more_length r.outline.mapping e) (rw (one_more_length r.outline.mapping d) at h.few); closed = h.closed; opened = g })
+    with_entity r (Some e) k (record {
+      few = rw (one_more_length r.outline.mapping e) (rw (one_more_length r.outline.mapping d) at h.few);
+      closed = h.closed;
+      opened = g.0;
+      names = h.names;
+      named = subst (λ w. (is_name w ≡ true) × (list_any (λ (x : EntityDef). bytes_eq x.name w) r.outline.mapping ≡ false)) (sym g.1) h.named;
+    })
 
-column_keeps : (r : Reader) (e : Option EntityDef) (ts : List Token) → Keeps r → HasEntities r.outline.mapping e → Gives (lines.column_line r e ts) Keeps
-column_keeps r None ts k h = tt
-column_keeps r (Some d) ts k h = columns_keep r d (lines.more_columns r.outline.mapping d ts) k h (more_columns_keep r.outline.mapping d ts h.opened)
+column_keeps : (r : Reader) (e : Option EntityDef) (ts : List Token) → are_lexed ts ≡ true → Keeps r → HasEntities r.outline.mapping e → Gives (lines.column_line r e ts) Keeps
+column_keeps r None ts l k h = tt
+column_keeps r (Some d) ts l k h = columns_keep r d (lines.more_columns r.outline.mapping d ts) k h (more_columns_keep r.outline.mapping d ts l h.opened)
 
 -- ---- rows and queries
-row_keeps : (r : Reader) (x : Result (Key × Row) Kind) → Keeps r → Gives (lines.with_row r x) Keeps
-row_keeps r (Err e) k = tt
-row_keeps r (Ok x) k =
+row_keeps : (r : Reader) (x : Result (Key × Row) Kind) → Keeps r →
+    Gives x (λ x. (is_row_below (length r.outline.mapping) x ≡ true) × (fits_entity (slice_get r.outline.mapping x.0.entity) x.0 x.1 ≡ true)) → Gives (lines.with_row r x) Keeps
+row_keeps r (Err e) k g = tt
+row_keeps r (Ok x) k g =
     let more : Reader = record r { outline = record r.outline { rows = r.outline.rows ++ x ∷ [] } } in
     gives_cond (nat_lt (length r.outline.rows) 10000) (Ok (lines.behind Part.Rows more)) (Err Kind.Many) Keeps
     (λ h. behind_keeps more Part.Rows (record {
       timeout = k.timeout;
       results = k.results;
       entities = k.entities;
-      rows = record { few = simp length-append (omega (arith, ltb-true (length r.outline.rows) 10000 h)) };
+      rows = record {
+        few = simp length-append (omega (arith, ltb-true (length r.outline.rows) 10000 h));
+        below = all_more (λ (x : Key × Row). is_row_below (length r.outline.mapping) x) r.outline.rows x k.rows.below g.0;
+        fit = all_more (λ (x : Key × Row). fits_entity (slice_get r.outline.mapping x.0.entity) x.0 x.1) r.outline.rows x k.rows.fit g.1;
+      };
       queries = k.queries;
       sessions = k.sessions;
       orders = k.orders;
     }))
     (λ _. tt)
 
-query_keeps : (r : Reader) (taken : Bool) (x : Result Said Kind) (ts : List Token) → Keeps r → Gives x (IsLineOf r.outline.mapping ts) → Gives (lines.with_query r taken x) Keeps
-query_keeps r taken (Err e) ts k g = tt
-query_keeps r taken (Ok q) ts k g =
+query_keeps : (r : Reader) (taken : Bool) (x : Result Said Kind) (ts : List Token) → has_name (query_names r.outline.queries) (name_in ts) ≡ taken → are_lexed ts ≡ true → Keeps r →
+    Gives x (IsLineOf r.outline.mapping ts) → Gives (lines.with_query r taken x) Keeps
+query_keeps r taken (Err e) ts t l k g = tt
+query_keeps r taken (Ok q) ts t l k g =
     let more : Reader = record r { outline = record r.outline { queries = r.outline.queries ++ q ∷ [] } } in
     let room : After = cond (nat_lt (length r.outline.queries) 1000) (Ok (lines.behind Part.Queries more)) (Err Kind.Many) in
     gives_cond taken (Err Kind.Taken) room Keeps (λ _. tt)
-    (λ _. gives_cond (nat_lt (length r.outline.queries) 1000) (Ok (lines.behind Part.Queries more)) (Err Kind.Many) Keeps
-    (λ h. behind_keeps more Part.Queries (record {
+    (λ f. gives_cond (nat_lt (length r.outline.queries) 1000) (Ok (lines.behind Part.Queries more)) (Err Kind.Many) Keeps
+    (λ h. let free : (is_name q.name ≡ true) × (list_any (λ (p : Said). bytes_eq p.name q.name) r.outline.queries ≡ false) = query_named r.outline.mapping r.outline.queries ts q g l (t ∙ f) in
+    behind_keeps more Part.Queries (record {
       timeout = k.timeout;
       results = k.results;
       entities = k.entities;
@@ -228,6 +260,7 @@ query_keeps r taken (Ok q) ts k g =
       queries = record {
         few = simp length-append (omega (arith, ltb-true (length r.outline.queries) 1000 h));
         below = all_more (λ (q : Said). is_said_below (length r.outline.mapping) q) r.outline.queries q k.queries.below g.below;
+        names = named_more (λ (q : Said). q.name) r.outline.queries q k.queries.names free.0 free.1;
       };
       sessions = sessions_more r.outline.queries q r.outline.sessions r.place r.statements k.sessions;
       orders = k.orders;
@@ -235,8 +268,8 @@ query_keeps r taken (Ok q) ts k g =
     (λ _. tt))
 
 -- ---- sessions
-begun_keeps : (r : Reader) (w : List ℕ) → nat_lt (length r.outline.sessions) 1000 ≡ true → Keeps r → Gives (lines.begun r w) Keeps
-begun_keeps r w h k = record {
+begun_keeps : (r : Reader) (w : List ℕ) → nat_lt (length r.outline.sessions) 1000 ≡ true → is_name w ≡ true → lines.has_session r.outline.sessions w ≡ false → Keeps r → Gives (lines.begun r w) Keeps
+begun_keeps r w h i f k = record {
   timeout = k.timeout;
   results = k.results;
   entities = k.entities;
@@ -249,21 +282,24 @@ begun_keeps r w h k = record {
     over = k.sessions.over;
     known = k.sessions.known;
     opened = refl;
+    names = k.sessions.names;
+    named = (i, f);
   };
   orders = k.orders;
 }
 
-new_session_keeps : (r : Reader) (w : List ℕ) → Keeps r → Gives (lines.new_session r w) Keeps
-new_session_keeps r w k =
+new_session_keeps : (r : Reader) (w : List ℕ) → (is_reserved w ≡ false → is_name w ≡ true) → Keeps r → Gives (lines.new_session r w) Keeps
+new_session_keeps r w i k =
     let room : After = cond (nat_lt (length r.outline.sessions) 1000) (lines.begun r w) (Err Kind.Many) in
     gives_cond (is_reserved w) (Err Kind.Reserved) (cond (lines.has_session r.outline.sessions w) (Err Kind.Taken) room) Keeps (λ _. tt)
-    (λ _. gives_cond (lines.has_session r.outline.sessions w) (Err Kind.Taken) room Keeps (λ _. tt)
-    (λ _. gives_cond (nat_lt (length r.outline.sessions) 1000) (lines.begun r w) (Err Kind.Many) Keeps (λ h. begun_keeps r w h k) (λ _. tt)))
+    (λ e. gives_cond (lines.has_session r.outline.sessions w) (Err Kind.Taken) room Keeps (λ _. tt)
+    (λ f. gives_cond (nat_lt (length r.outline.sessions) 1000) (lines.begun r w) (Err Kind.Many) Keeps (λ h. begun_keeps r w h (i e) f k) (λ _. tt)))
 
-session_keeps : (r : Reader) (ts : List Token) → Keeps r → Gives (lines.session_line r ts) Keeps
-session_keeps r (a ∷ name ∷ []) k =
-    gives_cond (is_a_word name) (lines.new_session r (word_of name)) (Err Kind.Words) Keeps (λ _. new_session_keeps r (word_of name) k) (λ _. tt)
-session_keeps r ts k = tt
+session_keeps : (r : Reader) (ts : List Token) → are_lexed ts ≡ true → Keeps r → Gives (lines.session_line r ts) Keeps
+session_keeps r (a ∷ name ∷ []) l k =
+    gives_cond (is_a_word name) (lines.new_session r (word_of name)) (Err Kind.Words) Keeps
+    (λ h. new_session_keeps r (word_of name) (λ e. name_from name h (second_lexed a name [] l) e) k) (λ _. tt)
+session_keeps r _ l k = tt
 
 -- the sessions with the open one, at a place that is known
 at_place : (r : Reader) (s : SessionDef) → Keeps r → r.place ≡ Place.Session s → HasSessions (length r.outline.queries) r.outline.sessions (Place.Session s) r.statements
@@ -285,6 +321,8 @@ one_more_keeps r s t h k e i =
         over = o.over;
         known = o.known;
         opened = all_more (λ (t : Statement). is_known (length r.outline.queries) t) s.statements t o.opened i;
+        names = o.names;
+        named = o.named;
       };
       orders = k.orders;
     }
@@ -316,6 +354,8 @@ with_session_keeps r s h k e =
         over = all_more (λ (d : SessionDef). is_over d) r.outline.sessions s o.over h;
         known = all_more (λ (d : SessionDef). lists_known (length r.outline.queries) d) r.outline.sessions s o.known o.opened;
         opened = refl;
+        names = named_more (λ (d : SessionDef). d.name) r.outline.sessions s o.names o.named.0 o.named.1;
+        named = tt;
       };
       orders = k.orders;
     }
@@ -370,105 +410,32 @@ in_schedule_keeps r ts k =
     (λ _. order_keeps r (order_of r.outline.mapping r.outline.sessions ts) k (order_cached r.outline.mapping r.outline.sessions ts))
 
 -- ---- each line keeps it
-part_keeps : (r : Reader) (p : Part) (followed : Bool) (ts : List Token) → length r.outline.mapping ≤ 64 → Keeps r → Gives (lines.part_line r p followed ts) Keeps
-part_keeps r Part.Header followed ts h k = tt
-part_keeps r Part.Timeout followed ts h k = timeout_keeps r (lines.number_line 1000000 ts) k (line_limits 1000000 ts)
-part_keeps r Part.Results followed ts h k = results_keep r (lines.number_line 100000 ts) k (line_limits 100000 ts)
-part_keeps r Part.Entities followed ts h k = entity_keeps r followed ts h k
-part_keeps r Part.Rows followed ts h k = row_keeps r (row_of r.outline.mapping r.outline.rows ts) k
-part_keeps r Part.Queries followed ts h k =
-    query_keeps r (lines.is_taken r ts) (query_of r.outline.mapping ts) ts k (line_of r.outline.mapping ts (linked r.outline.mapping k.entities.closed))
-part_keeps r Part.Sessions followed ts h k = session_keeps r ts k
-part_keeps r Part.Schedule followed ts h k = schedule_line_keeps r ts k
+part_keeps : (r : Reader) (p : Part) (followed : Bool) (ts : List Token) → length r.outline.mapping ≤ 64 → are_lexed ts ≡ true → Keeps r → Gives (lines.part_line r p followed ts) Keeps
+part_keeps r Part.Header followed ts h l k = tt
+part_keeps r Part.Timeout followed ts h l k = timeout_keeps r (lines.number_line 1000000 ts) k (line_limits 1000000 ts)
+part_keeps r Part.Results followed ts h l k = results_keep r (lines.number_line 100000 ts) k (line_limits 100000 ts)
+part_keeps r Part.Entities followed ts h l k = entity_keeps r followed ts h l k
+part_keeps r Part.Rows followed ts h l k = row_keeps r (row_of r.outline.mapping r.outline.rows ts) k (row_fits r.outline.mapping r.outline.rows ts l)
+part_keeps r Part.Queries followed ts h l k =
+    query_keeps r (lines.is_taken r ts) (query_of r.outline.mapping ts) ts refl l k (line_of r.outline.mapping ts (linked r.outline.mapping k.entities.closed))
+part_keeps r Part.Sessions followed ts h l k = session_keeps r ts l k
+part_keeps r Part.Schedule followed ts h l k = schedule_line_keeps r ts k
 
-next_keeps : (r : Reader) (last : Part) (next : Option Part) (followed : Bool) (ts : List Token) → Keeps r → Gives (lines.next_part r last next followed ts) Keeps
-next_keeps r last None followed ts k = tt
-next_keeps r last (Some p) followed ts k =
+next_keeps : (r : Reader) (last : Part) (next : Option Part) (followed : Bool) (ts : List Token) → are_lexed ts ≡ true → Keeps r → Gives (lines.next_part r last next followed ts) Keeps
+next_keeps r last None followed ts l k = tt
+next_keeps r last (Some p) followed ts l k =
     gives_cond (may_follow last p) (lines.part_line (lines.closed r) p followed ts) (Err Kind.Line) Keeps
-    (λ _. part_keeps (lines.closed r) p followed ts k.entities.few (closed_keeps r k))
+    (λ _. part_keeps (lines.closed r) p followed ts k.entities.few l (closed_keeps r k))
     (λ _. tt)
 
-behind_part_keeps : (r : Reader) (last : Part) (followed : Bool) (ts : List Token) → Keeps r → Gives (lines.behind_part r last followed ts) Keeps
-behind_part_keeps r last followed ts k =
+behind_part_keeps : (r : Reader) (last : Part) (followed : Bool) (ts : List Token) → are_lexed ts ≡ true → Keeps r → Gives (lines.behind_part r last followed ts) Keeps
+behind_part_keeps r last followed ts l k =
     gives_cond (begins (codes "column") ts) (lines.column_line r r.entity ts) (lines.next_part r last (part_of ts) followed ts) Keeps
-    (λ _. column_keeps r r.entity ts k k.entities)
-    (λ _. next_keeps r last (part_of ts) followed ts k)
+    (λ _. column_keeps r r.entity ts l k k.entities)
+    (λ _. next_keeps r last (part_of ts) followed ts l k)
 
-line_keeps : (r : Reader) (p : Place) (followed : Bool) (ts : List Token) → Keeps r → r.place ≡ p → Gives (lines.line_at r p followed ts) Keeps
-line_keeps r Place.Start followed ts k e = header_keeps r ts k
-line_keeps r (Place.Behind last) followed ts k e = behind_part_keeps r last followed ts k
-line_keeps r (Place.Session s) followed ts k e = in_session_keeps r s ts k e
-line_keeps r Place.Schedule followed ts k e = in_schedule_keeps r ts k
-
--- ---- and so all lines do
-at_keeps : (l : Line) (x : After) → Gives x Keeps → Gives (at_line l x) Keeps
-at_keeps l (Err x) g = tt
-at_keeps l (Ok r) g = g
-
-reading_keeps : (x : Result Reader Refused) (ls : List Line) → Gives x Keeps → Gives (reading x ls) Keeps
-reading_keeps (Err x) ls g = tt
-reading_keeps (Ok r) [] g = g
-reading_keeps (Ok r) (l ∷ ls) g =
-    reading_keeps (step r (begins_column ls) l) ls (at_keeps l (lines.after_line r (begins_column ls) l.tokens) (line_keeps r r.place (begins_column ls) l.tokens g refl))
-
--- ---- the script at the end
-abbrev at_end : Outline → ℕ → Reader
-at_end o n = record { outline = o; entity = None; statements = n; place = Place.Schedule }
-
-record IsKept (o : Outline) : Type 0 where
-  statements : ℕ
-  keeps : Keeps (at_end o statements)
-
-ended_at_kept : (n : ℕ) (r : Reader) (p : Place) → Keeps r → Gives (ended_at n r p) IsKept
-ended_at_kept n r Place.Start k = tt
-ended_at_kept n r (Place.Behind last) k = record { statements = r.statements; keeps = schedule_keeps (lines.closed r) (closed_keeps r k) }
-ended_at_kept n r (Place.Session s) k = tt
-ended_at_kept n r Place.Schedule k = tt
-
-ended_kept : (n : ℕ) (x : Result Reader Refused) → Gives x Keeps → Gives (ended n x) IsKept
-ended_kept n (Err x) g = tt
-ended_kept n (Ok r) g = ended_at_kept n r r.place g
-
-script_kept : (x : Result Lines Refused) → Gives (script_in x) IsKept
-script_kept (Err x) = tt
-script_kept (Ok l) = ended_kept l.count (reading (Ok start) l.lines) (reading_keeps (Ok start) l.lines start_keeps)
-
-declared_one : (s : Script) (q : Query) → is_said_below (length s.mapping) (said q) ≡ true → is_declared s q ≡ true
-declared_one s q h =
-    let both : (nat_lt q.entity (length s.mapping) ≡ true) × (are_nodes_below (length s.mapping) (parts_in q.condition) ≡ true) =
-    and_parts (nat_lt q.entity (length s.mapping)) (are_nodes_below (length s.mapping) (parts_in q.condition)) h in
-    and_from (nat_lt q.entity (length s.mapping)) _ both.0 (targets_below (length s.mapping) q.condition both.1)
-
-declared_all : (s : Script) (qs : List Query) → list_all (λ q. is_said_below (length s.mapping) q) (map said qs) ≡ true → list_all (λ q. is_declared s q) qs ≡ true
-declared_all s [] h = refl
-declared_all s (q ∷ qs) h =
-    let both : (is_said_below (length s.mapping) (said q) ≡ true) × (list_all (λ q. is_said_below (length s.mapping) q) (map said qs) ≡ true) =
-    and_parts (is_said_below (length s.mapping) (said q)) (list_all (λ q. is_said_below (length s.mapping) q) (map said qs)) h in
-    and_from (is_declared s q) (list_all (λ q. is_declared s q) qs) (declared_one s q both.0) (declared_all s qs both.1)
-
-valid : (s : Script) → IsKept (outline_of s) → is_valid s ≡ true
-valid s i =
-    let k : Keeps (at_end (outline_of s) i.statements) = i.keeps in
-    let queries : length s.queries ≤ 1000 = rw (length-map) at k.queries.few in
-    rules.valid s (record {
-      timeout_low = k.timeout.0;
-      timeout = k.timeout.1;
-      results_low = k.results.0;
-      results = k.results.1;
-      entities = k.entities.few;
-      columns = k.entities.closed;
-      rows = k.rows.few;
-      queries = queries;
-      declared = declared_all s s.queries k.queries.below;
-      sessions = omega (arith, k.sessions.few);
-      statements = omega (arith, k.sessions.counted, k.sessions.statements);
-      over = k.sessions.over;
-      known = subst (λ n. list_all (λ (d : SessionDef). lists_known n d) s.sessions ≡ true) (length-map s.queries said) k.sessions.known;
-      orders = k.orders.few;
-      cached = k.orders.cached;
-    })
-
--- a script that lines are
-pub read_valid : (l : Lines) (x : Result Script ScriptError) → IfOk x (λ s. script_in (Ok l) ≡ Ok (outline_of s)) → IfOk x (λ s. is_valid s ≡ true)
-read_valid l (Ok s) h = valid s (given (script_in (Ok l)) IsKept (outline_of s) (script_kept (Ok l)) h)
-read_valid l (Err e) h = h
+pub line_keeps : (r : Reader) (p : Place) (followed : Bool) (ts : List Token) → are_lexed ts ≡ true → Keeps r → r.place ≡ p → Gives (lines.line_at r p followed ts) Keeps
+line_keeps r Place.Start followed ts l k e = header_keeps r ts k
+line_keeps r (Place.Behind last) followed ts l k e = behind_part_keeps r last followed ts l k
+line_keeps r (Place.Session s) followed ts l k e = in_session_keeps r s ts k e
+line_keeps r Place.Schedule followed ts l k e = in_schedule_keeps r ts k

@@ -16,6 +16,7 @@ use Rattle.hib_lex.specs.declared.lexer.Token.{Token}
 use Rattle.hib_mapping.specs.Declarations.{is_entity_line, entity_kind, entity_of, is_column_line, column_kind, with_column}
 use Rattle.hib_mapping.specs.Mapping.{with_open}
 use Rattle.hib_mapping.specs.Parts.{is_a_word, is_a_number, word_of, is_within, number_up_to}
+pub use Rattle.hib_mapping.specs.Parts.{name_in}
 use Rattle.hib_criteria.specs.Query.{Said, query_of}
 use Rattle.hib_statements.specs.Statements.{statement_of}
 use Rattle.hib_statements.specs.Rows.{row_of}
@@ -45,11 +46,6 @@ at p r = record r { place = p }
 
 abbrev pub behind : Part → Reader → Reader
 behind p r = at (Place.Behind p) r
-
--- the name that a line declares
-abbrev pub name_in : List Token → List ℕ
-name_in (first ∷ name ∷ ts) = word_of name
-name_in _ = []
 
 -- a line of one word
 abbrev pub is_alone : List Token → Bool

@@ -3,3 +3,4 @@ pub mod Digits
 pub mod Names
 pub mod RowLines
 pub mod Known
+pub mod Fitting
