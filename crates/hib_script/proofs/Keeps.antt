@@ -23,7 +23,7 @@ use Rattle.hib_mapping.specs.Parts.{word_of, name_in}
 use Rattle.hib_script.specs.Outline.{query_names}
 use Rattle.hib_criteria.proofs.Declared.{IsLineOf, is_said_below, said_more, are_types_below, are_linked}
 use Rattle.hib_mapping.proofs.Columns.{columns_of, columns_more, lt_more, name_from, second_lexed}
-use Rattle.hib_mapping.specs.Mapping.{with_open}
+use Rattle.hib_script.specs.Lines.{with_open}
 use Rattle.hib_script.specs.Lines.{Reader}
 use Rattle.hib_script.specs.declared.places.Place.{Place}
 

@@ -3,7 +3,7 @@ use Rattle.std.proofs.Common.{◌≡◌, ℕ, ◌+◌, ◌<◌, ◌≤◌, false
 use Rattle.std.proofs.lemmas.List.{drop_all}
 use Rattle.hib_base.specs.declared.refusals.Refused.{Refused}
 use Rattle.hib_lex.specs.declared.lines.Line.{Line}
-use Rattle.hib_mapping.specs.Mapping.{begins_column}
+use Rattle.hib_script.specs.Script.{begins_column}
 use Rattle.hib_script.specs.Lines.{Reader}
 use Rattle.hib_script.specs.Script.{step, reading, IsWhere}
 use Rattle.hib_script.specs.declared.errors.ScriptError.{ScriptError}

@@ -26,7 +26,7 @@ use Rattle.hib_lex.specs.Words.{begins}
 use Rattle.hib_lex.specs.declared.lexer.Token.{Token}
 use Rattle.hib_lex.proofs.Lexed.{are_lexed}
 use Rattle.hib_mapping.specs.Declarations.{is_entity_line, entity_kind, entity_of, is_column_line, column_kind, with_column}
-use Rattle.hib_mapping.specs.Mapping.{with_open}
+use Rattle.hib_script.specs.Lines.{with_open}
 use Rattle.hib_mapping.specs.Parts.{is_a_word, is_a_number, word_of, name_in, is_within, number_up_to}
 use Rattle.hib_mapping.proofs.Columns.{new_columns, column_more, name_from, second_lexed, entity_named, column_named, entity_fresh, same_name}
 use Rattle.hib_statements.specs.Orders.{order_of}

@@ -18,7 +18,7 @@ use Rattle.hib_lex.specs.Lines.{lex_of}
 use Rattle.hib_lex.specs.declared.lines.Line.{Line}
 use Rattle.hib_lex.specs.declared.lines.Lines.{Lines}
 use Rattle.hib_lex.proofs.Lexed.{are_lexed, are_lines_lexed, text_lexed}
-use Rattle.hib_mapping.specs.Mapping.{begins_column}
+use Rattle.hib_script.specs.Script.{begins_column}
 use Rattle.hib_script.specs.Lines as lines
 use Rattle.hib_script.specs.Lines.{Reader, After}
 use Rattle.hib_script.specs.Outline.{Outline, outline_of}

@@ -14,7 +14,6 @@ use Rattle.hib_base.specs.declared.scripts.Statement.{Statement}
 use Rattle.hib_lex.specs.Words.{is_the_word, begins}
 use Rattle.hib_lex.specs.declared.lexer.Token.{Token}
 use Rattle.hib_mapping.specs.Declarations.{is_entity_line, entity_kind, entity_of, is_column_line, column_kind, with_column}
-use Rattle.hib_mapping.specs.Mapping.{with_open}
 use Rattle.hib_mapping.specs.Parts.{is_a_word, is_a_number, word_of, is_within, number_up_to}
 pub use Rattle.hib_mapping.specs.Parts.{name_in}
 use Rattle.hib_criteria.specs.Query.{Said, query_of}
@@ -116,6 +115,11 @@ with_columns r (Ok e) = Ok (record r { entity = Some e })
 abbrev pub column_line : Reader → Option EntityDef → List Token → After
 column_line r None ts = Err Kind.Line
 column_line r (Some e) ts = with_columns r (more_columns r.outline.mapping e ts)
+
+-- the entities with the one whose columns are read
+abbrev pub with_open : List EntityDef → Option EntityDef → List EntityDef
+with_open m None = m
+with_open m (Some e) = m ++ e ∷ []
 
 -- an entity is finished by the next line that isn't a column's
 abbrev pub closed : Reader → Reader
