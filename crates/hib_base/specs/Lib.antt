@@ -2,4 +2,8 @@ pub mod Types
 pub mod Keys
 pub mod Tables
 pub mod Fits
+pub mod Words
+pub mod Queries
+pub mod Scripts
+pub mod Valid
 pub mod Kinds

@@ -22,7 +22,7 @@ pub use rows::{
     copy_names, copy_sets,
 };
 pub use scripts::{
-    ColumnDef, ColumnType, Columns, Cond, EntityDef, Mapping, Mode, Op, Order, Orders, Path,
+    ColumnDef, ColumnType, Columns, Cond, EntityDef, Mapping, Mode, Node, Op, Order, Orders, Path,
     Queries, Query, Script, Select, SessionDef, Sessions, Sort, Sorts, Statement, Statements,
     Strategy, Target,
 };

@@ -57,8 +57,6 @@ pub enum Kind {
     NoEnd,
     /// No journal follows, or a line of it is no entry.
     Journal,
-    /// The line has its form, and what it asks for isn't built yet.
-    NotYet,
 }
 
 impl Kind {
@@ -93,7 +91,6 @@ impl Kind {
             Kind::Last => b"last",
             Kind::NoEnd => b"no-end",
             Kind::Journal => b"journal",
-            Kind::NotYet => b"not-yet",
         }
     }
 }

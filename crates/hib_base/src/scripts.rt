@@ -1,7 +1,11 @@
 // Scripts: entities, queries, sessions and the schedule.
+ghost use Rattle.hib_base.specs.Queries.{parts_of, parts_in, said};
+ghost use Rattle.std.specs.Prelude.{◌≡◌, IfOk};
+
 use crate::numbers::{EntityNo, Key, QueryNo, SessionNo};
-use crate::rows::{Cell, Cells, Rows, Sets, Text};
+use crate::rows::{Cell, Cells, Rows, Sets, Text, copy_cells};
 use crate::seq::Seq;
+use std::alloc::{AllocError, Global};
 
 /// How rows of an entity are cached.
 #[derive(Clone, Copy, Debug, PartialEq, Eq)]
@@ -79,6 +83,49 @@ pub enum Cond {
     Among { path: Path, cells: Cells },
 }
 
+/// A part of a condition, as it is written: it stands before the conditions that it joins.
+#[derive(Drop)]
+pub enum Node {
+    And,
+    Or,
+    Not,
+    Test { op: Op, path: Path, cell: Cell },
+    Among { path: Path, cells: Cells },
+}
+
+impl Cond {
+    /// A condition of the same parts.
+    pub fn copy(&self, alloc: Global) -> Result<Cond, AllocError>
+        ensures { IfOk result (λ c. parts_of c ≡ parts_of self.now) }
+    {
+        match self {
+            Cond::And(first, second) => {
+                let first = first.copy(alloc)?;
+                let second = second.copy(alloc)?;
+                Ok(Cond::And(Box::new(alloc, first)?, Box::new(alloc, second)?))
+            }
+            Cond::Or(first, second) => {
+                let first = first.copy(alloc)?;
+                let second = second.copy(alloc)?;
+                Ok(Cond::Or(Box::new(alloc, first)?, Box::new(alloc, second)?))
+            }
+            Cond::Not(only) => {
+                let only = only.copy(alloc)?;
+                Ok(Cond::Not(Box::new(alloc, only)?))
+            }
+            Cond::Test { op, path, cell } => Ok(Cond::Test {
+                op: *op,
+                path: *path,
+                cell: cell.copy(alloc)?,
+            }),
+            Cond::Among { path, cells } => Ok(Cond::Among {
+                path: *path,
+                cells: copy_cells(alloc, cells)?,
+            }),
+        }
+    }
+}
+
 /// A column by which a query is ordered.
 #[derive(Clone, Copy, Debug, PartialEq, Eq)]
 pub struct Sort {
@@ -108,6 +155,33 @@ pub struct Query {
     pub offset: u32,
     pub limit: u32,
     pub select: Select,
+}
+
+impl Query {
+    /// A query that says the same: each part is equal, and its condition has the same parts.
+    pub fn copy(&self, alloc: Global) -> Result<Query, AllocError>
+        ensures { IfOk result (λ q. said q ≡ said self.now) }
+    {
+        Ok(Query {
+            name: Seq::from_vec(self.name.as_slice().to_vec(alloc)?),
+            cached: self.cached,
+            entity: self.entity,
+            condition: copy_condition(alloc, &self.condition)?,
+            order: Seq::from_vec(self.order.as_slice().to_vec(alloc)?),
+            offset: self.offset,
+            limit: self.limit,
+            select: self.select,
+        })
+    }
+}
+
+fn copy_condition(alloc: Global, condition: &Option<Cond>) -> Result<Option<Cond>, AllocError>
+    ensures { IfOk result (λ o. parts_in o ≡ parts_in condition.now) }
+{
+    match condition {
+        Some(condition) => Ok(Some(condition.copy(alloc)?)),
+        None => Ok(None),
+    }
 }
 
 /// The named queries, in order of declaration.

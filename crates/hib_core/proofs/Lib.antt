@@ -8,6 +8,7 @@ pub mod Outcomes
 pub mod OwnServed
 pub mod Allowed
 pub mod Begun
+pub mod Ready
 pub mod Going
 pub mod Playing
 pub mod FromOutside

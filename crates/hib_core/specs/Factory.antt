@@ -35,8 +35,8 @@ abbrev pub IsSound : Script → Order → Type 0
 IsSound script (Order.Evict k) = is_cached script k.entity ≡ true
 IsSound script _ = Unit {0}
 
--- a script that a factory takes: its entities and sessions have numbers, there is room for a result, the schedule evicts rows of
--- cached entities alone, and the queries that are asked are there
+-- what a factory needs of its script, which every valid script keeps: its entities and sessions have numbers, there is room for a
+-- result, the schedule evicts rows of cached entities alone, and the queries that are asked are there
 pub record IsBuilt (script : Script) : Type 0 where
   pub entities : length script.mapping < 2 ^ 16
   pub sessions : length script.sessions < 2 ^ 32

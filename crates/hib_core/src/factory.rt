@@ -3,6 +3,7 @@ ghost use Rattle.std.specs.Prelude.{◌≡◌, ◌<◌, ◌≤◌, ◌^◌, ◌=
 ghost use Rattle.std.specs.List.{range_with_len};
 ghost use Rattle.hib_journal.specs.Kept.{past};
 ghost use Rattle.hib_base.specs.declared.scripts.Order.{Order};
+ghost use Rattle.hib_base.specs.Valid.{is_valid};
 ghost use Rattle.hib_journal.specs.Sessions.{own};
 ghost use Rattle.hib_journal.specs.Next.{is_cached};
 ghost use Rattle.hib_journal.specs.Played.{has_next, play_steps, play_order, play_orders, play_sessions, is_played};
@@ -11,12 +12,12 @@ ghost use Rattle.hib_journal.specs.Runs.{IsNumbered, told_committed, fault_count
 ghost use Rattle.hib_core.specs.Standing.{RoseBy, RoseWithin, told_start};
 ghost use Rattle.hib_outside.specs.Causes.{Rose};
 ghost use Rattle.hib_store.specs.Stores.{handed_back, is_store_fault};
-ghost use Rattle.hib_core.specs.Factory.{Does, IsOver, AddsAtMost, AreOver, IsBuilt, IsSound};
+ghost use Rattle.hib_core.specs.Factory.{Does, IsOver, AddsAtMost, AreOver, IsSound};
 ghost use Rattle.hib_core.specs.Playing.{played, play_all, Leads};
 
 use crate::laws::laws;
 use crate::names::Name;
-use crate::opening::{open_regions, open_sessions};
+use crate::opening::{open_regions, open_sessions, ready};
 use crate::outside;
 use crate::parts::Parts;
 use crate::registry::Registry;
@@ -58,7 +59,7 @@ impl<K: Keeper, N: Name> Factory<K, N> {
     /// which it takes where its key has none. At an error the keeper is handed back, with the rows that it had.
     pub fn open(alloc: Global, script: Script, keeper: K) -> Result<Factory<K, N>, OpenFault<K>>
         requires script { script ≡ N.script }
-        requires built { IsBuilt N.script }
+        requires valid { is_valid N.script ≡ true }
         requires from { record { tables = told_start N.script (K.tables keeper); faults = K.faults keeper; asked = K.asked keeper } ≡ N.from }
         ensures empty { IfOk result (λ f. past f.journal ≡ []) }
         ensures going { IfOk result (λ f. f.refused ≡ false) }
@@ -68,6 +69,7 @@ impl<K: Keeper, N: Name> Factory<K, N> {
         ensures fault { IfErr result (λ e. is_store_fault e ≡ true → Rose (K.faults keeper) (K.faults (handed_back e))) }
     {
         laws();
+        ready(&script);
         let Ok(regions) = open_regions(alloc, &script) else {
             return Err(OpenFault::NoMemory(keeper));
         };

@@ -1,12 +1,21 @@
 // What a factory begins with.
-ghost use Rattle.std.specs.Prelude.{◌≡◌, ◌<◌, ◌^◌, [], length, map, IfOk};
+ghost use Rattle.std.specs.Prelude.{◌≡◌, ◌<◌, ◌^◌, [], length, map, true, IfOk};
+ghost use Rattle.hib_base.specs.Valid.{is_valid};
 ghost use Rattle.hib_core.specs.Region.{empty};
-ghost use Rattle.hib_core.specs.Factory.{AreSessions};
+ghost use Rattle.hib_core.specs.Factory.{AreSessions, IsBuilt};
 
 use crate::region::Region;
 use hib_base::{Script, SessionNo};
 use hib_session::Session;
 use std::alloc::{AllocError, Global};
+
+/// A valid script is one that a factory takes. It does nothing.
+pub fn ready(script: &Script)
+    requires { is_valid script.now ≡ true }
+    ensures { IsBuilt script.now }
+{
+    let _ = script;
+}
 
 /// The regions of a script's entities, which are empty.
 pub fn open_regions(alloc: Global, script: &Script) -> Result<Vec<Region>, AllocError>

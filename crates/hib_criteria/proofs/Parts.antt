@@ -3,7 +3,7 @@ use Rattle.std.proofs.Common.{◌≡◌, ℕ, suc, ◌+◌, ◌-◌, false, cond
 use Rattle.std.proofs.lemmas.List.{append-nil}
 use Rattle.std.proofs.lemmas.Bool.Decides.{nat_tests}
 use Rattle.hib_base.specs.declared.scripts.Cond.{Cond}
-use Rattle.hib_criteria.specs.declared.forms.Node.{Node}
+use Rattle.hib_base.specs.declared.scripts.Node.{Node}
 use Rattle.hib_criteria.specs.Query.{parts_of, parts_all, arity, joined, count_of, is_one, IsOnly, IsBuilt}
 
 -- one condition more at the end

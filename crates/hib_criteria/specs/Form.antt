@@ -14,7 +14,7 @@ use Rattle.hib_criteria.specs.declared.columns.Found.{Found}
 use Rattle.hib_criteria.specs.declared.forms.Draft.{Draft}
 use Rattle.hib_criteria.specs.declared.forms.Form.{Form}
 use Rattle.hib_criteria.specs.declared.forms.Frame.{Frame}
-use Rattle.hib_criteria.specs.declared.forms.Node.{Node}
+use Rattle.hib_base.specs.declared.scripts.Node.{Node}
 use Rattle.hib_criteria.specs.declared.forms.Place.{Place}
 use Rattle.hib_criteria.specs.declared.forms.Test.{Test}
 

@@ -3,28 +3,15 @@ use Rattle.std.specs.Prelude.{◌≡◌, ℕ, suc, ◌-◌, Bool, true, false, c
 use Rattle.hib_base.specs.declared.refusals.Kind.{Kind}
 use Rattle.hib_base.specs.declared.scripts.Cond.{Cond}
 use Rattle.hib_base.specs.declared.scripts.EntityDef.{EntityDef}
-use Rattle.hib_base.specs.declared.scripts.Query.{Query}
-use Rattle.hib_base.specs.declared.scripts.Select.{Select}
-use Rattle.hib_base.specs.declared.scripts.Sort.{Sort}
+use Rattle.hib_base.specs.declared.scripts.Node.{Node}
+pub use Rattle.hib_base.specs.Queries.{parts_of, parts_in, Said, said}
 use Rattle.hib_lex.specs.declared.lexer.Token.{Token}
 use Rattle.hib_mapping.specs.Parts.{is_reserved}
 use Rattle.hib_criteria.specs.Form.{form_of}
 use Rattle.hib_criteria.specs.declared.errors.CriteriaError.{CriteriaError}
 use Rattle.hib_criteria.specs.declared.forms.Form.{Form}
-use Rattle.hib_criteria.specs.declared.forms.Node.{Node}
 
--- ---- conditions, as their parts in the order in which they are written
-abbrev pub parts_of : Cond → List Node
-parts_of (Cond.And' p a q b) = Node.And ∷ (parts_of a ++ parts_of b)
-parts_of (Cond.Or' p a q b) = Node.Or ∷ (parts_of a ++ parts_of b)
-parts_of (Cond.Not' p a) = Node.Not ∷ parts_of a
-parts_of (Cond.Test op path cell) = Node.Test op path cell ∷ []
-parts_of (Cond.Among path cells) = Node.Among path cells ∷ []
-
-abbrev pub parts_in : Option Cond → List Node
-parts_in None = []
-parts_in (Some c) = parts_of c
-
+-- ---- how many conditions some parts come to
 -- how many conditions a part joins
 abbrev pub arity : Node → ℕ
 arity Node.And = 2
@@ -77,29 +64,7 @@ abbrev pub IsTorn : List Node → CriteriaError → Type 0
 IsTorn ns CriteriaError.NoMemory = Unit {0}
 IsTorn ns (CriteriaError.Fault k) = (are_whole ns ≡ false) × (k ≡ Kind.Words)
 
--- ---- what a query says, with its condition as its parts
-pub record Said : Type 0 where
-  pub name : List ℕ
-  pub cached : Bool
-  pub entity : ℕ
-  pub parts : List Node
-  pub order : List Sort
-  pub offset : ℕ
-  pub limit : ℕ
-  pub select : Select
-
-abbrev pub said : Query → Said
-said q = record {
-  name = q.name;
-  cached = q.cached;
-  entity = q.entity;
-  parts = parts_in q.condition;
-  order = q.order;
-  offset = q.offset;
-  limit = q.limit;
-  select = q.select;
-}
-
+-- ---- the query of a form
 -- what a form says, where nothing is wrong with it
 abbrev pub said_by : Form → Said
 said_by f = record {

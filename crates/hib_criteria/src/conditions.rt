@@ -1,10 +1,10 @@
 // The condition of some parts.
 ghost use Rattle.hib_criteria.specs.Query.{IsBuilt, IsJoined, IsOnly};
 ghost use Rattle.std.specs.Prelude.{IfOk};
-ghost use Rattle.hib_criteria.specs.declared.forms.Node.{Node};
+ghost use Rattle.hib_base.specs.declared.scripts.Node.{Node};
 
-use crate::forms::{Node, Nodes};
-use hib_base::{Cell, Cells, Cond, Op, Path, Seq};
+use crate::forms::Nodes;
+use hib_base::{Cell, Cells, Cond, Node, Op, Path, Seq};
 use std::alloc::{AllocError, Global};
 
 /// Conditions that stand side by side, the last one first.

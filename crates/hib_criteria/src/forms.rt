@@ -6,7 +6,7 @@ use crate::columns::{
     Column, Found, cell, columns_of, is_comparable, is_path, is_typed, named_column, path_or_first,
     place_or_first, plain_column,
 };
-use hib_base::{Cell, Cells, EntityDef, EntityNo, Op, Path, Select, Seq, Sort, Sorts, Text};
+use hib_base::{Cell, Cells, EntityDef, EntityNo, Node, Op, Path, Select, Seq, Sort, Sorts, Text};
 use hib_lex::{Token, is_the_word};
 use hib_mapping::{entity_number, is_number, is_within, is_word, number_up_to, word, word_bytes};
 use std::alloc::{AllocError, Global};
@@ -22,16 +22,6 @@ const MOST_OFFSET: u32 = 1_000_000;
 
 /// The most rows that a query lists.
 pub const MOST_LIMIT: u32 = 200;
-
-/// A part of a condition.
-#[derive(Drop)]
-pub enum Node {
-    And,
-    Or,
-    Not,
-    Test { op: Op, path: Path, cell: Cell },
-    Among { path: Path, cells: Cells },
-}
 
 /// The parts of a condition, each before the conditions that it joins.
 pub type Nodes = Seq<Node>;

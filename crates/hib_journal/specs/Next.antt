@@ -3,6 +3,7 @@ use Rattle.std.specs.Prelude.{ℕ, Bool, true, false, cond, not, ◌&&◌, ◌==
 use Rattle.std.specs.List.{filter, flat_map, list_any, range_with_len}
 use Rattle.hib_journal.specs.Types.{Key, Row, Change, Commit, Strategy, EntityDef, Mode, Query, Statement, SessionDef, Script, Act, Reply, Checked}
 use Rattle.hib_base.specs.Keys.{same_key}
+pub use Rattle.hib_base.specs.Scripts.{strategy_in, is_cached_by, ends}
 use Rattle.hib_base.specs.Tables.{key_of, row_left, last_on, first_on}
 use Rattle.hib_journal.specs.Sessions.{Journal, time_in, floor_in, changes_in}
 use Rattle.hib_journal.specs.Query.{tables}
@@ -10,16 +11,8 @@ use Rattle.hib_journal.specs.Held.{Instance, held, pending, is_fresh}
 use Rattle.hib_journal.specs.Plan.{Plan, Block, one, each, left_of, first_act}
 
 -- what the mapping says of an entity
-abbrev pub strategy_in : Option EntityDef → Strategy
-strategy_in None = Strategy.Uncached
-strategy_in (Some d) = d.strategy
-
 abbrev pub strategy : Script → ℕ → Strategy
 strategy script n = strategy_in (slice_get script.mapping n)
-
-abbrev pub is_cached_by : Strategy → Bool
-is_cached_by Strategy.Uncached = false
-is_cached_by _ = true
 
 abbrev pub is_cached : Script → ℕ → Bool
 is_cached script n = is_cached_by (strategy script n)
@@ -259,11 +252,6 @@ block script m Statement.Rollback done go = rollback script m done go
 abbrev pub mode_after : Statement → Mode → Mode
 mode_after (Statement.Mode n) m = n
 mode_after _ m = m
-
-abbrev pub ends : Statement → Bool
-ends Statement.Commit = true
-ends Statement.Rollback = true
-ends _ = false
 
 abbrev pub begin_if : Bool → Block
 begin_if true done go = one Act.Begin done go

@@ -9,7 +9,7 @@ use Rattle.hib_base.specs.Tables.{Tables, row_at, with_row, without_row, tables_
 use Rattle.hib_journal.specs.Room.{key}
 use Rattle.hib_journal.specs.Query
 use Rattle.hib_journal.specs.Next.{is_in_tables, tables_by, tables_in}
-use Rattle.hib_law.specs.Hits.{is_target_below, are_targets_below, are_targets_in, is_declared}
+use Rattle.hib_base.specs.Scripts.{is_target_below, are_targets_below, are_targets_in, is_declared}
 use Rattle.hib_base.proofs.Tables.{Tested, tested, same_key_eq, row_at_other_change}
 use Rattle.hib_law.proofs.Protocol.{In}
 

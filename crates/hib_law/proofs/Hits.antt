@@ -13,7 +13,8 @@ use Rattle.hib_law.specs.Prefixes.{last_reply}
 use Rattle.hib_journal.specs.Legal.{IsLegal, IsStep, IsReply, reply_of, fault_of, number, list_reply, is_outside}
 use Rattle.hib_journal.specs.Sound.{commits, with_change, unstamped, with_commit, stamped_by, up_to, keeps, moment}
 use Rattle.hib_law.specs.Prefixes.{AtEachEntry}
-use Rattle.hib_law.specs.Hits.{is_declared, is_listed, IsHitTrue, AreHitsTrue}
+use Rattle.hib_base.specs.Scripts.{is_declared}
+use Rattle.hib_law.specs.Hits.{is_listed, IsHitTrue, AreHitsTrue}
 use Rattle.hib_base.proofs.Tables.{Tested, tested}
 use Rattle.hib_journal.proofs.Sessions.{IsOrdered, by, is_some_session, time_le_tick}
 use Rattle.hib_law.proofs.Protocol.{In}

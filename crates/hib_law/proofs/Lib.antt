@@ -27,6 +27,7 @@ mod Stamped
 mod Given
 mod QueryRules
 mod Hits
+mod Lists
 -- Items of any region.
 mod StoreRules
 mod Stored

@@ -1,33 +1,14 @@
 -- What is claimed of the lists that queries are answered from the cache.
-use Rattle.std.specs.Prelude.{◌≡◌, ℕ, ◌≤◌, Bool, true, ◌&&◌, ◌==◌, nat_lt, List, [], ◌∷◌, length, slice_get, Some, None, Option}
+use Rattle.std.specs.Prelude.{◌≡◌, ℕ, ◌≤◌, Bool, true, ◌&&◌, ◌==◌, List, [], ◌∷◌, length, slice_get, Some}
 use Rattle.std.specs.List.{list_any}
-use Rattle.hib_journal.specs.Types.{Cell, Target, Cond, Query, Checked, Script, Act, Reply, Entry}
+use Rattle.hib_journal.specs.Types.{Cell, Query, Checked, Script, Act, Reply, Entry}
 use Rattle.hib_base.specs.Tables.{Tables}
+use Rattle.hib_base.specs.Scripts.{is_declared}
 use Rattle.hib_journal.specs.Sessions.{Journal, is_session, own, committed}
 use Rattle.hib_journal.specs.Query.{gives}
 use Rattle.hib_journal.specs.Next.{is_in_tables, tables_of}
 use Rattle.hib_journal.specs.Sound.{commits, unstamped, moment}
 use Rattle.hib_law.specs.Prefixes.{AtEachEntry, last_reply}
-
--- the target of a step, where a path has one, is below n
-abbrev pub is_target_below : ℕ → Option Target → Bool
-is_target_below n None = true
-is_target_below n (Some g) = nat_lt g.entity n
-
-abbrev pub are_targets_below : ℕ → Cond → Bool
-are_targets_below n (Cond.And' p a q b) = are_targets_below n a && are_targets_below n b
-are_targets_below n (Cond.Or' p a q b) = are_targets_below n a && are_targets_below n b
-are_targets_below n (Cond.Not' p a) = are_targets_below n a
-are_targets_below n (Cond.Test op p c) = is_target_below n p.target
-are_targets_below n (Cond.Among p cs) = is_target_below n p.target
-
-abbrev pub are_targets_in : ℕ → Option Cond → Bool
-are_targets_in n None = true
-are_targets_in n (Some c) = are_targets_below n c
-
--- each table that a query reads is one of the mapping's entities
-abbrev pub is_declared : Script → Query → Bool
-is_declared script d = nat_lt d.entity (length script.mapping) && are_targets_in (length script.mapping) d.condition
 
 -- whether an entry stands in a list of sessions and ticks
 abbrev pub is_listed : Entry → List (ℕ × ℕ) → Bool
@@ -52,3 +33,14 @@ pub record IsHitTrue (script : Script) (start : Tables) (s q time : ℕ) (h : Jo
 abbrev pub AreHitsTrue : Script → Tables → Journal → Type 0
 AreHitsTrue script start h = AtEachEntry (λ g e. (s q t : ℕ) → e.session ≡ Some s → e.act ≡ Act.Check q t → e.reply ≡ Reply.Check Checked.Fresh →
     IsHitTrue script start s q t g) h
+
+-- the list that a hit answers is what its query gave over the committed rows at the moment of the hit. This needs no premise where
+-- the script is valid, since its queries read declared tables alone
+abbrev pub IsListGiven : Script → Tables → ℕ → ℕ → ℕ → Journal → Type 0
+IsListGiven script start s q time h = (list : List Cell) (d : Query) → last_reply (own s h) ≡ Reply.Found time list →
+    slice_get script.queries q ≡ Some d → list ≡ gives d (committed start (moment s q h))
+
+-- so it is at every Check that is answered Fresh
+abbrev pub AreListsGiven : Script → Tables → Journal → Type 0
+AreListsGiven script start h = AtEachEntry (λ g e. (s q t : ℕ) → e.session ≡ Some s → e.act ≡ Act.Check q t → e.reply ≡ Reply.Check Checked.Fresh →
+    IsListGiven script start s q t g) h

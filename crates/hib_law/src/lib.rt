@@ -6,12 +6,13 @@
 #![tactic(auto)]
 
 ghost use Rattle.hib_base.specs.Tables.{Tables};
+ghost use Rattle.hib_base.specs.Valid.{is_valid};
 ghost use Rattle.hib_journal.specs.Legal.{IsLegal};
 ghost use Rattle.hib_journal.specs.Next.{plan_of, strategy};
 ghost use Rattle.hib_journal.specs.Plan.{InOrder};
 ghost use Rattle.hib_journal.specs.Sessions.{Journal, own};
 ghost use Rattle.hib_journal.specs.Types.{Key, Script, Strategy};
-ghost use Rattle.hib_law.specs.Hits.{AreHitsTrue};
+ghost use Rattle.hib_law.specs.Hits.{AreHitsTrue, AreListsGiven};
 ghost use Rattle.hib_law.specs.Items.{IsItemGiven, IsItemOld};
 ghost use Rattle.hib_law.specs.Law.{Coheres, Obeys};
 ghost use Rattle.hib_law.specs.Locks.{AreLocksKept};
@@ -19,7 +20,7 @@ ghost use Rattle.hib_law.specs.Misses.{HasCause};
 ghost use Rattle.hib_law.specs.Prefixes.{AtEachEntry, AtEachPrefix};
 ghost use Rattle.hib_law.specs.Rows.{IsFindAnswered, IsKeyCoherent};
 ghost use Rattle.hib_law.specs.Seen.{AreFloorsLow, AreSeenSafe};
-ghost use Rattle.std.specs.Prelude.{◌≡◌, ℕ, Option, Some};
+ghost use Rattle.std.specs.Prelude.{◌≡◌, ℕ, IfSome, Option, Some, true};
 
 /// Each session's entries are the acts of its plan, each once and in order, whether the rows at the start are told or not.
 pub fn steps_are_in_order()
@@ -43,6 +44,12 @@ pub fn finds_are_answered()
 /// stamped yet have changed its tables.
 pub fn hits_are_true()
     ensures hits { (script : Script) (start : Tables) (h : Journal) → IsLegal script (Some start) h → AreHitsTrue script start h }
+{}
+
+/// Of a valid script, each list from the cache is what its query gave over the committed rows at the moment of the hit.
+pub fn lists_are_given()
+    ensures lists { (script : Script) (told : Option Tables) (h : Journal) → is_valid script ≡ true → IsLegal script told h →
+        IfSome told (λ start. AreListsGiven script start h) }
 {}
 
 /// Each refusal of the cache has its cause in the journal before it, with its number.

@@ -2,6 +2,7 @@
 use Rattle.std.specs.Prelude.{ℕ, ◌+◌, ◌-◌, ◌*◌, ◌^◌, Bool, true, false, cond, not, ◌&&◌, ◌||◌, ◌==◌, nat_lt, nat_le, List, [], ◌∷◌, ◌++◌, length, take, drop, position, ℤ, pos, neg_ℤ, Option, Some, None, option_map, option_and_then}
 use Rattle.std.specs.List.{list_all}
 use Rattle.hib_base.specs.Fits.{is_printable}
+pub use Rattle.hib_base.specs.Words.{is_letter, is_digit, is_word_byte, is_word}
 use Rattle.hib_lex.specs.declared.lexer.Token.{Token}
 use Rattle.hib_lex.specs.declared.lexer.Place.{Place}
 use Rattle.hib_lex.specs.declared.lexer.Scan.{Scan}
@@ -34,9 +35,6 @@ zero_digit = 48
 abbrev pub backslash : ℕ
 backslash = 92
 
-abbrev pub underscore : ℕ
-underscore = 95
-
 -- ---- lines
 -- what every line has to be, a skipped one too
 abbrev pub is_lexical : List ℕ → Bool
@@ -48,20 +46,6 @@ is_blank [] = true
 is_blank (b ∷ bs) = cond (b == space) (is_blank bs) (b == hash)
 
 -- ---- words, paths and numbers
-abbrev pub is_letter : ℕ → Bool
-is_letter b = (nat_le 65 b && nat_le b 90) || (nat_le 97 b && nat_le b 122)
-
-abbrev pub is_digit : ℕ → Bool
-is_digit b = nat_le 48 b && nat_le b 57
-
-abbrev pub is_word_byte : ℕ → Bool
-is_word_byte b = is_letter b || (is_digit b || ((b == underscore) || (b == dash)))
-
--- a letter, then letters, digits, `_` or `-`; 1 to 32 bytes
-abbrev pub is_word : List ℕ → Bool
-is_word [] = false
-is_word (b ∷ bs) = is_letter b && (nat_lt (length bs) 32 && list_all is_word_byte bs)
-
 -- two words joined by one dot
 abbrev pub path_at : List ℕ → Option ℕ → Option Token
 path_at bs None = None

@@ -1,6 +1,6 @@
 -- What single tokens are, and what names stand for.
-use Rattle.std.specs.Prelude.{ℕ, Bool, true, false, cond, ◌&&◌, nat_le, nat_lt, List, [], ◌∷◌, pos, Option, Some, None, option_and_then, position, codes, bytes_eq}
-use Rattle.std.specs.List.{list_any}
+use Rattle.std.specs.Prelude.{ℕ, Bool, true, false, cond, ◌&&◌, nat_le, nat_lt, List, [], ◌∷◌, pos, Option, Some, None, option_and_then, position, bytes_eq}
+pub use Rattle.hib_base.specs.Words.{is_reserved}
 use Rattle.hib_base.specs.declared.scripts.ColumnDef.{ColumnDef}
 use Rattle.hib_base.specs.declared.scripts.EntityDef.{EntityDef}
 use Rattle.hib_lex.specs.declared.lexer.Token.{Token}
@@ -19,6 +19,11 @@ abbrev pub word_of : Token → List ℕ
 word_of (Token.Word w) = w
 word_of _ = []
 
+-- the name that a line declares
+abbrev pub name_in : List Token → List ℕ
+name_in (first ∷ name ∷ ts) = word_of name
+name_in _ = []
+
 -- a number from low to high
 abbrev pub is_within : ℕ → ℕ → Token → Bool
 is_within low high (Token.Number (pos n)) = nat_le low n && nat_le n high
@@ -30,15 +35,6 @@ number_up_to high (Token.Number (pos n)) = cond (nat_le n high) n 0
 number_up_to high _ = 0
 
 -- ---- names
--- words that are no names
-abbrev pub reserved : List (List ℕ)
-reserved =
-    codes "cached" ∷ codes "from" ∷ codes "where" ∷ codes "order" ∷ codes "desc" ∷ codes "offset" ∷ codes "limit" ∷
-    codes "select" ∷ codes "ids" ∷ codes "count" ∷ codes "true" ∷ codes "false" ∷ codes "none" ∷ []
-
-abbrev pub is_reserved : List ℕ → Bool
-is_reserved w = list_any (λ r. bytes_eq w r) reserved
-
 -- places are counted from 0, below 65,536
 abbrev pub small : ℕ → Option ℕ
 small n = cond (nat_lt n 65536) (Some n) None

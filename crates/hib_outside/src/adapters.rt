@@ -1,5 +1,8 @@
 // The source and the sink over std's reader and writer. They count their failures and tell nothing.
-ghost use Rattle.std.specs.Prelude.{◌≡◌, ◌+◌, length};
+ghost use Rattle.hib_outside.specs.Causes.{HasCause, one_more};
+ghost use Rattle.std.specs.Io.{ReadsAtMost, WritesAtMost};
+ghost use Rattle.std.specs.Io.KnownBytes.{ReadConsumes, WriteAppends};
+ghost use Rattle.std.specs.Prelude.{◌≡◌, ◌<◌, cond, is_err, length, IfOk};
 ghost use Rattle.std.specs.declared.option.Option.TheVariants.{None};
 
 use crate::{Failed, Sink, Source};
@@ -29,7 +32,13 @@ impl<R: Read> Source for StdSource<R> {
 
     ghost faults = { λ s. s.faults };
 
-    fn read(&mut self, buf: &mut [u8]) -> Result<usize, Failed> {
+    /// Each failure is counted, and nothing else.
+    fn read(&mut self, buf: &mut [u8]) -> Result<usize, Failed>
+        ensures bound { ReadsAtMost result buf.new }
+        ensures bytes { ReadConsumes None None result buf.new }
+        ensures cause { HasCause self.old.faults self.new.faults result }
+        ensures count { self.new.faults ≡ cond (is_err result) (one_more self.old.faults) self.old.faults }
+    {
         match self.inner.read(buf) {
             Ok(count) => Ok(count),
             Err(_) => {
@@ -64,8 +73,14 @@ impl<W: Write> Sink for StdSink<W> {
 
     ghost faults = { λ s. s.faults };
 
-    /// A writer that takes nothing of a piece that isn't empty has failed.
-    fn write(&mut self, bytes: &[u8]) -> Result<usize, Failed> {
+    /// A writer that takes nothing of a piece that isn't empty has failed. Each failure is counted, and nothing else.
+    fn write(&mut self, bytes: &[u8]) -> Result<usize, Failed>
+        ensures bound { WritesAtMost result bytes.now }
+        ensures some { 0 < length bytes.now → IfOk result (λ n. 0 < n) }
+        ensures bytes { WriteAppends None None result bytes.now }
+        ensures cause { HasCause self.old.faults self.new.faults result }
+        ensures count { self.new.faults ≡ cond (is_err result) (one_more self.old.faults) self.old.faults }
+    {
         match self.inner.write(bytes) {
             Ok(count) if count > 0 || bytes.is_empty() => Ok(count),
             _ => {

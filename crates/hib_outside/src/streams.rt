@@ -22,7 +22,7 @@ pub trait Source {
 
     /// Moves the first bytes left to the front of the buffer, and answers how many.
     /// None is moved into a buffer with room only at the end. It fails only where the count of faults rose, and
-    /// then no byte is taken.
+    /// then no byte is taken; where it doesn't fail the count stays.
     fn read(&mut self, buf: &mut [u8]) -> Result<usize, Failed>
         ensures bound { ReadsAtMost result buf.new }
         ensures bytes { ReadConsumes (left self.old) (left self.new) result buf.new }
@@ -38,7 +38,7 @@ pub trait Sink {
     ghost faults: { Self → ℕ };
 
     /// Takes the first bytes of a piece, at least one where there is one, and answers how many.
-    /// It fails only where the count of faults rose, and then nothing is taken.
+    /// It fails only where the count of faults rose, and then nothing is taken; where it doesn't fail the count stays.
     fn write(&mut self, bytes: &[u8]) -> Result<usize, Failed>
         ensures bound { WritesAtMost result bytes.now }
         ensures some { 0 < length bytes.now → IfOk result (λ n. 0 < n) }

@@ -5,7 +5,7 @@ use Rattle.std.proofs.lemmas.List.{length-map}
 use Rattle.hib_base.specs.declared.scripts.Query.{Query}
 use Rattle.hib_criteria.specs.Query.{said}
 use Rattle.hib_statements.specs.Statements.{names_of}
-use Rattle.hib_script.specs.Lines.{has_name}
+use Rattle.hib_base.specs.Words.{has_name}
 use Rattle.hib_script.specs.Outline.{query_names}
 
 pub names_of_said : (qs : List Query) → query_names (map said qs) ≡ names_of qs

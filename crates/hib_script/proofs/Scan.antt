@@ -1,12 +1,11 @@
 -- One line more of a script.
-use Rattle.std.proofs.Common.{◌≡◌, ℕ, ◌+◌, ◌<◌, ◌≤◌, cond, false, List, [], ◌∷◌, length, drop, get_or, Some, None, Result, Ok, refl, sym, ◌∙◌, add-one, drop-cons}
+use Rattle.std.proofs.Common.{◌≡◌, ℕ, ◌+◌, ◌<◌, ◌≤◌, false, List, [], ◌∷◌, length, drop, get_or, Result, Ok, refl, sym, ◌∙◌, add-one, drop-cons}
 use Rattle.std.proofs.lemmas.List.{drop_all}
 use Rattle.hib_base.specs.declared.refusals.Refused.{Refused}
 use Rattle.hib_lex.specs.declared.lines.Line.{Line}
-use Rattle.hib_mapping.specs.Mapping.{begins_column}
+use Rattle.hib_script.specs.Script.{begins_column}
 use Rattle.hib_script.specs.Lines.{Reader}
 use Rattle.hib_script.specs.Script.{step, reading, IsWhere}
-use Rattle.hib_script.specs.Unbuilt.{is_unbuilt, first_unbuilt}
 use Rattle.hib_script.specs.declared.errors.ScriptError.{ScriptError}
 
 pub reading_next : (r : Reader) (ls : List Line) (i : ℕ) (l : Line) → i < length ls → reading (Ok r) (drop i ls) ≡ reading (step r (begins_column (drop (i + 1) ls)) (get_or ls i l)) (drop (i + 1) ls)
@@ -25,9 +24,3 @@ next_column ls i l h = rw (drop-cons ls i l) refl
 
 pub no_column : (ls : List Line) (i : ℕ) → length ls ≤ i → begins_column (drop i ls) ≡ false
 no_column ls i h = rw (drop_all i ls h) refl
-
-pub unbuilt_next : (ls : List Line) (i : ℕ) (l : Line) → i < length ls → first_unbuilt (drop i ls) ≡ cond (is_unbuilt (get_or ls i l)) (Some (get_or ls i l).line) (first_unbuilt (drop (i + 1) ls))
-unbuilt_next ls i l h = rw (add-one, drop-cons ls i l) refl
-
-pub unbuilt_done : (ls : List Line) (i : ℕ) → length ls ≤ i → first_unbuilt (drop i ls) ≡ None
-unbuilt_done ls i h = rw (drop_all i ls h) refl

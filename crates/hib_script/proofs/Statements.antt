@@ -3,10 +3,11 @@ use Rattle.std.proofs.Common.{◌≡◌, ◌-◌, ◌<◌, suc, List, [], ◌∷
 use Rattle.hib_base.specs.declared.refusals.Kind.{Kind}
 use Rattle.hib_base.specs.declared.scripts.SessionDef.{SessionDef}
 use Rattle.hib_base.specs.declared.scripts.Statement.{Statement}
-use Rattle.hib_script.specs.Lines.{Reader, at, ends_one, are_over, with_statement}
+use Rattle.hib_base.specs.Scripts.{ends, are_over}
+use Rattle.hib_script.specs.Lines.{Reader, at, with_statement}
 use Rattle.hib_script.specs.declared.places.Place.{Place}
 
-pub over_last : (ts : List Statement) (t : Statement) → 0 < length ts → are_over ts ≡ ends_one (get_or ts (length ts - 1) t)
+pub over_last : (ts : List Statement) (t : Statement) → 0 < length ts → are_over ts ≡ ends (get_or ts (length ts - 1) t)
 over_last [] t h = absurd (omega arith)
 over_last (s ∷ []) t h = refl
 over_last (s ∷ u ∷ ts) t h =

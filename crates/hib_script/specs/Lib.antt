@@ -3,5 +3,3 @@ pub mod Places
 pub mod Lines
 pub mod Drafts
 pub mod Script
-pub mod Valid
-pub mod Unbuilt

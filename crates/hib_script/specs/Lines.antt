@@ -1,6 +1,9 @@
 -- What one line adds to a script that was read so far, or the first thing that is wrong with it.
 use Rattle.std.specs.Prelude.{◌≡◌, ℕ, ◌+◌, Bool, true, false, cond, not, ◌&&◌, nat_lt, List, [], ◌∷◌, ◌++◌, length, Option, Some, None, codes, bytes_eq, Result, Ok, Err}
 use Rattle.std.specs.List.{list_any}
+use Rattle.hib_base.specs.Scripts.{are_over}
+use Rattle.hib_base.specs.Valid.{max_timeout, max_results, max_rows, max_queries, max_sessions, max_statements, max_orders}
+use Rattle.hib_base.specs.Words.{has_name, is_reserved}
 use Rattle.hib_base.specs.declared.numbers.Key.{Key}
 use Rattle.hib_base.specs.declared.refusals.Kind.{Kind}
 use Rattle.hib_base.specs.declared.rows.Row.{Row}
@@ -11,8 +14,8 @@ use Rattle.hib_base.specs.declared.scripts.Statement.{Statement}
 use Rattle.hib_lex.specs.Words.{is_the_word, begins}
 use Rattle.hib_lex.specs.declared.lexer.Token.{Token}
 use Rattle.hib_mapping.specs.Declarations.{is_entity_line, entity_kind, entity_of, is_column_line, column_kind, with_column}
-use Rattle.hib_mapping.specs.Mapping.{with_open}
-use Rattle.hib_mapping.specs.Parts.{is_a_word, is_a_number, word_of, is_within, number_up_to, is_reserved}
+use Rattle.hib_mapping.specs.Parts.{is_a_word, is_a_number, word_of, is_within, number_up_to}
+pub use Rattle.hib_mapping.specs.Parts.{name_in}
 use Rattle.hib_criteria.specs.Query.{Said, query_of}
 use Rattle.hib_statements.specs.Statements.{statement_of}
 use Rattle.hib_statements.specs.Rows.{row_of}
@@ -42,11 +45,6 @@ at p r = record r { place = p }
 
 abbrev pub behind : Part → Reader → Reader
 behind p r = at (Place.Behind p) r
-
--- the name that a line declares
-abbrev pub name_in : List Token → List ℕ
-name_in (first ∷ name ∷ ts) = word_of name
-name_in _ = []
 
 -- a line of one word
 abbrev pub is_alone : List Token → Bool
@@ -80,10 +78,10 @@ with_results r (Err k) = Err k
 with_results r (Ok n) = Ok (behind Part.Results (record r { outline = record r.outline { results = n } }))
 
 abbrev pub timeout_line : Reader → List Token → After
-timeout_line r ts = with_timeout r (number_line 1000000 ts)
+timeout_line r ts = with_timeout r (number_line max_timeout ts)
 
 abbrev pub results_line : Reader → List Token → After
-results_line r ts = with_results r (number_line 100000 ts)
+results_line r ts = with_results r (number_line max_results ts)
 
 -- ---- entities and their columns
 -- a declared name may not be reserved
@@ -118,6 +116,11 @@ abbrev pub column_line : Reader → Option EntityDef → List Token → After
 column_line r None ts = Err Kind.Line
 column_line r (Some e) ts = with_columns r (more_columns r.outline.mapping e ts)
 
+-- the entities with the one whose columns are read
+abbrev pub with_open : List EntityDef → Option EntityDef → List EntityDef
+with_open m None = m
+with_open m (Some e) = m ++ e ∷ []
+
 -- an entity is finished by the next line that isn't a column's
 abbrev pub closed : Reader → Reader
 closed r = record r { outline = record r.outline { mapping = with_open r.outline.mapping r.entity }; entity = None }
@@ -126,16 +129,13 @@ closed r = record r { outline = record r.outline { mapping = with_open r.outline
 abbrev pub with_row : Reader → Result (Key × Row) Kind → After
 with_row r (Err k) = Err k
 with_row r (Ok x) =
-    cond (nat_lt (length r.outline.rows) 10000)
+    cond (nat_lt (length r.outline.rows) max_rows)
     (Ok (behind Part.Rows (record r { outline = record r.outline { rows = r.outline.rows ++ x ∷ [] } }))) (Err Kind.Many)
 
 abbrev pub row_line : Reader → List Token → After
 row_line r ts = with_row r (row_of r.outline.mapping r.outline.rows ts)
 
 -- ---- queries
-abbrev pub has_name : List (List ℕ) → List ℕ → Bool
-has_name names w = list_any (λ v. bytes_eq v w) names
-
 abbrev pub is_of_form : Kind → Bool
 is_of_form Kind.Words = true
 is_of_form Kind.Reserved = true
@@ -149,7 +149,7 @@ abbrev pub with_query : Reader → Bool → Result Said Kind → After
 with_query r taken (Err k) = Err (or_taken taken k)
 with_query r taken (Ok q) =
     cond taken (Err Kind.Taken)
-    (cond (nat_lt (length r.outline.queries) 1000)
+    (cond (nat_lt (length r.outline.queries) max_queries)
     (Ok (behind Part.Queries (record r { outline = record r.outline { queries = r.outline.queries ++ q ∷ [] } }))) (Err Kind.Many))
 
 abbrev pub is_taken : Reader → List Token → Bool
@@ -169,32 +169,21 @@ abbrev pub new_session : Reader → List ℕ → After
 new_session r w =
     cond (is_reserved w) (Err Kind.Reserved)
     (cond (has_session r.outline.sessions w) (Err Kind.Taken)
-    (cond (nat_lt (length r.outline.sessions) 1000) (begun r w) (Err Kind.Many)))
+    (cond (nat_lt (length r.outline.sessions) max_sessions) (begun r w) (Err Kind.Many)))
 
 abbrev pub session_line : Reader → List Token → After
 session_line r (first ∷ name ∷ []) = cond (is_a_word name) (new_session r (word_of name)) (Err Kind.Words)
 session_line r _ = Err Kind.Words
 
-abbrev pub ends_one : Statement → Bool
-ends_one Statement.Commit = true
-ends_one Statement.Rollback = true
-ends_one _ = false
-
--- the last of some statements is a commit or a rollback
-abbrev pub are_over : List Statement → Bool
-are_over [] = false
-are_over (t ∷ []) = ends_one t
-are_over (t ∷ u ∷ ts) = are_over (u ∷ ts)
-
 abbrev pub one_more : Reader → SessionDef → Statement → Reader
 one_more r s t =
     record r { statements = r.statements + 1; place = Place.Session (record s { statements = s.statements ++ t ∷ [] }) }
 
--- at most 5,000 statements of all sessions; none behind a commit or a rollback
+-- there is a most of statements of all sessions, and none stands behind a commit or a rollback
 abbrev pub with_statement : Reader → SessionDef → Result Statement Kind → After
 with_statement r s (Err k) = Err k
 with_statement r s (Ok t) =
-    cond (nat_lt r.statements 5000) (cond (are_over s.statements) (Err Kind.Last) (Ok (one_more r s t))) (Err Kind.Many)
+    cond (nat_lt r.statements max_statements) (cond (are_over s.statements) (Err Kind.Last) (Ok (one_more r s t))) (Err Kind.Many)
 
 abbrev pub with_session : Reader → SessionDef → Reader
 with_session r s = behind Part.Sessions (record r { outline = record r.outline { sessions = r.outline.sessions ++ s ∷ [] } })
@@ -216,7 +205,7 @@ schedule_line r ts = cond (is_alone ts) (Ok (record r { place = Place.Schedule }
 abbrev pub with_order : Reader → Result Order Kind → After
 with_order r (Err k) = Err k
 with_order r (Ok o) =
-    cond (nat_lt (length r.outline.schedule) 20000)
+    cond (nat_lt (length r.outline.schedule) max_orders)
     (Ok (record r { outline = record r.outline { schedule = r.outline.schedule ++ o ∷ [] } })) (Err Kind.Many)
 
 abbrev pub schedule_end : Reader → List Token → After

@@ -1,11 +1,11 @@
 -- The script of a text, or its first bad line.
-use Rattle.std.specs.Prelude.{◌≡◌, ℕ, Bool, List, [], ◌∷◌, None, Result, Ok, Err}
+use Rattle.std.specs.Prelude.{◌≡◌, ℕ, Bool, false, List, [], ◌∷◌, None, codes, Result, Ok, Err}
 use Rattle.hib_base.specs.declared.refusals.Kind.{Kind}
 use Rattle.hib_base.specs.declared.refusals.Refused.{Refused}
 use Rattle.hib_lex.specs.Lines.{lex_of}
+use Rattle.hib_lex.specs.Words.{begins}
 use Rattle.hib_lex.specs.declared.lines.Line.{Line}
 use Rattle.hib_lex.specs.declared.lines.Lines.{Lines}
-use Rattle.hib_mapping.specs.Mapping.{begins_column}
 use Rattle.hib_script.specs.Lines.{Reader, After, after_line, closed}
 use Rattle.hib_script.specs.Outline.{Outline}
 use Rattle.hib_script.specs.declared.errors.ScriptError.{ScriptError}
@@ -21,6 +21,11 @@ at_line l (Ok r) = Ok r
 
 abbrev pub step : Reader → Bool → Line → Result Reader Refused
 step r followed l = at_line l (after_line r followed l.tokens)
+
+-- the next line is a column's
+abbrev pub begins_column : List Line → Bool
+begins_column [] = false
+begins_column (l ∷ ls) = begins (codes "column") l.tokens
 
 -- the lines that are left; the first bad one ends it
 abbrev pub reading : Result Reader Refused → List Line → Result Reader Refused

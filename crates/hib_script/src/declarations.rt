@@ -3,7 +3,7 @@ ghost use Rattle.hib_script.specs.Drafts.{reader_of};
 ghost use Rattle.hib_script.specs.Lines as lines;
 ghost use Rattle.hib_criteria.specs.Query.{said};
 ghost use Rattle.std.specs.List.{list_any};
-ghost use Rattle.std.specs.Prelude.{◌≡◌, IfOk, IfErr, bytes_eq};
+ghost use Rattle.std.specs.Prelude.{◌≡◌, IfOk, IfErr, OnOk, Ok, bytes_eq};
 
 use crate::drafts::{Draft, behind, has_room};
 use crate::errors::LineError;
@@ -31,54 +31,57 @@ const MOST_ROWS: usize = 10_000;
 const MOST_QUERIES: usize = 1_000;
 
 /// The line `hib 1`.
-pub fn header_line(draft: Draft, tokens: &[Token]) -> Result<Draft, LineError>
-    ensures step { IfOk result (λ d. lines.header_line (reader_of draft) tokens.now ≡ Ok (reader_of d)) }
-    ensures fault { IfErr result (lines.IsFault (lines.header_line (reader_of draft) tokens.now)) }
+pub fn header_line(draft: &mut Draft, tokens: &[Token]) -> Result<(), LineError>
+    ensures step { OnOk result (lines.header_line (reader_of draft.old) tokens.now ≡ Ok (reader_of draft.new)) }
+    ensures fault { IfErr result (lines.IsFault (lines.header_line (reader_of draft.old) tokens.now)) }
 {
     if is_header(tokens) {
-        Ok(behind(Part::Header, draft))
+        behind(Part::Header, draft);
+        Ok(())
     } else {
         Err(LineError::Fault(Kind::Header))
     }
 }
 
 /// `timeout N`.
-pub fn timeout_line(draft: Draft, tokens: &[Token]) -> Result<Draft, LineError>
-    ensures step { IfOk result (λ d. lines.timeout_line (reader_of draft) tokens.now ≡ Ok (reader_of d)) }
-    ensures fault { IfErr result (lines.IsFault (lines.timeout_line (reader_of draft) tokens.now)) }
+pub fn timeout_line(draft: &mut Draft, tokens: &[Token]) -> Result<(), LineError>
+    ensures step { OnOk result (lines.timeout_line (reader_of draft.old) tokens.now ≡ Ok (reader_of draft.new)) }
+    ensures fault { IfErr result (lines.IsFault (lines.timeout_line (reader_of draft.old) tokens.now)) }
 {
     with_timeout(draft, number_line(MOST_TIMEOUT, tokens))
 }
 
-fn with_timeout(mut draft: Draft, timeout: Result<u32, Kind>) -> Result<Draft, LineError>
-    ensures step { IfOk result (λ d. lines.with_timeout (reader_of draft) timeout ≡ Ok (reader_of d)) }
-    ensures fault { IfErr result (lines.IsFault (lines.with_timeout (reader_of draft) timeout)) }
+fn with_timeout(draft: &mut Draft, timeout: Result<u32, Kind>) -> Result<(), LineError>
+    ensures step { OnOk result (lines.with_timeout (reader_of draft.old) timeout ≡ Ok (reader_of draft.new)) }
+    ensures fault { IfErr result (lines.IsFault (lines.with_timeout (reader_of draft.old) timeout)) }
 {
     match timeout {
         Ok(timeout) => {
             draft.script.timeout = timeout;
-            Ok(behind(Part::Timeout, draft))
+            behind(Part::Timeout, draft);
+            Ok(())
         }
         Err(kind) => Err(LineError::Fault(kind)),
     }
 }
 
 /// `results N`.
-pub fn results_line(draft: Draft, tokens: &[Token]) -> Result<Draft, LineError>
-    ensures step { IfOk result (λ d. lines.results_line (reader_of draft) tokens.now ≡ Ok (reader_of d)) }
-    ensures fault { IfErr result (lines.IsFault (lines.results_line (reader_of draft) tokens.now)) }
+pub fn results_line(draft: &mut Draft, tokens: &[Token]) -> Result<(), LineError>
+    ensures step { OnOk result (lines.results_line (reader_of draft.old) tokens.now ≡ Ok (reader_of draft.new)) }
+    ensures fault { IfErr result (lines.IsFault (lines.results_line (reader_of draft.old) tokens.now)) }
 {
     with_results(draft, number_line(MOST_RESULTS, tokens))
 }
 
-fn with_results(mut draft: Draft, results: Result<u32, Kind>) -> Result<Draft, LineError>
-    ensures step { IfOk result (λ d. lines.with_results (reader_of draft) results ≡ Ok (reader_of d)) }
-    ensures fault { IfErr result (lines.IsFault (lines.with_results (reader_of draft) results)) }
+fn with_results(draft: &mut Draft, results: Result<u32, Kind>) -> Result<(), LineError>
+    ensures step { OnOk result (lines.with_results (reader_of draft.old) results ≡ Ok (reader_of draft.new)) }
+    ensures fault { IfErr result (lines.IsFault (lines.with_results (reader_of draft.old) results)) }
 {
     match results {
         Ok(results) => {
             draft.script.results = results;
-            Ok(behind(Part::Results, draft))
+            behind(Part::Results, draft);
+            Ok(())
         }
         Err(kind) => Err(LineError::Fault(kind)),
     }
@@ -98,12 +101,12 @@ fn or_reserved(name: &[u8], kind: Option<Kind>) -> Option<Kind>
 /// An entity's line; `followed` says whether the next line is a column's.
 pub fn entity_line(
     alloc: Global,
-    draft: Draft,
+    draft: &mut Draft,
     followed: bool,
     tokens: &[Token],
-) -> Result<Draft, LineError>
-    ensures step { IfOk result (λ d. lines.entity_line (reader_of draft) followed tokens.now ≡ Ok (reader_of d)) }
-    ensures fault { IfErr result (lines.IsFault (lines.entity_line (reader_of draft) followed tokens.now)) }
+) -> Result<(), LineError>
+    ensures step { OnOk result (lines.entity_line (reader_of draft.old) followed tokens.now ≡ Ok (reader_of draft.new)) }
+    ensures fault { IfErr result (lines.IsFault (lines.entity_line (reader_of draft.old) followed tokens.now)) }
 {
     if !is_entity_line(tokens) {
         return Err(LineError::Fault(Kind::Words));
@@ -114,44 +117,32 @@ pub fn entity_line(
 
 fn new_entity(
     alloc: Global,
-    mut draft: Draft,
+    draft: &mut Draft,
     tokens: &[Token],
     kind: Option<Kind>,
-) -> Result<Draft, LineError>
-    ensures step { IfOk result (λ d. lines.new_entity (reader_of draft) tokens.now kind ≡ Ok (reader_of d)) }
-    ensures fault { IfErr result (lines.IsFault (lines.new_entity (reader_of draft) tokens.now kind)) }
+) -> Result<(), LineError>
+    ensures step { OnOk result (lines.new_entity (reader_of draft.old) tokens.now kind ≡ Ok (reader_of draft.new)) }
+    ensures fault { IfErr result (lines.IsFault (lines.new_entity (reader_of draft.old) tokens.now kind)) }
 {
     if let Some(kind) = kind {
         return Err(LineError::Fault(kind));
     }
     draft.entity = entity(alloc, tokens)?;
-    Ok(behind(Part::Entities, draft))
+    behind(Part::Entities, draft);
+    Ok(())
 }
 
 /// A column's line, of the entity whose columns are read.
-pub fn column_line(alloc: Global, draft: Draft, tokens: &[Token]) -> Result<Draft, LineError>
-    ensures step { IfOk result (λ d. lines.column_line (reader_of draft) draft.entity tokens.now ≡ Ok (reader_of d)) }
-    ensures fault { IfErr result (lines.IsFault (lines.column_line (reader_of draft) draft.entity tokens.now)) }
+pub fn column_line(alloc: Global, draft: &mut Draft, tokens: &[Token]) -> Result<(), LineError>
+    ensures step { OnOk result (lines.column_line (reader_of draft.old) draft.old.entity tokens.now ≡ Ok (reader_of draft.new)) }
+    ensures fault { IfErr result (lines.IsFault (lines.column_line (reader_of draft.old) draft.old.entity tokens.now)) }
 {
-    let Draft {
-        script,
-        entity,
-        statements,
-        place,
-    } = draft;
-    let Some(entity) = entity else {
+    let Some(entity) = draft.entity.take() else {
         return Err(LineError::Fault(Kind::Line));
     };
-    match more_columns(alloc, script.mapping.as_slice(), entity, tokens) {
-        Ok(entity) => Ok(Draft {
-            script,
-            entity: Some(entity),
-            statements,
-            place,
-        }),
-        Err(LineError::Fault(kind)) => Err(LineError::Fault(kind)),
-        Err(LineError::NoMemory) => Err(LineError::NoMemory),
-    }
+    let entity = more_columns(alloc, draft.script.mapping.as_slice(), entity, tokens)?;
+    draft.entity = Some(entity);
+    Ok(())
 }
 
 /// The entity with the column of a line.
@@ -175,9 +166,9 @@ fn more_columns(
 }
 
 /// A row's line.
-pub fn row_line(alloc: Global, draft: Draft, tokens: &[Token]) -> Result<Draft, LineError>
-    ensures step { IfOk result (λ d. lines.row_line (reader_of draft) tokens.now ≡ Ok (reader_of d)) }
-    ensures fault { IfErr result (lines.IsFault (lines.row_line (reader_of draft) tokens.now)) }
+pub fn row_line(alloc: Global, draft: &mut Draft, tokens: &[Token]) -> Result<(), LineError>
+    ensures step { OnOk result (lines.row_line (reader_of draft.old) tokens.now ≡ Ok (reader_of draft.new)) }
+    ensures fault { IfErr result (lines.IsFault (lines.row_line (reader_of draft.old) tokens.now)) }
 {
     match row(alloc, &draft.script.mapping, &draft.script.rows, tokens) {
         Ok(row) => with_row(draft, row),
@@ -186,23 +177,24 @@ pub fn row_line(alloc: Global, draft: Draft, tokens: &[Token]) -> Result<Draft, 
     }
 }
 
-fn with_row(mut draft: Draft, row: (Key, Row)) -> Result<Draft, LineError>
-    ensures step { IfOk result (λ d. lines.with_row (reader_of draft) (Ok row) ≡ Ok (reader_of d)) }
-    ensures fault { IfErr result (lines.IsFault (lines.with_row (reader_of draft) (Ok row))) }
+fn with_row(draft: &mut Draft, row: (Key, Row)) -> Result<(), LineError>
+    ensures step { OnOk result (lines.with_row (reader_of draft.old) (Ok row) ≡ Ok (reader_of draft.new)) }
+    ensures fault { IfErr result (lines.IsFault (lines.with_row (reader_of draft.old) (Ok row))) }
 {
     if !has_room(draft.script.rows.len(), MOST_ROWS) {
         return Err(LineError::Fault(Kind::Many));
     }
     draft.script.rows.push(row)?;
-    Ok(behind(Part::Rows, draft))
+    behind(Part::Rows, draft);
+    Ok(())
 }
 
 /// A query's line.
-pub fn query_line(alloc: Global, draft: Draft, tokens: &[Token]) -> Result<Draft, LineError>
-    ensures step { IfOk result (λ d. lines.query_line (reader_of draft) tokens.now ≡ Ok (reader_of d)) }
-    ensures fault { IfErr result (lines.IsFault (lines.query_line (reader_of draft) tokens.now)) }
+pub fn query_line(alloc: Global, draft: &mut Draft, tokens: &[Token]) -> Result<(), LineError>
+    ensures step { OnOk result (lines.query_line (reader_of draft.old) tokens.now ≡ Ok (reader_of draft.new)) }
+    ensures fault { IfErr result (lines.IsFault (lines.query_line (reader_of draft.old) tokens.now)) }
 {
-    let is_taken = is_query_taken(&draft, tokens);
+    let is_taken = is_query_taken(draft, tokens);
     match check(alloc, &draft.script.mapping, tokens) {
         Ok(query) => with_query(draft, is_taken, query),
         Err(CriteriaError::Fault(kind)) => Err(LineError::Fault(or_taken(is_taken, kind))),
@@ -242,9 +234,9 @@ fn is_of_form(kind: Kind) -> bool
 }
 
 #[tactic(auto, using(crate::proofs::Queries::one_more_said, crate::proofs::Queries::as_many_said))]
-fn with_query(mut draft: Draft, is_taken: bool, query: Query) -> Result<Draft, LineError>
-    ensures step { IfOk result (λ d. lines.with_query (reader_of draft) is_taken (Ok (said query)) ≡ Ok (reader_of d)) }
-    ensures fault { IfErr result (lines.IsFault (lines.with_query (reader_of draft) is_taken (Ok (said query)))) }
+fn with_query(draft: &mut Draft, is_taken: bool, query: Query) -> Result<(), LineError>
+    ensures step { OnOk result (lines.with_query (reader_of draft.old) is_taken (Ok (said query)) ≡ Ok (reader_of draft.new)) }
+    ensures fault { IfErr result (lines.IsFault (lines.with_query (reader_of draft.old) is_taken (Ok (said query)))) }
 {
     if is_taken {
         return Err(LineError::Fault(Kind::Taken));
@@ -253,5 +245,6 @@ fn with_query(mut draft: Draft, is_taken: bool, query: Query) -> Result<Draft, L
         return Err(LineError::Fault(Kind::Many));
     }
     draft.script.queries.push(query)?;
-    Ok(behind(Part::Queries, draft))
+    behind(Part::Queries, draft);
+    Ok(())
 }

@@ -2,7 +2,7 @@
 ghost use Rattle.hib_script.specs.Drafts.{reader_of};
 ghost use Rattle.hib_script.specs.Lines as lines;
 ghost use Rattle.hib_script.specs.Script as order;
-ghost use Rattle.std.specs.Prelude.{◌≡◌, IfOk, nat_lt};
+ghost use Rattle.std.specs.Prelude.{◌≡◌, OnOk, nat_lt};
 
 use crate::places::{Part, Place};
 use hib_base::{EntityDef, Script, Seq};
@@ -41,41 +41,28 @@ pub fn start(alloc: Global) -> Draft
     }
 }
 
-/// The draft behind a line of a part.
-pub fn behind(part: Part, draft: Draft) -> Draft
-    ensures { reader_of result ≡ lines.behind part (reader_of draft) }
+/// Puts a draft behind a line of a part.
+pub fn behind(part: Part, draft: &mut Draft)
+    ensures { reader_of draft.new ≡ lines.behind part (reader_of draft.old) }
 {
-    at(Place::Behind(part), draft)
+    draft.place = Place::Behind(part);
 }
 
-/// The draft at a place.
-pub fn at(place: Place, mut draft: Draft) -> Draft
-    ensures { reader_of result ≡ lines.at place (reader_of draft) }
+/// Puts a draft at a place.
+pub fn at(place: Place, draft: &mut Draft)
+    ensures { reader_of draft.new ≡ lines.at place (reader_of draft.old) }
 {
     draft.place = place;
-    draft
 }
 
-/// The draft with the entity whose columns were read among the finished ones.
-pub fn closed(draft: Draft) -> Result<Draft, AllocError>
-    ensures { IfOk result (λ d. reader_of d ≡ lines.closed (reader_of draft)) }
+/// Puts the entity whose columns were read among the finished ones.
+pub fn close(draft: &mut Draft) -> Result<(), AllocError>
+    ensures { OnOk result (reader_of draft.new ≡ lines.closed (reader_of draft.old)) }
 {
-    let Draft {
-        mut script,
-        entity,
-        statements,
-        place,
-    } = draft;
-    match entity {
-        Some(entity) => script.mapping.push(entity)?,
-        None => {}
+    match draft.entity.take() {
+        Some(entity) => draft.script.mapping.push(entity),
+        None => Ok(()),
     }
-    Ok(Draft {
-        script,
-        entity: None,
-        statements,
-        place,
-    })
 }
 
 /// Whether there is room for one more beside so many.

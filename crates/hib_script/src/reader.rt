@@ -1,14 +1,13 @@
 // The script of a text.
+ghost use Rattle.hib_base.specs.Valid.{is_valid};
 ghost use Rattle.hib_lex.specs.Lines.{lex_of};
-ghost use Rattle.hib_mapping.specs.Mapping.{begins_column};
+ghost use Rattle.hib_script.specs.Script.{begins_column};
 ghost use Rattle.hib_script.specs.Drafts.{reader_of};
 ghost use Rattle.hib_script.specs.Outline.{outline_of};
 ghost use Rattle.hib_script.specs.Script as order;
-ghost use Rattle.hib_script.specs.Unbuilt as unbuilt;
-ghost use Rattle.hib_script.specs.Valid.{is_valid};
-ghost use Rattle.std.specs.Prelude.{◌≡◌, ◌+◌, ◌^◌, ◌<◌, length, drop, IfOk, IfErr, true};
+ghost use Rattle.std.specs.Prelude.{◌≡◌, ◌+◌, ◌^◌, ◌<◌, length, drop, IfOk, IfErr, OnOk, Ok, true};
 
-use crate::drafts::{Draft, closed, start};
+use crate::drafts::{Draft, close, start};
 use crate::errors::{LineError, ScriptError};
 use crate::lines::after_line;
 use crate::places::Place;
@@ -16,7 +15,8 @@ use hib_base::{Kind, Refused, Script};
 use hib_lex::{LexError, Line, Lines, begins, lex};
 use std::alloc::{AllocError, Global};
 
-/// The script that a text is. Its limits are kept, and each of its sessions ends its transaction.
+/// The script that a text is. It keeps the rules of scripts: its limits at both ends, each session ends its transaction, what it
+/// names is there, and more.
 ///
 /// Errors: `Refused` exactly where the text is no script, with its first bad line and the first kind that this has, those
 /// of bytes, length and tokens over the whole text before all others; where the text ends too early, the line is the
@@ -55,7 +55,7 @@ fn read_draft(alloc: Global, lines: &[Line]) -> Result<Draft, ScriptError>
 {
     let mut draft = start(alloc);
     for i in 0..lines.len() {
-        draft = step(alloc, draft, is_column_next(lines, i), &lines[i])?;
+        step(alloc, &mut draft, is_column_next(lines, i), &lines[i])?;
     }
     Ok(draft)
 }
@@ -69,13 +69,13 @@ fn is_column_next(lines: &[Line], i: usize) -> bool
     i + 1 < lines.len() && begins(lines[i + 1].tokens.as_slice(), b"column")
 }
 
-/// The draft behind one more line.
-fn step(alloc: Global, draft: Draft, followed: bool, line: &Line) -> Result<Draft, ScriptError>
-    ensures step { IfOk result (λ d. order.step (reader_of draft) followed line.now ≡ Ok (reader_of d)) }
-    ensures refused { IfErr result (order.IsWhere (order.step (reader_of draft) followed line.now)) }
+/// Takes one more line into a draft.
+fn step(alloc: Global, draft: &mut Draft, followed: bool, line: &Line) -> Result<(), ScriptError>
+    ensures step { OnOk result (order.step (reader_of draft.old) followed line.now ≡ Ok (reader_of draft.new)) }
+    ensures refused { IfErr result (order.IsWhere (order.step (reader_of draft.old) followed line.now)) }
 {
     match after_line(alloc, draft, followed, line.tokens.as_slice()) {
-        Ok(draft) => Ok(draft),
+        Ok(()) => Ok(()),
         Err(LineError::Fault(kind)) => Err(refused(line.line, kind)),
         Err(LineError::NoMemory) => Err(ScriptError::NoMemory),
     }
@@ -86,29 +86,19 @@ fn ended(count: u32, draft: Draft) -> Result<Script, ScriptError>
     ensures script { IfOk result (λ s. order.ended_at count (reader_of draft) draft.place ≡ Ok (outline_of s)) }
     ensures refused { IfErr result (order.IsWhere (order.ended_at count (reader_of draft) draft.place)) }
 {
-    let Draft {
-        script,
-        entity,
-        statements,
-        place,
-    } = draft;
-    match place {
+    match draft.place {
         Place::Start => Err(refused(1, Kind::Header)),
-        Place::Behind(last) => Ok(finished(Draft {
-            script,
-            entity,
-            statements,
-            place: Place::Behind(last),
-        })?),
+        Place::Behind(_) => Ok(finished(draft)?),
         Place::Session(_) | Place::Schedule => Err(unfinished(count)),
     }
 }
 
 /// The script of a draft.
-fn finished(draft: Draft) -> Result<Script, AllocError>
+fn finished(mut draft: Draft) -> Result<Script, AllocError>
     ensures { IfOk result (λ s. outline_of s ≡ order.finished (reader_of draft)) }
 {
-    let Draft { script, .. } = closed(draft)?;
+    close(&mut draft)?;
+    let Draft { script, .. } = draft;
     Ok(script)
 }
 
@@ -123,38 +113,4 @@ fn refused(line: u32, kind: Kind) -> ScriptError
     ensures { result ≡ ScriptError.Refused (order.refused_at line kind) }
 {
     ScriptError::Refused(Refused { line, kind })
-}
-
-/// The first line of a text that lists a query or begins a schedule, which no session does yet; none where there is no
-/// such line, or where the text has a bad byte, a line that is too long or a part that is no token.
-///
-/// Errors: there is no memory left. Nothing is changed.
-pub fn unbuilt_line(alloc: Global, text: &[u8]) -> Result<Option<u32>, AllocError>
-    requires { length text.now < 2 ^ 31 }
-    ensures { IfOk result (λ o. o ≡ unbuilt.unbuilt_line text.now) }
-{
-    match lex(alloc, text) {
-        Ok(lines) => Ok(first_unbuilt(lines.lines.as_slice())),
-        Err(LexError::Refused(_)) => Ok(None),
-        Err(LexError::NoMemory) => Err(AllocError),
-    }
-}
-
-#[tactic(auto, using(crate::proofs::Scan::unbuilt_next, crate::proofs::Scan::unbuilt_done))]
-fn first_unbuilt(lines: &[Line]) -> Option<u32>
-    ensures { result ≡ unbuilt.first_unbuilt lines.now }
-{
-    for line in lines {
-        if is_unbuilt(line) {
-            return Some(line.line);
-        }
-    }
-    None
-}
-
-fn is_unbuilt(line: &Line) -> bool
-    ensures { result ≡ unbuilt.is_unbuilt line.now }
-{
-    let tokens = line.tokens.as_slice();
-    begins(tokens, b"list") || begins(tokens, b"schedule")
 }

@@ -1,8 +1,10 @@
 // The lines of sessions and of the schedule.
-ghost use Rattle.hib_mapping.specs.Parts.{word_of};
+ghost use Rattle.hib_base.specs.Scripts.{ends, are_over};
+ghost use Rattle.hib_base.specs.declared.refusals.Kind.{Kind};
+ghost use Rattle.hib_mapping.specs.Parts.{is_a_word, word_of};
 ghost use Rattle.hib_script.specs.Drafts.{reader_of};
 ghost use Rattle.hib_script.specs.Lines as lines;
-ghost use Rattle.std.specs.Prelude.{◌≡◌, IfOk, IfErr};
+ghost use Rattle.std.specs.Prelude.{◌≡◌, IfErr, OnOk, Ok, Err, cond};
 
 use crate::drafts::{Draft, at, behind, has_room};
 use crate::errors::LineError;
@@ -24,19 +26,30 @@ const MOST_STATEMENTS: u32 = 5_000;
 const MOST_ORDERS: usize = 20_000;
 
 /// `session NAME`.
-pub fn session_line(alloc: Global, draft: Draft, tokens: &[Token]) -> Result<Draft, LineError>
-    ensures step { IfOk result (λ d. lines.session_line (reader_of draft) tokens.now ≡ Ok (reader_of d)) }
-    ensures fault { IfErr result (lines.IsFault (lines.session_line (reader_of draft) tokens.now)) }
+pub fn session_line(alloc: Global, draft: &mut Draft, tokens: &[Token]) -> Result<(), LineError>
+    ensures step { OnOk result (lines.session_line (reader_of draft.old) tokens.now ≡ Ok (reader_of draft.new)) }
+    ensures fault { IfErr result (lines.IsFault (lines.session_line (reader_of draft.old) tokens.now)) }
 {
     match tokens {
-        [_, name] if is_word(name) => new_session(alloc, draft, name),
+        [_, name] => named_session(alloc, draft, name),
         _ => Err(LineError::Fault(Kind::Words)),
     }
 }
 
-fn new_session(alloc: Global, draft: Draft, name: &Token) -> Result<Draft, LineError>
-    ensures step { IfOk result (λ d. lines.new_session (reader_of draft) (word_of name.now) ≡ Ok (reader_of d)) }
-    ensures fault { IfErr result (lines.IsFault (lines.new_session (reader_of draft) (word_of name.now))) }
+fn named_session(alloc: Global, draft: &mut Draft, name: &Token) -> Result<(), LineError>
+    ensures step { OnOk result (cond (is_a_word name.now) (lines.new_session (reader_of draft.old) (word_of name.now)) (Err Kind.Words) ≡ Ok (reader_of draft.new)) }
+    ensures fault { IfErr result (lines.IsFault (cond (is_a_word name.now) (lines.new_session (reader_of draft.old) (word_of name.now)) (Err Kind.Words))) }
+{
+    if is_word(name) {
+        new_session(alloc, draft, name)
+    } else {
+        Err(LineError::Fault(Kind::Words))
+    }
+}
+
+fn new_session(alloc: Global, draft: &mut Draft, name: &Token) -> Result<(), LineError>
+    ensures step { OnOk result (lines.new_session (reader_of draft.old) (word_of name.now) ≡ Ok (reader_of draft.new)) }
+    ensures fault { IfErr result (lines.IsFault (lines.new_session (reader_of draft.old) (word_of name.now))) }
 {
     let bytes = word_bytes(name);
     if is_reserved(bytes) {
@@ -52,7 +65,8 @@ fn new_session(alloc: Global, draft: Draft, name: &Token) -> Result<Draft, LineE
         name: word(alloc, name)?,
         statements: Seq::new(alloc),
     };
-    Ok(at(Place::Session(session), draft))
+    at(Place::Session(session), draft);
+    Ok(())
 }
 
 fn has_session(sessions: &[SessionDef], name: &[u8]) -> bool
@@ -66,12 +80,12 @@ fn has_session(sessions: &[SessionDef], name: &[u8]) -> bool
 /// A line within a session: a statement or `end`.
 pub fn in_session(
     alloc: Global,
-    draft: Draft,
+    draft: &mut Draft,
     session: SessionDef,
     tokens: &[Token],
-) -> Result<Draft, LineError>
-    ensures step { IfOk result (λ d. lines.in_session (reader_of draft) session tokens.now ≡ Ok (reader_of d)) }
-    ensures fault { IfErr result (lines.IsFault (lines.in_session (reader_of draft) session tokens.now)) }
+) -> Result<(), LineError>
+    ensures step { OnOk result (lines.in_session (reader_of draft.old) session tokens.now ≡ Ok (reader_of draft.new)) }
+    ensures fault { IfErr result (lines.IsFault (lines.in_session (reader_of draft.old) session tokens.now)) }
 {
     if begins(tokens, b"end") {
         end_line(draft, session, tokens)
@@ -83,12 +97,12 @@ pub fn in_session(
 #[tactic(auto, using(crate::proofs::Queries::names_of_said))]
 fn statement_line(
     alloc: Global,
-    draft: Draft,
+    draft: &mut Draft,
     session: SessionDef,
     tokens: &[Token],
-) -> Result<Draft, LineError>
-    ensures step { IfOk result (λ d. lines.statement_line (reader_of draft) session tokens.now ≡ Ok (reader_of d)) }
-    ensures fault { IfErr result (lines.IsFault (lines.statement_line (reader_of draft) session tokens.now)) }
+) -> Result<(), LineError>
+    ensures step { OnOk result (lines.statement_line (reader_of draft.old) session tokens.now ≡ Ok (reader_of draft.new)) }
+    ensures fault { IfErr result (lines.IsFault (lines.statement_line (reader_of draft.old) session tokens.now)) }
 {
     match statement(alloc, &draft.script.mapping, &draft.script.queries, tokens) {
         Ok(statement) => with_statement(draft, session, statement),
@@ -98,12 +112,12 @@ fn statement_line(
 }
 
 fn with_statement(
-    mut draft: Draft,
+    draft: &mut Draft,
     mut session: SessionDef,
     statement: Statement,
-) -> Result<Draft, LineError>
-    ensures step { IfOk result (λ d. lines.with_statement (reader_of draft) session (Ok statement) ≡ Ok (reader_of d)) }
-    ensures fault { IfErr result (lines.IsFault (lines.with_statement (reader_of draft) session (Ok statement))) }
+) -> Result<(), LineError>
+    ensures step { OnOk result (lines.with_statement (reader_of draft.old) session (Ok statement) ≡ Ok (reader_of draft.new)) }
+    ensures fault { IfErr result (lines.IsFault (lines.with_statement (reader_of draft.old) session (Ok statement))) }
 {
     if draft.statements >= MOST_STATEMENTS {
         return Err(LineError::Fault(Kind::Many));
@@ -113,12 +127,13 @@ fn with_statement(
     }
     session.statements.push(statement)?;
     draft.statements += 1;
-    Ok(at(Place::Session(session), draft))
+    at(Place::Session(session), draft);
+    Ok(())
 }
 
 /// Whether a statement ends its transaction.
 fn ends_one(statement: &Statement) -> bool
-    ensures { result ≡ lines.ends_one statement.now }
+    ensures { result ≡ ends statement.now }
 {
     matches!(statement, Statement::Commit | Statement::Rollback)
 }
@@ -126,7 +141,7 @@ fn ends_one(statement: &Statement) -> bool
 /// Whether the last statement ends its transaction.
 #[tactic(auto, using(crate::proofs::Statements::over_last))]
 fn are_over(statements: &[Statement]) -> bool
-    ensures { result ≡ lines.are_over statements.now }
+    ensures { result ≡ are_over statements.now }
 {
     match statements.last() {
         Some(last) => ends_one(last),
@@ -135,9 +150,9 @@ fn are_over(statements: &[Statement]) -> bool
 }
 
 /// The `end` of a session.
-fn end_line(draft: Draft, session: SessionDef, tokens: &[Token]) -> Result<Draft, LineError>
-    ensures step { IfOk result (λ d. lines.end_line (reader_of draft) session tokens.now ≡ Ok (reader_of d)) }
-    ensures fault { IfErr result (lines.IsFault (lines.end_line (reader_of draft) session tokens.now)) }
+fn end_line(draft: &mut Draft, session: SessionDef, tokens: &[Token]) -> Result<(), LineError>
+    ensures step { OnOk result (lines.end_line (reader_of draft.old) session tokens.now ≡ Ok (reader_of draft.new)) }
+    ensures fault { IfErr result (lines.IsFault (lines.end_line (reader_of draft.old) session tokens.now)) }
 {
     if !is_alone(tokens) {
         return Err(LineError::Fault(Kind::Words));
@@ -149,29 +164,31 @@ fn end_line(draft: Draft, session: SessionDef, tokens: &[Token]) -> Result<Draft
     }
 }
 
-fn with_session(mut draft: Draft, session: SessionDef) -> Result<Draft, AllocError>
-    ensures { IfOk result (λ d. reader_of d ≡ lines.with_session (reader_of draft) session) }
+fn with_session(draft: &mut Draft, session: SessionDef) -> Result<(), AllocError>
+    ensures { OnOk result (reader_of draft.new ≡ lines.with_session (reader_of draft.old) session) }
 {
     draft.script.sessions.push(session)?;
-    Ok(behind(Part::Sessions, draft))
+    behind(Part::Sessions, draft);
+    Ok(())
 }
 
 /// `schedule`.
-pub fn schedule_line(draft: Draft, tokens: &[Token]) -> Result<Draft, LineError>
-    ensures step { IfOk result (λ d. lines.schedule_line (reader_of draft) tokens.now ≡ Ok (reader_of d)) }
-    ensures fault { IfErr result (lines.IsFault (lines.schedule_line (reader_of draft) tokens.now)) }
+pub fn schedule_line(draft: &mut Draft, tokens: &[Token]) -> Result<(), LineError>
+    ensures step { OnOk result (lines.schedule_line (reader_of draft.old) tokens.now ≡ Ok (reader_of draft.new)) }
+    ensures fault { IfErr result (lines.IsFault (lines.schedule_line (reader_of draft.old) tokens.now)) }
 {
     if is_alone(tokens) {
-        Ok(at(Place::Schedule, draft))
+        at(Place::Schedule, draft);
+        Ok(())
     } else {
         Err(LineError::Fault(Kind::Words))
     }
 }
 
 /// A line within the schedule: an order or `end`.
-pub fn in_schedule(draft: Draft, tokens: &[Token]) -> Result<Draft, LineError>
-    ensures step { IfOk result (λ d. lines.in_schedule (reader_of draft) tokens.now ≡ Ok (reader_of d)) }
-    ensures fault { IfErr result (lines.IsFault (lines.in_schedule (reader_of draft) tokens.now)) }
+pub fn in_schedule(draft: &mut Draft, tokens: &[Token]) -> Result<(), LineError>
+    ensures step { OnOk result (lines.in_schedule (reader_of draft.old) tokens.now ≡ Ok (reader_of draft.new)) }
+    ensures fault { IfErr result (lines.IsFault (lines.in_schedule (reader_of draft.old) tokens.now)) }
 {
     if begins(tokens, b"end") {
         return schedule_end(draft, tokens);
@@ -180,20 +197,21 @@ pub fn in_schedule(draft: Draft, tokens: &[Token]) -> Result<Draft, LineError>
     with_order(draft, order)
 }
 
-fn schedule_end(draft: Draft, tokens: &[Token]) -> Result<Draft, LineError>
-    ensures step { IfOk result (λ d. lines.schedule_end (reader_of draft) tokens.now ≡ Ok (reader_of d)) }
-    ensures fault { IfErr result (lines.IsFault (lines.schedule_end (reader_of draft) tokens.now)) }
+fn schedule_end(draft: &mut Draft, tokens: &[Token]) -> Result<(), LineError>
+    ensures step { OnOk result (lines.schedule_end (reader_of draft.old) tokens.now ≡ Ok (reader_of draft.new)) }
+    ensures fault { IfErr result (lines.IsFault (lines.schedule_end (reader_of draft.old) tokens.now)) }
 {
     if is_alone(tokens) {
-        Ok(behind(Part::Schedule, draft))
+        behind(Part::Schedule, draft);
+        Ok(())
     } else {
         Err(LineError::Fault(Kind::Words))
     }
 }
 
-fn with_order(mut draft: Draft, order: Result<Order, Kind>) -> Result<Draft, LineError>
-    ensures step { IfOk result (λ d. lines.with_order (reader_of draft) order ≡ Ok (reader_of d)) }
-    ensures fault { IfErr result (lines.IsFault (lines.with_order (reader_of draft) order)) }
+fn with_order(draft: &mut Draft, order: Result<Order, Kind>) -> Result<(), LineError>
+    ensures step { OnOk result (lines.with_order (reader_of draft.old) order ≡ Ok (reader_of draft.new)) }
+    ensures fault { IfErr result (lines.IsFault (lines.with_order (reader_of draft.old) order)) }
 {
     let order = match order {
         Ok(order) => order,
@@ -203,5 +221,5 @@ fn with_order(mut draft: Draft, order: Result<Order, Kind>) -> Result<Draft, Lin
         return Err(LineError::Fault(Kind::Many));
     }
     draft.script.schedule.push(order)?;
-    Ok(draft)
+    Ok(())
 }

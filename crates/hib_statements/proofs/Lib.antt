@@ -2,3 +2,5 @@ pub mod Cells
 pub mod Digits
 pub mod Names
 pub mod RowLines
+pub mod Known
+pub mod Fitting

@@ -1,11 +1,11 @@
 -- The order of a schedule that a line is, or the first thing that is wrong with it.
-use Rattle.std.specs.Prelude.{ℕ, ◌^◌, Bool, true, false, cond, ◌&&◌, nat_lt, List, [], ◌∷◌, slice_get, Option, Some, None, option_and_then, position, codes, bytes_eq, Result, Ok, Err}
+use Rattle.std.specs.Prelude.{ℕ, ◌^◌, cond, ◌&&◌, nat_lt, List, [], ◌∷◌, Option, Some, None, option_and_then, position, codes, bytes_eq, Result, Ok, Err}
 use Rattle.hib_base.specs.declared.numbers.Key.{Key}
 use Rattle.hib_base.specs.declared.refusals.Kind.{Kind}
 use Rattle.hib_base.specs.declared.scripts.EntityDef.{EntityDef}
 use Rattle.hib_base.specs.declared.scripts.Order.{Order}
 use Rattle.hib_base.specs.declared.scripts.SessionDef.{SessionDef}
-use Rattle.hib_base.specs.declared.scripts.Strategy.{Strategy}
+use Rattle.hib_base.specs.Scripts.{is_cached_in}
 use Rattle.hib_lex.specs.Words.{begins}
 use Rattle.hib_lex.specs.declared.lexer.Token.{Token}
 use Rattle.hib_mapping.specs.Parts.{is_a_word, is_a_number, word_of, is_within, number_up_to, entity_at}
@@ -39,17 +39,6 @@ kill_of ss (first ∷ name ∷ []) = cond (is_a_word name) (kill_from (session_a
 kill_of ss _ = Err Kind.Words
 
 -- ---- evict ENTITY ID, of a cached entity
-abbrev pub caches : Strategy → Bool
-caches Strategy.Uncached = false
-caches _ = true
-
-abbrev pub is_cached : Option EntityDef → Bool
-is_cached None = false
-is_cached (Some e) = caches e.strategy
-
-abbrev pub is_cached_at : List EntityDef → ℕ → Bool
-is_cached_at m e = is_cached (slice_get m e)
-
 abbrev pub evicted : Result Key Kind → Result Order Kind
 evicted (Err k) = Err k
 evicted (Ok key) = Ok (Order.Evict key)
@@ -57,7 +46,7 @@ evicted (Ok key) = Ok (Order.Evict key)
 -- an uncached entity is as unknown here as one that isn't declared
 abbrev pub evict_from : List EntityDef → Token → Token → Option ℕ → Result Order Kind
 evict_from m name id None = Err Kind.Unknown
-evict_from m name id (Some e) = cond (is_cached_at m e) (evicted (key_of m name id)) (Err Kind.Unknown)
+evict_from m name id (Some e) = cond (is_cached_in m e) (evicted (key_of m name id)) (Err Kind.Unknown)
 
 abbrev pub evict_parts : List EntityDef → Token → Token → Result Order Kind
 evict_parts m name id = evict_from m name id (entity_at m (word_of name))

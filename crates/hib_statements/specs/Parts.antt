@@ -1,6 +1,6 @@
 -- Keys, cells and pairs of columns and cells, from tokens.
-use Rattle.std.specs.Prelude.{ℕ, Bool, true, false, cond, not, ◌&&◌, ◌||◌, nat_le, nat_lt, List, [], ◌∷◌, ◌++◌, length, pos, Option, Some, None, is_none, option_map, bytes_eq, Result, Ok, Err}
-use Rattle.std.specs.List.{list_any}
+use Rattle.std.specs.Prelude.{ℕ, Bool, true, false, cond, not, ◌&&◌, ◌||◌, nat_le, nat_lt, List, [], ◌∷◌, ◌++◌, length, pos, Option, Some, None, is_none, option_map, Result, Ok, Err}
+pub use Rattle.hib_base.specs.Words.{has_name}
 use Rattle.hib_base.specs.declared.numbers.Key.{Key}
 use Rattle.hib_base.specs.declared.refusals.Kind.{Kind}
 use Rattle.hib_base.specs.declared.rows.Cell.{Cell}
@@ -52,9 +52,6 @@ no_pairs = record { sets = []; names = []; taken = false; unknown = false; misty
 
 abbrev pub at : Pairs → Awaited → Option Draft
 at p a = Some (record { pairs = p; awaited = a })
-
-abbrev pub has_name : List (List ℕ) → List ℕ → Bool
-has_name names w = list_any (λ v. bytes_eq v w) names
 
 abbrev pub new_column : Pairs → List ℕ → Option Found → Option Draft
 new_column p w c =

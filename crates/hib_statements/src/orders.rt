@@ -1,4 +1,5 @@
 // The order of a schedule that a line is.
+ghost use Rattle.hib_base.specs.Scripts.{is_cached_by, is_cached_in};
 ghost use Rattle.hib_statements.specs.Orders as orders;
 ghost use Rattle.std.specs.Prelude.{◌≡◌, bytes_eq, position};
 
@@ -106,7 +107,7 @@ fn evicted(key: Result<Key, Kind>) -> Result<Order, Kind>
 }
 
 fn is_cached(mapping: &[EntityDef], entity: EntityNo) -> bool
-    ensures { result ≡ orders.is_cached_at mapping.now entity }
+    ensures { result ≡ is_cached_in mapping.now entity }
 {
     match mapping.get(usize::from(entity.0)) {
         Some(entity) => caches(entity.strategy),
@@ -115,7 +116,7 @@ fn is_cached(mapping: &[EntityDef], entity: EntityNo) -> bool
 }
 
 fn caches(strategy: Strategy) -> bool
-    ensures { result ≡ orders.caches strategy }
+    ensures { result ≡ is_cached_by strategy }
 {
     !matches!(strategy, Strategy::Uncached)
 }

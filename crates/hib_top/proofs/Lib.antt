@@ -1,4 +1,4 @@
 pub mod Taken
-pub mod Ready
+pub mod Finished
 pub mod Ends
 pub mod Complete

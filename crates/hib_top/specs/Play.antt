@@ -1,6 +1,6 @@
 -- What a call of the program promises.
 use Rattle.std.specs.Prelude.{◌≡◌, ◌⊎◌, ◌≤◌, ℕ, true, false, List, [], ⊤, length, slice_get, IfSome, Some, Option, Result, Ok, Err}
-use Rattle.std.specs.Io.KnownBytes.{Appends}
+use Rattle.std.specs.Io.KnownBytes.{Appends, IsAtEnd}
 use Rattle.hib_base.specs.Tables.{Tables}
 use Rattle.hib_base.specs.declared.refusals.Refused.{Refused}
 use Rattle.hib_journal.specs.Types.{Script, SessionDef}
@@ -9,6 +9,7 @@ use Rattle.hib_journal.specs.Sessions.{Journal}
 use Rattle.hib_journal.specs.Played.{has_next, is_played}
 use Rattle.hib_journal.specs.Legal.{IsLegal}
 use Rattle.hib_journal.specs.Runs.{IsNumbered, told_committed}
+use Rattle.hib_law.specs.Hits.{AreListsGiven}
 use Rattle.hib_law.specs.Law.{Obeys}
 use Rattle.hib_core.specs.Standing.{told_start}
 use Rattle.hib_report.specs.Report.{report}
@@ -17,7 +18,6 @@ use Rattle.hib_script.specs.Script.{script_of}
 use Rattle.hib_top.specs.declared.run.End.{End}
 use Rattle.hib_top.specs.declared.status.Status.{Status}
 use Rattle.hib_top.specs.Streams.{TakesFront}
-use Rattle.hib_top.specs.Unbuilt.{is_unbuilt, not_yet}
 
 -- ---- a run
 -- each session is at its end, where it has no next act, or was killed; and the entries are those of the orders of the schedule,
@@ -31,6 +31,8 @@ pub record IsFinished (script : Script) (h : Journal) : Type 0 where
 pub record IsPlayed (script : Script) (start rows : Option Tables) (h : Journal) : Type 0 where
   pub legal : IsLegal script start h
   pub law : Obeys script start h
+  -- and each list from the cache is what its query gave
+  pub given : IfSome start (λ told. AreListsGiven script told h)
   pub numbered : IsNumbered h
   pub committed : rows ≡ told_committed start h
 
@@ -75,40 +77,43 @@ Runs Status.NoMemory script kept rows journal taken written =
 Runs Status.StoreFault script kept rows journal taken written = IsIdle kept rows journal taken written
 Runs _ script kept rows journal taken written = ⊥
 
--- a text within the limit was read, all that the source had left where it tells, and this is what it is
-pub record Reads (left : Option (List ℕ)) (text : List ℕ) (reading : Result Outline Refused) : Type 0 where
+-- a text within the limit was read to the source's end: it is all that the source had left, where it tells. This is what the text is
+pub record Reads (left after : Option (List ℕ)) (text : List ℕ) (reading : Result Outline Refused) : Type 0 where
   pub whole : IfSome left (λ bytes. bytes ≡ text)
+  pub end : IsAtEnd after
   pub few : length text ≤ 1048576
   pub is : script_of text ≡ reading
 
 -- a script was read and run, from the keeper's rows and its own
-pub record PlaysScript (answer : Status) (left : Option (List ℕ)) (kept rows : Option Tables) (journal : Kept) (taken written : Option (List ℕ)) : Type 0 where
+pub record PlaysScript (answer : Status) (left after : Option (List ℕ)) (kept rows : Option Tables) (journal : Kept) (taken written : Option (List ℕ)) : Type 0 where
   pub text : List ℕ
   pub script : Script
-  pub read : Reads left text (Ok (outline_of script))
+  pub read : Reads left after text (Ok (outline_of script))
   pub run : IsRunOf answer script (told_start script kept) rows journal taken written
 
--- a text is refused where it is no script, with its first bad line; or where something of it isn't built yet
-abbrev pub IsRefused : Result Outline Refused → List ℕ → Refused → Type 0
-IsRefused (Err x) text r = r ≡ x
-IsRefused (Ok o) text r = (is_unbuilt o ≡ true) × (r ≡ not_yet text)
-
--- no script was run
-pub record Refuses (r : Refused) (left : Option (List ℕ)) (kept rows : Option Tables) (journal : Kept) (taken written : Option (List ℕ)) : Type 0 where
+-- a script was read, and not run
+pub record Leaves (left after : Option (List ℕ)) (kept rows : Option Tables) (journal : Kept) (taken written : Option (List ℕ)) : Type 0 where
   pub text : List ℕ
-  pub reading : Result Outline Refused
-  pub read : Reads left text reading
-  pub why : IsRefused reading text r
+  pub said : Outline
+  pub read : Reads left after text (Ok said)
   pub idle : IsIdle kept rows journal taken written
 
--- what stands after a call, by its status: left is what the source had to read, kept the keeper's tables as they were handed in
-abbrev pub Plays : Status → Option (List ℕ) → Option Tables → Option Tables → Kept → Option (List ℕ) → Option (List ℕ) → Type 0
-Plays Status.Done left kept rows journal taken written = PlaysScript Status.Done left kept rows journal taken written
-Plays Status.WriteFault left kept rows journal taken written = PlaysScript Status.WriteFault left kept rows journal taken written
-Plays Status.NoMemory left kept rows journal taken written =
-    IsIdle kept rows journal taken written ⊎ PlaysScript Status.NoMemory left kept rows journal taken written
-Plays (Status.Refused r) left kept rows journal taken written = Refuses r left kept rows journal taken written
-Plays _ left kept rows journal taken written = IsIdle kept rows journal taken written
+-- a text was read that is no script, with its first bad line, and nothing was run
+pub record Refuses (r : Refused) (left after : Option (List ℕ)) (kept rows : Option Tables) (journal : Kept) (taken written : Option (List ℕ)) : Type 0 where
+  pub text : List ℕ
+  pub read : Reads left after text (Err r)
+  pub idle : IsIdle kept rows journal taken written
+
+-- what stands after a call, by its status: left and after are what the source had to read before and behind it, kept the keeper's
+-- tables as they were handed in
+abbrev pub Plays : Status → Option (List ℕ) → Option (List ℕ) → Option Tables → Option Tables → Kept → Option (List ℕ) → Option (List ℕ) → Type 0
+Plays Status.Done left after kept rows journal taken written = PlaysScript Status.Done left after kept rows journal taken written
+Plays Status.WriteFault left after kept rows journal taken written = PlaysScript Status.WriteFault left after kept rows journal taken written
+Plays Status.NoMemory left after kept rows journal taken written =
+    IsIdle kept rows journal taken written ⊎ PlaysScript Status.NoMemory left after kept rows journal taken written
+Plays (Status.Refused r) left after kept rows journal taken written = Refuses r left after kept rows journal taken written
+Plays Status.StoreFault left after kept rows journal taken written = Leaves left after kept rows journal taken written
+Plays _ left after kept rows journal taken written = IsIdle kept rows journal taken written
 
 -- the statuses that come after a run to its end
 abbrev pub IsAfterRun : Status → Type 0
@@ -117,14 +122,13 @@ IsAfterRun Status.WriteFault = ⊤
 IsAfterRun Status.NoMemory = ⊤
 IsAfterRun _ = ⊥
 
--- what a source has left is told, and is a script within the limit of which all is built
+-- what a source has left is told, and is a script within the limit
 pub record HasScript (left : Option (List ℕ)) : Type 0 where
   pub text : List ℕ
   pub told : left ≡ Some text
   pub few : length text ≤ 1048576
-  pub script : Script
-  pub is : script_of text ≡ Ok (outline_of script)
-  pub built : is_unbuilt (outline_of script) ≡ false
+  pub said : Outline
+  pub is : script_of text ≡ Ok said
 
 -- all was done, or memory ran out, or the keeper didn't take the script's rows
 abbrev pub IsCompleted : Status → Type 0

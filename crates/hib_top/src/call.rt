@@ -16,8 +16,7 @@ use std::alloc::Global;
 use std::sync::Wait;
 use std::thread::Threads;
 
-/// Does what the words say. Where they ask for workers it may start threads and wait for them; none do yet, so the gate
-/// isn't asked.
+/// Does what the words say. It starts no threads, waits for none, and doesn't ask the gate.
 pub fn top<R: Threads + Wait + Sync, S: Source, W: Sink, K: Keeper, G: Gate, L: Listener>(
     _rt: &R,
     alloc: Global,
@@ -28,8 +27,9 @@ pub fn top<R: Threads + Wait + Sync, S: Source, W: Sink, K: Keeper, G: Gate, L: 
     _gate: &G,
     listeners: Vec<L>,
 ) -> Ended<K, L>
-    ensures run { Plays result.status (S.left script.old) (K.tables keeper) (K.tables result.keeper) result.journal (W.taken out.old) (W.taken out.new) }
+    ensures run { Plays result.status (S.left script.old) (S.left script.new) (K.tables keeper) (K.tables result.keeper) result.journal (W.taken out.old) (W.taken out.new) }
     ensures usage { (result.status ≡ Status.Usage) ↔ (IsPlay words.now → ⊥) }
+    ensures unread { result.status ≡ Status.Usage → (S.left script.new ≡ S.left script.old) × (S.faults script.new ≡ S.faults script.old) }
     ensures read { result.status ≡ Status.ReadFault → Rose (S.faults script.old) (S.faults script.new) }
     ensures write { result.status ≡ Status.WriteFault → Rose (W.faults out.old) (W.faults out.new) }
     ensures long { result.status ≡ Status.TooLong → IfSome (S.left script.old) (λ bytes. LIMIT < length bytes) }

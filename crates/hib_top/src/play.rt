@@ -1,25 +1,23 @@
 // The top call.
-ghost use Rattle.std.specs.Prelude.{◌≡◌, ◌≢◌, ◌<◌, ◌≤◌, ◌↔◌, ◌^◌, [], length, true, false, IsTrue, IfSome, IfOk};
+ghost use Rattle.std.specs.Prelude.{◌≡◌, ◌≢◌, ◌<◌, ◌↔◌, [], length, true, IsTrue, IfSome};
 ghost use Rattle.hib_journal.specs.Kept.{past};
 ghost use Rattle.hib_journal.specs.Runs.{ask_count, fault_count};
 ghost use Rattle.hib_core.specs.Standing.{RoseBy, RoseWithin};
 ghost use Rattle.hib_outside.specs.Causes.{Rose};
 ghost use Rattle.hib_report.specs.Report.{report};
-ghost use Rattle.hib_script.specs.Outline.{outline_of};
-ghost use Rattle.hib_script.specs.Valid.{is_valid};
+ghost use Rattle.hib_base.specs.Valid.{is_valid};
 ghost use Rattle.hib_top.specs.Streams.{ReadsFew};
-ghost use Rattle.hib_top.specs.Unbuilt.{is_unbuilt, not_yet};
 ghost use Rattle.hib_top.specs.Words.{IsPlay};
 ghost use Rattle.hib_top.specs.Play.{Plays, Runs, IsWritten, IsAfterRun, HasScript, IsCompleted};
 
-use crate::run::{self, End, Ran};
+use crate::run::{End, Ran, run};
 use crate::status::Status;
 use crate::streams::{LIMIT, ReadStop, read_all, write_all};
-use hib_base::{Kind, Refused, Script};
+use hib_base::Script;
 use hib_journal::Journal;
 use hib_outside::{Keeper, Listener, Sink, Source};
 use hib_script::ScriptError;
-use std::alloc::{AllocError, Global};
+use std::alloc::Global;
 
 /// What a call of the program hands back.
 #[derive(Drop)]
@@ -30,7 +28,7 @@ pub struct Ended<K, L> {
     pub keeper: K,
     /// The journal of the run; empty where nothing was run.
     pub journal: Journal,
-    /// The listeners that were handed in. They aren't told yet.
+    /// The listeners that were handed in, untold.
     pub listeners: Vec<L>,
 }
 
@@ -69,8 +67,7 @@ fn play_script<W: Sink, K: Keeper>(
     out: &mut W,
     keeper: K,
 ) -> Played<K>
-    requires valid { is_valid script ≡ true }
-    requires built { is_unbuilt (outline_of script) ≡ false }
+    requires { is_valid script ≡ true }
     ensures run { Runs result.status script (K.tables keeper) (K.tables result.keeper) result.journal (W.taken out.old) (W.taken out.new) }
     ensures write { result.status ≡ Status.WriteFault → Rose (W.faults out.old) (W.faults out.new) }
     ensures store { result.status ≡ Status.StoreFault → Rose (K.faults keeper) (K.faults result.keeper) }
@@ -81,7 +78,7 @@ fn play_script<W: Sink, K: Keeper>(
         end,
         keeper,
         journal,
-    } = run::run(alloc, script, keeper);
+    } = run(alloc, script, keeper);
     let status = match end {
         End::Over(script) => tell(alloc, &script, &journal, out),
         End::Stopped => Status::NoMemory,
@@ -115,7 +112,7 @@ fn play<S: Source, W: Sink, K: Keeper>(
     out: &mut W,
     keeper: K,
 ) -> Played<K>
-    ensures run { Plays result.status (S.left source.old) (K.tables keeper) (K.tables result.keeper) result.journal (W.taken out.old) (W.taken out.new) }
+    ensures run { Plays result.status (S.left source.old) (S.left source.new) (K.tables keeper) (K.tables result.keeper) result.journal (W.taken out.old) (W.taken out.new) }
     ensures read { result.status ≡ Status.ReadFault → Rose (S.faults source.old) (S.faults source.new) }
     ensures write { result.status ≡ Status.WriteFault → Rose (W.faults out.old) (W.faults out.new) }
     ensures long { result.status ≡ Status.TooLong → IfSome (S.left source.old) (λ bytes. LIMIT < length bytes) }
@@ -138,28 +135,10 @@ fn play<S: Source, W: Sink, K: Keeper>(
         }
         Err(ScriptError::NoMemory) => return stop(alloc, Status::NoMemory, keeper),
     };
-    if !run::is_unbuilt(&script) {
-        return play_script(alloc, script, out, keeper);
-    }
-    match refusal(alloc, &text) {
-        Ok(refused) => stop(alloc, Status::Refused(refused), keeper),
-        Err(_) => stop(alloc, Status::NoMemory, keeper),
-    }
+    play_script(alloc, script, out, keeper)
 }
 
-/// Where a script is refused that no factory takes.
-fn refusal(alloc: Global, text: &[u8]) -> Result<Refused, AllocError>
-    requires { length text.now < 2 ^ 31 }
-    ensures { IfOk result (λ r. r ≡ not_yet text.now) }
-{
-    let line = hib_script::unbuilt_line(alloc, text)?.unwrap_or(1);
-    Ok(Refused {
-        line,
-        kind: Kind::NotYet,
-    })
-}
-
-/// Does what the words say; it takes no lock and returns. Today the one word `play` has a form: it reads a script from
+/// Does what the words say; it takes no lock and returns. The one word `play` has a form: it reads a script from
 /// the source, runs it over the keeper and writes the report of its journal to the sink.
 ///
 /// Whatever the status, the journal handed back is legal for the script that the text is, from the keeper's tables as
@@ -174,8 +153,9 @@ pub fn play_words<S: Source, W: Sink, K: Keeper, L: Listener>(
     keeper: K,
     listeners: Vec<L>,
 ) -> Ended<K, L>
-    ensures run { Plays result.status (S.left script.old) (K.tables keeper) (K.tables result.keeper) result.journal (W.taken out.old) (W.taken out.new) }
+    ensures run { Plays result.status (S.left script.old) (S.left script.new) (K.tables keeper) (K.tables result.keeper) result.journal (W.taken out.old) (W.taken out.new) }
     ensures usage { (result.status ≡ Status.Usage) ↔ (IsPlay words.now → ⊥) }
+    ensures unread { result.status ≡ Status.Usage → (S.left script.new ≡ S.left script.old) × (S.faults script.new ≡ S.faults script.old) }
     ensures read { result.status ≡ Status.ReadFault → Rose (S.faults script.old) (S.faults script.new) }
     ensures write { result.status ≡ Status.WriteFault → Rose (W.faults out.old) (W.faults out.new) }
     ensures long { result.status ≡ Status.TooLong → IfSome (S.left script.old) (λ bytes. LIMIT < length bytes) }

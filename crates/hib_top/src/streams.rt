@@ -1,6 +1,6 @@
 // Reading to the end, and writing whole.
 ghost use Rattle.std.specs.Prelude.{◌≡◌, ◌+◌, ◌<◌, ◌≤◌, ◌^◌, ◌++◌, take, length, IfOk, OnOk, OnErr, IfErr, IfSome, ℕ, List};
-ghost use Rattle.std.specs.Io.KnownBytes.{Appends, Keeps};
+ghost use Rattle.std.specs.Io.KnownBytes.{Appends, IsAtEnd, Keeps};
 ghost use Rattle.hib_outside.specs.Causes.{Rose, HasCause};
 ghost use Rattle.hib_top.specs.Streams.{TakesFront, ReadsFew};
 
@@ -45,7 +45,7 @@ impl From<Failed> for ReadStop {
 /// The most bytes that are read.
 pub const LIMIT: usize = 1_048_576;
 
-/// All that the source has left, up to the limit. Each turn takes a byte at least, meets the end or fails, and no more than
+/// All that the source has left, up to the limit: where it is all, the source is at its end, and has not failed. Each turn takes a byte at least, meets the end or fails, and no more than
 /// one piece beyond the limit is read.
 #[tactic(auto, using(crate::proofs::Taken::reads_more, crate::proofs::Taken::reads_still))]
 pub fn read_all<S: Source>(alloc: Global, source: &mut S) -> Result<Vec<u8>, ReadStop>
@@ -53,6 +53,8 @@ pub fn read_all<S: Source>(alloc: Global, source: &mut S) -> Result<Vec<u8>, Rea
     ensures few { IfOk result (λ v. length v.items ≤ LIMIT) }
     ensures long { result ≡ Err ReadStop.TooLong → IfSome (S.left source.old) (λ bytes. LIMIT < length bytes) }
     ensures taken { ReadsFew 1052672 (S.left source.old) (S.left source.new) }
+    ensures end { IfOk result (λ _. IsAtEnd (S.left source.new)) }
+    ensures calm { OnOk result (S.faults source.new ≡ S.faults source.old) }
     ensures later { S.faults source.old ≤ S.faults source.new }
     ensures failed { result ≡ Err ReadStop.Failed → Rose (S.faults source.old) (S.faults source.new) }
 {

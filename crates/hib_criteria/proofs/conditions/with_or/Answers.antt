@@ -1,7 +1,7 @@
 use Rattle.std.proofs.Common.{sym, ◌∙◌}
 use Rattle.hib_base.specs.declared.scripts.Cond
 use Rattle.hib_criteria.proofs.Parts.{join_two, both}
-use Rattle.hib_criteria.specs.declared.forms.Node.{Node}
+use Rattle.hib_base.specs.declared.scripts.Node.{Node}
 use Rattle.hib_criteria.proofs.conditions.with_or.Goals as goal
 
 pub returns : goal.returns

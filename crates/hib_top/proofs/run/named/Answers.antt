@@ -4,7 +4,7 @@ use Rattle.hib_journal.specs.Played.{is_played}
 use Rattle.hib_core.specs.Factory.{AreOver}
 use Rattle.hib_top.specs.Play.{IsPlayed}
 use Rattle.hib_top.proofs.Ends.{over, stopped}
-use Rattle.hib_top.proofs.Ready.{all_ended}
+use Rattle.hib_top.proofs.Finished.{all_ended}
 use Rattle.hib_top.proofs.run.named.Goals as goal
 use Rattle.hib_top.proofs.run.named.Goals.{in-Ok-finished, in-Err}
 
@@ -15,6 +15,7 @@ returns-clause-came g c =
     record {
       legal = c.close-keeper.ensures.legal;
       law = c.law.ensures.obeyed g.N.Name.script g.N.Name.from.tables h c.close-keeper.ensures.legal;
+      given = c.lists_are_given.ensures.lists g.N.Name.script g.N.Name.from.tables h c.requires.valid c.close-keeper.ensures.legal;
       numbered = c.close-keeper.ensures.numbered;
       committed = c.close-keeper.ensures.rows;
     } in

@@ -1,0 +1,180 @@
+-- The references of an entity's columns lead to the entities before it and to itself, and it has no more columns than it may.
+use Rattle.std.proofs.Common.{◌≡◌, ℕ, ◌+◌, ◌<◌, ◌≤◌, Bool, true, false, not, cond, ◌&&◌, nat_lt, nat_le, List, [], ◌∷◌, ◌++◌, length, map, Option, Some, None, codes, refl, sym, ◌∙◌, subst, arith, length-append}
+use Rattle.std.specs.Prelude.{unwrap_or, bytes_eq, is_some, is_none}
+use Rattle.std.specs.List.{list_all, list_any}
+use Rattle.std.proofs.lemmas.Bool.{and_parts, and_from, ltb-true, lt-ltb, le-leb, leb-true, true≢false, false≢true}
+use Rattle.std.proofs.lemmas.Bool.Decides.{nat_tests}
+use Rattle.hib_base.specs.declared.refusals.Kind.{Kind}
+use Rattle.hib_base.specs.declared.scripts.ColumnDef.{ColumnDef}
+use Rattle.hib_base.specs.declared.scripts.ColumnType.{ColumnType}
+use Rattle.hib_base.specs.declared.scripts.EntityDef.{EntityDef}
+use Rattle.hib_base.specs.Scripts.{is_type_below}
+use Rattle.hib_base.specs.Valid.{are_columns}
+use Rattle.hib_base.proofs.Gives.{Then}
+use Rattle.hib_base.proofs.Lists.{all_more, all_weaker, some_none}
+use Rattle.hib_base.proofs.Names.{named_more}
+use Rattle.hib_base.specs.Words.{is_word, is_reserved, is_name, are_names}
+use Rattle.hib_lex.proofs.Lexed.{is_lexed, are_lexed}
+use Rattle.hib_lex.specs.Words.{is_the_word}
+use Rattle.hib_lex.specs.declared.lexer.Token.{Token}
+use Rattle.hib_mapping.specs.Declarations.{is_entity_line, is_versioning, strategy_of, strategy_kind, or_no_columns, entity_kind, is_column_line, entity_of, type_of, target_of, kind_unless, type_kind, column_kind, type_from, with_column}
+use Rattle.hib_mapping.specs.Parts.{is_a_word, is_a_number, word_of, name_in, small, entity_at, column_at}
+use Rattle.hib_mapping.proofs.Places.{placed, unplaced}
+
+-- ---- more entities
+pub lt_more : (e n m : ℕ) → nat_lt e n ≡ true → nat_lt e (n + m) ≡ true
+lt_more e n m h = let l : e < n = ltb-true e n h in lt-ltb e (n + m) (omega arith)
+
+type_more : (n m : ℕ) (k : ColumnType) → is_type_below n k ≡ true → is_type_below (n + m) k ≡ true
+type_more n m (ColumnType.Ref e) h = lt_more e n m h
+type_more n m ColumnType.Int h = refl
+type_more n m ColumnType.Text h = refl
+type_more n m ColumnType.Bool h = refl
+
+-- the three rules of columns
+abbrev types_below : ℕ → List ColumnDef → Bool
+types_below n ds = list_all (λ d. is_type_below n d.kind) ds
+
+abbrev are_named : List ColumnDef → Bool
+are_named ds = are_names (map (λ d. d.name) ds)
+
+pub record HasColumns (n : ℕ) (ds : List ColumnDef) : Type 0 where
+  pub few : nat_le (length ds) 16 ≡ true
+  pub below : types_below n ds ≡ true
+  pub named : are_named ds ≡ true
+
+pub columns_of : (n : ℕ) (e : EntityDef) → are_columns n e ≡ true → HasColumns n e.columns
+columns_of n e h =
+    let a : (nat_le (length e.columns) 16 ≡ true) × ((types_below n e.columns && are_named e.columns) ≡ true) = and_parts (nat_le (length e.columns) 16) (types_below n e.columns && are_named e.columns) h in
+    let b : (types_below n e.columns ≡ true) × (are_named e.columns ≡ true) = and_parts (types_below n e.columns) (are_named e.columns) a.1 in
+    record { few = a.0; below = b.0; named = b.1 }
+
+columns_from : (n : ℕ) (e : EntityDef) → HasColumns n e.columns → are_columns n e ≡ true
+columns_from n e c =
+    and_from (nat_le (length e.columns) 16) (types_below n e.columns && are_named e.columns) c.few (and_from (types_below n e.columns) (are_named e.columns) c.below c.named)
+
+pub columns_more : (n m : ℕ) (e : EntityDef) → are_columns n e ≡ true → are_columns (n + m) e ≡ true
+columns_more n m e h =
+    let c : HasColumns n e.columns = columns_of n e h in
+    columns_from (n + m) e (record {
+      few = c.few;
+      below = all_weaker (λ (d : ColumnDef). is_type_below n d.kind) (λ (d : ColumnDef). is_type_below (n + m) d.kind) e.columns (λ d w. type_more n m d.kind w) c.below;
+      named = c.named;
+    })
+
+-- ---- a new entity has no columns
+pub new_columns : (n : ℕ) (ts : List Token) → Then (entity_of ts) (λ e. are_columns n e ≡ true)
+new_columns n (first ∷ name ∷ strategy ∷ versioning ∷ capacity ∷ []) = refl
+new_columns n _ = tt
+
+-- ---- one column more
+plain_below : (n : ℕ) (t : Token) → is_type_below n (unwrap_or (type_of t) ColumnType.Int) ≡ true
+plain_below n t = by_tests (is_the_word (codes "int") t) (is_the_word (codes "text") t) (is_the_word (codes "bool") t)
+  where
+    by_tests : (i x b : Bool) → is_type_below n (unwrap_or (cond i (Some ColumnType.Int) (cond x (Some ColumnType.Text) (cond b (Some ColumnType.Bool) None))) ColumnType.Int) ≡ true
+    by_tests true x b = refl
+    by_tests false true b = refl
+    by_tests false false true = refl
+    by_tests false false false = refl
+
+own_below : (n : ℕ) → Then (small n) (λ i. nat_lt i (n + 1) ≡ true)
+own_below n = by_test (nat_lt n 65536)
+  where
+    by_test : (b : Bool) → Then (cond b (Some n) None) (λ i. nat_lt i (n + 1) ≡ true)
+    by_test true = lt-ltb n (n + 1) (omega arith)
+    by_test false = tt
+
+other_below : (n : ℕ) (o : Option ℕ) → Then o (λ i. nat_lt i n ≡ true) → Then o (λ i. nat_lt i (n + 1) ≡ true)
+other_below n None h = tt
+other_below n (Some i) h = lt_more i n 1 h
+
+target_below : (m : List EntityDef) (e : EntityDef) (t : Token) → Then (target_of m e t) (λ i. nat_lt i (length m + 1) ≡ true)
+target_below m e t = by_test (bytes_eq e.name (word_of t))
+  where
+    by_test : (b : Bool) → Then (cond b (small (length m)) (entity_at m (word_of t))) (λ i. nat_lt i (length m + 1) ≡ true)
+    by_test true = own_below (length m)
+    by_test false = other_below (length m) (entity_at m (word_of t)) (placed (λ e. bytes_eq e.name (word_of t)) m)
+
+led_below : (n : ℕ) (o : Option ℕ) → Then o (λ i. nat_lt i n ≡ true) → kind_unless Kind.RefUnknown o ≡ None → nat_lt (unwrap_or o 0) n ≡ true
+led_below n None h e = absurd (some_none Kind.RefUnknown e)
+led_below n (Some i) h e = h
+
+type_below : (m : List EntityDef) (e : EntityDef) (ts : List Token) → type_kind m e ts ≡ None → is_type_below (length m + 1) (type_from m e ts) ≡ true
+type_below m e (kind ∷ []) h = plain_below (length m + 1) kind
+type_below m e (kind ∷ target ∷ []) h = led_below (length m + 1) (target_of m e target) (target_below m e target) h
+type_below m e [] h = refl
+type_below m e (a ∷ b ∷ c ∷ ts) h = refl
+
+-- what isn't wrong with a column's line
+fine_by : (many taken : Bool) (k : Option Kind) → cond many (Some Kind.ManyColumns) (cond taken (Some Kind.ColumnTaken) k) ≡ None → (many ≡ false) × (taken ≡ false) × (k ≡ None)
+fine_by true taken k h = absurd (some_none Kind.ManyColumns h)
+fine_by false true k h = absurd (some_none Kind.ColumnTaken h)
+fine_by false false k h = (refl, refl, h)
+
+room_below : (n : ℕ) → nat_le 16 n ≡ false → nat_le (n + 1) 16 ≡ true
+room_below n h = le-leb (n + 1) 16 (grind (arith, nat_tests))
+
+none_there : (o : Option ℕ) → is_some o ≡ false → o ≡ None
+none_there None h = refl
+none_there (Some i) h = absurd (true≢false h)
+
+pub column_more : (m : List EntityDef) (e : EntityDef) (ts : List Token) → are_columns (length m + 1) e ≡ true → is_name (name_in ts) ≡ true → column_kind m e ts ≡ None →
+    are_columns (length m + 1) (with_column m e ts) ≡ true
+column_more m e [] h i k = h
+column_more m e (a ∷ []) h i k = h
+column_more m e (a ∷ name ∷ type) h i k =
+    let w : List ℕ = word_of name in
+    let fine : (nat_le 16 (length e.columns) ≡ false) × (is_some (column_at e.columns w) ≡ false) × (type_kind m e type ≡ None) =
+    fine_by (nat_le 16 (length e.columns)) (is_some (column_at e.columns w)) (type_kind m e type) k in
+    let c : HasColumns (length m + 1) e.columns = columns_of (length m + 1) e h in
+    let d : ColumnDef = record { name = w; kind = type_from m e type } in
+    columns_from (length m + 1) (record e { columns = e.columns ++ d ∷ [] }) (record {
+      few = subst (λ n. nat_le n 16 ≡ true) (sym (length-append e.columns (d ∷ []))) (room_below (length e.columns) fine.0);
+      below = all_more (λ (d : ColumnDef). is_type_below (length m + 1) d.kind) e.columns d c.below (type_below m e type fine.2);
+      named = named_more (λ (d : ColumnDef). d.name) e.columns d c.named i
+          (unplaced (λ (d : ColumnDef). bytes_eq d.name w) e.columns (let l : length e.columns ≤ 16 = leb-true (length e.columns) 16 c.few in omega (arith, l)) (none_there (column_at e.columns w) fine.1));
+    })
+
+-- ---- the names of lines
+word_named : (t : Token) → is_a_word t ≡ true → is_lexed t ≡ true → is_word (word_of t) ≡ true
+word_named (Token.Word w) h i = i
+word_named _ h i = absurd (false≢true h)
+
+-- of a word that isn't reserved
+pub name_from : (t : Token) → is_a_word t ≡ true → is_lexed t ≡ true → is_reserved (word_of t) ≡ false → is_name (word_of t) ≡ true
+name_from t h i f = and_from (is_word (word_of t)) (not (is_reserved (word_of t))) (word_named t h i) (subst (λ b. not b ≡ true) (sym f) refl)
+
+pub second_lexed : (a b : Token) (ts : List Token) → are_lexed (a ∷ b ∷ ts) ≡ true → is_lexed b ≡ true
+second_lexed a b ts h = (and_parts (is_lexed b) (are_lexed ts) (and_parts (is_lexed a) (are_lexed (b ∷ ts)) h).1).0
+
+pub entity_named : (ts : List Token) → is_entity_line ts ≡ true → are_lexed ts ≡ true → is_reserved (name_in ts) ≡ false → is_name (name_in ts) ≡ true
+entity_named (first ∷ name ∷ strategy ∷ versioning ∷ capacity ∷ []) h i f =
+    name_from name (and_parts (is_a_word name) (is_a_word strategy && (is_versioning versioning && is_a_number capacity)) h).0 (second_lexed first name (strategy ∷ versioning ∷ capacity ∷ []) i) f
+entity_named _ h i f = absurd (false≢true h)
+
+pub column_named : (ts : List Token) → is_column_line ts ≡ true → are_lexed ts ≡ true → is_reserved (name_in ts) ≡ false → is_name (name_in ts) ≡ true
+column_named (first ∷ name ∷ kind ∷ []) h i f =
+    name_from name (and_parts (is_a_word name) (is_a_word kind && not (is_the_word (codes "ref") kind)) h).0 (second_lexed first name (kind ∷ []) i) f
+column_named (first ∷ name ∷ kind ∷ target ∷ []) h i f =
+    name_from name (and_parts (is_a_word name) (is_the_word (codes "ref") kind && is_a_word target) h).0 (second_lexed first name (kind ∷ target ∷ []) i) f
+column_named _ h i f = absurd (false≢true h)
+
+-- ---- a new entity's name is none of those before it
+fresh_by : (many taken : Bool) (k : Option Kind) → cond many (Some Kind.ManyEntities) (cond taken (Some Kind.EntityTaken) k) ≡ None → taken ≡ false
+fresh_by true taken k h = absurd (some_none Kind.ManyEntities h)
+fresh_by false true k h = absurd (some_none Kind.EntityTaken h)
+fresh_by false false k h = refl
+
+pub entity_fresh : (m : List EntityDef) (followed : Bool) (ts : List Token) → length m ≤ 64 → is_name (name_in ts) ≡ true → entity_kind m followed ts ≡ None →
+    Then (entity_of ts) (λ e. (is_name e.name ≡ true) × (list_any (λ d. bytes_eq d.name e.name) m ≡ false))
+entity_fresh m followed (first ∷ name ∷ strategy ∷ versioning ∷ capacity ∷ []) few i k = (
+  i,
+  unplaced (λ (d : EntityDef). bytes_eq d.name (word_of name)) m few
+      (none_there (entity_at m (word_of name)) (fresh_by (nat_le 64 (length m)) (is_some (entity_at m (word_of name))) (or_no_columns followed (strategy_kind (strategy_of strategy) capacity)) k)),
+)
+entity_fresh m followed _ few i k = tt
+
+pub same_name : (m : List EntityDef) (e : EntityDef) (ts : List Token) → (with_column m e ts).name ≡ e.name
+same_name m e [] = refl
+same_name m e (a ∷ []) = refl
+same_name m e (a ∷ b ∷ ts) = refl

@@ -1,0 +1,110 @@
+-- A text that is a script gives a valid one.
+use Rattle.std.proofs.Common.{◌≡◌, ℕ, ◌≤◌, Bool, true, ◌&&◌, nat_lt, List, [], ◌∷◌, length, map, None, Result, Ok, Err, refl, subst, sym, arith, IfOk}
+use Rattle.std.specs.List.{list_all}
+use Rattle.std.proofs.lemmas.List.{length-map}
+use Rattle.std.proofs.lemmas.Bool.{and_parts, and_from}
+use Rattle.hib_base.specs.declared.refusals.Refused.{Refused}
+use Rattle.hib_base.specs.declared.scripts.Query.{Query}
+use Rattle.hib_base.specs.declared.scripts.Script.{Script}
+use Rattle.hib_base.specs.declared.scripts.SessionDef.{SessionDef}
+use Rattle.hib_base.specs.Scripts.{lists_known, is_declared}
+use Rattle.hib_base.specs.Valid.{is_valid}
+use Rattle.hib_base.specs.Words.{are_names}
+use Rattle.hib_base.proofs.Gives.{Gives, given}
+use Rattle.hib_base.proofs.Valid as rules
+use Rattle.hib_criteria.specs.Query.{said, parts_in}
+use Rattle.hib_criteria.proofs.Declared.{is_said_below, are_nodes_below, targets_below}
+use Rattle.hib_lex.specs.Lines.{lex_of}
+use Rattle.hib_lex.specs.declared.lines.Line.{Line}
+use Rattle.hib_lex.specs.declared.lines.Lines.{Lines}
+use Rattle.hib_lex.proofs.Lexed.{are_lexed, are_lines_lexed, text_lexed}
+use Rattle.hib_script.specs.Script.{begins_column}
+use Rattle.hib_script.specs.Lines as lines
+use Rattle.hib_script.specs.Lines.{Reader, After}
+use Rattle.hib_script.specs.Outline.{Outline, outline_of}
+use Rattle.hib_script.specs.Script.{at_line, step, reading, finished, ended_at, ended, start, script_in}
+use Rattle.hib_script.specs.declared.errors.ScriptError.{ScriptError}
+use Rattle.hib_script.specs.declared.places.Place.{Place}
+use Rattle.hib_script.proofs.Keeps.{Keeps}
+use Rattle.hib_script.proofs.Queries.{names_of_said}
+use Rattle.hib_script.proofs.Valid.{start_keeps, closed_keeps, schedule_keeps, line_keeps}
+
+-- ---- all lines
+at_keeps : (l : Line) (x : After) → Gives x Keeps → Gives (at_line l x) Keeps
+at_keeps l (Err x) g = tt
+at_keeps l (Ok r) g = g
+
+reading_keeps : (x : Result Reader Refused) (ls : List Line) → are_lines_lexed ls ≡ true → Gives x Keeps → Gives (reading x ls) Keeps
+reading_keeps (Err x) ls h g = tt
+reading_keeps (Ok r) [] h g = g
+reading_keeps (Ok r) (l ∷ ls) h g =
+    let both : (are_lexed l.tokens ≡ true) × (are_lines_lexed ls ≡ true) = and_parts (are_lexed l.tokens) (are_lines_lexed ls) h in
+    reading_keeps (step r (begins_column ls) l) ls both.1
+    (at_keeps l (lines.after_line r (begins_column ls) l.tokens) (line_keeps r r.place (begins_column ls) l.tokens both.0 g refl))
+
+-- ---- the script at the end
+abbrev at_end : Outline → ℕ → Reader
+at_end o n = record { outline = o; entity = None; statements = n; place = Place.Schedule }
+
+record IsKept (o : Outline) : Type 0 where
+  statements : ℕ
+  keeps : Keeps (at_end o statements)
+
+ended_at_kept : (n : ℕ) (r : Reader) (p : Place) → Keeps r → Gives (ended_at n r p) IsKept
+ended_at_kept n r Place.Start k = tt
+ended_at_kept n r (Place.Behind last) k = record { statements = r.statements; keeps = schedule_keeps (lines.closed r) (closed_keeps r k) }
+ended_at_kept n r (Place.Session s) k = tt
+ended_at_kept n r Place.Schedule k = tt
+
+ended_kept : (n : ℕ) (x : Result Reader Refused) → Gives x Keeps → Gives (ended n x) IsKept
+ended_kept n (Err x) g = tt
+ended_kept n (Ok r) g = ended_at_kept n r r.place g
+
+lines_kept : (l : Lines) → are_lines_lexed l.lines ≡ true → Gives (script_in (Ok l)) IsKept
+lines_kept l h = ended_kept l.count (reading (Ok start) l.lines) (reading_keeps (Ok start) l.lines h start_keeps)
+
+declared_one : (s : Script) (q : Query) → is_said_below (length s.mapping) (said q) ≡ true → is_declared s q ≡ true
+declared_one s q h =
+    let both : (nat_lt q.entity (length s.mapping) ≡ true) × (are_nodes_below (length s.mapping) (parts_in q.condition) ≡ true) =
+    and_parts (nat_lt q.entity (length s.mapping)) (are_nodes_below (length s.mapping) (parts_in q.condition)) h in
+    and_from (nat_lt q.entity (length s.mapping)) _ both.0 (targets_below (length s.mapping) q.condition both.1)
+
+declared_all : (s : Script) (qs : List Query) → list_all (λ q. is_said_below (length s.mapping) q) (map said qs) ≡ true → list_all (λ q. is_declared s q) qs ≡ true
+declared_all s [] h = refl
+declared_all s (q ∷ qs) h =
+    let both : (is_said_below (length s.mapping) (said q) ≡ true) × (list_all (λ q. is_said_below (length s.mapping) q) (map said qs) ≡ true) =
+    and_parts (is_said_below (length s.mapping) (said q)) (list_all (λ q. is_said_below (length s.mapping) q) (map said qs)) h in
+    and_from (is_declared s q) (list_all (λ q. is_declared s q) qs) (declared_one s q both.0) (declared_all s qs both.1)
+
+valid : (s : Script) → IsKept (outline_of s) → is_valid s ≡ true
+valid s i =
+    let k : Keeps (at_end (outline_of s) i.statements) = i.keeps in
+    let queries : length s.queries ≤ 1000 = rw (length-map) at k.queries.few in
+    rules.valid s (record {
+      timeout_low = k.timeout.0;
+      timeout = k.timeout.1;
+      results_low = k.results.0;
+      results = k.results.1;
+      entities = k.entities.few;
+      columns = k.entities.closed;
+      entity_names = k.entities.names;
+      rows = k.rows.few;
+      rows_below = k.rows.below;
+      fit = k.rows.fit;
+      queries = queries;
+      declared = declared_all s s.queries k.queries.below;
+      query_names = subst (λ ws. are_names ws ≡ true) (names_of_said s.queries) k.queries.names;
+      sessions = omega (arith, k.sessions.few);
+      statements = omega (arith, k.sessions.counted, k.sessions.statements);
+      over = k.sessions.over;
+      known = subst (λ n. list_all (λ (d : SessionDef). lists_known n d) s.sessions ≡ true) (length-map s.queries said) k.sessions.known;
+      session_names = k.sessions.names;
+      orders = k.orders.few;
+      cached = k.orders.cached;
+    })
+
+-- a script that the lines of a text are
+pub read_valid : (text : List ℕ) (l : Lines) (x : Result Script ScriptError) → lex_of text ≡ Ok l → IfOk x (λ s. script_in (Ok l) ≡ Ok (outline_of s)) → IfOk x (λ s. is_valid s ≡ true)
+read_valid text l (Ok s) e h =
+    valid s (given (script_in (Ok l)) IsKept (outline_of s) (lines_kept l (given (lex_of text) (λ l. are_lines_lexed l.lines ≡ true) l (text_lexed text) e)) h)
+read_valid text l (Err x) e h = h
