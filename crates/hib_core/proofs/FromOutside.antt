@@ -286,14 +286,14 @@ stamps_length timeout now Act.Restart xs o = length-replicate (length xs) None
 stamps_length timeout now (Act.Evict k) xs o = refl
 stamps_length timeout now _ xs o = absurd (false≢true o)
 
-pub parts_outside : Laws → (script : Script) (from : Origin) (h : Journal) (a : Act) (r : Reply) (x y : PartsState) → AreParts script from h x → is_outside a ≡ true → is_fault r ≡ false →
+pub parts_outside : Laws → (script : Script) (from : Origin) (h : Journal) (a : Act) (r : Reply) (x y : PartsState) → AreParts script from h x → IsNumbered h → is_outside a ≡ true → is_fault r ≡ false →
     y.store ≡ x.store → y.registry ≡ opened_after (length h + 1) None a x.registry → y.stamps ≡ stamps_after script.timeout (length h + 1) a x.stamps →
     ((n : ℕ) → IsPlaced script n (outside_entry h a r ∷ h) (region_of y.regions n)) → length y.regions ≡ length x.regions → y.results ≡ results_after a r x.results →
     AreParts script from (outside_entry h a r ∷ h) y
-parts_outside l script from h a r x y p o f st rg sp rs ln re = record {
+parts_outside l script from h a r x y p m o f st rg sp rs ln re = record {
   store = subst (λ v. IsStore from (outside_entry h a r ∷ h) v) (sym st) (store_outside from h a r x.store p.store o f);
   registry = subst (λ ps. IsRegistry ps (outside_entry h a r ∷ h)) (sym rg)
-      (registry_step x.registry (outside_entry h a r) h p.registry refl (λ b n q. absurd (no_begin a o b)));
+      (registry_step x.registry (outside_entry h a r) h p.registry (omega (arith, last_le (λ _. true) h m)) (λ b n q. absurd (no_begin a o b)));
   stamps = subst (λ ss. IsStamps script.timeout ss (outside_entry h a r ∷ h)) (sym sp) (l.stamps_follow script.timeout x.stamps h (outside_entry h a r) p.stamps);
   tables = ap length sp ∙ (stamps_length script.timeout (length h + 1) a x.stamps o ∙ p.tables);
   regions = rs;
@@ -312,7 +312,7 @@ pub kill_run : Laws → (script : Script) (from : Origin) (h : Journal) (n : ℕ
     y ≡ record x { registry = Rattle.hib_core.specs.Registry.without n x.registry } → IsRun script from (outside_entry h (Act.Kill n) Reply.Done ∷ h) y
 kill_run l script from h n x y run o few e = subst (λ v. IsRun script from (outside_entry h (Act.Kill n) Reply.Done ∷ h) v) (sym e)
     (goes_outside script from h (Act.Kill n) Reply.Done x z run refl (rw o refl) (kill_reply script from h n)
-    (parts_outside l script from h (Act.Kill n) Reply.Done x z run.parts refl refl refl refl refl
+    (parts_outside l script from h (Act.Kill n) Reply.Done x z run.parts run.numbered refl refl refl refl refl
     (λ m. regions_step l script h (outside_entry h (Act.Kill n) Reply.Done) 0 x.regions (Act.Kill n) refl refl refl run.parts.regions tt (λ t. absurd (false≢true t)) m) refl refl) few)
   where
     z : PartsState
@@ -331,7 +331,7 @@ pub evict_run : Laws → (script : Script) (from : Origin) (h : Journal) (k : Ke
     y ≡ record x { regions = slice_set x.regions k.entity (region_after (region_of x.regions k.entity) now (Act.Evict k)) } → IsRun script from (outside_entry h (Act.Evict k) r ∷ h) y
 evict_run l script from h k now r x y run c few e p q = subst (λ v. IsRun script from (outside_entry h (Act.Evict k) r ∷ h) v) (sym (q ∙ at_tick))
     (goes_outside script from h (Act.Evict k) r x z run refl (rw c refl) reply
-    (parts_outside l script from h (Act.Evict k) r x z run.parts refl no_fault refl refl refl
+    (parts_outside l script from h (Act.Evict k) r x z run.parts run.numbered refl no_fault refl refl refl
     (λ m. regions_step l script h (outside_entry h (Act.Evict k) r) 0 x.regions (Act.Evict k) refl refl refl run.parts.regions c (λ t. served) m)
     (length-set x.regions k.entity (region_after (region_of x.regions k.entity) (length h + 1) (Act.Evict k))) refl) few)
   where
@@ -364,7 +364,7 @@ pub restart_run : Laws → (script : Script) (from : Origin) (h : Journal) (x y 
 restart_run l script from h x y run few st rg sp rs re =
     goes_outside script from h Act.Restart Reply.Done x y run refl refl
     (reply_any script from.tables h (outside_entry h Act.Restart Reply.Done) (λ start. refl) refl)
-    (parts_outside l script from h Act.Restart Reply.Done x y run.parts refl refl st rg sp
+    (parts_outside l script from h Act.Restart Reply.Done x y run.parts run.numbered refl refl st rg sp
     (λ n. subst (λ v. IsPlaced script n (outside_entry h Act.Restart Reply.Done ∷ h) v) (sym (rs.each n))
     (restarts l script h (outside_entry h Act.Restart Reply.Done) n (region_of x.regions n) refl (run.parts.regions n))) rs.all re) few
 

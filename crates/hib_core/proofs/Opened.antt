@@ -3,7 +3,7 @@ use Rattle.std.proofs.Common.{◌≡◌, ℕ, suc, ◌+◌, ◌≤◌, ◌<◌, 
 use Rattle.std.proofs.lemmas.Bool.{true≢false, false≢true, and_parts, and_from, eqb-true, eq-eqb, ne_eqb}
 use Rattle.hib_base.proofs.Tables.{Tested, tested}
 use Rattle.hib_journal.specs.Types.{Act, Entry}
-use Rattle.hib_journal.specs.Sessions.{Journal, is_by, is_session, is_open, open_after, time, time_after, is_live, least_live, floor}
+use Rattle.hib_journal.specs.Sessions.{Journal, is_by, is_session, is_open, open_after, time, time_after, is_live, least_live, floor, last_tick}
 use Rattle.hib_journal.specs.Held.{is_begin}
 use Rattle.hib_core.specs.Registry.{Opened, Each, floor_in, without, time_of, AreRising, time_if_open, opened_after, IsRegistry}
 
@@ -105,7 +105,7 @@ found P (p ∷ ps) s t a e = by_test (tested (p.0 == s)) (λ q. found P ps s t a
     by_test (inr q) f = f (sym (rw q refl) ∙ e)
 
 -- the first session's time is the floor
-pub floor_is : (ps : Opened) (h : Journal) (now : ℕ) → IsRegistry ps h → length h < now → floor_in ps now ≡ floor h now
+pub floor_is : (ps : Opened) (h : Journal) (now : ℕ) → IsRegistry ps h → last_tick (λ _. true) h < now → floor_in ps now ≡ floor h now
 floor_is [] h now r l =
     let low : now ≤ least_live h h now = least_ge h h now now (omega arith) (λ s o. absurd (true≢false (sym o ∙ closed (is_open s h) (time s h) (r.each s)))) in
     let high : least_live h h now ≤ now = least_most h h now in
@@ -114,7 +114,7 @@ floor_is (p ∷ ps) h now r l =
     let first : (is_open p.0 h ≡ true) × (time p.0 h ≡ p.1) = opened (is_open p.0 h) (time p.0 h) p.1 (sym (time_of_self p ps) ∙ r.each p.0) in
     let one : 1 ≤ time p.0 h = let a : 1 ≤ p.1 = r.since.0 in omega (arith, first.1) in
     let high : least_live h h now ≤ time p.0 h = least_le h h p.0 now first.0 one refl in
-    let low : p.1 ≤ least_live h h now = least_ge h h p.1 now (let u : p.1 ≤ length h = r.until.0 in omega arith) (λ s o. least_of s o (tested (p.0 == s)) (r.each s)) in
+    let low : p.1 ≤ least_live h h now = least_ge h h p.1 now (let u : p.1 ≤ last_tick (λ _. true) h = r.until.0 in omega arith) (λ s o. least_of s o (tested (p.0 == s)) (r.each s)) in
     omega (arith, first.1)
   where
     least_of : (s : ℕ) → is_open s h ≡ true → Tested (p.0 == s) → time_of (p ∷ ps) s ≡ time_if_open s h → p.1 ≤ time s h
@@ -217,8 +217,8 @@ pub record AreTimes (ps : List (ℕ × ℕ)) (last : ℕ) : Type 0 where
   pub since : Each (λ t. 1 ≤ t) ps
   pub until : Each (λ t. t ≤ last) ps
 
-later : (ps : Opened) (last : ℕ) → AreTimes ps last → AreTimes ps (suc last)
-later ps last x = record { rising = x.rising; since = x.since; until = each_weaker (λ t. t ≤ last) (λ t. t ≤ suc last) ps (λ t l. omega (arith, l)) x.until }
+later : (ps : Opened) (last now : ℕ) → AreTimes ps last → last < now → AreTimes ps now
+later ps last now x e = record { rising = x.rising; since = x.since; until = each_weaker (λ t. t ≤ last) (λ t. t ≤ now) ps (λ t l. omega (arith, l, e)) x.until }
 
 fewer : (ps : Opened) (n last : ℕ) → AreTimes ps last → AreTimes (without n ps) last
 fewer ps n last x = record {
@@ -227,18 +227,18 @@ fewer ps n last x = record {
   until = each_without (λ t. t ≤ last) ps n x.until;
 }
 
-times_step : (a : Act) (by : Option ℕ) (now last : ℕ) (ps : Opened) → AreTimes ps last → now ≡ last + 1 → AreTimes (opened_after now by a ps) (suc last)
+times_step : (a : Act) (by : Option ℕ) (now last : ℕ) (ps : Opened) → AreTimes ps last → last < now → AreTimes (opened_after now by a ps) now
 times_step Act.Begin (Some n) now last ps x e = record {
   rising = rising_more ps n now x.rising (each_weaker (λ t. t ≤ last) (λ t. t < now) ps (λ t l. omega (arith, l, e)) x.until);
   since = each_more (λ t. 1 ≤ t) ps n now x.since (omega (arith, e));
-  until = each_more (λ t. t ≤ suc last) ps n now (later ps last x).until (omega (arith, e));
+  until = each_more (λ t. t ≤ now) ps n now (later ps last now x e).until (omega arith);
 }
-times_step Act.Begin None now last ps x e = later ps last x
-times_step Act.End (Some n) now last ps x e = later (without n ps) last (fewer ps n last x)
-times_step Act.End None now last ps x e = later ps last x
-times_step (Act.Kill n) by now last ps x e = later (without n ps) last (fewer ps n last x)
+times_step Act.Begin None now last ps x e = later ps last now x e
+times_step Act.End (Some n) now last ps x e = later (without n ps) last now (fewer ps n last x) e
+times_step Act.End None now last ps x e = later ps last now x e
+times_step (Act.Kill n) by now last ps x e = later (without n ps) last now (fewer ps n last x) e
 times_step Act.Restart by now last ps x e = record { rising = tt; since = tt; until = tt }
-times_step _ by now last ps x e = later ps last x
+times_step _ by now last ps x e = later ps last now x e
 
 time_step : (s : ℕ) (e : Entry) (h : Journal) → time s (e ∷ h) ≡ cond (is_by s e) (time_after e.act e.tick (time s h)) (time s h)
 time_step s e h = by_test (tested (is_by s e))
@@ -248,7 +248,7 @@ time_step s e h = by_test (tested (is_by s e))
     by_test (inr q) = rw q refl
 
 -- the list stands for the journal with the entry
-pub registry_step : (ps : Opened) (e : Entry) (h : Journal) → IsRegistry ps h → e.tick ≡ length h + 1 →
+pub registry_step : (ps : Opened) (e : Entry) (h : Journal) → IsRegistry ps h → last_tick (λ _. true) h < e.tick →
     (is_begin e.act ≡ true → (s : ℕ) → is_session s e.session ≡ true → is_open s h ≡ false) → IsRegistry (opened_after e.tick e.session e.act ps) (e ∷ h)
 registry_step ps e h r t f = record {
   each = λ s. each_step e.act e.session e.tick s (is_open s h) (time s h) ps (r.each s) (λ b q. f b s q) ∙ ap (shown (open_after s e.session e.act (is_open s h))) (sym (time_step s e h));
@@ -257,8 +257,8 @@ registry_step ps e h r t f = record {
   until = times.until;
 }
   where
-    times : AreTimes (opened_after e.tick e.session e.act ps) (suc (length h))
-    times = times_step e.act e.session e.tick (length h) ps (record { rising = r.rising; since = r.since; until = r.until }) t
+    times : AreTimes (opened_after e.tick e.session e.act ps) e.tick
+    times = times_step e.act e.session e.tick (last_tick (λ _. true) h) ps (record { rising = r.rising; since = r.since; until = r.until }) t
 
 pub registry_begins : IsRegistry [] []
 registry_begins = record { each = λ s. refl; rising = tt; since = tt; until = tt }

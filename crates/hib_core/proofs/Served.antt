@@ -156,7 +156,7 @@ pub parts_step : Laws → (script : Script) (from : Origin) (h : Journal) (s : �
     IsStore from (entry_of h s a r ∷ h) y.store → ArePartsAfter script (length h + 1) s a x y → AreParts script from (entry_of h s a r ∷ h) y
 parts_step l script from h s a r x y k answer kept store z = record {
   store = store;
-  registry = subst (λ ps. IsRegistry ps (e ∷ h)) (sym z.registry) (registry_step x.registry e h k.parts.registry refl (λ b n q. closed b n q));
+  registry = subst (λ ps. IsRegistry ps (e ∷ h)) (sym z.registry) (registry_step x.registry e h k.parts.registry (omega (arith, last_le (λ _. true) h k.numbered)) (λ b n q. closed b n q));
   stamps = subst (λ ss. IsStamps script.timeout ss (e ∷ h)) (sym z.stamps) (l.stamps_follow script.timeout x.stamps h e k.parts.stamps);
   tables = ap length z.stamps ∙ (stamps_length script.timeout (length h + 1) a x.stamps no_restart ∙ k.parts.tables);
   regions = λ n. subst (λ rs. IsPlaced script n (e ∷ h) (region_of rs n)) (sym z.regions)
@@ -195,7 +195,7 @@ region_reply l script from h s a x k t = reply_any script from.tables h (entry_o
 pub begin_reply : (script : Script) (from : Origin) (h : Journal) (s : ℕ) (x : PartsState) → IsReady script from h s Act.Begin x →
     IsReply script from.tables h (entry_of h s Act.Begin (Reply.Began (floor_in x.registry (length h + 1))))
 begin_reply script from h s x k = reply_any script from.tables h (entry_of h s Act.Begin (Reply.Began (floor_in x.registry (length h + 1))))
-    (λ start. ap (λ t. Reply.Began t) (floor_is x.registry h (length h + 1) k.parts.registry (omega arith))) refl
+    (λ start. ap (λ t. Reply.Began t) (floor_is x.registry h (length h + 1) k.parts.registry (omega (arith, last_le (λ _. true) h k.numbered)))) refl
 
 -- where an act leaves all but the store
 

@@ -1,8 +1,8 @@
 -- The open sessions, and that they are those of a journal.
-use Rattle.std.specs.Prelude.{◌≡◌, ℕ, ◌≤◌, ◌<◌, Bool, cond, not, ◌==◌, List, [], ◌∷◌, ◌++◌, length, Some, None, Option}
+use Rattle.std.specs.Prelude.{◌≡◌, ℕ, ◌≤◌, ◌<◌, Bool, true, cond, not, ◌==◌, List, [], ◌∷◌, ◌++◌, Some, None, Option}
 use Rattle.std.specs.List.{filter, list_any}
 use Rattle.hib_journal.specs.Types.{Act}
-use Rattle.hib_journal.specs.Sessions.{Journal, is_open, time}
+use Rattle.hib_journal.specs.Sessions.{Journal, is_open, time, last_tick}
 
 -- sessions with their times
 abbrev pub Opened : Type 0
@@ -58,4 +58,4 @@ pub record IsRegistry (open_sessions : List (ℕ × ℕ)) (h : Journal) : Type 0
   pub each : (s : ℕ) → time_of open_sessions s ≡ time_if_open s h
   pub rising : AreRising open_sessions
   pub since : Each (λ t. 1 ≤ t) open_sessions
-  pub until : Each (λ t. t ≤ length h) open_sessions
+  pub until : Each (λ t. t ≤ last_tick (λ _. true) h) open_sessions
