@@ -1,10 +1,10 @@
 // What a factory begins with.
 ghost use Rattle.std.specs.Prelude.{◌≡◌, ◌<◌, ◌^◌, [], length, map, IfOk};
-ghost use Rattle.hib_core.specs.Region.{empty};
+ghost use Rattle.hib_engines.specs.Region.{empty};
 ghost use Rattle.hib_core.specs.Factory.{AreSessions};
 
-use crate::region::Region;
 use hib_base::{Script, SessionNo};
+use hib_engines::Region;
 use hib_session::Session;
 use std::alloc::{AllocError, Global};
 
