@@ -9,7 +9,7 @@ use Rattle.hib_journal.specs.Sessions.{Journal, changes_in, deferred}
 use Rattle.hib_journal.specs.Next.{strategy}
 use Rattle.hib_session.specs.Due.{IsAllowed, asks_store, is_asked, is_inserting, is_removing, are_declared, are_tables}
 use Rattle.hib_session.specs.Due as Due
-use Rattle.hib_core.specs.Region.{acts_on, Suits}
+use Rattle.hib_engines.specs.Region.{acts_on, Suits}
 use Rattle.hib_core.specs.Standing.{AreWithin, AreStored, HasQuery, IsDue}
 use Rattle.hib_core.specs.Factory.{HasQueries}
 
@@ -67,6 +67,8 @@ query script s mine _ n w = tt
 pub is_due : (script : Script) (s : ℕ) (mine : Journal) (a : Act) → HasQueries script → IsAllowed script s mine a → IsDue script mine a
 is_due script s mine a n w = record {
   begins = λ p. w.begun ∙ ap not p;
+  within = λ p. w.begun ∙ ap not p;
+  ends = w.ended;
   stored = stored mine a w.deferred;
   known = known script s mine a w.suits;
   suits = suits script s mine a w.inside w.suits;

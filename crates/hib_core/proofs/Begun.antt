@@ -2,21 +2,23 @@
 use Rattle.std.proofs.Common.{◌≡◌, ◌⊎◌, ℕ, zero, suc, ◌+◌, ◌<◌, ◌≤◌, false, List, [], ◌∷◌, ◌++◌, length, map, Some, None, Option, refl, sym, ap, ◌∙◌, subst, arith, inl, inr}
 use Rattle.std.proofs.lemmas.List.{length-map, length-append, length-replicate}
 use Rattle.std.specs.Prelude.{slice_get}
+use Rattle.std.specs.Option.{option_map}
 use Rattle.hib_base.specs.Tables.{Tables}
 use Rattle.hib_journal.specs.Types.{EntityDef, Script}
 use Rattle.hib_journal.specs.Next.{strategy, strategy_in, capacity_in}
-use Rattle.hib_journal.specs.Runs.{told_committed}
+use Rattle.hib_journal.specs.Lists.{stored}
 use Rattle.hib_update_stamps.specs.Stamped.{unstamped}
 use Rattle.hib_query_cache.specs.Standing.{IsResults}
 use Rattle.hib_store.specs.Stores.{StoreState}
 use Rattle.hib_session.specs.declared.session.Session.{Session}
 use Rattle.hib_session.specs.Session.{Follows, number_of, is_killed}
-use Rattle.hib_core.specs.Region.{empty, IsPlaced}
-use Rattle.hib_core.specs.Laws.{Laws}
-use Rattle.hib_core.specs.Standing.{Origin, PartsState, AreParts, region_of}
+use Rattle.hib_engines.specs.Region.{empty, IsPlaced}
+use Rattle.hib_engines.specs.Laws.{Laws}
+use Rattle.hib_core.specs.Standing.{Origin, IsBridged, PartsState, AreParts, region_of}
 use Rattle.hib_core.specs.Factory.{FactoryState, AreSessions, IsStanding, IsBuilt}
-use Rattle.hib_core.proofs.Grows.{begins}
-use Rattle.hib_core.proofs.Opened.{registry_begins}
+use Rattle.hib_core.proofs.Stored.{store_of}
+use Rattle.hib_engines.proofs.Grows.{begins}
+use Rattle.hib_engines.proofs.Opened.{registry_begins}
 
 -- n sessions that have done nothing, by their numbers
 pub record AreOpened (n : ℕ) (script : Script) (sessions : List Session) : Type 0 where
@@ -38,20 +40,20 @@ regions_begin l script n = subst (λ x. IsPlaced script n [] x) (sym (region_in 
 
 -- the parts
 
-told_same : (told : Option Tables) → told ≡ told_committed told []
+told_same : (told : Option Tables) → told ≡ option_map (λ start. stored start []) told
 told_same None = refl
 told_same (Some start) = refl
+
+bridged_begins : IsBridged []
+bridged_begins = record { rows = λ start. refl; changes = λ n. refl; closed = λ n w o. refl }
 
 pub parts_begin : Laws → (script : Script) (from : Origin) (x : PartsState) → x.store.tables ≡ from.tables → from.faults ≤ x.store.faults → x.store.written ≡ [] →
     x.registry ≡ [] → x.stamps ≡ unstamped (length script.mapping) → x.regions ≡ map (λ d. empty d.strategy d.capacity script.timeout) script.mapping →
     x.results ≡ record { capacity = script.results; kept = [] } → 0 < script.results → AreParts script from [] x
 parts_begin l script from x t f w r s g u c = record {
-  store = record {
-    rows = t ∙ told_same from.tables;
-    changes = λ n live. ap (λ v. Rattle.hib_store.specs.Stores.changes_in v n) w;
-    faults = omega (arith, f);
-  };
-  registry = subst (λ v. Rattle.hib_core.specs.Registry.IsRegistry v []) (sym r) registry_begins;
+  store = store_of from [] x.store
+      (record { rows = t ∙ told_same from.tables; changes = λ n. ap (λ v. Rattle.hib_store.specs.Stores.changes_in v n) w }) bridged_begins (omega (arith, f));
+  registry = subst (λ v. Rattle.hib_engines.specs.Registry.IsRegistry v []) (sym r) registry_begins;
   stamps = subst (λ v. Rattle.hib_update_stamps.specs.Standing.IsStamps script.timeout v []) (sym s) (l.stamps_begin script.timeout (length script.mapping));
   tables = ap length s ∙ length-replicate (length script.mapping) None;
   regions = λ n. subst (λ v. IsPlaced script n [] (region_of v n)) (sym g) (regions_begin l script n);

@@ -1,45 +1,43 @@
 -- A factory goes on by an act from outside of its sessions.
-use Rattle.std.proofs.Common.{◌≡◌, ℕ, ◌+◌, ◌≤◌, ◌<◌, ◌^◌, ◌==◌, Bool, true, false, cond, ◌||◌, ◌&&◌, nat_lt, List, [], ◌∷◌, length, get_or, IsSome, Some, None, Option, refl, sym, ap, ◌∙◌, subst, arith, inl, inr}
+use Rattle.std.proofs.Common.{◌≡◌, ◌≢◌, ℕ, ◌+◌, ◌≤◌, ◌<◌, ◌^◌, ◌==◌, Bool, true, false, cond, ◌||◌, ◌&&◌, nat_lt, List, [], ◌∷◌, length, get_or, IsSome, Some, None, Option, refl, sym, ap, ◌∙◌, subst, arith, inl, inr}
 use Rattle.std.proofs.lemmas.Bool.{true≢false, false≢true, eqb-true}
 use Rattle.std.proofs.lemmas.Bool.Decides.{nat_tests}
-use Rattle.std.proofs.lemmas.List.{get_or-set_same, get_or-set_other, length-set, length-replicate}
+use Rattle.std.proofs.lemmas.List.{get_or-set_same, get_or-set_other, length-set}
 use Rattle.std.proofs.lemmas.Option.{slice_get_within, get_or_from_slice_get, slice_get-get_or}
 use Rattle.std.specs.Prelude.{slice_get, slice_set}
-use Rattle.hib_base.specs.Tables.{Tables}
 use Rattle.hib_base.proofs.Tables.{Tested, tested, same_key_refl}
-use Rattle.hib_journal.specs.Types.{Key, Change, Order, Script, Act, Reply}
-use Rattle.hib_journal.specs.Sessions.{Journal, own, is_open, was_killed, killed_by, committer, committed, committed_by, changes, IsTimely}
-use Rattle.hib_journal.specs.Held.{is_begin}
-use Rattle.hib_journal.specs.Next.{is_cached}
+use Rattle.hib_journal.specs.Types.{Key, Change, Order, Script, Part, Act, Reply}
+use Rattle.hib_journal.specs.Sessions.{Journal, own, is_open, was_killed, killed_by, changes}
+use Rattle.hib_journal.specs.Next.{is_cached, strategy}
 use Rattle.hib_journal.specs.Played.{play_order}
 use Rattle.hib_journal.specs.Legal.{IsReply, part_of, due, may_come, is_outside}
-use Rattle.hib_journal.specs.Runs.{IsNumbered, told_committed, asks, ask_count, is_fault, fault_count}
+use Rattle.hib_journal.specs.Lists.{IsLate}
+use Rattle.hib_journal.specs.Runs.{IsNumbered, asks, ask_count, is_fault, fault_count}
 use Rattle.hib_store.specs.Stores.{StoreState}
 use Rattle.hib_session.specs.declared.session.Session.{Session}
 use Rattle.hib_session.specs.Session.{Follows, number_of, is_killed}
-use Rattle.hib_update_stamps.specs.Stamped.{Stamped, unstamped}
-use Rattle.hib_update_stamps.specs.Standing.{IsStamps, stamps_after}
-use Rattle.hib_query_cache.specs.Standing.{IsResults, results_after}
-use Rattle.hib_core.specs.declared.region.Region.{Region}
-use Rattle.hib_core.specs.Laws.{Laws}
-use Rattle.hib_core.specs.Registry.{Opened, IsRegistry, opened_after, holds, time_of, time_if_open}
-use Rattle.hib_core.specs.Region.{answer_in, region_after, emptied, IsPlaced}
-use Rattle.hib_core.specs.Standing.{Origin, RoseBy, RoseWithin, IsStore, PartsState, AreParts, region_of, regions_after, outside_entry, AreEmptied}
+use Rattle.hib_engines.specs.declared.region.Region.{Region}
+use Rattle.hib_engines.specs.Registry.{Opened, IsRegistry, holds, time_of, time_if_open}
+use Rattle.hib_engines.specs.Region.{emptied, entity_in, IsPlaced, Suits}
+use Rattle.hib_engines.specs.Laws.{Laws}
+use Rattle.hib_engines.specs.Served.{IsServed}
+use Rattle.hib_engines.specs.Stamps.{AreStamps}
+use Rattle.hib_engines.specs.Results.{AreResults}
+use Rattle.hib_engines.specs.Store.{IsStored}
+use Rattle.hib_engines.proofs.StampsServed.{stamps_stay}
+use Rattle.hib_engines.proofs.ResultsServed.{results_stay}
+use Rattle.hib_engines.proofs.RegionServed.{restart_placed}
+use Rattle.hib_engines.proofs.Stored.{store_stays}
+use Rattle.hib_engines.proofs.Stays.{registry_kept, region_kept}
+use Rattle.hib_core.specs.Standing.{Origin, RoseBy, RoseWithin, IsBridged, IsStore, PartsState, AreParts, region_of, outside_entry, IsAtRegion, AreEmptied}
 use Rattle.hib_core.specs.Factory.{AreSessions, IsRun, IsGoing, IsAsBefore, AreKilled}
 use Rattle.hib_core.specs.Playing.{played, Leads}
-use Rattle.hib_core.proofs.Opened.{registry_step}
-use Rattle.hib_core.proofs.Regions.{answers}
-use Rattle.hib_core.proofs.Grows.{IsServed, restarts}
-use Rattle.hib_core.proofs.Stored.{self_by, lived, reply_any}
-use Rattle.hib_core.proofs.Served.{is_of_results, unasked, results_capacity, last_le, before_now, regions_step, region_same, region_other}
+use Rattle.hib_core.proofs.Stored.{self_by, either, reply_any, store_of, bridged_kill, bridged_restart, bridged_evict}
+use Rattle.hib_core.proofs.Served.{late, stamps_in, results_in, parts_of, regions_at, region_same, region_other, none_past}
 use Rattle.hib_core.proofs.Going.{timely, some_is}
 use Rattle.hib_core.proofs.Playing.{leads_none}
 
 -- the sessions
-
-either : (b c : Bool) → (b || c) ≡ false → (b ≡ false) × (c ≡ false)
-either true c p = absurd (true≢false p)
-either false c p = (refl, p)
 
 pub sessions_outside : (script : Script) (h : Journal) (a : Act) (r : Reply) (xs ys : List Session) → AreSessions script h xs → AreKilled (λ s. killed_by s a (is_open s h)) xs ys →
     AreSessions script (outside_entry h a r ∷ h) ys
@@ -209,7 +207,7 @@ pub emptied_all : (n : ℕ) (xs ys : List Region) → length xs ≤ n → length
 emptied_all n xs ys l e f = record { all = e; each = λ m. by_test m (tested (nat_lt m n)) }
   where
     none : (m : ℕ) → length xs ≤ m → region_of xs m ≡ emptied (region_of xs m)
-    none m k = let u : region_of xs m ≡ Region.Uncached = ap Rattle.hib_core.specs.Standing.or_uncached (Rattle.std.proofs.lemmas.Option.slice_get_past xs m k) in u ∙ sym (ap emptied u)
+    none m k = let u : region_of xs m ≡ Region.Uncached = none_past xs m k in u ∙ sym (ap emptied u)
 
     by_test : (m : ℕ) → Tested (nat_lt m n) → region_of ys m ≡ emptied (region_of xs m)
     by_test m (inl q) = f m ∙ rw q refl
@@ -245,78 +243,47 @@ asks_nothing cs (Act.Evict k) o = refl
 asks_nothing cs _ o = absurd (false≢true o)
 
 pub going_outside : (script : Script) (from : Origin) (h : Journal) (a : Act) (r : Reply) (x y : PartsState) (xs ys : List Session) → IsGoing script from h x xs → is_outside a ≡ true →
-    y.store ≡ x.store → AreKilled (λ s. killed_by s a (is_open s h)) xs ys → IsGoing script from (outside_entry h a r ∷ h) y ys
+    y.store.asked ≡ x.store.asked → AreKilled (λ s. killed_by s a (is_open s h)) xs ys → IsGoing script from (outside_entry h a r ∷ h) y ys
 going_outside script from h a r x y xs ys g o e k = record {
   asked = subst (λ n. RoseWithin from.asked (ask_count h + n) y.store.asked) (sym (ap Rattle.hib_journal.specs.Runs.one_if (asks_nothing (changes 0 h) a o))) (record {
-    later = omega (arith, g.asked.later, ap (λ v. v.asked) e);
-    few = omega (arith, g.asked.few, ap (λ v. v.asked) e);
+    later = omega (arith, g.asked.later, e);
+    few = omega (arith, g.asked.few, e);
   });
   sessions = sessions_outside script h a r xs ys g.sessions k;
 }
 
-commits_nothing : (a : Act) (r : Reply) → is_outside a ≡ true → committer a r None ≡ None
-commits_nothing (Act.Kill n) r o = refl
-commits_nothing Act.Restart r o = refl
-commits_nothing (Act.Evict k) r o = refl
-commits_nothing _ r o = absurd (false≢true o)
-
-rows_same : (told : Option Tables) (h : Journal) (a : Act) (r : Reply) → is_outside a ≡ true → told_committed told (outside_entry h a r ∷ h) ≡ told_committed told h
-rows_same None h a r o = refl
-rows_same (Some start) h a r o = ap (λ by. Some (committed_by by h (committed start h))) (commits_nothing a r o)
-
-store_outside : (from : Origin) (h : Journal) (a : Act) (r : Reply) (store : StoreState) → IsStore from h store → is_outside a ≡ true → is_fault r ≡ false → IsStore from (outside_entry h a r ∷ h) store
-store_outside from h a r store k o f = record {
-  rows = k.rows ∙ sym (rows_same from.tables h a r o);
-  changes = λ n w. k.changes n (lived n (outside_entry h a r) h w);
-  faults = rw f (omega (arith, k.faults));
-}
-
-no_results : (a : Act) → is_outside a ≡ true → is_of_results a ≡ false
-no_results (Act.Look q) o = absurd (false≢true o)
-no_results (Act.Keep q t l) o = absurd (false≢true o)
-no_results _ o = refl
-
-no_begin : (a : Act) → is_outside a ≡ true → is_begin a ≡ true → ⊥
-no_begin Act.Begin o b = false≢true o
-no_begin _ o b = false≢true b
-
-stamps_length : (timeout now : ℕ) (a : Act) (xs : Stamped) → is_outside a ≡ true → length (stamps_after timeout now a xs) ≡ length xs
-stamps_length timeout now (Act.Kill n) xs o = refl
-stamps_length timeout now Act.Restart xs o = length-replicate (length xs) None
-stamps_length timeout now (Act.Evict k) xs o = refl
-stamps_length timeout now _ xs o = absurd (false≢true o)
-
-pub parts_outside : Laws → (script : Script) (from : Origin) (h : Journal) (a : Act) (r : Reply) (x y : PartsState) → AreParts script from h x → is_outside a ≡ true → is_fault r ≡ false →
-    y.store ≡ x.store → y.registry ≡ opened_after (length h + 1) None a x.registry → y.stamps ≡ stamps_after script.timeout (length h + 1) a x.stamps →
-    ((n : ℕ) → IsPlaced script n (outside_entry h a r ∷ h) (region_of y.regions n)) → length y.regions ≡ length x.regions → y.results ≡ results_after a r x.results →
-    AreParts script from (outside_entry h a r ∷ h) y
-parts_outside l script from h a r x y p o f st rg sp rs ln re = record {
-  store = subst (λ v. IsStore from (outside_entry h a r ∷ h) v) (sym st) (store_outside from h a r x.store p.store o f);
-  registry = subst (λ ps. IsRegistry ps (outside_entry h a r ∷ h)) (sym rg)
-      (registry_step x.registry (outside_entry h a r) h p.registry refl (λ b n q. absurd (no_begin a o b)));
-  stamps = subst (λ ss. IsStamps script.timeout ss (outside_entry h a r ∷ h)) (sym sp) (l.stamps_follow script.timeout x.stamps h (outside_entry h a r) p.stamps);
-  tables = ap length sp ∙ (stamps_length script.timeout (length h + 1) a x.stamps o ∙ p.tables);
-  regions = rs;
-  entities = ln ∙ p.entities;
-  results = subst (λ v. IsResults (length script.queries) v (outside_entry h a r ∷ h)) (sym re)
-      (l.results_follow (length script.queries) x.results h (outside_entry h a r) p.results (unasked (length script.queries) x.results a r (no_results a o)));
-  capacity = ap (λ v. v.capacity) re ∙ (results_capacity a r x.results ∙ p.capacity);
-}
-
 -- ---- a kill
 
-kill_reply : (script : Script) (from : Origin) (h : Journal) (n : ℕ) → IsReply script from.tables h (outside_entry h (Act.Kill n) Reply.Done)
-kill_reply script from h n = reply_any script from.tables h (outside_entry h (Act.Kill n) Reply.Done) (λ start. refl) refl
+-- what an entry from outside leaves of the parts that are not its own: of a kill or an eviction
+pub stamps_outside : Laws → (script : Script) (from : Origin) (h : Journal) (a : Act) (r : Reply) (x : PartsState) → AreParts script from h x → Rattle.hib_engines.specs.Served.is_for Part.Stamps a 0 ≡ false →
+    Rattle.hib_journal.specs.Sessions.is_restart a ≡ false → AreStamps script (outside_entry h a r ∷ h) x.stamps
+stamps_outside l script from h a r x k p q = stamps_stay l script h None (length h + 1) a r x.stamps (stamps_in script from h x k) p q
 
-pub kill_run : Laws → (script : Script) (from : Origin) (h : Journal) (n : ℕ) (x y : PartsState) → IsRun script from h x → is_open n h ≡ true → length h < 2 ^ 62 →
-    y ≡ record x { registry = Rattle.hib_core.specs.Registry.without n x.registry } → IsRun script from (outside_entry h (Act.Kill n) Reply.Done ∷ h) y
-kill_run l script from h n x y run o few e = subst (λ v. IsRun script from (outside_entry h (Act.Kill n) Reply.Done ∷ h) v) (sym e)
-    (goes_outside script from h (Act.Kill n) Reply.Done x z run refl (rw o refl) (kill_reply script from h n)
-    (parts_outside l script from h (Act.Kill n) Reply.Done x z run.parts refl refl refl refl refl
-    (λ m. regions_step l script h (outside_entry h (Act.Kill n) Reply.Done) 0 x.regions (Act.Kill n) refl refl refl run.parts.regions tt (λ t. absurd (false≢true t)) m) refl refl) few)
-  where
-    z : PartsState
-    z = record x { registry = Rattle.hib_core.specs.Registry.without n x.registry }
+results_outside : Laws → (script : Script) (from : Origin) (h : Journal) (a : Act) (r : Reply) (x : PartsState) → AreParts script from h x → Rattle.hib_engines.specs.Served.is_for Part.Results a 0 ≡ false →
+    Rattle.hib_journal.specs.Sessions.is_restart a ≡ false → AreResults script (outside_entry h a r ∷ h) x.results
+results_outside l script from h a r x k p q = results_stay l script h None (length h + 1) a r x.results (results_in script from h x k) p q
+
+faults_outside : (from : Origin) (h : Journal) (o w : ℕ) → RoseBy from.faults (fault_count h) o → w ≡ o → RoseBy from.faults (fault_count h + 0) w
+faults_outside from h o w p e = omega (arith, p, e)
+
+pub parts_killed : Laws → (script : Script) (from : Origin) (h : Journal) (n : ℕ) (x y : PartsState) → AreParts script from h x → IsNumbered h →
+    ((l : Journal) (now : ℕ) → IsRegistry x.registry l → IsLate Part.Registry now l → IsRegistry y.registry (Rattle.hib_journal.specs.Lists.entry_at now None (Act.Kill n) Reply.Done ∷ l)) →
+    ((told : Option Rattle.hib_base.specs.Tables.Tables) (l : Journal) (now : ℕ) → IsStored told l x.store → IsStored told (Rattle.hib_journal.specs.Lists.entry_at now None (Act.Kill n) Reply.Done ∷ l) y.store) →
+    y.store.faults ≡ x.store.faults → y.stamps ≡ x.stamps → y.regions ≡ x.regions → y.results ≡ x.results → AreParts script from (outside_entry h (Act.Kill n) Reply.Done ∷ h) y
+parts_killed l script from h n x y k m registry store f b c d = parts_of script from (outside_entry h (Act.Kill n) Reply.Done ∷ h) y
+    (store_of from (outside_entry h (Act.Kill n) Reply.Done ∷ h) y.store (store from.tables h (length h + 1) k.store.stands) (bridged_kill h n Reply.Done k.store.bridged)
+    (faults_outside from h x.store.faults y.store.faults k.store.faults f))
+    (registry h (length h + 1) k.registry (late Part.Registry h m))
+    (subst (λ z. AreStamps script (outside_entry h (Act.Kill n) Reply.Done ∷ h) z) (sym b) (stamps_outside l script from h (Act.Kill n) Reply.Done x k refl refl))
+    (λ i. subst (λ zs. IsPlaced script i (outside_entry h (Act.Kill n) Reply.Done ∷ h) (region_of zs i)) (sym c)
+    (region_kept l script h i None (length h + 1) (Act.Kill n) Reply.Done (region_of x.regions i) (k.regions i) (λ t. absurd (false≢true t)) refl))
+    (ap length c ∙ k.entities)
+    (subst (λ z. AreResults script (outside_entry h (Act.Kill n) Reply.Done ∷ h) z) (sym d) (results_outside l script from h (Act.Kill n) Reply.Done x k refl refl))
+
+pub kill_run : (script : Script) (from : Origin) (h : Journal) (n : ℕ) (x y : PartsState) → IsRun script from h x → is_open n h ≡ true → length h < 2 ^ 62 →
+    AreParts script from (outside_entry h (Act.Kill n) Reply.Done ∷ h) y → IsRun script from (outside_entry h (Act.Kill n) Reply.Done ∷ h) y
+kill_run script from h n x y run o few k = goes_outside script from h (Act.Kill n) Reply.Done x y run refl (rw o refl)
+    (reply_any script from.tables h None (length h + 1) (Act.Kill n) Reply.Done (λ start. refl) refl) k few
 
 pub kill_leads : (script : Script) (h : Journal) (n : ℕ) → is_open n h ≡ true → Leads (play_order script (Order.Kill n)) played h (outside_entry h (Act.Kill n) Reply.Done ∷ h)
 kill_leads script h n o = record { added = outside_entry h (Act.Kill n) Reply.Done ∷ []; grown = refl; plays = λ rest. rw (o, self_by n) refl }
@@ -327,50 +294,50 @@ no_kill_leads script h n o = leads_none (play_order script (Order.Kill n)) playe
 -- ---- an eviction
 
 pub evict_run : Laws → (script : Script) (from : Origin) (h : Journal) (k : Key) (now : ℕ) (r : Reply) (x y : PartsState) → IsRun script from h x → is_cached script k.entity ≡ true → length h < 2 ^ 62 →
-    now ≡ length h + 1 → r ≡ answer_in (region_of x.regions k.entity) now (Act.Evict k) →
-    y ≡ record x { regions = slice_set x.regions k.entity (region_after (region_of x.regions k.entity) now (Act.Evict k)) } → IsRun script from (outside_entry h (Act.Evict k) r ∷ h) y
-evict_run l script from h k now r x y run c few e p q = subst (λ v. IsRun script from (outside_entry h (Act.Evict k) r ∷ h) v) (sym (q ∙ at_tick))
-    (goes_outside script from h (Act.Evict k) r x z run refl (rw c refl) reply
-    (parts_outside l script from h (Act.Evict k) r x z run.parts refl no_fault refl refl refl
-    (λ m. regions_step l script h (outside_entry h (Act.Evict k) r) 0 x.regions (Act.Evict k) refl refl refl run.parts.regions c (λ t. served) m)
-    (length-set x.regions k.entity (region_after (region_of x.regions k.entity) (length h + 1) (Act.Evict k))) refl) few)
+    now ≡ length h + 1 →
+    ((s : Script) (l : Journal) (by : Option ℕ) → IsPlaced s k.entity l (region_of x.regions k.entity) → IsLate (Part.Region k.entity) now l → entity_in (Act.Evict k) ≡ Some k.entity →
+    Suits (strategy s k.entity) (Act.Evict k) → IsServed (λ m. IsPlaced s k.entity m (region_of y.regions k.entity)) s l by now (Act.Evict k) r) → IsAtRegion k.entity x.regions y.regions → is_fault r ≡ false →
+    y ≡ record x { regions = y.regions } → IsRun script from (outside_entry h (Act.Evict k) r ∷ h) y
+evict_run l script from h k now r x y run c few e served at calm q = goes_outside script from h (Act.Evict k) r x y run refl (rw c refl)
+    (reply_any script from.tables h None (length h + 1) (Act.Evict k) r v.reply refl)
+    (parts_of script from (outside_entry h (Act.Evict k) r ∷ h) y
+    (subst (λ z. IsStore from (outside_entry h (Act.Evict k) r ∷ h) z) (sym (ap (λ z. z.store) q))
+    (store_of from (outside_entry h (Act.Evict k) r ∷ h) x.store (store_stays from.tables h None (length h + 1) (Act.Evict k) r x.store run.parts.store.stands refl refl)
+    (bridged_evict h k r run.parts.store.bridged) (rw calm (faults_outside from h x.store.faults x.store.faults run.parts.store.faults refl))))
+    (subst (λ z. IsRegistry z (outside_entry h (Act.Evict k) r ∷ h)) (sym (ap (λ z. z.registry) q)) (registry_kept h None (length h + 1) (Act.Evict k) r x.registry run.parts.registry refl))
+    (subst (λ z. AreStamps script (outside_entry h (Act.Evict k) r ∷ h) z) (sym (ap (λ z. z.stamps) q)) (stamps_outside l script from h (Act.Evict k) r x run.parts refl refl))
+    (regions_at script (outside_entry h (Act.Evict k) r ∷ h) k.entity x.regions y.regions at v.stands
+    (λ i d. region_kept l script h i None (length h + 1) (Act.Evict k) r (region_of x.regions i) (run.parts.regions i) (λ t. d) refl))
+    (at.all ∙ run.parts.entities)
+    (subst (λ z. AreResults script (outside_entry h (Act.Evict k) r ∷ h) z) (sym (ap (λ z. z.results) q)) (results_outside l script from h (Act.Evict k) r x run.parts refl refl))) few
   where
-    z : PartsState
-    z = record x { regions = slice_set x.regions k.entity (region_after (region_of x.regions k.entity) (length h + 1) (Act.Evict k)) }
-
-    at_tick : record x { regions = slice_set x.regions k.entity (region_after (region_of x.regions k.entity) now (Act.Evict k)) } ≡ z
-    at_tick = ap (λ (t : ℕ). record x { regions = slice_set x.regions k.entity (region_after (region_of x.regions k.entity) t (Act.Evict k)) }) e
-
-    answer : r ≡ answer_in (region_of x.regions k.entity) (length h + 1) (Act.Evict k)
-    answer = p ∙ ap (λ (t : ℕ). answer_in (region_of x.regions k.entity) t (Act.Evict k)) e
-
-    no_fault : is_fault r ≡ false
-    no_fault = ap is_fault p
-
-    reply : IsReply script from.tables h (outside_entry h (Act.Evict k) r)
-    reply = reply_any script from.tables h (outside_entry h (Act.Evict k) r)
-        (λ start. answer ∙ answers l script start h 0 (length h + 1) (region_of x.regions k.entity) (Act.Evict k) refl (run.parts.regions k.entity) c) refl
-
-    served : IsServed h (outside_entry h (Act.Evict k) r) (Act.Evict k) (region_of x.regions k.entity)
-    served = record { act = refl; part = refl; later = before_now k.entity h run.numbered; reply = answer }
+    v : IsServed (λ m. IsPlaced script k.entity m (region_of y.regions k.entity)) script h None (length h + 1) (Act.Evict k) r
+    v = subst (λ n. IsServed (λ m. IsPlaced script k.entity m (region_of y.regions k.entity)) script h None n (Act.Evict k) r) e
+        (served script h None (run.parts.regions k.entity) (subst (λ n. IsLate (Part.Region k.entity) n h) (sym e) (late (Part.Region k.entity) h run.numbered)) refl c)
 
 pub evict_leads : (script : Script) (h : Journal) (k : Key) (r : Reply) → Leads (play_order script (Order.Evict k)) played h (outside_entry h (Act.Evict k) r ∷ h)
 evict_leads script h k r = record { added = outside_entry h (Act.Evict k) r ∷ []; grown = refl; plays = λ rest. rw (same_key_refl k) refl }
 
 -- ---- a restart
 
-pub restart_run : Laws → (script : Script) (from : Origin) (h : Journal) (x y : PartsState) → IsRun script from h x → length h < 2 ^ 62 → y.store ≡ x.store → y.registry ≡ [] →
-    y.stamps ≡ unstamped (length x.stamps) → AreEmptied x.regions y.regions → y.results ≡ record x.results { kept = [] } → IsRun script from (outside_entry h Act.Restart Reply.Done ∷ h) y
-restart_run l script from h x y run few st rg sp rs re =
-    goes_outside script from h Act.Restart Reply.Done x y run refl refl
-    (reply_any script from.tables h (outside_entry h Act.Restart Reply.Done) (λ start. refl) refl)
-    (parts_outside l script from h Act.Restart Reply.Done x y run.parts refl refl st rg sp
-    (λ n. subst (λ v. IsPlaced script n (outside_entry h Act.Restart Reply.Done ∷ h) v) (sym (rs.each n))
-    (restarts l script h (outside_entry h Act.Restart Reply.Done) n (region_of x.regions n) refl (run.parts.regions n))) rs.all re) few
+pub parts_restarted : Laws → (script : Script) (from : Origin) (h : Journal) (x y : PartsState) → AreParts script from h x → IsNumbered h →
+    ((l : Journal) (now : ℕ) → IsRegistry x.registry l → IsLate Part.Registry now l → IsRegistry y.registry (Rattle.hib_journal.specs.Lists.entry_at now None Act.Restart Reply.Done ∷ l)) →
+    ((told : Option Rattle.hib_base.specs.Tables.Tables) (l : Journal) (now : ℕ) → IsStored told l x.store → IsStored told (Rattle.hib_journal.specs.Lists.entry_at now None Act.Restart Reply.Done ∷ l) y.store) →
+    y.store.faults ≡ x.store.faults →
+    ((s : Script) (l : Journal) (now : ℕ) → AreStamps s l x.stamps → AreStamps s (Rattle.hib_journal.specs.Lists.entry_at now None Act.Restart Reply.Done ∷ l) y.stamps) → AreEmptied x.regions y.regions →
+    ((s : Script) (l : Journal) (now : ℕ) → AreResults s l x.results → AreResults s (Rattle.hib_journal.specs.Lists.entry_at now None Act.Restart Reply.Done ∷ l) y.results) →
+    AreParts script from (outside_entry h Act.Restart Reply.Done ∷ h) y
+parts_restarted l script from h x y k m registry store f stamps rs results = parts_of script from (outside_entry h Act.Restart Reply.Done ∷ h) y
+    (store_of from (outside_entry h Act.Restart Reply.Done ∷ h) y.store (store from.tables h (length h + 1) k.store.stands) (bridged_restart h Reply.Done k.store.bridged)
+    (faults_outside from h x.store.faults y.store.faults k.store.faults f))
+    (registry h (length h + 1) k.registry (late Part.Registry h m)) (stamps script h (length h + 1) (stamps_in script from h x k))
+    (λ n. restart_placed l script h n (length h + 1) (region_of x.regions n) (region_of y.regions n) (k.regions n) (rs.each n)) (rs.all ∙ k.entities)
+    (results script h (length h + 1) (results_in script from h x k))
+
+pub restart_run : (script : Script) (from : Origin) (h : Journal) (x y : PartsState) → IsRun script from h x → length h < 2 ^ 62 →
+    AreParts script from (outside_entry h Act.Restart Reply.Done ∷ h) y → IsRun script from (outside_entry h Act.Restart Reply.Done ∷ h) y
+restart_run script from h x y run few k = goes_outside script from h Act.Restart Reply.Done x y run refl refl
+    (reply_any script from.tables h None (length h + 1) Act.Restart Reply.Done (λ start. refl) refl) k few
 
 pub restart_leads : (script : Script) (h : Journal) → Leads (play_order script Order.Restart) played h (outside_entry h Act.Restart Reply.Done ∷ h)
 restart_leads script h = record { added = outside_entry h Act.Restart Reply.Done ∷ []; grown = refl; plays = λ rest. refl }
-
--- a region at its place
-pub region_at : (xs : List Region) (n : ℕ) (y : Region) → n < length xs → y ≡ get_or xs n y → region_of xs n ≡ y
-region_at xs n y l v = ap Rattle.hib_core.specs.Standing.or_uncached (slice_get-get_or xs n y l ∙ ap Some (sym v))

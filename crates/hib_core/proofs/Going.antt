@@ -13,12 +13,9 @@ use Rattle.hib_journal.specs.Legal.{part_of, part_due, due, may_come, is_outside
 use Rattle.hib_journal.specs.Runs.{IsNumbered, ask_count}
 use Rattle.hib_session.specs.declared.session.Session.{Session}
 use Rattle.hib_session.specs.Session.{Follows, IsTaken, number_of, is_killed, left_in}
-use Rattle.hib_core.specs.Laws.{Laws}
-use Rattle.hib_core.specs.Region.{HasRoomFor, acts_on}
-use Rattle.hib_core.specs.Standing.{Origin, RoseWithin, PartsState, AreParts, AreWithin, IsDue, IsReady, IsAnswered, region_of, entry_of}
+use Rattle.hib_core.specs.Standing.{Origin, RoseWithin, PartsState, AreParts, AreWithin, IsDue, IsReady, IsAnswered, entry_of}
 use Rattle.hib_core.specs.Factory.{AreSessions, IsRun, IsGoing, IsTurn, IsTold, Serves, Does, left_or}
-use Rattle.hib_core.proofs.Served.{last_le, before_now}
-use Rattle.hib_core.proofs.Grows.{has_room}
+use Rattle.hib_core.proofs.Served.{last_le}
 use Rattle.hib_core.proofs.Stored.{self_by, own_self, own_other}
 
 pub timely : (h : Journal) (by : Option ℕ) (s : ℕ) (a : Act) (r : Reply) → IsNumbered h → length h < 2 ^ 62 →
@@ -76,11 +73,6 @@ pub ready : (script : Script) (from : Origin) (h : Journal) (y : Session) (a : A
 ready script from h y a x run t = record { parts = run.parts; numbered = run.numbered; live = t.live; due = t.due }
 
 -- what the call of the parts wants
-pub room_for : Laws → (script : Script) (from : Origin) (h : Journal) (a : Act) (x : PartsState) (now : ℕ) → IsRun script from h x → now ≡ length h + 1 →
-    HasRoomFor (region_of x.regions (acts_on a)) a now
-room_for l script from h a x now run e = has_room l script h (region_of x.regions (acts_on a)) a now (run.parts.regions (acts_on a))
-    (subst (λ n. Rattle.hib_room_laws.specs.Elsewhere.last_of (acts_on a) h < n) (sym e) (before_now (acts_on a) h run.numbered))
-
 pub tables_for : (script : Script) (from : Origin) (h : Journal) (y : Session) (a : Act) (x : PartsState) → IsRun script from h x → IsTurn script h y a →
     AreWithin (length x.stamps) a
 tables_for script from h y a x run t = subst (λ n. AreWithin n a) (sym run.parts.tables) t.due.known

@@ -1,10 +1,5 @@
-pub mod Opened
-pub mod Regions
-pub mod Grows
 pub mod Stored
 pub mod Served
-pub mod StoreServed
-pub mod Outcomes
 pub mod OwnServed
 pub mod Allowed
 pub mod Begun
@@ -12,4 +7,3 @@ pub mod Ready
 pub mod Going
 pub mod Playing
 pub mod FromOutside
-pub mod QueriesServed

@@ -1,19 +1,24 @@
 -- Acts that a session answers itself: the reply is due, and the parts stand for the journal with the entry.
-use Rattle.std.proofs.Common.{◌≡◌, ℕ, ◌+◌, Bool, true, false, cond, not, ◌||◌, List, length, Some, None, Option, refl, sym, ◌∙◌, subst, arith}
+use Rattle.std.proofs.Common.{◌≡◌, ℕ, ◌+◌, Bool, true, false, cond, not, ◌||◌, List, ◌∷◌, length, Some, None, Option, refl, sym, ◌∙◌, subst, arith}
 use Rattle.std.proofs.lemmas.Bool.{false≢true}
-use Rattle.hib_journal.specs.Types.{Strategy, Script, Act, Reply}
+use Rattle.hib_journal.specs.Types.{Change, Strategy, Script, Part, Act, Reply}
 use Rattle.hib_journal.specs.Sessions.{Journal, own, changes_in}
 use Rattle.hib_journal.specs.Held.{held}
 use Rattle.hib_journal.specs.Next.{is_in, is_held, strategy}
 use Rattle.hib_journal.specs.Legal.{persisted, set_unless, is_there, row_of}
+use Rattle.hib_journal.specs.Lists.{entry_at, IsLate}
 use Rattle.hib_journal.specs.Runs.{is_fault, one_if, asks}
 use Rattle.hib_session.specs.Session.{own_reply}
-use Rattle.hib_core.specs.Region.{is_regional}
-use Rattle.hib_core.specs.Laws.{Laws}
+use Rattle.hib_engines.specs.Registry.{Opened, without, IsRegistry}
+use Rattle.hib_engines.specs.Region.{is_regional}
+use Rattle.hib_engines.specs.Laws.{Laws}
+use Rattle.hib_engines.specs.Served.{is_for}
+use Rattle.hib_engines.proofs.RegistryServed.{end_stands}
+use Rattle.hib_engines.proofs.Stays.{registry_kept}
 use Rattle.hib_core.specs.Standing.{Origin, RoseWithin, entry_of, own_after, PartsState, IsReady, IsAnswered, IsAskedFor}
 use Rattle.hib_core.specs.Factory.{IsTold}
-use Rattle.hib_core.proofs.Stored.{reply_any, own_is, own_kind}
-use Rattle.hib_core.proofs.Served.{is_quiet, is_of_results, unasked, quiet_served, ArePartsAfter}
+use Rattle.hib_core.proofs.Stored.{reply_any, own_is}
+use Rattle.hib_core.proofs.Served.{AreKept, kept, parts_of, late}
 
 -- a session answers no fault
 abbrev is_calm : Option Reply → Bool
@@ -69,39 +74,68 @@ own_has script mine (Act.Remove k) r p = refl
 own_has script mine Act.Clear r p = refl
 own_has script mine _ r p = absurd (none_some r p)
 
-pub record IsOwnAct (script : Script) (now s : ℕ) (a : Act) (x : PartsState) : Type 0 where
-  pub quiet : is_quiet a ≡ true
-  pub apart : is_regional a ≡ true → ⊥
-  pub silent : (cs : List Rattle.hib_journal.specs.Types.Change) → asks cs a ≡ false
-  pub unasked : is_of_results a ≡ false
-  pub after : ArePartsAfter script now s a x (record x { registry = own_after s a x.registry })
+-- such an act asks no keeper and is of no part but the registry, and of that only at an End
+own_silent : (a : Act) (cs : List Change) → is_own a ≡ true → asks cs a ≡ false
+own_silent Act.End cs p = refl
+own_silent (Act.Find k) cs p = refl
+own_silent (Act.Persist k r) cs p = refl
+own_silent (Act.Set k cells) cs p = refl
+own_silent (Act.Remove k) cs p = refl
+own_silent Act.Clear cs p = refl
+own_silent _ cs p = absurd (false≢true p)
 
-own_act : (script : Script) (now s : ℕ) (a : Act) (x : PartsState) → is_own a ≡ true → IsOwnAct script now s a x
-own_act script now s Act.End x p = record { quiet = refl; apart = λ g. false≢true g; silent = λ cs. refl; unasked = refl; after = record { registry = refl; stamps = refl; regions = refl; results = λ r. refl } }
-own_act script now s (Act.Find k) x p = record { quiet = refl; apart = λ g. false≢true g; silent = λ cs. refl; unasked = refl; after = record { registry = refl; stamps = refl; regions = refl; results = λ r. refl } }
-own_act script now s (Act.Persist k r) x p = record { quiet = refl; apart = λ g. false≢true g; silent = λ cs. refl; unasked = refl; after = record { registry = refl; stamps = refl; regions = refl; results = λ r. refl } }
-own_act script now s (Act.Set k cells) x p = record { quiet = refl; apart = λ g. false≢true g; silent = λ cs. refl; unasked = refl; after = record { registry = refl; stamps = refl; regions = refl; results = λ r. refl } }
-own_act script now s (Act.Remove k) x p = record { quiet = refl; apart = λ g. false≢true g; silent = λ cs. refl; unasked = refl; after = record { registry = refl; stamps = refl; regions = refl; results = λ r. refl } }
-own_act script now s Act.Clear x p = record { quiet = refl; apart = λ g. false≢true g; silent = λ cs. refl; unasked = refl; after = record { registry = refl; stamps = refl; regions = refl; results = λ r. refl } }
-own_act script now s _ x p = absurd (false≢true p)
+pub record IsOwnAct (a : Act) (s : ℕ) : Type 0 where
+  pub store : is_for Part.Store a s ≡ false
+  pub stamps : is_for Part.Stamps a s ≡ false
+  pub results : is_for Part.Results a s ≡ false
+  pub region : is_regional a ≡ true → ⊥
+
+own_act : (a : Act) (s : ℕ) → is_own a ≡ true → IsOwnAct a s
+own_act Act.End s p = record { store = refl; stamps = refl; results = refl; region = λ g. false≢true g }
+own_act (Act.Find k) s p = record { store = refl; stamps = refl; results = refl; region = λ g. false≢true g }
+own_act (Act.Persist k r) s p = record { store = refl; stamps = refl; results = refl; region = λ g. false≢true g }
+own_act (Act.Set k cells) s p = record { store = refl; stamps = refl; results = refl; region = λ g. false≢true g }
+own_act (Act.Remove k) s p = record { store = refl; stamps = refl; results = refl; region = λ g. false≢true g }
+own_act Act.Clear s p = record { store = refl; stamps = refl; results = refl; region = λ g. false≢true g }
+own_act _ s p = absurd (false≢true p)
+
+registry_own : (h : Journal) (s now : ℕ) (a : Act) (r : Reply) (x : Opened) → is_own a ≡ true → IsRegistry x h → IsLate Part.Registry now h → IsRegistry (own_after s a x) (entry_at now (Some s) a r ∷ h)
+registry_own h s now Act.End r x p k t = end_stands h s now r x (without s x) k t refl
+registry_own h s now (Act.Find j) r x p k t = registry_kept h (Some s) now (Act.Find j) r x k refl
+registry_own h s now (Act.Persist j row) r x p k t = registry_kept h (Some s) now (Act.Persist j row) r x k refl
+registry_own h s now (Act.Set j cells) r x p k t = registry_kept h (Some s) now (Act.Set j cells) r x k refl
+registry_own h s now (Act.Remove j) r x p k t = registry_kept h (Some s) now (Act.Remove j) r x k refl
+registry_own h s now Act.Clear r x p k t = registry_kept h (Some s) now Act.Clear r x k refl
+registry_own h s now _ r x p k t = absurd (false≢true p)
 
 same_some : (x z : Reply) → Some x ≡ Some z → x ≡ z
 same_some x z e = cc
 
 pub own_told : Laws → (script : Script) (from : Origin) (h : Journal) (s : ℕ) (a : Act) (r : Reply) (x y : PartsState) → IsReady script from h s a x →
     Some r ≡ own_reply script (own s h) a → y ≡ record x { registry = own_after s a x.registry } → IsTold script from h s a r x y
-own_told l script from h s a r x y k p q =
-    let w : IsOwnAct script (length h + 1) s a x = own_act script (length h + 1) s a x (own_has script (own s h) a r (sym p)) in
-    let z : PartsState = record x { registry = own_after s a x.registry } in
-    record {
-      answered = subst (λ v. IsAnswered script from h s a r v) (sym q)
-          (quiet_served l script from h s a r x z k w.quiet (own_no_fault script (own s h) a r (sym p))
-          (reply_any script from.tables h (entry_of h s a r) (own_is script h s (length h + 1) a r (sym p)) (own_kind script (own s h) a r r (sym p)))
-          refl w.after (λ g. absurd (w.apart g)) (unasked (length script.queries) x.results a r w.unasked));
-      mine = λ t e. same_some r t (p ∙ e);
-      asked = subst (λ b. RoseWithin x.store.asked (one_if b) y.store.asked) (sym (w.silent (changes_in (own s h))))
-          (subst (λ v. RoseWithin x.store.asked 0 v.store.asked) (sym q) (record { later = omega arith; few = omega arith }));
-    }
+own_told l script from h s a r x y k p q = record {
+  answered = subst (λ v. IsAnswered script from h s a r v) (sym q) (record {
+    reply = reply_any script from.tables h (Some s) (length h + 1) a r (own_is script h s (length h + 1) a r (sym p)) w.store;
+    parts = parts_of script from (entry_of h s a r ∷ h) z (v.store w.store (own_no_fault script (own s h) a r (sym p)))
+        (registry_own h s (length h + 1) a r x.registry o k.parts.registry (late Part.Registry h k.numbered)) (v.stamps w.stamps)
+        (λ n. v.regions n (λ t. absurd (w.region t))) k.parts.entities (v.results w.results);
+  });
+  mine = λ t e. same_some r t (p ∙ e);
+  asked = subst (λ b. RoseWithin x.store.asked (one_if b) y.store.asked) (sym (own_silent a (changes_in (own s h)) o))
+      (subst (λ v. RoseWithin x.store.asked 0 v.store.asked) (sym q) (record { later = omega arith; few = omega arith }));
+}
+  where
+    z : PartsState
+    z = record x { registry = own_after s a x.registry }
+
+    o : is_own a ≡ true
+    o = own_has script (own s h) a r (sym p)
+
+    w : IsOwnAct a s
+    w = own_act a s o
+
+    v : AreKept script from h s a r x
+    v = kept l script from h s a r x k
 
 -- and those of the parts
 pub part_told : (script : Script) (from : Origin) (h : Journal) (s : ℕ) (a : Act) (r : Reply) (x y : PartsState) → own_reply script (own s h) a ≡ None →

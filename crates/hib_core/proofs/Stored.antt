@@ -1,28 +1,25 @@
--- What the store answers is what a legal journal says, and afterwards it stands for the journal with the entry.
-use Rattle.std.proofs.Common.{◌≡◌, ◌≢◌, ◌⊎◌, ℕ, ◌+◌, ◌≤◌, ◌==◌, inl, inr, Bool, true, false, not, ◌||◌, List, [], ◌∷◌, Some, None, Option, refl, sym, ap, ◌∙◌, subst, arith}
+-- The store of a factory: its reply is the one that a legal journal has, and it stands for the journal with the entry.
+use Rattle.std.proofs.Common.{◌≡◌, ◌≢◌, ◌⊎◌, ℕ, ◌+◌, ◌≤◌, ◌==◌, inl, inr, Bool, true, false, cond, not, ◌||◌, List, [], ◌∷◌, Some, None, Option, refl, sym, ap, ◌∙◌, subst, arith}
 use Rattle.std.proofs.lemmas.Bool.{true≢false, false≢true, eqb-true}
 use Rattle.std.proofs.lemmas.Bool.Decides.{nat_tests}
-use Rattle.hib_base.specs.Tables.{Tables, row_at, after_changes, commit_answer}
+use Rattle.std.specs.Option.{option_map}
+use Rattle.hib_base.specs.Tables.{Tables, after_changes}
 use Rattle.hib_base.proofs.Tables.{Tested, tested}
-use Rattle.hib_journal.specs.Types.{Key, Row, Change, Commit, Script, Act, Reply, Entry}
-use Rattle.hib_journal.specs.Sessions.{Journal, own, is_open, was_killed, killed_by, committed, committed_by, committer, changes_in, deferred, deferred_after}
-use Rattle.hib_journal.specs.Next.{is_in}
-use Rattle.hib_journal.specs.Legal.{IsReply, reply_of, is_of_store, is_empty, is_outside, number}
+use Rattle.hib_journal.specs.Types.{Key, Change, Commit, Script, Part, Act, Reply, Entry}
+use Rattle.hib_journal.specs.Sessions.{Journal, own, is_session, is_open, open_after, is_begun, was_killed, killed_by, committed, committed_by, committer, changes, changes_in, deferred, deferred_after}
+use Rattle.hib_journal.specs.Held.{is_begin}
+use Rattle.hib_journal.specs.Legal.{IsReply, IsReplyBy, reply_by, reply_of, is_of_store, is_outside, number}
+use Rattle.hib_journal.specs.Lists.{entry_at, stops, unsaved, unsaved_after, stored, stored_by, IsReplyOf, IsStoreReply}
 use Rattle.hib_journal.specs.Runs.{told_committed, one_if, asks, is_fault, fault_count}
-use Rattle.hib_store.specs.Stores.{StoreState, changes_of, IsView, tables_answered}
-use Rattle.hib_store.specs.declared.asking.Loaded.{Loaded}
+use Rattle.hib_journal.proofs.Open.{begun_open}
+use Rattle.hib_store.specs.Stores.{StoreState, changes_of}
 use Rattle.hib_session.specs.Session.{own_reply}
-use Rattle.hib_core.specs.Standing.{Origin, RoseBy, RoseWithin, entry_of, IsStore}
+use Rattle.hib_engines.specs.Served.{is_for}
+use Rattle.hib_engines.specs.Store.{IsStored}
+use Rattle.hib_core.specs.Standing.{Origin, RoseBy, RoseWithin, entry_of, outside_entry, IsBridged, IsStore, AreStored, IsDue}
 
 pub self_by : (s : ℕ) → (s == s) ≡ true
 self_by s = grind (arith, nat_tests)
-
-not_same : (n s : ℕ) → (n ≡ s → ⊥) → (s == n) ≡ false
-not_same n s f = by_test (tested (s == n))
-  where
-    by_test : Tested (s == n) → (s == n) ≡ false
-    by_test (inl p) = absurd (f (sym (eqb-true s n p)))
-    by_test (inr p) = p
 
 pub own_self : (h : Journal) (s : ℕ) (a : Act) (r : Reply) → own s (entry_of h s a r ∷ h) ≡ entry_of h s a r ∷ own s h
 own_self h s a r = rw (self_by s) refl
@@ -30,69 +27,216 @@ own_self h s a r = rw (self_by s) refl
 pub own_other : (h : Journal) (s n : ℕ) (a : Act) (r : Reply) → (s == n) ≡ false → own n (entry_of h s a r ∷ h) ≡ own n h
 own_other h s n a r d = rw d refl
 
--- the store stands for the journal with the entry
+-- counts
 
-pub rows_same : (told : Option Tables) (h : Journal) (s : ℕ) (a : Act) (r : Reply) → committer a r (Some s) ≡ None → told_committed told (entry_of h s a r ∷ h) ≡ told_committed told h
-rows_same None h s a r p = refl
-rows_same (Some start) h s a r p = ap (λ by. Some (committed_by by h (committed start h))) p
-
-rose_more : (b n o m w : ℕ) → RoseBy b n o → RoseBy o m w → RoseBy b (n + m) w
+pub rose_more : (b n o m w : ℕ) → RoseBy b n o → RoseBy o m w → RoseBy b (n + m) w
 rose_more b n o m w p q = omega (arith, p, q)
 
-rose_on : (b n o w : ℕ) → RoseBy b n o → o ≤ w → RoseBy b n w
+pub rose_on : (b n o w : ℕ) → RoseBy b n o → o ≤ w → RoseBy b n w
 rose_on b n o w p q = omega (arith, p, q)
 
--- an answer that is no fault
-pub no_fault : (r : Reply) (o w : ℕ) → is_fault r ≡ false → o ≤ w → RoseBy o (one_if (is_fault r)) w
-no_fault r o w p q = rw p (omega (arith, q))
-
 -- a session that lives has lived before
+pub either : (b c : Bool) → (b || c) ≡ false → (b ≡ false) × (c ≡ false)
+either true c p = absurd (true≢false p)
+either false c p = (refl, p)
+
 pub lived : (n : ℕ) (e : Entry) (h : Journal) → was_killed n (e ∷ h) ≡ false → was_killed n h ≡ false
-lived n e h p = by_test (killed_by n e.act (is_open n h)) p
-  where
-    by_test : (b : Bool) → (b || was_killed n h) ≡ false → was_killed n h ≡ false
-    by_test true q = absurd (true≢false q)
-    by_test false q = q
+lived n e h p = (either (killed_by n e.act (is_open n h)) (was_killed n h) p).1
 
-pub keeps_step : (from : Origin) (h : Journal) (s : ℕ) (a : Act) (r : Reply) (old new : StoreState) → IsStore from h old →
-    new.tables ≡ told_committed from.tables (entry_of h s a r ∷ h) → was_killed s h ≡ false → changes_of new s ≡ deferred_after a (changes_of old s) → ((n : ℕ) → n ≢ s → changes_of new n ≡ changes_of old n) →
-    RoseBy old.faults (one_if (is_fault r)) new.faults → IsStore from (entry_of h s a r ∷ h) new
-keeps_step from h s a r old new k t live c o f = record {
-  rows = t;
-  changes = λ n w. by_session n (tested (s == n)) (lived n (entry_of h s a r) h w);
-  faults = rose_more from.faults (fault_count h) old.faults (one_if (is_fault r)) new.faults k.faults f;
+-- ---- the bridge, after an entry of a session
+
+unkilled : (n : ℕ) (a : Act) (o : Bool) → is_outside a ≡ false → killed_by n a o ≡ false
+unkilled n (Act.Kill m) o p = absurd (true≢false p)
+unkilled n Act.Restart o p = absurd (true≢false p)
+unkilled n _ o p = refl
+
+same_killed : (n : ℕ) (e : Entry) (h : Journal) → is_outside e.act ≡ false → was_killed n (e ∷ h) ≡ was_killed n h
+same_killed n e h p = rw (unkilled n e.act (is_open n h) p) refl
+
+pub inside_stops : (a : Act) → is_outside a ≡ false → stops a ≡ false
+inside_stops (Act.Kill m) p = absurd (true≢false p)
+inside_stops Act.Restart p = absurd (true≢false p)
+inside_stops _ p = refl
+
+unsaved_own : (n : ℕ) (by : Option ℕ) (a : Act) (cs : List Change) → stops a ≡ false → unsaved_after n by a cs ≡ cond (is_session n by) (deferred_after a cs) cs
+unsaved_own n by (Act.Kill m) cs p = absurd (true≢false p)
+unsaved_own n by Act.Restart cs p = absurd (true≢false p)
+unsaved_own n by _ cs p = refl
+
+-- what the store defers of a session that lives
+pub deferred_of : (h : Journal) (s : ℕ) → IsBridged h → was_killed s h ≡ false → unsaved s h ≡ deferred (own s h)
+deferred_of h s b live = b.changes s ∙ ap (λ k. cond k [] (deferred (own s h))) live
+
+rows_by : (h : Journal) (s : ℕ) (a : Act) (r : Reply) (start : Tables) → IsBridged h → was_killed s h ≡ false → AreStored (own s h) a →
+    stored_by (committer a r (Some s)) h (stored start h) ≡ committed_by (committer a r (Some s)) h (committed start h)
+rows_by h s Act.Commit (Reply.Commit Commit.Committed) start b live d =
+    ap (λ cs. after_changes cs (stored start h)) (deferred_of h s b live ∙ d) ∙ ap (λ t. after_changes (changes s h) t) (b.rows start)
+rows_by h s Act.Commit _ start b live d = b.rows start
+rows_by h s _ r start b live d = b.rows start
+
+or_true : (b : Bool) → (b || true) ≡ true
+or_true true = refl
+or_true false = refl
+
+begin_opens : (a : Act) (s : ℕ) (o : Bool) → is_begin a ≡ true → open_after s (Some s) a o ≡ true
+begin_opens Act.Begin s o p = rw (self_by s) refl
+begin_opens _ s o p = absurd (false≢true p)
+
+-- within a transaction it is an End that closes a session
+closing : (a : Act) (s : ℕ) → is_outside a ≡ false → open_after s (Some s) a true ≡ false → a ≡ Act.End
+closing Act.Begin s i o = absurd (true≢false (sym (or_true (s == s)) ∙ o))
+closing Act.End s i o = refl
+closing (Act.Kill m) s i o = absurd (true≢false i)
+closing Act.Restart s i o = absurd (true≢false i)
+closing _ s i o = absurd (true≢false o)
+
+closed_self : (script : Script) (h : Journal) (s : ℕ) (a : Act) → was_killed s h ≡ false → IsDue script (own s h) a → open_after s (Some s) a (is_open s h) ≡ false → deferred_after a (deferred (own s h)) ≡ []
+closed_self script h s a live d o = by_begin (tested (is_begin a))
+  where
+    by_begin : Tested (is_begin a) → deferred_after a (deferred (own s h)) ≡ []
+    by_begin (inl p) = absurd (true≢false (sym (begin_opens a s (is_open s h) p) ∙ o))
+    by_begin (inr p) =
+        let opened : is_open s h ≡ true = begun_open s h live ∙ d.within p in
+        let e : a ≡ Act.End = closing a s d.inside (sym (ap (λ b. open_after s (Some s) a b) opened) ∙ o) in
+        ap (λ b. deferred_after b (deferred (own s h))) e ∙ d.ends e
+
+open_other : (n s : ℕ) (a : Act) (o : Bool) → (s == n) ≡ false → is_outside a ≡ false → open_after n (Some s) a o ≡ o
+open_other n s Act.Begin o d i = rw d refl
+open_other n s Act.End o d i = rw d refl
+open_other n s (Act.Kill m) o d i = absurd (true≢false i)
+open_other n s Act.Restart o d i = absurd (true≢false i)
+open_other n s _ o d i = refl
+
+pub bridged_own : (script : Script) (h : Journal) (s : ℕ) (a : Act) (r : Reply) → IsBridged h → was_killed s h ≡ false → IsDue script (own s h) a → IsBridged (entry_of h s a r ∷ h)
+bridged_own script h s a r b live d = record {
+  rows = λ start. rows_by h s a r start b live d.stored;
+  changes = λ n. unsaved_own n (Some s) a (unsaved n h) (inside_stops a d.inside) ∙ changed n (tested (s == n));
+  closed = λ n w o. closed n (lived n (entry_of h s a r) h w) o (tested (s == n));
 }
   where
-    by_session : (n : ℕ) → Tested (s == n) → was_killed n h ≡ false → changes_of new n ≡ deferred (own n (entry_of h s a r ∷ h))
-    by_session n (inl p) w =
+    killed : (n : ℕ) → was_killed n (entry_of h s a r ∷ h) ≡ was_killed n h
+    killed n = same_killed n (entry_of h s a r) h d.inside
+
+    changed : (n : ℕ) → Tested (s == n) → cond (s == n) (deferred_after a (unsaved n h)) (unsaved n h) ≡ cond (was_killed n (entry_of h s a r ∷ h)) [] (deferred (own n (entry_of h s a r ∷ h)))
+    changed n (inl p) =
         let e : s ≡ n = eqb-true s n p in
-        subst (λ m. changes_of new m ≡ deferred (own m (entry_of h s a r ∷ h))) e
-        (c ∙ (ap (deferred_after a) (k.changes s live) ∙ ap deferred (sym (own_self h s a r))))
-    by_session n (inr p) w = o n (λ e. true≢false (sym (ap (λ m. s == m) e ∙ self_by s) ∙ p)) ∙ (k.changes n w ∙ ap deferred (sym (own_other h s n a r p)))
+        subst (λ m. cond (s == m) (deferred_after a (unsaved m h)) (unsaved m h) ≡ cond (was_killed m (entry_of h s a r ∷ h)) [] (deferred (own m (entry_of h s a r ∷ h)))) e
+        (ap (λ c. cond c (deferred_after a (unsaved s h)) (unsaved s h)) (self_by s)
+        ∙ (ap (deferred_after a) (deferred_of h s b live)
+        ∙ (ap deferred (sym (own_self h s a r)) ∙ sym (ap (λ k. cond k [] (deferred (own s (entry_of h s a r ∷ h)))) (killed s ∙ live)))))
+    changed n (inr p) =
+        ap (λ c. cond c (deferred_after a (unsaved n h)) (unsaved n h)) p
+        ∙ (b.changes n ∙ (ap (λ k. cond k [] (deferred (own n h))) (sym (killed n)) ∙ ap (λ m. cond (was_killed n (entry_of h s a r ∷ h)) [] (deferred m)) (sym (own_other h s n a r p))))
 
--- an entry by which the store stays
-pub keeps_same : (from : Origin) (h : Journal) (s : ℕ) (a : Act) (r : Reply) (old new : StoreState) → IsStore from h old → was_killed s h ≡ false → committer a r (Some s) ≡ None →
-    ((cs : List Change) → deferred_after a cs ≡ cs) → new.tables ≡ old.tables → new.written ≡ old.written → RoseBy old.faults (one_if (is_fault r)) new.faults →
-    IsStore from (entry_of h s a r ∷ h) new
-keeps_same from h s a r old new k live p d t w f = keeps_step from h s a r old new k (t ∙ (k.rows ∙ sym (rows_same from.tables h s a r p))) live
-    (same s ∙ sym (d (changes_of old s))) (λ n x. same n) f
+    closed : (n : ℕ) → was_killed n h ≡ false → is_open n (entry_of h s a r ∷ h) ≡ false → Tested (s == n) → deferred (own n (entry_of h s a r ∷ h)) ≡ []
+    closed n w o (inl p) =
+        let e : s ≡ n = eqb-true s n p in
+        subst (λ m. is_open m (entry_of h s a r ∷ h) ≡ false → deferred (own m (entry_of h s a r ∷ h)) ≡ []) e
+        (λ u. ap deferred (own_self h s a r) ∙ closed_self script h s a live d u) o
+    closed n w o (inr p) = ap deferred (own_other h s n a r p) ∙ b.closed n w (sym (open_other n s a (is_open n h) p d.inside) ∙ o)
+
+-- ---- and after one from outside
+
+pub bridged_kill : (h : Journal) (m : ℕ) (r : Reply) → IsBridged h → IsBridged (outside_entry h (Act.Kill m) r ∷ h)
+bridged_kill h m r b = record {
+  rows = b.rows;
+  changes = λ n. changed n (tested (m == n));
+  closed = λ n w o. closed n w o (tested (m == n));
+}
   where
-    same : (n : ℕ) → changes_of new n ≡ changes_of old n
-    same n = ap (λ x. Rattle.hib_store.specs.Stores.changes_in x n) w
+    changed : (n : ℕ) → Tested (m == n) → cond (m == n) [] (unsaved n h) ≡ cond ((m == n) || was_killed n h) [] (deferred (own n h))
+    changed n (inl p) = rw p refl
+    changed n (inr p) = rw p (b.changes n)
 
--- and where memory ran out
-pub keeps_still : (from : Origin) (h : Journal) (old new : StoreState) → IsStore from h old → new.tables ≡ old.tables → new.written ≡ old.written → old.faults ≤ new.faults → IsStore from h new
-keeps_still from h old new k t w f = record {
-  rows = t ∙ k.rows;
-  changes = λ n l. ap (λ x. Rattle.hib_store.specs.Stores.changes_in x n) w ∙ k.changes n l;
-  faults = rose_on from.faults (fault_count h) old.faults new.faults k.faults f;
+    closed : (n : ℕ) → ((m == n) || was_killed n h) ≡ false → cond (m == n) false (is_open n h) ≡ false → Tested (m == n) → deferred (own n h) ≡ []
+    closed n w o (inl p) = absurd (true≢false (sym p ∙ (either (m == n) (was_killed n h) w).0))
+    closed n w o (inr p) = b.closed n (either (m == n) (was_killed n h) w).1 (sym (ap (λ c. cond c false (is_open n h)) p) ∙ o)
+
+pub bridged_restart : (h : Journal) (r : Reply) → IsBridged h → IsBridged (outside_entry h Act.Restart r ∷ h)
+bridged_restart h r b = record {
+  rows = b.rows;
+  changes = λ n. changed n (tested (is_open n h || was_killed n h));
+  closed = λ n w o. let u : (is_open n h ≡ false) × (was_killed n h ≡ false) = either (is_open n h) (was_killed n h) w in b.closed n u.1 u.0;
+}
+  where
+    changed : (n : ℕ) → Tested (is_open n h || was_killed n h) → [] ≡ cond (is_open n h || was_killed n h) [] (deferred (own n h))
+    changed n (inl p) = sym (ap (λ k. cond k [] (deferred (own n h))) p)
+    changed n (inr p) =
+        let u : (is_open n h ≡ false) × (was_killed n h ≡ false) = either (is_open n h) (was_killed n h) p in
+        sym (ap (λ k. cond k [] (deferred (own n h))) p ∙ b.closed n u.1 u.0)
+
+pub bridged_evict : (h : Journal) (k : Key) (r : Reply) → IsBridged h → IsBridged (outside_entry h (Act.Evict k) r ∷ h)
+bridged_evict h k r b = record { rows = b.rows; changes = b.changes; closed = b.closed }
+
+-- ---- the store
+
+told_same : (told : Option Tables) (h : Journal) → ((start : Tables) → stored start h ≡ committed start h) → option_map (λ start. stored start h) told ≡ told_committed told h
+told_same None h f = refl
+told_same (Some start) h f = ap Some (f start)
+
+pub store_of : (from : Origin) (h : Journal) (store : StoreState) → IsStored from.tables h store → IsBridged h → RoseBy from.faults (fault_count h) store.faults → IsStore from h store
+store_of from h store k b f = record {
+  stands = k;
+  bridged = b;
+  rows = k.rows ∙ told_same from.tables h b.rows;
+  changes = λ n. k.changes n ∙ b.changes n;
+  faults = f;
 }
 
--- a reply that does not hang on rows
-pub reply_any : (script : Script) (told : Option Tables) (h : Journal) (e : Entry) → ((start : Tables) → e.reply ≡ reply_of script start h (number e.session) e.tick e.act) →
-    is_of_store e.act e.reply ≡ true → IsReply script told h e
-reply_any script None h e f p = (p, λ q. inl (f []))
-reply_any script (Some start) h e f p = inl (f start)
+-- an answer that is a fault only where the count rose
+pub rose_if : (r : Reply) (o w : ℕ) → o ≤ w → (is_fault r ≡ true → RoseBy o 1 w) → RoseBy o (one_if (is_fault r)) w
+rose_if r o w l f = by_test (tested (is_fault r))
+  where
+    by_test : Tested (is_fault r) → RoseBy o (one_if (is_fault r)) w
+    by_test (inl p) = rw p (f p)
+    by_test (inr p) = rw p (omega (arith, l))
+
+-- where memory ran out
+pub store_still : (from : Origin) (h : Journal) (old new : StoreState) → IsStore from h old → new.tables ≡ old.tables → new.written ≡ old.written → old.faults ≤ new.faults → IsStore from h new
+store_still from h old new k t w f = store_of from h new
+    (record { rows = t ∙ k.stands.rows; changes = λ n. ap (λ x. Rattle.hib_store.specs.Stores.changes_in x n) w ∙ k.stands.changes n }) k.bridged
+    (rose_on from.faults (fault_count h) old.faults new.faults k.faults f)
+
+-- ---- replies
+
+-- an act of another part has no reply of the store's kind
+other_kind : (a : Act) (r : Reply) (s : ℕ) → is_for Part.Store a s ≡ false → is_of_store a r ≡ true
+other_kind (Act.Load k) r s p = absurd (true≢false p)
+other_kind (Act.List q) r s p = absurd (true≢false p)
+other_kind Act.Commit r s p = absurd (true≢false p)
+other_kind _ r s p = refl
+
+pub reply_any : (script : Script) (told : Option Tables) (h : Journal) (by : Option ℕ) (now : ℕ) (a : Act) (r : Reply) → IsReplyOf script h by now a r → is_for Part.Store a (number by) ≡ false →
+    IsReply script told h (entry_at now by a r)
+reply_any script None h by now a r f p = (other_kind a r (number by) p, λ q. inl (f []))
+reply_any script (Some start) h by now a r f p = inl (f start)
+
+bridge_rows : (script : Script) (told : Option Tables) (h : Journal) (cs : List Change) (s now : ℕ) (a : Act) (r : Reply) → IsBridged h →
+    IsReplyBy told cs (λ start. reply_by script cs (stored start h) h s now a) (entry_at now (Some s) a r) → IsReplyBy told cs (λ start. reply_by script cs (committed start h) h s now a) (entry_at now (Some s) a r)
+bridge_rows script told h cs s now a r b w = subst (λ (f : Tables → Tables). IsReplyBy told cs (λ start. reply_by script cs (f start) h s now a) (entry_at now (Some s) a r)) same w
+  where
+    same : ◌≡◌ {A = Tables → Tables} (λ start. stored start h) (λ start. committed start h)
+    same i start = b.rows start i
+
+-- the reply that is due by what the store defers is due by what the session wrote
+pub reply_stored : (script : Script) (told : Option Tables) (h : Journal) (s now : ℕ) (a : Act) (r : Reply) → IsBridged h → was_killed s h ≡ false → AreStored (own s h) a →
+    is_for Part.Store a s ≡ true → IsStoreReply script told h (entry_at now (Some s) a r) → IsReply script told h (entry_at now (Some s) a r)
+reply_stored script told h s now (Act.Load k) r b live d p w = bridge_rows script told h (changes s h) s now (Act.Load k) r b
+    (subst (λ cs. IsReplyBy told cs (λ start. reply_by script cs (stored start h) h s now (Act.Load k)) (entry_at now (Some s) (Act.Load k) r)) (deferred_of h s b live ∙ d) w)
+reply_stored script told h s now (Act.List q) r b live d p w = bridge_rows script told h (changes s h) s now (Act.List q) r b
+    (subst (λ cs. IsReplyBy told cs (λ start. reply_by script cs (stored start h) h s now (Act.List q)) (entry_at now (Some s) (Act.List q) r)) (deferred_of h s b live ∙ d) w)
+reply_stored script told h s now Act.Commit r b live d p w = bridge_rows script told h (changes s h) s now Act.Commit r b
+    (subst (λ cs. IsReplyBy told cs (λ start. reply_by script cs (stored start h) h s now Act.Commit) (entry_at now (Some s) Act.Commit r)) (deferred_of h s b live ∙ d) w)
+reply_stored script None h s now (Act.Write c) r b live d p w = w
+reply_stored script (Some start) h s now (Act.Write c) r b live d p w = w
+reply_stored script None h s now Act.Rollback r b live d p w = w
+reply_stored script (Some start) h s now Act.Rollback r b live d p w = w
+reply_stored script told h s now _ r b live d p w = absurd (false≢true p)
+
+-- the keeper is asked as the act asks
+pub asks_same : (h : Journal) (s : ℕ) (a : Act) (cs : List Change) → cs ≡ deferred (own s h) → AreStored (own s h) a → asks cs a ≡ asks (changes_in (own s h)) a
+asks_same h s (Act.Load k) cs e d = ap (λ x. asks x (Act.Load k)) (e ∙ d)
+asks_same h s _ cs e d = refl
 
 -- a session's own reply
 pub own_is : (script : Script) (h : Journal) (s now : ℕ) (a : Act) (r : Reply) → own_reply script (own s h) a ≡ Some r → (start : Tables) → r ≡ reply_of script start h s now a
@@ -124,173 +268,3 @@ own_is script h s now _ r p start = absurd (no p)
   where
     no : ◌≡◌ {A = Option Reply} None (Some r) → ⊥
     no x = cc
-
--- the act has a reply of the session's own
-pub own_kind : (script : Script) (mine : Journal) (a : Act) (r q : Reply) → own_reply script mine a ≡ Some r → is_of_store a q ≡ true
-own_kind script mine (Act.Load k) r q p = absurd (no p)
-  where
-    no : ◌≡◌ {A = Option Reply} None (Some r) → ⊥
-    no x = cc
-own_kind script mine (Act.List n) r q p = absurd (no p)
-  where
-    no : ◌≡◌ {A = Option Reply} None (Some r) → ⊥
-    no x = cc
-own_kind script mine Act.Commit r q p = absurd (no p)
-  where
-    no : ◌≡◌ {A = Option Reply} None (Some r) → ⊥
-    no x = cc
-own_kind script mine _ r q p = refl
-
-pub own_stays : (script : Script) (mine : Journal) (s : ℕ) (a : Act) (r q : Reply) → own_reply script mine a ≡ Some r → (committer a q (Some s) ≡ None) × ((cs : List Change) → deferred_after a cs ≡ cs)
-own_stays script mine s (Act.Write c) r q p = absurd (no p)
-  where
-    no : ◌≡◌ {A = Option Reply} None (Some r) → ⊥
-    no x = cc
-own_stays script mine s Act.Commit r q p = absurd (no p)
-  where
-    no : ◌≡◌ {A = Option Reply} None (Some r) → ⊥
-    no x = cc
-own_stays script mine s Act.Rollback r q p = absurd (no p)
-  where
-    no : ◌≡◌ {A = Option Reply} None (Some r) → ⊥
-    no x = cc
-own_stays script mine s _ r q p = (refl, λ cs. refl)
-
--- a load
-
-not_false : (b : Bool) → not b ≡ false → b ≡ true
-not_false true p = refl
-not_false false p = absurd (true≢false p)
-
-row_reply : (x y : Option Row) → x ≡ y → Reply.Row x ≡ Reply.Row y
-row_reply x y e = ap (λ z. Reply.Row z) e
-
-loaded_is : (x y : Option Row) → Loaded.Row x ≡ Loaded.Row y → x ≡ y
-loaded_is x y e = cc
-
-pub load_row : (script : Script) (from : Origin) (h : Journal) (s : ℕ) (k : Key) (row : Option Row) (store : StoreState) → IsStore from h store → was_killed s h ≡ false →
-    deferred (own s h) ≡ changes_in (own s h) → IsView store.tables (changes_of store s) k (Loaded.Row row) →
-    (is_in k (changes_of store s) ≡ true → (t : Tables) → Loaded.Row row ≡ Loaded.Row (row_at (after_changes (changes_of store s) t) k)) →
-    IsReply script from.tables h (entry_of h s (Act.Load k) (Reply.Row row))
-load_row script from h s k row store kept live d view mine = by_told from.tables kept.rows
-  where
-    same : changes_of store s ≡ changes_in (own s h)
-    same = kept.changes s live ∙ d
-
-    by_told : (told : Option Tables) → store.tables ≡ told_committed told h → IsReply script told h (entry_of h s (Act.Load k) (Reply.Row row))
-    by_told None rows = (
-      refl,
-      λ q. inl (row_reply row (row_at (after_changes (changes_in (own s h)) (committed [] h)) k)
-          (subst (λ cs. row ≡ row_at (after_changes cs (committed [] h)) k) same
-          (loaded_is row (row_at (after_changes (changes_of store s) (committed [] h)) k) (mine (ap (is_in k) same ∙ not_false (is_in k (changes_in (own s h))) q) (committed [] h))))),
-    )
-    by_told (Some start) rows = inl (row_reply row (row_at (after_changes (changes_in (own s h)) (committed start h)) k)
-        (subst (λ cs. row ≡ row_at (after_changes cs (committed start h)) k) same (subst (λ t. IsView t (changes_of store s) k (Loaded.Row row)) rows view)))
-
--- the keeper is asked once at most, and not at all of a key that the session has changed
-pub load_asks : (from : Origin) (h : Journal) (s : ℕ) (k : Key) (old new : StoreState) → IsStore from h old → was_killed s h ≡ false → deferred (own s h) ≡ changes_in (own s h) →
-    (is_in k (changes_of old s) ≡ true → new.asked ≡ old.asked) → old.asked ≤ new.asked → new.asked ≤ old.asked + 1 → RoseWithin old.asked (one_if (asks (changes_in (own s h)) (Act.Load k))) new.asked
-load_asks from h s k old new kept live d quiet later few = subst (λ cs. RoseWithin old.asked (one_if (asks cs (Act.Load k))) new.asked) (kept.changes s live ∙ d)
-    (by_test (is_in k (changes_of old s)) quiet)
-  where
-    by_test : (b : Bool) → (b ≡ true → new.asked ≡ old.asked) → RoseWithin old.asked (one_if (not b)) new.asked
-    by_test true q = record { later = later; few = omega (arith, q refl) }
-    by_test false q = record { later = later; few = few }
-
-fault_if : (b : Bool) → b ≡ false → Rattle.hib_journal.specs.Legal.fault_unless b Reply.Fault ≡ Some Reply.Fault
-fault_if true p = absurd (true≢false p)
-fault_if false p = refl
-
-not_true : (b : Bool) → (b ≡ true → ⊥) → b ≡ false
-not_true true f = absurd (f refl)
-not_true false f = refl
-
-pub load_fault : (script : Script) (from : Origin) (h : Journal) (s : ℕ) (k : Key) (store : StoreState) → IsStore from h store → was_killed s h ≡ false →
-    deferred (own s h) ≡ changes_in (own s h) → (is_in k (changes_of store s) ≡ true → ⊥) → IsReply script from.tables h (entry_of h s (Act.Load k) Reply.Fault)
-load_fault script from h s k store kept live d none = by_told from.tables
-  where
-    away : is_in k (changes_in (own s h)) ≡ false
-    away = not_true (is_in k (changes_in (own s h))) (λ p. none (ap (is_in k) (kept.changes s live ∙ d) ∙ p))
-
-    by_told : (t : Option Tables) → IsReply script t h (entry_of h s (Act.Load k) Reply.Fault)
-    by_told None = (refl, λ q. absurd (true≢false (sym (ap not away) ∙ q)))
-    by_told (Some start) = inr (fault_if (is_in k (changes_in (own s h))) away)
-
--- a commit
-
-empty_nil : (cs : List Change) → is_empty cs ≡ true → cs ≡ []
-empty_nil [] p = refl
-empty_nil (c ∷ cs) p = absurd (false≢true p)
-
-commit_fault_if : (b : Bool) → b ≡ false → Rattle.hib_journal.specs.Legal.fault_unless b (Reply.Commit Commit.Fault) ≡ Some (Reply.Commit Commit.Fault)
-commit_fault_if true p = absurd (true≢false p)
-commit_fault_if false p = refl
-
-fault_or : (c : Commit) → (c ≡ Commit.Fault) ⊎ (c ≢ Commit.Fault)
-fault_or Commit.Fault = inl refl
-fault_or Commit.Committed = inr (λ e. no e)
-  where
-    no : Commit.Committed ≡ Commit.Fault → ⊥
-    no x = cc
-fault_or (Commit.Stale k v) = inr (λ e. no e)
-  where
-    no : Commit.Stale k v ≡ Commit.Fault → ⊥
-    no x = cc
-fault_or (Commit.Duplicate k) = inr (λ e. no e)
-  where
-    no : Commit.Duplicate k ≡ Commit.Fault → ⊥
-    no x = cc
-
-abbrev pub ToldAnswer : Option Tables → List Change → Commit → Type 0
-ToldAnswer None cs c = Unit {0}
-ToldAnswer (Some m) cs c = c ≡ commit_answer cs m
-
-committed_fault : Commit.Committed ≡ Commit.Fault → ⊥
-committed_fault x = cc
-
-pub commit_reply : (script : Script) (from : Origin) (h : Journal) (s : ℕ) (c : Commit) (store : StoreState) → IsStore from h store → was_killed s h ≡ false →
-    deferred (own s h) ≡ changes_in (own s h) → (c ≢ Commit.Fault → ToldAnswer store.tables (changes_of store s) c) → (changes_of store s ≡ [] → c ≡ Commit.Committed) →
-    IsReply script from.tables h (entry_of h s Act.Commit (Reply.Commit c))
-commit_reply script from h s c store kept live d answer none = by_told from.tables kept.rows
-  where
-    same : changes_of store s ≡ changes_in (own s h)
-    same = kept.changes s live ∙ d
-
-    by_told : (told : Option Tables) → store.tables ≡ told_committed told h → IsReply script told h (entry_of h s Act.Commit (Reply.Commit c))
-    by_told None rows = (
-      refl,
-      λ q. inl (ap (λ x. Reply.Commit x)
-          (let e : changes_in (own s h) ≡ [] = empty_nil (changes_in (own s h)) (not_false (is_empty (changes_in (own s h))) q) in
-          none (same ∙ e) ∙ ap (λ cs. commit_answer cs (committed [] h)) (sym e))),
-    )
-    by_told (Some start) rows = by_answer (fault_or c)
-      where
-        by_answer : (c ≡ Commit.Fault) ⊎ (c ≢ Commit.Fault) → IsReply script (Some start) h (entry_of h s Act.Commit (Reply.Commit c))
-        by_answer (inr f) = inl (ap (λ x. Reply.Commit x)
-            (subst (λ cs. c ≡ commit_answer cs (committed start h)) same (subst (λ t. ToldAnswer t (changes_of store s) c) rows (answer f))))
-        by_answer (inl p) = inr (commit_fault_if (is_empty (changes_in (own s h))) some ∙ ap (λ x. Some (Reply.Commit x)) (sym p))
-          where
-            some : is_empty (changes_in (own s h)) ≡ false
-            some = not_true (is_empty (changes_in (own s h))) (λ q. committed_fault (sym (none (same ∙ empty_nil (changes_in (own s h)) q)) ∙ p))
-
-pub commit_keeps : (from : Origin) (h : Journal) (s : ℕ) (c : Commit) (old new : StoreState) → IsStore from h old → was_killed s h ≡ false → deferred (own s h) ≡ changes_in (own s h) →
-    new.tables ≡ tables_answered c (changes_of old s) old.tables → changes_of new s ≡ [] → ((n : ℕ) → n ≢ s → changes_of new n ≡ changes_of old n) →
-    old.faults ≤ new.faults → (c ≡ Commit.Fault → RoseBy old.faults 1 new.faults) → IsStore from (entry_of h s Act.Commit (Reply.Commit c) ∷ h) new
-commit_keeps from h s c old new k live d t w o l f = keeps_step from h s Act.Commit (Reply.Commit c) old new k
-    (t ∙ (ap (tables_answered c (changes_of old s)) k.rows ∙ by_answer c from.tables)) live w o (rose c f)
-  where
-    rose : (x : Commit) → (x ≡ Commit.Fault → RoseBy old.faults 1 new.faults) → RoseBy old.faults (one_if (is_fault (Reply.Commit x))) new.faults
-    rose Commit.Fault g = g refl
-    rose Commit.Committed g = omega (arith, l)
-    rose (Commit.Stale j v) g = omega (arith, l)
-    rose (Commit.Duplicate j) g = omega (arith, l)
-
-    by_answer : (x : Commit) (u : Option Tables) → tables_answered x (changes_of old s) (told_committed u h) ≡ told_committed u (entry_of h s Act.Commit (Reply.Commit x) ∷ h)
-    by_answer Commit.Committed None = refl
-    by_answer Commit.Committed (Some start) = ap (λ cs. Some (after_changes cs (committed start h))) (k.changes s live ∙ d)
-    by_answer (Commit.Stale j v) None = refl
-    by_answer (Commit.Stale j v) (Some start) = refl
-    by_answer (Commit.Duplicate j) None = refl
-    by_answer (Commit.Duplicate j) (Some start) = refl
-    by_answer Commit.Fault None = refl
-    by_answer Commit.Fault (Some start) = refl

@@ -1,6 +1,3 @@
-pub mod Registry
-pub mod Region
-pub mod Laws
 pub mod Standing
 pub mod Factory
 pub mod Playing

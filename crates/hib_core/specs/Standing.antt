@@ -1,23 +1,24 @@
 -- What a factory stands for: its parts are those that its journal's definitions give.
-use Rattle.std.specs.Prelude.{◌≡◌, ℕ, ◌+◌, ◌-◌, ◌^◌, ◌≤◌, ◌<◌, min, true, false, cond, List, ◌∷◌, length, map, slice_get, slice_set, Some, None, Option}
-use Rattle.std.specs.List.{All}
+use Rattle.std.specs.Prelude.{◌≡◌, ℕ, ◌+◌, ◌==◌, false, true, cond, List, [], ◌∷◌, length, slice_get, Some, None, Option}
 use Rattle.std.specs.Option.{option_map}
 use Rattle.hib_base.specs.Tables.{Tables, start}
 use Rattle.hib_journal.specs.Types.{Script, Act, Reply, Entry}
-use Rattle.hib_journal.specs.Sessions.{Journal, own, is_restart, is_begun, was_killed, changes_in, deferred}
+use Rattle.hib_journal.specs.Sessions.{Journal, own, is_open, is_begun, was_killed, changes_in, deferred, committed}
 use Rattle.hib_journal.specs.Held.{is_begin}
 use Rattle.hib_journal.specs.Next.{strategy}
-use Rattle.hib_journal.specs.Legal.{IsReply, part_of, is_outside}
+use Rattle.hib_journal.specs.Legal.{IsReply, is_outside}
+use Rattle.hib_journal.specs.Lists.{entry_at, unsaved, stored}
 use Rattle.hib_journal.specs.Runs.{IsNumbered, told_committed, one_if, asks, fault_count}
 use Rattle.hib_store.specs.Stores.{StoreState, changes_of}
-use Rattle.hib_store.specs.declared.asking.Loaded.{Loaded}
-use Rattle.hib_store.specs.declared.store.Listed.{Listed}
 use Rattle.hib_update_stamps.specs.Standing.{IsStamps}
 use Rattle.hib_query_cache.specs.Ranked.{Ranked}
 use Rattle.hib_query_cache.specs.Standing.{IsResults}
-use Rattle.hib_core.specs.declared.region.Region.{Region}
-use Rattle.hib_core.specs.Registry.{Opened, without, IsRegistry}
-use Rattle.hib_core.specs.Region.{is_regional, acts_on, region_after, emptied, IsPlaced, Suits}
+use Rattle.hib_engines.specs.declared.region.Region.{Region}
+use Rattle.hib_engines.specs.Registry.{Opened, without, IsRegistry}
+use Rattle.hib_engines.specs.Region.{acts_on, emptied, IsPlaced, Suits}
+use Rattle.hib_engines.specs.Store.{IsStored, IsCounted}
+pub use Rattle.hib_engines.specs.Counts.{RoseBy, RoseWithin}
+pub use Rattle.hib_engines.specs.Served.{AreWithin, HasQuery}
 
 -- what a factory is opened with: the committed rows, where the keeper tells them, and its counts
 pub record Origin : Type 0 where
@@ -29,39 +30,28 @@ pub record Origin : Type 0 where
 abbrev pub told_start : Script → Option Tables → Option Tables
 told_start script kept = option_map (λ t. start t script.rows) kept
 
--- a count has risen by n at least, or stands at the last value of a u64
-abbrev pub RoseBy : ℕ → ℕ → ℕ → Type 0
-RoseBy before n now = min (before + n) (2 ^ 64 - 1) ≤ now
-
--- a count has risen by n at most, and has not fallen
-pub record RoseWithin (before n now : ℕ) : Type 0 where
-  pub later : before ≤ now
-  pub few : now ≤ before + n
-
 -- the next entry of a session
 abbrev pub entry_of : Journal → ℕ → Act → Reply → Entry
-entry_of h s a r = record { tick = length h + 1; session = Some s; part = part_of a s; act = a; reply = r }
+entry_of h s a r = entry_at (length h + 1) (Some s) a r
 
 -- the next entry of an act from outside of the sessions
 abbrev pub outside_entry : Journal → Act → Reply → Entry
-outside_entry h a r = record { tick = length h + 1; session = None; part = part_of a 0; act = a; reply = r }
+outside_entry h a r = entry_at (length h + 1) None a r
 
--- the store: its rows are the committed ones, it defers what the sessions have not committed yet, and its keeper has failed
--- as often as the journal says
+-- what the store stores and defers is what the sessions commit and write; a session that is closed has nothing deferred
+pub record IsBridged (h : Journal) : Type 0 where
+  pub rows : (start : Tables) → stored start h ≡ committed start h
+  pub changes : (n : ℕ) → unsaved n h ≡ cond (was_killed n h) [] (deferred (own n h))
+  pub closed : (n : ℕ) → was_killed n h ≡ false → is_open n h ≡ false → deferred (own n h) ≡ []
+
+-- the store stands for the journal: its rows are the committed ones, it defers what the sessions that live have not committed yet,
+-- and its keeper has failed as often as the journal says
 pub record IsStore (from : Origin) (h : Journal) (store : StoreState) : Type 0 where
+  pub stands : IsStored from.tables h store
+  pub bridged : IsBridged h
   pub rows : store.tables ≡ told_committed from.tables h
-  pub changes : (n : ℕ) → was_killed n h ≡ false → changes_of store n ≡ deferred (own n h)
+  pub changes : (n : ℕ) → changes_of store n ≡ cond (was_killed n h) [] (deferred (own n h))
   pub faults : RoseBy from.faults (fault_count h) store.faults
-
--- the reply that a loaded row is
-abbrev pub reply_of_loaded : Loaded → Reply
-reply_of_loaded (Loaded.Row row) = Reply.Row row
-reply_of_loaded Loaded.Fault = Reply.Fault
-
--- the reply that a list is
-abbrev pub reply_of_listed : Listed → Reply
-reply_of_listed (Listed.List cells) = Reply.Listed cells
-reply_of_listed Listed.Fault = Reply.Fault
 
 -- the region of an entity; none is uncached
 abbrev pub or_uncached : Option Region → Region
@@ -71,11 +61,10 @@ or_uncached (Some x) = x
 abbrev pub region_of : List Region → ℕ → Region
 region_of xs n = or_uncached (slice_get xs n)
 
--- what an act at a tick leaves of the regions
-abbrev pub regions_after : ℕ → Act → List Region → List Region
-regions_after now a xs =
-    cond (is_restart a) (map emptied xs)
-    (cond (is_regional a) (slice_set xs (acts_on a) (region_after (region_of xs (acts_on a)) now a)) xs)
+-- no region but that of entity n has changed
+pub record IsAtRegion (n : ℕ) (xs ys : List Region) : Type 0 where
+  pub all : length ys ≡ length xs
+  pub others : (m : ℕ) → (n == m) ≡ false → region_of ys m ≡ region_of xs m
 
 -- each region is emptied
 pub record AreEmptied (xs ys : List Region) : Type 0 where
@@ -105,11 +94,13 @@ pub record AreParts (script : Script) (from : Origin) (h : Journal) (x : PartsSt
   pub results : IsResults (length script.queries) x.results h
   pub capacity : x.results.capacity ≡ script.results
 
--- the tables that an act names are below a number
-abbrev pub AreWithin : ℕ → Act → Type 0
-AreWithin n (Act.Pre ts) = All (λ t. t < n) ts
-AreWithin n (Act.Stamp ts) = All (λ t. t < n) ts
-AreWithin n _ = Unit {0}
+-- all parts are as before, but for the keeper's counts, and the keeper was asked once at most
+pub record IsStill (x y : PartsState) : Type 0 where
+  pub store : IsCounted x.store y.store
+  pub registry : y.registry ≡ x.registry
+  pub stamps : y.stamps ≡ x.stamps
+  pub regions : y.regions ≡ x.regions
+  pub results : y.results ≡ x.results
 
 -- the store's list is that of the transaction
 abbrev pub AreStored : Journal → Act → Type 0
@@ -118,17 +109,11 @@ AreStored mine (Act.List q) = deferred mine ≡ changes_in mine
 AreStored mine Act.Commit = deferred mine ≡ changes_in mine
 AreStored mine _ = Unit {0}
 
--- the query that an act names is there
-abbrev pub HasQuery : Script → Act → Type 0
-HasQuery script (Act.List q) = q < length script.queries
-HasQuery script (Act.Look q) = q < length script.queries
-HasQuery script (Act.Check q t) = q < length script.queries
-HasQuery script (Act.Keep q t l) = q < length script.queries
-HasQuery script _ = Unit {0}
-
 -- what is known of the act that is due in a session with these entries
 pub record IsDue (script : Script) (mine : Journal) (a : Act) : Type 0 where
   pub begins : is_begin a ≡ true → is_begun mine ≡ false
+  pub within : is_begin a ≡ false → is_begun mine ≡ true
+  pub ends : a ≡ Act.End → deferred mine ≡ []
   pub stored : AreStored mine a
   pub known : AreWithin (length script.mapping) a
   pub suits : Suits (strategy script (acts_on a)) a

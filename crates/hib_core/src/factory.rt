@@ -15,20 +15,17 @@ ghost use Rattle.hib_store.specs.Stores.{handed_back, is_store_fault};
 ghost use Rattle.hib_core.specs.Factory.{Does, IsOver, AddsAtMost, AreOver, IsSound};
 ghost use Rattle.hib_core.specs.Playing.{played, play_all, Leads};
 
-use crate::laws::laws;
 use crate::names::Name;
 use crate::opening::{open_regions, open_sessions, ready};
 use crate::outside;
 use crate::parts::Parts;
-use crate::registry::Registry;
 use crate::turns::{Stepped, turn};
 use hib_base::{Key, Order, Script, SessionNo};
+use hib_engines::{Registry, ResultsEngine, StampsEngine, StoreEngine, laws};
 use hib_journal::Journal;
 use hib_outside::Keeper;
-use hib_query_cache::Results;
 use hib_session::Session;
-use hib_store::{OpenFault, Store};
-use hib_update_stamps::Stamps;
+use hib_store::OpenFault;
 use std::alloc::{AllocError, Global};
 use std::marker::{Model, PhantomData};
 
@@ -73,16 +70,16 @@ impl<K: Keeper, N: Name> Factory<K, N> {
         let Ok(regions) = open_regions(alloc, &script) else {
             return Err(OpenFault::NoMemory(keeper));
         };
-        let Ok(stamps) = Stamps::open(alloc, script.mapping.len() as u16) else {
+        let Ok(stamps) = StampsEngine::open(alloc, script.mapping.len() as u16) else {
             return Err(OpenFault::NoMemory(keeper));
         };
-        let Ok(results) = Results::open(alloc, script.results) else {
+        let Ok(results) = ResultsEngine::open(alloc, script.results) else {
             return Err(OpenFault::NoMemory(keeper));
         };
         let Ok(sessions) = open_sessions(alloc, &script) else {
             return Err(OpenFault::NoMemory(keeper));
         };
-        let store = Store::open(alloc, keeper, script.rows.as_slice())?;
+        let store = StoreEngine::open(alloc, keeper, script.rows.as_slice())?;
         Ok(Factory {
             script,
             parts: Parts {

@@ -2,19 +2,13 @@
 #![tactic(auto)]
 
 mod factory;
-mod laws;
 mod names;
 mod opening;
 mod outside;
 mod parts;
-mod queries;
-mod region;
-mod registry;
 mod turns;
 
 pub use factory::Factory;
 pub use names::Name;
 pub use parts::Parts;
-pub use region::Region;
-pub use registry::Registry;
 pub use turns::Stepped;

@@ -1,11 +1,11 @@
 // What a factory begins with.
 ghost use Rattle.std.specs.Prelude.{◌≡◌, ◌<◌, ◌^◌, [], length, map, true, IfOk};
 ghost use Rattle.hib_base.specs.Valid.{is_valid};
-ghost use Rattle.hib_core.specs.Region.{empty};
+ghost use Rattle.hib_engines.specs.Region.{empty};
 ghost use Rattle.hib_core.specs.Factory.{AreSessions, IsBuilt};
 
-use crate::region::Region;
 use hib_base::{Script, SessionNo};
+use hib_engines::Region;
 use hib_session::Session;
 use std::alloc::{AllocError, Global};
 

@@ -5,17 +5,16 @@ ghost use Rattle.hib_journal.specs.Kept.{past};
 ghost use Rattle.hib_journal.specs.Next.{is_cached};
 ghost use Rattle.hib_journal.specs.Played.{play_order};
 ghost use Rattle.hib_core.specs.Standing.{outside_entry};
-ghost use Rattle.hib_core.specs.Registry.{holds};
+ghost use Rattle.hib_engines.specs.Registry.{holds};
 ghost use Rattle.hib_core.specs.Factory.{IsRun, IsGoing, AreKilled};
 ghost use Rattle.hib_core.specs.Playing.{played, Leads};
 ghost use Rattle.hib_session.specs.declared.session.Session.{Session};
 
-use crate::laws::laws;
 use crate::names::Name;
 use crate::parts::Parts;
-use crate::registry::Registry;
 use crate::turns::part_of;
 use hib_base::{Act, Entry, Key, Reply, SessionNo, Tick};
+use hib_engines::{Registry, laws};
 use hib_journal::Journal;
 use hib_outside::Keeper;
 use hib_session::Session;
@@ -60,7 +59,8 @@ fn kill_open(sessions: &mut Vec<Session>, registry: &Registry)
     }
 }
 
-/// Kills a session, if it is open. Its locks stay until their time is over. Where memory runs out nothing has changed.
+/// Kills a session, if it is open: what it has written and not committed is dropped. Its locks stay until their time is over.
+/// Where memory runs out nothing has changed.
 pub fn kill<K: Keeper, N: Name>(
     number: SessionNo,
     sessions: &mut Vec<Session>,
@@ -73,6 +73,7 @@ pub fn kill<K: Keeper, N: Name>(
     ensures going { OnOk result (IsGoing N.script N.from (past journal.new) parts.new sessions.new.items) }
     ensures played { OnOk result (Leads (play_order N.script (Order.Kill number)) played (past journal.old) (past journal.new)) }
     ensures same { OnErr result (past journal.new ≡ past journal.old) }
+    ensures err { OnErr result ((parts.new ≡ parts.old) × (sessions.new.items ≡ sessions.old.items)) }
 {
     laws();
     if !parts.registry.is_open(number) {
@@ -80,7 +81,7 @@ pub fn kill<K: Keeper, N: Name>(
     }
     let act = Act::Kill { session: number };
     tell(journal, act, Reply::Done)?;
-    parts.end(number);
+    parts.kill(number);
     kill_at(sessions, number.0 as usize);
     Ok(())
 }
@@ -98,6 +99,7 @@ pub fn evict<K: Keeper, N: Name>(
     ensures going { OnOk result ((xs : List Session) → IsGoing N.script N.from (past journal.old) parts.old xs → IsGoing N.script N.from (past journal.new) parts.new xs) }
     ensures played { OnOk result (Leads (play_order N.script (Order.Evict key)) played (past journal.old) (past journal.new)) }
     ensures same { OnErr result (past journal.new ≡ past journal.old) }
+    ensures err { OnErr result (parts.new ≡ parts.old) }
 {
     laws();
     journal.reserve()?;
@@ -109,8 +111,8 @@ pub fn evict<K: Keeper, N: Name>(
     Ok(())
 }
 
-/// A restart: the sessions that are open are killed, and nothing is cached, locked or stamped any more. Where memory runs out
-/// nothing has changed.
+/// A restart: the sessions that are open are killed, what they have written and not committed is dropped, and nothing is cached,
+/// locked or stamped any more. Where memory runs out nothing has changed.
 pub fn restart<K: Keeper, N: Name>(
     sessions: &mut Vec<Session>,
     parts: &mut Parts<K>,
@@ -122,6 +124,7 @@ pub fn restart<K: Keeper, N: Name>(
     ensures going { OnOk result (IsGoing N.script N.from (past journal.new) parts.new sessions.new.items) }
     ensures played { OnOk result (Leads (play_order N.script Order.Restart) played (past journal.old) (past journal.new)) }
     ensures same { OnErr result (past journal.new ≡ past journal.old) }
+    ensures err { OnErr result ((parts.new ≡ parts.old) × (sessions.new.items ≡ sessions.old.items)) }
 {
     laws();
     tell(journal, Act::Restart, Reply::Done)?;

@@ -8,14 +8,13 @@ ghost use Rattle.hib_journal.specs.Sessions.{Journal as Past, own};
 ghost use Rattle.hib_journal.specs.Next.{next};
 ghost use Rattle.hib_journal.specs.Legal;
 ghost use Rattle.hib_session.specs.Session.{Follows, IsTaken, number_of, is_killed, left_in};
-ghost use Rattle.hib_core.specs.Region.{HasRoomFor, acts_on};
-ghost use Rattle.hib_core.specs.Standing.{Origin, region_of, AreParts, AreWithin, IsDue, IsReady, entry_of};
+ghost use Rattle.hib_core.specs.Standing.{Origin, AreParts, AreWithin, IsDue, IsReady, entry_of};
 ghost use Rattle.hib_core.specs.Factory.{IsTold, IsRun, IsGoing, IsTurn, Serves, Does, IsOver, AddsAtMost, HasQueries};
 
-use crate::laws::laws;
 use crate::names::Name;
 use crate::parts::Parts;
 use hib_base::{Act, Entry, Part, Reply, Script, SessionNo, Tick};
+use hib_engines::laws;
 use hib_journal::Journal;
 use hib_outside::Keeper;
 use hib_session::Session;
@@ -52,7 +51,6 @@ fn answer<K: Keeper>(
     now: Tick,
 ) -> Result<Reply, AllocError>
     requires late { now ≤ 2 ^ 62 }
-    requires few { HasRoomFor (region_of parts.old.regions (acts_on act.now)) act.now now }
     requires tables { AreWithin (length parts.old.stamps) act.now }
     requires entities { length parts.old.stamps ≡ length script.now.mapping }
     requires mapping { length script.now.mapping < 2 ^ 16 }

@@ -1,8 +1,8 @@
 -- Legal journals: each entry is the next act of its session, in its part, with the reply that the parts give.
 use Rattle.std.specs.Prelude.{◌≡◌, ℕ, ◌+◌, ◌⊎◌, Bool, true, false, cond, not, ◌||◌, List, [], ◌∷◌, length, slice_get, IsSome, Some, None, Option}
 use Rattle.hib_journal.specs.Types.{Key, Row, Change, Commit, State, Outcome, Strategy, Query, Script, Part, Act, Reply, Entry}
-use Rattle.hib_base.specs.Tables.{Tables, commit_answer}
-use Rattle.hib_journal.specs.Sessions.{Journal, own, floor, changes, is_open, was_killed, committed, views, view, IsTimely}
+use Rattle.hib_base.specs.Tables.{Tables, row_at, after_changes, commit_answer}
+use Rattle.hib_journal.specs.Sessions.{Journal, own, floor, changes, is_open, was_killed, committed, IsTimely}
 use Rattle.hib_journal.specs.Slot.{slot, history}
 use Rattle.hib_journal.specs.Room.{room, item, oldest}
 use Rattle.hib_journal.specs.Regions
@@ -75,36 +75,39 @@ abbrev pub list_reply : Option Query → Tables → Reply
 list_reply None t = Reply.Fault
 list_reply (Some q) t = Reply.Listed (gives q t)
 
--- the reply to an act of session s at a tick, over the journal before it
-abbrev pub reply_of : Script → Tables → Journal → ℕ → ℕ → Act → Reply
-reply_of script start h s now Act.Begin = Reply.Began (floor h now)
-reply_of script start h s now Act.End = Reply.Ended (outcome (own s h))
-reply_of script start h s now (Act.Kill n) = Reply.Done
-reply_of script start h s now Act.Restart = Reply.Done
-reply_of script start h s now (Act.Find k) = Reply.Row (row_of (held (own s h) k))
-reply_of script start h s now (Act.Persist k r) = persisted (is_held (held (own s h) k) || is_in k (changes s h))
-reply_of script start h s now (Act.Set k cells) =
+-- the reply to an act of session s at a tick, over its changes, the committed rows and the journal before it
+abbrev pub reply_by : Script → List Change → Tables → Journal → ℕ → ℕ → Act → Reply
+reply_by script cs rows h s now Act.Begin = Reply.Began (floor h now)
+reply_by script cs rows h s now Act.End = Reply.Ended (outcome (own s h))
+reply_by script cs rows h s now (Act.Kill n) = Reply.Done
+reply_by script cs rows h s now Act.Restart = Reply.Done
+reply_by script cs rows h s now (Act.Find k) = Reply.Row (row_of (held (own s h) k))
+reply_by script cs rows h s now (Act.Persist k r) = persisted (is_held (held (own s h) k) || is_in k cs)
+reply_by script cs rows h s now (Act.Set k cells) =
     cond (is_there (row_of (held (own s h) k))) (set_unless (strategy script k.entity)) Reply.Unknown
-reply_of script start h s now (Act.Remove k) = cond (is_there (row_of (held (own s h) k))) Reply.Removed Reply.Unknown
-reply_of script start h s now Act.Clear = Reply.Cleared
-reply_of script start h s now (Act.Load k) = Reply.Row (view start h s k)
-reply_of script start h s now (Act.List q) = list_reply (slice_get script.queries q) (views start h s)
-reply_of script start h s now (Act.Write c) = Reply.Written
-reply_of script start h s now Act.Commit = Reply.Commit (commit_answer (changes s h) (committed start h))
-reply_of script start h s now Act.Rollback = Reply.Done
-reply_of script start h s now (Act.Pre ts) = Reply.Stamped (now + script.timeout)
-reply_of script start h s now (Act.Stamp ts) = Reply.Stamped now
-reply_of script start h s now (Act.Check q t) = Reply.Check (check script.timeout t (tables_of script q) h)
-reply_of script start h s now (Act.Look q) = found (result script.results q h)
-reply_of script start h s now (Act.Keep q t l) = Reply.Kept (dropped script.results (length script.queries) q h)
-reply_of script start h s now (Act.Get k t) = get_reply (strategy script k.entity) script h k t
-reply_of script start h s now (Act.Put k r t f) = put_reply (strategy script k.entity) script h k r t f
-reply_of script start h s now (Act.Lock k v f) = Reply.Locked (Regions.lock script.timeout (slot script.timeout k h) (room_for script h k f) now)
-reply_of script start h s now (Act.Unlock k i) = Reply.Unlocked (Regions.unlock (slot script.timeout k h) i)
-reply_of script start h s now (Act.AfterInsert k r f) = insert_reply (strategy script k.entity) script h k f
-reply_of script start h s now (Act.AfterUpdate k i r) = Reply.Updated (Regions.after_update (slot script.timeout k h) i)
-reply_of script start h s now (Act.RegionRemove k) = Regions.remove_item (item (history k h))
-reply_of script start h s now (Act.Evict k) = evict_reply (strategy script k.entity) script h k
+reply_by script cs rows h s now (Act.Remove k) = cond (is_there (row_of (held (own s h) k))) Reply.Removed Reply.Unknown
+reply_by script cs rows h s now Act.Clear = Reply.Cleared
+reply_by script cs rows h s now (Act.Load k) = Reply.Row (row_at (after_changes cs rows) k)
+reply_by script cs rows h s now (Act.List q) = list_reply (slice_get script.queries q) (after_changes cs rows)
+reply_by script cs rows h s now (Act.Write c) = Reply.Written
+reply_by script cs rows h s now Act.Commit = Reply.Commit (commit_answer cs rows)
+reply_by script cs rows h s now Act.Rollback = Reply.Done
+reply_by script cs rows h s now (Act.Pre ts) = Reply.Stamped (now + script.timeout)
+reply_by script cs rows h s now (Act.Stamp ts) = Reply.Stamped now
+reply_by script cs rows h s now (Act.Check q t) = Reply.Check (check script.timeout t (tables_of script q) h)
+reply_by script cs rows h s now (Act.Look q) = found (result script.results q h)
+reply_by script cs rows h s now (Act.Keep q t l) = Reply.Kept (dropped script.results (length script.queries) q h)
+reply_by script cs rows h s now (Act.Get k t) = get_reply (strategy script k.entity) script h k t
+reply_by script cs rows h s now (Act.Put k r t f) = put_reply (strategy script k.entity) script h k r t f
+reply_by script cs rows h s now (Act.Lock k v f) = Reply.Locked (Regions.lock script.timeout (slot script.timeout k h) (room_for script h k f) now)
+reply_by script cs rows h s now (Act.Unlock k i) = Reply.Unlocked (Regions.unlock (slot script.timeout k h) i)
+reply_by script cs rows h s now (Act.AfterInsert k r f) = insert_reply (strategy script k.entity) script h k f
+reply_by script cs rows h s now (Act.AfterUpdate k i r) = Reply.Updated (Regions.after_update (slot script.timeout k h) i)
+reply_by script cs rows h s now (Act.RegionRemove k) = Regions.remove_item (item (history k h))
+reply_by script cs rows h s now (Act.Evict k) = evict_reply (strategy script k.entity) script h k
+
+abbrev pub reply_of : Script → Tables → Journal → ℕ → ℕ → Act → Reply
+reply_of script start h s now a = reply_by script (changes s h) (committed start h) h s now a
 
 abbrev pub fault_unless : Bool → Reply → Option Reply
 fault_unless true r = None
@@ -144,16 +147,22 @@ is_of_store Act.Commit (Reply.Commit c) = true
 is_of_store Act.Commit _ = false
 is_of_store _ r = true
 
-abbrev pub IsAnswer : Script → Tables → Journal → Entry → Type 0
-IsAnswer script start h e =
-    (e.reply ≡ reply_of script start h (number e.session) e.tick e.act)
-    ⊎ (fault_of (changes (number e.session) h) e.act ≡ Some e.reply)
+-- an entry has this reply, or a fault that may be answered over these changes
+abbrev pub IsAnswerBy : List Change → Reply → Entry → Type 0
+IsAnswerBy cs reply e = (e.reply ≡ reply) ⊎ (fault_of cs e.act ≡ Some e.reply)
 
--- the reply that is due. Where the rows at the start are not told, the replies that hang on rows have their kind alone
+-- where the rows at the start are not told, the replies that hang on rows have their kind alone
+abbrev pub IsReplyBy : Option Tables → List Change → (Tables → Reply) → Entry → Type 0
+IsReplyBy (Some start) cs reply e = IsAnswerBy cs (reply start) e
+IsReplyBy None cs reply e = (is_of_store e.act e.reply ≡ true) × (is_told cs e.act ≡ false → IsAnswerBy cs (reply []) e)
+
+abbrev pub IsAnswer : Script → Tables → Journal → Entry → Type 0
+IsAnswer script start h e = IsAnswerBy (changes (number e.session) h) (reply_of script start h (number e.session) e.tick e.act) e
+
+-- the reply that is due
 abbrev pub IsReply : Script → Option Tables → Journal → Entry → Type 0
-IsReply script (Some start) h e = IsAnswer script start h e
-IsReply script None h e =
-    (is_of_store e.act e.reply ≡ true) × (is_told (changes (number e.session) h) e.act ≡ false → IsAnswer script [] h e)
+IsReply script told h e =
+    IsReplyBy told (changes (number e.session) h) (λ start. reply_of script start h (number e.session) e.tick e.act) e
 
 -- the part of an act
 abbrev pub part_of : Act → ℕ → Part

@@ -15,3 +15,4 @@ pub mod Played
 pub mod Coherence
 pub mod Kept
 pub mod Runs
+pub mod Lists

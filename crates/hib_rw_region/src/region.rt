@@ -17,7 +17,8 @@ use std::alloc::{AllocError, Global};
 use std::marker::Model;
 
 /// The region of a read-write entity. Contracts see the capacity, the timeout, and the slots in order of insertion.
-/// Each `now` is greater than every tick that the region was given before; the calls ask only what they need of it.
+/// Each `now` is greater than every tick that the region was given before. No call asks this: where it doesn't hold, a lock
+/// that has as many holders as `now` has ticks takes no more.
 #[derive(Drop)]
 pub struct RwRegion {
     slots: IndexMap<u64, Slot>,
@@ -152,7 +153,8 @@ impl RwRegion {
     }
 
     /// Takes the lock of a key, for a session whose base has this version. A new key gets a lock whether or not
-    /// another may leave for it. At an error nothing has changed.
+    /// another may leave for it. At an error nothing has changed. A lock that has as many holders as `now` has ticks is
+    /// answered as if memory ran out; where ticks rise there is none.
     pub fn lock(
         &mut self,
         id: u64,
@@ -160,12 +162,14 @@ impl RwRegion {
         floor: Tick,
         now: Tick,
     ) -> Result<Locked, AllocError>
-        requires late { now ≤ 2 ^ 62 }
-        requires few { holders_in (slot_in self.old id) < now }
+        requires { now ≤ 2 ^ 62 }
         ensures answer { IfOk result (λ locked. locked ≡ Regions.lock self.old.timeout (slot_in self.old id) (room_in self.old floor) now) }
         ensures state { OnOk result (self.new ≡ after_lock id version floor now self.old) }
         ensures err { OnErr result (self.new ≡ self.old) }
     {
+        if self.holders(id) >= now.0 {
+            return Err(AllocError);
+        }
         let until = Tick(now.0 + self.timeout as u64);
         if let Some(lock) = slots::lock(&mut self.slots, id, now, self.timeout) {
             return Ok(Locked {

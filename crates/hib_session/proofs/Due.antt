@@ -121,6 +121,16 @@ module _ (a : Act) (q : is_quiet a ≡ true) (m : Journal) (e : Entry) (p : e.ac
     none = quiet_deferred e.act (deferred m) (ap is_quiet p ∙ q) ∙ w.none;
   }
 
+-- the acts between which a transaction lies
+abbrev is_bound : Act → Bool
+is_bound Act.Begin = true
+is_bound Act.End = true
+is_bound _ = false
+
+unbound_begin : (a : Act) → is_bound a ≡ false → is_begin a ≡ false
+unbound_begin Act.Begin b = absurd (true≢false b)
+unbound_begin _ b = refl
+
 -- tables are declared
 
 in_range : (n s m : ℕ) → s + m ≤ n → (p : ℕ → Bool) → list_all (λ t. nat_lt t n) (filter p (range_with_len s m)) ≡ true
@@ -143,13 +153,19 @@ module _ (script : Script) (s : ℕ) where
   Goes Before Behind b = (m : Journal) → Before m → Runs Ok Final b m Behind
 
   -- an act within a transaction that does not ask the store, or while all its changes are deferred
-  working : (a : Act) (m : Journal) → is_begin a ≡ false → is_outside a ≡ false → Suits script s m a → Working m → Ok m a
-  working a m b o u w = record { begun = w.begun ∙ ap not (sym b); inside = o; deferred = λ _. w.same; suits = u }
+  working : (a : Act) (m : Journal) → is_bound a ≡ false → is_outside a ≡ false → Suits script s m a → Working m → Ok m a
+  working a m b o u w = record {
+    begun = w.begun ∙ ap not (sym (unbound_begin a b));
+    inside = o;
+    deferred = λ _. w.same;
+    ended = λ e. absurd (true≢false (sym (ap is_bound e) ∙ b));
+    suits = u;
+  }
 
   ending : (a : Act) (m : Journal) → is_begin a ≡ false → is_outside a ≡ false → asks_store a ≡ false → Suits script s m a → Ending m → Ok m a
-  ending a m b o n u w = record { begun = w.begun ∙ ap not (sym b); inside = o; deferred = λ y. absurd (true≢false (sym y ∙ n)); suits = u }
+  ending a m b o n u w = record { begun = w.begun ∙ ap not (sym b); inside = o; deferred = λ y. absurd (true≢false (sym y ∙ n)); ended = λ _. w.none; suits = u }
 
-  goes_act : (a : Act) → is_quiet a ≡ true → is_begin a ≡ false → is_outside a ≡ false → (m : Journal) → Suits script s m a → Working m → Runs Ok Final (one a) m Working
+  goes_act : (a : Act) → is_quiet a ≡ true → is_bound a ≡ false → is_outside a ≡ false → (m : Journal) → Suits script s m a → Working m → Runs Ok Final (one a) m Working
   goes_act a q b o m u w go g = (working a m b o u w, λ e p. g (e ∷ m) (working_more a q m e p w))
 
   nothing : Goes Working Working (λ d n. n d)
@@ -224,7 +240,7 @@ module _ (script : Script) (s : ℕ) where
   allow_write : (c : Change) (m : Journal) → Working m → Allows Ok Final (Act.Write c ∷ []) m Working
   allow_write c m w = (working (Act.Write c) m refl refl tt w, λ e p. write_more c m e p w)
 
-  allow_one : (a : Act) → is_quiet a ≡ true → is_begin a ≡ false → is_outside a ≡ false → (m : Journal) → Suits script s m a → Working m → Allows Ok Final (a ∷ []) m Working
+  allow_one : (a : Act) → is_quiet a ≡ true → is_bound a ≡ false → is_outside a ≡ false → (m : Journal) → Suits script s m a → Working m → Allows Ok Final (a ∷ []) m Working
   allow_one a q b o m u w = (working a m b o u w, λ e p. working_more a q m e p w)
 
   -- an act's floor is that of the flush's start: it stays
@@ -377,7 +393,7 @@ module _ (script : Script) (s : ℕ) where
 
   goes_begin : (b : Bool) → Goes (At b) Working (Next.begin_if b)
   goes_begin true m w go g = (
-    record { begun = w.begun; inside = refl; deferred = λ y. absurd (false≢true y); suits = tt },
+    record { begun = w.begun; inside = refl; deferred = λ y. absurd (false≢true y); ended = λ y. absurd (true≢false (ap is_begin y)); suits = tt },
     λ e p. g (e ∷ m) (record { begun = rw p refl; same = rw (p, w.none) refl }),
   )
   goes_begin false m w go g = g m w

@@ -189,6 +189,16 @@ impl<K: Keeper> Store<K> {
         written::drop_session(&mut self.written, session);
     }
 
+    /// Drops the changes that all sessions have written. It takes no memory.
+    pub fn drop_all(&mut self)
+        ensures own { (s : ℕ) → changes_of self.new s ≡ [] }
+        ensures tables { self.new.tables ≡ self.old.tables }
+        ensures faults { self.new.faults ≡ self.old.faults }
+        ensures asked { self.new.asked ≡ self.old.asked }
+    {
+        self.written.clear();
+    }
+
     /// Applies a session's changes to the committed rows, all of them or none, and drops them. The first change
     /// that doesn't apply decides. Without changes the answer is Committed, and the keeper isn't asked. At an
     /// error rows and changes stay.

@@ -1,5 +1,5 @@
 use Rattle.std.proofs.Common.{◌≡◌, map, take}
-use Rattle.hib_core.specs.Region.{empty}
+use Rattle.hib_engines.specs.Region.{empty}
 use Rattle.hib_core.proofs.opening.open_regions.Given as goal
 
 abbrev pub invariant-loop-entity : goal.invariant-loop-entity

@@ -17,7 +17,7 @@ returns-clause-run g c =
     c.in_ok-tell.ensures.grown ∙ ap (λ (j : Journal). outside_entry j (Act.Evict c.args.key) c.in_ok-reply.reply ∷ j) same in
     subst (λ (j : Journal). IsRun g.N.Name.script g.N.Name.from j c.serve_entity.new.self) (sym grown)
     (evict_run c.laws.ensures g.N.Name.script g.N.Name.from h c.args.key (c.len.result + 1) c.in_ok-reply.reply c.args.parts.now c.serve_entity.new.self c.requires.run c.requires.cached
-    (subst (λ (j : Journal). length j < 2 ^ 62) same c.in_ok-tell.ensures.few) (ap (λ (n : ℕ). n + 1) (c.len.ensures.past ∙ ap length same)) c.in_ok-reply.ensures.answer c.in_ok-reply.ensures.state)
+    (subst (λ (j : Journal). length j < 2 ^ 62) same c.in_ok-tell.ensures.few) (ap (λ (n : ℕ). n + 1) (c.len.ensures.past ∙ ap length same)) c.in_ok-reply.ensures.answered c.in_ok-reply.ensures.others c.in_ok-reply.ensures.calm c.in_ok-reply.ensures.same)
 
 pub returns-clause-going : goal.returns-clause-going
 returns-clause-going g c = λ xs w.
@@ -27,7 +27,7 @@ returns-clause-going g c = λ xs w.
     c.in_ok-tell.ensures.grown ∙ ap (λ (j : Journal). outside_entry j (Act.Evict c.args.key) c.in_ok-reply.reply ∷ j) same in
     subst (λ (j : Journal). IsGoing g.N.Name.script g.N.Name.from j c.serve_entity.new.self xs) (sym grown)
     (going_outside g.N.Name.script g.N.Name.from h (Act.Evict c.args.key) c.in_ok-reply.reply c.args.parts.now c.serve_entity.new.self xs xs w refl
-    (ap (λ (v : PartsState). v.store) c.in_ok-reply.ensures.state) (none_killed xs))
+    (ap (λ (v : PartsState). v.store.asked) c.in_ok-reply.ensures.same) (none_killed xs))
 
 pub returns-clause-played : goal.returns-clause-played
 returns-clause-played g c =

@@ -1,7 +1,7 @@
 use Rattle.std.proofs.Common.{rules, vec_len, ◌≡◌, ◌≤◌, ℕ, ◌+◌, Bool, ◌&&◌, nat_lt, List, length, Vec, Global, sym, ap, subst, ◌∙◌}
 use Rattle.std.proofs.lemmas.List.{places}
 use Rattle.hib_session.specs.declared.session.Session.{Session}
-use Rattle.hib_core.specs.Registry.{holds}
+use Rattle.hib_engines.specs.Registry.{holds}
 use Rattle.hib_core.specs.Factory.{AreKilled}
 use Rattle.hib_core.proofs.FromOutside.{killed_more, killed_still, killed_all}
 use Rattle.hib_core.proofs.outside.kill_open.Goals as goal

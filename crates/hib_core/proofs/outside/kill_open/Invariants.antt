@@ -1,5 +1,5 @@
 use Rattle.std.proofs.Common.{◌&&◌, nat_lt}
-use Rattle.hib_core.specs.Registry.{holds}
+use Rattle.hib_engines.specs.Registry.{holds}
 use Rattle.hib_core.specs.Factory.{AreKilled}
 use Rattle.hib_core.proofs.outside.kill_open.Given as goal
 

@@ -3,13 +3,8 @@ use Rattle.hib_journal.specs.Kept.{past}
 use Rattle.hib_session.specs.Session.{number_of}
 use Rattle.hib_core.specs.Standing.{entry_of}
 use Rattle.hib_core.specs.Factory.{IsRun, IsTurn, Serves}
-use Rattle.hib_core.proofs.Going.{served, ready, room_for}
+use Rattle.hib_core.proofs.Going.{served, ready}
 use Rattle.hib_core.proofs.turns.serve.Goals as goal
-
-pub answer-requires-clause-few : goal.answer-requires-clause-few
-answer-requires-clause-few g c κs within =
-    room_for c.laws.ensures g.N.Name.script g.N.Name.from (past c.args.journal.now) c.args.act c.args.parts.now (c.len.result + 1) c.requires.run
-    (ap (λ n. n + 1) (c.len.ensures.past ∙ ap length c.in_ok-reserve.ensures.past))
 
 pub returns-clause-ok : goal.returns-clause-ok
 returns-clause-ok g c =

@@ -4,7 +4,7 @@ use Rattle.hib_base.specs.Tables.{Tables, start}
 use Rattle.hib_base.specs.declared.scripts.Script.{Script}
 use Rattle.hib_update_stamps.specs.Stamped.{unstamped}
 use Rattle.hib_query_cache.specs.Ranked.{Ranked}
-use Rattle.hib_core.specs.Region.{empty}
+use Rattle.hib_engines.specs.Region.{empty}
 use Rattle.hib_core.specs.Standing.{Origin, told_start}
 use Rattle.hib_core.specs.Factory.{AreSessions, IsBuilt}
 use Rattle.hib_core.proofs.Begun.{standing_begins, parts_begin}

@@ -3,7 +3,7 @@ use Rattle.hib_journal.specs.Kept.{past}
 use Rattle.hib_journal.specs.Sessions.{Journal}
 use Rattle.hib_journal.specs.Played.{play_orders}
 use Rattle.hib_core.specs.Playing.{played, Leads}
-use Rattle.hib_core.proofs.Outcomes.{map_ok}
+use Rattle.hib_engines.proofs.Outcomes.{map_ok}
 use Rattle.hib_core.proofs.Playing.{is_all_played}
 use Rattle.hib_core.proofs.factory.Factory.play.Goals as goal
 

@@ -1,80 +1,49 @@
-use Rattle.std.proofs.Common.{sym, subst, refl}
-use Rattle.hib_core.specs.Standing.{IsReady, IsAnswered, IsAskedFor}
-use Rattle.hib_core.proofs.Outcomes.{map_ok, both_ok, map_err}
-use Rattle.hib_core.proofs.QueriesServed.{look_served, keep_served, check_served}
-use Rattle.hib_core.proofs.Served.{begin_served, pre_served, stamp_served, region_served}
+use Rattle.std.proofs.Common.{◌+◌, length, Some, refl, sym, ap, subst, ◌∙◌}
+use Rattle.hib_journal.specs.Types.{Part}
+use Rattle.hib_journal.specs.Sessions.{same_part}
+use Rattle.hib_engines.proofs.Outcomes.{two_ok}
+use Rattle.hib_core.specs.Standing.{PartsState, IsReady}
+use Rattle.hib_core.proofs.Served.{registry_answered, store_answered, stamps_answered, results_answered, region_answered, three_ok}
 use Rattle.hib_core.proofs.parts.Parts.serve.Goals as goal
 
-pub returns-in-Some-clause-answered : goal.returns-in-Some-clause-answered
-returns-in-Some-clause-answered g c = both_ok c.serve_entity.result _ _ _ c.serve_entity.ensures.answer c.serve_entity.ensures.state (λ r p q from h n k o.
-    region_served c.laws.ensures c.args.script.now from h c.args.session c.args.now c.in-Some.entity c.args.act.now r c.args.self.now c.serve_entity.new.self n k (sym c.in-Some.ensures) p q)
+pub returns-in-Registry-clause-answered : goal.returns-in-Registry-clause-answered
+returns-in-Registry-clause-answered g c = two_ok c.serve.result _ _ _ c.serve.ensures.answered c.serve.ensures.calm (λ r p f from h n k o.
+    let script = c.args.script.now in
+    let x : PartsState = record { store = c.self.inside.store; registry = c.self.inside.registry; stamps = c.self.inside.stamps; regions = c.self.inside.regions.items; results = c.self.inside.results } in
+    let y : PartsState = record { store = c.self.inside.store; registry = c.serve.new.self; stamps = c.self.inside.stamps; regions = c.self.inside.regions.items; results = c.self.inside.results } in
+    registry_answered c.laws.ensures script from h c.args.session c.args.now c.args.act.now r x y n
+    (subst (λ v. IsReady script from h c.args.session c.args.act.now v) (sym c.self.view_is) k) (sym c.part_of.ensures ∙ c.in-Registry.is) o (p script h) f refl refl refl refl)
 
-pub returns-in-Begin-clause-answered : goal.returns-in-Begin-clause-answered
-returns-in-Begin-clause-answered g c = both_ok c.begin.result _ _ _ c.begin.ensures.reply c.begin.ensures.state (λ r p q from h n k o.
-    subst (λ a. IsAnswered c.args.script.now from h c.args.session a r c.begin.new.self) (sym c.in-Begin.is)
-    (begin_served c.laws.ensures c.args.script.now from h c.args.session c.args.now r c.args.self.now c.begin.new.self n
-    (subst (λ a. IsReady c.args.script.now from h c.args.session a c.args.self.now) c.in-Begin.is k) p q))
+pub returns-in-Store-clause-answered : goal.returns-in-Store-clause-answered
+returns-in-Store-clause-answered g c = two_ok c.serve-in-Store.result _ _ _ c.serve-in-Store.ensures.answered c.serve-in-Store.ensures.fault (λ r p f from h n k o.
+    let script = c.args.script.now in
+    let x : PartsState = record { store = c.self-in-Store.inside.store; registry = c.self-in-Store.inside.registry; stamps = c.self-in-Store.inside.stamps; regions = c.self-in-Store.inside.regions.items; results = c.self-in-Store.inside.results } in
+    let y : PartsState = record { store = c.serve-in-Store.new.self; registry = c.self-in-Store.inside.registry; stamps = c.self-in-Store.inside.stamps; regions = c.self-in-Store.inside.regions.items; results = c.self-in-Store.inside.results } in
+    let q = sym c.part_of.ensures ∙ c.in-Store.is in
+    let w : IsReady script from h c.args.session c.args.act.now x = subst (λ v. IsReady script from h c.args.session c.args.act.now v) (sym c.self-in-Store.view_is) k in
+    store_answered c.laws.ensures script from h c.args.session c.args.now c.args.act.now r x y n w q
+    (p from.tables h (length h + 1) w.parts.store.stands (ap (same_part Part.Store) q) w.due.query) c.serve-in-Store.ensures.faults f refl refl refl refl)
 
-pub returns-in-Load-clause-answered : goal.returns-in-Load-clause-answered
-returns-in-Load-clause-answered g c = map_ok c.load.result _ _ c.load.ensures.answered (λ r p from h n k o.
-    subst (λ a. IsAnswered c.args.script.now from h c.args.session a r c.load.new.self) (sym c.in-Load.is)
-    (p c.args.script.now from h (subst (λ a. IsReady c.args.script.now from h c.args.session a c.args.self.now) c.in-Load.is k)))
+pub returns-in-Stamps-clause-answered : goal.returns-in-Stamps-clause-answered
+returns-in-Stamps-clause-answered g c = two_ok c.serve-in-Stamps.result _ _ _ c.serve-in-Stamps.ensures.answered c.serve-in-Stamps.ensures.calm (λ r p f from h n k o.
+    let script = c.args.script.now in
+    let x : PartsState = record { store = c.self-in-Stamps.inside.store; registry = c.self-in-Stamps.inside.registry; stamps = c.self-in-Stamps.inside.stamps; regions = c.self-in-Stamps.inside.regions.items; results = c.self-in-Stamps.inside.results } in
+    let y : PartsState = record { store = c.self-in-Stamps.inside.store; registry = c.self-in-Stamps.inside.registry; stamps = c.serve-in-Stamps.new.self; regions = c.self-in-Stamps.inside.regions.items; results = c.self-in-Stamps.inside.results } in
+    stamps_answered c.laws.ensures script from h c.args.session c.args.now c.args.act.now r x y n
+    (subst (λ v. IsReady script from h c.args.session c.args.act.now v) (sym c.self-in-Stamps.view_is) k) (sym c.part_of.ensures ∙ c.in-Stamps.is) (p h (Some c.args.session)) f refl refl refl refl)
 
-pub returns-in-Load-clause-asked : goal.returns-in-Load-clause-asked
-returns-in-Load-clause-asked g c = map_ok c.load.result _ _ c.load.ensures.asked (λ r p from h k.
-    subst (λ a. IsAskedFor h c.args.session a c.args.self.now c.load.new.self) (sym c.in-Load.is)
-    (p c.args.script.now from h (subst (λ a. IsReady c.args.script.now from h c.args.session a c.args.self.now) c.in-Load.is k)))
+pub returns-in-Results-clause-answered : goal.returns-in-Results-clause-answered
+returns-in-Results-clause-answered g c = two_ok c.serve-in-Results.result _ _ _ c.serve-in-Results.ensures.answered c.serve-in-Results.ensures.calm (λ r p f from h n k o.
+    let script = c.args.script.now in
+    let x : PartsState = record { store = c.self-in-Results.inside.store; registry = c.self-in-Results.inside.registry; stamps = c.self-in-Results.inside.stamps; regions = c.self-in-Results.inside.regions.items; results = c.self-in-Results.inside.results } in
+    let y : PartsState = record { store = c.self-in-Results.inside.store; registry = c.self-in-Results.inside.registry; stamps = c.self-in-Results.inside.stamps; regions = c.self-in-Results.inside.regions.items; results = c.serve-in-Results.new.self } in
+    results_answered c.laws.ensures script from h c.args.session c.args.now c.args.act.now r x y n
+    (subst (λ v. IsReady script from h c.args.session c.args.act.now v) (sym c.self-in-Results.view_is) k) (sym c.part_of.ensures ∙ c.in-Results.is) (p script h (Some c.args.session) c.args.now) f refl refl refl refl)
 
-pub returns-in-Load-clause-err : goal.returns-in-Load-clause-err
-returns-in-Load-clause-err g c = map_err c.load.result _ _ c.load.ensures.err (λ p from h k. p c.args.script.now from h k)
-
-pub returns-in-Write-clause-answered : goal.returns-in-Write-clause-answered
-returns-in-Write-clause-answered g c = map_ok c.write.result _ _ c.write.ensures.answered (λ r p from h n k o.
-    subst (λ a. IsAnswered c.args.script.now from h c.args.session a r c.write.new.self) (sym c.in-Write.is)
-    (p c.args.script.now from h (subst (λ a. IsReady c.args.script.now from h c.args.session a c.args.self.now) c.in-Write.is k)))
-
-pub returns-in-Commit-clause-answered : goal.returns-in-Commit-clause-answered
-returns-in-Commit-clause-answered g c = map_ok c.commit.result _ _ c.commit.ensures.answered (λ r p from h n k o.
-    subst (λ a. IsAnswered c.args.script.now from h c.args.session a r c.commit.new.self) (sym c.in-Commit.is)
-    (p c.args.script.now from h (subst (λ a. IsReady c.args.script.now from h c.args.session a c.args.self.now) c.in-Commit.is k)))
-
-pub returns-in-Commit-clause-err : goal.returns-in-Commit-clause-err
-returns-in-Commit-clause-err g c = map_err c.commit.result _ _ c.commit.ensures.err (λ p from h k. p c.args.script.now from h k)
-
-pub returns-in-Rollback-clause-answered : goal.returns-in-Rollback-clause-answered
-returns-in-Rollback-clause-answered g c = λ from h n k o.
-    subst (λ a. IsAnswered c.args.script.now from h c.args.session a c.rollback.result c.rollback.new.self) (sym c.in-Rollback.is)
-    (c.rollback.ensures.answered c.args.script.now from h (subst (λ a. IsReady c.args.script.now from h c.args.session a c.args.self.now) c.in-Rollback.is k))
-
-pub returns-in-Pre-clause-answered : goal.returns-in-Pre-clause-answered
-returns-in-Pre-clause-answered g c = λ from h n k o.
-    subst (λ a. IsAnswered c.args.script.now from h c.args.session a c.stamp_before.result c.stamp_before.new.self) (sym c.in-Pre.is)
-    (pre_served c.laws.ensures c.args.script.now from h c.args.session c.args.now c.in-Pre.tables c.stamp_before.result c.args.self.now c.stamp_before.new.self n
-    (subst (λ a. IsReady c.args.script.now from h c.args.session a c.args.self.now) c.in-Pre.is k) c.stamp_before.ensures.reply c.stamp_before.ensures.state)
-
-pub returns-in-Stamp-clause-answered : goal.returns-in-Stamp-clause-answered
-returns-in-Stamp-clause-answered g c = λ from h n k o.
-    subst (λ a. IsAnswered c.args.script.now from h c.args.session a c.stamp_after.result c.stamp_after.new.self) (sym c.in-Stamp.is)
-    (stamp_served c.laws.ensures c.args.script.now from h c.args.session c.args.now c.in-Stamp.tables c.stamp_after.result c.args.self.now c.stamp_after.new.self n
-    (subst (λ a. IsReady c.args.script.now from h c.args.session a c.args.self.now) c.in-Stamp.is k) c.stamp_after.ensures.reply c.stamp_after.ensures.state)
-
-pub returns-in-List-clause-err : goal.returns-in-List-clause-err
-returns-in-List-clause-err g c = map_err c.list.result _ _ c.list.ensures.err (λ p from h k. p c.args.script.now from h k)
-
-pub returns-in-Look-clause-answered : goal.returns-in-Look-clause-answered
-returns-in-Look-clause-answered g c = both_ok c.look.result _ _ _ c.look.ensures.reply c.look.ensures.state (λ r p q from h n k o.
-    subst (λ a. IsAnswered c.args.script.now from h c.args.session a r c.look.new.self) (sym c.in-Look.is)
-    (look_served c.laws.ensures c.args.script.now from h c.args.session c.in-Look.query r c.args.self.now c.look.new.self
-    (subst (λ a. IsReady c.args.script.now from h c.args.session a c.args.self.now) c.in-Look.is k) p q))
-
-pub returns-in-Keep-clause-answered : goal.returns-in-Keep-clause-answered
-returns-in-Keep-clause-answered g c = both_ok c.keep.result _ _ _ c.keep.ensures.reply c.keep.ensures.state (λ r p q from h n k o.
-    subst (λ a. IsAnswered c.args.script.now from h c.args.session a r c.keep.new.self) (sym c.in-Keep.is)
-    (keep_served c.laws.ensures c.args.script.now from h c.args.session c.in-Keep.query c.in-Keep.time c.in-Keep.list r c.args.self.now c.keep.new.self
-    (subst (λ a. IsReady c.args.script.now from h c.args.session a c.args.self.now) c.in-Keep.is k) p q))
-
-pub returns-in-Check-clause-answered : goal.returns-in-Check-clause-answered
-returns-in-Check-clause-answered g c = map_ok c.check.result _ _ c.check.ensures (λ r p from h n k o.
-    subst (λ a. IsAnswered c.args.script.now from h c.args.session a r c.args.self.now) (sym c.in-Check.is)
-    (check_served c.laws.ensures c.args.script.now from h c.args.session c.in-Check.query c.in-Check.time r c.args.self.now c.args.self.now
-    (subst (λ a. IsReady c.args.script.now from h c.args.session a c.args.self.now) c.in-Check.is k) p refl))
+pub returns-in-Region-clause-answered : goal.returns-in-Region-clause-answered
+returns-in-Region-clause-answered g c = three_ok c.serve_entity.result _ _ _ _ c.serve_entity.ensures.answered c.serve_entity.ensures.calm c.serve_entity.ensures.others (λ r p f at from h n k o.
+    let script = c.args.script.now in
+    let e = c.serve_entity.ensures.same in
+    region_answered c.laws.ensures script from h c.args.session c.args.now c.in-Region.entity c.args.act.now r c.args.self.now c.serve_entity.new.self n k
+    (sym c.part_of.ensures ∙ c.in-Region.is) (p script h (Some c.args.session)) at f
+    (ap (λ (v : PartsState). v.store) e) (ap (λ (v : PartsState). v.registry) e) (ap (λ (v : PartsState). v.stamps) e) (ap (λ (v : PartsState). v.results) e))

@@ -1,0 +1,50 @@
+-- An answer of a part that isn't the store says nothing of a failure.
+use Rattle.std.proofs.Common.{◌≡◌, ℕ, Bool, true, false, cond, ◌&&◌, Some, None, Option, refl}
+use Rattle.hib_journal.specs.Types.{Row, Act, Reply, Miss}
+use Rattle.hib_journal.specs.Slot.{Slot}
+use Rattle.hib_journal.specs.Regions as Regions
+use Rattle.hib_journal.specs.Results.{Result, found}
+use Rattle.hib_journal.specs.Runs.{is_fault}
+use Rattle.hib_other_regions.specs.Items as Items
+use Rattle.hib_engines.specs.declared.region.Region.{Region}
+use Rattle.hib_engines.specs.Region.{answer_in}
+
+got_item_calm : (b : Bool) (t : ℕ) (o : Option (Row × ℕ)) → is_fault (Regions.got_item b t o) ≡ false
+got_item_calm b t None = refl
+got_item_calm b t (Some p) = by_test (b && Rattle.std.specs.Prelude.nat_le t p.1)
+  where
+    by_test : (c : Bool) → is_fault (cond c (Reply.Miss (Miss.Young p.1)) (Reply.Hit p.0)) ≡ false
+    by_test true = refl
+    by_test false = refl
+
+row_calm : (x : Slot) → is_fault (Regions.row_in x) ≡ false
+row_calm (Slot.Item r t) = refl
+row_calm Slot.Vacant = refl
+row_calm (Slot.Lock y) = refl
+
+got_calm : (x : Slot) (t : ℕ) → is_fault (Regions.got x t) ≡ false
+got_calm x t = by_test (Regions.readable x t)
+  where
+    by_test : (c : Bool) → is_fault (cond c (Regions.row_in x) (Reply.Miss (Regions.miss x))) ≡ false
+    by_test true = row_calm x
+    by_test false = refl
+
+remove_calm : (o : Option (Row × ℕ)) → is_fault (Regions.remove_item o) ≡ false
+remove_calm None = refl
+remove_calm (Some p) = refl
+
+pub answer_calm : (x : Region) (now : ℕ) (a : Act) → is_fault (answer_in x now a) ≡ false
+answer_calm Region.Uncached now (Act.Get k t) = refl
+answer_calm (Region.ReadOnly y) now (Act.Get k t) = got_item_calm true t (Items.item_in y k.id)
+answer_calm (Region.Nonstrict y) now (Act.Get k t) = got_item_calm false 0 (Items.item_in y k.id)
+answer_calm (Region.ReadWrite y) now (Act.Get k t) = got_calm (Rattle.hib_rw_region.specs.Region.slot_in y k.id) t
+answer_calm Region.Uncached now (Act.RegionRemove k) = refl
+answer_calm (Region.ReadOnly y) now (Act.RegionRemove k) = remove_calm (Items.item_in y k.id)
+answer_calm (Region.Nonstrict y) now (Act.RegionRemove k) = remove_calm (Items.item_in y k.id)
+answer_calm (Region.ReadWrite y) now (Act.RegionRemove k) = refl
+answer_calm x now _ = refl
+
+-- of a look
+pub found_calm : (o : Option Result) → is_fault (found o) ≡ false
+found_calm None = refl
+found_calm (Some r) = refl

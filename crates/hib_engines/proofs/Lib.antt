@@ -1,0 +1,12 @@
+pub mod Outcomes
+pub mod QueryTables
+pub mod Opened
+pub mod Regions
+pub mod Grows
+pub mod Calm
+pub mod RegistryServed
+pub mod RegionServed
+pub mod StampsServed
+pub mod ResultsServed
+pub mod Stored
+pub mod Stays

@@ -1,0 +1,65 @@
+-- The open sessions, and that they are those of a journal.
+use Rattle.std.specs.Prelude.{◌≡◌, ℕ, ◌≤◌, ◌<◌, Bool, cond, not, ◌==◌, List, [], ◌∷◌, ◌++◌, Some, None, Option}
+use Rattle.std.specs.List.{filter, list_any}
+use Rattle.hib_journal.specs.Types.{Part, Act}
+use Rattle.hib_journal.specs.Sessions.{Journal, is_open, time, same_part, last_tick}
+
+-- sessions with their times
+abbrev pub Opened : Type 0
+Opened = List (ℕ × ℕ)
+
+-- the first of them has the least time
+abbrev pub floor_in : Opened → ℕ → ℕ
+floor_in [] now = now
+floor_in (p ∷ ps) now = p.1
+
+abbrev pub without : ℕ → Opened → Opened
+without s ps = filter (λ p. not (p.0 == s)) ps
+
+abbrev pub with_begun : ℕ → Option ℕ → Opened → Opened
+with_begun now None ps = ps
+with_begun now (Some s) ps = ps ++ (s, now) ∷ []
+
+abbrev pub with_ended : Option ℕ → Opened → Opened
+with_ended None ps = ps
+with_ended (Some s) ps = without s ps
+
+-- the open sessions after an act at this tick
+abbrev pub opened_after : ℕ → Option ℕ → Act → Opened → Opened
+opened_after now by Act.Begin ps = with_begun now by ps
+opened_after now by Act.End ps = with_ended by ps
+opened_after now by (Act.Kill s) ps = without s ps
+opened_after now by Act.Restart ps = []
+opened_after now by _ ps = ps
+
+abbrev pub time_of : Opened → ℕ → Option ℕ
+time_of [] s = None
+time_of (p ∷ ps) s = cond (p.0 == s) (Some p.1) (time_of ps s)
+
+-- each of the times is so
+abbrev pub Each : (ℕ → Type 0) → Opened → Type 0
+Each P [] = Unit {0}
+Each P (p ∷ ps) = P p.1 × Each P ps
+
+-- each time is before those behind it
+abbrev pub AreRising : Opened → Type 0
+AreRising [] = Unit {0}
+AreRising (p ∷ ps) = Each (λ t. p.1 < t) ps × AreRising ps
+
+-- whether a session is open
+abbrev pub holds : ℕ → Opened → Bool
+holds s ps = list_any (λ p. p.0 == s) ps
+
+abbrev pub time_if_open : ℕ → Journal → Option ℕ
+time_if_open s h = cond (is_open s h) (Some (time s h)) None
+
+-- the tick of the registry's last entry
+abbrev pub last_of : Journal → ℕ
+last_of h = last_tick (λ d. same_part Part.Registry d.part) h
+
+-- each open session has its time, in order, none after the registry's last entry
+pub record IsRegistry (open_sessions : List (ℕ × ℕ)) (h : Journal) : Type 0 where
+  pub each : (s : ℕ) → time_of open_sessions s ≡ time_if_open s h
+  pub rising : AreRising open_sessions
+  pub since : Each (λ t. 1 ≤ t) open_sessions
+  pub until : Each (λ t. t ≤ last_of h) open_sessions

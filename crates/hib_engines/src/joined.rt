@@ -1,0 +1,29 @@
+// The laws of the parts, in one place.
+ghost use Rattle.hib_engines.specs.Laws.{Laws};
+
+use hib_other_regions::laws as items;
+use hib_query_cache::{
+    no_results_stand_for_no_entry, results_answer, results_follow, results_name_the_dropped,
+};
+use hib_rw_region::laws as slots;
+use hib_update_stamps::{stamps_answer, stamps_follow, unstamped_stand_for_no_entry};
+
+/// What the regions, the stamps and the results promise over a journal.
+pub fn laws()
+    ensures { Laws }
+{
+    items::read_only_answers();
+    items::nonstrict_answers();
+    items::grows();
+    items::stays();
+    slots::answers();
+    slots::grows();
+    slots::stays();
+    stamps_follow();
+    unstamped_stand_for_no_entry();
+    stamps_answer();
+    results_follow();
+    no_results_stand_for_no_entry();
+    results_answer();
+    results_name_the_dropped();
+}

@@ -1,0 +1,20 @@
+//! The parts that sessions share, each an engine that answers the acts which are asked of it.
+//!
+//! What an engine promises it promises for every list that it stands for, the whole journal or the part's own entries, and for
+//! every tick after those of the part's entries.
+#![tactic(auto)]
+
+mod joined;
+mod queries;
+mod region;
+mod registry;
+mod results;
+mod stamps;
+mod store;
+
+pub use joined::laws;
+pub use region::Region;
+pub use registry::Registry;
+pub use results::ResultsEngine;
+pub use stamps::StampsEngine;
+pub use store::StoreEngine;

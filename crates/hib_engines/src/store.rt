@@ -1,0 +1,219 @@
+// The engine of the store.
+ghost use Rattle.std.specs.Prelude.{◌≡◌, ◌≢◌, ◌≤◌, ◌∷◌, ℕ, [], Option, None, length, false, true, IfOk, IfErr, IfSome, OnOk, OnErr};
+ghost use Rattle.std.specs.Option.{option_map};
+ghost use Rattle.hib_base.specs.Tables.{Tables, start, in_order};
+ghost use Rattle.hib_base.specs.declared.entries.Act.{Act};
+ghost use Rattle.hib_base.specs.declared.replies.Reply.{Reply};
+ghost use Rattle.hib_base.specs.declared.scripts.Script.{Script as Said};
+ghost use Rattle.hib_journal.specs.Types.{Part};
+ghost use Rattle.hib_journal.specs.Sessions.{Journal};
+ghost use Rattle.hib_journal.specs.Lists.{entry_at};
+ghost use Rattle.hib_journal.specs.Runs.{is_fault, one_if, asks};
+ghost use Rattle.hib_outside.specs.Causes.{Rose};
+ghost use Rattle.hib_store.specs.Stores.{changes_of, handed_back, is_store_fault};
+ghost use Rattle.hib_engines.specs.Counts.{RoseWithin};
+ghost use Rattle.hib_engines.specs.Served.{is_for, HasQuery};
+ghost use Rattle.hib_engines.specs.Store.{IsStored, IsStoreServed, IsCounted, reply_of_loaded, reply_of_listed};
+
+use hib_base::{Act, Change, Key, QueryNo, Reply, Row, Script, SessionNo};
+use hib_outside::Keeper;
+use hib_store::{Listed, Loaded, OpenFault, Store};
+use std::alloc::{AllocError, Global};
+use std::marker::Model;
+
+/// What was loaded, as a reply.
+fn loaded_reply(loaded: Loaded) -> Reply
+    ensures { result ≡ reply_of_loaded loaded }
+{
+    match loaded {
+        Loaded::Row(row) => Reply::Row(row),
+        Loaded::Fault => Reply::Fault,
+    }
+}
+
+/// What was listed, as a reply.
+fn listed_reply(listed: Listed) -> Reply
+    ensures { result ≡ reply_of_listed listed }
+{
+    match listed {
+        Listed::List(cells) => Reply::Listed(cells),
+        Listed::Fault => Reply::Fault,
+    }
+}
+
+/// The store, and what acts on it are answered.
+pub struct StoreEngine<K: Keeper> {
+    store: Store<K>,
+}
+
+impl<K: Keeper> Model for StoreEngine<K> {
+    ghost use Rattle.hib_store.specs.Stores.{StoreState};
+
+    ghost Value = { StoreState };
+
+    ghost view = { λ e. e.store };
+}
+
+impl<K: Keeper> StoreEngine<K> {
+    /// The store over a keeper that is seeded by one call: each of these rows whose key has none is added. No session has
+    /// written. At an error the keeper is handed back, with the rows that it had.
+    pub fn open(
+        alloc: Global,
+        keeper: K,
+        rows: &[(Key, Row)],
+    ) -> Result<StoreEngine<K>, OpenFault<K>>
+        ensures tables { IfOk result (λ s. s.tables ≡ option_map (λ m. start m rows.now) (K.tables keeper)) }
+        ensures faults { IfOk result (λ s. K.faults keeper ≤ s.faults) }
+        ensures asked { IfOk result (λ s. s.asked ≡ K.asked keeper) }
+        ensures written { IfOk result (λ s. s.written ≡ []) }
+        ensures back { IfErr result (λ e. K.tables (handed_back e) ≡ K.tables keeper) }
+        ensures back_faults { IfErr result (λ e. K.faults keeper ≤ K.faults (handed_back e)) }
+        ensures back_asked { IfErr result (λ e. K.asked (handed_back e) ≡ K.asked keeper) }
+        ensures fault { IfErr result (λ e. is_store_fault e ≡ true → Rose (K.faults keeper) (K.faults (handed_back e))) }
+    {
+        let store = Store::open(alloc, keeper, rows)?;
+        Ok(StoreEngine { store })
+    }
+
+    /// The keeper, with what it tells and its counts. Changes that aren't committed are dropped.
+    pub fn close(self) -> K
+        ensures tables { K.tables result ≡ self.tables }
+        ensures faults { K.faults result ≡ self.faults }
+        ensures asked { K.asked result ≡ self.asked }
+    {
+        let StoreEngine { store } = self;
+        store.close()
+    }
+
+    /// The session's view of a key.
+    fn load(&mut self, alloc: Global, session: SessionNo, key: Key) -> Result<Reply, AllocError>
+        ensures answered { IfOk result (λ r. (script : Said) (told : Option Tables) (l : Journal) (now : ℕ) → IsStored told l self.old
+            → IsStoreServed script told l now session (Act.Load key) r self.new) }
+        ensures asked { IfOk result (λ _. RoseWithin self.old.asked (one_if (asks (changes_of self.old session) (Act.Load key))) self.new.asked) }
+        ensures fault { IfOk result (λ r. is_fault r ≡ true → Rose self.old.faults self.new.faults) }
+        ensures faults { self.old.faults ≤ self.new.faults }
+        ensures err { OnErr result (IsCounted self.old self.new) }
+    {
+        let loaded = self.store.load(alloc, session, key)?;
+        Ok(loaded_reply(loaded))
+    }
+
+    /// What a query gives over the session's view.
+    fn list(
+        &mut self,
+        alloc: Global,
+        script: &Script,
+        session: SessionNo,
+        query: QueryNo,
+    ) -> Result<Reply, AllocError>
+        ensures answered { IfOk result (λ r. (told : Option Tables) (l : Journal) (now : ℕ) → IsStored told l self.old → HasQuery script.now (Act.List query)
+            → IsStoreServed script.now told l now session (Act.List query) r self.new) }
+        ensures asked { IfOk result (λ _. RoseWithin self.old.asked (one_if (asks (changes_of self.old session) (Act.List query))) self.new.asked) }
+        ensures fault { IfOk result (λ r. is_fault r ≡ true → Rose self.old.faults self.new.faults) }
+        ensures faults { self.old.faults ≤ self.new.faults }
+        ensures err { OnErr result (IsCounted self.old self.new) }
+    {
+        let Some(query) = script.queries.as_slice().get(query.0 as usize) else {
+            // No query is asked that isn't there.
+            return Ok(Reply::Done);
+        };
+        let listed = self.store.list(alloc, session, query)?;
+        Ok(listed_reply(listed))
+    }
+
+    /// A change is written, for the session alone.
+    fn write(
+        &mut self,
+        alloc: Global,
+        session: SessionNo,
+        change: &Change,
+    ) -> Result<Reply, AllocError>
+        ensures answered { IfOk result (λ r. (script : Said) (told : Option Tables) (l : Journal) (now : ℕ) → IsStored told l self.old
+            → IsStoreServed script told l now session (Act.Write change.now) r self.new) }
+        ensures calm { IfOk result (λ r. is_fault r ≡ false) }
+        ensures faults { self.new.faults ≡ self.old.faults }
+        ensures asked { self.new.asked ≡ self.old.asked }
+        ensures err { OnErr result (self.new ≡ self.old) }
+    {
+        let change = change.copy(alloc)?;
+        self.store.write(alloc, session, change)?;
+        Ok(Reply::Written)
+    }
+
+    /// A session's changes are applied, all or none.
+    fn commit(&mut self, alloc: Global, session: SessionNo) -> Result<Reply, AllocError>
+        ensures answered { IfOk result (λ r. (script : Said) (told : Option Tables) (l : Journal) (now : ℕ) → IsStored told l self.old
+            → IsStoreServed script told l now session Act.Commit r self.new) }
+        ensures asked { self.new.asked ≡ self.old.asked }
+        ensures fault { IfOk result (λ r. is_fault r ≡ true → Rose self.old.faults self.new.faults) }
+        ensures faults { self.old.faults ≤ self.new.faults }
+        ensures err { OnErr result (IsCounted self.old self.new) }
+    {
+        let commit = self.store.commit(alloc, session)?;
+        Ok(Reply::Commit(commit))
+    }
+
+    /// A session's changes are dropped.
+    fn rollback(&mut self, session: SessionNo) -> Reply
+        ensures answered { (script : Said) (told : Option Tables) (l : Journal) (now : ℕ) → IsStored told l self.old
+            → IsStoreServed script told l now session Act.Rollback result self.new }
+        ensures calm { is_fault result ≡ false }
+        ensures faults { self.new.faults ≡ self.old.faults }
+        ensures asked { self.new.asked ≡ self.old.asked }
+    {
+        self.store.drop_changes(session);
+        Reply::Done
+    }
+
+    /// Answers an act of a session that is asked of the store. The keeper is asked once at most, and only where the act asks. A
+    /// fault is answered only where the keeper failed in this call. At an error all is as before but for the keeper's counts.
+    pub fn serve(
+        &mut self,
+        alloc: Global,
+        script: &Script,
+        session: SessionNo,
+        act: &Act,
+    ) -> Result<Reply, AllocError>
+        ensures answered { IfOk result (λ r. (told : Option Tables) (l : Journal) (now : ℕ) → IsStored told l self.old → is_for Part.Store act.now session ≡ true
+            → HasQuery script.now act.now → IsStoreServed script.now told l now session act.now r self.new) }
+        ensures asked { IfOk result (λ _. RoseWithin self.old.asked (one_if (asks (changes_of self.old session) act.now)) self.new.asked) }
+        ensures fault { IfOk result (λ r. is_fault r ≡ true → Rose self.old.faults self.new.faults) }
+        ensures faults { self.old.faults ≤ self.new.faults }
+        ensures err { OnErr result (IsCounted self.old self.new) }
+    {
+        match act {
+            Act::Load { key } => self.load(alloc, session, *key),
+            Act::List { query } => self.list(alloc, script, session, *query),
+            Act::Write(change) => self.write(alloc, session, change),
+            Act::Commit => self.commit(alloc, session),
+            Act::Rollback => Ok(self.rollback(session)),
+            // No other act is asked of the store.
+            _ => Ok(Reply::Done),
+        }
+    }
+
+    /// A session was killed: what it has written and not committed is dropped. It takes no memory.
+    pub fn kill(&mut self, killed: SessionNo)
+        ensures stands { (told : Option Tables) (l : Journal) (now : ℕ) → IsStored told l self.old
+            → IsStored told (entry_at now None (Act.Kill killed) Reply.Done ∷ l) self.new }
+        ensures own { changes_of self.new killed ≡ [] }
+        ensures others { (s : ℕ) → s ≢ killed → changes_of self.new s ≡ changes_of self.old s }
+        ensures tables { self.new.tables ≡ self.old.tables }
+        ensures faults { self.new.faults ≡ self.old.faults }
+        ensures asked { self.new.asked ≡ self.old.asked }
+    {
+        self.store.drop_changes(killed);
+    }
+
+    /// A restart: what sessions have written and not committed is dropped. It takes no memory.
+    pub fn restart(&mut self)
+        ensures stands { (told : Option Tables) (l : Journal) (now : ℕ) → IsStored told l self.old
+            → IsStored told (entry_at now None Act.Restart Reply.Done ∷ l) self.new }
+        ensures own { (s : ℕ) → changes_of self.new s ≡ [] }
+        ensures tables { self.new.tables ≡ self.old.tables }
+        ensures faults { self.new.faults ≡ self.old.faults }
+        ensures asked { self.new.asked ≡ self.old.asked }
+    {
+        self.store.drop_all();
+    }
+}
