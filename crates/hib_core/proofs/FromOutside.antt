@@ -12,7 +12,7 @@ use Rattle.hib_journal.specs.Sessions.{Journal, own, is_open, was_killed, killed
 use Rattle.hib_journal.specs.Held.{is_begin}
 use Rattle.hib_journal.specs.Next.{is_cached}
 use Rattle.hib_journal.specs.Played.{play_order}
-use Rattle.hib_journal.specs.Legal.{IsReply, part_of, due, may_come, is_outside}
+use Rattle.hib_journal.specs.Legal.{IsLegal, IsReply, part_of, due, may_come, is_outside}
 use Rattle.hib_journal.specs.Runs.{IsNumbered, told_committed, asks, ask_count, is_fault, fault_count}
 use Rattle.hib_store.specs.Stores.{StoreState}
 use Rattle.hib_session.specs.declared.session.Session.{Session}
@@ -25,7 +25,7 @@ use Rattle.hib_core.specs.Laws.{Laws}
 use Rattle.hib_core.specs.Registry.{Opened, IsRegistry, opened_after, holds, time_of, time_if_open}
 use Rattle.hib_core.specs.Region.{answer_in, region_after, emptied, IsPlaced}
 use Rattle.hib_core.specs.Standing.{Origin, RoseBy, RoseWithin, IsStore, PartsState, AreParts, region_of, regions_after, outside_entry, AreEmptied}
-use Rattle.hib_core.specs.Factory.{AreSessions, IsRun, IsGoing, IsAsBefore, AreKilled}
+use Rattle.hib_core.specs.Factory.{Lawful, AreSessions, IsRun, IsAsked, IsAsBefore, AreKilled}
 use Rattle.hib_core.specs.Playing.{played, Leads}
 use Rattle.hib_core.proofs.Opened.{registry_step}
 use Rattle.hib_core.proofs.Regions.{answers}
@@ -217,19 +217,11 @@ emptied_all n xs ys l e f = record { all = e; each = λ m. by_test m (tested (na
 
 -- the journal, its parts and its legality
 
-pub goes_outside : (script : Script) (from : Origin) (h : Journal) (a : Act) (r : Reply) (x y : PartsState) → IsRun script from h x → is_outside a ≡ true → may_come script h (Some a) ≡ Some a →
+pub goes_outside : Lawful → (script : Script) (from : Origin) (h : Journal) (a : Act) (r : Reply) (x y : PartsState) → IsRun script from h x → is_outside a ≡ true → may_come script h (Some a) ≡ Some a →
     IsReply script from.tables h (outside_entry h a r) → AreParts script from (outside_entry h a r ∷ h) y → length h < 2 ^ 62 → IsRun script from (outside_entry h a r ∷ h) y
-goes_outside script from h a r x y run o m v p l = record {
-  legal = (
-    run.legal,
-    record {
-      tick = timely h None 0 a r run.numbered l;
-      session = some_is (due script h (outside_entry h a r)) a is_due;
-      part = ap (λ z. Rattle.hib_journal.specs.Legal.part_due z 0) is_due;
-      act = ap (λ z. may_come script h z) is_due ∙ m;
-      reply = v;
-    },
-  );
+goes_outside w script from h a r x y run o m v p l = record {
+  legal = legal_next;
+  law = w script from.tables (outside_entry h a r ∷ h) legal_next;
   numbered = (refl, run.numbered);
   parts = p;
   built = run.built;
@@ -238,21 +230,29 @@ goes_outside script from h a r x y run o m v p l = record {
     is_due : due script h (outside_entry h a r) ≡ Some a
     is_due = rw o refl
 
+    legal_next : IsLegal script from.tables (outside_entry h a r ∷ h)
+    legal_next = (
+      run.legal,
+      record {
+        tick = timely h None 0 a r run.numbered l;
+        session = some_is (due script h (outside_entry h a r)) a is_due;
+        part = ap (λ z. Rattle.hib_journal.specs.Legal.part_due z 0) is_due;
+        act = ap (λ z. may_come script h z) is_due ∙ m;
+        reply = v;
+      },
+    )
+
 asks_nothing : (cs : List Change) (a : Act) → is_outside a ≡ true → asks cs a ≡ false
 asks_nothing cs (Act.Kill n) o = refl
 asks_nothing cs Act.Restart o = refl
 asks_nothing cs (Act.Evict k) o = refl
 asks_nothing cs _ o = absurd (false≢true o)
 
-pub going_outside : (script : Script) (from : Origin) (h : Journal) (a : Act) (r : Reply) (x y : PartsState) (xs ys : List Session) → IsGoing script from h x xs → is_outside a ≡ true →
-    y.store ≡ x.store → AreKilled (λ s. killed_by s a (is_open s h)) xs ys → IsGoing script from (outside_entry h a r ∷ h) y ys
-going_outside script from h a r x y xs ys g o e k = record {
-  asked = subst (λ n. RoseWithin from.asked (ask_count h + n) y.store.asked) (sym (ap Rattle.hib_journal.specs.Runs.one_if (asks_nothing (changes 0 h) a o))) (record {
-    later = omega (arith, g.asked.later, ap (λ v. v.asked) e);
-    few = omega (arith, g.asked.few, ap (λ v. v.asked) e);
-  });
-  sessions = sessions_outside script h a r xs ys g.sessions k;
-}
+pub asked_outside : (from : Origin) (h : Journal) (a : Act) (r : Reply) (x y : PartsState) → is_outside a ≡ true → y.store ≡ x.store → IsAsked from h x → IsAsked from (outside_entry h a r ∷ h) y
+asked_outside from h a r x y o e g = subst (λ n. RoseWithin from.asked (ask_count h + n) y.store.asked) (sym (ap Rattle.hib_journal.specs.Runs.one_if (asks_nothing (changes 0 h) a o))) (record {
+  later = omega (arith, g.later, ap (λ v. v.asked) e);
+  few = omega (arith, g.few, ap (λ v. v.asked) e);
+})
 
 commits_nothing : (a : Act) (r : Reply) → is_outside a ≡ true → committer a r None ≡ None
 commits_nothing (Act.Kill n) r o = refl
@@ -308,10 +308,10 @@ parts_outside l script from h a r x y p o f st rg sp rs ln re = record {
 kill_reply : (script : Script) (from : Origin) (h : Journal) (n : ℕ) → IsReply script from.tables h (outside_entry h (Act.Kill n) Reply.Done)
 kill_reply script from h n = reply_any script from.tables h (outside_entry h (Act.Kill n) Reply.Done) (λ start. refl) refl
 
-pub kill_run : Laws → (script : Script) (from : Origin) (h : Journal) (n : ℕ) (x y : PartsState) → IsRun script from h x → is_open n h ≡ true → length h < 2 ^ 62 →
+pub kill_run : Laws → Lawful → (script : Script) (from : Origin) (h : Journal) (n : ℕ) (x y : PartsState) → IsRun script from h x → is_open n h ≡ true → length h < 2 ^ 62 →
     y ≡ record x { registry = Rattle.hib_core.specs.Registry.without n x.registry } → IsRun script from (outside_entry h (Act.Kill n) Reply.Done ∷ h) y
-kill_run l script from h n x y run o few e = subst (λ v. IsRun script from (outside_entry h (Act.Kill n) Reply.Done ∷ h) v) (sym e)
-    (goes_outside script from h (Act.Kill n) Reply.Done x z run refl (rw o refl) (kill_reply script from h n)
+kill_run l w script from h n x y run o few e = subst (λ v. IsRun script from (outside_entry h (Act.Kill n) Reply.Done ∷ h) v) (sym e)
+    (goes_outside w script from h (Act.Kill n) Reply.Done x z run refl (rw o refl) (kill_reply script from h n)
     (parts_outside l script from h (Act.Kill n) Reply.Done x z run.parts refl refl refl refl refl
     (λ m. regions_step l script h (outside_entry h (Act.Kill n) Reply.Done) 0 x.regions (Act.Kill n) refl refl refl run.parts.regions tt (λ t. absurd (false≢true t)) m) refl refl) few)
   where
@@ -326,11 +326,11 @@ no_kill_leads script h n o = leads_none (play_order script (Order.Kill n)) playe
 
 -- ---- an eviction
 
-pub evict_run : Laws → (script : Script) (from : Origin) (h : Journal) (k : Key) (now : ℕ) (r : Reply) (x y : PartsState) → IsRun script from h x → is_cached script k.entity ≡ true → length h < 2 ^ 62 →
+pub evict_run : Laws → Lawful → (script : Script) (from : Origin) (h : Journal) (k : Key) (now : ℕ) (r : Reply) (x y : PartsState) → IsRun script from h x → is_cached script k.entity ≡ true → length h < 2 ^ 62 →
     now ≡ length h + 1 → r ≡ answer_in (region_of x.regions k.entity) now (Act.Evict k) →
     y ≡ record x { regions = slice_set x.regions k.entity (region_after (region_of x.regions k.entity) now (Act.Evict k)) } → IsRun script from (outside_entry h (Act.Evict k) r ∷ h) y
-evict_run l script from h k now r x y run c few e p q = subst (λ v. IsRun script from (outside_entry h (Act.Evict k) r ∷ h) v) (sym (q ∙ at_tick))
-    (goes_outside script from h (Act.Evict k) r x z run refl (rw c refl) reply
+evict_run l w script from h k now r x y run c few e p q = subst (λ v. IsRun script from (outside_entry h (Act.Evict k) r ∷ h) v) (sym (q ∙ at_tick))
+    (goes_outside w script from h (Act.Evict k) r x z run refl (rw c refl) reply
     (parts_outside l script from h (Act.Evict k) r x z run.parts refl no_fault refl refl refl
     (λ m. regions_step l script h (outside_entry h (Act.Evict k) r) 0 x.regions (Act.Evict k) refl refl refl run.parts.regions c (λ t. served) m)
     (length-set x.regions k.entity (region_after (region_of x.regions k.entity) (length h + 1) (Act.Evict k))) refl) few)
@@ -359,10 +359,10 @@ evict_leads script h k r = record { added = outside_entry h (Act.Evict k) r ∷ 
 
 -- ---- a restart
 
-pub restart_run : Laws → (script : Script) (from : Origin) (h : Journal) (x y : PartsState) → IsRun script from h x → length h < 2 ^ 62 → y.store ≡ x.store → y.registry ≡ [] →
+pub restart_run : Laws → Lawful → (script : Script) (from : Origin) (h : Journal) (x y : PartsState) → IsRun script from h x → length h < 2 ^ 62 → y.store ≡ x.store → y.registry ≡ [] →
     y.stamps ≡ unstamped (length x.stamps) → AreEmptied x.regions y.regions → y.results ≡ record x.results { kept = [] } → IsRun script from (outside_entry h Act.Restart Reply.Done ∷ h) y
-restart_run l script from h x y run few st rg sp rs re =
-    goes_outside script from h Act.Restart Reply.Done x y run refl refl
+restart_run l w script from h x y run few st rg sp rs re =
+    goes_outside w script from h Act.Restart Reply.Done x y run refl refl
     (reply_any script from.tables h (outside_entry h Act.Restart Reply.Done) (λ start. refl) refl)
     (parts_outside l script from h Act.Restart Reply.Done x y run.parts refl refl st rg sp
     (λ n. subst (λ v. IsPlaced script n (outside_entry h Act.Restart Reply.Done ∷ h) v) (sym (rs.each n))

@@ -4,11 +4,13 @@ pub mod Grows
 pub mod Stored
 pub mod Served
 pub mod StoreServed
+pub mod Untouched
 pub mod Outcomes
 pub mod OwnServed
 pub mod Allowed
 pub mod Begun
 pub mod Going
+pub mod Moved
 pub mod Playing
 pub mod FromOutside
 pub mod QueriesServed

@@ -144,6 +144,17 @@ pub record IsAnswered (script : Script) (from : Origin) (h : Journal) (s : ℕ) 
 abbrev pub IsAskedFor : Journal → ℕ → Act → PartsState → PartsState → Type 0
 IsAskedFor h s a x y = RoseWithin x.store.asked (one_if (asks (changes_in (own s h)) a)) y.store.asked
 
+-- the parts are as they were, but for the keeper's counts: it was asked once at most
+pub record AreUntouched (x y : PartsState) : Type 0 where
+  pub tables : y.store.tables ≡ x.store.tables
+  pub written : y.store.written ≡ x.store.written
+  pub registry : y.registry ≡ x.registry
+  pub stamps : y.stamps ≡ x.stamps
+  pub regions : y.regions ≡ x.regions
+  pub results : y.results ≡ x.results
+  pub faults : x.store.faults ≤ y.store.faults
+  pub asked : RoseWithin x.store.asked 1 y.store.asked
+
 -- over a journal that the parts stand for, in which s lives and the act is due
 pub record IsReady (script : Script) (from : Origin) (h : Journal) (s : ℕ) (a : Act) (x : PartsState) : Type 0 where
   pub parts : AreParts script from h x

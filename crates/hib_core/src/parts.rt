@@ -1,5 +1,5 @@
 // The parts of a factory that sessions share, and what they answer.
-ghost use Rattle.std.specs.Prelude.{◌≡◌, ◌≤◌, ◌<◌, ◌^◌, ◌+◌, [], length, IfOk, OnOk, OnErr, Some, None, slice_set, ℕ};
+ghost use Rattle.std.specs.Prelude.{◌≡◌, ◌≤◌, ◌<◌, ◌^◌, ◌+◌, [], length, IfOk, OnOk, OnErr, Some, None, slice_set, true, false, ℕ};
 ghost use Rattle.hib_base.specs.declared.entries.Act.{Act};
 ghost use Rattle.hib_base.specs.declared.replies.Reply.{Reply};
 ghost use Rattle.hib_journal.specs.Slot.{key_in};
@@ -9,8 +9,11 @@ ghost use Rattle.hib_core.specs.Registry.{floor_in, opened_after, without};
 ghost use Rattle.hib_core.specs.Region.{answer_in, region_after, HasRoomFor, acts_on, entity_in};
 ghost use Rattle.hib_base.specs.declared.scripts.Script.{Script};
 ghost use Rattle.hib_journal.specs.Sessions.{Journal, own};
+ghost use Rattle.hib_journal.specs.Runs.{is_fault};
+ghost use Rattle.hib_outside.specs.Causes.{Rose};
+ghost use Rattle.hib_session.specs.Memory.{brings};
 ghost use Rattle.hib_session.specs.Session.{own_reply};
-ghost use Rattle.hib_core.specs.Standing.{Origin, region_of, own_after, AreParts, AreWithin, IsReady, IsAnswered, IsAskedFor, AreEmptied, reply_of_loaded};
+ghost use Rattle.hib_core.specs.Standing.{Origin, region_of, own_after, AreParts, AreWithin, AreUntouched, IsReady, IsAnswered, IsAskedFor, AreEmptied, reply_of_loaded};
 
 use crate::laws::laws;
 use crate::region::Region;
@@ -165,6 +168,8 @@ impl<K: Keeper> Parts<K> {
             → IsAnswered script from h session (Act.Load key) r self.new) }
         ensures asked { IfOk result (λ _. (script : Script) (from : Origin) (h : Journal) → IsReady script from h session (Act.Load key) self.old
             → IsAskedFor h session (Act.Load key) self.old self.new) }
+        ensures fault { IfOk result (λ r. is_fault r ≡ true → Rose self.old.store.faults self.new.store.faults) }
+        ensures still { AreUntouched self.old self.new }
         ensures err { OnErr result ((script : Script) (from : Origin) (h : Journal) → AreParts script from h self.old → AreParts script from h self.new) }
     {
         laws();
@@ -181,6 +186,7 @@ impl<K: Keeper> Parts<K> {
     ) -> Result<Reply, AllocError>
         ensures answered { IfOk result (λ r. (script : Script) (from : Origin) (h : Journal) → IsReady script from h session (Act.Write change.now) self.old
             → IsAnswered script from h session (Act.Write change.now) r self.new) }
+        ensures calm { IfOk result (λ r. is_fault r ≡ false) }
         ensures asked { self.new.store.asked ≡ self.old.store.asked }
         ensures err { OnErr result (self.new ≡ self.old) }
     {
@@ -195,6 +201,8 @@ impl<K: Keeper> Parts<K> {
         ensures answered { IfOk result (λ r. (script : Script) (from : Origin) (h : Journal) → IsReady script from h session Act.Commit self.old
             → IsAnswered script from h session Act.Commit r self.new) }
         ensures asked { self.new.store.asked ≡ self.old.store.asked }
+        ensures fault { IfOk result (λ r. is_fault r ≡ true → Rose self.old.store.faults self.new.store.faults) }
+        ensures left { OnErr result (AreUntouched self.old self.new) }
         ensures err { OnErr result ((script : Script) (from : Origin) (h : Journal) → AreParts script from h self.old → AreParts script from h self.new) }
     {
         laws();
@@ -206,6 +214,7 @@ impl<K: Keeper> Parts<K> {
     fn rollback(&mut self, session: SessionNo) -> Reply
         ensures answered { (script : Script) (from : Origin) (h : Journal) → IsReady script from h session Act.Rollback self.old
             → IsAnswered script from h session Act.Rollback result self.new }
+        ensures calm { is_fault result ≡ false }
         ensures asked { self.new.store.asked ≡ self.old.store.asked }
     {
         laws();
@@ -236,7 +245,7 @@ impl<K: Keeper> Parts<K> {
     }
 
     /// The answer of a part to an act of a session at this tick, which isn't the session's own. At an error the parts
-    /// are as before, but for the keeper's counts.
+    /// are as before, but for the keeper's counts, and so they are after an act that brings something to the session.
     pub fn serve(
         &mut self,
         alloc: Global,
@@ -254,6 +263,9 @@ impl<K: Keeper> Parts<K> {
             → own_reply script.now (own session h) act.now ≡ None → IsAnswered script.now from h session act.now r self.new) }
         ensures asked { IfOk result (λ _. (from : Origin) (h : Journal) → IsReady script.now from h session act.now self.old
             → IsAskedFor h session act.now self.old self.new) }
+        ensures fault { IfOk result (λ r. is_fault r ≡ true → Rose self.old.store.faults self.new.store.faults) }
+        ensures still { OnOk result (brings act.now ≡ true → AreUntouched self.old self.new) }
+        ensures left { OnErr result (AreUntouched self.old self.new) }
         ensures err { OnErr result ((from : Origin) (h : Journal) → AreParts script.now from h self.old → AreParts script.now from h self.new) }
     {
         laws();

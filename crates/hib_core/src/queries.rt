@@ -1,15 +1,17 @@
 // What the parts answer where a session lists a query.
-ghost use Rattle.std.specs.Prelude.{◌≡◌, ◌<◌, ◌^◌, length, IfOk, OnOk, OnErr};
+ghost use Rattle.std.specs.Prelude.{◌≡◌, ◌<◌, ◌^◌, length, true, IfOk, OnOk, OnErr};
 ghost use Rattle.hib_base.specs.declared.entries.Act.{Act};
 ghost use Rattle.hib_base.specs.declared.replies.Reply.{Reply};
 ghost use Rattle.hib_base.specs.declared.scripts.Script.{Script as Said};
 ghost use Rattle.hib_journal.specs.Next.{tables_of as tables_in};
 ghost use Rattle.hib_journal.specs.Results.{found};
+ghost use Rattle.hib_journal.specs.Runs.{is_fault};
 ghost use Rattle.hib_journal.specs.Sessions.{Journal};
+ghost use Rattle.hib_outside.specs.Causes.{Rose};
 ghost use Rattle.hib_outside.specs.Keeps.{is_listed};
 ghost use Rattle.hib_query_cache.specs.Ranked.{result_of, used, with_result, dropped_for};
 ghost use Rattle.hib_update_stamps.specs.Stamped.{checked};
-ghost use Rattle.hib_core.specs.Standing.{Origin, AreParts, IsReady, IsAnswered, IsAskedFor, reply_of_listed};
+ghost use Rattle.hib_core.specs.Standing.{Origin, AreParts, AreUntouched, IsReady, IsAnswered, IsAskedFor, reply_of_listed};
 
 use crate::laws::laws;
 use crate::parts::Parts;
@@ -125,12 +127,14 @@ impl<K: Keeper> Parts<K> {
             → IsAnswered script.now from h session (Act.List query) r self.new) }
         ensures asked { IfOk result (λ _. (from : Origin) (h : Journal) → IsReady script.now from h session (Act.List query) self.old
             → IsAskedFor h session (Act.List query) self.old self.new) }
+        ensures fault { IfOk result (λ r. is_fault r ≡ true → Rose self.old.store.faults self.new.store.faults) }
+        ensures still { AreUntouched self.old self.new }
         ensures err { OnErr result ((said : Said) (from : Origin) (h : Journal) → AreParts said from h self.old → AreParts said from h self.new) }
     {
         laws();
         let Some(query) = script.queries.as_slice().get(query.0 as usize) else {
             // No query is due that isn't there.
-            return Ok(Reply::Fault);
+            return Ok(Reply::Done);
         };
         let listed = self.store.list(alloc, session, query)?;
         Ok(listed_reply(listed))

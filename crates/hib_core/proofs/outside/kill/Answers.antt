@@ -1,14 +1,14 @@
-use Rattle.std.proofs.Common.{◌≡◌, ◌==◌, ℕ, true, sym, ap, subst, ◌∙◌, refl}
+use Rattle.std.proofs.Common.{◌≡◌, ◌∷◌, ◌==◌, ℕ, true, sym, ap, subst, ◌∙◌, refl}
 use Rattle.hib_journal.specs.Types.{Act, Reply}
 use Rattle.hib_journal.specs.Kept.{past}
 use Rattle.hib_journal.specs.Sessions.{Journal, is_open}
 use Rattle.hib_journal.specs.Played.{play_order}
 use Rattle.hib_journal.specs.Types.{Order}
 use Rattle.hib_core.specs.Registry.{Opened, holds}
-use Rattle.hib_core.specs.Standing.{PartsState}
-use Rattle.hib_core.specs.Factory.{IsRun, IsGoing, AreKilled}
+use Rattle.hib_core.specs.Standing.{PartsState, outside_entry}
+use Rattle.hib_core.specs.Factory.{AreSessions, IsRun, IsAsked, AreKilled}
 use Rattle.hib_core.specs.Playing.{played, Leads}
-use Rattle.hib_core.proofs.FromOutside.{holds_open, kill_run, kill_leads, no_kill_leads, going_outside}
+use Rattle.hib_core.proofs.FromOutside.{holds_open, kill_run, kill_leads, no_kill_leads, sessions_outside, asked_outside}
 use Rattle.hib_core.proofs.outside.kill.Goals as goal
 
 pub returns-then-not-is_open-clause-played : goal.returns-then-not-is_open-clause-played
@@ -16,35 +16,55 @@ returns-then-not-is_open-clause-played g c =
     let h = past c.args.journal.now in
     let n = c.args.number in
     let x = c.args.parts.now in
-    let same : c.parts.inside.registry ≡ x.registry = ap (λ (v : PartsState). v.registry) c.parts.view_is in
-    no_kill_leads g.N.Name.script h n (sym (ap (λ (ps : Opened). holds n ps) same ∙ holds_open x.registry h n c.requires.run.parts.registry) ∙ (sym c.is_open.ensures ∙ c.if-not-is_open.true))
+    let here : c.parts.inside.registry ≡ x.registry = ap (λ (v : PartsState). v.registry) c.parts.view_is in
+    no_kill_leads g.N.Name.script h n (sym (ap (λ (ps : Opened). holds n ps) here ∙ holds_open x.registry h n c.requires.run.parts.registry) ∙ (sym c.is_open.ensures ∙ c.if-not-is_open.true))
 
 pub returns-clause-run : goal.returns-clause-run
 returns-clause-run g c =
     let h = past c.args.journal.now in
     let n = c.args.number in
     let x = c.args.parts.now in
-    let same : c.parts.inside.registry ≡ x.registry = ap (λ (v : PartsState). v.registry) c.parts.view_is in
-    let begun : is_open n h ≡ true = sym (ap (λ (ps : Opened). holds n ps) same ∙ holds_open x.registry h n c.requires.run.parts.registry) ∙ (sym c.is_open.ensures ∙ c.if-not-is_open.false) in
-    subst (λ (j : Journal). IsRun g.N.Name.script g.N.Name.from j c.end.new.self) (sym c.in_ok-tell.ensures.grown)
-    (kill_run c.laws.ensures g.N.Name.script g.N.Name.from h n x c.end.new.self c.requires.run begun c.in_ok-tell.ensures.few c.end.ensures)
+    let here : c.parts.inside.registry ≡ x.registry = ap (λ (v : PartsState). v.registry) c.parts.view_is in
+    let begun : is_open n h ≡ true = sym (ap (λ (ps : Opened). holds n ps) here ∙ holds_open x.registry h n c.requires.run.parts.registry) ∙ (sym c.is_open.ensures ∙ c.if-not-is_open.false) in
+    let same : past c.reserve_tick.new.journal ≡ h = c.in_ok-now.ensures.same in
+    let grown : past c.tell.new.journal ≡ outside_entry h (Act.Kill n) Reply.Done ∷ h =
+    c.tell.ensures ∙ ap (λ (j : Journal). outside_entry j (Act.Kill n) Reply.Done ∷ j) same in
+    subst (λ (j : Journal). IsRun g.N.Name.script g.N.Name.from j c.end.new.self) (sym grown)
+    (kill_run c.laws.ensures c.law.ensures.obeyed g.N.Name.script g.N.Name.from h n x c.end.new.self c.requires.run begun c.in_ok-now.ensures.few c.end.ensures)
 
-pub returns-clause-going : goal.returns-clause-going
-returns-clause-going g c =
+pub returns-clause-sessions : goal.returns-clause-sessions
+returns-clause-sessions g c =
     let h = past c.args.journal.now in
     let n = c.args.number in
     let x = c.args.parts.now in
     let xs = c.args.sessions.now.items in
     let ys = c.kill_at.new.sessions.items in
-    subst (λ (j : Journal). IsGoing g.N.Name.script g.N.Name.from j c.end.new.self ys) (sym c.in_ok-tell.ensures.grown)
-    (going_outside g.N.Name.script g.N.Name.from h (Act.Kill n) Reply.Done x c.end.new.self xs ys c.requires.going refl (ap (λ (v : PartsState). v.store) c.end.ensures)
+    let same : past c.reserve_tick.new.journal ≡ h = c.in_ok-now.ensures.same in
+    let grown : past c.tell.new.journal ≡ outside_entry h (Act.Kill n) Reply.Done ∷ h =
+    c.tell.ensures ∙ ap (λ (j : Journal). outside_entry j (Act.Kill n) Reply.Done ∷ j) same in
+    subst (λ (j : Journal). AreSessions g.N.Name.script j ys) (sym grown)
+    (sessions_outside g.N.Name.script h (Act.Kill n) Reply.Done xs ys c.requires.sessions
     (subst (λ (m : ℕ). AreKilled (λ s. m == s) xs ys) c.number.view_is c.kill_at.ensures))
+
+pub returns-clause-asked : goal.returns-clause-asked
+returns-clause-asked g c = λ w.
+    let h = past c.args.journal.now in
+    let n = c.args.number in
+    let x = c.args.parts.now in
+    let same : past c.reserve_tick.new.journal ≡ h = c.in_ok-now.ensures.same in
+    let grown : past c.tell.new.journal ≡ outside_entry h (Act.Kill n) Reply.Done ∷ h =
+    c.tell.ensures ∙ ap (λ (j : Journal). outside_entry j (Act.Kill n) Reply.Done ∷ j) same in
+    subst (λ (j : Journal). IsAsked g.N.Name.from j c.end.new.self) (sym grown)
+    (asked_outside g.N.Name.from h (Act.Kill n) Reply.Done x c.end.new.self refl (ap (λ (v : PartsState). v.store) c.end.ensures) w)
 
 pub returns-clause-played : goal.returns-clause-played
 returns-clause-played g c =
     let h = past c.args.journal.now in
     let n = c.args.number in
     let x = c.args.parts.now in
-    let same : c.parts.inside.registry ≡ x.registry = ap (λ (v : PartsState). v.registry) c.parts.view_is in
-    let begun : is_open n h ≡ true = sym (ap (λ (ps : Opened). holds n ps) same ∙ holds_open x.registry h n c.requires.run.parts.registry) ∙ (sym c.is_open.ensures ∙ c.if-not-is_open.false) in
-    subst (λ (j : Journal). Leads (play_order g.N.Name.script (Order.Kill n)) played h j) (sym c.in_ok-tell.ensures.grown) (kill_leads g.N.Name.script h n begun)
+    let here : c.parts.inside.registry ≡ x.registry = ap (λ (v : PartsState). v.registry) c.parts.view_is in
+    let begun : is_open n h ≡ true = sym (ap (λ (ps : Opened). holds n ps) here ∙ holds_open x.registry h n c.requires.run.parts.registry) ∙ (sym c.is_open.ensures ∙ c.if-not-is_open.false) in
+    let same : past c.reserve_tick.new.journal ≡ h = c.in_ok-now.ensures.same in
+    let grown : past c.tell.new.journal ≡ outside_entry h (Act.Kill n) Reply.Done ∷ h =
+    c.tell.ensures ∙ ap (λ (j : Journal). outside_entry j (Act.Kill n) Reply.Done ∷ j) same in
+    subst (λ (j : Journal). Leads (play_order g.N.Name.script (Order.Kill n)) played h j) (sym grown) (kill_leads g.N.Name.script h n begun)

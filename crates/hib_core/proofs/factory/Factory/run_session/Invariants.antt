@@ -11,6 +11,7 @@ invariant-steps g l = record {
   played : Leads (play_all g.N.Name.script l.number) (play_all g.N.Name.script l.number) (past l.fn.self.journal) (past l.self.journal);
   others : (s : ℕ) → (l.number == s) ≡ false → own s (past l.self.journal) ≡ own s (past l.fn.self.journal);
   stay : (s : ℕ) → (l.number == s) ≡ false → has_next g.N.Name.script (past l.self.journal) s ≡ has_next g.N.Name.script (past l.fn.self.journal) s;
+  going : l.self.refused ≡ l.fn.self.refused;
 }
 
 abbrev pub decreases-steps : goal.decreases-steps

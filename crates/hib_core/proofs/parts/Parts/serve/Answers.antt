@@ -1,13 +1,17 @@
 use Rattle.std.proofs.Common.{sym, subst, refl}
 use Rattle.hib_core.specs.Standing.{IsReady, IsAnswered, IsAskedFor}
-use Rattle.hib_core.proofs.Outcomes.{map_ok, both_ok, map_err}
+use Rattle.hib_core.proofs.Outcomes.{map_ok, map_on, both_ok, map_err}
 use Rattle.hib_core.proofs.QueriesServed.{look_served, keep_served, check_served}
 use Rattle.hib_core.proofs.Served.{begin_served, pre_served, stamp_served, region_served}
+use Rattle.hib_core.proofs.Untouched.{region_still}
 use Rattle.hib_core.proofs.parts.Parts.serve.Goals as goal
 
 pub returns-in-Some-clause-answered : goal.returns-in-Some-clause-answered
 returns-in-Some-clause-answered g c = both_ok c.serve_entity.result _ _ _ c.serve_entity.ensures.answer c.serve_entity.ensures.state (λ r p q from h n k o.
     region_served c.laws.ensures c.args.script.now from h c.args.session c.args.now c.in-Some.entity c.args.act.now r c.args.self.now c.serve_entity.new.self n k (sym c.in-Some.ensures) p q)
+
+pub returns-in-Some-clause-still : goal.returns-in-Some-clause-still
+returns-in-Some-clause-still g c = map_on c.serve_entity.result _ _ c.serve_entity.ensures.state (λ q b. region_still c.args.self.now c.serve_entity.new.self c.in-Some.entity c.args.now c.args.act.now q b)
 
 pub returns-in-Begin-clause-answered : goal.returns-in-Begin-clause-answered
 returns-in-Begin-clause-answered g c = both_ok c.begin.result _ _ _ c.begin.ensures.reply c.begin.ensures.state (λ r p q from h n k o.
