@@ -10,7 +10,8 @@ pub mod OwnServed
 pub mod Allowed
 pub mod Begun
 pub mod Going
-pub mod Moved
 pub mod Playing
 pub mod FromOutside
 pub mod QueriesServed
+pub mod Short
+pub mod Moved

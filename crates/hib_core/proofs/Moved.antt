@@ -14,6 +14,8 @@ use Rattle.hib_session.specs.Session.{Follows, IsTaken, number_of, is_killed, le
 use Rattle.hib_core.specs.declared.turns.Stepped.{Stepped}
 use Rattle.hib_core.specs.Standing.{Origin, PartsState, AreUntouched, IsAskedFor, entry_of}
 use Rattle.hib_core.specs.Factory.{AreSessions, IsRun, IsAsked, IsAskedOnceMore, IsTurn, Answers, Serves, Leaves, Moves, Does, IsOver, left_or}
+use Rattle.hib_core.specs.Bound.{outside_count}
+use Rattle.hib_core.proofs.Short.{inside_same}
 use Rattle.hib_core.proofs.Going.{run_still, sessions_step, sessions_same}
 
 pub brings_so : (b : Bool) → (b ≡ false → ⊥) → b ≡ true
@@ -90,6 +92,7 @@ pub record Turned {E : Type 0} (script : Script) (from : Origin) (s : ℕ) (r : 
   pub err : OnErr r (AreUntouched x w)
   pub asked : OnOk r (IsAsked from h x → IsAsked from new w)
   pub fault : (e : Entry) → new ≡ e ∷ h → is_fault e.reply ≡ true → Rose x.store.faults w.store.faults
+  pub inside : outside_count new ≡ outside_count h
 
 set_there : (ys : List Session) (n : ℕ) (u : Session) → n < length ys → slice_get (slice_set ys n u) n ≡ Some u
 set_there ys n u b = slice_get-get_or (slice_set ys n u) n u (omega (arith, length-set ys n u, b)) ∙ ap Some (get_or-set_same ys n u u b)
@@ -142,6 +145,7 @@ turned {E = X} script from s (Ok Stepped.Did) h new x w xs y z run all p k d did
       });
       fault = λ e q f. let same : entry_of h (number_of y) m.act m.served.answer ∷ h ≡ e ∷ h = sym m.served.grown ∙ q in
           let one : entry_of h (number_of y) m.act m.served.answer ≡ e = cc in m.served.fault (subst (λ (v : Entry). is_fault v.reply ≡ true) (sym one) f);
+      inside = inside_same (entry_of h (number_of y) m.act m.served.answer) (number_of y) h new refl m.served.grown;
     }
 turned {E = X} script from s (Ok Stepped.Done) h new x w xs y z run all p k d did done quiet still = by_leave (still not_did)
   where
@@ -158,6 +162,7 @@ turned {E = X} script from s (Ok Stepped.Done) h new x w xs y z run all p k d di
       err = tt;
       asked = λ g. subst (λ (j : Journal). IsAsked from j w) (sym v.same) (subst (λ (u : PartsState). IsAsked from h u) (sym (quiet refl)) g);
       fault = λ e q f. absurd (no_entry h new e v.same q);
+      inside = ap outside_count v.same;
     }
 turned {E = X} script from s (Err a) h new x w xs y z run all p k d did done quiet still = by_leave (still (not_ok a Stepped.Did))
   where
@@ -171,6 +176,7 @@ turned {E = X} script from s (Err a) h new x w xs y z run all p k d did done qui
       err = v.parts;
       asked = tt;
       fault = λ e q f. absurd (no_entry h new e v.same q);
+      inside = ap outside_count v.same;
     }
 
 -- the keeper was not asked more

@@ -191,7 +191,7 @@ over_left : (mine : Journal) → left_of Plan.Over mine ≡ Plan.Over
 over_left [] = refl
 over_left (e ∷ m) = rw (over_left m) refl
 
-unknown : (script : Script) (s : ℕ) (mine : Journal) → length script.sessions ≤ s → next script s mine ≡ None
+pub unknown : (script : Script) (s : ℕ) (mine : Journal) → length script.sessions ≤ s → next script s mine ≡ None
 unfolding next
 unknown script s mine l = ap (λ d. first_act (left_of (blocks script Mode.Normal true (statements d) []) mine)) (slice_get_past script.sessions s l) ∙ ap first_act (over_left mine)
 

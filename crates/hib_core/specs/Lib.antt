@@ -4,3 +4,4 @@ pub mod Laws
 pub mod Standing
 pub mod Factory
 pub mod Playing
+pub mod Bound

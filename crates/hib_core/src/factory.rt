@@ -1,9 +1,9 @@
 // The factory: sessions over shared parts, and the journal of their steps.
-ghost use Rattle.std.specs.Prelude.{◌≡◌, ◌∷◌, ◌<◌, ◌≤◌, ◌^◌, ◌==◌, ℕ, [], length, slice_get, OnOk, OnErr, IfOk, IfErr, Ok, Some, None, true, false};
+ghost use Rattle.std.specs.Prelude.{◌≡◌, ◌∷◌, ◌+◌, ◌<◌, ◌≤◌, ◌^◌, ◌==◌, ℕ, [], length, slice_get, OnOk, OnErr, IfOk, IfErr, IsOk, Ok, Some, None, true, false};
 ghost use Rattle.std.specs.List.{range_with_len};
 ghost use Rattle.hib_journal.specs.Kept.{past};
 ghost use Rattle.hib_base.specs.declared.scripts.Order.{Order};
-ghost use Rattle.hib_journal.specs.Sessions.{own};
+ghost use Rattle.hib_journal.specs.Sessions.{own, was_killed, is_open};
 ghost use Rattle.hib_journal.specs.Next.{is_cached};
 ghost use Rattle.hib_journal.specs.Played.{has_next, play_steps, play_order, play_orders, play_sessions, is_played};
 ghost use Rattle.hib_journal.specs.Legal.{IsLegal};
@@ -13,9 +13,11 @@ ghost use Rattle.hib_law.specs.Law.{Obeys};
 ghost use Rattle.hib_core.specs.Standing.{RoseBy, RoseWithin, AreUntouched, told_start};
 ghost use Rattle.hib_outside.specs.Causes.{Rose};
 ghost use Rattle.hib_store.specs.Stores.{handed_back, is_store_fault};
+ghost use Rattle.hib_core.specs.Bound.{most_in, outside_count};
 ghost use Rattle.hib_core.specs.Factory.{Does, IsOver, IsAskedOnceMore, AreOver, IsBuilt, IsSound};
 ghost use Rattle.hib_core.specs.Playing.{played, play_all, play_script, GoesOn, Leads};
 
+use crate::bounds::runs_are_short;
 use crate::laws::laws;
 use crate::names::Name;
 use crate::opening::{open_regions, open_sessions};
@@ -108,6 +110,8 @@ impl<K: Keeper, N: Name> Factory<K, N> {
         ensures did { result ≡ Ok Stepped.Did → Does N.script number (past self.old.journal) (past self.new.journal) self.old.sessions self.new.sessions }
         ensures done { result ≡ Ok Stepped.Done → IsOver N.script number (past self.old.journal) (past self.new.journal) }
         ensures law { Obeys N.script N.from.tables (past self.new.journal) }
+        ensures killed { was_killed number (past self.old.journal) ≡ true → result ≡ Ok Stepped.Done }
+        ensures inside { outside_count (past self.new.journal) ≡ outside_count (past self.old.journal) }
         ensures fault { (e : Entry) → past self.new.journal ≡ e ∷ past self.old.journal → is_fault e.reply ≡ true → Rose self.old.parts.store.faults self.new.parts.store.faults }
         ensures going { OnOk result (self.new.refused ≡ self.old.refused) }
         ensures same { OnErr result (past self.new.journal ≡ past self.old.journal) }
@@ -192,6 +196,7 @@ impl<K: Keeper, N: Name> Factory<K, N> {
         steps: u32,
     ) -> Result<(), AllocError>
         ensures played { OnOk result (Leads (play_steps N.script number steps) played (past self.old.journal) (past self.new.journal)) }
+        ensures inside { outside_count (past self.new.journal) ≡ outside_count (past self.old.journal) }
         ensures law { Obeys N.script N.from.tables (past self.new.journal) }
         ensures going { OnOk result (self.new.refused ≡ self.old.refused) }
         ensures stands { OnErr result (GoesOn (past self.old.journal) (past self.new.journal)) }
@@ -219,6 +224,7 @@ impl<K: Keeper, N: Name> Factory<K, N> {
         ensures over { OnOk result (has_next N.script (past self.new.journal) number ≡ false) }
         ensures others { OnOk result ((s : ℕ) → (number == s) ≡ false → own s (past self.new.journal) ≡ own s (past self.old.journal)) }
         ensures stay { OnOk result ((s : ℕ) → (number == s) ≡ false → has_next N.script (past self.new.journal) s ≡ has_next N.script (past self.old.journal) s) }
+        ensures inside { outside_count (past self.new.journal) ≡ outside_count (past self.old.journal) }
         ensures law { Obeys N.script N.from.tables (past self.new.journal) }
         ensures going { OnOk result (self.new.refused ≡ self.old.refused) }
         ensures stands { OnErr result (GoesOn (past self.old.journal) (past self.new.journal)) }
@@ -237,6 +243,7 @@ impl<K: Keeper, N: Name> Factory<K, N> {
     pub fn finish(&mut self, alloc: Global) -> Result<(), AllocError>
         ensures played { OnOk result (Leads (play_sessions N.script (range_with_len 0 (length N.script.sessions))) played (past self.old.journal) (past self.new.journal)) }
         ensures over { OnOk result (AreOver N.script (past self.new.journal)) }
+        ensures inside { outside_count (past self.new.journal) ≡ outside_count (past self.old.journal) }
         ensures law { Obeys N.script N.from.tables (past self.new.journal) }
         ensures going { OnOk result (self.new.refused ≡ self.old.refused) }
         ensures stands { OnErr result (GoesOn (past self.old.journal) (past self.new.journal)) }
@@ -254,6 +261,8 @@ impl<K: Keeper, N: Name> Factory<K, N> {
     /// memory runs out nothing has changed but the answer of `refused`.
     pub fn kill(&mut self, number: SessionNo) -> Result<(), AllocError>
         ensures played { OnOk result (Leads (play_order N.script (Order.Kill number)) played (past self.old.journal) (past self.new.journal)) }
+        ensures closed { is_open number (past self.old.journal) ≡ false → IsOk result }
+        ensures outside { outside_count (past self.new.journal) ≤ outside_count (past self.old.journal) + 1 }
         ensures law { Obeys N.script N.from.tables (past self.new.journal) }
         ensures going { OnOk result (self.new.refused ≡ self.old.refused) }
         ensures same { OnErr result (past self.new.journal ≡ past self.old.journal) }
@@ -275,6 +284,7 @@ impl<K: Keeper, N: Name> Factory<K, N> {
     pub fn evict(&mut self, alloc: Global, key: Key) -> Result<(), AllocError>
         requires cached { is_cached N.script key.entity ≡ true }
         ensures played { OnOk result (Leads (play_order N.script (Order.Evict key)) played (past self.old.journal) (past self.new.journal)) }
+        ensures outside { outside_count (past self.new.journal) ≤ outside_count (past self.old.journal) + 1 }
         ensures law { Obeys N.script N.from.tables (past self.new.journal) }
         ensures going { OnOk result (self.new.refused ≡ self.old.refused) }
         ensures same { OnErr result (past self.new.journal ≡ past self.old.journal) }
@@ -291,6 +301,7 @@ impl<K: Keeper, N: Name> Factory<K, N> {
     /// runs out nothing has changed but the answer of `refused`.
     pub fn restart(&mut self) -> Result<(), AllocError>
         ensures played { OnOk result (Leads (play_order N.script Order.Restart) played (past self.old.journal) (past self.new.journal)) }
+        ensures outside { outside_count (past self.new.journal) ≤ outside_count (past self.old.journal) + 1 }
         ensures law { Obeys N.script N.from.tables (past self.new.journal) }
         ensures going { OnOk result (self.new.refused ≡ self.old.refused) }
         ensures same { OnErr result (past self.new.journal ≡ past self.old.journal) }
@@ -311,6 +322,7 @@ impl<K: Keeper, N: Name> Factory<K, N> {
     fn obey(&mut self, alloc: Global, order: Order) -> Result<(), AllocError>
         requires sound { IsSound N.script order }
         ensures played { OnOk result (Leads (play_order N.script order) played (past self.old.journal) (past self.new.journal)) }
+        ensures outside { outside_count (past self.new.journal) ≤ outside_count (past self.old.journal) + 1 }
         ensures law { Obeys N.script N.from.tables (past self.new.journal) }
         ensures going { OnOk result (self.new.refused ≡ self.old.refused) }
         ensures stands { OnErr result (GoesOn (past self.old.journal) (past self.new.journal)) }
@@ -329,6 +341,7 @@ impl<K: Keeper, N: Name> Factory<K, N> {
     /// Carries the orders of the schedule out, one after the other.
     fn follow_schedule(&mut self, alloc: Global) -> Result<(), AllocError>
         ensures played { OnOk result (Leads (play_orders N.script N.script.schedule) played (past self.old.journal) (past self.new.journal)) }
+        ensures outside { outside_count (past self.new.journal) ≤ outside_count (past self.old.journal) + length N.script.schedule }
         ensures law { OnErr result (Obeys N.script N.from.tables (past self.new.journal)) }
         ensures going { OnOk result (self.new.refused ≡ self.old.refused) }
         ensures stands { OnErr result (GoesOn (past self.old.journal) (past self.new.journal)) }
@@ -349,6 +362,7 @@ impl<K: Keeper, N: Name> Factory<K, N> {
         ensures played { OnOk result (past self.old.journal ≡ [] → is_played N.script (past self.new.journal) ≡ true) }
         ensures leads { OnOk result (Leads (play_script N.script) played (past self.old.journal) (past self.new.journal)) }
         ensures over { OnOk result (AreOver N.script (past self.new.journal)) }
+        ensures outside { outside_count (past self.new.journal) ≤ outside_count (past self.old.journal) + length N.script.schedule }
         ensures law { Obeys N.script N.from.tables (past self.new.journal) }
         ensures going { OnOk result (self.new.refused ≡ self.old.refused) }
         ensures stands { OnErr result (GoesOn (past self.old.journal) (past self.new.journal)) }
@@ -365,12 +379,14 @@ impl<K: Keeper, N: Name> Factory<K, N> {
         ensures journal { result.2 ≡ self.journal }
         ensures legal { IsLegal N.script N.from.tables (past result.2) }
         ensures law { Obeys N.script N.from.tables (past result.2) }
+        ensures short { length (past result.2) ≤ most_in N.script.sessions + outside_count (past result.2) }
         ensures numbered { IsNumbered (past result.2) }
         ensures rows { K.tables result.0 ≡ told_committed N.from.tables (past result.2) }
         ensures faults { RoseBy N.from.faults (fault_count (past result.2)) (K.faults result.0) }
         ensures count { K.asked result.0 ≡ self.parts.store.asked }
         ensures asked { self.refused ≡ false → RoseWithin N.from.asked (ask_count (past result.2)) (K.asked result.0) }
     {
+        runs_are_short();
         let Factory {
             script,
             parts,

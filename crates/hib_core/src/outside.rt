@@ -1,11 +1,13 @@
 // What comes from outside of the sessions: kills, evictions and restarts.
-ghost use Rattle.std.specs.Prelude.{◌≡◌, ◌∷◌, ◌+◌, ◌<◌, ◌^◌, ◌==◌, List, length, OnOk, OnErr, true};
+ghost use Rattle.std.specs.Prelude.{◌≡◌, ◌∷◌, ◌+◌, ◌<◌, ◌≤◌, ◌^◌, ◌==◌, List, length, OnOk, OnErr, IsOk, true, false};
 ghost use Rattle.hib_base.specs.declared.scripts.Order.{Order};
 ghost use Rattle.hib_journal.specs.Kept.{past};
 ghost use Rattle.hib_journal.specs.Next.{is_cached};
+ghost use Rattle.hib_journal.specs.Sessions.{is_open};
 ghost use Rattle.hib_journal.specs.Played.{play_order};
 ghost use Rattle.hib_core.specs.Standing.{outside_entry};
 ghost use Rattle.hib_core.specs.Registry.{holds};
+ghost use Rattle.hib_core.specs.Bound.{outside_count};
 ghost use Rattle.hib_core.specs.Factory.{IsRun, IsAsked, AreSessions, AreKilled};
 ghost use Rattle.hib_core.specs.Playing.{played, Leads};
 ghost use Rattle.hib_session.specs.declared.session.Session.{Session};
@@ -73,6 +75,8 @@ pub fn kill<K: Keeper, N: Name>(
     ensures sessions { AreSessions N.script (past journal.new) sessions.new.items }
     ensures asked { IsAsked N.from (past journal.old) parts.old → IsAsked N.from (past journal.new) parts.new }
     ensures played { OnOk result (Leads (play_order N.script (Order.Kill number)) played (past journal.old) (past journal.new)) }
+    ensures outside { outside_count (past journal.new) ≤ outside_count (past journal.old) + 1 }
+    ensures closed { is_open number (past journal.old) ≡ false → IsOk result }
     ensures same { OnErr result (past journal.new ≡ past journal.old) }
     ensures parts { OnErr result (parts.new ≡ parts.old) }
     ensures err { OnErr result (sessions.new.items ≡ sessions.old.items) }
@@ -102,6 +106,7 @@ pub fn evict<K: Keeper, N: Name>(
     ensures sessions { (xs : List Session) → AreSessions N.script (past journal.old) xs → AreSessions N.script (past journal.new) xs }
     ensures asked { IsAsked N.from (past journal.old) parts.old → IsAsked N.from (past journal.new) parts.new }
     ensures played { OnOk result (Leads (play_order N.script (Order.Evict key)) played (past journal.old) (past journal.new)) }
+    ensures outside { outside_count (past journal.new) ≤ outside_count (past journal.old) + 1 }
     ensures same { OnErr result (past journal.new ≡ past journal.old) }
     ensures parts { OnErr result (parts.new ≡ parts.old) }
 {
@@ -128,6 +133,7 @@ pub fn restart<K: Keeper, N: Name>(
     ensures sessions { AreSessions N.script (past journal.new) sessions.new.items }
     ensures asked { IsAsked N.from (past journal.old) parts.old → IsAsked N.from (past journal.new) parts.new }
     ensures played { OnOk result (Leads (play_order N.script Order.Restart) played (past journal.old) (past journal.new)) }
+    ensures outside { outside_count (past journal.new) ≤ outside_count (past journal.old) + 1 }
     ensures same { OnErr result (past journal.new ≡ past journal.old) }
     ensures parts { OnErr result (parts.new ≡ parts.old) }
     ensures err { OnErr result (sessions.new.items ≡ sessions.old.items) }

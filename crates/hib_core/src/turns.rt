@@ -2,7 +2,7 @@
 ghost use Rattle.std.specs.Prelude.{◌≡◌, ◌≢◌, ◌∷◌, ◌<◌, ◌≤◌, ◌^◌, ◌+◌, List, length, IfOk, OnOk, OnErr, IsOk, Ok, None, false, true, IfSome};
 ghost use Rattle.hib_base.specs.declared.entries.Entry.{Entry};
 ghost use Rattle.hib_journal.specs.Kept.{past};
-ghost use Rattle.hib_journal.specs.Sessions.{Journal as Past, own};
+ghost use Rattle.hib_journal.specs.Sessions.{Journal as Past, own, was_killed};
 ghost use Rattle.hib_journal.specs.Next.{next};
 ghost use Rattle.hib_journal.specs.Played.{has_next};
 ghost use Rattle.hib_journal.specs.Legal;
@@ -12,6 +12,7 @@ ghost use Rattle.hib_session.specs.Memory.{brings};
 ghost use Rattle.hib_session.specs.Session.{Follows, IsTaken, number_of, is_killed, is_ready, left_in};
 ghost use Rattle.hib_core.specs.Region.{HasRoomFor, acts_on};
 ghost use Rattle.hib_core.specs.Standing.{Origin, region_of, AreUntouched, AreWithin, IsDue, IsReady, entry_of};
+ghost use Rattle.hib_core.specs.Bound.{outside_count};
 ghost use Rattle.hib_core.specs.Factory.{IsTold, IsRun, IsAsked, IsMember, IsTurn, Answers, Serves, Leaves, Moves, AreSessions, Does, IsOver, HasQueries};
 
 use crate::laws::laws;
@@ -234,6 +235,7 @@ fn take_turn<K: Keeper, N: Name>(
     ensures did { result ≡ Ok Stepped.Did → Moves N.script N.from (past journal.old) (past journal.new) parts.old parts.new session.old session.new }
     ensures done { result ≡ Ok Stepped.Done → has_next N.script (past journal.old) (number_of session.old) ≡ false }
     ensures quiet { result ≡ Ok Stepped.Done → parts.new ≡ parts.old }
+    ensures dead { is_killed session.old ≡ true → result ≡ Ok Stepped.Done }
     ensures still { result ≢ Ok Stepped.Did → Leaves N.script (past journal.old) (past journal.new) parts.old parts.new session.old session.new }
 {
     if session.was_killed() {
@@ -268,6 +270,8 @@ pub fn turn<K: Keeper, N: Name>(
     ensures err { OnErr result (AreUntouched parts.old parts.new) }
     ensures asked { OnOk result (IsAsked N.from (past journal.old) parts.old → IsAsked N.from (past journal.new) parts.new) }
     ensures fault { (e : Entry) → past journal.new ≡ e ∷ past journal.old → is_fault e.reply ≡ true → Rose parts.old.store.faults parts.new.store.faults }
+    ensures inside { outside_count (past journal.new) ≡ outside_count (past journal.old) }
+    ensures dead { was_killed number (past journal.old) ≡ true → result ≡ Ok Stepped.Done }
 {
     let session = &mut sessions[number.0 as usize];
     take_turn::<K, N>(alloc, script, session, parts, journal)

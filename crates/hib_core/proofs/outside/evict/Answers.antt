@@ -6,6 +6,7 @@ use Rattle.hib_journal.specs.Played.{play_order}
 use Rattle.hib_core.specs.Standing.{PartsState, outside_entry}
 use Rattle.hib_core.specs.Factory.{AreSessions, IsRun, IsAsked}
 use Rattle.hib_core.specs.Playing.{played, Leads}
+use Rattle.hib_core.proofs.Short.{outside_same, outside_one}
 use Rattle.hib_core.proofs.FromOutside.{evict_run, evict_leads, sessions_outside, asked_outside, none_killed}
 use Rattle.hib_core.proofs.outside.evict.Goals as goal
 
@@ -44,3 +45,15 @@ returns-clause-played g c =
     let grown : past c.tell.new.journal ≡ outside_entry h (Act.Evict c.args.key) c.in_ok-reply.reply ∷ h =
     c.tell.ensures ∙ ap (λ (j : Journal). outside_entry j (Act.Evict c.args.key) c.in_ok-reply.reply ∷ j) same in
     subst (λ (j : Journal). Leads (play_order g.N.Name.script (Order.Evict c.args.key)) played h j) (sym grown) (evict_leads g.N.Name.script h c.args.key c.in_ok-reply.reply)
+
+pub returns-in_err-now-clause-outside : goal.returns-in_err-now-clause-outside
+returns-in_err-now-clause-outside g c = outside_same (past c.args.journal.now) (past c.reserve_tick.new.journal) c.in_err-now.ensures.same
+
+pub returns-clause-outside : goal.returns-clause-outside
+returns-clause-outside g c =
+    let h = past c.args.journal.now in
+    let same : past c.reserve_tick.new.journal ≡ h = c.in_ok-now.ensures.same in
+    outside_one h (past c.tell.new.journal) (Act.Evict c.args.key) c.in_ok-reply.reply (c.tell.ensures ∙ ap (λ (j : Journal). outside_entry j (Act.Evict c.args.key) c.in_ok-reply.reply ∷ j) same)
+
+pub returns-in_err-reply-clause-outside : goal.returns-in_err-reply-clause-outside
+returns-in_err-reply-clause-outside g c = outside_same (past c.args.journal.now) (past c.reserve_tick.new.journal) c.in_ok-now.ensures.same

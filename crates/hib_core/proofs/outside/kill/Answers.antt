@@ -1,4 +1,5 @@
 use Rattle.std.proofs.Common.{◌≡◌, ◌∷◌, ◌==◌, ℕ, true, sym, ap, subst, ◌∙◌, refl}
+use Rattle.std.proofs.lemmas.Bool.{false≢true}
 use Rattle.hib_journal.specs.Types.{Act, Reply}
 use Rattle.hib_journal.specs.Kept.{past}
 use Rattle.hib_journal.specs.Sessions.{Journal, is_open}
@@ -8,6 +9,7 @@ use Rattle.hib_core.specs.Registry.{Opened, holds}
 use Rattle.hib_core.specs.Standing.{PartsState, outside_entry}
 use Rattle.hib_core.specs.Factory.{AreSessions, IsRun, IsAsked, AreKilled}
 use Rattle.hib_core.specs.Playing.{played, Leads}
+use Rattle.hib_core.proofs.Short.{outside_same, outside_one}
 use Rattle.hib_core.proofs.FromOutside.{holds_open, kill_run, kill_leads, no_kill_leads, sessions_outside, asked_outside}
 use Rattle.hib_core.proofs.outside.kill.Goals as goal
 
@@ -68,3 +70,22 @@ returns-clause-played g c =
     let grown : past c.tell.new.journal ≡ outside_entry h (Act.Kill n) Reply.Done ∷ h =
     c.tell.ensures ∙ ap (λ (j : Journal). outside_entry j (Act.Kill n) Reply.Done ∷ j) same in
     subst (λ (j : Journal). Leads (play_order g.N.Name.script (Order.Kill n)) played h j) (sym grown) (kill_leads g.N.Name.script h n begun)
+
+pub returns-in_err-now-clause-outside : goal.returns-in_err-now-clause-outside
+returns-in_err-now-clause-outside g c = outside_same (past c.args.journal.now) (past c.reserve_tick.new.journal) c.in_err-now.ensures.same
+
+pub returns-clause-outside : goal.returns-clause-outside
+returns-clause-outside g c =
+    let h = past c.args.journal.now in
+    let n = c.args.number in
+    let same : past c.reserve_tick.new.journal ≡ h = c.in_ok-now.ensures.same in
+    outside_one h (past c.tell.new.journal) (Act.Kill n) Reply.Done (c.tell.ensures ∙ ap (λ (j : Journal). outside_entry j (Act.Kill n) Reply.Done ∷ j) same)
+
+pub returns-in_err-now-clause-closed : goal.returns-in_err-now-clause-closed
+returns-in_err-now-clause-closed g c = λ k.
+    let h = past c.args.journal.now in
+    let n = c.args.number in
+    let x = c.args.parts.now in
+    let here : c.parts.inside.registry ≡ x.registry = ap (λ (v : PartsState). v.registry) c.parts.view_is in
+    let begun : is_open n h ≡ true = sym (ap (λ (ps : Opened). holds n ps) here ∙ holds_open x.registry h n c.requires.run.parts.registry) ∙ (sym c.is_open.ensures ∙ c.if-not-is_open.false) in
+    absurd (false≢true (sym k ∙ begun))

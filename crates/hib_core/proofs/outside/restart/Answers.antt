@@ -7,6 +7,7 @@ use Rattle.hib_core.specs.Registry.{Opened, holds}
 use Rattle.hib_core.specs.Standing.{PartsState, outside_entry}
 use Rattle.hib_core.specs.Factory.{AreSessions, IsRun, IsAsked}
 use Rattle.hib_core.specs.Playing.{played, Leads}
+use Rattle.hib_core.proofs.Short.{outside_same, outside_one}
 use Rattle.hib_core.proofs.FromOutside.{holds_open, restart_run, restart_leads, sessions_outside, asked_outside, killed_as}
 use Rattle.hib_core.proofs.outside.restart.Goals as goal
 
@@ -50,3 +51,12 @@ returns-clause-played g c =
     let grown : past c.tell.new.journal ≡ outside_entry h Act.Restart Reply.Done ∷ h =
     c.tell.ensures ∙ ap (λ (j : Journal). outside_entry j Act.Restart Reply.Done ∷ j) same in
     subst (λ (j : Journal). Leads (play_order g.N.Name.script Order.Restart) played h j) (sym grown) (restart_leads g.N.Name.script h)
+
+pub returns-in_err-now-clause-outside : goal.returns-in_err-now-clause-outside
+returns-in_err-now-clause-outside g c = outside_same (past c.args.journal.now) (past c.reserve_tick.new.journal) c.in_err-now.ensures.same
+
+pub returns-clause-outside : goal.returns-clause-outside
+returns-clause-outside g c =
+    let h = past c.args.journal.now in
+    let same : past c.reserve_tick.new.journal ≡ h = c.in_ok-now.ensures.same in
+    outside_one h (past c.tell.new.journal) Act.Restart Reply.Done (c.tell.ensures ∙ ap (λ (j : Journal). outside_entry j Act.Restart Reply.Done ∷ j) same)

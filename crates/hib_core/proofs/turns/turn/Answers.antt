@@ -1,4 +1,4 @@
-use Rattle.std.proofs.Common.{◌≡◌, sym, subst}
+use Rattle.std.proofs.Common.{◌≡◌, sym, subst, ◌∙◌}
 use Rattle.std.specs.Prelude.{slice_set}
 use Rattle.hib_journal.specs.Kept.{past}
 use Rattle.hib_core.specs.Factory.{AreSessions, Does}
@@ -114,3 +114,24 @@ returns-clause-fault g c =
     let t = turned script from c.args.number c.take_turn.result h (past c.take_turn.new.journal) c.args.parts.now c.take_turn.new.parts xs y z c.requires.run c.requires.sessions place
     c.take_turn.ensures.number c.take_turn.ensures.killed c.take_turn.ensures.did c.take_turn.ensures.done c.take_turn.ensures.quiet c.take_turn.ensures.still in
     t.fault
+
+pub returns-clause-inside : goal.returns-clause-inside
+returns-clause-inside g c =
+    let script = g.N.Name.script in
+    let from = g.N.Name.from in
+    let h = past c.args.journal.now in
+    let xs = c.args.sessions.now.items in
+    let y = c.index_mut-session.result.now in
+    let z = c.take_turn.new.session in
+    let place = at_place script h xs c.number.inside.0 c.args.number y c.requires.sessions c.number.view_is c.requires.known c.index_mut-session.ensures.value in
+    let t = turned script from c.args.number c.take_turn.result h (past c.take_turn.new.journal) c.args.parts.now c.take_turn.new.parts xs y z c.requires.run c.requires.sessions place
+    c.take_turn.ensures.number c.take_turn.ensures.killed c.take_turn.ensures.did c.take_turn.ensures.done c.take_turn.ensures.quiet c.take_turn.ensures.still in
+    t.inside
+
+pub returns-clause-dead : goal.returns-clause-dead
+returns-clause-dead g c = λ k.
+    let h = past c.args.journal.now in
+    let xs = c.args.sessions.now.items in
+    let y = c.index_mut-session.result.now in
+    let place = at_place g.N.Name.script h xs c.number.inside.0 c.args.number y c.requires.sessions c.number.view_is c.requires.known c.index_mut-session.ensures.value in
+    c.take_turn.ensures.dead (c.requires.sessions.killed c.args.number y place ∙ k)

@@ -17,6 +17,7 @@ loop-number-preserved g c =
           (subst (λ (m : ℕ). n < m) c.sessions-number-end.ensures.count c.loop-number-test.true) c.loop-number.invariant.played c.in_ok-run_session.ensures.played;
       over = over_more script n (past c.loop-number.self.journal) (past c.run_session.new.self.journal) c.loop-number.invariant.over c.in_ok-run_session.ensures.over c.in_ok-run_session.ensures.stay;
       going = c.in_ok-run_session.ensures.going ∙ c.loop-number.invariant.going;
+      inside = c.in_ok-run_session.ensures.inside ∙ c.loop-number.invariant.inside;
     }
 
 pub returns-clause-played : goal.returns-clause-played

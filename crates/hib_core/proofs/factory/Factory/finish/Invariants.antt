@@ -2,6 +2,7 @@ use Rattle.std.proofs.Common.{◌≡◌, ℕ, ◌-◌, ◌<◌, length, false}
 use Rattle.std.specs.List.{range_with_len}
 use Rattle.hib_journal.specs.Kept.{past}
 use Rattle.hib_journal.specs.Played.{has_next, play_sessions}
+use Rattle.hib_core.specs.Bound.{outside_count}
 use Rattle.hib_core.specs.Playing.{Leads}
 use Rattle.hib_core.proofs.factory.Factory.finish.Given as goal
 
@@ -12,4 +13,5 @@ invariant-loop-number g l = record {
       (play_sessions g.N.Name.script (range_with_len l.number (length g.N.Name.script.sessions - l.number))) (past l.fn.self.journal) (past l.self.journal);
   over : (s : ℕ) → s < l.number → has_next g.N.Name.script (past l.self.journal) s ≡ false;
   going : l.self.refused ≡ l.fn.self.refused;
+  inside : outside_count (past l.self.journal) ≡ outside_count (past l.fn.self.journal);
 }

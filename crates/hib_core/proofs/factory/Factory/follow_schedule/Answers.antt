@@ -1,4 +1,4 @@
-use Rattle.std.proofs.Common.{◌≤◌, ℕ, ◌∙◌, drop, subst}
+use Rattle.std.proofs.Common.{◌≤◌, ℕ, ◌∙◌, drop, subst, arith}
 use Rattle.hib_journal.specs.Kept.{past}
 use Rattle.hib_journal.specs.Played.{play_orders}
 use Rattle.hib_core.specs.Playing.{Play}
@@ -14,6 +14,7 @@ loop-at-preserved g c =
       played = orders_more script c.loop-at.at c.order-order.result all (past c.args.self.now.journal) (past c.loop-at.self.journal) (past c.obey.new.self.journal)
           c.order-order.ensures.order c.loop-at.invariant.played c.in_ok-obey.ensures.played;
       going = c.in_ok-obey.ensures.going ∙ c.loop-at.invariant.going;
+      outside = let i = c.in_ok-obey.ensures.outside in let j = c.loop-at.invariant.outside in omega (arith, i, j);
     }
 
 pub returns-clause-played : goal.returns-clause-played
@@ -33,3 +34,14 @@ returns-in_err-obey-clause-stands g c =
 
 pub returns-in_err-obey-clause-asked : goal.returns-in_err-obey-clause-asked
 returns-in_err-obey-clause-asked g c = err_all c.from_residual.result _ (λ p. c.in_err-obey.ensures.asked (c.loop-at.invariant.going ∙ p))
+
+pub returns-in_err-obey-clause-outside : goal.returns-in_err-obey-clause-outside
+returns-in_err-obey-clause-outside g c =
+    let i = c.in_err-obey.ensures.outside in
+    let j = c.loop-at.invariant.outside in
+    omega (arith, i, j, c.loop-at-test.true, c.orders-at-end.ensures.count)
+
+pub returns-clause-outside : goal.returns-clause-outside
+returns-clause-outside g c =
+    let j = c.loop-at.invariant.outside in
+    omega (arith, j, c.loop-at.auto.at-end, c.orders-at-end.ensures.count)

@@ -1,4 +1,4 @@
-use Rattle.std.proofs.Common.{◌≡◌, subst, ◌∙◌}
+use Rattle.std.proofs.Common.{◌≡◌, subst, ◌∙◌, arith}
 use Rattle.hib_journal.specs.Kept.{past}
 use Rattle.hib_journal.specs.Sessions.{Journal}
 use Rattle.hib_journal.specs.Played.{play_orders}
@@ -26,3 +26,12 @@ returns-clause-stands g c = map_err c.finish.result _ _ c.finish.ensures.stands 
 
 pub returns-clause-asked : goal.returns-clause-asked
 returns-clause-asked g c = map_err c.finish.result _ _ c.finish.ensures.asked (λ p e. p (c.in_ok-follow_schedule.ensures.going ∙ e))
+
+pub returns-in_err-follow_schedule-clause-outside : goal.returns-in_err-follow_schedule-clause-outside
+returns-in_err-follow_schedule-clause-outside g c = c.in_err-follow_schedule.ensures.outside
+
+pub returns-clause-outside : goal.returns-clause-outside
+returns-clause-outside g c =
+    let i = c.in_ok-follow_schedule.ensures.outside in
+    let j = c.finish.ensures.inside in
+    omega (arith, i, j)

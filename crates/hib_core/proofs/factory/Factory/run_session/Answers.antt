@@ -16,6 +16,7 @@ steps-preserved g c =
       stay = stay_more g.N.Name.script c.args.number (past c.args.self.now.journal) (past c.steps.self.journal) (past c.step.new.self.journal) c.steps.self.sessions c.step.new.self.sessions
           c.steps.invariant.stay did;
       going = c.in_ok-step.ensures.going ∙ c.steps.invariant.going;
+      inside = c.in_ok-step.ensures.inside ∙ c.steps.invariant.inside;
     }
 
 pub returns-in_err-step-clause-stands : goal.returns-in_err-step-clause-stands

@@ -15,6 +15,7 @@ loop-step-preserved g c = record {
   played = steps_more g.N.Name.script c.args.number c.loop-step.step (past c.args.self.now.journal) (past c.loop-step.self.journal) (past c.step.new.self.journal)
       c.loop-step.self.sessions c.step.new.self.sessions c.loop-step.invariant.played (c.step.ensures.did (c.in_ok-step.was ∙ ap (λ z. Ok z) c.in-Did.is));
   going = c.in_ok-step.ensures.going ∙ c.loop-step.invariant.going;
+  inside = c.in_ok-step.ensures.inside ∙ c.loop-step.invariant.inside;
 }
 
 pub returns-clause-played : goal.returns-clause-played
