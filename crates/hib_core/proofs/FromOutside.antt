@@ -10,7 +10,7 @@ use Rattle.hib_journal.specs.Types.{Key, Change, Order, Script, Part, Act, Reply
 use Rattle.hib_journal.specs.Sessions.{Journal, own, is_open, was_killed, killed_by, changes}
 use Rattle.hib_journal.specs.Next.{is_cached, strategy}
 use Rattle.hib_journal.specs.Played.{play_order}
-use Rattle.hib_journal.specs.Legal.{IsReply, part_of, due, may_come, is_outside}
+use Rattle.hib_journal.specs.Legal.{IsLegal, IsReply, part_of, due, may_come, is_outside}
 use Rattle.hib_journal.specs.Lists.{IsLate}
 use Rattle.hib_journal.specs.Runs.{IsNumbered, asks, ask_count, is_fault, fault_count}
 use Rattle.hib_store.specs.Stores.{StoreState}
@@ -30,7 +30,7 @@ use Rattle.hib_engines.proofs.RegionServed.{restart_placed}
 use Rattle.hib_engines.proofs.Stored.{store_stays}
 use Rattle.hib_engines.proofs.Stays.{registry_kept, region_kept}
 use Rattle.hib_core.specs.Standing.{Origin, RoseBy, RoseWithin, IsBridged, IsStore, PartsState, AreParts, region_of, outside_entry, IsAtRegion, AreEmptied}
-use Rattle.hib_core.specs.Factory.{AreSessions, IsRun, IsGoing, IsAsBefore, AreKilled}
+use Rattle.hib_core.specs.Factory.{Lawful, AreSessions, IsRun, IsAsked, IsAsBefore, AreKilled}
 use Rattle.hib_core.specs.Playing.{played, Leads}
 use Rattle.hib_core.proofs.Stored.{self_by, either, reply_any, store_of, bridged_kill, bridged_restart, bridged_evict}
 use Rattle.hib_core.proofs.Served.{late, stamps_in, results_in, parts_of, regions_at, region_same, region_other, none_past}
@@ -215,19 +215,11 @@ emptied_all n xs ys l e f = record { all = e; each = λ m. by_test m (tested (na
 
 -- the journal, its parts and its legality
 
-pub goes_outside : (script : Script) (from : Origin) (h : Journal) (a : Act) (r : Reply) (x y : PartsState) → IsRun script from h x → is_outside a ≡ true → may_come script h (Some a) ≡ Some a →
+pub goes_outside : Lawful → (script : Script) (from : Origin) (h : Journal) (a : Act) (r : Reply) (x y : PartsState) → IsRun script from h x → is_outside a ≡ true → may_come script h (Some a) ≡ Some a →
     IsReply script from.tables h (outside_entry h a r) → AreParts script from (outside_entry h a r ∷ h) y → length h < 2 ^ 62 → IsRun script from (outside_entry h a r ∷ h) y
-goes_outside script from h a r x y run o m v p l = record {
-  legal = (
-    run.legal,
-    record {
-      tick = timely h None 0 a r run.numbered l;
-      session = some_is (due script h (outside_entry h a r)) a is_due;
-      part = ap (λ z. Rattle.hib_journal.specs.Legal.part_due z 0) is_due;
-      act = ap (λ z. may_come script h z) is_due ∙ m;
-      reply = v;
-    },
-  );
+goes_outside w script from h a r x y run o m v p l = record {
+  legal = legal_next;
+  law = w script from.tables (outside_entry h a r ∷ h) legal_next;
   numbered = (refl, run.numbered);
   parts = p;
   built = run.built;
@@ -236,21 +228,29 @@ goes_outside script from h a r x y run o m v p l = record {
     is_due : due script h (outside_entry h a r) ≡ Some a
     is_due = rw o refl
 
+    legal_next : IsLegal script from.tables (outside_entry h a r ∷ h)
+    legal_next = (
+      run.legal,
+      record {
+        tick = timely h None 0 a r run.numbered l;
+        session = some_is (due script h (outside_entry h a r)) a is_due;
+        part = ap (λ z. Rattle.hib_journal.specs.Legal.part_due z 0) is_due;
+        act = ap (λ z. may_come script h z) is_due ∙ m;
+        reply = v;
+      },
+    )
+
 asks_nothing : (cs : List Change) (a : Act) → is_outside a ≡ true → asks cs a ≡ false
 asks_nothing cs (Act.Kill n) o = refl
 asks_nothing cs Act.Restart o = refl
 asks_nothing cs (Act.Evict k) o = refl
 asks_nothing cs _ o = absurd (false≢true o)
 
-pub going_outside : (script : Script) (from : Origin) (h : Journal) (a : Act) (r : Reply) (x y : PartsState) (xs ys : List Session) → IsGoing script from h x xs → is_outside a ≡ true →
-    y.store.asked ≡ x.store.asked → AreKilled (λ s. killed_by s a (is_open s h)) xs ys → IsGoing script from (outside_entry h a r ∷ h) y ys
-going_outside script from h a r x y xs ys g o e k = record {
-  asked = subst (λ n. RoseWithin from.asked (ask_count h + n) y.store.asked) (sym (ap Rattle.hib_journal.specs.Runs.one_if (asks_nothing (changes 0 h) a o))) (record {
-    later = omega (arith, g.asked.later, e);
-    few = omega (arith, g.asked.few, e);
-  });
-  sessions = sessions_outside script h a r xs ys g.sessions k;
-}
+pub asked_outside : (from : Origin) (h : Journal) (a : Act) (r : Reply) (x y : PartsState) → is_outside a ≡ true → y.store.asked ≡ x.store.asked → IsAsked from h x → IsAsked from (outside_entry h a r ∷ h) y
+asked_outside from h a r x y o e g = subst (λ n. RoseWithin from.asked (ask_count h + n) y.store.asked) (sym (ap Rattle.hib_journal.specs.Runs.one_if (asks_nothing (changes 0 h) a o))) (record {
+  later = omega (arith, g.later, e);
+  few = omega (arith, g.few, e);
+})
 
 -- ---- a kill
 
@@ -280,9 +280,9 @@ parts_killed l script from h n x y k m registry store f b c d = parts_of script 
     (ap length c ∙ k.entities)
     (subst (λ z. AreResults script (outside_entry h (Act.Kill n) Reply.Done ∷ h) z) (sym d) (results_outside l script from h (Act.Kill n) Reply.Done x k refl refl))
 
-pub kill_run : (script : Script) (from : Origin) (h : Journal) (n : ℕ) (x y : PartsState) → IsRun script from h x → is_open n h ≡ true → length h < 2 ^ 62 →
+pub kill_run : Lawful → (script : Script) (from : Origin) (h : Journal) (n : ℕ) (x y : PartsState) → IsRun script from h x → is_open n h ≡ true → length h < 2 ^ 62 →
     AreParts script from (outside_entry h (Act.Kill n) Reply.Done ∷ h) y → IsRun script from (outside_entry h (Act.Kill n) Reply.Done ∷ h) y
-kill_run script from h n x y run o few k = goes_outside script from h (Act.Kill n) Reply.Done x y run refl (rw o refl)
+kill_run w script from h n x y run o few k = goes_outside w script from h (Act.Kill n) Reply.Done x y run refl (rw o refl)
     (reply_any script from.tables h None (length h + 1) (Act.Kill n) Reply.Done (λ start. refl) refl) k few
 
 pub kill_leads : (script : Script) (h : Journal) (n : ℕ) → is_open n h ≡ true → Leads (play_order script (Order.Kill n)) played h (outside_entry h (Act.Kill n) Reply.Done ∷ h)
@@ -293,12 +293,12 @@ no_kill_leads script h n o = leads_none (play_order script (Order.Kill n)) playe
 
 -- ---- an eviction
 
-pub evict_run : Laws → (script : Script) (from : Origin) (h : Journal) (k : Key) (now : ℕ) (r : Reply) (x y : PartsState) → IsRun script from h x → is_cached script k.entity ≡ true → length h < 2 ^ 62 →
+pub evict_run : Laws → Lawful → (script : Script) (from : Origin) (h : Journal) (k : Key) (now : ℕ) (r : Reply) (x y : PartsState) → IsRun script from h x → is_cached script k.entity ≡ true → length h < 2 ^ 62 →
     now ≡ length h + 1 →
     ((s : Script) (l : Journal) (by : Option ℕ) → IsPlaced s k.entity l (region_of x.regions k.entity) → IsLate (Part.Region k.entity) now l → entity_in (Act.Evict k) ≡ Some k.entity →
     Suits (strategy s k.entity) (Act.Evict k) → IsServed (λ m. IsPlaced s k.entity m (region_of y.regions k.entity)) s l by now (Act.Evict k) r) → IsAtRegion k.entity x.regions y.regions → is_fault r ≡ false →
     y ≡ record x { regions = y.regions } → IsRun script from (outside_entry h (Act.Evict k) r ∷ h) y
-evict_run l script from h k now r x y run c few e served at calm q = goes_outside script from h (Act.Evict k) r x y run refl (rw c refl)
+evict_run l w script from h k now r x y run c few e served at calm q = goes_outside w script from h (Act.Evict k) r x y run refl (rw c refl)
     (reply_any script from.tables h None (length h + 1) (Act.Evict k) r v.reply refl)
     (parts_of script from (outside_entry h (Act.Evict k) r ∷ h) y
     (subst (λ z. IsStore from (outside_entry h (Act.Evict k) r ∷ h) z) (sym (ap (λ z. z.store) q))
@@ -334,9 +334,9 @@ parts_restarted l script from h x y k m registry store f stamps rs results = par
     (λ n. restart_placed l script h n (length h + 1) (region_of x.regions n) (region_of y.regions n) (k.regions n) (rs.each n)) (rs.all ∙ k.entities)
     (results script h (length h + 1) (results_in script from h x k))
 
-pub restart_run : (script : Script) (from : Origin) (h : Journal) (x y : PartsState) → IsRun script from h x → length h < 2 ^ 62 →
+pub restart_run : Lawful → (script : Script) (from : Origin) (h : Journal) (x y : PartsState) → IsRun script from h x → length h < 2 ^ 62 →
     AreParts script from (outside_entry h Act.Restart Reply.Done ∷ h) y → IsRun script from (outside_entry h Act.Restart Reply.Done ∷ h) y
-restart_run script from h x y run few k = goes_outside script from h Act.Restart Reply.Done x y run refl refl
+restart_run w script from h x y run few k = goes_outside w script from h Act.Restart Reply.Done x y run refl refl
     (reply_any script from.tables h None (length h + 1) Act.Restart Reply.Done (λ start. refl) refl) k few
 
 pub restart_leads : (script : Script) (h : Journal) → Leads (play_order script Order.Restart) played h (outside_entry h Act.Restart Reply.Done ∷ h)

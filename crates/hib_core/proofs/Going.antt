@@ -5,17 +5,18 @@ use Rattle.std.proofs.lemmas.List.{get_or-set_same, get_or-set_other, length-set
 use Rattle.std.proofs.lemmas.Option.{slice_get_within, get_or_from_slice_get, slice_get-get_or}
 use Rattle.std.specs.Prelude.{slice_get, slice_set}
 use Rattle.hib_base.proofs.Tables.{Tested, tested}
-use Rattle.hib_journal.specs.Types.{Script, Act, Reply, Entry}
+use Rattle.hib_journal.specs.Types.{Part, Script, Act, Reply, Entry}
 use Rattle.hib_journal.specs.Sessions.{Journal, own, is_open, was_killed, killed_by, IsTimely}
 use Rattle.hib_journal.specs.Next.{next}
 use Rattle.hib_journal.specs.Played.{has_next}
-use Rattle.hib_journal.specs.Legal.{part_of, part_due, due, may_come, is_outside}
-use Rattle.hib_journal.specs.Runs.{IsNumbered, ask_count}
+use Rattle.hib_journal.specs.Legal.{IsLegal, part_of, part_due, due, may_come, is_outside}
+use Rattle.hib_journal.specs.Runs.{IsNumbered}
 use Rattle.hib_session.specs.declared.session.Session.{Session}
-use Rattle.hib_session.specs.Session.{Follows, IsTaken, number_of, is_killed, left_in}
-use Rattle.hib_core.specs.Standing.{Origin, RoseWithin, PartsState, AreParts, AreWithin, IsDue, IsReady, IsAnswered, entry_of}
-use Rattle.hib_core.specs.Factory.{AreSessions, IsRun, IsGoing, IsTurn, IsTold, Serves, Does, left_or}
-use Rattle.hib_core.proofs.Served.{last_le}
+use Rattle.hib_session.specs.Session.{Follows, IsTaken, number_of, is_killed}
+use Rattle.hib_engines.specs.Served.{AreWithin}
+use Rattle.hib_core.specs.Standing.{Origin, PartsState, AreParts, IsStill, IsDue, IsReady, IsAnswered, entry_of}
+use Rattle.hib_core.specs.Factory.{Lawful, AreSessions, IsRun, IsMember, IsTurn, IsTold, Answers}
+use Rattle.hib_core.proofs.Served.{last_le, still_parts}
 use Rattle.hib_core.proofs.Stored.{self_by, own_self, own_other}
 
 pub timely : (h : Journal) (by : Option ℕ) (s : ℕ) (a : Act) (r : Reply) → IsNumbered h → length h < 2 ^ 62 →
@@ -46,19 +47,11 @@ unkilled s _ o p = refl
 pub killed_same : (n : ℕ) (e : Entry) (h : Journal) → is_outside e.act ≡ false → was_killed n (e ∷ h) ≡ was_killed n h
 killed_same n e h p = rw (unkilled n e.act (is_open n h) p) refl
 
-pub goes_on : (script : Script) (from : Origin) (h : Journal) (s : ℕ) (a : Act) (r : Reply) (x y : PartsState) → IsRun script from h x → was_killed s h ≡ false →
+pub goes_on : Lawful → (script : Script) (from : Origin) (h : Journal) (s : ℕ) (a : Act) (r : Reply) (x y : PartsState) → IsRun script from h x → was_killed s h ≡ false →
     next script s (own s h) ≡ Some a → is_outside a ≡ false → IsAnswered script from h s a r y → length h < 2 ^ 62 → IsRun script from (entry_of h s a r ∷ h) y
-goes_on script from h s a r x y run live p inside v l = record {
-  legal = (
-    run.legal,
-    record {
-      tick = timely h (Some s) s a r run.numbered l;
-      session = some_is (due script h (entry_of h s a r)) a is_due;
-      part = ap (λ z. part_due z s) is_due;
-      act = ap (λ z. may_come script h z) is_due ∙ stays script h a inside;
-      reply = v.reply;
-    },
-  );
+goes_on w script from h s a r x y run live p inside v l = record {
+  legal = legal_next;
+  law = w script from.tables (entry_of h s a r ∷ h) legal_next;
   numbered = (refl, run.numbered);
   parts = v.parts;
   built = run.built;
@@ -66,6 +59,18 @@ goes_on script from h s a r x y run live p inside v l = record {
   where
     is_due : due script h (entry_of h s a r) ≡ Some a
     is_due = rw live p
+
+    legal_next : IsLegal script from.tables (entry_of h s a r ∷ h)
+    legal_next = (
+      run.legal,
+      record {
+        tick = timely h (Some s) s a r run.numbered l;
+        session = some_is (due script h (entry_of h s a r)) a is_due;
+        part = ap (λ z. part_due z s) is_due;
+        act = ap (λ z. may_come script h z) is_due ∙ stays script h a inside;
+        reply = v.reply;
+      },
+    )
 
 -- a run whose session has an act due is ready for it
 pub ready : (script : Script) (from : Origin) (h : Journal) (y : Session) (a : Act) (x : PartsState) → IsRun script from h x → IsTurn script h y a →
@@ -77,29 +82,40 @@ pub tables_for : (script : Script) (from : Origin) (h : Journal) (y : Session) (
     AreWithin (length x.stamps) a
 tables_for script from h y a x run t = subst (λ n. AreWithin n a) (sym run.parts.tables) t.due.known
 
-pub served : (script : Script) (from : Origin) (y : Session) (a : Act) (r : Reply) (h new : Journal) (x z : PartsState) → IsRun script from h x → IsTurn script h y a →
-    IsTold script from h (number_of y) a r x z → length h < 2 ^ 62 → new ≡ entry_of h (number_of y) a r ∷ h → Serves script from (number_of y) a h new x z
-served script from y a r h new x z run t told l g = record {
+pub entry_is : (h : Journal) (s n t : ℕ) (a : Act) (r : Reply) (p : Part) → t ≡ length h + 1 → n ≡ s → p ≡ part_of a n →
+    ◌≡◌ {A = Entry} (record { tick = t; session = Some n; part = p; act = a; reply = r }) (entry_of h s a r)
+entry_is h s n t a r p e d q =
+    let tick : ℕ → Part → ℕ → Entry = λ u v m. record { tick = u; session = Some m; part = v; act = a; reply = r } in
+    ap (λ u. tick u p n) e ∙ (ap (λ v. tick (length h + 1) v n) q ∙ ap (λ m. tick (length h + 1) (part_of a m) m) d)
+
+pub answers_of : Lawful → (script : Script) (from : Origin) (y : Session) (a : Act) (r : Reply) (h : Journal) (e : Entry) (x z : PartsState) → IsRun script from h x → IsTurn script h y a →
+    IsTold script from h (number_of y) a r x z → length h < 2 ^ 62 → e ≡ entry_of h (number_of y) a r → Answers script from (number_of y) a h e x z
+answers_of w script from y a r h e x z run t told l g = record {
   answer = r;
-  grown = g;
-  run = subst (λ j. IsRun script from j z) (sym g) (goes_on script from h (number_of y) a r x z run t.live t.next t.due.inside told.answered l);
-  mine = told.mine;
+  entry = g;
+  run = subst (λ (v : Entry). IsRun script from (v ∷ h) z) (sym g) (goes_on w script from h (number_of y) a r x z run t.live t.next t.due.inside told.answered l);
+  taken = subst (λ (v : Entry). IsTaken script (number_of y) (own (number_of y) h) v) (sym g) (record { due = t.next; own = told.mine });
   asked = told.asked;
+  fault = told.fault;
 }
 
--- the parts of a run may be counted anew
-pub run_still : (script : Script) (from : Origin) (h : Journal) (x y : PartsState) → IsRun script from h x → AreParts script from h y → IsRun script from h y
-run_still script from h x y run p = record { legal = run.legal; numbered = run.numbered; parts = p; built = run.built }
+-- parts that are as before, but for the keeper's counts, stand for the journal still
+pub run_still : (script : Script) (from : Origin) (h : Journal) (x y : PartsState) → IsRun script from h x → IsStill x y → IsRun script from h y
+run_still script from h x y run u = record { legal = run.legal; law = run.law; numbered = run.numbered; parts = still_parts script from h x y u run.parts; built = run.built }
 
--- the session takes the entry
+-- the session at a place, which is now z, and the others
 
-pub taken_by : (script : Script) (from : Origin) (y : Session) (a : Act) (h new : Journal) (x z : PartsState) → IsTurn script h y a → (w : Serves script from (number_of y) a h new x z) →
-    IsTaken script (number_of y) (own (number_of y) h) (entry_of h (number_of y) a w.answer)
-taken_by script from y a h new x z t w = record { due = t.next; own = w.mine }
+placed_here : (s n : ℕ) (xs : List Session) (y z : Session) → s < length xs → slice_get (slice_set xs s z) n ≡ Some y → s ≡ n → y ≡ z
+placed_here s n xs y z l p e = let q : slice_get (slice_set xs s z) s ≡ Some y = subst (λ m. slice_get (slice_set xs s z) m ≡ Some y) (sym e) p in
+    sym (get_or_from_slice_get (slice_set xs s z) s y z q) ∙ get_or-set_same xs s z z l
+
+placed_there : (s n : ℕ) (xs : List Session) (y z : Session) → slice_get (slice_set xs s z) n ≡ Some y → (s == n) ≡ false → slice_get xs n ≡ Some y
+placed_there s n xs y z p d = slice_get-get_or xs n y (omega (arith, length-set xs s z, slice_get_within (slice_set xs s z) n y p))
+    ∙ ap Some (sym (get_or-set_other xs s n z y (λ e. true≢false (sym (ap (λ m. s == m) e ∙ self_by s) ∙ d))) ∙ get_or_from_slice_get (slice_set xs s z) n y y p)
 
 -- the sessions of a run with an entry of the one at s, which is now z
 
-sessions_step : (script : Script) (h new : Journal) (s : ℕ) (a : Act) (r : Reply) (xs : List Session) (z : Session) → new ≡ entry_of h s a r ∷ h → AreSessions script h xs →
+pub sessions_step : (script : Script) (h new : Journal) (s : ℕ) (a : Act) (r : Reply) (xs : List Session) (z : Session) → new ≡ entry_of h s a r ∷ h → AreSessions script h xs →
     s < length xs → number_of z ≡ s → is_killed z ≡ was_killed s h → is_outside a ≡ false → Follows script z (entry_of h s a r ∷ own s h) → AreSessions script new (slice_set xs s z)
 sessions_step script h new s a r xs z g w l k d i f = record {
   all = length-set xs s z ∙ w.all;
@@ -108,43 +124,78 @@ sessions_step script h new s a r xs z g w l k d i f = record {
   follow = λ n y p live. subst (λ j. Follows script y (own n j)) (sym g) (follow n y p (sym (killed_now n) ∙ live) (tested (s == n)));
 }
   where
-    here : (n : ℕ) (y : Session) → slice_get (slice_set xs s z) n ≡ Some y → s ≡ n → y ≡ z
-    here n y p e = let q : slice_get (slice_set xs s z) s ≡ Some y = subst (λ m. slice_get (slice_set xs s z) m ≡ Some y) (sym e) p in
-        sym (get_or_from_slice_get (slice_set xs s z) s y z q) ∙ get_or-set_same xs s z z l
-
-    there : (n : ℕ) (y : Session) → slice_get (slice_set xs s z) n ≡ Some y → (s == n) ≡ false → slice_get xs n ≡ Some y
-    there n y p d = slice_get-get_or xs n y (omega (arith, length-set xs s z, slice_get_within (slice_set xs s z) n y p))
-        ∙ ap Some (sym (get_or-set_other xs s n z y (λ e. true≢false (sym (ap (λ m. s == m) e ∙ self_by s) ∙ d))) ∙ get_or_from_slice_get (slice_set xs s z) n y y p)
-
     number : (n : ℕ) (y : Session) → slice_get (slice_set xs s z) n ≡ Some y → Tested (s == n) → number_of y ≡ n
-    number n y p (inl q) = let e : s ≡ n = eqb-true s n q in ap number_of (here n y p e) ∙ (k ∙ e)
-    number n y p (inr q) = w.numbers n y (there n y p q)
+    number n y p (inl q) = let e : s ≡ n = eqb-true s n q in ap number_of (placed_here s n xs y z l p e) ∙ (k ∙ e)
+    number n y p (inr q) = w.numbers n y (placed_there s n xs y z p q)
 
     killed_now : (n : ℕ) → was_killed n new ≡ was_killed n h
     killed_now n = ap (was_killed n) g ∙ killed_same n (entry_of h s a r) h i
 
     killed : (n : ℕ) (y : Session) → slice_get (slice_set xs s z) n ≡ Some y → Tested (s == n) → is_killed y ≡ was_killed n h
-    killed n y p (inl q) = let e : s ≡ n = eqb-true s n q in ap is_killed (here n y p e) ∙ (d ∙ ap (λ m. was_killed m h) e)
-    killed n y p (inr q) = w.killed n y (there n y p q)
+    killed n y p (inl q) = let e : s ≡ n = eqb-true s n q in ap is_killed (placed_here s n xs y z l p e) ∙ (d ∙ ap (λ m. was_killed m h) e)
+    killed n y p (inr q) = w.killed n y (placed_there s n xs y z p q)
 
     follow : (n : ℕ) (y : Session) → slice_get (slice_set xs s z) n ≡ Some y → was_killed n h ≡ false → Tested (s == n) → Follows script y (own n (entry_of h s a r ∷ h))
     follow n y p live (inl q) = let e : s ≡ n = eqb-true s n q in
         subst (λ m. Follows script y (own m (entry_of h s a r ∷ h))) e
-        (subst (λ v. Follows script v (own s (entry_of h s a r ∷ h))) (sym (here n y p e)) (subst (λ m. Follows script z m) (sym (own_self h s a r)) f))
-    follow n y p live (inr q) = subst (λ m. Follows script y m) (sym (own_other h s n a r q)) (w.follow n y (there n y p q) live)
+        (subst (λ v. Follows script v (own s (entry_of h s a r ∷ h))) (sym (placed_here s n xs y z l p e)) (subst (λ m. Follows script z m) (sym (own_self h s a r)) f))
+    follow n y p live (inr q) = subst (λ m. Follows script y m) (sym (own_other h s n a r q)) (w.follow n y (placed_there s n xs y z p q) live)
+
+-- and with no entry, where the one at s, which is now z, follows what it followed
+pub sessions_same : (script : Script) (h : Journal) (s : ℕ) (xs : List Session) (y z : Session) → AreSessions script h xs → slice_get xs s ≡ Some y → number_of z ≡ number_of y →
+    is_killed z ≡ is_killed y → ((mine : Journal) → Follows script y mine → Follows script z mine) → AreSessions script h (slice_set xs s z)
+sessions_same script h s xs y z w v k d f = record {
+  all = length-set xs s z ∙ w.all;
+  numbers = λ n u p. number n u p (tested (s == n));
+  killed = λ n u p. killed n u p (tested (s == n));
+  follow = λ n u p live. follow n u p live (tested (s == n));
+}
+  where
+    l : s < length xs
+    l = slice_get_within xs s y v
+
+    number : (n : ℕ) (u : Session) → slice_get (slice_set xs s z) n ≡ Some u → Tested (s == n) → number_of u ≡ n
+    number n u p (inl q) = let e : s ≡ n = eqb-true s n q in ap number_of (placed_here s n xs u z l p e) ∙ (k ∙ (w.numbers s y v ∙ e))
+    number n u p (inr q) = w.numbers n u (placed_there s n xs u z p q)
+
+    killed : (n : ℕ) (u : Session) → slice_get (slice_set xs s z) n ≡ Some u → Tested (s == n) → is_killed u ≡ was_killed n h
+    killed n u p (inl q) = let e : s ≡ n = eqb-true s n q in ap is_killed (placed_here s n xs u z l p e) ∙ (d ∙ (w.killed s y v ∙ ap (λ m. was_killed m h) e))
+    killed n u p (inr q) = w.killed n u (placed_there s n xs u z p q)
+
+    follow : (n : ℕ) (u : Session) → slice_get (slice_set xs s z) n ≡ Some u → was_killed n h ≡ false → Tested (s == n) → Follows script u (own n h)
+    follow n u p live (inl q) = let e : s ≡ n = eqb-true s n q in
+        subst (λ t. Follows script t (own n h)) (sym (placed_here s n xs u z l p e))
+        (f (own n h) (subst (λ m. Follows script y (own m h)) e (w.follow s y v (subst (λ m. was_killed m h ≡ false) (sym e) live))))
+    follow n u p live (inr q) = w.follow n u (placed_there s n xs u z p q) live
 
 -- a session that was read at a place
 pub at_place : (script : Script) (h : Journal) (xs : List Session) (i s : ℕ) (y : Session) → AreSessions script h xs → i ≡ s → s < length script.sessions → y ≡ get_or xs i y →
     slice_get xs s ≡ Some y
 at_place script h xs i s y w e l v = slice_get-get_or xs s y (subst (λ n. s < n) (sym w.all) l) ∙ ap Some (sym (subst (λ n. y ≡ get_or xs n y) e v))
 
--- the act that a session at its place says is due
-pub turn_of : (told script : Script) (h : Journal) (s : ℕ) (xs : List Session) (y : Session) (o : Option Act) (a : Act) → told ≡ script → AreSessions script h xs →
-    slice_get xs s ≡ Some y → ((mine : Journal) → Follows told y mine → o ≡ next told (number_of y) mine) → ((mine : Journal) → Follows told y mine → IfSome o (IsDue told mine)) →
+-- a session at its place
+pub member_of : (script : Script) (h : Journal) (xs : List Session) (s : ℕ) (y : Session) → AreSessions script h xs → slice_get xs s ≡ Some y → IsMember script h y
+member_of script h xs s y w p = record {
+  killed = w.killed s y p ∙ ap (λ n. was_killed n h) (sym (w.numbers s y p));
+  follow = λ live. subst (λ n. Follows script y (own n h)) (sym (w.numbers s y p)) (w.follow s y p (subst (λ n. was_killed n h ≡ false) (w.numbers s y p) live));
+}
+
+-- and after it was made ready
+pub member_ready : (told script : Script) (h : Journal) (y z : Session) → told ≡ script → IsMember script h y → number_of z ≡ number_of y → is_killed z ≡ is_killed y →
+    ((mine : Journal) → Follows told y mine → Follows told z mine) → IsMember script h z
+member_ready told script h y z q m e d g = record {
+  killed = d ∙ (m.killed ∙ ap (λ n. was_killed n h) (sym e));
+  follow = λ live. subst (λ n. Follows script z (own n h)) (sym e)
+      (subst (λ (v : Script). (mine : Journal) → Follows v y mine → Follows v z mine) q g (own (number_of y) h) (m.follow (subst (λ n. was_killed n h ≡ false) e live)));
+}
+
+-- the act that a session says is due
+pub turn_of : (told script : Script) (h : Journal) (y : Session) (o : Option Act) (a : Act) → told ≡ script → IsMember script h y →
+    ((mine : Journal) → Follows told y mine → o ≡ next told (number_of y) mine) → ((mine : Journal) → Follows told y mine → IfSome o (IsDue told mine)) →
     (is_killed y ≡ true → o ≡ None) → o ≡ Some a → IsTurn script h y a
-turn_of told script h s xs y o a q w p f d k e = record {
-  live = ap (λ n. was_killed n h) (w.numbers s y p) ∙ lives;
-  follows = here;
+turn_of told script h y o a q m f d k e = record {
+  live = lives;
+  follows = m.follow lives;
   next = subst (λ (v : Script). next v (number_of y) (own (number_of y) h) ≡ Some a) q (sym (f (own (number_of y) h) there) ∙ e);
   due = subst (λ (v : Script). IsDue v (own (number_of y) h) a) q (subst (λ z. IfSome z (IsDue told (own (number_of y) h))) e (d (own (number_of y) h) there));
 }
@@ -156,54 +207,24 @@ turn_of told script h s xs y o a q w p f d k e = record {
         none_some z = cc
     by_kill (inr t) = t
 
-    lives : was_killed s h ≡ false
-    lives = sym (w.killed s y p) ∙ by_kill (tested (is_killed y))
-
-    here : Follows script y (own (number_of y) h)
-    here = subst (λ m. Follows script y (own m h)) (sym (w.numbers s y p)) (w.follow s y p lives)
+    lives : was_killed (number_of y) h ≡ false
+    lives = sym m.killed ∙ by_kill (tested (is_killed y))
 
     there : Follows told y (own (number_of y) h)
-    there = subst (λ (v : Script). Follows v y (own (number_of y) h)) (sym q) here
+    there = subst (λ (v : Script). Follows v y (own (number_of y) h)) (sym q) (m.follow lives)
 
--- a session at its place has no act due
-pub over_of : (told script : Script) (h : Journal) (s : ℕ) (xs : List Session) (y : Session) (o : Option Act) → told ≡ script → AreSessions script h xs →
-    slice_get xs s ≡ Some y → ((mine : Journal) → Follows told y mine → o ≡ next told (number_of y) mine) → o ≡ None → has_next script h s ≡ false
-over_of told script h s xs y o q w p f e = by_kill (tested (was_killed s h))
+-- and none is
+pub over_killed : (script : Script) (h : Journal) (y : Session) → IsMember script h y → is_killed y ≡ true → has_next script h (number_of y) ≡ false
+over_killed script h y m k = let t : was_killed (number_of y) h ≡ true = sym m.killed ∙ k in rw t refl
+
+pub over_of : (told script : Script) (h : Journal) (y : Session) (o : Option Act) → told ≡ script → IsMember script h y →
+    ((mine : Journal) → Follows told y mine → o ≡ next told (number_of y) mine) → o ≡ None → has_next script h (number_of y) ≡ false
+over_of told script h y o q m f e = by_kill (tested (was_killed (number_of y) h))
   where
-    by_kill : Tested (was_killed s h) → has_next script h s ≡ false
+    by_kill : Tested (was_killed (number_of y) h) → has_next script h (number_of y) ≡ false
     by_kill (inl t) = rw t refl
     by_kill (inr t) =
-        let there : Follows told y (own (number_of y) h) = subst (λ (v : Script). Follows v y (own (number_of y) h)) (sym q)
-        (subst (λ m. Follows script y (own m h)) (sym (w.numbers s y p)) (w.follow s y p t)) in
-        let none : next script s (own s h) ≡ None = subst (λ n. next script n (own n h) ≡ None) (w.numbers s y p)
-        (subst (λ (v : Script). next v (number_of y) (own (number_of y) h) ≡ None) q (sym (f (own (number_of y) h) there) ∙ e)) in
+        let there : Follows told y (own (number_of y) h) = subst (λ (v : Script). Follows v y (own (number_of y) h)) (sym q) (m.follow t) in
+        let none : next script (number_of y) (own (number_of y) h) ≡ None =
+        subst (λ (v : Script). next v (number_of y) (own (number_of y) h) ≡ None) q (sym (f (own (number_of y) h) there) ∙ e) in
         rw (t, none) refl
-
-pub going_on : (script : Script) (from : Origin) (s : ℕ) (y z : Session) (a : Act) (h new : Journal) (x w : PartsState) (xs : List Session) → slice_get xs s ≡ Some y →
-    (v : Serves script from (number_of y) a h new x w) → IsGoing script from h x xs → number_of z ≡ number_of y → is_killed z ≡ is_killed y → is_outside a ≡ false →
-    Follows script z (entry_of h (number_of y) a v.answer ∷ own (number_of y) h) → IsGoing script from new w (slice_set xs s z)
-going_on script from s y z a h new x w xs p v g k d i f = record {
-  asked = subst (λ j. RoseWithin from.asked (ask_count j) w.store.asked) (sym v.grown) (record {
-    later = omega (arith, g.asked.later, v.asked.later);
-    few = omega (arith, g.asked.few, v.asked.few);
-  });
-  sessions = let e : number_of y ≡ s = g.sessions.numbers s y p in
-      sessions_step script h new s a v.answer xs z (v.grown ∙ ap (λ m. entry_of h m a v.answer ∷ h) e) g.sessions (slice_get_within xs s y p) (k ∙ e) (d ∙ g.sessions.killed s y p) i
-      (subst (λ m. Follows script z (entry_of h m a v.answer ∷ own m h)) e f);
-}
-
-pub does : (script : Script) (from : Origin) (s : ℕ) (y z : Session) (a : Act) (h new : Journal) (x w : PartsState) (xs : List Session) → AreSessions script h xs → slice_get xs s ≡ Some y →
-    (v : Serves script from (number_of y) a h new x w) → was_killed s h ≡ false → next script s (own s h) ≡ Some a → is_outside a ≡ false →
-    left_in script z < left_in script y → Does script s h new xs (slice_set xs s z)
-does script from s y z a h new x w xs k p v live n i l = record {
-  entry = entry_of h (number_of y) a v.answer;
-  by = ap Some (k.numbers s y p);
-  grown = v.grown;
-  due = rw (live, n) refl;
-  inside = i;
-  less = subst (λ o. left_or script (slice_get (slice_set xs s z) s) < left_or script o) (sym p)
-      (subst (λ o. left_or script o < left_in script y) (sym (set_there xs s z (slice_get_within xs s y p))) l);
-}
-  where
-    set_there : (ys : List Session) (n : ℕ) (u : Session) → n < length ys → slice_get (slice_set ys n u) n ≡ Some u
-    set_there ys n u b = slice_get-get_or (slice_set ys n u) n u (omega (arith, length-set ys n u, b)) ∙ ap Some (get_or-set_same ys n u u b)

@@ -1,5 +1,6 @@
 pub mod Stored
 pub mod Served
+pub mod Brought
 pub mod OwnServed
 pub mod Allowed
 pub mod Begun
@@ -7,3 +8,5 @@ pub mod Ready
 pub mod Going
 pub mod Playing
 pub mod FromOutside
+pub mod Short
+pub mod Moved

@@ -1,5 +1,5 @@
 -- Acts that a session answers itself: the reply is due, and the parts stand for the journal with the entry.
-use Rattle.std.proofs.Common.{◌≡◌, ℕ, ◌+◌, Bool, true, false, cond, not, ◌||◌, List, ◌∷◌, length, Some, None, Option, refl, sym, ◌∙◌, subst, arith}
+use Rattle.std.proofs.Common.{◌≡◌, ℕ, ◌+◌, ap, Bool, true, false, cond, not, ◌||◌, List, ◌∷◌, length, Some, None, Option, refl, sym, ◌∙◌, subst, arith}
 use Rattle.std.proofs.lemmas.Bool.{false≢true}
 use Rattle.hib_journal.specs.Types.{Change, Strategy, Script, Part, Act, Reply}
 use Rattle.hib_journal.specs.Sessions.{Journal, own, changes_in}
@@ -15,10 +15,12 @@ use Rattle.hib_engines.specs.Laws.{Laws}
 use Rattle.hib_engines.specs.Served.{is_for}
 use Rattle.hib_engines.proofs.RegistryServed.{end_stands}
 use Rattle.hib_engines.proofs.Stays.{registry_kept}
-use Rattle.hib_core.specs.Standing.{Origin, RoseWithin, entry_of, own_after, PartsState, IsReady, IsAnswered, IsAskedFor}
+use Rattle.hib_core.specs.Standing.{Origin, RoseWithin, entry_of, own_after, PartsState, IsReady, IsAnswered, IsAskedFor, IsStill}
 use Rattle.hib_core.specs.Factory.{IsTold}
 use Rattle.hib_core.proofs.Stored.{reply_any, own_is}
-use Rattle.hib_core.proofs.Served.{AreKept, kept, parts_of, late}
+use Rattle.hib_core.proofs.Served.{AreKept, kept, parts_of, late, still_same}
+use Rattle.hib_outside.specs.Causes.{Rose}
+use Rattle.hib_session.specs.Memory.{brings}
 
 -- a session answers no fault
 abbrev is_calm : Option Reply → Bool
@@ -123,6 +125,7 @@ own_told l script from h s a r x y k p q = record {
   mine = λ t e. same_some r t (p ∙ e);
   asked = subst (λ b. RoseWithin x.store.asked (one_if b) y.store.asked) (sym (own_silent a (changes_in (own s h)) o))
       (subst (λ v. RoseWithin x.store.asked 0 v.store.asked) (sym q) (record { later = omega arith; few = omega arith }));
+  fault = λ f. absurd (false≢true (sym (own_no_fault script (own s h) a r (sym p)) ∙ f));
 }
   where
     z : PartsState
@@ -139,5 +142,13 @@ own_told l script from h s a r x y k p q = record {
 
 -- and those of the parts
 pub part_told : (script : Script) (from : Origin) (h : Journal) (s : ℕ) (a : Act) (r : Reply) (x y : PartsState) → own_reply script (own s h) a ≡ None →
-    IsAnswered script from h s a r y → IsAskedFor h s a x y → IsTold script from h s a r x y
-part_told script from h s a r x y p v w = record { answered = v; mine = λ t e. absurd (none_some t (sym p ∙ e)); asked = w }
+    IsAnswered script from h s a r y → IsAskedFor h s a x y → (is_fault r ≡ true → Rose x.store.faults y.store.faults) → IsTold script from h s a r x y
+part_told script from h s a r x y p v w f = record { answered = v; mine = λ t e. absurd (none_some t (sym p ∙ e)); asked = w; fault = f }
+
+-- an own act that brings something to the session changes no part
+brings_own : (s : ℕ) (a : Act) (ps : Opened) → brings a ≡ true → own_after s a ps ≡ ps
+brings_own s Act.End ps b = absurd (false≢true b)
+brings_own s _ ps b = refl
+
+pub own_still : (s : ℕ) (a : Act) (x y : PartsState) → y ≡ record x { registry = own_after s a x.registry } → brings a ≡ true → IsStill x y
+own_still s a x y q b = still_same x y (q ∙ ap (λ ps. record x { registry = ps }) (brings_own s a x.registry b))

@@ -11,7 +11,7 @@ use Rattle.hib_journal.specs.Plan.{Plan, left_of, first_act}
 use Rattle.hib_journal.specs.Next.{next, statements, blocks}
 use Rattle.hib_journal.specs.Played.{has_next, bind, play_steps, play_order, play_orders, play_sessions, is_over, is_played}
 use Rattle.hib_core.specs.Factory.{Does, IsOver}
-use Rattle.hib_core.specs.Playing.{Play, played, play_all, Leads}
+use Rattle.hib_core.specs.Playing.{Play, played, play_all, play_script, GoesOn, Leads}
 use Rattle.hib_core.proofs.Stored.{self_by}
 use Rattle.hib_core.proofs.Going.{killed_same}
 
@@ -25,6 +25,17 @@ leads_on a b c old mid new x y = record {
       ∙ (sym (append_assoc (reverse y.added) (reverse x.added) old) ∙ ap (λ r. r ++ old) (sym (reverse-append x.added y.added))));
   plays = λ rest. ap (a old) (append_assoc x.added y.added rest) ∙ (x.plays (y.added ++ rest) ∙ y.plays rest);
 }
+
+-- a journal that has gone on
+
+pub goes_by : (p q : Play) (old new : Journal) → Leads p q old new → GoesOn old new
+goes_by p q old new w = (reverse w.added, w.grown)
+
+pub goes_then : (old mid new : Journal) → GoesOn old mid → GoesOn mid new → GoesOn old new
+goes_then old mid new a b = (b.0 ++ a.0, b.1 ∙ (ap (λ m. b.0 ++ m) a.1 ∙ sym (append_assoc b.0 a.0 old)))
+
+pub goes_same : (old new : Journal) → new ≡ old → GoesOn old new
+goes_same old new e = ([], e)
 
 -- one step of a session
 
@@ -130,19 +141,20 @@ orders_done script n all old new e x =
 
 -- all of it
 
-pub is_all_played : (script : Script) (mid h : Journal) → Leads (play_orders script script.schedule) played [] mid →
-    Leads (play_sessions script (range_with_len 0 (length script.sessions))) played mid h → is_played script h ≡ true
-unfolding is_played
-is_all_played script mid h x y = ap is_over (ap (all []) at_once ∙ z.plays [])
+pub script_leads : (script : Script) (old mid h : Journal) → Leads (play_orders script script.schedule) played old mid →
+    Leads (play_sessions script (range_with_len 0 (length script.sessions))) played mid h → Leads (play_script script) played old h
+script_leads script old mid h x y = leads_on (play_script script) sessions played old mid h (bound (play_orders script script.schedule) sessions old mid x) y
   where
     sessions : Play
     sessions = play_sessions script (range_with_len 0 (length script.sessions))
 
-    all : Play
-    all past rest = bind (play_orders script script.schedule past rest) sessions
-
-    z : Leads all played [] h
-    z = leads_on all sessions played [] mid h (bound (play_orders script script.schedule) sessions [] mid x) y
+pub is_all_played : (script : Script) (mid h : Journal) → Leads (play_orders script script.schedule) played [] mid →
+    Leads (play_sessions script (range_with_len 0 (length script.sessions))) played mid h → is_played script h ≡ true
+unfolding is_played
+is_all_played script mid h x y = ap is_over (ap (play_script script []) at_once ∙ z.plays [])
+  where
+    z : Leads (play_script script) played [] h
+    z = script_leads script [] mid h x y
 
     at_once : reverse h ≡ z.added ++ []
     at_once = ap reverse (z.grown ∙ append-nil (reverse z.added)) ∙ (reverse-reverse z.added ∙ sym (append-nil z.added))
@@ -179,7 +191,7 @@ over_left : (mine : Journal) → left_of Plan.Over mine ≡ Plan.Over
 over_left [] = refl
 over_left (e ∷ m) = rw (over_left m) refl
 
-unknown : (script : Script) (s : ℕ) (mine : Journal) → length script.sessions ≤ s → next script s mine ≡ None
+pub unknown : (script : Script) (s : ℕ) (mine : Journal) → length script.sessions ≤ s → next script s mine ≡ None
 unfolding next
 unknown script s mine l = ap (λ d. first_act (left_of (blocks script Mode.Normal true (statements d) []) mine)) (slice_get_past script.sessions s l) ∙ ap first_act (over_left mine)
 

@@ -1,16 +1,19 @@
 -- What a factory keeps: its journal is legal, and its parts and sessions stand for it.
-use Rattle.std.specs.Prelude.{◌≡◌, ◌⊎◌, ℕ, ◌<◌, ◌^◌, Bool, true, false, ◌||◌, List, ◌∷◌, length, slice_get, Some, Option, None}
+use Rattle.std.specs.Prelude.{◌≡◌, ℕ, ◌+◌, ◌<◌, ◌^◌, Bool, true, false, ◌||◌, List, ◌∷◌, length, slice_get, Some, Option, None}
+use Rattle.hib_base.specs.Tables.{Tables}
 use Rattle.hib_journal.specs.Types.{Order, Script, Act, Reply, Entry}
 use Rattle.hib_journal.specs.Kept.{Kept, past}
 use Rattle.hib_journal.specs.Sessions.{Journal, own, was_killed}
 use Rattle.hib_journal.specs.Next.{next, is_cached}
 use Rattle.hib_journal.specs.Legal.{IsLegal, is_outside}
 use Rattle.hib_journal.specs.Played.{has_next}
-use Rattle.hib_journal.specs.Runs.{IsNumbered, ask_count}
+use Rattle.hib_journal.specs.Runs.{IsNumbered, ask_count, is_fault}
 use Rattle.hib_session.specs.declared.session.Session.{Session}
-use Rattle.hib_session.specs.Session.{Follows, number_of, is_killed, own_reply, left_in}
+use Rattle.hib_law.specs.Law.{Obeys}
+use Rattle.hib_outside.specs.Causes.{Rose}
+use Rattle.hib_session.specs.Session.{Follows, IsTaken, number_of, is_killed, own_reply, left_in}
 use Rattle.hib_session.specs.Due.{is_asked}
-use Rattle.hib_core.specs.Standing.{Origin, RoseWithin, PartsState, AreParts, IsDue, IsAnswered, IsAskedFor, entry_of}
+use Rattle.hib_core.specs.Standing.{Origin, RoseWithin, PartsState, AreParts, IsStill, IsDue, IsAnswered, IsAskedFor, entry_of}
 
 -- a factory as contracts see it
 pub record FactoryState : Type 0 where
@@ -44,22 +47,36 @@ pub record IsBuilt (script : Script) : Type 0 where
   pub results : 0 < script.results
   pub queries : HasQueries script
 
--- the journal is legal, with its ticks in turn, and the parts stand for it
+-- the law holds of every legal journal
+abbrev pub Lawful : Type 0
+Lawful = (script : Script) (told : Option Tables) (h : Journal) → IsLegal script told h → Obeys script told h
+
+-- the journal is legal, so that it obeys the law, with its ticks in turn, and the parts stand for it
 pub record IsRun (script : Script) (from : Origin) (h : Journal) (x : PartsState) : Type 0 where
   pub legal : IsLegal script from.tables h
+  pub law : Obeys script from.tables h
   pub numbered : IsNumbered h
   pub parts : AreParts script from h x
   pub built : IsBuilt script
 
--- the sessions follow too, and the keeper was asked no more often than the journal says
-pub record IsGoing (script : Script) (from : Origin) (h : Journal) (x : PartsState) (xs : List Session) : Type 0 where
-  pub asked : RoseWithin from.asked (ask_count h) x.store.asked
-  pub sessions : AreSessions script h xs
+-- the keeper was asked no more often than the journal says
+abbrev pub IsAsked : Origin → Journal → PartsState → Type 0
+IsAsked from h x = RoseWithin from.asked (ask_count h) x.store.asked
+
+-- or once more, where memory ran out
+abbrev pub IsAskedOnceMore : Origin → Journal → PartsState → Type 0
+IsAskedOnceMore from h x = RoseWithin from.asked (ask_count h + 1) x.store.asked
 
 pub record IsStanding (script : Script) (from : Origin) (x : FactoryState) : Type 0 where
   pub run : IsRun script from (past x.journal) x.parts
-  -- unless memory ran out
-  pub going : x.refused ≡ false → IsGoing script from (past x.journal) x.parts x.sessions
+  pub sessions : AreSessions script (past x.journal) x.sessions
+  -- unless memory ran out in a call
+  pub asked : x.refused ≡ false → IsAsked from (past x.journal) x.parts
+
+-- a session is killed where the journal says so, and else as far as its own entries
+pub record IsMember (script : Script) (h : Journal) (y : Session) : Type 0 where
+  pub killed : is_killed y ≡ was_killed (number_of y) h
+  pub follow : was_killed (number_of y) h ≡ false → Follows script y (own (number_of y) h)
 
 -- an act is due in a session, which was not killed
 pub record IsTurn (script : Script) (h : Journal) (y : Session) (a : Act) : Type 0 where
@@ -68,19 +85,46 @@ pub record IsTurn (script : Script) (h : Journal) (y : Session) (a : Act) : Type
   pub next : next script (number_of y) (own (number_of y) h) ≡ Some a
   pub due : IsDue script (own (number_of y) h) a
 
--- an act was answered, with the session's own reply where it has one, and the keeper was asked as the act allows
+-- an act was answered, with the session's own reply where it has one, the keeper was asked as the act allows, and it failed where
+-- the reply says so
 pub record IsTold (script : Script) (from : Origin) (h : Journal) (s : ℕ) (a : Act) (r : Reply) (x y : PartsState) : Type 0 where
   pub answered : IsAnswered script from h s a r y
   pub mine : (q : Reply) → own_reply script (own s h) a ≡ Some q → r ≡ q
   pub asked : IsAskedFor h s a x y
+  pub fault : is_fault r ≡ true → Rose x.store.faults y.store.faults
 
--- an act of session s was answered, and its entry added
-pub record Serves (script : Script) (from : Origin) (s : ℕ) (a : Act) (h new : Journal) (x y : PartsState) : Type 0 where
+-- an act of session s was answered, with this entry
+pub record Answers (script : Script) (from : Origin) (s : ℕ) (a : Act) (h : Journal) (e : Entry) (x y : PartsState) : Type 0 where
   pub answer : Reply
-  pub grown : new ≡ entry_of h s a answer ∷ h
-  pub run : IsRun script from new y
-  pub mine : (q : Reply) → own_reply script (own s h) a ≡ Some q → answer ≡ q
+  pub entry : e ≡ entry_of h s a answer
+  pub run : IsRun script from (e ∷ h) y
+  pub taken : IsTaken script s (own s h) e
   pub asked : IsAskedFor h s a x y
+  pub fault : is_fault answer ≡ true → Rose x.store.faults y.store.faults
+
+-- an act of session y was answered, its entry added, and taken by the session
+pub record Serves (script : Script) (from : Origin) (a : Act) (h new : Journal) (x w : PartsState) (y z : Session) : Type 0 where
+  pub answer : Reply
+  pub grown : new ≡ entry_of h (number_of y) a answer ∷ h
+  pub run : IsRun script from new w
+  pub follows : Follows script z (entry_of h (number_of y) a answer ∷ own (number_of y) h)
+  pub less : left_in script z < left_in script y
+  pub asked : IsAskedFor h (number_of y) a x w
+  pub fault : is_fault answer ≡ true → Rose x.store.faults w.store.faults
+
+-- nothing was added: the parts are as before, but for the keeper's counts, and the session follows what it followed
+pub record Leaves (script : Script) (h new : Journal) (x w : PartsState) (y z : Session) : Type 0 where
+  pub same : new ≡ h
+  pub parts : IsStill x w
+  pub follows : (mine : Journal) → Follows script y mine → Follows script z mine
+
+-- the act that was due in session y was served
+pub record Moves (script : Script) (from : Origin) (h new : Journal) (x w : PartsState) (y z : Session) : Type 0 where
+  pub act : Act
+  pub live : was_killed (number_of y) h ≡ false
+  pub next : next script (number_of y) (own (number_of y) h) ≡ Some act
+  pub inside : is_outside act ≡ false
+  pub served : Serves script from act h new x w y z
 
 -- a session that was at this place, and is killed where this says so
 pub record IsAsBefore (kills : Bool) (xs : List Session) (s : ℕ) (y : Session) : Type 0 where
@@ -103,12 +147,6 @@ left_or script (Some y) = left_in script y
 abbrev pub left_at : Script → ℕ → List Session → ℕ
 left_at script s xs = left_or script (slice_get xs s)
 
--- one entry of session s was added
-pub record AddsEntry (s : ℕ) (old new : Journal) : Type 0 where
-  pub entry : Entry
-  pub by : entry.session ≡ Some s
-  pub grown : new ≡ entry ∷ old
-
 -- an act was due in session s, its entry was added, and less is left of the session
 pub record Does (script : Script) (s : ℕ) (old new : Journal) (xs ys : List Session) : Type 0 where
   pub entry : Entry
@@ -117,10 +155,6 @@ pub record Does (script : Script) (s : ℕ) (old new : Journal) (xs ys : List Se
   pub due : has_next script old s ≡ true
   pub inside : is_outside entry.act ≡ false
   pub less : left_at script s ys < left_at script s xs
-
--- one entry of session s was added at most
-abbrev pub AddsAtMost : ℕ → Journal → Journal → Type 0
-AddsAtMost s old new = (new ≡ old) ⊎ AddsEntry s old new
 
 -- session s has no act left, and no entry was added
 pub record IsOver (script : Script) (s : ℕ) (old new : Journal) : Type 0 where

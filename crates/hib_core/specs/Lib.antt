@@ -1,3 +1,4 @@
 pub mod Standing
 pub mod Factory
 pub mod Playing
+pub mod Bound

@@ -2,7 +2,8 @@
 use Rattle.std.specs.Prelude.{◌≡◌, ℕ, suc, length, ◌++◌, reverse, Some, Option}
 use Rattle.hib_journal.specs.Types.{Script}
 use Rattle.hib_journal.specs.Sessions.{Journal}
-use Rattle.hib_journal.specs.Played.{Playing, play_steps}
+use Rattle.std.specs.List.{range_with_len}
+use Rattle.hib_journal.specs.Played.{Playing, bind, play_steps, play_orders, play_sessions}
 
 -- what plays, after a journal, the entries that come, the oldest first
 abbrev pub Play : Type 0
@@ -15,6 +16,15 @@ played past rest = Some (past, rest)
 -- a session, to its end
 abbrev pub play_all : Script → ℕ → Play
 play_all script s past rest = play_steps script s (suc (length rest)) past rest
+
+-- the orders of the schedule, one after the other, and then each session to its end
+abbrev pub play_script : Script → Play
+play_script script past rest =
+    bind (play_orders script script.schedule past rest) (λ p r. play_sessions script (range_with_len 0 (length script.sessions)) p r)
+
+-- a journal has gone on from another, or is still that
+abbrev pub GoesOn : Journal → Journal → Type 0
+GoesOn old new = (added : Journal) × (new ≡ added ++ old)
 
 -- entries were added to a journal, the oldest first: to play all from the old journal is to play them, and then what is left
 pub record Leads (all left : Play) (old new : Journal) : Type 0 where

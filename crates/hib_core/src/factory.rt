@@ -1,20 +1,24 @@
 // The factory: sessions over shared parts, and the journal of their steps.
-ghost use Rattle.std.specs.Prelude.{◌≡◌, ◌<◌, ◌≤◌, ◌^◌, ◌==◌, ℕ, [], length, slice_get, OnOk, OnErr, IfOk, IfErr, Ok, Some, None, true, false};
+ghost use Rattle.std.specs.Prelude.{◌≡◌, ◌∷◌, ◌+◌, ◌<◌, ◌≤◌, ◌^◌, ◌==◌, ℕ, [], length, slice_get, OnOk, OnErr, IfOk, IfErr, IsOk, Ok, Some, None, true, false};
 ghost use Rattle.std.specs.List.{range_with_len};
 ghost use Rattle.hib_journal.specs.Kept.{past};
 ghost use Rattle.hib_base.specs.declared.scripts.Order.{Order};
 ghost use Rattle.hib_base.specs.Valid.{is_valid};
-ghost use Rattle.hib_journal.specs.Sessions.{own};
+ghost use Rattle.hib_journal.specs.Sessions.{own, was_killed, is_open};
 ghost use Rattle.hib_journal.specs.Next.{is_cached};
 ghost use Rattle.hib_journal.specs.Played.{has_next, play_steps, play_order, play_orders, play_sessions, is_played};
 ghost use Rattle.hib_journal.specs.Legal.{IsLegal};
-ghost use Rattle.hib_journal.specs.Runs.{IsNumbered, told_committed, fault_count, ask_count};
-ghost use Rattle.hib_core.specs.Standing.{RoseBy, RoseWithin, told_start};
+ghost use Rattle.hib_journal.specs.Runs.{IsNumbered, told_committed, is_fault, fault_count, ask_count};
+ghost use Rattle.hib_base.specs.declared.entries.Entry.{Entry};
+ghost use Rattle.hib_law.specs.Law.{Obeys};
+ghost use Rattle.hib_core.specs.Standing.{RoseBy, RoseWithin, IsStill, told_start};
 ghost use Rattle.hib_outside.specs.Causes.{Rose};
 ghost use Rattle.hib_store.specs.Stores.{handed_back, is_store_fault};
-ghost use Rattle.hib_core.specs.Factory.{Does, IsOver, AddsAtMost, AreOver, IsSound};
-ghost use Rattle.hib_core.specs.Playing.{played, play_all, Leads};
+ghost use Rattle.hib_core.specs.Bound.{most_in, outside_count};
+ghost use Rattle.hib_core.specs.Factory.{Does, IsOver, IsAskedOnceMore, AreOver, IsSound};
+ghost use Rattle.hib_core.specs.Playing.{played, play_all, play_script, GoesOn, Leads};
 
+use crate::bounds::runs_are_short;
 use crate::names::Name;
 use crate::opening::{open_regions, open_sessions, ready};
 use crate::outside;
@@ -23,6 +27,7 @@ use crate::turns::{Stepped, turn};
 use hib_base::{Key, Order, Script, SessionNo};
 use hib_engines::{Registry, ResultsEngine, StampsEngine, StoreEngine, laws};
 use hib_journal::Journal;
+use hib_law::law;
 use hib_outside::Keeper;
 use hib_session::Session;
 use hib_store::OpenFault;
@@ -35,7 +40,7 @@ pub struct Factory<K: Keeper, N: Name> {
     parts: Parts<K>,
     sessions: Vec<Session>,
     journal: Journal,
-    /// Whether memory ran out in a step: then no session goes on.
+    /// Whether memory ran out in a call.
     refused: bool,
     of: PhantomData<N>,
 }
@@ -66,6 +71,7 @@ impl<K: Keeper, N: Name> Factory<K, N> {
         ensures fault { IfErr result (λ e. is_store_fault e ≡ true → Rose (K.faults keeper) (K.faults (handed_back e))) }
     {
         laws();
+        law();
         ready(&script);
         let Ok(regions) = open_regions(alloc, &script) else {
             return Err(OpenFault::NoMemory(keeper));
@@ -96,19 +102,22 @@ impl<K: Keeper, N: Name> Factory<K, N> {
         })
     }
 
-    /// One step of a session: the act that is due in it, if one is. Where memory runs out the journal stands as it was or
-    /// with that act's entry, and no session goes on.
+    /// One step of a session: the act that is due in it, if one is. Where memory runs out no entry is added and nothing has changed,
+    /// but the answer of `refused` and the keeper's counts; so a later call may succeed.
     pub fn step(&mut self, alloc: Global, number: SessionNo) -> Result<Stepped, AllocError>
         requires known { number < length N.script.sessions }
         ensures did { result ≡ Ok Stepped.Did → Does N.script number (past self.old.journal) (past self.new.journal) self.old.sessions self.new.sessions }
         ensures done { result ≡ Ok Stepped.Done → IsOver N.script number (past self.old.journal) (past self.new.journal) }
-        ensures going { OnOk result (self.new.refused ≡ false) }
-        ensures stops { OnErr result (AddsAtMost number (past self.old.journal) (past self.new.journal)) }
+        ensures law { Obeys N.script N.from.tables (past self.new.journal) }
+        ensures killed { was_killed number (past self.old.journal) ≡ true → result ≡ Ok Stepped.Done }
+        ensures inside { outside_count (past self.new.journal) ≡ outside_count (past self.old.journal) }
+        ensures fault { (e : Entry) → past self.new.journal ≡ e ∷ past self.old.journal → is_fault e.reply ≡ true → Rose self.old.parts.store.faults self.new.parts.store.faults }
+        ensures going { OnOk result (self.new.refused ≡ self.old.refused) }
+        ensures same { OnErr result (past self.new.journal ≡ past self.old.journal) }
+        ensures parts { OnErr result (IsStill self.old.parts self.new.parts) }
+        ensures asked { OnErr result (self.old.refused ≡ false → IsAskedOnceMore N.from (past self.new.journal) self.new.parts) }
         ensures refused { OnErr result (self.new.refused ≡ true) }
     {
-        if self.refused {
-            return Err(AllocError);
-        }
         match turn::<K, N>(
             alloc,
             &self.script,
@@ -123,6 +132,27 @@ impl<K: Keeper, N: Name> Factory<K, N> {
                 Err(error)
             }
         }
+    }
+
+    /// The entries of the steps so far.
+    pub fn journal(&self) -> &Journal
+        ensures { result.now ≡ self.now.journal }
+    {
+        &self.journal
+    }
+
+    /// The script of this name.
+    pub fn script(&self) -> &Script
+        ensures { result.now ≡ N.script }
+    {
+        &self.script
+    }
+
+    /// Whether memory ran out in a call.
+    pub fn refused(&self) -> bool
+        ensures { result ≡ self.now.refused }
+    {
+        self.refused
     }
 
     /// How many sessions there are.
@@ -149,8 +179,15 @@ impl<K: Keeper, N: Name> Factory<K, N> {
         *self.script.schedule.at(at)
     }
 
+    /// The journal obeys the law.
+    fn lawful(&self)
+        ensures { Obeys N.script N.from.tables (past self.now.journal) }
+    {
+        let _ = &self.journal;
+    }
+
     /// Runs a session for so many steps, or to its end where that comes before; one that isn't there has none. Where memory
-    /// runs out no session goes on, and the journal so far stands.
+    /// runs out the steps so far stand.
     pub fn run_steps(
         &mut self,
         alloc: Global,
@@ -158,10 +195,15 @@ impl<K: Keeper, N: Name> Factory<K, N> {
         steps: u32,
     ) -> Result<(), AllocError>
         ensures played { OnOk result (Leads (play_steps N.script number steps) played (past self.old.journal) (past self.new.journal)) }
-        ensures going { OnOk result (self.old.refused ≡ false → self.new.refused ≡ false) }
+        ensures inside { outside_count (past self.new.journal) ≡ outside_count (past self.old.journal) }
+        ensures law { Obeys N.script N.from.tables (past self.new.journal) }
+        ensures going { OnOk result (self.new.refused ≡ self.old.refused) }
+        ensures stands { OnErr result (GoesOn (past self.old.journal) (past self.new.journal)) }
+        ensures asked { OnErr result (self.old.refused ≡ false → IsAskedOnceMore N.from (past self.new.journal) self.new.parts) }
         ensures refused { OnErr result (self.new.refused ≡ true) }
     {
         if number.0 as usize >= self.sessions() {
+            self.lawful();
             return Ok(());
         }
         for step in 0..steps {
@@ -170,17 +212,22 @@ impl<K: Keeper, N: Name> Factory<K, N> {
                 Stepped::Done => return Ok(()),
             }
         }
+        self.lawful();
         Ok(())
     }
 
-    /// Runs a session to its end. Where memory runs out no session goes on, and the journal so far stands.
+    /// Runs a session to its end. Where memory runs out the steps so far stand.
     pub fn run_session(&mut self, alloc: Global, number: SessionNo) -> Result<(), AllocError>
         requires known { number < length N.script.sessions }
         ensures played { OnOk result (Leads (play_all N.script number) played (past self.old.journal) (past self.new.journal)) }
         ensures over { OnOk result (has_next N.script (past self.new.journal) number ≡ false) }
         ensures others { OnOk result ((s : ℕ) → (number == s) ≡ false → own s (past self.new.journal) ≡ own s (past self.old.journal)) }
         ensures stay { OnOk result ((s : ℕ) → (number == s) ≡ false → has_next N.script (past self.new.journal) s ≡ has_next N.script (past self.old.journal) s) }
-        ensures going { OnOk result (self.new.refused ≡ false) }
+        ensures inside { outside_count (past self.new.journal) ≡ outside_count (past self.old.journal) }
+        ensures law { Obeys N.script N.from.tables (past self.new.journal) }
+        ensures going { OnOk result (self.new.refused ≡ self.old.refused) }
+        ensures stands { OnErr result (GoesOn (past self.old.journal) (past self.new.journal)) }
+        ensures asked { OnErr result (self.old.refused ≡ false → IsAskedOnceMore N.from (past self.new.journal) self.new.parts) }
         ensures refused { OnErr result (self.new.refused ≡ true) }
     {
         'steps: loop {
@@ -191,74 +238,82 @@ impl<K: Keeper, N: Name> Factory<K, N> {
         }
     }
 
-    /// Runs each session to its end, the first one first. Where memory runs out no session goes on, and the journal so far
-    /// stands.
+    /// Runs each session to its end, the first one first. Where memory runs out the steps so far stand.
     pub fn finish(&mut self, alloc: Global) -> Result<(), AllocError>
         ensures played { OnOk result (Leads (play_sessions N.script (range_with_len 0 (length N.script.sessions))) played (past self.old.journal) (past self.new.journal)) }
         ensures over { OnOk result (AreOver N.script (past self.new.journal)) }
-        ensures going { OnOk result (self.old.refused ≡ false → self.new.refused ≡ false) }
+        ensures inside { outside_count (past self.new.journal) ≡ outside_count (past self.old.journal) }
+        ensures law { Obeys N.script N.from.tables (past self.new.journal) }
+        ensures going { OnOk result (self.new.refused ≡ self.old.refused) }
+        ensures stands { OnErr result (GoesOn (past self.old.journal) (past self.new.journal)) }
+        ensures asked { OnErr result (self.old.refused ≡ false → IsAskedOnceMore N.from (past self.new.journal) self.new.parts) }
         ensures refused { OnErr result (self.new.refused ≡ true) }
     {
         for number in 0..self.sessions() {
             self.run_session(alloc, SessionNo(number as u32))?;
         }
+        self.lawful();
         Ok(())
     }
 
     /// Kills a session, if it is open: no act of it is due from then on, and its locks stay until their time is over. Where
-    /// memory runs out no entry is added, and no session goes on.
+    /// memory runs out nothing has changed but the answer of `refused`.
     pub fn kill(&mut self, number: SessionNo) -> Result<(), AllocError>
         ensures played { OnOk result (Leads (play_order N.script (Order.Kill number)) played (past self.old.journal) (past self.new.journal)) }
+        ensures closed { is_open number (past self.old.journal) ≡ false → IsOk result }
+        ensures outside { outside_count (past self.new.journal) ≤ outside_count (past self.old.journal) + 1 }
+        ensures law { Obeys N.script N.from.tables (past self.new.journal) }
+        ensures going { OnOk result (self.new.refused ≡ self.old.refused) }
         ensures same { OnErr result (past self.new.journal ≡ past self.old.journal) }
-        ensures going { OnOk result (self.old.refused ≡ false → self.new.refused ≡ false) }
-        ensures refused { OnErr result (self.new.refused ≡ true) }
+        ensures err { OnErr result (self.new ≡ record self.old { journal = self.new.journal; refused = true }) }
     {
-        if self.refused {
-            return Err(AllocError);
-        }
         let killed = outside::kill::<K, N>(
             number,
             &mut self.sessions,
             &mut self.parts,
             &mut self.journal,
         );
-        self.refused = killed.is_err();
+        if killed.is_err() {
+            self.refused = true;
+        }
         killed
     }
 
-    /// Evicts a row of a cached entity from its region. Where memory runs out no entry is added, and no session goes on.
+    /// Evicts a row of a cached entity from its region. Where memory runs out nothing has changed but the answer of `refused`.
     pub fn evict(&mut self, alloc: Global, key: Key) -> Result<(), AllocError>
         requires cached { is_cached N.script key.entity ≡ true }
         ensures played { OnOk result (Leads (play_order N.script (Order.Evict key)) played (past self.old.journal) (past self.new.journal)) }
+        ensures outside { outside_count (past self.new.journal) ≤ outside_count (past self.old.journal) + 1 }
+        ensures law { Obeys N.script N.from.tables (past self.new.journal) }
+        ensures going { OnOk result (self.new.refused ≡ self.old.refused) }
         ensures same { OnErr result (past self.new.journal ≡ past self.old.journal) }
-        ensures going { OnOk result (self.old.refused ≡ false → self.new.refused ≡ false) }
-        ensures refused { OnErr result (self.new.refused ≡ true) }
+        ensures err { OnErr result (self.new ≡ record self.old { journal = self.new.journal; refused = true }) }
     {
-        if self.refused {
-            return Err(AllocError);
-        }
         let evicted = outside::evict::<K, N>(alloc, key, &mut self.parts, &mut self.journal);
-        self.refused = evicted.is_err();
+        if evicted.is_err() {
+            self.refused = true;
+        }
         evicted
     }
 
     /// A restart: the sessions that are open are killed, and nothing is cached, locked, stamped or kept any more. Where memory
-    /// runs out no entry is added, and no session goes on.
+    /// runs out nothing has changed but the answer of `refused`.
     pub fn restart(&mut self) -> Result<(), AllocError>
         ensures played { OnOk result (Leads (play_order N.script Order.Restart) played (past self.old.journal) (past self.new.journal)) }
+        ensures outside { outside_count (past self.new.journal) ≤ outside_count (past self.old.journal) + 1 }
+        ensures law { Obeys N.script N.from.tables (past self.new.journal) }
+        ensures going { OnOk result (self.new.refused ≡ self.old.refused) }
         ensures same { OnErr result (past self.new.journal ≡ past self.old.journal) }
-        ensures going { OnOk result (self.old.refused ≡ false → self.new.refused ≡ false) }
-        ensures refused { OnErr result (self.new.refused ≡ true) }
+        ensures err { OnErr result (self.new ≡ record self.old { journal = self.new.journal; refused = true }) }
     {
-        if self.refused {
-            return Err(AllocError);
-        }
         let restarted = outside::restart::<K, N>(
             &mut self.sessions,
             &mut self.parts,
             &mut self.journal,
         );
-        self.refused = restarted.is_err();
+        if restarted.is_err() {
+            self.refused = true;
+        }
         restarted
     }
 
@@ -266,9 +321,14 @@ impl<K: Keeper, N: Name> Factory<K, N> {
     fn obey(&mut self, alloc: Global, order: Order) -> Result<(), AllocError>
         requires sound { IsSound N.script order }
         ensures played { OnOk result (Leads (play_order N.script order) played (past self.old.journal) (past self.new.journal)) }
-        ensures going { OnOk result (self.old.refused ≡ false → self.new.refused ≡ false) }
+        ensures outside { outside_count (past self.new.journal) ≤ outside_count (past self.old.journal) + 1 }
+        ensures law { Obeys N.script N.from.tables (past self.new.journal) }
+        ensures going { OnOk result (self.new.refused ≡ self.old.refused) }
+        ensures stands { OnErr result (GoesOn (past self.old.journal) (past self.new.journal)) }
+        ensures asked { OnErr result (self.old.refused ≡ false → IsAskedOnceMore N.from (past self.new.journal) self.new.parts) }
         ensures refused { OnErr result (self.new.refused ≡ true) }
     {
+        let _ = &self.refused;
         match order {
             Order::Run { session, steps } => self.run_steps(alloc, session, steps),
             Order::Kill { session } => self.kill(session),
@@ -280,7 +340,11 @@ impl<K: Keeper, N: Name> Factory<K, N> {
     /// Carries the orders of the schedule out, one after the other.
     fn follow_schedule(&mut self, alloc: Global) -> Result<(), AllocError>
         ensures played { OnOk result (Leads (play_orders N.script N.script.schedule) played (past self.old.journal) (past self.new.journal)) }
-        ensures going { OnOk result (self.old.refused ≡ false → self.new.refused ≡ false) }
+        ensures outside { outside_count (past self.new.journal) ≤ outside_count (past self.old.journal) + length N.script.schedule }
+        ensures law { OnErr result (Obeys N.script N.from.tables (past self.new.journal)) }
+        ensures going { OnOk result (self.new.refused ≡ self.old.refused) }
+        ensures stands { OnErr result (GoesOn (past self.old.journal) (past self.new.journal)) }
+        ensures asked { OnErr result (self.old.refused ≡ false → IsAskedOnceMore N.from (past self.new.journal) self.new.parts) }
         ensures refused { OnErr result (self.new.refused ≡ true) }
     {
         for at in 0..self.orders() {
@@ -291,11 +355,17 @@ impl<K: Keeper, N: Name> Factory<K, N> {
     }
 
     /// Plays the script: the orders of its schedule, one after the other, and then each session to its end, the first one
-    /// first. Where memory runs out no session goes on, and the journal so far stands.
+    /// first. Where memory runs out it stops there, and the steps so far stand. If memory ran out in no call before, the keeper was
+    /// asked once more than the journal says at most.
     pub fn play(&mut self, alloc: Global) -> Result<(), AllocError>
         ensures played { OnOk result (past self.old.journal ≡ [] → is_played N.script (past self.new.journal) ≡ true) }
+        ensures leads { OnOk result (Leads (play_script N.script) played (past self.old.journal) (past self.new.journal)) }
         ensures over { OnOk result (AreOver N.script (past self.new.journal)) }
-        ensures going { OnOk result (self.old.refused ≡ false → self.new.refused ≡ false) }
+        ensures outside { outside_count (past self.new.journal) ≤ outside_count (past self.old.journal) + length N.script.schedule }
+        ensures law { Obeys N.script N.from.tables (past self.new.journal) }
+        ensures going { OnOk result (self.new.refused ≡ self.old.refused) }
+        ensures stands { OnErr result (GoesOn (past self.old.journal) (past self.new.journal)) }
+        ensures asked { OnErr result (self.old.refused ≡ false → IsAskedOnceMore N.from (past self.new.journal) self.new.parts) }
         ensures refused { OnErr result (self.new.refused ≡ true) }
     {
         self.follow_schedule(alloc)?;
@@ -307,11 +377,15 @@ impl<K: Keeper, N: Name> Factory<K, N> {
         ensures script { result.1 ≡ N.script }
         ensures journal { result.2 ≡ self.journal }
         ensures legal { IsLegal N.script N.from.tables (past result.2) }
+        ensures law { Obeys N.script N.from.tables (past result.2) }
+        ensures short { length (past result.2) ≤ most_in N.script.sessions + outside_count (past result.2) }
         ensures numbered { IsNumbered (past result.2) }
         ensures rows { K.tables result.0 ≡ told_committed N.from.tables (past result.2) }
         ensures faults { RoseBy N.from.faults (fault_count (past result.2)) (K.faults result.0) }
+        ensures count { K.asked result.0 ≡ self.parts.store.asked }
         ensures asked { self.refused ≡ false → RoseWithin N.from.asked (ask_count (past result.2)) (K.asked result.0) }
     {
+        runs_are_short();
         let Factory {
             script,
             parts,

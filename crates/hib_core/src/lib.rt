@@ -1,6 +1,7 @@
 //! The factory: one step of one session at a time, each of which adds one entry to a journal that stays legal.
 #![tactic(auto)]
 
+mod bounds;
 mod factory;
 mod names;
 mod opening;
@@ -8,6 +9,7 @@ mod outside;
 mod parts;
 mod turns;
 
+pub use bounds::runs_are_short;
 pub use factory::Factory;
 pub use names::Name;
 pub use parts::Parts;

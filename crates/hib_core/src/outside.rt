@@ -1,41 +1,43 @@
 // What comes from outside of the sessions: kills, evictions and restarts.
-ghost use Rattle.std.specs.Prelude.{◌≡◌, ◌∷◌, ◌<◌, ◌^◌, ◌==◌, List, length, IsOk, OnOk, OnErr, true};
+ghost use Rattle.std.specs.Prelude.{◌≡◌, ◌∷◌, ◌+◌, ◌<◌, ◌≤◌, ◌^◌, ◌==◌, List, length, OnOk, OnErr, IsOk, true, false};
 ghost use Rattle.hib_base.specs.declared.scripts.Order.{Order};
 ghost use Rattle.hib_journal.specs.Kept.{past};
 ghost use Rattle.hib_journal.specs.Next.{is_cached};
+ghost use Rattle.hib_journal.specs.Sessions.{is_open};
 ghost use Rattle.hib_journal.specs.Played.{play_order};
 ghost use Rattle.hib_core.specs.Standing.{outside_entry};
 ghost use Rattle.hib_engines.specs.Registry.{holds};
-ghost use Rattle.hib_core.specs.Factory.{IsRun, IsGoing, AreKilled};
+ghost use Rattle.hib_core.specs.Bound.{outside_count};
+ghost use Rattle.hib_core.specs.Factory.{IsRun, IsAsked, AreSessions, AreKilled};
 ghost use Rattle.hib_core.specs.Playing.{played, Leads};
 ghost use Rattle.hib_session.specs.declared.session.Session.{Session};
 
 use crate::names::Name;
 use crate::parts::Parts;
-use crate::turns::part_of;
+use crate::turns::{add, part_of, reserve_tick};
 use hib_base::{Act, Entry, Key, Reply, SessionNo, Tick};
 use hib_engines::{Registry, laws};
 use hib_journal::Journal;
+use hib_law::law;
 use hib_outside::Keeper;
 use hib_session::Session;
 use std::alloc::{AllocError, Global};
 
-/// Adds the entry of an act from outside. Where the journal has room for it no memory is taken.
-fn tell(journal: &mut Journal, act: Act, reply: Reply) -> Result<(), AllocError>
-    ensures grown { OnOk result (past journal.new ≡ outside_entry (past journal.old) act reply ∷ past journal.old) }
-    ensures few { OnOk result (length (past journal.old) < 2 ^ 62) }
-    ensures room { 0 < journal.old.spare → IsOk result }
-    ensures err { OnErr result (past journal.new ≡ past journal.old) }
+/// Adds the entry of an act from outside, to a journal that has room for it. It takes no memory.
+fn tell(journal: &mut Journal, tick: Tick, act: Act, reply: Reply)
+    requires room { 0 < journal.old.spare }
+    requires tick { tick ≡ length (past journal.old) + 1 }
+    ensures { past journal.new ≡ outside_entry (past journal.old) act reply ∷ past journal.old }
 {
-    let tick = Tick(journal.len() as u64 + 1);
     let part = part_of(&act, SessionNo(0));
-    journal.push(Entry {
+    let entry = Entry {
         tick,
         session: None,
         part,
         act,
         reply,
-    })
+    };
+    add(journal, entry);
 }
 
 /// Kills the session at a place, if there is one.
@@ -59,8 +61,7 @@ fn kill_open(sessions: &mut Vec<Session>, registry: &Registry)
     }
 }
 
-/// Kills a session, if it is open: what it has written and not committed is dropped. Its locks stay until their time is over.
-/// Where memory runs out nothing has changed.
+/// Kills a session, if it is open. Its locks stay until their time is over. Where memory runs out nothing has changed.
 pub fn kill<K: Keeper, N: Name>(
     number: SessionNo,
     sessions: &mut Vec<Session>,
@@ -68,19 +69,24 @@ pub fn kill<K: Keeper, N: Name>(
     journal: &mut Journal,
 ) -> Result<(), AllocError>
     requires run { IsRun N.script N.from (past journal.old) parts.old }
-    requires going { IsGoing N.script N.from (past journal.old) parts.old sessions.old.items }
+    requires sessions { AreSessions N.script (past journal.old) sessions.old.items }
     ensures run { IsRun N.script N.from (past journal.new) parts.new }
-    ensures going { OnOk result (IsGoing N.script N.from (past journal.new) parts.new sessions.new.items) }
+    ensures sessions { AreSessions N.script (past journal.new) sessions.new.items }
+    ensures asked { IsAsked N.from (past journal.old) parts.old → IsAsked N.from (past journal.new) parts.new }
     ensures played { OnOk result (Leads (play_order N.script (Order.Kill number)) played (past journal.old) (past journal.new)) }
+    ensures outside { outside_count (past journal.new) ≤ outside_count (past journal.old) + 1 }
+    ensures closed { is_open number (past journal.old) ≡ false → IsOk result }
     ensures same { OnErr result (past journal.new ≡ past journal.old) }
-    ensures err { OnErr result ((parts.new ≡ parts.old) × (sessions.new.items ≡ sessions.old.items)) }
+    ensures parts { OnErr result (parts.new ≡ parts.old) }
+    ensures err { OnErr result (sessions.new.items ≡ sessions.old.items) }
 {
     laws();
+    law();
     if !parts.registry.is_open(number) {
         return Ok(());
     }
-    let act = Act::Kill { session: number };
-    tell(journal, act, Reply::Done)?;
+    let now = reserve_tick(journal)?;
+    tell(journal, now, Act::Kill { session: number }, Reply::Done);
     parts.kill(number);
     kill_at(sessions, number.0 as usize);
     Ok(())
@@ -96,38 +102,45 @@ pub fn evict<K: Keeper, N: Name>(
     requires cached { is_cached N.script key.entity ≡ true }
     requires run { IsRun N.script N.from (past journal.old) parts.old }
     ensures run { IsRun N.script N.from (past journal.new) parts.new }
-    ensures going { OnOk result ((xs : List Session) → IsGoing N.script N.from (past journal.old) parts.old xs → IsGoing N.script N.from (past journal.new) parts.new xs) }
+    ensures sessions { (xs : List Session) → AreSessions N.script (past journal.old) xs → AreSessions N.script (past journal.new) xs }
+    ensures asked { IsAsked N.from (past journal.old) parts.old → IsAsked N.from (past journal.new) parts.new }
     ensures played { OnOk result (Leads (play_order N.script (Order.Evict key)) played (past journal.old) (past journal.new)) }
+    ensures outside { outside_count (past journal.new) ≤ outside_count (past journal.old) + 1 }
     ensures same { OnErr result (past journal.new ≡ past journal.old) }
-    ensures err { OnErr result (parts.new ≡ parts.old) }
+    ensures parts { OnErr result (parts.new ≡ parts.old) }
 {
     laws();
-    journal.reserve()?;
-    let now = Tick(journal.len() as u64 + 1);
+    law();
+    let now = reserve_tick(journal)?;
     let entity = key.entity;
     let act = Act::Evict { key };
     let reply = parts.serve_entity(alloc, entity, &act, now)?;
-    tell(journal, act, reply)?;
+    tell(journal, now, act, reply);
     Ok(())
 }
 
-/// A restart: the sessions that are open are killed, what they have written and not committed is dropped, and nothing is cached,
-/// locked or stamped any more. Where memory runs out nothing has changed.
+/// A restart: the sessions that are open are killed, and nothing is cached, locked or stamped any more. Where memory runs out
+/// nothing has changed.
 pub fn restart<K: Keeper, N: Name>(
     sessions: &mut Vec<Session>,
     parts: &mut Parts<K>,
     journal: &mut Journal,
 ) -> Result<(), AllocError>
     requires run { IsRun N.script N.from (past journal.old) parts.old }
-    requires going { IsGoing N.script N.from (past journal.old) parts.old sessions.old.items }
+    requires sessions { AreSessions N.script (past journal.old) sessions.old.items }
     ensures run { IsRun N.script N.from (past journal.new) parts.new }
-    ensures going { OnOk result (IsGoing N.script N.from (past journal.new) parts.new sessions.new.items) }
+    ensures sessions { AreSessions N.script (past journal.new) sessions.new.items }
+    ensures asked { IsAsked N.from (past journal.old) parts.old → IsAsked N.from (past journal.new) parts.new }
     ensures played { OnOk result (Leads (play_order N.script Order.Restart) played (past journal.old) (past journal.new)) }
+    ensures outside { outside_count (past journal.new) ≤ outside_count (past journal.old) + 1 }
     ensures same { OnErr result (past journal.new ≡ past journal.old) }
-    ensures err { OnErr result ((parts.new ≡ parts.old) × (sessions.new.items ≡ sessions.old.items)) }
+    ensures parts { OnErr result (parts.new ≡ parts.old) }
+    ensures err { OnErr result (sessions.new.items ≡ sessions.old.items) }
 {
     laws();
-    tell(journal, Act::Restart, Reply::Done)?;
+    law();
+    let now = reserve_tick(journal)?;
+    tell(journal, now, Act::Restart, Reply::Done);
     kill_open(sessions, &parts.registry);
     parts.restart();
     Ok(())

@@ -9,9 +9,10 @@ ghost use Rattle.hib_journal.specs.Next.{strategy};
 ghost use Rattle.hib_journal.specs.Lists.{IsLate};
 ghost use Rattle.hib_journal.specs.Runs.{IsNumbered, is_fault};
 ghost use Rattle.hib_outside.specs.Causes.{Rose};
+ghost use Rattle.hib_session.specs.Memory.{brings};
 ghost use Rattle.hib_session.specs.Session.{own_reply};
 ghost use Rattle.hib_engines.specs.Region.{entity_in, IsPlaced, Suits};
-ghost use Rattle.hib_engines.specs.Served.{IsServed, AreWithin};
+ghost use Rattle.hib_engines.specs.Served.{IsServed, AreWithin, reads};
 ghost use Rattle.hib_core.specs.Standing.{Origin, region_of, own_after, outside_entry, AreParts, IsAtRegion, IsStill, IsReady, IsAnswered, IsAskedFor, AreEmptied};
 
 use crate::turns::part_of;
@@ -61,6 +62,7 @@ fn serve_region(
         → IsServed (λ m. IsPlaced script entity m (region_of regions.new.items entity)) script l by now act.now r) }
     ensures others { OnOk result (IsAtRegion entity regions.old.items regions.new.items) }
     ensures calm { IfOk result (λ r. is_fault r ≡ false) }
+    ensures still { OnOk result (reads act.now ≡ true → regions.new.items ≡ regions.old.items) }
     ensures err { OnErr result (regions.new.items ≡ regions.old.items) }
 {
     let at = entity.0 as usize;
@@ -112,6 +114,7 @@ impl<K: Keeper> Parts<K> {
             → IsServed (λ m. IsPlaced script entity m (region_of self.new.regions entity)) script l by now act.now r) }
         ensures others { OnOk result (IsAtRegion entity self.old.regions self.new.regions) }
         ensures calm { IfOk result (λ r. is_fault r ≡ false) }
+        ensures still { OnOk result (reads act.now ≡ true → self.new.regions ≡ self.old.regions) }
         ensures same { self.new ≡ record self.old { regions = self.new.regions } }
         ensures err { OnErr result (self.new ≡ self.old) }
     {
@@ -148,8 +151,10 @@ impl<K: Keeper> Parts<K> {
         ensures asked { IfOk result (λ _. (from : Origin) (h : Journal) → IsReady script.now from h session act.now self.old
             → IsAskedFor h session act.now self.old self.new) }
         ensures fault { IfOk result (λ r. is_fault r ≡ true → Rose self.old.store.faults self.new.store.faults) }
+        // So they are after an act that brings something to the session.
+        ensures still { OnOk result (brings act.now ≡ true → IsStill self.old self.new) }
+        ensures left { OnErr result (IsStill self.old self.new) }
         ensures err { OnErr result ((from : Origin) (h : Journal) → AreParts script.now from h self.old → AreParts script.now from h self.new) }
-        ensures still { OnErr result (IsStill self.old self.new) }
     {
         laws();
         match part_of(act, session) {

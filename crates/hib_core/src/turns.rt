@@ -1,21 +1,27 @@
 // One turn of a session: the act that is due is answered by the session or by a part, and its entry is added.
-ghost use Rattle.std.specs.Prelude.{◌≡◌, ◌∷◌, ◌<◌, ◌≤◌, ◌^◌, ◌+◌, [], List, length, slice_get, IfOk, OnOk, OnErr, IfErr, IsOk, Ok, Some, None, false, true, IfSome};
-ghost use Rattle.hib_base.specs.declared.entries.Act.{Act};
+ghost use Rattle.std.specs.Prelude.{◌≡◌, ◌≢◌, ◌∷◌, ◌<◌, ◌≤◌, ◌^◌, ◌+◌, List, length, IfOk, OnOk, OnErr, IsOk, Ok, None, false, true, IfSome};
 ghost use Rattle.hib_base.specs.declared.entries.Entry.{Entry};
-ghost use Rattle.hib_base.specs.declared.scripts.Script.{Script};
 ghost use Rattle.hib_journal.specs.Kept.{past};
-ghost use Rattle.hib_journal.specs.Sessions.{Journal as Past, own};
+ghost use Rattle.hib_journal.specs.Sessions.{Journal as Past, own, was_killed};
 ghost use Rattle.hib_journal.specs.Next.{next};
+ghost use Rattle.hib_journal.specs.Played.{has_next};
 ghost use Rattle.hib_journal.specs.Legal;
-ghost use Rattle.hib_session.specs.Session.{Follows, IsTaken, number_of, is_killed, left_in};
-ghost use Rattle.hib_core.specs.Standing.{Origin, AreParts, AreWithin, IsDue, IsReady, entry_of};
-ghost use Rattle.hib_core.specs.Factory.{IsTold, IsRun, IsGoing, IsTurn, Serves, Does, IsOver, AddsAtMost, HasQueries};
+ghost use Rattle.hib_journal.specs.Runs.{is_fault};
+ghost use Rattle.hib_outside.specs.Causes.{Rose};
+ghost use Rattle.hib_session.specs.Memory.{brings};
+ghost use Rattle.hib_session.specs.Session.{Follows, IsTaken, number_of, is_killed, is_ready, left_in};
+ghost use Rattle.hib_core.specs.Standing.{Origin, IsStill, IsDue, IsReady, entry_of};
+ghost use Rattle.hib_engines.specs.Served.{AreWithin};
+ghost use Rattle.hib_core.specs.Bound.{outside_count};
+ghost use Rattle.hib_core.specs.Factory.{IsTold, IsRun, IsAsked, IsMember, IsTurn, Answers, Serves, Leaves, Moves, AreSessions, Does, IsOver, HasQueries};
 
 use crate::names::Name;
 use crate::parts::Parts;
 use hib_base::{Act, Entry, Part, Reply, Script, SessionNo, Tick};
+use hib_clock::next as tick_after;
 use hib_engines::laws;
 use hib_journal::Journal;
+use hib_law::law;
 use hib_outside::Keeper;
 use hib_session::Session;
 use std::alloc::{AllocError, Global};
@@ -41,7 +47,7 @@ fn due_act(alloc: Global, script: &Script, session: &Session) -> Result<Option<A
 }
 
 /// The answer to an act that is due: the session's own, or that of a part. At an error the parts are as before, but for the
-/// keeper's counts.
+/// keeper's counts, and so they are where the act brings something to the session.
 fn answer<K: Keeper>(
     alloc: Global,
     script: &Script,
@@ -57,7 +63,8 @@ fn answer<K: Keeper>(
     ensures answered { IfOk result (λ r. (from : Origin) (h : Past) → now ≡ length h + 1 → Follows script.now session.now (own (number_of session.now) h)
         → IsReady script.now from h (number_of session.now) act.now parts.old
         → IsTold script.now from h (number_of session.now) act.now r parts.old parts.new) }
-    ensures err { OnErr result ((from : Origin) (h : Past) → AreParts script.now from h parts.old → AreParts script.now from h parts.new) }
+    ensures still { OnOk result (brings act.now ≡ true → IsStill parts.old parts.new) }
+    ensures err { OnErr result (IsStill parts.old parts.new) }
 {
     laws();
     let number = session.number();
@@ -95,16 +102,64 @@ pub fn part_of(act: &Act, session: SessionNo) -> Part
     }
 }
 
-/// Adds the entry of an act, where the journal has room for it.
-fn tell(journal: &mut Journal, number: SessionNo, act: Act, reply: Reply) -> Result<(), AllocError>
-    ensures grown { OnOk result (past journal.new ≡ entry_of (past journal.old) number act reply ∷ past journal.old) }
-    ensures few { OnOk result (length (past journal.old) < 2 ^ 62) }
-    ensures room { 0 < journal.old.spare → IsOk result }
-    ensures err { OnErr result (past journal.new ≡ past journal.old) }
+/// The tick of the next entry. All parts stand under one lock, so that they share their last tick, and so do the sessions: it is
+/// the number of entries.
+pub fn next_tick(journal: &Journal) -> Result<Tick, AllocError>
+    ensures tick { IfOk result (λ t. t ≡ length (past journal.now) + 1) }
+    ensures few { OnOk result (length (past journal.now) < 2 ^ 62) }
 {
-    let tick = Tick(journal.len() as u64 + 1);
+    let last = Tick(journal.len() as u64);
+    match tick_after(last, last) {
+        Some(tick) => Ok(tick),
+        None => Err(AllocError),
+    }
+}
+
+/// Makes room for one more entry, and gives its tick.
+pub fn reserve_tick(journal: &mut Journal) -> Result<Tick, AllocError>
+    ensures tick { IfOk result (λ t. t ≡ length (past journal.old) + 1) }
+    ensures few { OnOk result (length (past journal.old) < 2 ^ 62) }
+    ensures room { OnOk result (0 < journal.new.spare) }
+    ensures same { past journal.new ≡ past journal.old }
+{
+    journal.reserve()?;
+    next_tick(journal)
+}
+
+/// Adds an entry to a journal that has room for it. It takes no memory.
+pub fn add(journal: &mut Journal, entry: Entry)
+    requires { 0 < journal.old.spare }
+    ensures { past journal.new ≡ entry ∷ past journal.old }
+{
+    let _ = journal.push(entry);
+}
+
+/// The entry of the act that is due, which the session or a part has answered. The journal has room for it. Where memory runs
+/// out nothing has changed, but for the keeper's counts.
+fn answered<K: Keeper, N: Name>(
+    alloc: Global,
+    script: &Script,
+    session: &Session,
+    act: Act,
+    parts: &mut Parts<K>,
+    journal: &mut Journal,
+) -> Result<Entry, AllocError>
+    requires script { script.now ≡ N.script }
+    requires run { IsRun N.script N.from (past journal.old) parts.old }
+    requires turn { IsTurn N.script (past journal.old) session.now act }
+    ensures same { past journal.new ≡ past journal.old }
+    ensures room { OnOk result (0 < journal.new.spare) }
+    ensures answers { IfOk result (λ e. Answers N.script N.from (number_of session.now) act (past journal.old) e parts.old parts.new) }
+    ensures still { OnOk result (brings act ≡ true → IsStill parts.old parts.new) }
+    ensures err { OnErr result (IsStill parts.old parts.new) }
+{
+    laws();
+    law();
+    let tick = reserve_tick(journal)?;
+    let reply = answer(alloc, script, session, parts, &act, tick)?;
+    let number = session.number();
     let part = part_of(&act, number);
-    journal.push(Entry {
+    Ok(Entry {
         tick,
         session: Some(number),
         part,
@@ -113,54 +168,87 @@ fn tell(journal: &mut Journal, number: SessionNo, act: Act, reply: Reply) -> Res
     })
 }
 
-/// The act that is due is answered, and its entry added: both, or where memory runs out neither.
+/// The session takes the entry of its act, and then the journal, which has room for it: both, or where memory runs out neither.
+/// Of a session that is ready it runs out only where the act brings something to it.
+fn enter(
+    alloc: Global,
+    script: &Script,
+    session: &mut Session,
+    journal: &mut Journal,
+    entry: Entry,
+) -> Result<(), AllocError>
+    requires room { 0 < journal.old.spare }
+    ensures number { number_of session.new ≡ number_of session.old }
+    ensures killed { is_killed session.new ≡ is_killed session.old }
+    ensures grown { OnOk result (past journal.new ≡ entry ∷ past journal.old) }
+    ensures follows { OnOk result ((mine : Past) → Follows script.now session.old mine → IsTaken script.now (number_of session.old) mine entry
+        → Follows script.now session.new (entry ∷ mine)) }
+    ensures less { OnOk result ((mine : Past) → Follows script.now session.old mine → IsTaken script.now (number_of session.old) mine entry
+        → left_in script.now session.new < left_in script.now session.old) }
+    ensures same { OnErr result (past journal.new ≡ past journal.old) }
+    ensures still { OnErr result ((mine : Past) → Follows script.now session.old mine → Follows script.now session.new mine) }
+    ensures room { (mine : Past) → Follows script.now session.old mine → IsTaken script.now (number_of session.old) mine entry
+        → is_ready script.now session.old ≡ true → brings entry.act ≡ false → IsOk result }
+{
+    session.advance(alloc, script, &entry)?;
+    add(journal, entry);
+    Ok(())
+}
+
+/// The act that is due is answered, taken by its session, and its entry added: all of it, or where memory runs out nothing.
 fn serve<K: Keeper, N: Name>(
     alloc: Global,
     script: &Script,
-    session: &Session,
+    session: &mut Session,
     act: Act,
     parts: &mut Parts<K>,
     journal: &mut Journal,
 ) -> Result<(), AllocError>
     requires script { script.now ≡ N.script }
     requires run { IsRun N.script N.from (past journal.old) parts.old }
-    requires turn { IsTurn N.script (past journal.old) session.now act }
-    ensures ok { OnOk result (Serves N.script N.from (number_of session.now) act (past journal.old) (past journal.new) parts.old parts.new) }
-    ensures err { OnErr result (IsRun N.script N.from (past journal.new) parts.new) }
-    ensures same { OnErr result (past journal.new ≡ past journal.old) }
+    requires turn { IsTurn N.script (past journal.old) session.old act }
+    requires ready { is_ready script.now session.old ≡ true }
+    ensures number { number_of session.new ≡ number_of session.old }
+    ensures killed { is_killed session.new ≡ is_killed session.old }
+    ensures ok { OnOk result (Serves N.script N.from act (past journal.old) (past journal.new) parts.old parts.new session.old session.new) }
+    ensures err { OnErr result (Leaves N.script (past journal.old) (past journal.new) parts.old parts.new session.old session.new) }
 {
-    laws();
-    journal.reserve()?;
-    let now = Tick(journal.len() as u64 + 1);
-    let reply = answer(alloc, script, session, parts, &act, now)?;
-    tell(journal, session.number(), act, reply)?;
+    let entry = answered::<K, N>(alloc, script, session, act, parts, journal)?;
+    enter(alloc, script, session, journal, entry)?;
     Ok(())
 }
 
-/// The session takes the newest entry.
-fn take_last(
+/// One act of a session, if one is due: first all is made ready, and only then the act is answered.
+fn take_turn<K: Keeper, N: Name>(
     alloc: Global,
     script: &Script,
     session: &mut Session,
-    journal: &Journal,
-) -> Result<(), AllocError>
+    parts: &mut Parts<K>,
+    journal: &mut Journal,
+) -> Result<Stepped, AllocError>
+    requires script { script.now ≡ N.script }
+    requires run { IsRun N.script N.from (past journal.old) parts.old }
+    requires member { IsMember N.script (past journal.old) session.old }
     ensures number { number_of session.new ≡ number_of session.old }
     ensures killed { is_killed session.new ≡ is_killed session.old }
-    ensures follows { OnOk result ((e : Entry) (h mine : List Entry) → past journal.now ≡ e ∷ h → Follows script.now session.old mine
-        → IsTaken script.now (number_of session.old) mine e → Follows script.now session.new (e ∷ mine)) }
-    ensures less { OnOk result ((e : Entry) (h mine : List Entry) → past journal.now ≡ e ∷ h → Follows script.now session.old mine
-        → IsTaken script.now (number_of session.old) mine e → left_in script.now session.new < left_in script.now session.old) }
+    ensures did { result ≡ Ok Stepped.Did → Moves N.script N.from (past journal.old) (past journal.new) parts.old parts.new session.old session.new }
+    ensures done { result ≡ Ok Stepped.Done → has_next N.script (past journal.old) (number_of session.old) ≡ false }
+    ensures quiet { result ≡ Ok Stepped.Done → parts.new ≡ parts.old }
+    ensures dead { is_killed session.old ≡ true → result ≡ Ok Stepped.Done }
+    ensures still { result ≢ Ok Stepped.Did → Leaves N.script (past journal.old) (past journal.new) parts.old parts.new session.old session.new }
 {
-    match journal.last() {
-        Some(entry) => {
-            session.advance(alloc, script, entry)?;
-            Ok(())
-        }
-        None => Ok(()),
+    if session.was_killed() {
+        return Ok(Stepped::Done);
     }
+    session.ready(alloc, script)?;
+    let Some(act) = due_act(alloc, script, session)? else {
+        return Ok(Stepped::Done);
+    };
+    serve::<K, N>(alloc, script, session, act, parts, journal)?;
+    Ok(Stepped::Did)
 }
 
-/// One act of a session, if one is due.
+/// One act of the session of this number, if one is due. Where memory runs out nothing has changed, but for the keeper's counts.
 pub fn turn<K: Keeper, N: Name>(
     alloc: Global,
     script: &Script,
@@ -172,18 +260,18 @@ pub fn turn<K: Keeper, N: Name>(
     requires script { script.now ≡ N.script }
     requires known { number < length N.script.sessions }
     requires run { IsRun N.script N.from (past journal.old) parts.old }
-    requires going { IsGoing N.script N.from (past journal.old) parts.old sessions.old.items }
+    requires sessions { AreSessions N.script (past journal.old) sessions.old.items }
     ensures run { IsRun N.script N.from (past journal.new) parts.new }
-    ensures going { OnOk result (IsGoing N.script N.from (past journal.new) parts.new sessions.new.items) }
+    ensures sessions { AreSessions N.script (past journal.new) sessions.new.items }
     ensures did { result ≡ Ok Stepped.Did → Does N.script number (past journal.old) (past journal.new) sessions.old.items sessions.new.items }
     ensures done { result ≡ Ok Stepped.Done → IsOver N.script number (past journal.old) (past journal.new) }
-    ensures stops { OnErr result (AddsAtMost number (past journal.old) (past journal.new)) }
+    ensures same { OnErr result (past journal.new ≡ past journal.old) }
+    ensures err { OnErr result (IsStill parts.old parts.new) }
+    ensures asked { OnOk result (IsAsked N.from (past journal.old) parts.old → IsAsked N.from (past journal.new) parts.new) }
+    ensures fault { (e : Entry) → past journal.new ≡ e ∷ past journal.old → is_fault e.reply ≡ true → Rose parts.old.store.faults parts.new.store.faults }
+    ensures inside { outside_count (past journal.new) ≡ outside_count (past journal.old) }
+    ensures dead { was_killed number (past journal.old) ≡ true → result ≡ Ok Stepped.Done }
 {
     let session = &mut sessions[number.0 as usize];
-    let Some(act) = due_act(alloc, script, session)? else {
-        return Ok(Stepped::Done);
-    };
-    serve::<K, N>(alloc, script, session, act, parts, journal)?;
-    take_last(alloc, script, session, journal)?;
-    Ok(Stepped::Did)
+    take_turn::<K, N>(alloc, script, session, parts, journal)
 }

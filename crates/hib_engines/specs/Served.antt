@@ -1,5 +1,5 @@
 -- What an engine owes for an act that it answers.
-use Rattle.std.specs.Prelude.{◌≡◌, ◌<◌, ℕ, Bool, true, List, ◌∷◌, length, Option}
+use Rattle.std.specs.Prelude.{◌≡◌, ◌<◌, ℕ, Bool, true, false, List, ◌∷◌, length, Option}
 use Rattle.std.specs.List.{All}
 use Rattle.hib_journal.specs.Types.{Script, Part, Act, Reply}
 use Rattle.hib_journal.specs.Sessions.{Journal, same_part}
@@ -14,6 +14,13 @@ is_for p a s = same_part p (part_of a s)
 pub record IsServed (Stands : Journal → Type 0) (script : Script) (l : Journal) (by : Option ℕ) (now : ℕ) (a : Act) (r : Reply) : Type 0 where
   pub reply : IsReplyOf script l by now a r
   pub stands : Stands (entry_at now by a r ∷ l)
+
+-- the acts that read a part and leave it as it is
+abbrev pub reads : Act → Bool
+reads (Act.Load k) = true
+reads (Act.List q) = true
+reads (Act.Get k t) = true
+reads _ = false
 
 -- the tables that an act names are below a number
 abbrev pub AreWithin : ℕ → Act → Type 0

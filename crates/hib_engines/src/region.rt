@@ -1,5 +1,5 @@
 // The engine of a region of an entity, by its strategy.
-ghost use Rattle.std.specs.Prelude.{◌≡◌, ◌≤◌, ◌<◌, ◌^◌, ◌∷◌, ℕ, Option, Some, None, false, IfOk, OnOk, OnErr};
+ghost use Rattle.std.specs.Prelude.{◌≡◌, ◌≤◌, ◌<◌, ◌^◌, ◌∷◌, ℕ, Option, Some, None, true, false, IfOk, OnOk, OnErr};
 ghost use Rattle.hib_base.specs.declared.entries.Act.{Act};
 ghost use Rattle.hib_base.specs.declared.replies.Reply.{Reply};
 ghost use Rattle.hib_base.specs.declared.scripts.Script.{Script as Said};
@@ -9,7 +9,7 @@ ghost use Rattle.hib_journal.specs.Next.{strategy};
 ghost use Rattle.hib_journal.specs.Lists.{entry_at, IsLate};
 ghost use Rattle.hib_journal.specs.Runs.{is_fault};
 ghost use Rattle.hib_engines.specs.Region.{answer_in, region_after, emptied, entity_in, IsPlaced, Suits};
-ghost use Rattle.hib_engines.specs.Served.{IsServed};
+ghost use Rattle.hib_engines.specs.Served.{IsServed, reads};
 
 use crate::joined::laws;
 use hib_base::{
@@ -276,6 +276,8 @@ impl Region {
         ensures answered { IfOk result (λ r. (script : Said) (l : Journal) (n : ℕ) (by : Option ℕ) → IsPlaced script n l self.old → IsLate (Part.Region n) now l
             → entity_in act.now ≡ Some n → Suits (strategy script n) act.now → IsServed (λ m. IsPlaced script n m self.new) script l by now act.now r) }
         ensures calm { IfOk result (λ r. is_fault r ≡ false) }
+        // A get changes nothing.
+        ensures still { OnOk result (reads act.now ≡ true → self.new ≡ self.old) }
         ensures err { OnErr result (self.new ≡ self.old) }
     {
         laws();

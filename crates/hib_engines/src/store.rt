@@ -12,7 +12,7 @@ ghost use Rattle.hib_journal.specs.Runs.{is_fault, one_if, asks};
 ghost use Rattle.hib_outside.specs.Causes.{Rose};
 ghost use Rattle.hib_store.specs.Stores.{changes_of, handed_back, is_store_fault};
 ghost use Rattle.hib_engines.specs.Counts.{RoseWithin};
-ghost use Rattle.hib_engines.specs.Served.{is_for, HasQuery};
+ghost use Rattle.hib_engines.specs.Served.{is_for, HasQuery, reads};
 ghost use Rattle.hib_engines.specs.Store.{IsStored, IsStoreServed, IsCounted, reply_of_loaded, reply_of_listed};
 
 use hib_base::{Act, Change, Key, QueryNo, Reply, Row, Script, SessionNo};
@@ -92,7 +92,7 @@ impl<K: Keeper> StoreEngine<K> {
         ensures asked { IfOk result (λ _. RoseWithin self.old.asked (one_if (asks (changes_of self.old session) (Act.Load key))) self.new.asked) }
         ensures fault { IfOk result (λ r. is_fault r ≡ true → Rose self.old.faults self.new.faults) }
         ensures faults { self.old.faults ≤ self.new.faults }
-        ensures err { OnErr result (IsCounted self.old self.new) }
+        ensures still { IsCounted self.old self.new }
     {
         let loaded = self.store.load(alloc, session, key)?;
         Ok(loaded_reply(loaded))
@@ -111,7 +111,7 @@ impl<K: Keeper> StoreEngine<K> {
         ensures asked { IfOk result (λ _. RoseWithin self.old.asked (one_if (asks (changes_of self.old session) (Act.List query))) self.new.asked) }
         ensures fault { IfOk result (λ r. is_fault r ≡ true → Rose self.old.faults self.new.faults) }
         ensures faults { self.old.faults ≤ self.new.faults }
-        ensures err { OnErr result (IsCounted self.old self.new) }
+        ensures still { IsCounted self.old self.new }
     {
         let Some(query) = script.queries.as_slice().get(query.0 as usize) else {
             // No query is asked that isn't there.
@@ -179,6 +179,8 @@ impl<K: Keeper> StoreEngine<K> {
         ensures asked { IfOk result (λ _. RoseWithin self.old.asked (one_if (asks (changes_of self.old session) act.now)) self.new.asked) }
         ensures fault { IfOk result (λ r. is_fault r ≡ true → Rose self.old.faults self.new.faults) }
         ensures faults { self.old.faults ≤ self.new.faults }
+        // A load and a list change nothing but the keeper's counts.
+        ensures still { OnOk result (reads act.now ≡ true → IsCounted self.old self.new) }
         ensures err { OnErr result (IsCounted self.old self.new) }
     {
         match act {

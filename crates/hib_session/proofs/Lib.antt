@@ -6,3 +6,4 @@ pub mod Flushed
 pub mod Due
 pub mod Taken
 pub mod Taking
+pub mod Few

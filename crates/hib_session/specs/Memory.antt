@@ -214,3 +214,7 @@ brings _ = false
 abbrev pub has_copies : Option Written → Act → Bool
 has_copies w (Act.Write c) = is_some w
 has_copies w _ = true
+
+abbrev pub is_write : Act → Bool
+is_write (Act.Write c) = true
+is_write _ = false

@@ -2,6 +2,7 @@
 #![tactic(auto)]
 
 mod ahead;
+mod bounds;
 mod control;
 mod memory;
 mod modes;
@@ -10,4 +11,5 @@ mod queries;
 mod session;
 mod written;
 
+pub use bounds::entries_are_few;
 pub use session::Session;

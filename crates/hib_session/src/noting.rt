@@ -6,7 +6,7 @@ ghost use Rattle.hib_journal.specs.Legal.{outcome_after};
 ghost use Rattle.hib_base.specs.declared.entries.Act.{Act};
 ghost use Rattle.hib_identity_map.specs.Identity.{change_in, drop_in, written, with_sets, remove_last};
 ghost use Rattle.hib_session.specs.Rows.{row_left};
-ghost use Rattle.hib_session.specs.Memory.{marked_in, made, managed, arrive_in, remove_in, with_pairs, with_room, unless_broken, map_written, marks_written, fresh_written, noted, Fits, brings, has_copies};
+ghost use Rattle.hib_session.specs.Memory.{marked_in, made, managed, arrive_in, remove_in, with_pairs, with_room, unless_broken, map_written, marks_written, fresh_written, noted, Fits, brings, has_copies, is_write};
 
 use crate::memory::{Memory, last_mark};
 use crate::written::Written;
@@ -258,13 +258,26 @@ impl Memory {
         ensures err { OnErr result (self.new ≡ self.old) }
         ensures room { brings entry.now.act ≡ false → has_copies copies entry.now.act ≡ true → IsOk result }
     {
+        match &entry.act {
+            Act::Write(change) => self.write_copied(alloc, change, copies),
+            _ => self.take_other(alloc, entry),
+        }
+    }
+
+    /// Takes an entry that is no write.
+    fn take_other(&mut self, alloc: Global, entry: &Entry) -> Result<(), AllocError>
+        requires room { self.old.room ≡ true }
+        requires other { is_write entry.now.act ≡ false }
+        ensures ok { OnOk result (self.new ≡ with_room self.new.room (noted self.old entry.now)) }
+        ensures err { OnErr result (self.new ≡ self.old) }
+        ensures room { brings entry.now.act ≡ false → IsOk result }
+    {
         match (&entry.act, &entry.reply) {
             (Act::Persist { key, row }, Reply::New) => self.make(alloc, key, row),
             (Act::Load { key }, Reply::Row(Some(row))) => self.read(alloc, key, row),
             (Act::Get { key, .. }, Reply::Hit(row)) => self.read(alloc, key, row),
             (Act::Set { key, cells }, Reply::Set) => self.set(alloc, key, cells),
             (Act::Remove { key }, Reply::Removed) => self.remove(alloc, key),
-            (Act::Write(change), _) => self.write_copied(alloc, change, copies),
             (Act::Lock { key, .. }, Reply::Locked(lock)) => {
                 self.lock(*key, lock.id);
                 Ok(())

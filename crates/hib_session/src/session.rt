@@ -9,7 +9,7 @@ ghost use Rattle.hib_journal.specs.Next.{next, is_held, is_in, strategy};
 ghost use Rattle.hib_session.specs.Memory.{Knows, brings};
 ghost use Rattle.hib_session.specs.Control.{Stands};
 ghost use Rattle.hib_session.specs.Due.{IsAllowed, is_closed};
-ghost use Rattle.hib_session.specs.Session.{Follows, IsTaken, number_of, is_killed, left_in, own_reply};
+ghost use Rattle.hib_session.specs.Session.{Follows, IsTaken, number_of, is_killed, left_in, own_reply, reply_due};
 
 use crate::ahead::Ending;
 use crate::control::Control;
@@ -95,6 +95,13 @@ impl Session {
         ensures { result ≡ number_of self.now }
     {
         self.control.number
+    }
+
+    /// Whether it was killed: then no act of it is due.
+    pub fn was_killed(&self) -> bool
+        ensures { result ≡ is_killed self.now }
+    {
+        self.killed
     }
 
     /// No act of the session is due from now on. It takes no memory.
@@ -246,6 +253,18 @@ impl Session {
             Act::Remove { key } => Ok(Some(self.removed(*key))),
             Act::Clear => Ok(Some(Reply::Cleared)),
             _ => Ok(None),
+        }
+    }
+
+    /// The answer to the act that is due, where that is an act of the session's own or End. None where it is another, or where
+    /// no act is due.
+    pub fn reply(&self, alloc: Global, script: &Script) -> Result<Option<Reply>, AllocError>
+        ensures reply { IfOk result (λ r. (mine : Journal) → Follows script.now self.now mine → r ≡ reply_due script.now mine (next script.now (number_of self.now) mine)) }
+        ensures killed { IfOk result (λ r. is_killed self.now ≡ true → r ≡ None) }
+    {
+        match self.next_act(alloc, script)? {
+            Some(act) => self.reply_to(alloc, script, &act),
+            None => Ok(None),
         }
     }
 

@@ -2,14 +2,16 @@ use Rattle.std.proofs.Common.{◌≡◌, ℕ, ◌-◌, ◌<◌, length, false}
 use Rattle.std.specs.List.{range_with_len}
 use Rattle.hib_journal.specs.Kept.{past}
 use Rattle.hib_journal.specs.Played.{has_next, play_sessions}
+use Rattle.hib_core.specs.Bound.{outside_count}
 use Rattle.hib_core.specs.Playing.{Leads}
 use Rattle.hib_core.proofs.factory.Factory.finish.Given as goal
 
--- the sessions so far are at their end, and memory has not run out
+-- the sessions so far are at their end, and whether memory ran out in a call is said as before
 abbrev pub invariant-loop-number : goal.invariant-loop-number
 invariant-loop-number g l = record {
   played : Leads (play_sessions g.N.Name.script (range_with_len 0 (length g.N.Name.script.sessions)))
       (play_sessions g.N.Name.script (range_with_len l.number (length g.N.Name.script.sessions - l.number))) (past l.fn.self.journal) (past l.self.journal);
   over : (s : ℕ) → s < l.number → has_next g.N.Name.script (past l.self.journal) s ≡ false;
-  going : l.fn.self.refused ≡ false → l.self.refused ≡ false;
+  going : l.self.refused ≡ l.fn.self.refused;
+  inside : outside_count (past l.self.journal) ≡ outside_count (past l.fn.self.journal);
 }

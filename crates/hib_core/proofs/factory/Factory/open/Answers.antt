@@ -16,7 +16,7 @@ invariant_of-result g c =
     let from = c.requires.from in
     let kept : Rattle.std.specs.Prelude.Option Tables = g.K.Keeper.tables c.args.keeper in (
       q,
-      standing_begins c.laws.ensures g.N.Name.script g.N.Name.from _ (subst IsBuilt q c.ready.ensures) c.open-4.ensures.past
+      standing_begins c.law.ensures.obeyed g.N.Name.script g.N.Name.from _ (subst IsBuilt q c.ready.ensures) c.open-4.ensures.past
           (parts_begin c.laws.ensures g.N.Name.script g.N.Name.from _
           (c.in_ok-store.ensures.tables ∙ (ap (λ (rows : Tables). option_map (λ t. start t rows) kept) c.as_slice.ensures
           ∙ (ap (λ (s : Script). told_start s kept) q ∙ ap (λ (o : Origin). o.tables) from)))

@@ -1,9 +1,11 @@
 use Rattle.std.proofs.Common.{◌+◌, length, Some, refl, sym, ap, subst, ◌∙◌}
 use Rattle.hib_journal.specs.Types.{Part}
 use Rattle.hib_journal.specs.Sessions.{same_part}
-use Rattle.hib_engines.proofs.Outcomes.{two_ok}
-use Rattle.hib_core.specs.Standing.{PartsState, IsReady}
-use Rattle.hib_core.proofs.Served.{registry_answered, store_answered, stamps_answered, results_answered, region_answered, three_ok}
+use Rattle.hib_engines.proofs.Outcomes.{two_ok, map_on}
+use Rattle.hib_engines.specs.declared.region.Region.{Region}
+use Rattle.hib_core.specs.Standing.{PartsState, IsReady, IsStill}
+use Rattle.hib_core.proofs.Brought.{brings_none, store_reads, region_reads, ok_all}
+use Rattle.hib_core.proofs.Served.{registry_answered, store_answered, stamps_answered, results_answered, region_answered, three_ok, still_same}
 use Rattle.hib_core.proofs.parts.Parts.serve.Goals as goal
 
 pub returns-in-Registry-clause-answered : goal.returns-in-Registry-clause-answered
@@ -47,3 +49,30 @@ returns-in-Region-clause-answered g c = three_ok c.serve_entity.result _ _ _ _ c
     region_answered c.laws.ensures script from h c.args.session c.args.now c.in-Region.entity c.args.act.now r c.args.self.now c.serve_entity.new.self n k
     (sym c.part_of.ensures ∙ c.in-Region.is) (p script h (Some c.args.session)) at f
     (ap (λ (v : PartsState). v.store) e) (ap (λ (v : PartsState). v.registry) e) (ap (λ (v : PartsState). v.stamps) e) (ap (λ (v : PartsState). v.results) e))
+
+pub returns-in-Registry-clause-still : goal.returns-in-Registry-clause-still
+returns-in-Registry-clause-still g c =
+    ok_all c.serve.result _ (λ b. absurd (brings_none c.args.act.now c.args.session Part.Registry (sym c.part_of.ensures ∙ c.in-Registry.is) refl b))
+
+pub returns-in-Stamps-clause-still : goal.returns-in-Stamps-clause-still
+returns-in-Stamps-clause-still g c =
+    ok_all c.serve-in-Stamps.result _ (λ b. absurd (brings_none c.args.act.now c.args.session Part.Stamps (sym c.part_of.ensures ∙ c.in-Stamps.is) refl b))
+
+pub returns-in-Results-clause-still : goal.returns-in-Results-clause-still
+returns-in-Results-clause-still g c =
+    ok_all c.serve-in-Results.result _ (λ b. absurd (brings_none c.args.act.now c.args.session Part.Results (sym c.part_of.ensures ∙ c.in-Results.is) refl b))
+
+pub returns-in-Store-clause-still : goal.returns-in-Store-clause-still
+returns-in-Store-clause-still g c = map_on c.serve-in-Store.result _ _ c.serve-in-Store.ensures.still (λ p b.
+    let y : PartsState = record { store = c.serve-in-Store.new.self; registry = c.self-in-Store.inside.registry; stamps = c.self-in-Store.inside.stamps; regions = c.self-in-Store.inside.regions.items; results = c.self-in-Store.inside.results } in
+    subst (λ v. IsStill v y) c.self-in-Store.view_is
+    (record { store = p (store_reads c.args.act.now c.args.session (sym c.part_of.ensures ∙ c.in-Store.is) b); registry = refl; stamps = refl; regions = refl; results = refl }))
+
+pub returns-in-Region-clause-still : goal.returns-in-Region-clause-still
+returns-in-Region-clause-still g c = map_on c.serve_entity.result _ _ c.serve_entity.ensures.still (λ p b.
+    still_same c.args.self.now c.serve_entity.new.self
+    (c.serve_entity.ensures.same ∙ ap (λ (rs : Rattle.std.proofs.Common.List Region). record c.args.self.now { regions = rs })
+    (p (region_reads c.args.act.now c.args.session c.in-Region.entity (sym c.part_of.ensures ∙ c.in-Region.is) b))))
+
+pub returns-in-Own-clause-still : goal.returns-in-Own-clause-still
+returns-in-Own-clause-still g c = λ b. still_same c.args.self.now c.args.self.now refl
