@@ -9,7 +9,7 @@ use Rattle.hib_journal.specs.Played.{has_next}
 use Rattle.hib_journal.specs.Runs.{IsNumbered, ask_count}
 use Rattle.hib_session.specs.declared.session.Session.{Session}
 use Rattle.hib_session.specs.Session.{Follows, number_of, is_killed, own_reply, left_in}
-use Rattle.hib_session.specs.Due.{is_asked}
+use Rattle.hib_journal.specs.Due.{is_asked}
 use Rattle.hib_core.specs.Standing.{Origin, RoseWithin, PartsState, AreParts, IsDue, IsAnswered, IsAskedFor, entry_of}
 
 -- a factory as contracts see it

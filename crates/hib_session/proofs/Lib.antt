@@ -3,6 +3,5 @@ pub mod Kept
 pub mod Orders
 pub mod Known
 pub mod Flushed
-pub mod Due
 pub mod Taken
 pub mod Taking

@@ -9,7 +9,7 @@ use Rattle.hib_journal.specs.Types.{Order, Query, Statement, SessionDef, Script}
 use Rattle.hib_journal.specs.Sessions.{Journal}
 use Rattle.hib_journal.specs.Next.{is_cached, statements}
 use Rattle.hib_journal.specs.Played.{is_played}
-use Rattle.hib_session.specs.Due.{asks}
+use Rattle.hib_journal.specs.Due.{asks}
 use Rattle.hib_core.specs.Factory.{IsSound, IsBuilt, AreOver}
 use Rattle.hib_script.specs.Outline.{outline_of}
 use Rattle.hib_script.specs.Valid.{is_valid, is_over, statement_count}
