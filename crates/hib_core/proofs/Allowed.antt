@@ -7,8 +7,8 @@ use Rattle.std.specs.List.{All, list_all}
 use Rattle.hib_journal.specs.Types.{Strategy, Script, Act}
 use Rattle.hib_journal.specs.Sessions.{Journal, changes_in, deferred}
 use Rattle.hib_journal.specs.Next.{strategy}
-use Rattle.hib_session.specs.Due.{IsAllowed, asks_store, is_asked, is_inserting, is_removing, are_declared, are_tables}
-use Rattle.hib_session.specs.Due as Due
+use Rattle.hib_journal.specs.Due.{IsAllowed, asks_store, is_asked, is_inserting, is_removing, are_declared, are_tables}
+use Rattle.hib_journal.specs.Due as Due
 use Rattle.hib_engines.specs.Region.{acts_on, Suits}
 use Rattle.hib_core.specs.Standing.{AreWithin, AreStored, HasQuery, IsDue}
 use Rattle.hib_core.specs.Factory.{HasQueries}

@@ -1,5 +1,5 @@
 -- A factory goes on by an act from outside of its sessions.
-use Rattle.std.proofs.Common.{◌≡◌, ◌≢◌, ℕ, ◌+◌, ◌≤◌, ◌<◌, ◌^◌, ◌==◌, Bool, true, false, cond, ◌||◌, ◌&&◌, nat_lt, List, [], ◌∷◌, length, get_or, IsSome, Some, None, Option, refl, sym, ap, ◌∙◌, subst, arith, inl, inr}
+use Rattle.std.proofs.Common.{◌≡◌, ℕ, ◌+◌, ◌≤◌, ◌<◌, ◌^◌, ◌==◌, Bool, true, false, cond, ◌||◌, ◌&&◌, nat_lt, List, [], ◌∷◌, length, get_or, Some, None, Option, refl, sym, ap, ◌∙◌, subst, arith, inl, inr}
 use Rattle.std.proofs.lemmas.Bool.{true≢false, false≢true, eqb-true}
 use Rattle.std.proofs.lemmas.Bool.Decides.{nat_tests}
 use Rattle.std.proofs.lemmas.List.{get_or-set_same, get_or-set_other, length-set}
@@ -13,11 +13,10 @@ use Rattle.hib_journal.specs.Played.{play_order}
 use Rattle.hib_journal.specs.Legal.{IsLegal, IsReply, part_of, due, may_come, is_outside}
 use Rattle.hib_journal.specs.Lists.{IsLate}
 use Rattle.hib_journal.specs.Runs.{IsNumbered, asks, ask_count, is_fault, fault_count}
-use Rattle.hib_store.specs.Stores.{StoreState}
 use Rattle.hib_session.specs.declared.session.Session.{Session}
 use Rattle.hib_session.specs.Session.{Follows, number_of, is_killed}
 use Rattle.hib_engines.specs.declared.region.Region.{Region}
-use Rattle.hib_engines.specs.Registry.{Opened, IsRegistry, holds, time_of, time_if_open}
+use Rattle.hib_engines.specs.Registry.{Opened, IsRegistry, holds, time_of}
 use Rattle.hib_engines.specs.Region.{emptied, entity_in, IsPlaced, Suits}
 use Rattle.hib_engines.specs.Laws.{Laws}
 use Rattle.hib_engines.specs.Served.{IsServed}
@@ -28,7 +27,7 @@ use Rattle.hib_engines.proofs.StampsServed.{stamps_stay}
 use Rattle.hib_engines.proofs.ResultsServed.{results_stay}
 use Rattle.hib_engines.proofs.RegionServed.{restart_placed}
 use Rattle.hib_engines.proofs.Stored.{store_stays}
-use Rattle.hib_engines.proofs.Stays.{registry_kept, region_kept}
+use Rattle.hib_engines.proofs.Elsewhere.{registry_kept, region_kept}
 use Rattle.hib_core.specs.Standing.{Origin, RoseBy, RoseWithin, IsBridged, IsStore, PartsState, AreParts, region_of, outside_entry, IsAtRegion, AreEmptied}
 use Rattle.hib_core.specs.Factory.{Lawful, AreSessions, IsRun, IsAsked, IsAsBefore, AreKilled}
 use Rattle.hib_core.specs.Playing.{played, Leads}

@@ -14,7 +14,7 @@ use Rattle.hib_engines.specs.Region.{is_regional}
 use Rattle.hib_engines.specs.Laws.{Laws}
 use Rattle.hib_engines.specs.Served.{is_for}
 use Rattle.hib_engines.proofs.RegistryServed.{end_stands}
-use Rattle.hib_engines.proofs.Stays.{registry_kept}
+use Rattle.hib_engines.proofs.Elsewhere.{registry_kept}
 use Rattle.hib_core.specs.Standing.{Origin, RoseWithin, entry_of, own_after, PartsState, IsReady, IsAnswered, IsAskedFor, IsStill}
 use Rattle.hib_core.specs.Factory.{IsTold}
 use Rattle.hib_core.proofs.Stored.{reply_any, own_is}

@@ -1,16 +1,16 @@
 -- The parts stand for the journal with one more entry.
-use Rattle.std.proofs.Common.{◌≡◌, ◌≢◌, ◌⊎◌, ℕ, suc, ◌+◌, ◌≤◌, ◌<◌, ◌==◌, Bool, true, false, List, [], ◌∷◌, length, get_or, Some, None, Option, Result, Ok, Err, IfOk, OnOk, refl, sym, ap, ◌∙◌, subst, arith, inl, inr}
+use Rattle.std.proofs.Common.{◌≡◌, ◌≢◌, ℕ, suc, ◌+◌, ◌≤◌, ◌<◌, ◌==◌, Bool, true, false, List, [], ◌∷◌, length, get_or, Some, None, Option, Result, Ok, Err, IfOk, OnOk, refl, sym, ap, ◌∙◌, subst, arith, inl, inr}
 use Rattle.std.proofs.lemmas.Bool.{true≢false, false≢true, eqb-true}
 use Rattle.std.proofs.lemmas.List.{get_or-set_same, get_or-set_other, length-set}
 use Rattle.std.proofs.lemmas.Option.{unwrap_or-slice_get, slice_get_past, slice_get-get_or}
 use Rattle.std.specs.Prelude.{slice_get, slice_set, unwrap_or}
 use Rattle.hib_base.proofs.Tables.{Tested, tested}
-use Rattle.hib_journal.specs.Types.{Key, Strategy, Script, Part, Act, Reply, Entry}
-use Rattle.hib_journal.specs.Sessions.{Journal, own, is_restart, is_open, was_killed, last_tick, same_part, changes_in, deferred}
+use Rattle.hib_journal.specs.Types.{Strategy, Script, Part, Act, Reply, Entry}
+use Rattle.hib_journal.specs.Sessions.{Journal, own, is_restart, is_open, last_tick, same_part}
 use Rattle.hib_journal.specs.Held.{is_begin}
 use Rattle.hib_journal.specs.Next.{strategy}
 use Rattle.hib_journal.specs.Slot.{key_in}
-use Rattle.hib_journal.specs.Legal.{IsReply, part_of, is_outside}
+use Rattle.hib_journal.specs.Legal.{part_of, is_outside}
 use Rattle.hib_journal.specs.Lists.{IsLate}
 use Rattle.hib_journal.specs.Runs.{IsNumbered, one_if, asks, is_fault, fault_count}
 use Rattle.hib_journal.proofs.Open.{begun_open}
@@ -30,7 +30,7 @@ use Rattle.hib_engines.proofs.RegionServed.{named}
 use Rattle.hib_engines.proofs.StampsServed.{stamps_stay}
 use Rattle.hib_engines.proofs.ResultsServed.{results_stay}
 use Rattle.hib_engines.proofs.Stored.{store_stays}
-use Rattle.hib_engines.proofs.Stays.{registry_kept, region_kept}
+use Rattle.hib_engines.proofs.Elsewhere.{registry_kept, region_kept}
 use Rattle.hib_core.specs.Standing.{Origin, RoseBy, RoseWithin, entry_of, IsStore, or_uncached, region_of, IsAtRegion, PartsState, AreParts, IsStill, IsReady, IsAnswered, IsAskedFor}
 use Rattle.hib_core.proofs.Stored.{self_by, store_of, store_still, bridged_own, inside_stops, rose_more, rose_if, reply_any, reply_stored, asks_same, deferred_of}
 

@@ -1,12 +1,12 @@
 -- The store of a factory: its reply is the one that a legal journal has, and it stands for the journal with the entry.
-use Rattle.std.proofs.Common.{◌≡◌, ◌≢◌, ◌⊎◌, ℕ, ◌+◌, ◌≤◌, ◌==◌, inl, inr, Bool, true, false, cond, not, ◌||◌, List, [], ◌∷◌, Some, None, Option, refl, sym, ap, ◌∙◌, subst, arith}
+use Rattle.std.proofs.Common.{◌≡◌, ℕ, ◌+◌, ◌≤◌, ◌==◌, inl, inr, Bool, true, false, cond, ◌||◌, List, [], ◌∷◌, Some, None, Option, refl, sym, ap, ◌∙◌, subst, arith}
 use Rattle.std.proofs.lemmas.Bool.{true≢false, false≢true, eqb-true}
 use Rattle.std.proofs.lemmas.Bool.Decides.{nat_tests}
 use Rattle.std.specs.Option.{option_map}
 use Rattle.hib_base.specs.Tables.{Tables, after_changes}
 use Rattle.hib_base.proofs.Tables.{Tested, tested}
 use Rattle.hib_journal.specs.Types.{Key, Change, Commit, Script, Part, Act, Reply, Entry}
-use Rattle.hib_journal.specs.Sessions.{Journal, own, is_session, is_open, open_after, is_begun, was_killed, killed_by, committed, committed_by, committer, changes, changes_in, deferred, deferred_after}
+use Rattle.hib_journal.specs.Sessions.{Journal, own, is_session, is_open, open_after, was_killed, killed_by, committed, committed_by, committer, changes, changes_in, deferred, deferred_after}
 use Rattle.hib_journal.specs.Held.{is_begin}
 use Rattle.hib_journal.specs.Legal.{IsReply, IsReplyBy, reply_by, reply_of, is_of_store, is_outside, number}
 use Rattle.hib_journal.specs.Lists.{entry_at, stops, unsaved, unsaved_after, stored, stored_by, IsReplyOf, IsStoreReply}
@@ -16,7 +16,7 @@ use Rattle.hib_store.specs.Stores.{StoreState, changes_of}
 use Rattle.hib_session.specs.Session.{own_reply}
 use Rattle.hib_engines.specs.Served.{is_for}
 use Rattle.hib_engines.specs.Store.{IsStored}
-use Rattle.hib_core.specs.Standing.{Origin, RoseBy, RoseWithin, entry_of, outside_entry, IsBridged, IsStore, AreStored, IsDue}
+use Rattle.hib_core.specs.Standing.{Origin, RoseBy, entry_of, outside_entry, IsBridged, IsStore, AreStored, IsDue}
 
 pub self_by : (s : ℕ) → (s == s) ≡ true
 self_by s = grind (arith, nat_tests)

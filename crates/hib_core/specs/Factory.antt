@@ -12,7 +12,7 @@ use Rattle.hib_session.specs.declared.session.Session.{Session}
 use Rattle.hib_law.specs.Law.{Obeys}
 use Rattle.hib_outside.specs.Causes.{Rose}
 use Rattle.hib_session.specs.Session.{Follows, IsTaken, number_of, is_killed, own_reply, left_in}
-use Rattle.hib_session.specs.Due.{is_asked}
+use Rattle.hib_journal.specs.Due.{is_asked}
 use Rattle.hib_core.specs.Standing.{Origin, RoseWithin, PartsState, AreParts, IsStill, IsDue, IsAnswered, IsAskedFor, entry_of}
 
 -- a factory as contracts see it

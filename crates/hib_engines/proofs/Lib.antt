@@ -9,4 +9,4 @@ pub mod RegionServed
 pub mod StampsServed
 pub mod ResultsServed
 pub mod Stored
-pub mod Stays
+pub mod Elsewhere

@@ -1,9 +1,9 @@
 -- The open sessions are those of the journal, after each entry.
-use Rattle.std.proofs.Common.{◌≡◌, ℕ, suc, ◌+◌, ◌≤◌, ◌<◌, Bool, true, false, cond, ◌||◌, ◌==◌, List, [], ◌∷◌, ◌++◌, length, Some, None, Option, refl, sym, ap, ◌∙◌, subst, arith, inl, inr}
+use Rattle.std.proofs.Common.{◌≡◌, ℕ, ◌≤◌, ◌<◌, Bool, true, false, cond, ◌||◌, ◌==◌, List, [], ◌∷◌, ◌++◌, Some, None, Option, refl, sym, ap, ◌∙◌, subst, arith, inl, inr}
 use Rattle.std.proofs.lemmas.Bool.{true≢false, false≢true, and_parts, and_from, eqb-true, eq-eqb, ne_eqb}
 use Rattle.hib_base.proofs.Tables.{Tested, tested}
 use Rattle.hib_journal.specs.Types.{Part, Act, Entry}
-use Rattle.hib_journal.specs.Sessions.{Journal, is_by, is_session, is_open, open_after, time, time_after, is_live, least_live, floor, last_tick, same_part}
+use Rattle.hib_journal.specs.Sessions.{Journal, is_by, is_session, is_open, open_after, time, time_after, is_live, least_live, floor, same_part}
 use Rattle.hib_journal.specs.Legal.{part_of}
 use Rattle.hib_journal.specs.Held.{is_begin}
 use Rattle.hib_engines.specs.Registry.{Opened, Each, floor_in, without, time_of, AreRising, time_if_open, opened_after, last_of, IsRegistry}

@@ -1,5 +1,5 @@
 -- What a region answers is due, and afterwards it stands for the list with the entry.
-use Rattle.std.proofs.Common.{◌≡◌, ℕ, true, ◌∷◌, Some, None, Option, refl, sym, ap, ◌∙◌, subst}
+use Rattle.std.proofs.Common.{◌≡◌, ℕ, true, ◌∷◌, Some, None, Option, refl, sym, ◌∙◌, subst}
 use Rattle.std.specs.Option.{option_map}
 use Rattle.hib_journal.specs.Types.{Key, Part, Script, Act, Reply}
 use Rattle.hib_journal.specs.Sessions.{Journal}
@@ -12,7 +12,7 @@ use Rattle.hib_engines.specs.Region.{answer_in, region_after, emptied, is_of_key
 use Rattle.hib_engines.specs.Laws.{Laws}
 use Rattle.hib_engines.specs.Served.{IsServed}
 use Rattle.hib_engines.proofs.Regions.{answers}
-use Rattle.hib_engines.proofs.Grows.{IsNext, grows, restarts, regional_part}
+use Rattle.hib_engines.proofs.Grows.{grows, restarts, regional_part}
 
 pub named : (o : Option Key) (n : ℕ) → option_map (λ k. k.entity) o ≡ Some n → (is_of_key o ≡ true) × (entity_of o ≡ n)
 named None n e = absurd (no e)

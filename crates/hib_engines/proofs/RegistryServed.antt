@@ -1,5 +1,5 @@
 -- What the registry answers is due, and afterwards it stands for the list with the entry.
-use Rattle.std.proofs.Common.{◌≡◌, ℕ, ◌==◌, true, false, ◌++◌, [], ◌∷◌, Some, None, refl, sym, ap, ◌∙◌, subst}
+use Rattle.std.proofs.Common.{◌≡◌, ℕ, false, ◌++◌, [], ◌∷◌, Some, None, refl, sym, ap, ◌∙◌, subst}
 use Rattle.std.proofs.lemmas.Bool.{eqb-true, false≢true}
 use Rattle.hib_journal.specs.Types.{Part, Script, Act, Reply}
 use Rattle.hib_journal.specs.Sessions.{Journal, is_open}

@@ -1,5 +1,5 @@
 -- What the results answer is due, and afterwards they stand for the list with the entry.
-use Rattle.std.proofs.Common.{◌≡◌, ℕ, ◌<◌, true, false, List, [], ◌∷◌, length, None, Option, refl, sym, ap, ◌∙◌, subst}
+use Rattle.std.proofs.Common.{◌≡◌, ℕ, ◌<◌, false, List, [], ◌∷◌, length, None, Option, refl, sym, ap, ◌∙◌, subst}
 use Rattle.std.proofs.lemmas.Bool.{true≢false}
 use Rattle.hib_journal.specs.Types.{Cell, Part, Script, Act, Reply}
 use Rattle.hib_journal.specs.Sessions.{Journal, is_restart}

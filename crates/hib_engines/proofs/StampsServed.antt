@@ -1,15 +1,14 @@
 -- What the stamps answer is due, and afterwards they stand for the list with the entry.
-use Rattle.std.proofs.Common.{◌≡◌, ℕ, ◌+◌, ◌<◌, true, false, List, [], ◌∷◌, length, None, Option, refl, sym, ap, ◌∙◌, subst}
+use Rattle.std.proofs.Common.{◌≡◌, ℕ, ◌+◌, ◌<◌, false, List, [], ◌∷◌, length, None, Option, refl, sym, ap, ◌∙◌, subst}
 use Rattle.std.proofs.lemmas.List.{length-set, length-replicate}
-use Rattle.std.proofs.lemmas.Bool.{true≢false, false≢true}
+use Rattle.std.proofs.lemmas.Bool.{true≢false}
 use Rattle.std.specs.Prelude.{slice_set, Some}
 use Rattle.std.specs.List.{All}
 use Rattle.hib_journal.specs.Types.{Part, Script, Act, Reply}
-use Rattle.hib_journal.specs.Sessions.{Journal, is_restart, same_part}
-use Rattle.hib_journal.specs.Legal.{part_of, number}
+use Rattle.hib_journal.specs.Sessions.{Journal, is_restart}
+use Rattle.hib_journal.specs.Legal.{number}
 use Rattle.hib_journal.specs.Lists.{entry_at}
 use Rattle.hib_journal.specs.Next.{tables_of}
-use Rattle.hib_journal.specs.Stamps.{check}
 use Rattle.hib_update_stamps.specs.Stamped.{Stamped, stamped, unstamped, checked}
 use Rattle.hib_update_stamps.specs.Standing.{IsStamps, stamps_after}
 use Rattle.hib_engines.specs.Laws.{Laws}

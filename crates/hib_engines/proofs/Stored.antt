@@ -6,7 +6,6 @@ use Rattle.hib_base.specs.Tables.{Tables, row_at, after_changes, commit_answer}
 use Rattle.hib_base.proofs.Tables.{Tested, tested}
 use Rattle.hib_journal.specs.Types.{Key, Row, Change, Commit, Query, Part, Act, Reply, Script}
 use Rattle.hib_journal.specs.Sessions.{Journal, is_session, deferred_after, committer}
-use Rattle.hib_journal.specs.Query.{gives}
 use Rattle.hib_journal.specs.Legal.{is_empty, fault_unless, list_reply, number}
 use Rattle.hib_journal.specs.Lists.{entry_at, stops, unsaved, unsaved_after, stored, stored_by, IsStoreReply}
 use Rattle.hib_journal.specs.Runs.{is_fault, one_if, asks}

@@ -6,3 +6,4 @@ pub mod Stamps
 pub mod Results
 pub mod Store
 pub mod Laws
+pub mod Stays

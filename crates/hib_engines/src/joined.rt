@@ -1,5 +1,6 @@
 // The laws of the parts, in one place.
 ghost use Rattle.hib_engines.specs.Laws.{Laws};
+ghost use Rattle.hib_engines.specs.Stays.{RegistryStays, StoreStays, StampsStay, ResultsStay, RegionStays};
 
 use hib_other_regions::laws as items;
 use hib_query_cache::{
@@ -26,4 +27,15 @@ pub fn laws()
     no_results_stand_for_no_entry();
     results_answer();
     results_name_the_dropped();
+}
+
+/// An entry of another part leaves each engine standing. Of a kill the registry and the store hear, and of a restart all.
+pub fn entries_elsewhere()
+    ensures registry { RegistryStays }
+    ensures store { StoreStays }
+    ensures stamps { StampsStay }
+    ensures results { ResultsStay }
+    ensures region { RegionStays }
+{
+    laws();
 }

@@ -12,7 +12,7 @@ mod results;
 mod stamps;
 mod store;
 
-pub use joined::laws;
+pub use joined::{entries_elsewhere, laws};
 pub use region::Region;
 pub use registry::Registry;
 pub use results::ResultsEngine;

@@ -4,3 +4,4 @@ pub mod Steps
 pub mod Inside
 pub mod Open
 pub mod Slots
+pub mod Due

@@ -16,3 +16,4 @@ pub mod Coherence
 pub mod Kept
 pub mod Runs
 pub mod Lists
+pub mod Due

@@ -3,7 +3,6 @@ pub mod Kept
 pub mod Orders
 pub mod Known
 pub mod Flushed
-pub mod Due
 pub mod Taken
 pub mod Taking
 pub mod Few

@@ -12,11 +12,11 @@ use Rattle.hib_session.specs.declared.session.Session.{Session}
 use Rattle.hib_session.specs.declared.written.Written.{Written}
 use Rattle.hib_session.specs.declared.ahead.Ending.{Ending}
 use Rattle.hib_session.specs.Memory.{Remembered, Knows, Recalls, Fits, brings, has_copies}
-use Rattle.hib_session.specs.Due.{IsAllowed, is_closed}
+use Rattle.hib_journal.specs.Due.{IsAllowed, is_closed}
 use Rattle.hib_session.specs.Control.{Stands, untaken, is_due, is_over_at, is_over, is_settled, act_at, act_staged, weight}
 use Rattle.hib_session.specs.Ahead.{Ends, Copies, asks_rows, has_ending, is_made}
 use Rattle.hib_session.specs.Session.{Follows, IsTaken, number_of, left_in, is_ready}
-use Rattle.hib_session.proofs.Due.{allowed_due, closed_end}
+use Rattle.hib_journal.proofs.Due.{allowed_due, closed_end}
 use Rattle.hib_session.proofs.Taken.{act_due}
 
 -- the acts of stages leave what is asked for the acts that follow

@@ -1,7 +1,6 @@
 pub mod Queries
 pub mod Rows
 pub mod Memory
-pub mod Due
 pub mod Control
 pub mod Ahead
 pub mod Session

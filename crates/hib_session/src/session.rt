@@ -8,7 +8,7 @@ ghost use Rattle.hib_journal.specs.Legal.{unless_removed, is_there, set_unless};
 ghost use Rattle.hib_journal.specs.Next.{next, is_held, is_in, strategy};
 ghost use Rattle.hib_session.specs.Memory.{Knows, brings};
 ghost use Rattle.hib_session.specs.Control.{Stands};
-ghost use Rattle.hib_session.specs.Due.{IsAllowed, is_closed};
+ghost use Rattle.hib_journal.specs.Due.{IsAllowed, is_closed};
 ghost use Rattle.hib_session.specs.Session.{Follows, IsTaken, number_of, is_killed, left_in, own_reply, reply_due};
 
 use crate::ahead::Ending;

@@ -1,5 +1,4 @@
 use Rattle.hib_engines.proofs.Outcomes.{map_ok, both_ok}
-use Rattle.hib_engines.specs.Region.{answer_in}
 use Rattle.hib_journal.specs.Runs.{is_fault}
 use Rattle.std.proofs.Common.{ap, ◌∙◌}
 use Rattle.hib_engines.proofs.Calm.{answer_calm}

@@ -11,7 +11,7 @@ use Rattle.hib_journal.specs.Plan.{Plan, Block, one, each, after, left_of, first
 use Rattle.hib_journal.specs.Next
 use Rattle.hib_journal.specs.Next.{strategy, is_cached, is_cached_by, plan_of, next, statements, tables_in, ends}
 use Rattle.hib_journal.specs.Legal.{is_outside}
-use Rattle.hib_session.specs.Due.{asks_store, found_by, is_removing, is_inserting, asks, is_asked, time_found, Suits, IsAllowed, closes, is_closed}
+use Rattle.hib_journal.specs.Due.{asks_store, found_by, is_removing, is_inserting, asks, is_asked, time_found, Suits, IsAllowed, closes, is_closed}
 
 -- plans of which each act is allowed, and which end where an end is final
 

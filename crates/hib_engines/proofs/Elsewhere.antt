@@ -1,5 +1,5 @@
 -- An entry of another part leaves a registry and a region standing.
-use Rattle.std.proofs.Common.{◌≡◌, ℕ, Bool, true, false, ◌==◌, ◌∷◌, Option, refl}
+use Rattle.std.proofs.Common.{◌≡◌, ℕ, true, false, ◌==◌, ◌∷◌, Option, refl}
 use Rattle.hib_journal.specs.Types.{Part, Script, Act, Reply}
 use Rattle.hib_journal.specs.Sessions.{Journal, is_restart}
 use Rattle.hib_journal.specs.Legal.{number}
