@@ -9,7 +9,7 @@ use Rattle.hib_base.proofs.Lists.{all_at}
 use Rattle.hib_base.proofs.Valid.{Rules, rules}
 use Rattle.hib_journal.specs.Types.{Order, Statement, SessionDef, Script}
 use Rattle.hib_journal.specs.Next.{statements}
-use Rattle.hib_session.specs.Due.{asks}
+use Rattle.hib_journal.specs.Due.{asks}
 use Rattle.hib_core.specs.Factory.{IsSound, IsBuilt}
 
 known_one : (n q : ℕ) (t : Statement) → is_known n t ≡ true → asks q t ≡ true → q < n
