@@ -23,12 +23,12 @@ use Rattle.hib_base.specs.Words.{is_reserved}
 use Rattle.hib_mapping.specs.Parts.{is_a_word, is_a_number, word_of, is_within, number_up_to, entity_at, column_at}
 use Rattle.hib_mapping.proofs.Columns.{lt_more}
 use Rattle.hib_mapping.proofs.Places.{placed}
-use Rattle.hib_criteria.specs.Columns as columns
-use Rattle.hib_criteria.specs.Columns.{columns_in, entity_columns, columns_of, found_at, at_place, plain_column, own, led_to, through_type, through, column_of, path_or_first, is_path, cell_of}
+use Rattle.hib_columns.specs.Columns as columns
+use Rattle.hib_columns.specs.Columns.{columns_in, entity_columns, columns_of, found_at, at_place, plain_column, own, led_to, through_type, through, column_of, path_or_first, is_path, cell_of}
 use Rattle.hib_criteria.specs.Form as lines
 use Rattle.hib_criteria.specs.Query.{are_whole, said_by, kind_of, unless_kind, judged, read, query_of}
-use Rattle.hib_criteria.specs.declared.columns.Column.{Column}
-use Rattle.hib_criteria.specs.declared.columns.Found.{Found}
+use Rattle.hib_columns.specs.declared.columns.Column.{Column}
+use Rattle.hib_columns.specs.declared.columns.Found.{Found}
 use Rattle.hib_criteria.specs.declared.forms.Draft.{Draft}
 use Rattle.hib_criteria.specs.declared.forms.Form.{Form}
 use Rattle.hib_criteria.specs.declared.forms.Frame.{Frame}

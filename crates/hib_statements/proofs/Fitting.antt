@@ -14,7 +14,7 @@ use Rattle.hib_base.specs.declared.scripts.ColumnType.{ColumnType}
 use Rattle.hib_base.specs.declared.scripts.EntityDef.{EntityDef}
 use Rattle.hib_base.proofs.Gives.{Gives, gives_cond, Then, then_cond}
 use Rattle.hib_base.proofs.Lists.{some_none}
-use Rattle.hib_criteria.specs.Columns.{columns_in, cell_of, truth_of, has_type}
+use Rattle.hib_columns.specs.Columns.{columns_in, cell_of, truth_of, has_type}
 use Rattle.hib_lex.specs.Words.{is_the_word}
 use Rattle.hib_lex.specs.declared.lexer.Token.{Token}
 use Rattle.hib_lex.proofs.Lexed.{is_lexed, are_lexed}

@@ -12,7 +12,7 @@ use Rattle.hib_base.specs.declared.scripts.EntityDef.{EntityDef}
 use Rattle.hib_lex.specs.Tokens.{is_zero, is_positive, size_of}
 use Rattle.hib_lex.specs.declared.lexer.Token.{Token}
 use Rattle.hib_mapping.specs.Parts.{word_of, entity_at}
-use Rattle.hib_criteria.specs.Columns.{columns_of}
+use Rattle.hib_columns.specs.Columns.{columns_of}
 use Rattle.hib_statements.specs.Parts.{is_key, key_of, cells_of, are_typed}
 use Rattle.hib_statements.specs.declared.errors.StatementError.{StatementError}
 use Rattle.hib_statements.specs.declared.rows.Told.{Told}

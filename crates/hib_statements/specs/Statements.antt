@@ -11,7 +11,7 @@ use Rattle.hib_base.specs.declared.scripts.Statement.{Statement}
 use Rattle.hib_lex.specs.Words.{begins, is_the_word}
 use Rattle.hib_lex.specs.declared.lexer.Token.{Token}
 use Rattle.hib_mapping.specs.Parts.{is_a_word, word_of, entity_at, small}
-use Rattle.hib_criteria.specs.Columns.{columns_of}
+use Rattle.hib_columns.specs.Columns.{columns_of}
 use Rattle.hib_statements.specs.Parts.{is_key, key_of, cells_of, are_typed, pairs_of}
 use Rattle.hib_statements.specs.declared.errors.StatementError.{StatementError}
 use Rattle.hib_statements.specs.declared.parts.Pairs.{Pairs}

@@ -8,7 +8,7 @@ use crate::parts::{Pairs, are_typed, cells, is_key, key, read_pairs};
 use hib_base::{
     Cells, ColumnDef, EntityDef, Key, Kind, Mapping, Mode, Queries, Query, QueryNo, Statement,
 };
-use hib_criteria::columns_of;
+use hib_columns::columns_of;
 use hib_lex::{Token, begins, is_the_word};
 use hib_mapping::{entity_number, is_word, word_bytes};
 use std::alloc::Global;

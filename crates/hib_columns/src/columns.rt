@@ -1,5 +1,5 @@
 // The columns that the words of a query name, and the cells that it compares them with.
-ghost use Rattle.hib_criteria.specs.Columns as named;
+ghost use Rattle.hib_columns.specs.Columns as named;
 ghost use Rattle.std.specs.Prelude.{◌≡◌, IfOk, bytes_eq};
 
 use hib_base::{Cell, ColumnDef, ColumnType, EntityDef, EntityNo, Op, Path, Seq, Target};

@@ -9,8 +9,8 @@ use Rattle.hib_base.specs.declared.scripts.Path.{Path}
 use Rattle.hib_lex.specs.Words.{is_the_word}
 use Rattle.hib_lex.specs.declared.lexer.Token.{Token}
 use Rattle.hib_mapping.specs.Parts.{column_at}
-use Rattle.hib_criteria.specs.declared.columns.Column.{Column}
-use Rattle.hib_criteria.specs.declared.columns.Found.{Found}
+use Rattle.hib_columns.specs.declared.columns.Column.{Column}
+use Rattle.hib_columns.specs.declared.columns.Found.{Found}
 
 -- ---- columns
 abbrev pub columns_in : Option EntityDef → List ColumnDef
