@@ -1,5 +1,5 @@
 -- What a call of the program promises.
-use Rattle.std.specs.Prelude.{◌≡◌, ◌⊎◌, ◌≤◌, ℕ, true, false, List, [], ⊤, length, slice_get, IfSome, Some, Option, Result, Ok, Err}
+use Rattle.std.specs.Prelude.{◌≡◌, ◌⊎◌, ◌≤◌, ◌+◌, ℕ, true, false, List, [], ⊤, length, slice_get, IfSome, Some, Option, Result, Ok, Err}
 use Rattle.std.specs.Io.KnownBytes.{Appends, IsAtEnd}
 use Rattle.hib_base.specs.Tables.{Tables}
 use Rattle.hib_base.specs.declared.refusals.Refused.{Refused}
@@ -11,6 +11,7 @@ use Rattle.hib_journal.specs.Legal.{IsLegal}
 use Rattle.hib_journal.specs.Runs.{IsNumbered, told_committed}
 use Rattle.hib_law.specs.Hits.{AreListsGiven}
 use Rattle.hib_law.specs.Law.{Obeys}
+use Rattle.hib_core.specs.Bound.{most_in}
 use Rattle.hib_core.specs.Standing.{told_start}
 use Rattle.hib_report.specs.Report.{report}
 use Rattle.hib_script.specs.Outline.{Outline, outline_of}
@@ -34,6 +35,8 @@ pub record IsPlayed (script : Script) (start rows : Option Tables) (h : Journal)
   -- and each list from the cache is what its query gave
   pub given : IfSome start (λ told. AreListsGiven script told h)
   pub numbered : IsNumbered h
+  -- it is short: the sessions have few entries, and each order of the schedule adds one of another kind at most
+  pub few : length h ≤ most_in script.sessions + length script.schedule
   pub committed : rows ≡ told_committed start h
 
 -- what a run came to, from what the keeper kept: start is that with the script's rows

@@ -1,5 +1,5 @@
 // The call that main makes.
-ghost use Rattle.std.specs.Prelude.{◌≡◌, ◌≢◌, ◌<◌, ◌↔◌, length, IfSome};
+ghost use Rattle.std.specs.Prelude.{◌+◌, ◌≡◌, ◌≢◌, ◌<◌, ◌↔◌, length, IfSome};
 ghost use Rattle.hib_journal.specs.Kept.{past};
 ghost use Rattle.hib_journal.specs.Runs.{ask_count, fault_count};
 ghost use Rattle.hib_outside.specs.Causes.{Rose};
@@ -36,6 +36,8 @@ pub fn top<R: Threads + Wait + Sync, S: Source, W: Sink, K: Keeper, G: Gate, L: 
     ensures store { result.status ≡ Status.StoreFault → Rose (K.faults keeper) (K.faults result.keeper) }
     ensures faults { RoseBy (K.faults keeper) (fault_count (past result.journal)) (K.faults result.keeper) }
     ensures asked { result.status ≢ Status.NoMemory → RoseWithin (K.asked keeper) (ask_count (past result.journal)) (K.asked result.keeper) }
+    // Where memory runs out it may have been asked once more, without an entry.
+    ensures once { RoseWithin (K.asked keeper) (ask_count (past result.journal) + 1) (K.asked result.keeper) }
     // At most one piece of 4,096 bytes beyond the limit is read.
     ensures taken { ReadsFew 1052672 (S.left script.old) (S.left script.new) }
     // A script is run to its end where source and sink don't fail, unless memory runs out or the keeper doesn't take its rows.

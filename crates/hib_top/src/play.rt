@@ -1,5 +1,5 @@
 // The top call.
-ghost use Rattle.std.specs.Prelude.{◌≡◌, ◌≢◌, ◌<◌, ◌↔◌, [], length, true, IsTrue, IfSome};
+ghost use Rattle.std.specs.Prelude.{◌+◌, ◌≡◌, ◌≢◌, ◌<◌, ◌↔◌, [], length, true, IsTrue, IfSome};
 ghost use Rattle.hib_journal.specs.Kept.{past};
 ghost use Rattle.hib_journal.specs.Runs.{ask_count, fault_count};
 ghost use Rattle.hib_core.specs.Standing.{RoseBy, RoseWithin};
@@ -73,6 +73,8 @@ fn play_script<W: Sink, K: Keeper>(
     ensures store { result.status ≡ Status.StoreFault → Rose (K.faults keeper) (K.faults result.keeper) }
     ensures faults { RoseBy (K.faults keeper) (fault_count (past result.journal)) (K.faults result.keeper) }
     ensures asked { result.status ≢ Status.NoMemory → RoseWithin (K.asked keeper) (ask_count (past result.journal)) (K.asked result.keeper) }
+    // Where memory runs out it may have been asked once more, without an entry.
+    ensures once { RoseWithin (K.asked keeper) (ask_count (past result.journal) + 1) (K.asked result.keeper) }
 {
     let Ran {
         end,
@@ -120,6 +122,8 @@ fn play<S: Source, W: Sink, K: Keeper>(
     ensures store { result.status ≡ Status.StoreFault → Rose (K.faults keeper) (K.faults result.keeper) }
     ensures faults { RoseBy (K.faults keeper) (fault_count (past result.journal)) (K.faults result.keeper) }
     ensures asked { result.status ≢ Status.NoMemory → RoseWithin (K.asked keeper) (ask_count (past result.journal)) (K.asked result.keeper) }
+    // Where memory runs out it may have been asked once more, without an entry.
+    ensures once { RoseWithin (K.asked keeper) (ask_count (past result.journal) + 1) (K.asked result.keeper) }
     ensures taken { ReadsFew 1052672 (S.left source.old) (S.left source.new) }
 {
     let text = match read_all(alloc, source) {
@@ -162,6 +166,8 @@ pub fn play_words<S: Source, W: Sink, K: Keeper, L: Listener>(
     ensures store { result.status ≡ Status.StoreFault → Rose (K.faults keeper) (K.faults result.keeper) }
     ensures faults { RoseBy (K.faults keeper) (fault_count (past result.journal)) (K.faults result.keeper) }
     ensures asked { result.status ≢ Status.NoMemory → RoseWithin (K.asked keeper) (ask_count (past result.journal)) (K.asked result.keeper) }
+    // Where memory runs out it may have been asked once more, without an entry.
+    ensures once { RoseWithin (K.asked keeper) (ask_count (past result.journal) + 1) (K.asked result.keeper) }
     // At most one piece of 4,096 bytes beyond the limit is read.
     ensures taken { ReadsFew 1052672 (S.left script.old) (S.left script.new) }
     // A script is run to its end where source and sink don't fail, unless memory runs out or the keeper doesn't take its rows.

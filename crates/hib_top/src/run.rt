@@ -1,5 +1,5 @@
 // The run of a script over a keeper.
-ghost use Rattle.std.specs.Prelude.{◌≡◌, ◌≢◌, [], true};
+ghost use Rattle.std.specs.Prelude.{◌≡◌, ◌≢◌, ◌+◌, [], true};
 ghost use Rattle.hib_journal.specs.Kept.{past};
 ghost use Rattle.hib_journal.specs.Runs.{ask_count, fault_count};
 ghost use Rattle.hib_core.specs.Standing.{RoseBy, RoseWithin, told_start};
@@ -10,7 +10,7 @@ ghost use Rattle.hib_top.specs.Play.{CameTo};
 use hib_base::Script;
 use hib_core::{Factory, Name};
 use hib_journal::Journal;
-use hib_law::{law, lists_are_given};
+use hib_law::lists_are_given;
 use hib_outside::Keeper;
 use hib_store::OpenFault;
 use std::alloc::Global;
@@ -60,9 +60,9 @@ fn named<N: Name, K: Keeper>(alloc: Global, script: Script, keeper: K) -> Ran<K>
     ensures came { CameTo result.end N.script (K.tables keeper) N.from.tables (K.tables result.keeper) (past result.journal) }
     ensures faults { RoseBy N.from.faults (fault_count (past result.journal)) (K.faults result.keeper) }
     ensures asked { result.end ≢ End.Stopped → RoseWithin N.from.asked (ask_count (past result.journal)) (K.asked result.keeper) }
+    ensures once { RoseWithin N.from.asked (ask_count (past result.journal) + 1) (K.asked result.keeper) }
     ensures store { result.end ≡ End.Unseeded → Rose (K.faults keeper) (K.faults result.keeper) }
 {
-    law();
     lists_are_given();
     let mut factory: Factory<K, N> = match Factory::open(alloc, script, keeper) {
         Ok(factory) => factory,
@@ -89,6 +89,7 @@ pub fn run<K: Keeper>(alloc: Global, script: Script, keeper: K) -> Ran<K>
     ensures came { CameTo result.end script (K.tables keeper) (told_start script (K.tables keeper)) (K.tables result.keeper) (past result.journal) }
     ensures faults { RoseBy (K.faults keeper) (fault_count (past result.journal)) (K.faults result.keeper) }
     ensures asked { result.end ≢ End.Stopped → RoseWithin (K.asked keeper) (ask_count (past result.journal)) (K.asked result.keeper) }
+    ensures once { RoseWithin (K.asked keeper) (ask_count (past result.journal) + 1) (K.asked result.keeper) }
     ensures store { result.end ≡ End.Unseeded → Rose (K.faults keeper) (K.faults result.keeper) }
 {
     named::<Brand, K>(alloc, script, keeper)

@@ -1,6 +1,7 @@
-use Rattle.std.proofs.Common.{◌≡◌, true, sym, subst}
+use Rattle.std.proofs.Common.{◌≡◌, true, sym, ap, subst, arith}
 use Rattle.hib_journal.specs.Kept.{Kept, past}
 use Rattle.hib_journal.specs.Played.{is_played}
+use Rattle.hib_core.specs.Bound.{outside_count}
 use Rattle.hib_core.specs.Factory.{AreOver}
 use Rattle.hib_top.specs.Play.{IsPlayed}
 use Rattle.hib_top.proofs.Ends.{over, stopped}
@@ -14,9 +15,11 @@ returns-clause-came g c =
     let played : IsPlayed g.N.Name.script g.N.Name.from.tables (g.K.Keeper.tables c.close-keeper.result.0) h =
     record {
       legal = c.close-keeper.ensures.legal;
-      law = c.law.ensures.obeyed g.N.Name.script g.N.Name.from.tables h c.close-keeper.ensures.legal;
+      law = c.close-keeper.ensures.law;
       given = c.lists_are_given.ensures.lists g.N.Name.script g.N.Name.from.tables h c.requires.valid c.close-keeper.ensures.legal;
       numbered = c.close-keeper.ensures.numbered;
+      few = omega (arith, c.close-keeper.ensures.short, c.play-finished.ensures.outside, ap outside_count c.in-Ok.ensures.empty,
+          ap (λ (k : Kept). outside_count (past k)) c.close-keeper.ensures.journal);
       committed = c.close-keeper.ensures.rows;
     } in
     elim c.match-finished.branch [
