@@ -134,38 +134,31 @@ pub fn add(journal: &mut Journal, entry: Entry)
     let _ = journal.push(entry);
 }
 
-/// The entry of the act that is due, which the session or a part has answered. The journal has room for it. Where memory runs
-/// out nothing has changed, but for the keeper's counts.
+/// The tick and the reply of the act that is due, which the session or a part has answered. The journal has room for its entry.
+/// Where memory runs out nothing has changed, but for the keeper's counts.
 fn answered<K: Keeper, N: Name>(
     alloc: Global,
     script: &Script,
     session: &Session,
-    act: Act,
+    act: &Act,
     parts: &mut Parts<K>,
     journal: &mut Journal,
-) -> Result<Entry, AllocError>
+) -> Result<(Tick, Reply), AllocError>
     requires script { script.now ≡ N.script }
     requires run { IsRun N.script N.from (past journal.old) parts.old }
-    requires turn { IsTurn N.script (past journal.old) session.now act }
+    requires turn { IsTurn N.script (past journal.old) session.now act.now }
     ensures same { past journal.new ≡ past journal.old }
     ensures room { OnOk result (0 < journal.new.spare) }
-    ensures answers { IfOk result (λ e. Answers N.script N.from (number_of session.now) act (past journal.old) e parts.old parts.new) }
-    ensures still { OnOk result (brings act ≡ true → IsStill parts.old parts.new) }
+    ensures tick { IfOk result (λ t. t.0 ≡ length (past journal.old) + 1) }
+    ensures answers { IfOk result (λ t. Answers N.script N.from (number_of session.now) act.now (past journal.old) (entry_of (past journal.old) (number_of session.now) act.now t.1) parts.old parts.new) }
+    ensures still { OnOk result (brings act.now ≡ true → IsStill parts.old parts.new) }
     ensures err { OnErr result (IsStill parts.old parts.new) }
 {
     laws();
     law();
     let tick = reserve_tick(journal)?;
-    let reply = answer(alloc, script, session, parts, &act, tick)?;
-    let number = session.number();
-    let part = part_of(&act, number);
-    Ok(Entry {
-        tick,
-        session: Some(number),
-        part,
-        act,
-        reply,
-    })
+    let reply = answer(alloc, script, session, parts, act, tick)?;
+    Ok((tick, reply))
 }
 
 /// The session takes the entry of its act, and then the journal, which has room for it: both, or where memory runs out neither.
@@ -213,7 +206,16 @@ fn serve<K: Keeper, N: Name>(
     ensures ok { OnOk result (Serves N.script N.from act (past journal.old) (past journal.new) parts.old parts.new session.old session.new) }
     ensures err { OnErr result (Leaves N.script (past journal.old) (past journal.new) parts.old parts.new session.old session.new) }
 {
-    let entry = answered::<K, N>(alloc, script, session, act, parts, journal)?;
+    let (tick, reply) = answered::<K, N>(alloc, script, session, &act, parts, journal)?;
+    let number = session.number();
+    let part = part_of(&act, number);
+    let entry = Entry {
+        tick,
+        session: Some(number),
+        part,
+        act,
+        reply,
+    };
     enter(alloc, script, session, journal, entry)?;
     Ok(())
 }

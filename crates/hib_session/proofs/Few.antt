@@ -1,6 +1,6 @@
 -- A session's entries are few: a plan has few acts, whatever is answered.
-use Rattle.std.proofs.Common.{◌≡◌, ℕ, zero, suc, ◌+◌, ◌-◌, ◌*◌, ◌≤◌, Bool, true, false, cond, not, ◌&&◌, ◌==◌, List, [], ◌∷◌, ◌++◌, length, slice_get, Some, None, Option, refl, sym, ap, ◌∙◌, subst, arith}
-use Rattle.std.specs.List.{filter, filter_map, flat_map, list_any, cons_option}
+use Rattle.std.proofs.Common.{◌≡◌, ℕ, suc, ◌+◌, ◌-◌, ◌*◌, ◌≤◌, Bool, true, false, cond, not, ◌&&◌, List, [], ◌∷◌, ◌++◌, length, slice_get, Some, None, Option, refl, sym, subst, arith}
+use Rattle.std.specs.List.{filter, filter_map, flat_map, cons_option}
 use Rattle.std.proofs.lemmas.List.{length-append}
 use Rattle.std.proofs.lemmas.Nat.{mul-le}
 use Rattle.hib_base.specs.Keys.{same_key}
@@ -251,7 +251,7 @@ short_completion script m b done =
     let keys : List Act = flat_map (λ k. Next.complete script m done b cs k) ks in
     let stamps : List Act = Next.stamps_of (Next.tables_in script cs) in
     let s : Short (times 1 ks) (times 0 ks) keys = short_flat (λ k. Next.complete script m done b cs k) 1 0
-        (λ k. short_complete (first_on k cs) (Next.strategy script k.entity) k (Next.lock_id k done) (floor_in done) (Next.puts_back (b && Next.mode_puts m) (last_on k cs))) ks in
+    (λ k. short_complete (first_on k cs) (Next.strategy script k.entity) k (Next.lock_id k done) (floor_in done) (Next.puts_back (b && Next.mode_puts m) (last_on k cs))) ks in
     let i = times_one ks in
     let j = times_none ks in
     let f = keys_few cs in
@@ -264,10 +264,13 @@ short_completion script m b done =
 each_few : (acts : List Act) (done : Journal) (go : Journal → Plan) (w c n : ℕ) → Calm acts → Small w c done →
     ((d : Journal) → Small w (c + written acts) d → AtMost n (go d)) → AtMost (length acts + n) (each acts done go)
 each_few [] done go w c n k s f = more (go done) n (0 + n) (omega arith) (f done (small_more w c w (c + 0) done (omega arith) (omega arith) s))
-each_few (a ∷ acts) done go w c n k s f = (omega arith, λ e q. more (each acts (e ∷ done) go) (length acts + n) (length (a ∷ acts) + n - 1) (omega arith)
-    (each_few acts (e ∷ done) go w (c + writes_one a) n k.1
-    (small_more (w + gains a) (c + writes_one a) w (c + writes_one a) (e ∷ done) (omega (arith, k.0)) (omega arith) (grow w c done e a q s))
-    (λ d t. f d (small_more w (c + writes_one a + written acts) w (c + written (a ∷ acts)) d (omega arith) (omega arith) t))))
+each_few (a ∷ acts) done go w c n k s f = (
+  omega arith,
+  λ e q. more (each acts (e ∷ done) go) (length acts + n) (length (a ∷ acts) + n - 1) (omega arith)
+      (each_few acts (e ∷ done) go w (c + writes_one a) n k.1
+      (small_more (w + gains a) (c + writes_one a) w (c + writes_one a) (e ∷ done) (omega (arith, k.0)) (omega arith) (grow w c done e a q s))
+      (λ d t. f d (small_more w (c + writes_one a + written acts) w (c + written (a ∷ acts)) d (omega arith) (omega arith) t))),
+)
 
 short_few : (acts : List Act) (done : Journal) (go : Journal → Plan) (w c n l v : ℕ) → Short l v acts → Small w c done →
     ((d : Journal) → Small w (c + v) d → AtMost n (go d)) → AtMost (l + n) (each acts done go)
