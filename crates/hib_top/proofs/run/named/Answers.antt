@@ -18,8 +18,13 @@ returns-clause-came g c =
       law = c.close-keeper.ensures.law;
       given = c.lists_are_given.ensures.lists g.N.Name.script g.N.Name.from.tables h c.requires.valid c.close-keeper.ensures.legal;
       numbered = c.close-keeper.ensures.numbered;
-      few = omega (arith, c.close-keeper.ensures.short, c.play-finished.ensures.outside, ap outside_count c.in-Ok.ensures.empty,
-          ap (λ (k : Kept). outside_count (past k)) c.close-keeper.ensures.journal);
+      few = omega (
+        arith,
+        c.close-keeper.ensures.short,
+        c.play-finished.ensures.outside,
+        ap outside_count c.in-Ok.ensures.empty,
+        ap (λ (k : Kept). outside_count (past k)) c.close-keeper.ensures.journal,
+      );
       committed = c.close-keeper.ensures.rows;
     } in
     elim c.match-finished.branch [
