@@ -1,5 +1,5 @@
 -- Tables that fit a mapping.
-use Rattle.std.specs.Prelude.{ℕ, ◌^◌, Bool, true, false, cond, not, ◌&&◌, List, [], ◌∷◌, length, slice_get, nat_lt, nat_le, Some, None, Option}
+use Rattle.std.specs.Prelude.{ℕ, Bool, true, false, ◌&&◌, List, [], ◌∷◌, length, slice_get, nat_lt, nat_le, Some, None, Option}
 use Rattle.std.specs.List.{list_all}
 use Rattle.hib_base.specs.Types.{Key, Cell, Row, ColumnType, ColumnDef, EntityDef}
 use Rattle.hib_base.specs.Tables.{Tables}

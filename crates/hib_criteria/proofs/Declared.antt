@@ -1,5 +1,5 @@
 -- A query that a line is reads declared tables alone.
-use Rattle.std.proofs.Common.{◌≡◌, ℕ, ◌<◌, Bool, true, false, not, cond, ◌&&◌, ◌||◌, nat_lt, List, [], ◌∷◌, ◌++◌, length, Option, Some, None, codes, Result, Ok, Err, refl, sym, ◌∙◌, ◌+◌}
+use Rattle.std.proofs.Common.{◌≡◌, ℕ, Bool, true, false, not, cond, ◌&&◌, ◌||◌, nat_lt, List, [], ◌∷◌, ◌++◌, length, Option, Some, None, codes, Err, refl, sym, ◌∙◌, ◌+◌}
 use Rattle.std.specs.Prelude.{slice_get, option_and_then, is_none, is_some, unwrap_or, bytes_eq}
 use Rattle.std.specs.List.{list_all}
 use Rattle.std.proofs.lemmas.Bool.{and_parts, and_from, or_parts, true≢false, false≢true}
@@ -26,7 +26,7 @@ use Rattle.hib_mapping.proofs.Places.{placed}
 use Rattle.hib_columns.specs.Columns as columns
 use Rattle.hib_columns.specs.Columns.{columns_in, entity_columns, columns_of, found_at, at_place, plain_column, own, led_to, through_type, through, column_of, path_or_first, is_path, cell_of}
 use Rattle.hib_criteria.specs.Form as lines
-use Rattle.hib_criteria.specs.Query.{are_whole, said_by, kind_of, unless_kind, judged, read, query_of}
+use Rattle.hib_criteria.specs.Query.{are_whole, kind_of, unless_kind, read, query_of}
 use Rattle.hib_columns.specs.declared.columns.Column.{Column}
 use Rattle.hib_columns.specs.declared.columns.Found.{Found}
 use Rattle.hib_criteria.specs.declared.forms.Draft.{Draft}

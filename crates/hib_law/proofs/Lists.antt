@@ -1,16 +1,15 @@
 -- A list from the cache, of a valid script, is what its query gave at the moment of the hit.
 use Rattle.std.proofs.Common.{◌≡◌, ℕ, true, List, [], ◌∷◌, Some, None, Option, sym, ◌∙◌}
-use Rattle.std.specs.Prelude.{slice_get, IfSome}
+use Rattle.std.specs.Prelude.{IfSome}
 use Rattle.hib_base.specs.Tables.{Tables}
 use Rattle.hib_base.specs.Scripts.{is_declared}
 use Rattle.hib_base.specs.Valid.{is_valid}
 use Rattle.hib_base.proofs.Lists.{all_at}
 use Rattle.hib_base.proofs.Valid.{Rules, rules}
-use Rattle.hib_journal.specs.Types.{Cell, Query, Script, Reply}
+use Rattle.hib_journal.specs.Types.{Cell, Script, Reply}
 use Rattle.hib_journal.specs.Legal.{IsLegal}
-use Rattle.hib_journal.specs.Sessions.{Journal, own}
+use Rattle.hib_journal.specs.Sessions.{Journal}
 use Rattle.hib_law.specs.Hits.{IsHitTrue, AreHitsTrue, IsListGiven, AreListsGiven}
-use Rattle.hib_law.specs.Prefixes.{last_reply}
 use Rattle.hib_law.proofs.Hits.{hits_true}
 
 same_list : (t u : ℕ) (k l : List Cell) → Reply.Found t k ≡ Reply.Found u l → k ≡ l

@@ -7,7 +7,7 @@ use Rattle.hib_base.specs.Fits.{is_printable, is_text}
 use Rattle.hib_base.specs.Words.{is_word}
 use Rattle.hib_base.specs.declared.refusals.Kind.{Kind}
 use Rattle.hib_base.specs.declared.refusals.Refused.{Refused}
-use Rattle.hib_base.proofs.Gives.{Gives, gives_cond, Then, then_cond}
+use Rattle.hib_base.proofs.Gives.{Gives, Then, then_cond}
 use Rattle.hib_base.proofs.Lists.{all_more}
 use Rattle.hib_lex.specs.Lines.{lines_of, content_of, tokens_or_bad, with_content, with_line, lexing, lex_of}
 use Rattle.hib_lex.specs.Tokens as lines

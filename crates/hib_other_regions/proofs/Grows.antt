@@ -5,11 +5,11 @@ use Rattle.std.proofs.lemmas.Bool.{eqb-true}
 use Rattle.hib_base.proofs.Tables.{Tested, tested}
 use Rattle.hib_journal.specs.Types.{Key, Row, Part, Act, Reply, Entry, Miss, Put, Inserted, Evicted}
 use Rattle.hib_journal.specs.Sessions.{Journal, last_tick, same_part, is_restart}
-use Rattle.hib_journal.specs.Slot.{Touch, History, history, touch_of, touch_here, with_touch, key_in, evicted_in, is_victim}
+use Rattle.hib_journal.specs.Slot.{Touch, History, history, touch_here, with_touch, key_in, evicted_in, is_victim}
 use Rattle.hib_journal.specs.Room.{key, item, is_item}
 use Rattle.hib_journal.specs.Regions.{got_item, put_item, insert_item, remove_item, evict_item}
 use Rattle.hib_room_laws.specs.Order.{IsUpTo}
-use Rattle.hib_room_laws.specs.Elsewhere.{IsElsewhere, last_of}
+use Rattle.hib_room_laws.specs.Elsewhere.{last_of}
 use Rattle.hib_room_laws.proofs.Touched.{touch_by, touched_by, quiet, elsewhere}
 use Rattle.hib_other_regions.specs.Items.{ItemsState, item_in, oldest_in, without, with_new, after_put, after_remove}
 use Rattle.hib_other_regions.specs.Stands.{IsItems, stamp_of}

@@ -1,16 +1,16 @@
 -- The first key by place, and the number of keys, from two lists with the same keys.
-use Rattle.std.proofs.Common.{◌≡◌, ◌⊎◌, ℕ, inl, inr, Bool, true, false, cond, ◌&&◌, ◌||◌, ◌==◌, nat_eq, List, [], ◌∷◌, length, Option, Some, None, is_some, refl, sym, ap, ◌∙◌, subst, true≢false, eq-eqb}
+use Rattle.std.proofs.Common.{◌≡◌, ◌⊎◌, ℕ, inl, inr, Bool, true, false, cond, ◌||◌, ◌==◌, nat_eq, List, [], ◌∷◌, length, Option, Some, None, is_some, refl, sym, ap, ◌∙◌, subst, true≢false, eq-eqb}
 use Rattle.std.specs.Map.{lookup, keys_of}
 use Rattle.std.specs.Set.{is_member}
-use Rattle.std.specs.List.{IsDistinct, list_any, filter}
+use Rattle.std.specs.List.{IsDistinct, list_any}
 use Rattle.std.specs.Cmp.{nat_eq_equiv}
-use Rattle.std.proofs.lemmas.Bool.{eqb-true, or_parts, or_left}
+use Rattle.std.proofs.lemmas.Bool.{eqb-true, or_left}
 use Rattle.std.proofs.lemmas.Map.Made.{length-from_same_keys, is_some-lookup}
 use Rattle.std.proofs.lemmas.Map.Entries.{length-keys_of}
 use Rattle.hib_base.proofs.Tables.{Tested, tested}
 use Rattle.hib_journal.specs.Room.{is_earlier, earlier_of, first_placed}
 use Rattle.hib_room_laws.specs.Order.{AreLater, IsInOrder, first_key}
-use Rattle.hib_room_laws.proofs.Order.{earlier_self, earlier_back, order_distinct}
+use Rattle.hib_room_laws.proofs.Order.{earlier_back, order_distinct}
 
 -- whether an identifier is among these
 abbrev pub is_among : ℕ → List ℕ → Bool

@@ -1,15 +1,15 @@
 -- The identifiers that a region's acts name: each once, and all that have an entry.
-use Rattle.std.proofs.Common.{◌≡◌, ℕ, inl, inr, Bool, true, false, cond, ◌&&◌, ◌||◌, ◌==◌, nat_eq, List, [], ◌∷◌, Option, Some, None, refl, sym, ap, ◌∙◌, subst, true≢false, eq-eqb}
-use Rattle.std.specs.List.{IsDistinct, AllByRecursion, list_any, filter}
+use Rattle.std.proofs.Common.{◌≡◌, ℕ, inl, inr, Bool, true, false, cond, ◌&&◌, ◌==◌, nat_eq, List, [], ◌∷◌, Option, Some, None, refl, sym, ap, ◌∙◌, subst, true≢false, eq-eqb}
+use Rattle.std.specs.List.{IsDistinct, AllByRecursion, filter}
 use Rattle.std.specs.Cmp.{nat_eq_equiv}
 use Rattle.std.proofs.lemmas.Bool.{eqb-true, or_parts, and_parts}
 use Rattle.std.proofs.lemmas.Map.Keys.{IsDistinct-cons}
 use Rattle.std.proofs.lemmas.Map.Views.{any-filter_same}
 use Rattle.hib_base.specs.Keys.{same_key}
 use Rattle.hib_base.proofs.Tables.{Tested, tested}
-use Rattle.hib_journal.specs.Types.{Key, Act, Reply, Entry}
+use Rattle.hib_journal.specs.Types.{Key, Act, Reply}
 use Rattle.hib_journal.specs.Sessions.{Journal, is_restart}
-use Rattle.hib_journal.specs.Slot.{Touch, History, history, touch, touch_of, touch_at, touch_here, with_touch, key_in, is_victim, evicted_in, Slot, slot_from}
+use Rattle.hib_journal.specs.Slot.{Touch, History, history, touch, touch_of, touch_at, with_touch, key_in, is_victim, evicted_in, Slot, slot_from}
 use Rattle.hib_journal.specs.Room.{key, add_once, add_key, named, item}
 use Rattle.hib_room_laws.proofs.First.{is_among}
 

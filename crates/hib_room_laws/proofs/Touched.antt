@@ -2,7 +2,7 @@
 use Rattle.std.proofs.Common.{◌≡◌, ℕ, Bool, true, false, cond, nat_eq, ◌∷◌, Some, None, Option, refl, eq-eqb}
 use Rattle.hib_journal.specs.Types.{Key, Act, Reply, Entry}
 use Rattle.hib_journal.specs.Sessions.{Journal, is_restart}
-use Rattle.hib_journal.specs.Slot.{Touch, History, history, touch_of, touch_here, with_touch, key_in, is_victim, evicted_in}
+use Rattle.hib_journal.specs.Slot.{Touch, history, touch_of, touch_here, with_touch, key_in, is_victim, evicted_in}
 use Rattle.hib_journal.specs.Room.{key}
 use Rattle.hib_room_laws.specs.Elsewhere.{is_of, IsElsewhere}
 

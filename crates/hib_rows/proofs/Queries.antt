@@ -2,7 +2,7 @@
 -- of 2 and 5 are missing.
 use Rattle.std.proofs.Common.{Box, Global, ◌≡◌, ℕ, zero, suc, Bool, true, false, ℤ, pos, neg_ℤ, List, [], ◌∷◌, map, Some, None, Option, refl}
 use Rattle.hib_base.specs.Tables.{Tables}
-use Rattle.hib_journal.specs.Types.{Cell, Row, Op, Path, Target, Cond, Sort, Select, Query}
+use Rattle.hib_journal.specs.Types.{Cell, Row, Op, Path, Cond, Sort, Select, Query}
 use Rattle.hib_journal.specs.Room.{key}
 use Rattle.hib_journal.specs.Query.{gives}
 use Rattle.hib_rows.proofs.Run.{row}

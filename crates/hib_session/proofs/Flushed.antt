@@ -8,7 +8,7 @@ use Rattle.hib_journal.specs.Next.{tables_in, before_key, before_write, writes, 
 use Rattle.hib_completion.specs.Completed.{key_acts, keys_acts, completes}
 use Rattle.hib_flush.specs.Planned.{planned}
 use Rattle.hib_session.specs.Memory.{Remembered, Knows, Recalls, before_key_in, before_in, writes_in, flush_in}
-use Rattle.hib_session.proofs.Orders.{pending_kept}
+use Rattle.hib_flush.proofs.Pending.{pending_kept}
 
 -- what is asked for the acts that follow is known of all entries
 pub recalls : (x : Remembered) (mine : Journal) → Knows x mine → Recalls x mine

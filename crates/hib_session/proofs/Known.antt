@@ -13,7 +13,8 @@ use Rattle.hib_journal.specs.Legal.{outcome_after}
 use Rattle.hib_completion.specs.Completed.{is_key_in, lock_from}
 use Rattle.hib_completion.proofs.Keys.{in_more}
 use Rattle.hib_identity_map.specs.Identity.{MapState, Pairs, look_in, drop_in, change_in, written, as_removed, with_sets}
-use Rattle.hib_session.specs.Memory.{Remembered, with_room, shown_of, shown_by, is_unwritten, marked_in, Holds, Knows, made, managed, arrive_in, remove_in, unless_broken, map_after, marks_after, fresh_after, locks_after, noted}
+use Rattle.hib_identity_map.specs.Holds.{shown_of, shown_by, Holds}
+use Rattle.hib_session.specs.Memory.{Remembered, with_room, is_unwritten, marked_in, Knows, made, managed, arrive_in, remove_in, unless_broken, map_after, marks_after, fresh_after, locks_after, noted}
 use Rattle.hib_session.proofs.Kept.{after_write, after_removal, after_sets, unless_unwritten, later, fresh, arrives_other, held_later, held_arrives, held_broken}
 use Rattle.hib_session.proofs.Orders.{held_key, none_map, later_map, same_map, without_none, without_same, others, dropped_map, join_map, look_changed, look_dropped, look_added, distinct_changed, distinct_dropped, distinct_added, change_at, shown_changed, shown_dropped, shown_added}
 

@@ -1,19 +1,17 @@
--- The instances that a memory keeps, in order of arrival, and the changes that are pending of them.
+-- The instances that a memory keeps, in order of arrival.
 use Rattle.std.proofs.Common.{◌≡◌, inl, inr, Bool, true, false, cond, not, List, [], ◌∷◌, ◌++◌, map, Some, None, Option, refl, sym, ap, ◌∙◌, subst}
 use Rattle.std.proofs.lemmas.Bool.{false≢true, and_parts, and_from}
 use Rattle.std.specs.List.{filter, filter_map, cons_option}
 use Rattle.std.specs.Option.{option_map}
 use Rattle.hib_base.specs.Keys.{same_key}
 use Rattle.hib_base.proofs.Tables.{same_key_eq, Tested, tested}
-use Rattle.hib_journal.specs.Types.{Key, Change, Held}
+use Rattle.hib_journal.specs.Types.{Key, Held}
 use Rattle.hib_journal.specs.Sessions.{Journal}
 use Rattle.hib_journal.specs.Held as held
 use Rattle.hib_journal.specs.Held.{Instance, Stay, held_by, has_left, instance_of, stay, arrived, removed, without_key, pending}
 use Rattle.hib_completion.proofs.Keys.{same_key_sym}
-use Rattle.hib_identity_map.specs.Identity.{MapState, Pairs, look_in, is_absent, are_distinct, drop_in, add_in, change_in}
-use Rattle.hib_dirty_check.specs.Changed.{insert_of, update_of}
-use Rattle.hib_flush.specs.Planned.{planned, delete_held}
-use Rattle.hib_session.specs.Memory.{shown_of, shown, shown_by, held_in, Holds}
+use Rattle.hib_identity_map.specs.Identity.{Pairs, look_in, is_absent, are_distinct, drop_in, add_in, change_in}
+use Rattle.hib_identity_map.specs.Holds.{shown_of, shown}
 
 -- an instance that is held of a key has that key
 
@@ -101,45 +99,6 @@ cons_append (Some i) xs ys = refl
 pub join_map : (f : Key → Option Instance) (ks js : List Key) → filter_map f (ks ++ js) ≡ filter_map f ks ++ filter_map f js
 join_map f [] js = refl
 join_map f (k ∷ ks) js = ap (cons_option (f k)) (join_map f ks js) ∙ cons_append (f k) (filter_map f ks) (filter_map f js)
-
--- changes of what is held
-
-fused : (c : Option Instance → Option Change) (f : Key → Option Instance) (ks : List Key) → c None ≡ None →
-    filter_map (λ k. c (f k)) ks ≡ filter_map (λ i. c (Some i)) (filter_map f ks)
-fused c f [] n = refl
-fused c f (k ∷ ks) n = at_key (f k) refl (fused c f ks n)
-  where
-    at_key : (o : Option Instance) → f k ≡ o → filter_map (λ k. c (f k)) ks ≡ filter_map (λ i. c (Some i)) (filter_map f ks) →
-        filter_map (λ k. c (f k)) (k ∷ ks) ≡ filter_map (λ i. c (Some i)) (filter_map f (k ∷ ks))
-    at_key None e i = rw (e, n) i
-    at_key (Some x) e i = rw (e, i) refl
-
-shown_changes : (c : Key × Held → Option Change) (d : Option Instance → Option Change) (ps : List (Key × Held)) → ((p : Key × Held) → c p ≡ d (Some (shown p))) →
-    filter_map c ps ≡ filter_map (λ i. d (Some i)) (map shown ps)
-shown_changes c d [] h = refl
-shown_changes c d (p ∷ ps) h = rw (h p, shown_changes c d ps h) refl
-
-deletes_fused : (f : Key → Option Instance) (ps : Pairs) (ks : List Key) → ((k : Key) → held_in ps k ≡ f k) →
-    filter_map (λ k. delete_held k (look_in ps k)) ks ≡ filter_map (λ k. held.delete_of (f k)) ks
-deletes_fused f ps [] h = refl
-deletes_fused f ps (k ∷ ks) h = rw (at_key (look_in ps k) ∙ ap held.delete_of (h k), deletes_fused f ps ks h) refl
-  where
-    at_key : (o : Option Held) → delete_held k o ≡ held.delete_of (shown_by k o)
-    at_key None = refl
-    at_key (Some x) = refl
-
-pub pending_kept : (s : MapState) (m : Journal) → Holds s.held m → s.removals ≡ removed m → planned s ≡ pending m
-unfolding pending
-pending_kept s m h r =
-    let i : filter_map (λ p. insert_of p.0 p.1) s.held ≡ filter_map (λ k. held.insert_of (held.held m k)) (arrived m) =
-    shown_changes (λ p. insert_of p.0 p.1) held.insert_of s.held (λ q. refl) ∙ ap (filter_map (λ i. held.insert_of (Some i))) h.order
-    ∙ sym (fused held.insert_of (λ k. held.held m k) (arrived m) refl) in
-    let u : filter_map (λ p. update_of p.0 p.1) s.held ≡ filter_map (λ k. held.update_of (held.held m k)) (arrived m) =
-    shown_changes (λ p. update_of p.0 p.1) held.update_of s.held (λ q. refl) ∙ ap (filter_map (λ i. held.update_of (Some i))) h.order
-    ∙ sym (fused held.update_of (λ k. held.held m k) (arrived m) refl) in
-    let d : filter_map (λ k. delete_held k (look_in s.held k)) s.removals ≡ filter_map (λ k. held.delete_of (held.held m k)) (removed m) =
-    deletes_fused (λ k. held.held m k) s.held s.removals h.instances ∙ ap (filter_map (λ k. held.delete_of (held.held m k))) r in
-    rw (i, u, d) refl
 
 -- the list that is kept
 

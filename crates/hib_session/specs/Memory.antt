@@ -1,14 +1,15 @@
 -- What a session remembers of its own entries.
-use Rattle.std.specs.Prelude.{◌≡◌, ℕ, Bool, true, false, cond, not, List, [], ◌∷◌, ◌++◌, map, Some, None, Option}
-use Rattle.std.specs.List.{filter_map, flat_map}
+use Rattle.std.specs.Prelude.{◌≡◌, ℕ, Bool, true, false, cond, not, List, [], ◌∷◌, ◌++◌, Some, None, Option}
+use Rattle.std.specs.List.{flat_map}
 use Rattle.std.specs.Option.{is_some}
 use Rattle.hib_journal.specs.Types.{Key, Row, Change, Script, State, Held, Outcome, Act, Reply, Entry}
 use Rattle.hib_base.specs.Keys.{same_key}
 use Rattle.hib_journal.specs.Sessions.{Journal, time_in, time_after, floor_in, floor_after, changes_in, changes_after}
-use Rattle.hib_journal.specs.Held.{Instance, Arrival, Stay, stay, is_break, held, arrived, removed, is_fresh, is_inserted}
+use Rattle.hib_journal.specs.Held.{Arrival, Stay, stay, is_break, removed, is_fresh, is_inserted}
 use Rattle.hib_journal.specs.Next.{lock_id, is_in, strategy, before_cached, fresh_version, tables_in}
 use Rattle.hib_journal.specs.Legal.{outcome, outcome_after}
-use Rattle.hib_identity_map.specs.Identity.{MapState, Pairs, look_in, are_distinct, drop_in, add_in, change_in, written, as_removed, with_sets, remove_last}
+use Rattle.hib_identity_map.specs.Identity.{MapState, Pairs, drop_in, add_in, change_in, written, as_removed, with_sets, remove_last}
+use Rattle.hib_identity_map.specs.Holds.{Holds}
 use Rattle.hib_completion.specs.Completed.{is_key_in, lock_from}
 use Rattle.hib_session.specs.declared.written.Written.{Written}
 use Rattle.hib_session.specs.Rows.{row_left}
@@ -39,21 +40,6 @@ with_room b x = record {
   room = b;
 }
 
--- the instance of a key
-abbrev pub shown_of : Key → Held → Instance
-shown_of k h = record { key = k; state = h.state; base = h.base; row = h.row }
-
-abbrev pub shown : Key × Held → Instance
-shown p = shown_of p.0 p.1
-
-abbrev pub shown_by : Key → Option Held → Option Instance
-shown_by k None = None
-shown_by k (Some h) = Some (shown_of k h)
-
--- what is kept of a key, or none
-abbrev pub held_in : Pairs → Key → Option Instance
-held_in ps k = shown_by k (look_in ps k)
-
 -- whether an instance was made by the session, and not inserted since
 abbrev pub is_unwritten : Key → Option Stay → Bool
 is_unwritten k None = false
@@ -64,12 +50,6 @@ is_unwritten k (Some (Arrival.Made j r, m)) = not (is_inserted k m)
 abbrev pub marked_in : Key → Bool → List (Key × Bool) → Bool
 marked_in k b [] = b
 marked_in k b (p ∷ ps) = marked_in k (cond (same_key p.0 k) p.1 b) ps
-
--- the instances stand for what is held
-pub record Holds (ps : Pairs) (mine : Journal) : Type 0 where
-  pub instances : (k : Key) → held_in ps k ≡ held mine k
-  pub order : map shown ps ≡ filter_map (λ k. held mine k) (arrived mine)
-  pub distinct : are_distinct ps ≡ true
 
 -- the memory stands for these entries of a session, the newest first
 pub record Knows (memory : Remembered) (mine : Journal) : Type 0 where

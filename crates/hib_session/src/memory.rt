@@ -5,7 +5,8 @@ ghost use Rattle.hib_journal.specs.Held.{pending};
 ghost use Rattle.hib_base.specs.declared.entries.Act.{Act};
 ghost use Rattle.hib_journal.specs.Next.{is_held, is_in, is_in_tables, is_free, may_read, may_put, flush_of, tables_of, before_cached, fresh_version, completion};
 ghost use Rattle.hib_completion.specs.Completed.{acts_of, is_key_in};
-ghost use Rattle.hib_session.specs.Memory.{held_in, shown_of, marked_in, before_key_in, before_in, flush_in, with_room, Knows, Recalls};
+ghost use Rattle.hib_identity_map.specs.Holds.{held_in, shown_of};
+ghost use Rattle.hib_session.specs.Memory.{marked_in, before_key_in, before_in, flush_in, with_room, Knows, Recalls};
 
 use crate::modes::{does_put, does_read};
 use crate::queries::{is_cached as is_kept, is_touched};

@@ -21,7 +21,7 @@ use Rattle.hib_lex.proofs.Lexed.{is_lexed, are_lexed}
 use Rattle.hib_mapping.specs.Parts.{word_of, entity_at}
 use Rattle.hib_mapping.proofs.Places.{placed}
 use Rattle.hib_statements.specs.Parts.{is_key, size_in, key_in, key_of, before_cells, cells_of, are_typed}
-use Rattle.hib_statements.specs.Rows.{version_of, with_version, behind_version, versioned_told, plain_told, told_in, versioning_of, has_key, is_small_version, fitted_row, row_from, row_told, row_at_entity, row_parts, row_of}
+use Rattle.hib_statements.specs.Rows.{version_of, with_version, behind_version, versioned_told, told_in, versioning_of, has_key, is_small_version, fitted_row, row_told, row_at_entity, row_parts, row_of}
 use Rattle.hib_statements.specs.declared.rows.Told.{Told}
 
 -- ---- cells

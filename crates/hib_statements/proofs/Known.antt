@@ -1,5 +1,5 @@
 -- A statement lists a query that is there, and an order evicts a row of a cached entity.
-use Rattle.std.proofs.Common.{◌≡◌, ℕ, Bool, true, false, cond, ◌&&◌, ◌==◌, nat_lt, nat_le, List, [], ◌∷◌, length, Option, Some, None, codes, bytes_eq, Result, Ok, Err, refl, sym, ◌∙◌, subst}
+use Rattle.std.proofs.Common.{◌≡◌, ℕ, Bool, true, false, cond, ◌&&◌, ◌==◌, nat_lt, nat_le, List, [], ◌∷◌, length, Option, Some, None, codes, bytes_eq, Result, Ok, Err, refl, sym, subst}
 use Rattle.hib_base.specs.declared.numbers.Key.{Key}
 use Rattle.hib_base.specs.declared.refusals.Kind.{Kind}
 use Rattle.hib_base.specs.declared.rows.Cell.{Cell}
@@ -17,7 +17,7 @@ use Rattle.hib_mapping.specs.Parts.{is_a_word, is_a_number, word_of, is_within, 
 use Rattle.hib_mapping.proofs.Places.{placed}
 use Rattle.hib_statements.specs.Orders.{session_at, run_from, run_of, kill_from, kill_of, evicted, evict_from, evict_parts, evict_of, restart_of, order_of}
 use Rattle.hib_statements.specs.Parts.{is_key, size_in, key_in, key_of, cells_of, are_typed, pairs_of}
-use Rattle.hib_statements.specs.Statements.{found, find_of, removed, remove_of, fitted, persisted, named_columns, persist_parts, persist_of, set_at, set_from, set_parts, set_of, query_at, listed, list_of, mode_named, mode_of, alone, plain_of, statement_of}
+use Rattle.hib_statements.specs.Statements.{found, find_of, removed, remove_of, fitted, persisted, named_columns, persist_of, set_at, set_from, set_of, query_at, listed, list_of, mode_named, mode_of, alone, plain_of, statement_of}
 use Rattle.hib_statements.specs.declared.parts.Pairs.{Pairs}
 
 abbrev Knows : ℕ → Result Statement Kind → Type 0

@@ -2,7 +2,7 @@ use Rattle.std.proofs.Common.{ap, ◌∙◌}
 use Rattle.hib_journal.specs.Next.{is_in_tables, tables_of}
 use Rattle.hib_flush.specs.Planned.{planned}
 use Rattle.hib_session.specs.Memory.{Remembered}
-use Rattle.hib_session.proofs.Orders.{pending_kept}
+use Rattle.hib_flush.proofs.Pending.{pending_kept}
 use Rattle.hib_session.proofs.memory.Memory.must_flush.Goals as goal
 
 pub returns : goal.returns
