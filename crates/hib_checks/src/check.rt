@@ -39,7 +39,7 @@ struct World {
 }
 
 /// A source with these bytes, a sink and a keeper, which fail as a row says.
-fn world(alloc: Global, row: &Row, input: &[u8]) -> Result<World, AllocError> {
+fn make_world(alloc: Global, row: &Row, input: &[u8]) -> Result<World, AllocError> {
     let input = Seq::from_vec(input.to_vec(alloc)?);
     let source_fails = Seq::from_vec(row.source_fails.as_slice().to_vec(alloc)?);
     let sink_fails = Seq::from_vec(row.sink_fails.as_slice().to_vec(alloc)?);
@@ -79,7 +79,7 @@ fn play(alloc: Global, row: &Row, input: &[u8]) -> Result<Came, AllocError> {
         mut source,
         mut sink,
         mut keeper,
-    } = world(alloc, row, input)?;
+    } = make_world(alloc, row, input)?;
     place(alloc, &mut keeper, row);
     let ended = play_words(
         alloc,
