@@ -1,7 +1,7 @@
 -- Tests of each of a list.
-use Rattle.std.proofs.Common.{◌≡◌, ℕ, zero, suc, ◌<◌, Bool, true, false, cond, nat_lt, List, [], ◌∷◌, ◌++◌, length, Some, None, refl, subst}
+use Rattle.std.proofs.Common.{◌≡◌, ℕ, zero, suc, ◌+◌, ◌<◌, Bool, true, false, not, cond, nat_lt, List, [], ◌∷◌, ◌++◌, length, Some, None, refl, subst}
 use Rattle.std.specs.Prelude.{slice_get, position}
-use Rattle.std.specs.List.{list_all, position_or_len}
+use Rattle.std.specs.List.{list_all, position_or_len, prefix_len}
 use Rattle.std.proofs.lemmas.Bool.{and_parts, and_from, ltb-true}
 use Rattle.std.proofs.Common.{arith}
 
@@ -51,4 +51,29 @@ position_below p xs i e = by_test (nat_lt (position_or_len p xs) (length xs)) re
   where
     by_test : (b : Bool) → nat_lt (position_or_len p xs) (length xs) ≡ b → cond b (Some (position_or_len p xs)) None ≡ Some i → i < length xs
     by_test true h f = subst (λ n. n < length xs) (some_same (position_or_len p xs) i f) (ltb-true (position_or_len p xs) (length xs) h)
+    by_test false h f = absurd (none_some i f)
+
+-- what is found at a place passes the test
+pub record Found {A : Type 0} (p : A → Bool) (xs : List A) (i : ℕ) : Type 0 where
+  pub value : A
+  pub there : slice_get xs i ≡ Some value
+  pub passes : p value ≡ true
+
+prefix_found : {A : Type 0} (p : A → Bool) (xs : List A) → prefix_len (λ y. not (p y)) xs < length xs → Found p xs (prefix_len (λ y. not (p y)) xs)
+prefix_found p [] h = absurd (omega (arith, h))
+prefix_found p (x ∷ xs) h = by_test (p x) refl h (λ l. prefix_found p xs l)
+  where
+    by_test : (b : Bool) → p x ≡ b → cond (not b) (1 + prefix_len (λ y. not (p y)) xs) 0 < length (x ∷ xs) → (prefix_len (λ y. not (p y)) xs < length xs → Found p xs (prefix_len (λ y. not (p y)) xs)) →
+        Found p (x ∷ xs) (cond (not b) (1 + prefix_len (λ y. not (p y)) xs) 0)
+    by_test true e l rest = record { value = x; there = refl; passes = e }
+    by_test false e l rest =
+        let f : Found p xs (prefix_len (λ y. not (p y)) xs) = rest (omega (arith, l)) in
+        let n : suc (prefix_len (λ y. not (p y)) xs) ≡ 1 + prefix_len (λ y. not (p y)) xs = omega arith in
+        record { value = f.value; there = subst (λ j. slice_get (x ∷ xs) j ≡ Some f.value) n f.there; passes = f.passes }
+
+pub position_found : {A : Type 0} (p : A → Bool) (xs : List A) (i : ℕ) → position p xs ≡ Some i → Found p xs i
+position_found p xs i e = by_test (nat_lt (position_or_len p xs) (length xs)) refl e
+  where
+    by_test : (b : Bool) → nat_lt (position_or_len p xs) (length xs) ≡ b → cond b (Some (position_or_len p xs)) None ≡ Some i → Found p xs i
+    by_test true h f = subst (λ n. Found p xs n) (some_same (position_or_len p xs) i f) (prefix_found p xs (ltb-true (position_or_len p xs) (length xs) h))
     by_test false h f = absurd (none_some i f)

@@ -3,11 +3,12 @@ use Rattle.std.proofs.Common.{◌≡◌, ℕ, ◌+◌, ◌≤◌, Bool, true, fa
 use Rattle.std.specs.List.{list_all, list_any, position_or_len, prefix_len}
 use Rattle.std.proofs.lemmas.Bool.{and_parts, and_from, or_parts, or_from, true≢false, false≢true, false_from_ne_true}
 use Rattle.std.proofs.lemmas.Slice.Eq.{bytes_eq-Decides}
+use Rattle.hib_base.specs.Apart.{are_apart_by}
 use Rattle.hib_base.specs.Words.{is_name, has_name, are_apart, are_names}
 use Rattle.hib_base.proofs.Lists.{all_more}
 
 -- two words that differ
-differ : (v w : List ℕ) → bytes_eq v w ≡ false → bytes_eq w v ≡ false
+pub differ : (v w : List ℕ) → bytes_eq v w ≡ false → bytes_eq w v ≡ false
 differ v w h = false_from_ne_true (bytes_eq w v) (λ e. true≢false (sym ((bytes_eq-Decides v w).1 (sym ((bytes_eq-Decides w v).0 e))) ∙ h))
 
 none_more : {A : Type 0} (p : A → Bool) (xs : List A) (x : A) → list_any p xs ≡ false → p x ≡ false → list_any p (xs ++ x ∷ []) ≡ false
@@ -24,19 +25,21 @@ not_true : (b : Bool) → b ≡ false → not b ≡ true
 not_true true h = absurd (true≢false h)
 not_true false h = refl
 
-apart_more : (ws : List (List ℕ)) (w : List ℕ) → are_apart ws ≡ true → has_name ws w ≡ false → are_apart (ws ++ w ∷ []) ≡ true
-apart_more [] w h e = refl
-apart_more (v ∷ ws) w h e =
-    let both : (not (has_name ws v) ≡ true) × (are_apart ws ≡ true) = and_parts (not (has_name ws v)) (are_apart ws) h in
-    let none : (bytes_eq v w ≡ false) × (has_name ws w ≡ false) = or_parts (bytes_eq v w) (has_name ws w) e in
-    and_from (not (has_name (ws ++ w ∷ []) v)) (are_apart (ws ++ w ∷ []))
-    (not_true (has_name (ws ++ w ∷ []) v) (none_more (λ u. bytes_eq u v) ws w (not_false (has_name ws v) both.0) (differ v w none.0)))
-    (apart_more ws w both.1 none.1)
+-- things that stay apart, with one more at the end that is none of them
+pub apart_by_more : {A : Type 0} (same : A → A → Bool) (xs : List A) (x : A) → ((v w : A) → same v w ≡ false → same w v ≡ false) → are_apart_by same xs ≡ true → list_any (λ y. same y x) xs ≡ false →
+    are_apart_by same (xs ++ x ∷ []) ≡ true
+apart_by_more same [] x turn h e = refl
+apart_by_more same (v ∷ xs) x turn h e =
+    let both : (not (list_any (λ y. same y v) xs) ≡ true) × (are_apart_by same xs ≡ true) = and_parts (not (list_any (λ y. same y v) xs)) (are_apart_by same xs) h in
+    let none : (same v x ≡ false) × (list_any (λ y. same y x) xs ≡ false) = or_parts (same v x) (list_any (λ y. same y x) xs) e in
+    and_from (not (list_any (λ y. same y v) (xs ++ x ∷ []))) (are_apart_by same (xs ++ x ∷ []))
+    (not_true (list_any (λ y. same y v) (xs ++ x ∷ [])) (none_more (λ y. same y v) xs x (not_false (list_any (λ y. same y v) xs) both.0) (turn v x none.0)))
+    (apart_by_more same xs x turn both.1 none.1)
 
 names_more : (ws : List (List ℕ)) (w : List ℕ) → are_names ws ≡ true → is_name w ≡ true → has_name ws w ≡ false → are_names (ws ++ w ∷ []) ≡ true
 names_more ws w h i e =
     let both : (list_all (λ u. is_name u) ws ≡ true) × (are_apart ws ≡ true) = and_parts (list_all (λ u. is_name u) ws) (are_apart ws) h in
-    and_from (list_all (λ u. is_name u) (ws ++ w ∷ [])) (are_apart (ws ++ w ∷ [])) (all_more (λ u. is_name u) ws w both.0 i) (apart_more ws w both.1 e)
+    and_from (list_all (λ u. is_name u) (ws ++ w ∷ [])) (are_apart (ws ++ w ∷ [])) (all_more (λ u. is_name u) ws w both.0 i) (apart_by_more bytes_eq ws w (λ v u. differ v u) both.1 e)
 
 map_more : {A : Type 0} (f : A → List ℕ) (xs : List A) (x : A) → map f (xs ++ x ∷ []) ≡ map f xs ++ f x ∷ []
 map_more f [] x = refl

@@ -1,5 +1,6 @@
 pub mod Types
 pub mod Keys
+pub mod Apart
 pub mod Tables
 pub mod Fits
 pub mod Words

@@ -1,6 +1,7 @@
 -- Words, and which of them may be names.
-use Rattle.std.specs.Prelude.{ℕ, Bool, true, false, not, ◌&&◌, ◌||◌, ◌==◌, nat_lt, nat_le, List, [], ◌∷◌, length, codes, bytes_eq}
+use Rattle.std.specs.Prelude.{ℕ, Bool, false, not, ◌&&◌, ◌||◌, ◌==◌, nat_lt, nat_le, List, [], ◌∷◌, length, codes, bytes_eq}
 use Rattle.std.specs.List.{list_all, list_any}
+use Rattle.hib_base.specs.Apart.{are_apart_by}
 
 abbrev pub is_letter : ℕ → Bool
 is_letter b = (nat_le 65 b && nat_le b 90) || (nat_le 97 b && nat_le b 122)
@@ -35,8 +36,7 @@ has_name names w = list_any (λ v. bytes_eq v w) names
 
 -- no name stands twice
 abbrev pub are_apart : List (List ℕ) → Bool
-are_apart [] = true
-are_apart (w ∷ ws) = not (has_name ws w) && are_apart ws
+are_apart ws = are_apart_by bytes_eq ws
 
 abbrev pub are_names : List (List ℕ) → Bool
 are_names ws = list_all is_name ws && are_apart ws

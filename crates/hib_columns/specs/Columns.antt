@@ -1,5 +1,6 @@
 -- The columns that the words of a query name, and the cells that it compares them with.
 use Rattle.std.specs.Prelude.{ℕ, Bool, true, false, cond, not, ◌||◌, List, [], slice_get, Option, Some, None, option_and_then, codes}
+pub use Rattle.hib_base.specs.Fits.{columns_in, entity_columns, is_order, is_bool}
 use Rattle.hib_base.specs.declared.rows.Cell.{Cell}
 use Rattle.hib_base.specs.declared.scripts.ColumnDef.{ColumnDef}
 use Rattle.hib_base.specs.declared.scripts.ColumnType.{ColumnType}
@@ -13,13 +14,6 @@ use Rattle.hib_columns.specs.declared.columns.Column.{Column}
 use Rattle.hib_columns.specs.declared.columns.Found.{Found}
 
 -- ---- columns
-abbrev pub columns_in : Option EntityDef → List ColumnDef
-columns_in None = []
-columns_in (Some e) = e.columns
-
-abbrev pub entity_columns : List EntityDef → ℕ → List ColumnDef
-entity_columns m n = columns_in (slice_get m n)
-
 abbrev pub columns_of : List EntityDef → Option ℕ → List ColumnDef
 columns_of m None = []
 columns_of m (Some n) = entity_columns m n
@@ -93,15 +87,6 @@ has_type _ _ = false
 abbrev pub is_typed : Option Column → Cell → Bool
 is_typed None c = true
 is_typed (Some d) c = has_type d.kind c
-
-abbrev pub is_order : Op → Bool
-is_order Op.Eq = false
-is_order Op.Ne = false
-is_order _ = true
-
-abbrev pub is_bool : ColumnType → Bool
-is_bool ColumnType.Bool = true
-is_bool _ = false
 
 -- bools have no order
 abbrev pub is_comparable : Op → Option Column → Bool

@@ -1,3 +1,6 @@
 pub mod Lines
 pub mod Parts
 pub mod Declared
+pub mod Depth
+pub mod Marks
+pub mod Sound

@@ -1,5 +1,5 @@
 -- The references of an entity's columns lead to the entities before it and to itself, and it has no more columns than it may.
-use Rattle.std.proofs.Common.{◌≡◌, ℕ, ◌+◌, ◌<◌, ◌≤◌, Bool, true, false, not, cond, ◌&&◌, nat_lt, nat_le, List, [], ◌∷◌, ◌++◌, length, map, Option, Some, None, codes, refl, sym, subst, arith, length-append}
+use Rattle.std.proofs.Common.{◌≡◌, ℕ, zero, suc, pos, ◌==◌, ◌+◌, ◌<◌, ◌≤◌, Bool, true, false, not, cond, ◌&&◌, nat_lt, nat_le, List, [], ◌∷◌, ◌++◌, length, map, Option, Some, None, codes, refl, sym, subst, arith, length-append}
 use Rattle.std.specs.Prelude.{unwrap_or, bytes_eq, is_some}
 use Rattle.std.specs.List.{list_all, list_any}
 use Rattle.std.proofs.lemmas.Bool.{and_parts, and_from, ltb-true, lt-ltb, le-leb, leb-true, true≢false, false≢true}
@@ -9,7 +9,9 @@ use Rattle.hib_base.specs.declared.scripts.ColumnDef.{ColumnDef}
 use Rattle.hib_base.specs.declared.scripts.ColumnType.{ColumnType}
 use Rattle.hib_base.specs.declared.scripts.EntityDef.{EntityDef}
 use Rattle.hib_base.specs.Scripts.{is_type_below}
-use Rattle.hib_base.specs.Valid.{are_columns}
+use Rattle.hib_base.specs.Valid as rooms
+use Rattle.hib_base.specs.Valid.{are_columns, is_entity}
+use Rattle.hib_base.specs.declared.scripts.Strategy.{Strategy}
 use Rattle.hib_base.proofs.Gives.{Then}
 use Rattle.hib_base.proofs.Lists.{all_more, all_weaker, some_none}
 use Rattle.hib_base.proofs.Names.{named_more}
@@ -17,8 +19,8 @@ use Rattle.hib_base.specs.Words.{is_word, is_reserved, is_name, are_names}
 use Rattle.hib_lex.proofs.Lexed.{is_lexed, are_lexed}
 use Rattle.hib_lex.specs.Words.{is_the_word}
 use Rattle.hib_lex.specs.declared.lexer.Token.{Token}
-use Rattle.hib_mapping.specs.Declarations.{is_entity_line, is_versioning, strategy_of, strategy_kind, or_no_columns, entity_kind, is_column_line, entity_of, type_of, target_of, kind_unless, type_kind, column_kind, type_from, with_column}
-use Rattle.hib_mapping.specs.Parts.{is_a_word, is_a_number, word_of, name_in, small, entity_at, column_at}
+use Rattle.hib_mapping.specs.Declarations.{is_entity_line, is_versioning, is_capacity, strategy_of, strategy_kind, or_no_columns, entity_kind, is_column_line, entity_of, type_of, target_of, kind_unless, type_kind, column_kind, type_from, with_column}
+use Rattle.hib_mapping.specs.Parts.{is_a_word, is_a_number, word_of, name_in, number_up_to, small, entity_at, column_at}
 use Rattle.hib_mapping.proofs.Places.{placed, unplaced}
 
 -- ---- more entities
@@ -178,3 +180,62 @@ pub same_name : (m : List EntityDef) (e : EntityDef) (ts : List Token) → (with
 same_name m e [] = refl
 same_name m e (a ∷ []) = refl
 same_name m e (a ∷ b ∷ ts) = refl
+
+-- ---- a region's room, and that an entity has a column
+room_from : (n most : ℕ) → (nat_le 1 n && nat_le n most) ≡ true → (nat_le 1 (cond (nat_le n most) n 0) && nat_le (cond (nat_le n most) n 0) most) ≡ true
+room_from n most h =
+    let both : (nat_le 1 n ≡ true) × (nat_le n most ≡ true) = and_parts (nat_le 1 n) (nat_le n most) h in
+    subst (λ b. (nat_le 1 (cond b n 0) && nat_le (cond b n 0) most) ≡ true) (sym both.1) h
+
+none_from : (n : ℕ) → (nat_le 0 n && nat_le n 0) ≡ true → (cond (nat_le n 100000) n 0 == 0) ≡ true
+none_from zero h = refl
+none_from (suc n) h = let both : (nat_le 0 (suc n) ≡ true) × (nat_le (suc n) 0 ≡ true) = and_parts (nat_le 0 (suc n)) (nat_le (suc n) 0) h in let l : suc n ≤ 0 = leb-true (suc n) 0 both.1 in absurd (omega (arith, l))
+
+room : (s : Strategy) (t : Token) → is_capacity s t ≡ true → rooms.is_capacity s (number_up_to 100000 t) ≡ true
+room Strategy.Uncached (Token.Number (pos n)) h = none_from n h
+room Strategy.ReadOnly (Token.Number (pos n)) h = room_from n 100000 h
+room Strategy.Nonstrict (Token.Number (pos n)) h = room_from n 100000 h
+room Strategy.ReadWrite (Token.Number (pos n)) h = room_from n 100000 h
+room Strategy.Uncached _ h = absurd (false≢true h)
+room Strategy.ReadOnly _ h = absurd (false≢true h)
+room Strategy.Nonstrict _ h = absurd (false≢true h)
+room Strategy.ReadWrite _ h = absurd (false≢true h)
+
+unless_capacity : (b : Bool) → cond b None (Some Kind.Capacity) ≡ None → b ≡ true
+unless_capacity true h = refl
+unless_capacity false h = absurd (some_none Kind.Capacity h)
+
+strategy_room : (o : Option Strategy) (t : Token) → strategy_kind o t ≡ None → rooms.is_capacity (unwrap_or o Strategy.Uncached) (number_up_to 100000 t) ≡ true
+strategy_room None t h = absurd (some_none Kind.Strategy h)
+strategy_room (Some s) t h = room s t (unless_capacity (is_capacity s t) h)
+
+no_kind : (followed : Bool) (o : Option Kind) → or_no_columns followed o ≡ None → (o ≡ None) × (followed ≡ true)
+no_kind followed (Some k) h = absurd (some_none k h)
+no_kind true None h = (refl, refl)
+no_kind false None h = absurd (some_none Kind.NoColumns h)
+
+last_kind : (many taken : Bool) (k : Option Kind) → cond many (Some Kind.ManyEntities) (cond taken (Some Kind.EntityTaken) k) ≡ None → k ≡ None
+last_kind true taken k h = absurd (some_none Kind.ManyEntities h)
+last_kind false true k h = absurd (some_none Kind.EntityTaken h)
+last_kind false false k h = h
+
+-- a new entity has the room that it may have, and a column follows it
+pub entity_room : (m : List EntityDef) (followed : Bool) (ts : List Token) → entity_kind m followed ts ≡ None →
+    Then (entity_of ts) (λ e. (rooms.is_capacity e.strategy e.capacity ≡ true) × (followed ≡ true))
+entity_room m followed (first ∷ name ∷ strategy ∷ versioning ∷ capacity ∷ []) h =
+    let both : (strategy_kind (strategy_of strategy) capacity ≡ None) × (followed ≡ true) =
+    no_kind followed (strategy_kind (strategy_of strategy) capacity)
+    (last_kind (nat_le 64 (length m)) (is_some (entity_at m (word_of name))) (or_no_columns followed (strategy_kind (strategy_of strategy) capacity)) h) in
+    (strategy_room (strategy_of strategy) capacity both.0, both.1)
+entity_room m followed _ h = tt
+
+pub column_filled : (m : List EntityDef) (e : EntityDef) (ts : List Token) → is_column_line ts ≡ true → nat_le 1 (length (with_column m e ts).columns) ≡ true
+column_filled m e (a ∷ b ∷ ts) i = le-leb 1 _ (rw (length-append) (omega arith))
+column_filled m e [] i = absurd (false≢true i)
+column_filled m e (a ∷ []) i = absurd (false≢true i)
+
+-- and a column more leaves its room, and is one
+pub column_room : (m : List EntityDef) (e : EntityDef) (ts : List Token) → rooms.is_capacity e.strategy e.capacity ≡ true → is_column_line ts ≡ true → is_entity (with_column m e ts) ≡ true
+column_room m e (a ∷ b ∷ ts) h i = and_from (rooms.is_capacity e.strategy e.capacity) _ h (column_filled m e (a ∷ b ∷ ts) i)
+column_room m e [] h i = absurd (false≢true i)
+column_room m e (a ∷ []) h i = absurd (false≢true i)

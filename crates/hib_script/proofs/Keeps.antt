@@ -1,5 +1,5 @@
 -- What is kept of a script as far as it was read, part by part.
-use Rattle.std.proofs.Common.{◌≡◌, ℕ, ◌+◌, ◌≤◌, Bool, true, false, nat_lt, List, [], ◌∷◌, ◌++◌, length, map, bytes_eq, Option, Some, None, refl, sym, ◌∙◌, ap, subst, length-append}
+use Rattle.std.proofs.Common.{◌≡◌, ℕ, ◌+◌, ◌≤◌, Bool, true, false, List, [], ◌∷◌, ◌++◌, length, map, nat_le, bytes_eq, Option, Some, None, refl, sym, ◌∙◌, ap, subst, length-append}
 use Rattle.std.specs.Prelude.{slice_get}
 use Rattle.std.specs.List.{list_all, list_any}
 use Rattle.std.proofs.lemmas.Bool.{and_parts, and_from, ltb-true, false≢true}
@@ -12,7 +12,7 @@ use Rattle.hib_base.specs.declared.scripts.Statement.{Statement}
 use Rattle.hib_base.specs.Fits.{fits_entity, fits}
 use Rattle.hib_base.specs.Words.{is_reserved, is_name, has_name, are_names}
 use Rattle.hib_base.specs.Scripts.{is_row_below, strategy_in, is_cached_by, is_over, statement_count, is_known, lists_known, evicts_cached}
-use Rattle.hib_base.specs.Valid.{max_entities, max_rows, max_queries, max_sessions, max_statements, max_orders, are_columns}
+use Rattle.hib_base.specs.Valid.{max_entities, max_rows, max_queries, max_sessions, max_statements, max_orders, are_columns, is_capacity, is_entity}
 use Rattle.hib_base.proofs.Gives.{Then}
 use Rattle.hib_base.proofs.Lists.{all_more, all_weaker, get_more, get_below}
 use Rattle.hib_base.proofs.Names.{named_more, has_mapped}
@@ -26,6 +26,7 @@ use Rattle.hib_mapping.proofs.Columns.{columns_of, columns_more, lt_more, name_f
 use Rattle.hib_script.specs.Lines.{with_open}
 use Rattle.hib_script.specs.Lines.{Reader}
 use Rattle.hib_script.specs.declared.places.Place.{Place}
+use Rattle.hib_script.proofs.Fits.{Fitting}
 
 -- ---- the parts
 -- a number from 1 on
@@ -37,6 +38,8 @@ pub record HasEntities (m : List EntityDef) (e : Option EntityDef) : Type 0 wher
   pub few : length (with_open m e) ≤ max_entities
   pub closed : list_all (λ d. are_columns (length m) d) m ≡ true
   pub opened : Then e (λ d. are_columns (length m + 1) d ≡ true)
+  pub bounded : list_all is_entity m ≡ true
+  pub roomy : Then e (λ d. is_capacity d.strategy d.capacity ≡ true)
   pub names : are_names (map (λ d. d.name) m) ≡ true
   pub named : Then e (λ d. (is_name d.name ≡ true) × (list_any (λ x. bytes_eq x.name d.name) m ≡ false))
 
@@ -91,6 +94,7 @@ pub record Keeps (r : Reader) : Type 0 where
   pub queries : HasQueries r.outline.mapping r.outline.queries
   pub sessions : HasSessions (length r.outline.queries) r.outline.sessions r.place r.statements
   pub orders : HasOrders r.outline.mapping r.outline.schedule
+  pub fitting : Fitting r.outline.mapping r.outline.rows r.outline.queries r.outline.sessions r.place r.outline.schedule
 
 -- ---- one entity more
 pub one_more_length : {A : Type 0} (xs : List A) (x : A) → length (xs ++ x ∷ []) ≡ length xs + 1
@@ -107,12 +111,18 @@ entities_one m d h w =
     (all_more (λ (e : EntityDef). are_columns (length m + 1) e) m d
     (all_weaker (λ (e : EntityDef). are_columns (length m) e) (λ (e : EntityDef). are_columns (length m + 1) e) m (λ e v. columns_more (length m) 1 e v) h) w)
 
-pub entities_closed : (m : List EntityDef) (e : Option EntityDef) → HasEntities m e → HasEntities (with_open m e) None
-entities_closed m None k = record { few = k.few; closed = k.closed; opened = tt; names = k.names; named = tt }
-entities_closed m (Some d) k = record {
+-- an entity has a column
+abbrev pub IsFilled : Option EntityDef → Type 0
+IsFilled e = Then e (λ d. nat_le 1 (length d.columns) ≡ true)
+
+pub entities_closed : (m : List EntityDef) (e : Option EntityDef) → HasEntities m e → IsFilled e → HasEntities (with_open m e) None
+entities_closed m None k f = record { few = k.few; closed = k.closed; opened = tt; bounded = k.bounded; roomy = tt; names = k.names; named = tt }
+entities_closed m (Some d) k f = record {
   few = k.few;
   closed = entities_one m d k.closed k.opened;
   opened = tt;
+  bounded = all_more is_entity m d k.bounded (and_from (is_capacity d.strategy d.capacity) (nat_le 1 (length d.columns)) k.roomy f);
+  roomy = tt;
   names = named_more (λ (e : EntityDef). e.name) m d k.names k.named.0 k.named.1;
   named = tt;
 }

@@ -1,7 +1,9 @@
 pub mod Queries
 pub mod Statements
 pub mod Scan
+pub mod Fits
 pub mod Keeps
+pub mod Filled
 pub mod Valid
 pub mod Whole
 pub mod Named

@@ -1,5 +1,5 @@
 -- The line of a session, by its second token.
-use Rattle.std.proofs.Common.{◌≡◌, ℕ, ◌<◌, ◌≤◌, cond, List, [], ◌∷◌, length, get_or, Err, refl, arith}
+use Rattle.std.proofs.Common.{◌≡◌, ◌<◌, ◌≤◌, cond, List, [], ◌∷◌, length, get_or, Err, refl, arith}
 use Rattle.hib_base.specs.declared.refusals.Kind.{Kind}
 use Rattle.hib_lex.specs.declared.lexer.Token.{Token}
 use Rattle.hib_mapping.specs.Parts.{is_a_word, word_of}

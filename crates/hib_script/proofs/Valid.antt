@@ -1,10 +1,10 @@
 -- Each line of a script keeps what is kept.
-use Rattle.std.proofs.Common.{◌≡◌, ℕ, ◌+◌, ◌≤◌, Bool, true, false, cond, ◌&&◌, nat_lt, nat_le, List, [], ◌∷◌, ◌++◌, length, pos, bytes_eq, Option, Some, None, codes, Result, Ok, Err, refl, sym, ◌∙◌, subst, arith, lit≤, length-append}
+use Rattle.std.proofs.Common.{◌≡◌, ℕ, ◌+◌, ◌≤◌, Bool, true, false, cond, nat_lt, nat_le, List, [], ◌∷◌, ◌++◌, length, pos, bytes_eq, Option, Some, None, codes, Result, Ok, Err, refl, sym, ◌∙◌, subst, arith, lit≤, length-append}
 use Rattle.std.specs.Prelude.{slice_get}
 use Rattle.std.specs.List.{list_any}
 use Rattle.std.proofs.lemmas.List.{length-map}
 use Rattle.std.proofs.lemmas.List.Sums.{sum_by-append}
-use Rattle.std.proofs.lemmas.Bool.{and_parts, and_from, ltb-true, leb-true, false≢true}
+use Rattle.std.proofs.lemmas.Bool.{and_parts, ltb-true, leb-true, false≢true}
 use Rattle.std.proofs.lemmas.Bool.Decides.{nat_tests}
 use Rattle.hib_base.specs.declared.numbers.Key.{Key}
 use Rattle.hib_base.specs.declared.refusals.Kind.{Kind}
@@ -15,9 +15,10 @@ use Rattle.hib_base.specs.declared.scripts.SessionDef.{SessionDef}
 use Rattle.hib_base.specs.declared.scripts.Statement.{Statement}
 use Rattle.hib_base.specs.Fits.{fits_entity}
 use Rattle.hib_base.specs.Scripts.{is_row_below, are_over, is_over, statement_count, is_known, lists_known, evicts_cached}
-use Rattle.hib_base.specs.Valid.{are_columns}
+use Rattle.hib_base.specs.Fits.{fits_statement}
+use Rattle.hib_base.specs.Valid.{are_columns, is_capacity, is_entity, is_order_in}
 use Rattle.hib_base.specs.Words.{is_reserved, is_name, has_name}
-use Rattle.hib_base.proofs.Gives.{Gives, gives_cond}
+use Rattle.hib_base.proofs.Gives.{Gives, gives_cond, Then}
 use Rattle.hib_base.proofs.Lists.{all_more, some_none}
 use Rattle.hib_base.proofs.Names.{named_more}
 use Rattle.hib_criteria.specs.Query.{Said, query_of}
@@ -25,14 +26,17 @@ use Rattle.hib_criteria.proofs.Declared.{is_said_below, IsLineOf, line_of}
 use Rattle.hib_lex.specs.Words.{begins}
 use Rattle.hib_lex.specs.declared.lexer.Token.{Token}
 use Rattle.hib_lex.proofs.Lexed.{are_lexed}
-use Rattle.hib_mapping.specs.Declarations.{is_entity_line, entity_kind, entity_of, is_column_line, column_kind, with_column}
+use Rattle.hib_mapping.specs.Declarations.{is_entity_line, entity_kind, entity_of, is_column_line, column_kind}
 use Rattle.hib_script.specs.Lines.{with_open}
 use Rattle.hib_mapping.specs.Parts.{is_a_word, is_a_number, word_of, name_in, is_within, number_up_to}
+use Rattle.hib_mapping.proofs.Columns as columns
 use Rattle.hib_mapping.proofs.Columns.{new_columns, column_more, name_from, second_lexed, entity_named, column_named, entity_fresh, same_name}
 use Rattle.hib_statements.specs.Orders.{order_of}
 use Rattle.hib_statements.specs.Rows.{row_of}
 use Rattle.hib_statements.specs.Statements.{statement_of}
+use Rattle.hib_statements.proofs.Fitting as rows
 use Rattle.hib_statements.proofs.Fitting.{row_fits}
+use Rattle.hib_statements.proofs.Ruled.{statement_fits, order_in}
 use Rattle.hib_statements.proofs.Known.{statement_known, order_cached}
 use Rattle.hib_script.specs.Lines as lines
 use Rattle.hib_script.specs.Lines.{Reader, After}
@@ -41,17 +45,20 @@ use Rattle.hib_script.specs.Places.{may_follow, part_of}
 use Rattle.hib_script.specs.Script.{start}
 use Rattle.hib_script.specs.declared.places.Part.{Part}
 use Rattle.hib_script.specs.declared.places.Place.{Place}
-use Rattle.hib_script.proofs.Keeps.{IsLimit, HasEntities, HasRows, HasQueries, HasSessions, HasOrders, Keeps, one_more_length, linked, entities_closed, rows_closed, queries_closed, orders_closed, sessions_more, query_named}
+use Rattle.hib_criteria.proofs.Sound as sound
+use Rattle.hib_script.proofs.Fits.{fitting_at, fitting_closed, open_fits, rows_more, queries_more, session_fitting}
+use Rattle.hib_script.proofs.Keeps.{IsFilled, IsLimit, HasEntities, HasSessions, Keeps, one_more_length, linked, entities_closed, rows_closed, queries_closed, orders_closed, sessions_more, query_named}
 
 pub start_keeps : Keeps start
 start_keeps = record {
   timeout = (lit≤ tt, lit≤ tt);
   results = (lit≤ tt, lit≤ tt);
-  entities = record { few = lit≤ tt; closed = refl; opened = tt; names = refl; named = tt };
+  entities = record { few = lit≤ tt; closed = refl; opened = tt; bounded = refl; roomy = tt; names = refl; named = tt };
   rows = record { few = lit≤ tt; below = refl; fit = refl };
   queries = record { few = lit≤ tt; below = refl; names = refl };
   sessions = record { few = lit≤ tt; counted = lit≤ tt; statements = lit≤ tt; over = refl; known = refl; opened = refl; names = refl; named = tt };
   orders = record { few = lit≤ tt; cached = refl };
+  fitting = record { rows_so = (refl, refl); queries = record { shallow = refl; short = refl; cut = refl; fit = refl }; statements = refl; opened = refl; orders = refl };
 }
 
 -- behind a line of a part, or within the schedule, no session is open
@@ -70,6 +77,7 @@ behind_keeps r p k = record {
   queries = k.queries;
   sessions = behind_open (length r.outline.queries) r.outline.sessions r.place p r.statements k.sessions;
   orders = k.orders;
+  fitting = fitting_at r.outline.mapping r.outline.rows r.outline.queries r.outline.sessions r.place (Place.Behind p) r.outline.schedule k.fitting refl;
 }
 
 pub schedule_keeps : (r : Reader) → Keeps r → Keeps (lines.at Place.Schedule r)
@@ -81,17 +89,19 @@ schedule_keeps r k = record {
   queries = k.queries;
   sessions = none_open (length r.outline.queries) r.outline.sessions r.place r.statements k.sessions;
   orders = k.orders;
+  fitting = fitting_at r.outline.mapping r.outline.rows r.outline.queries r.outline.sessions r.place Place.Schedule r.outline.schedule k.fitting refl;
 }
 
-pub closed_keeps : (r : Reader) → Keeps r → Keeps (lines.closed r)
-closed_keeps r k = record {
+pub closed_keeps : (r : Reader) → Keeps r → IsFilled r.entity → Keeps (lines.closed r)
+closed_keeps r k f = record {
   timeout = k.timeout;
   results = k.results;
-  entities = entities_closed r.outline.mapping r.entity k.entities;
+  entities = entities_closed r.outline.mapping r.entity k.entities f;
   rows = rows_closed r.outline.mapping r.entity r.outline.rows k.rows;
   queries = queries_closed r.outline.mapping r.entity r.outline.queries k.queries;
   sessions = k.sessions;
   orders = orders_closed r.outline.mapping r.entity r.outline.schedule k.orders;
+  fitting = fitting_closed r.outline.mapping r.entity r.outline.rows r.outline.queries r.outline.sessions r.place r.outline.schedule k.fitting;
 }
 
 -- ---- header, timeout, results
@@ -124,6 +134,7 @@ timeout_keeps r (Ok n) k h = behind_keeps (record r { outline = record r.outline
   queries = k.queries;
   sessions = k.sessions;
   orders = k.orders;
+  fitting = k.fitting;
 })
 
 results_keep : (r : Reader) (n : Result ℕ Kind) → Keeps r → Gives n (IsLimit 100000) → Gives (lines.with_results r n) Keeps
@@ -136,6 +147,7 @@ results_keep r (Ok n) k h = behind_keeps (record r { outline = record r.outline 
   queries = k.queries;
   sessions = k.sessions;
   orders = k.orders;
+  fitting = k.fitting;
 })
 
 -- ---- entities and columns
@@ -167,7 +179,12 @@ with_entity r e k h = record {
   queries = k.queries;
   sessions = k.sessions;
   orders = k.orders;
+  fitting = k.fitting;
 }
+
+room_alone : (e : Option EntityDef) (followed : Bool) → Then e (λ d. (is_capacity d.strategy d.capacity ≡ true) × (followed ≡ true)) → Then e (λ d. is_capacity d.strategy d.capacity ≡ true)
+room_alone None followed h = tt
+room_alone (Some d) followed h = h.0
 
 new_entity_keeps : (r : Reader) (followed : Bool) (ts : List Token) (kind : Option Kind) → Keeps r → length r.outline.mapping ≤ 64 →
     (kind ≡ None → (entity_kind r.outline.mapping followed ts ≡ None) × (is_name (name_in ts) ≡ true)) → Gives (lines.new_entity r ts kind) Keeps
@@ -179,6 +196,8 @@ new_entity_keeps r followed ts None k few h =
       few = entity_room r.outline.mapping followed ts few fine.0;
       closed = k.entities.closed;
       opened = new_columns (length r.outline.mapping + 1) ts;
+      bounded = k.entities.bounded;
+      roomy = room_alone (entity_of ts) followed (columns.entity_room r.outline.mapping followed ts fine.0);
       names = k.entities.names;
       named = entity_fresh r.outline.mapping followed ts few fine.1 fine.0;
     }))
@@ -193,17 +212,17 @@ entity_keeps r followed ts h l k =
 
 -- the columns of the entity, which is still of that name
 abbrev Widens : List EntityDef → EntityDef → EntityDef → Type 0
-Widens m d e = (are_columns (length m + 1) e ≡ true) × (e.name ≡ d.name)
+Widens m d e = (are_columns (length m + 1) e ≡ true) × (e.name ≡ d.name) × (is_entity e ≡ true)
 
-columns_unless_keep : (m : List EntityDef) (d : EntityDef) (ts : List Token) (o : Option Kind) → are_columns (length m + 1) d ≡ true →
+columns_unless_keep : (m : List EntityDef) (d : EntityDef) (ts : List Token) (o : Option Kind) → are_columns (length m + 1) d ≡ true → is_capacity d.strategy d.capacity ≡ true → is_column_line ts ≡ true →
     (o ≡ None → (column_kind m d ts ≡ None) × (is_name (name_in ts) ≡ true)) → Gives (lines.columns_unless m d ts o) (Widens m d)
-columns_unless_keep m d ts (Some x) h f = tt
-columns_unless_keep m d ts None h f = (column_more m d ts h (f refl).1 (f refl).0, same_name m d ts)
+columns_unless_keep m d ts (Some x) h c i f = tt
+columns_unless_keep m d ts None h c i f = (column_more m d ts h (f refl).1 (f refl).0, same_name m d ts, columns.column_room m d ts c i)
 
-more_columns_keep : (m : List EntityDef) (d : EntityDef) (ts : List Token) → are_lexed ts ≡ true → are_columns (length m + 1) d ≡ true → Gives (lines.more_columns m d ts) (Widens m d)
-more_columns_keep m d ts l h =
+more_columns_keep : (m : List EntityDef) (d : EntityDef) (ts : List Token) → are_lexed ts ≡ true → are_columns (length m + 1) d ≡ true → is_capacity d.strategy d.capacity ≡ true → Gives (lines.more_columns m d ts) (Widens m d)
+more_columns_keep m d ts l h c =
     gives_cond (is_column_line ts) (lines.columns_unless m d ts (lines.or_reserved (name_in ts) (column_kind m d ts))) (Err Kind.Words) (Widens m d)
-    (λ f. columns_unless_keep m d ts (lines.or_reserved (name_in ts) (column_kind m d ts)) h
+    (λ f. columns_unless_keep m d ts (lines.or_reserved (name_in ts) (column_kind m d ts)) h c f
     (λ e. (no_kind (name_in ts) (column_kind m d ts) e, column_named ts f l (not_reserved (name_in ts) (column_kind m d ts) e)))) (λ _. tt)
 
 columns_keep : (r : Reader) (d : EntityDef) (e : Result EntityDef Kind) → Keeps r → HasEntities r.outline.mapping (Some d) → Gives e (Widens r.outline.mapping d) → Gives (lines.with_columns r e) Keeps
@@ -213,17 +232,18 @@ columns_keep r d (Ok e) k h g =
       few = rw (one_more_length r.outline.mapping e) (rw (one_more_length r.outline.mapping d) at h.few);
       closed = h.closed;
       opened = g.0;
+      bounded = h.bounded;
+      roomy = (and_parts (is_capacity e.strategy e.capacity) (nat_le 1 (length e.columns)) g.2).0;
       names = h.names;
       named = subst (λ w. (is_name w ≡ true) × (list_any (λ (x : EntityDef). bytes_eq x.name w) r.outline.mapping ≡ false)) (sym g.1) h.named;
     })
 
 column_keeps : (r : Reader) (e : Option EntityDef) (ts : List Token) → are_lexed ts ≡ true → Keeps r → HasEntities r.outline.mapping e → Gives (lines.column_line r e ts) Keeps
 column_keeps r None ts l k h = tt
-column_keeps r (Some d) ts l k h = columns_keep r d (lines.more_columns r.outline.mapping d ts) k h (more_columns_keep r.outline.mapping d ts l h.opened)
+column_keeps r (Some d) ts l k h = columns_keep r d (lines.more_columns r.outline.mapping d ts) k h (more_columns_keep r.outline.mapping d ts l h.opened h.roomy)
 
 -- ---- rows and queries
-row_keeps : (r : Reader) (x : Result (Key × Row) Kind) → Keeps r →
-    Gives x (λ x. (is_row_below (length r.outline.mapping) x ≡ true) × (fits_entity (slice_get r.outline.mapping x.0.entity) x.0 x.1 ≡ true)) → Gives (lines.with_row r x) Keeps
+row_keeps : (r : Reader) (x : Result (Key × Row) Kind) → Keeps r → Gives x (rows.Fitting r.outline.mapping r.outline.rows) → Gives (lines.with_row r x) Keeps
 row_keeps r (Err e) k g = tt
 row_keeps r (Ok x) k g =
     let more : Reader = record r { outline = record r.outline { rows = r.outline.rows ++ x ∷ [] } } in
@@ -234,19 +254,26 @@ row_keeps r (Ok x) k g =
       entities = k.entities;
       rows = record {
         few = simp length-append (omega (arith, ltb-true (length r.outline.rows) 10000 h));
-        below = all_more (λ (x : Key × Row). is_row_below (length r.outline.mapping) x) r.outline.rows x k.rows.below g.0;
-        fit = all_more (λ (x : Key × Row). fits_entity (slice_get r.outline.mapping x.0.entity) x.0 x.1) r.outline.rows x k.rows.fit g.1;
+        below = all_more (λ (x : Key × Row). is_row_below (length r.outline.mapping) x) r.outline.rows x k.rows.below g.below;
+        fit = all_more (λ (x : Key × Row). fits_entity (slice_get r.outline.mapping x.0.entity) x.0 x.1) r.outline.rows x k.rows.fit g.fits;
       };
       queries = k.queries;
       sessions = k.sessions;
       orders = k.orders;
+      fitting = record {
+        rows_so = rows_more r.outline.rows x k.fitting.rows_so g.given g.fresh;
+        queries = k.fitting.queries;
+        statements = k.fitting.statements;
+        opened = k.fitting.opened;
+        orders = k.fitting.orders;
+      };
     }))
     (λ _. tt)
 
 query_keeps : (r : Reader) (taken : Bool) (x : Result Said Kind) (ts : List Token) → has_name (query_names r.outline.queries) (name_in ts) ≡ taken → are_lexed ts ≡ true → Keeps r →
-    Gives x (IsLineOf r.outline.mapping ts) → Gives (lines.with_query r taken x) Keeps
-query_keeps r taken (Err e) ts t l k g = tt
-query_keeps r taken (Ok q) ts t l k g =
+    Gives x (IsLineOf r.outline.mapping ts) → Gives x (sound.Keeps r.outline.mapping) → Gives (lines.with_query r taken x) Keeps
+query_keeps r taken (Err e) ts t l k g s = tt
+query_keeps r taken (Ok q) ts t l k g s =
     let more : Reader = record r { outline = record r.outline { queries = r.outline.queries ++ q ∷ [] } } in
     let room : After = cond (nat_lt (length r.outline.queries) 1000) (Ok (lines.behind Part.Queries more)) (Err Kind.Many) in
     gives_cond taken (Err Kind.Taken) room Keeps (λ _. tt)
@@ -264,6 +291,13 @@ query_keeps r taken (Ok q) ts t l k g =
       };
       sessions = sessions_more r.outline.queries q r.outline.sessions r.place r.statements k.sessions;
       orders = k.orders;
+      fitting = record {
+        rows_so = k.fitting.rows_so;
+        queries = queries_more r.outline.mapping r.outline.queries q k.fitting.queries s;
+        statements = k.fitting.statements;
+        opened = k.fitting.opened;
+        orders = k.fitting.orders;
+      };
     }))
     (λ _. tt))
 
@@ -286,6 +320,7 @@ begun_keeps r w h i f k = record {
     named = (i, f);
   };
   orders = k.orders;
+  fitting = fitting_at r.outline.mapping r.outline.rows r.outline.queries r.outline.sessions r.place (Place.Session (record { name = w; statements = [] })) r.outline.schedule k.fitting refl;
 }
 
 new_session_keeps : (r : Reader) (w : List ℕ) → (is_reserved w ≡ false → is_name w ≡ true) → Keeps r → Gives (lines.new_session r w) Keeps
@@ -305,8 +340,11 @@ session_keeps r _ l k = tt
 at_place : (r : Reader) (s : SessionDef) → Keeps r → r.place ≡ Place.Session s → HasSessions (length r.outline.queries) r.outline.sessions (Place.Session s) r.statements
 at_place r s k e = subst (λ p. HasSessions (length r.outline.queries) r.outline.sessions p r.statements) e k.sessions
 
-one_more_keeps : (r : Reader) (s : SessionDef) (t : Statement) → nat_lt r.statements 5000 ≡ true → Keeps r → r.place ≡ Place.Session s → is_known (length r.outline.queries) t ≡ true → Keeps (lines.one_more r s t)
-one_more_keeps r s t h k e i =
+open_so : (r : Reader) (s : SessionDef) → Keeps r → r.place ≡ Place.Session s → open_fits r.outline.mapping (Place.Session s) ≡ true
+open_so r s k e = subst (λ p. open_fits r.outline.mapping p ≡ true) e k.fitting.opened
+
+one_more_keeps : (r : Reader) (s : SessionDef) (t : Statement) → nat_lt r.statements 5000 ≡ true → Keeps r → r.place ≡ Place.Session s → is_known (length r.outline.queries) t ≡ true → fits_statement r.outline.mapping t ≡ true → Keeps (lines.one_more r s t)
+one_more_keeps r s t h k e i g =
     let o : HasSessions (length r.outline.queries) r.outline.sessions (Place.Session s) r.statements = at_place r s k e in
     record {
       timeout = k.timeout;
@@ -325,14 +363,17 @@ one_more_keeps r s t h k e i =
         named = o.named;
       };
       orders = k.orders;
+      fitting = fitting_at r.outline.mapping r.outline.rows r.outline.queries r.outline.sessions r.place (Place.Session (record s { statements = s.statements ++ t ∷ [] })) r.outline.schedule k.fitting
+          (all_more (λ (t : Statement). fits_statement r.outline.mapping t) s.statements t (open_so r s k e) g);
     }
 
-statement_keeps : (r : Reader) (s : SessionDef) (t : Result Statement Kind) → Keeps r → r.place ≡ Place.Session s → Gives t (λ x. is_known (length r.outline.queries) x ≡ true) → Gives (lines.with_statement r s t) Keeps
-statement_keeps r s (Err x) k e g = tt
-statement_keeps r s (Ok t) k e g =
+statement_keeps : (r : Reader) (s : SessionDef) (t : Result Statement Kind) → Keeps r → r.place ≡ Place.Session s → Gives t (λ x. is_known (length r.outline.queries) x ≡ true) →
+    Gives t (λ x. fits_statement r.outline.mapping x ≡ true) → Gives (lines.with_statement r s t) Keeps
+statement_keeps r s (Err x) k e g f = tt
+statement_keeps r s (Ok t) k e g f =
     let open_still : After = cond (are_over s.statements) (Err Kind.Last) (Ok (lines.one_more r s t)) in
     gives_cond (nat_lt r.statements 5000) open_still (Err Kind.Many) Keeps
-    (λ h. gives_cond (are_over s.statements) (Err Kind.Last) (Ok (lines.one_more r s t)) Keeps (λ _. tt) (λ _. one_more_keeps r s t h k e g))
+    (λ h. gives_cond (are_over s.statements) (Err Kind.Last) (Ok (lines.one_more r s t)) Keeps (λ _. tt) (λ _. one_more_keeps r s t h k e g f))
     (λ _. tt)
 
 count_more : (ss : List SessionDef) (s : SessionDef) → statement_count (ss ++ s ∷ []) ≡ statement_count ss + length s.statements
@@ -358,6 +399,8 @@ with_session_keeps r s h k e =
         named = tt;
       };
       orders = k.orders;
+      fitting = session_fitting r.outline.mapping r.outline.rows r.outline.queries r.outline.sessions s (Place.Behind Part.Sessions) r.outline.schedule
+          (fitting_at r.outline.mapping r.outline.rows r.outline.queries r.outline.sessions r.place (Place.Session s) r.outline.schedule k.fitting (open_so r s k e)) refl;
     }
 
 end_keeps : (r : Reader) (s : SessionDef) (ts : List Token) → Keeps r → r.place ≡ Place.Session s → Gives (lines.end_line r s ts) Keeps
@@ -372,19 +415,19 @@ statement_given r ts =
     subst (λ n. Gives (statement_of r.outline.mapping (query_names r.outline.queries) ts) (λ x. is_known n x ≡ true)) (length-map r.outline.queries (λ q. q.name))
     (statement_known r.outline.mapping (query_names r.outline.queries) ts)
 
-in_session_keeps : (r : Reader) (s : SessionDef) (ts : List Token) → Keeps r → r.place ≡ Place.Session s → Gives (lines.in_session r s ts) Keeps
-in_session_keeps r s ts k e =
+in_session_keeps : (r : Reader) (s : SessionDef) (ts : List Token) → are_lexed ts ≡ true → Keeps r → r.place ≡ Place.Session s → Gives (lines.in_session r s ts) Keeps
+in_session_keeps r s ts l k e =
     gives_cond (begins (codes "end") ts) (lines.end_line r s ts) (lines.statement_line r s ts) Keeps
     (λ _. end_keeps r s ts k e)
-    (λ _. statement_keeps r s (statement_of r.outline.mapping (query_names r.outline.queries) ts) k e (statement_given r ts))
+    (λ _. statement_keeps r s (statement_of r.outline.mapping (query_names r.outline.queries) ts) k e (statement_given r ts) (statement_fits r.outline.mapping (query_names r.outline.queries) ts l))
 
 -- ---- the schedule
 schedule_line_keeps : (r : Reader) (ts : List Token) → Keeps r → Gives (lines.schedule_line r ts) Keeps
 schedule_line_keeps r ts k = gives_cond (lines.is_alone ts) (Ok (lines.at Place.Schedule r)) (Err Kind.Words) Keeps (λ _. schedule_keeps r k) (λ _. tt)
 
-order_keeps : (r : Reader) (o : Result Order Kind) → Keeps r → Gives o (λ x. evicts_cached r.outline.mapping x ≡ true) → Gives (lines.with_order r o) Keeps
-order_keeps r (Err x) k g = tt
-order_keeps r (Ok o) k g =
+order_keeps : (r : Reader) (o : Result Order Kind) → Keeps r → Gives o (λ x. evicts_cached r.outline.mapping x ≡ true) → Gives o (λ x. is_order_in (length r.outline.sessions) x ≡ true) → Gives (lines.with_order r o) Keeps
+order_keeps r (Err x) k g f = tt
+order_keeps r (Ok o) k g f =
     gives_cond (nat_lt (length r.outline.schedule) 20000) (Ok (record r { outline = record r.outline { schedule = r.outline.schedule ++ o ∷ [] } })) (Err Kind.Many) Keeps
     (λ h. record {
       timeout = k.timeout;
@@ -397,17 +440,24 @@ order_keeps r (Ok o) k g =
         few = simp length-append (omega (arith, ltb-true (length r.outline.schedule) 20000 h));
         cached = all_more (λ (o : Order). evicts_cached r.outline.mapping o) r.outline.schedule o k.orders.cached g;
       };
+      fitting = record {
+        rows_so = k.fitting.rows_so;
+        queries = k.fitting.queries;
+        statements = k.fitting.statements;
+        opened = k.fitting.opened;
+        orders = all_more (λ (o : Order). is_order_in (length r.outline.sessions) o) r.outline.schedule o k.fitting.orders f;
+      };
     })
     (λ _. tt)
 
 schedule_end_keeps : (r : Reader) (ts : List Token) → Keeps r → Gives (lines.schedule_end r ts) Keeps
 schedule_end_keeps r ts k = gives_cond (lines.is_alone ts) (Ok (lines.behind Part.Schedule r)) (Err Kind.Words) Keeps (λ _. behind_keeps r Part.Schedule k) (λ _. tt)
 
-in_schedule_keeps : (r : Reader) (ts : List Token) → Keeps r → Gives (lines.in_schedule r ts) Keeps
-in_schedule_keeps r ts k =
+in_schedule_keeps : (r : Reader) (ts : List Token) → are_lexed ts ≡ true → Keeps r → Gives (lines.in_schedule r ts) Keeps
+in_schedule_keeps r ts l k =
     gives_cond (begins (codes "end") ts) (lines.schedule_end r ts) (lines.with_order r (order_of r.outline.mapping r.outline.sessions ts)) Keeps
     (λ _. schedule_end_keeps r ts k)
-    (λ _. order_keeps r (order_of r.outline.mapping r.outline.sessions ts) k (order_cached r.outline.mapping r.outline.sessions ts))
+    (λ _. order_keeps r (order_of r.outline.mapping r.outline.sessions ts) k (order_cached r.outline.mapping r.outline.sessions ts) (order_in r.outline.mapping r.outline.sessions ts l))
 
 -- ---- each line keeps it
 part_keeps : (r : Reader) (p : Part) (followed : Bool) (ts : List Token) → length r.outline.mapping ≤ 64 → are_lexed ts ≡ true → Keeps r → Gives (lines.part_line r p followed ts) Keeps
@@ -417,25 +467,25 @@ part_keeps r Part.Results followed ts h l k = results_keep r (lines.number_line 
 part_keeps r Part.Entities followed ts h l k = entity_keeps r followed ts h l k
 part_keeps r Part.Rows followed ts h l k = row_keeps r (row_of r.outline.mapping r.outline.rows ts) k (row_fits r.outline.mapping r.outline.rows ts l)
 part_keeps r Part.Queries followed ts h l k =
-    query_keeps r (lines.is_taken r ts) (query_of r.outline.mapping ts) ts refl l k (line_of r.outline.mapping ts (linked r.outline.mapping k.entities.closed))
+    query_keeps r (lines.is_taken r ts) (query_of r.outline.mapping ts) ts refl l k (line_of r.outline.mapping ts (linked r.outline.mapping k.entities.closed)) (sound.line_keeps r.outline.mapping ts l)
 part_keeps r Part.Sessions followed ts h l k = session_keeps r ts l k
 part_keeps r Part.Schedule followed ts h l k = schedule_line_keeps r ts k
 
-next_keeps : (r : Reader) (last : Part) (next : Option Part) (followed : Bool) (ts : List Token) → are_lexed ts ≡ true → Keeps r → Gives (lines.next_part r last next followed ts) Keeps
-next_keeps r last None followed ts l k = tt
-next_keeps r last (Some p) followed ts l k =
+next_keeps : (r : Reader) (last : Part) (next : Option Part) (followed : Bool) (ts : List Token) → are_lexed ts ≡ true → Keeps r → IsFilled r.entity → Gives (lines.next_part r last next followed ts) Keeps
+next_keeps r last None followed ts l k f = tt
+next_keeps r last (Some p) followed ts l k f =
     gives_cond (may_follow last p) (lines.part_line (lines.closed r) p followed ts) (Err Kind.Line) Keeps
-    (λ _. part_keeps (lines.closed r) p followed ts k.entities.few l (closed_keeps r k))
+    (λ _. part_keeps (lines.closed r) p followed ts k.entities.few l (closed_keeps r k f))
     (λ _. tt)
 
-behind_part_keeps : (r : Reader) (last : Part) (followed : Bool) (ts : List Token) → are_lexed ts ≡ true → Keeps r → Gives (lines.behind_part r last followed ts) Keeps
-behind_part_keeps r last followed ts l k =
+behind_part_keeps : (r : Reader) (last : Part) (followed : Bool) (ts : List Token) → are_lexed ts ≡ true → Keeps r → (begins (codes "column") ts ≡ false → IsFilled r.entity) → Gives (lines.behind_part r last followed ts) Keeps
+behind_part_keeps r last followed ts l k f =
     gives_cond (begins (codes "column") ts) (lines.column_line r r.entity ts) (lines.next_part r last (part_of ts) followed ts) Keeps
     (λ _. column_keeps r r.entity ts l k k.entities)
-    (λ _. next_keeps r last (part_of ts) followed ts l k)
+    (λ h. next_keeps r last (part_of ts) followed ts l k (f h))
 
-pub line_keeps : (r : Reader) (p : Place) (followed : Bool) (ts : List Token) → are_lexed ts ≡ true → Keeps r → r.place ≡ p → Gives (lines.line_at r p followed ts) Keeps
-line_keeps r Place.Start followed ts l k e = header_keeps r ts k
-line_keeps r (Place.Behind last) followed ts l k e = behind_part_keeps r last followed ts l k
-line_keeps r (Place.Session s) followed ts l k e = in_session_keeps r s ts k e
-line_keeps r Place.Schedule followed ts l k e = in_schedule_keeps r ts k
+pub line_keeps : (r : Reader) (p : Place) (followed : Bool) (ts : List Token) → are_lexed ts ≡ true → Keeps r → (begins (codes "column") ts ≡ false → IsFilled r.entity) → r.place ≡ p → Gives (lines.line_at r p followed ts) Keeps
+line_keeps r Place.Start followed ts l k f e = header_keeps r ts k
+line_keeps r (Place.Behind last) followed ts l k f e = behind_part_keeps r last followed ts l k f
+line_keeps r (Place.Session s) followed ts l k f e = in_session_keeps r s ts l k e
+line_keeps r Place.Schedule followed ts l k f e = in_schedule_keeps r ts l k

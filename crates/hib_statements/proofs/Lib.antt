@@ -4,3 +4,5 @@ pub mod Names
 pub mod RowLines
 pub mod Known
 pub mod Fitting
+pub mod Sets
+pub mod Ruled
