@@ -15,7 +15,7 @@ ghost use Rattle.hib_core.specs.Standing.{RoseBy, RoseWithin, IsStill, told_star
 ghost use Rattle.hib_outside.specs.Causes.{Rose};
 ghost use Rattle.hib_store.specs.Stores.{handed_back, is_store_fault};
 ghost use Rattle.hib_core.specs.Bound.{most_in, outside_count};
-ghost use Rattle.hib_core.specs.Factory.{Does, IsOver, IsAskedOnceMore, AreOver, IsSound};
+ghost use Rattle.hib_core.specs.Factory.{AreSessions, Does, IsOver, IsAskedOnceMore, AreOver, IsSound};
 ghost use Rattle.hib_core.specs.Playing.{played, play_all, play_script, GoesOn, Leads};
 
 use crate::bounds::runs_are_short;
@@ -102,8 +102,8 @@ impl<K: Keeper, N: Name> Factory<K, N> {
         })
     }
 
-    /// One step of a session: the act that is due in it, if one is. Where memory runs out no entry is added and nothing has changed,
-    /// but the answer of `refused` and the keeper's counts; so a later call may succeed.
+    /// One step of a session: the act that is due in it, if one is. The other sessions stay as they are. Where memory runs out no
+    /// entry is added and nothing has changed, but the answer of `refused` and the keeper's counts; so a later call may succeed.
     pub fn step(&mut self, alloc: Global, number: SessionNo) -> Result<Stepped, AllocError>
         requires known { number < length N.script.sessions }
         ensures did { result ≡ Ok Stepped.Did → Does N.script number (past self.old.journal) (past self.new.journal) self.old.sessions self.new.sessions }
@@ -115,6 +115,8 @@ impl<K: Keeper, N: Name> Factory<K, N> {
         ensures going { OnOk result (self.new.refused ≡ self.old.refused) }
         ensures same { OnErr result (past self.new.journal ≡ past self.old.journal) }
         ensures parts { OnErr result (IsStill self.old.parts self.new.parts) }
+        ensures sessions { OnErr result (AreSessions N.script (past self.old.journal) self.new.sessions) }
+        ensures others { (s : ℕ) → (number == s) ≡ false → slice_get self.new.sessions s ≡ slice_get self.old.sessions s }
         ensures asked { OnErr result (self.old.refused ≡ false → IsAskedOnceMore N.from (past self.new.journal) self.new.parts) }
         ensures refused { OnErr result (self.new.refused ≡ true) }
     {

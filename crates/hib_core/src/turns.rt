@@ -1,5 +1,5 @@
 // One turn of a session: the act that is due is answered by the session or by a part, and its entry is added.
-ghost use Rattle.std.specs.Prelude.{◌≡◌, ◌≢◌, ◌∷◌, ◌<◌, ◌≤◌, ◌^◌, ◌+◌, List, length, IfOk, OnOk, OnErr, IsOk, Ok, None, false, true, IfSome};
+ghost use Rattle.std.specs.Prelude.{ℕ, ◌≡◌, ◌≢◌, ◌∷◌, ◌<◌, ◌≤◌, ◌^◌, ◌+◌, ◌==◌, List, length, slice_get, IfOk, OnOk, OnErr, IsOk, Ok, None, false, true, IfSome};
 ghost use Rattle.hib_base.specs.declared.entries.Entry.{Entry};
 ghost use Rattle.hib_journal.specs.Kept.{past};
 ghost use Rattle.hib_journal.specs.Sessions.{Journal as Past, own, was_killed};
@@ -273,6 +273,7 @@ pub fn turn<K: Keeper, N: Name>(
     ensures fault { (e : Entry) → past journal.new ≡ e ∷ past journal.old → is_fault e.reply ≡ true → Rose parts.old.store.faults parts.new.store.faults }
     ensures inside { outside_count (past journal.new) ≡ outside_count (past journal.old) }
     ensures dead { was_killed number (past journal.old) ≡ true → result ≡ Ok Stepped.Done }
+    ensures others { (s : ℕ) → (number == s) ≡ false → slice_get sessions.new.items s ≡ slice_get sessions.old.items s }
 {
     let session = &mut sessions[number.0 as usize];
     take_turn::<K, N>(alloc, script, session, parts, journal)
