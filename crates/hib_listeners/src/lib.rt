@@ -1,0 +1,13 @@
+//! Listeners, which are told each entry of a run, and what its entries come to in numbers.
+#![tactic(auto)]
+
+mod counts;
+mod laws;
+mod regions;
+mod statistics;
+mod tests_of;
+
+pub use counts::{QueryCounts, RegionCounts, StoreCounts};
+pub use laws::{counts_are_few, noting_counts};
+pub use regions::RegionList;
+pub use statistics::Statistics;
