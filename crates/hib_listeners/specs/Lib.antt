@@ -1,3 +1,4 @@
 pub mod Counts
 pub mod Statistics
 pub mod Places
+pub mod Told

@@ -3,11 +3,13 @@
 
 mod counts;
 mod laws;
+mod listeners;
 mod regions;
 mod statistics;
 mod tests_of;
 
 pub use counts::{QueryCounts, RegionCounts, StoreCounts};
 pub use laws::{counts_are_few, noting_counts};
+pub use listeners::Listeners;
 pub use regions::RegionList;
 pub use statistics::Statistics;
