@@ -1,3 +1,4 @@
 pub mod Places
 pub mod Counted
 pub mod Telling
+pub mod Writing

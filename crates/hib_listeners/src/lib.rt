@@ -2,14 +2,18 @@
 #![tactic(auto)]
 
 mod counts;
+mod in_memory;
 mod laws;
 mod listeners;
 mod regions;
 mod statistics;
 mod tests_of;
+mod trace;
 
 pub use counts::{QueryCounts, RegionCounts, StoreCounts};
+pub use in_memory::{Limited, Recorder};
 pub use laws::{counts_are_few, noting_counts};
 pub use listeners::Listeners;
 pub use regions::RegionList;
 pub use statistics::Statistics;
+pub use trace::Trace;
