@@ -12,7 +12,7 @@ mod trace;
 
 pub use counts::{QueryCounts, RegionCounts, StoreCounts};
 pub use in_memory::{Limited, Recorder};
-pub use laws::{counts_are_few, noting_counts};
+pub use laws::{counts_are_few, nothing_was_told, noting_counts, telling_goes_on};
 pub use listeners::Listeners;
 pub use regions::RegionList;
 pub use statistics::Statistics;
