@@ -16,4 +16,5 @@ pub use laws::{counts_are_few, nothing_was_told, noting_counts, telling_goes_on}
 pub use listeners::Listeners;
 pub use regions::RegionList;
 pub use statistics::Statistics;
+pub use tests_of::key_in;
 pub use trace::Trace;

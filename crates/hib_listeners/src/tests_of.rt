@@ -5,7 +5,7 @@ ghost use Rattle.hib_listeners.specs.Counts.{is_get, is_hit_reply, is_miss_reply
 
 use hib_base::{Act, Checked, Commit, Entry, Inserted, Key, Put, Reply, Unlocked, Updated};
 
-// The key that an act of a region names.
+/// The key that an act of a region names; none of another act.
 pub fn key_in(act: &Act) -> Option<Key>
     ensures { result ≡ key_in act.now }
 {
