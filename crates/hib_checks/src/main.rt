@@ -5,6 +5,7 @@
 
 mod check;
 mod evicting;
+mod listening;
 mod row;
 mod stale;
 
@@ -27,6 +28,22 @@ fn finish(rt: &impl Print, alloc: Global, row: &Row) -> io::Result<()> {
 fn tell(rt: &impl Print, name: &str, is_right: bool) -> io::Result<()> {
     let end = if is_right { "ok" } else { "it isn't so" };
     println!(rt; "call {name}: {end}")
+}
+
+/// Prints the lines of what is tried of listeners.
+fn tell_listening(rt: &impl Print, alloc: Global) -> io::Result<()> {
+    tell(rt, "listener-limited", listening::drops_the_limited(alloc)?)?;
+    tell(
+        rt,
+        "listener-that-leaves",
+        listening::drops_the_second(alloc)?,
+    )?;
+    tell(
+        rt,
+        "listener-without-memory",
+        listening::stops_at_the_second(alloc)?,
+    )?;
+    tell(rt, "trace", listening::writes_lines(alloc)?)
 }
 
 /// Prints a line that says nothing of a row.
@@ -83,5 +100,6 @@ fn main(rt: HostRuntime) -> io::Result<()> {
     }
     tell(&rt, "stale-version", stale::finds_the_version(alloc)?)?;
     tell(&rt, "stale-row", stale::finds_no_row(alloc)?)?;
-    tell(&rt, "long-eviction", evicting::leaves_in_turn(alloc)?)
+    tell(&rt, "long-eviction", evicting::leaves_in_turn(alloc)?)?;
+    tell_listening(&rt, alloc)
 }

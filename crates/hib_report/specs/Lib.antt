@@ -1,5 +1,4 @@
 pub mod Lines
-pub mod Counts
 pub mod Unsound
 pub mod Watch
 pub mod Fates

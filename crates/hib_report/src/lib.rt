@@ -2,7 +2,6 @@
 #![tactic(auto)]
 
 mod acts;
-mod counts;
 mod fates;
 mod lines;
 mod regions;

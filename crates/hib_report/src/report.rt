@@ -24,7 +24,8 @@ fn put_journal(alloc: Global, out: &mut Vec<u8>, entries: &[Entry]) -> Result<()
 ///
 /// A session that was killed prints as `killed`, and another with the outcome of its last commit or
 /// rollback. So a session that is still open prints as its last transaction ended, or as
-/// `rolled-back` where it has ended none. Fails for want of memory alone.
+/// `rolled-back` where it has ended none. The counts are noted in one pass. Fails for want of memory
+/// alone.
 pub fn text(alloc: Global, script: &Script, journal: &Journal) -> Result<Bytes, AllocError>
     ensures { IfOk result (λ b. b ≡ report script.now journal.now.list) }
 {
@@ -34,7 +35,7 @@ pub fn text(alloc: Global, script: &Script, journal: &Journal) -> Result<Bytes, 
     put_lines(alloc, &mut out, script, entries)?;
     put_sessions(alloc, &mut out, script, entries)?;
     put_unsound(alloc, &mut out, script, entries)?;
-    put_counts(alloc, &mut out, script, entries)?;
+    put_counts(alloc, &mut out, script, journal)?;
     Ok(Seq::from_vec(out))
 }
 
@@ -46,6 +47,6 @@ pub fn summary(alloc: Global, script: &Script, journal: &Journal) -> Result<Byte
     let mut out = Vec::new(alloc);
     put_journal(alloc, &mut out, entries)?;
     put_unsound(alloc, &mut out, script, entries)?;
-    put_counts(alloc, &mut out, script, entries)?;
+    put_counts(alloc, &mut out, script, journal)?;
     Ok(Seq::from_vec(out))
 }

@@ -9,10 +9,10 @@ ghost use Rattle.hib_report.specs.Lines.{key_text};
 ghost use Rattle.hib_report.specs.Watch.{Watches};
 ghost use Rattle.hib_report.specs.Unsound.{named, is_read_write, with_key, with_named, keys_in, unsound, unsound_text};
 
-use crate::counts::key_in;
 use crate::rows::{put_key, put_labelled};
 use crate::watch::Watch;
 use hib_base::{Act, EntityNo, Entry, Key, Script, Strategy};
+use hib_listeners::key_in;
 use std::alloc::{AllocError, Global};
 use std::collections::BTreeSet;
 

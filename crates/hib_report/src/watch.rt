@@ -10,8 +10,8 @@ ghost use Rattle.hib_journal.specs.Sound.{is_sound};
 ghost use Rattle.hib_report.specs.Unsound.{is_upset, leaves_calm};
 ghost use Rattle.hib_report.specs.Watch.{fresh, course_at, written_at, reused_if, deleted_if, calm_if, change_noted, act_noted, nothing_written, names_key, not_named, committed_by, Watches};
 
-use crate::counts::key_in;
 use hib_base::{Act, Change, Commit, Entry, Key, Put, Reply, Seq, SessionNo, Unlocked, Updated};
+use hib_listeners::key_in;
 use indexmap::IndexMap;
 use std::alloc::{AllocError, Global};
 

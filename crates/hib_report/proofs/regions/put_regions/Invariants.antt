@@ -1,8 +1,7 @@
-use Rattle.std.proofs.Common.{◌≡◌, ◌++◌, drop}
+use Rattle.std.proofs.Common.{◌≡◌, ◌++◌, take}
 use Rattle.hib_report.specs.Report.{regions_text}
 use Rattle.hib_report.proofs.regions.put_regions.Given as goal
 
--- what was put, with what is left
-abbrev pub invariant-loop-entity : goal.invariant-loop-entity
-invariant-loop-entity l =
-    l.fn.out.items ++ regions_text l.entries 0 l.mapping ≡ l.out.items ++ regions_text l.entries l.entity (drop l.entity l.mapping)
+-- what was put so far
+abbrev pub invariant-loop-counts : goal.invariant-loop-counts
+invariant-loop-counts l = l.out.items ≡ l.fn.out.items ++ regions_text l.script (take l.counts-index l.regions)

@@ -1,9 +1,8 @@
--- What a report counts: tests of one entry.
+-- What is counted of a journal: tests of one entry.
 use Rattle.std.specs.Prelude.{ℕ, ◌==◌, ◌&&◌, Bool, true, false, not, is_some, Some, None, Option}
 use Rattle.hib_journal.specs.Types.{Key, Commit, Act, Checked, Put, Unlocked, Inserted, Updated, Reply, Entry}
 use Rattle.hib_journal.specs.Slot.{key_in}
 use Rattle.hib_journal.specs.Next.{is_committed_reply}
-use Rattle.hib_report.specs.declared.counts.Count.{Count}
 
 -- regions: the acts on keys of entity n
 
@@ -185,22 +184,3 @@ is_drop_reply _ = false
 -- a Keep that names a dropped query
 abbrev pub is_drop : Entry → Bool
 is_drop e = keeps e.act && is_drop_reply e.reply
-
--- the test of each count
-abbrev pub passes : Count → Entry → Bool
-passes (Count.Hits n) e = is_hit n e
-passes (Count.Misses n) e = is_miss n e
-passes (Count.Puts n) e = is_store n e
-passes (Count.Refused n) e = is_refusal n e
-passes (Count.Locks n) e = is_lock n e
-passes (Count.Evicted n) e = is_eviction n e
-passes (Count.Expired n) e = is_expired n e
-passes Count.Loads e = is_load e
-passes Count.Lists e = is_list e
-passes Count.Writes e = is_write e
-passes Count.Commits e = is_committed e
-passes Count.Faults e = is_fault e
-passes Count.QueryHits e = is_query_hit e
-passes Count.QueryMisses e = is_query_miss e
-passes Count.Kept e = is_keep e
-passes Count.Dropped e = is_drop e

@@ -1,0 +1,5 @@
+pub mod Places
+pub mod Counted
+pub mod Telling
+pub mod Writing
+pub mod Hearing
