@@ -15,7 +15,7 @@ use Rattle.hib_session.specs.Session.{Follows, number_of, is_killed}
 use Rattle.hib_engines.specs.Region.{empty, IsPlaced}
 use Rattle.hib_engines.specs.Laws.{Laws}
 use Rattle.hib_core.specs.Standing.{Origin, IsBridged, PartsState, AreParts, region_of}
-use Rattle.hib_core.specs.Factory.{Lawful, FactoryState, AreSessions, IsStanding, IsBuilt}
+use Rattle.hib_core.specs.Factory.{Lawful, CoreState, AreSessions, IsStanding, IsBuilt}
 use Rattle.hib_core.proofs.Stored.{store_of}
 use Rattle.hib_engines.proofs.Grows.{begins}
 use Rattle.hib_engines.proofs.Opened.{registry_begins}
@@ -63,7 +63,7 @@ parts_begin l script from x t f w r s g u c = record {
 }
 
 -- the factory
-pub standing_begins : Lawful → (script : Script) (from : Origin) (x : FactoryState) → IsBuilt script → Rattle.hib_journal.specs.Kept.past x.journal ≡ [] →
+pub standing_begins : Lawful → (script : Script) (from : Origin) (x : CoreState) → IsBuilt script → Rattle.hib_journal.specs.Kept.past x.journal ≡ [] →
     AreParts script from [] x.parts → x.parts.store.asked ≡ from.asked → AreSessions script [] x.sessions → IsStanding script from x
 standing_begins w script from x b e p a s = record {
   run = rw e (record { legal = tt; law = w script from.tables [] tt; numbered = tt; parts = p; built = b });

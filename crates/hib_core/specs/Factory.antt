@@ -10,17 +10,27 @@ use Rattle.hib_journal.specs.Played.{has_next}
 use Rattle.hib_journal.specs.Runs.{IsNumbered, ask_count, is_fault}
 use Rattle.hib_session.specs.declared.session.Session.{Session}
 use Rattle.hib_law.specs.Law.{Obeys}
+use Rattle.hib_listeners.specs.Told.{Told}
 use Rattle.hib_outside.specs.Causes.{Rose}
 use Rattle.hib_session.specs.Session.{Follows, IsTaken, number_of, is_killed, own_reply, left_in}
 use Rattle.hib_journal.specs.Due.{is_asked}
 use Rattle.hib_core.specs.Standing.{Origin, RoseWithin, PartsState, AreParts, IsStill, IsDue, IsAnswered, IsAskedFor, entry_of}
 
--- a factory as contracts see it
+-- the steps of a factory as contracts see them
+pub record CoreState : Type 0 where
+  pub journal : Kept
+  pub parts : PartsState
+  pub sessions : List Session
+  pub refused : Bool
+
+-- a factory: beside them what its listeners tell, and whether one had no memory for the newest entry
 pub record FactoryState : Type 0 where
   pub journal : Kept
   pub parts : PartsState
   pub sessions : List Session
   pub refused : Bool
+  pub told : List Told
+  pub deaf : Bool
 
 -- the sessions of a script: killed where the journal says so, and else each as far as its own entries
 pub record AreSessions (script : Script) (h : Journal) (sessions : List Session) : Type 0 where
@@ -67,7 +77,7 @@ IsAsked from h x = RoseWithin from.asked (ask_count h) x.store.asked
 abbrev pub IsAskedOnceMore : Origin → Journal → PartsState → Type 0
 IsAskedOnceMore from h x = RoseWithin from.asked (ask_count h + 1) x.store.asked
 
-pub record IsStanding (script : Script) (from : Origin) (x : FactoryState) : Type 0 where
+pub record IsStanding (script : Script) (from : Origin) (x : CoreState) : Type 0 where
   pub run : IsRun script from (past x.journal) x.parts
   pub sessions : AreSessions script (past x.journal) x.sessions
   -- unless memory ran out in a call
@@ -155,6 +165,10 @@ pub record Does (script : Script) (s : ℕ) (old new : Journal) (xs ys : List Se
   pub due : has_next script old s ≡ true
   pub inside : is_outside entry.act ≡ false
   pub less : left_at script s ys < left_at script s xs
+
+-- one entry was added
+abbrev pub HasGrown : Journal → Journal → Type 0
+HasGrown old new = (e : Entry) × (new ≡ e ∷ old)
 
 -- session s has no act left, and no entry was added
 pub record IsOver (script : Script) (s : ℕ) (old new : Journal) : Type 0 where

@@ -1,10 +1,10 @@
-// The factory: sessions over shared parts, and the journal of their steps.
-ghost use Rattle.std.specs.Prelude.{◌≡◌, ◌∷◌, ◌+◌, ◌<◌, ◌≤◌, ◌^◌, ◌==◌, ℕ, [], length, slice_get, OnOk, OnErr, IfOk, IfErr, IsOk, Ok, Some, None, true, false};
+// The factory: sessions over shared parts, the journal of their steps, and the listeners that hear of each.
+ghost use Rattle.std.specs.Prelude.{◌≡◌, ◌+◌, ◌<◌, ◌≤◌, ◌^◌, ◌==◌, ℕ, [], ◌∷◌, ◌++◌, length, slice_get, is_ok, not, OnOk, OnErr, IfOk, IfErr, IsOk, Ok, Some, List, true, false};
 ghost use Rattle.std.specs.List.{range_with_len};
 ghost use Rattle.hib_journal.specs.Kept.{past};
 ghost use Rattle.hib_base.specs.declared.scripts.Order.{Order};
 ghost use Rattle.hib_base.specs.Valid.{is_valid};
-ghost use Rattle.hib_journal.specs.Sessions.{own, was_killed, is_open};
+ghost use Rattle.hib_journal.specs.Sessions.{Journal as Past, own, was_killed, is_open};
 ghost use Rattle.hib_journal.specs.Next.{is_cached};
 ghost use Rattle.hib_journal.specs.Played.{has_next, play_steps, play_order, play_orders, play_sessions, is_played};
 ghost use Rattle.hib_journal.specs.Legal.{IsLegal};
@@ -17,93 +17,112 @@ ghost use Rattle.hib_store.specs.Stores.{handed_back, is_store_fault};
 ghost use Rattle.hib_core.specs.Bound.{most_in, outside_count};
 ghost use Rattle.hib_core.specs.Factory.{AreSessions, Does, IsOver, IsAskedOnceMore, AreOver, IsSound};
 ghost use Rattle.hib_core.specs.Playing.{played, play_all, play_script, GoesOn, Leads};
+ghost use Rattle.hib_listeners.specs.Told.{Told, tells, AreTold};
+ghost use Rattle.hib_listeners.specs.Heard.{HaveHeard};
 
-use crate::bounds::runs_are_short;
 use crate::names::Name;
-use crate::opening::{open_regions, open_sessions, ready};
-use crate::outside;
-use crate::parts::Parts;
-use crate::turns::{Stepped, turn};
+use crate::steps::Core;
+use crate::turns::Stepped;
 use hib_base::{Key, Order, Script, SessionNo};
-use hib_engines::{Registry, ResultsEngine, StampsEngine, StoreEngine, laws};
 use hib_journal::Journal;
-use hib_law::law;
-use hib_outside::Keeper;
-use hib_session::Session;
+use hib_listeners::{Listeners, nothing_was_told, telling_goes_on};
+use hib_outside::{Keeper, Listener};
 use hib_store::OpenFault;
 use std::alloc::{AllocError, Global};
-use std::marker::{Model, PhantomData};
+use std::marker::Model;
 
-/// Sessions over shared parts, with the journal of their steps, which is legal for the name's script from the name's rows.
-pub struct Factory<K: Keeper, N: Name> {
-    script: Script,
-    parts: Parts<K>,
-    sessions: Vec<Session>,
-    journal: Journal,
-    /// Whether memory ran out in a call.
-    refused: bool,
-    of: PhantomData<N>,
+/// Why a factory wasn't opened, with the listeners that were handed in.
+#[derive(Drop)]
+pub struct OpenRefused<K, L> {
+    /// Why, with the keeper.
+    pub fault: OpenFault<K>,
+    /// The listeners, untold.
+    pub listeners: Vec<L>,
 }
 
-impl<K: Keeper, N: Name> Model for Factory<K, N> {
-    ghost use Rattle.std.specs.Prelude.{◌≡◌};
-    ghost use Rattle.hib_core.specs.Factory.{FactoryState, IsStanding};
+/// Sessions over shared parts, with the journal of their steps, which is legal for the name's script from the name's rows, and
+/// the listeners that are told each entry in the step that adds it. After a listener had no memory for an entry, which stands, no
+/// call adds one more: it answers want of memory and changes nothing.
+pub struct Factory<K: Keeper, N: Name, L: Listener> {
+    core: Core<K, N>,
+    listeners: Listeners<L>,
+    /// Whether a listener had no memory for the newest entry.
+    deaf: bool,
+}
+
+impl<K: Keeper, N: Name, L: Listener> Model for Factory<K, N, L> {
+    ghost use Rattle.std.specs.Prelude.{◌≡◌, ◌||◌};
+    ghost use Rattle.hib_core.specs.Factory.{FactoryState};
+    ghost use Rattle.hib_listeners.specs.Told.{tells};
+    ghost use Rattle.hib_listeners.specs.Heard.{HaveHeard};
 
     ghost Value = { FactoryState };
 
-    ghost view = { λ f. record { journal = f.journal; parts = f.parts; sessions = f.sessions.items; refused = f.refused } };
+    ghost view = { λ f. record { journal = f.core.journal; parts = f.core.parts; sessions = f.core.sessions; refused = f.core.refused || f.deaf;
+        told = tells L.heard L.left f.listeners; deaf = f.deaf } };
 
-    ghost invariant = { λ f. (f.script ≡ N.script) × IsStanding N.script N.from (record { journal = f.journal; parts = f.parts; sessions = f.sessions.items; refused = f.refused }) };
+    ghost invariant = { λ f. HaveHeard f.deaf f.core.journal.list N.told (tells L.heard L.left f.listeners) };
 }
 
-impl<K: Keeper, N: Name> Factory<K, N> {
+/// Tells the newest entry of a journal. Where a listener has no memory for it, that is noted.
+fn tell<L: Listener>(
+    alloc: Global,
+    journal: &Journal,
+    listeners: &mut Listeners<L>,
+    deaf: &mut bool,
+) -> Result<(), AllocError>
+    requires hears { deaf.old ≡ false }
+    ensures deaf { deaf.new ≡ not (is_ok result) }
+    ensures told { (e : Entry) (h : Past) → past journal.now ≡ e ∷ h → AreTold e (is_ok result) (tells L.heard L.left listeners.old) (tells L.heard L.left listeners.new) }
+    ensures heard { (start : List Told) (e : Entry) (h : Past) (es : List Entry) → past journal.now ≡ e ∷ h → journal.now.list ≡ es ++ e ∷ []
+        → HaveHeard false es start (tells L.heard L.left listeners.old) → HaveHeard deaf.new journal.now.list start (tells L.heard L.left listeners.new) }
+{
+    telling_goes_on();
+    let Some(entry) = journal.last() else {
+        return Ok(());
+    };
+    let told = listeners.tell(alloc, entry);
+    *deaf = told.is_err();
+    told
+}
+
+impl<K: Keeper, N: Name, L: Listener> Factory<K, N, L> {
     /// Opens the factory of this name, in which no session has begun. The keeper is seeded with the script's rows, each of
-    /// which it takes where its key has none. At an error the keeper is handed back, with the rows that it had.
-    pub fn open(alloc: Global, script: Script, keeper: K) -> Result<Factory<K, N>, OpenFault<K>>
+    /// which it takes where its key has none. At an error the keeper is handed back with the rows that it had, and the listeners
+    /// untold.
+    pub fn open(
+        alloc: Global,
+        script: Script,
+        keeper: K,
+        listeners: Vec<L>,
+    ) -> Result<Factory<K, N, L>, OpenRefused<K, L>>
         requires script { script ≡ N.script }
         requires valid { is_valid N.script ≡ true }
         requires from { record { tables = told_start N.script (K.tables keeper); faults = K.faults keeper; asked = K.asked keeper } ≡ N.from }
+        requires told { tells L.heard L.left listeners.items ≡ N.told }
         ensures empty { IfOk result (λ f. past f.journal ≡ []) }
         ensures going { IfOk result (λ f. f.refused ≡ false) }
-        ensures back { IfErr result (λ e. K.tables (handed_back e) ≡ K.tables keeper) }
-        ensures back_faults { IfErr result (λ e. K.faults keeper ≤ K.faults (handed_back e)) }
-        ensures back_asked { IfErr result (λ e. K.asked (handed_back e) ≡ K.asked keeper) }
-        ensures fault { IfErr result (λ e. is_store_fault e ≡ true → Rose (K.faults keeper) (K.faults (handed_back e))) }
+        ensures untold { IfOk result (λ f. f.told ≡ N.told) }
+        ensures back { IfErr result (λ e. K.tables (handed_back e.fault) ≡ K.tables keeper) }
+        ensures back_faults { IfErr result (λ e. K.faults keeper ≤ K.faults (handed_back e.fault)) }
+        ensures back_asked { IfErr result (λ e. K.asked (handed_back e.fault) ≡ K.asked keeper) }
+        ensures fault { IfErr result (λ e. is_store_fault e.fault ≡ true → Rose (K.faults keeper) (K.faults (handed_back e.fault))) }
+        ensures listeners { IfErr result (λ e. e.listeners ≡ listeners) }
     {
-        laws();
-        law();
-        ready(&script);
-        let Ok(regions) = open_regions(alloc, &script) else {
-            return Err(OpenFault::NoMemory(keeper));
-        };
-        let Ok(stamps) = StampsEngine::open(alloc, script.mapping.len() as u16) else {
-            return Err(OpenFault::NoMemory(keeper));
-        };
-        let Ok(results) = ResultsEngine::open(alloc, script.results) else {
-            return Err(OpenFault::NoMemory(keeper));
-        };
-        let Ok(sessions) = open_sessions(alloc, &script) else {
-            return Err(OpenFault::NoMemory(keeper));
-        };
-        let store = StoreEngine::open(alloc, keeper, script.rows.as_slice())?;
-        Ok(Factory {
-            script,
-            parts: Parts {
-                store,
-                registry: Registry::new(alloc),
-                stamps,
-                regions,
-                results,
-            },
-            sessions,
-            journal: Journal::open(alloc),
-            refused: false,
-            of: PhantomData,
-        })
+        nothing_was_told();
+        match Core::open(alloc, script, keeper) {
+            Ok(core) => Ok(Factory {
+                core,
+                listeners: Listeners::open(listeners),
+                deaf: false,
+            }),
+            Err(fault) => Err(OpenRefused { fault, listeners }),
+        }
     }
 
-    /// One step of a session: the act that is due in it, if one is. The other sessions stay as they are. Where memory runs out no
-    /// entry is added and nothing has changed, but the answer of `refused` and the keeper's counts; so a later call may succeed.
+    /// One step of a session: the act that is due in it, if one is, and then the listeners hear of its entry. The other sessions stay
+    /// as they are. Where memory runs out no entry is added and nothing has changed, but the answer of `refused` and the keeper's
+    /// counts; so a later call may succeed. Only if a listener had none does the entry stand, and no call adds another.
     pub fn step(&mut self, alloc: Global, number: SessionNo) -> Result<Stepped, AllocError>
         requires known { number < length N.script.sessions }
         ensures did { result ≡ Ok Stepped.Did → Does N.script number (past self.old.journal) (past self.new.journal) self.old.sessions self.new.sessions }
@@ -113,26 +132,33 @@ impl<K: Keeper, N: Name> Factory<K, N> {
         ensures inside { outside_count (past self.new.journal) ≡ outside_count (past self.old.journal) }
         ensures fault { (e : Entry) → past self.new.journal ≡ e ∷ past self.old.journal → is_fault e.reply ≡ true → Rose self.old.parts.store.faults self.new.parts.store.faults }
         ensures going { OnOk result (self.new.refused ≡ self.old.refused) }
-        ensures same { OnErr result (past self.new.journal ≡ past self.old.journal) }
-        ensures parts { OnErr result (IsStill self.old.parts self.new.parts) }
-        ensures sessions { OnErr result (AreSessions N.script (past self.old.journal) self.new.sessions) }
+        ensures told { (e : Entry) → past self.new.journal ≡ e ∷ past self.old.journal → AreTold e (is_ok result) self.old.told self.new.told }
+        ensures untold { past self.new.journal ≡ past self.old.journal → self.new.told ≡ self.old.told }
+        ensures same { OnErr result (self.new.deaf ≡ self.old.deaf → past self.new.journal ≡ past self.old.journal) }
+        ensures parts { OnErr result (self.new.deaf ≡ self.old.deaf → IsStill self.old.parts self.new.parts) }
+        ensures unheard { OnErr result (self.old.deaf ≡ false → self.new.deaf ≡ true
+            → Does N.script number (past self.old.journal) (past self.new.journal) self.old.sessions self.new.sessions) }
+        ensures deaf { self.old.deaf ≡ true → self.new ≡ self.old }
+        ensures sessions { OnErr result (AreSessions N.script (past self.new.journal) self.new.sessions) }
         ensures others { (s : ℕ) → (number == s) ≡ false → slice_get self.new.sessions s ≡ slice_get self.old.sessions s }
+        ensures stands { OnErr result (GoesOn (past self.old.journal) (past self.new.journal)) }
         ensures asked { OnErr result (self.old.refused ≡ false → IsAskedOnceMore N.from (past self.new.journal) self.new.parts) }
         ensures refused { OnErr result (self.new.refused ≡ true) }
     {
-        match turn::<K, N>(
-            alloc,
-            &self.script,
-            number,
-            &mut self.sessions,
-            &mut self.parts,
-            &mut self.journal,
-        ) {
-            Ok(stepped) => Ok(stepped),
-            Err(error) => {
-                self.refused = true;
-                Err(error)
+        if self.deaf {
+            self.core.lawful();
+            return if self.core.has_due(alloc, number)? {
+                Err(AllocError)
+            } else {
+                Ok(Stepped::Done)
+            };
+        }
+        match self.core.step(alloc, number)? {
+            Stepped::Did => {
+                tell(alloc, self.core.journal(), &mut self.listeners, &mut self.deaf)?;
+                Ok(Stepped::Did)
             }
+            Stepped::Done => Ok(Stepped::Done),
         }
     }
 
@@ -140,21 +166,21 @@ impl<K: Keeper, N: Name> Factory<K, N> {
     pub fn journal(&self) -> &Journal
         ensures { result.now ≡ self.now.journal }
     {
-        &self.journal
+        self.core.journal()
     }
 
     /// The script of this name.
     pub fn script(&self) -> &Script
         ensures { result.now ≡ N.script }
     {
-        &self.script
+        self.core.script()
     }
 
-    /// Whether memory ran out in a call.
+    /// Whether memory ran out in a call, a listener's among them.
     pub fn refused(&self) -> bool
         ensures { result ≡ self.now.refused }
     {
-        self.refused
+        self.core.refused() || self.deaf
     }
 
     /// How many sessions there are.
@@ -162,14 +188,14 @@ impl<K: Keeper, N: Name> Factory<K, N> {
         ensures count { result ≡ length N.script.sessions }
         ensures few { result < 2 ^ 32 }
     {
-        self.script.sessions.len()
+        self.core.sessions()
     }
 
     /// How many orders the schedule has.
     fn orders(&self) -> usize
         ensures count { result ≡ length N.script.schedule }
     {
-        self.script.schedule.len()
+        self.core.orders()
     }
 
     /// An order of the schedule.
@@ -178,14 +204,14 @@ impl<K: Keeper, N: Name> Factory<K, N> {
         ensures order { slice_get N.script.schedule at ≡ Some result }
         ensures sound { IsSound N.script result }
     {
-        *self.script.schedule.at(at)
+        self.core.order(at)
     }
 
     /// The journal obeys the law.
     fn lawful(&self)
         ensures { Obeys N.script N.from.tables (past self.now.journal) }
     {
-        let _ = &self.journal;
+        self.core.lawful();
     }
 
     /// Runs a session for so many steps, or to its end where that comes before; one that isn't there has none. Where memory
@@ -258,65 +284,82 @@ impl<K: Keeper, N: Name> Factory<K, N> {
         Ok(())
     }
 
-    /// Kills a session, if it is open: no act of it is due from then on, and its locks stay until their time is over. Where
-    /// memory runs out nothing has changed but the answer of `refused`.
-    pub fn kill(&mut self, number: SessionNo) -> Result<(), AllocError>
+    /// Kills a session, if it is open: no act of it is due from then on, and its locks stay until their time is over. What
+    /// want of memory leaves is as after `step`.
+    pub fn kill(&mut self, alloc: Global, number: SessionNo) -> Result<(), AllocError>
         ensures played { OnOk result (Leads (play_order N.script (Order.Kill number)) played (past self.old.journal) (past self.new.journal)) }
         ensures closed { is_open number (past self.old.journal) ≡ false → IsOk result }
         ensures outside { outside_count (past self.new.journal) ≤ outside_count (past self.old.journal) + 1 }
         ensures law { Obeys N.script N.from.tables (past self.new.journal) }
         ensures going { OnOk result (self.new.refused ≡ self.old.refused) }
-        ensures same { OnErr result (past self.new.journal ≡ past self.old.journal) }
-        ensures err { OnErr result (self.new ≡ record self.old { journal = self.new.journal; refused = true }) }
+        ensures told { (e : Entry) → past self.new.journal ≡ e ∷ past self.old.journal → AreTold e (is_ok result) self.old.told self.new.told }
+        ensures untold { past self.new.journal ≡ past self.old.journal → self.new.told ≡ self.old.told }
+        ensures same { OnErr result (self.new.deaf ≡ self.old.deaf → past self.new.journal ≡ past self.old.journal) }
+        ensures unheard { OnErr result (self.old.deaf ≡ false → self.new.deaf ≡ true → Leads (play_order N.script (Order.Kill number)) played (past self.old.journal) (past self.new.journal)) }
+        ensures deaf { self.old.deaf ≡ true → self.new ≡ self.old }
+        ensures stands { OnErr result (GoesOn (past self.old.journal) (past self.new.journal)) }
+        ensures asked { OnErr result (self.old.refused ≡ false → IsAskedOnceMore N.from (past self.new.journal) self.new.parts) }
+        ensures refused { OnErr result (self.new.refused ≡ true) }
     {
-        let killed = outside::kill::<K, N>(
-            number,
-            &mut self.sessions,
-            &mut self.parts,
-            &mut self.journal,
-        );
-        if killed.is_err() {
-            self.refused = true;
+        let open = self.core.is_open(number);
+        if self.deaf {
+            self.core.lawful();
+            return if open { Err(AllocError) } else { Ok(()) };
         }
-        killed
+        self.core.kill(number)?;
+        if open {
+            tell(alloc, self.core.journal(), &mut self.listeners, &mut self.deaf)
+        } else {
+            Ok(())
+        }
     }
 
-    /// Evicts a row of a cached entity from its region. Where memory runs out nothing has changed but the answer of `refused`.
+    /// Evicts a row of a cached entity from its region. What want of memory leaves is as after `step`.
     pub fn evict(&mut self, alloc: Global, key: Key) -> Result<(), AllocError>
         requires cached { is_cached N.script key.entity ≡ true }
         ensures played { OnOk result (Leads (play_order N.script (Order.Evict key)) played (past self.old.journal) (past self.new.journal)) }
         ensures outside { outside_count (past self.new.journal) ≤ outside_count (past self.old.journal) + 1 }
         ensures law { Obeys N.script N.from.tables (past self.new.journal) }
         ensures going { OnOk result (self.new.refused ≡ self.old.refused) }
-        ensures same { OnErr result (past self.new.journal ≡ past self.old.journal) }
-        ensures err { OnErr result (self.new ≡ record self.old { journal = self.new.journal; refused = true }) }
+        ensures told { (e : Entry) → past self.new.journal ≡ e ∷ past self.old.journal → AreTold e (is_ok result) self.old.told self.new.told }
+        ensures untold { past self.new.journal ≡ past self.old.journal → self.new.told ≡ self.old.told }
+        ensures same { OnErr result (self.new.deaf ≡ self.old.deaf → past self.new.journal ≡ past self.old.journal) }
+        ensures unheard { OnErr result (self.old.deaf ≡ false → self.new.deaf ≡ true → Leads (play_order N.script (Order.Evict key)) played (past self.old.journal) (past self.new.journal)) }
+        ensures deaf { self.old.deaf ≡ true → self.new ≡ self.old }
+        ensures stands { OnErr result (GoesOn (past self.old.journal) (past self.new.journal)) }
+        ensures asked { OnErr result (self.old.refused ≡ false → IsAskedOnceMore N.from (past self.new.journal) self.new.parts) }
+        ensures refused { OnErr result (self.new.refused ≡ true) }
     {
-        let evicted = outside::evict::<K, N>(alloc, key, &mut self.parts, &mut self.journal);
-        if evicted.is_err() {
-            self.refused = true;
+        if self.deaf {
+            self.core.lawful();
+            return Err(AllocError);
         }
-        evicted
+        self.core.evict(alloc, key)?;
+        tell(alloc, self.core.journal(), &mut self.listeners, &mut self.deaf)
     }
 
-    /// A restart: the sessions that are open are killed, and nothing is cached, locked, stamped or kept any more. Where memory
-    /// runs out nothing has changed but the answer of `refused`.
-    pub fn restart(&mut self) -> Result<(), AllocError>
+    /// A restart: the sessions that are open are killed, and nothing is cached, locked, stamped or kept any more. What want of
+    /// memory leaves is as after `step`.
+    pub fn restart(&mut self, alloc: Global) -> Result<(), AllocError>
         ensures played { OnOk result (Leads (play_order N.script Order.Restart) played (past self.old.journal) (past self.new.journal)) }
         ensures outside { outside_count (past self.new.journal) ≤ outside_count (past self.old.journal) + 1 }
         ensures law { Obeys N.script N.from.tables (past self.new.journal) }
         ensures going { OnOk result (self.new.refused ≡ self.old.refused) }
-        ensures same { OnErr result (past self.new.journal ≡ past self.old.journal) }
-        ensures err { OnErr result (self.new ≡ record self.old { journal = self.new.journal; refused = true }) }
+        ensures told { (e : Entry) → past self.new.journal ≡ e ∷ past self.old.journal → AreTold e (is_ok result) self.old.told self.new.told }
+        ensures untold { past self.new.journal ≡ past self.old.journal → self.new.told ≡ self.old.told }
+        ensures same { OnErr result (self.new.deaf ≡ self.old.deaf → past self.new.journal ≡ past self.old.journal) }
+        ensures unheard { OnErr result (self.old.deaf ≡ false → self.new.deaf ≡ true → Leads (play_order N.script Order.Restart) played (past self.old.journal) (past self.new.journal)) }
+        ensures deaf { self.old.deaf ≡ true → self.new ≡ self.old }
+        ensures stands { OnErr result (GoesOn (past self.old.journal) (past self.new.journal)) }
+        ensures asked { OnErr result (self.old.refused ≡ false → IsAskedOnceMore N.from (past self.new.journal) self.new.parts) }
+        ensures refused { OnErr result (self.new.refused ≡ true) }
     {
-        let restarted = outside::restart::<K, N>(
-            &mut self.sessions,
-            &mut self.parts,
-            &mut self.journal,
-        );
-        if restarted.is_err() {
-            self.refused = true;
+        if self.deaf {
+            self.core.lawful();
+            return Err(AllocError);
         }
-        restarted
+        self.core.restart()?;
+        tell(alloc, self.core.journal(), &mut self.listeners, &mut self.deaf)
     }
 
     /// Carries an order of the schedule out.
@@ -330,12 +373,12 @@ impl<K: Keeper, N: Name> Factory<K, N> {
         ensures asked { OnErr result (self.old.refused ≡ false → IsAskedOnceMore N.from (past self.new.journal) self.new.parts) }
         ensures refused { OnErr result (self.new.refused ≡ true) }
     {
-        let _ = &self.refused;
+        let _ = &self.deaf;
         match order {
             Order::Run { session, steps } => self.run_steps(alloc, session, steps),
-            Order::Kill { session } => self.kill(session),
+            Order::Kill { session } => self.kill(alloc, session),
             Order::Evict { key } => self.evict(alloc, key),
-            Order::Restart => self.restart(),
+            Order::Restart => self.restart(alloc),
         }
     }
 
@@ -374,8 +417,8 @@ impl<K: Keeper, N: Name> Factory<K, N> {
         self.finish(alloc)
     }
 
-    /// The keeper, the script and the journal, with what the factory promises of them.
-    pub fn close(self) -> (K, Script, Journal)
+    /// The keeper, the script, the journal and the listeners that stayed, with what the factory promises of them.
+    pub fn close(self) -> (K, Script, Journal, Vec<L>)
         ensures script { result.1 ≡ N.script }
         ensures journal { result.2 ≡ self.journal }
         ensures legal { IsLegal N.script N.from.tables (past result.2) }
@@ -386,23 +429,15 @@ impl<K: Keeper, N: Name> Factory<K, N> {
         ensures faults { RoseBy N.from.faults (fault_count (past result.2)) (K.faults result.0) }
         ensures count { K.asked result.0 ≡ self.parts.store.asked }
         ensures asked { self.refused ≡ false → RoseWithin N.from.asked (ask_count (past result.2)) (K.asked result.0) }
+        ensures heard { HaveHeard self.deaf result.2.list N.told (tells L.heard L.left result.3.items) }
+        ensures deaf { self.refused ≡ false → self.deaf ≡ false }
     {
-        runs_are_short();
         let Factory {
-            script,
-            parts,
-            sessions: _,
-            journal,
-            refused: _,
-            of: _,
+            core,
+            listeners,
+            deaf: _,
         } = self;
-        let Parts {
-            store,
-            registry: _,
-            stamps: _,
-            regions: _,
-            results: _,
-        } = parts;
-        (store.close(), script, journal)
+        let (keeper, script, journal) = core.close();
+        (keeper, script, journal, listeners.close())
     }
 }

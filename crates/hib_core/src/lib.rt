@@ -7,10 +7,12 @@ mod names;
 mod opening;
 mod outside;
 mod parts;
+mod steps;
 mod turns;
 
 pub use bounds::runs_are_short;
-pub use factory::Factory;
+pub use factory::{Factory, OpenRefused};
 pub use names::Name;
 pub use parts::Parts;
+pub use steps::Core;
 pub use turns::Stepped;

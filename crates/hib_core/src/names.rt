@@ -4,13 +4,18 @@ use std::marker::Brand;
 /// Which factory it is: what it was opened with. Contracts alone see it.
 pub trait Name {
     ghost use Rattle.hib_base.specs.declared.scripts.Script.{Script};
+    ghost use Rattle.std.specs.Prelude.{List};
     ghost use Rattle.hib_core.specs.Standing.{Origin};
+    ghost use Rattle.hib_listeners.specs.Told.{Told};
 
     /// The script.
     ghost script: { Script };
 
     /// The committed rows at the start, where the keeper tells them, and its counts.
     ghost from: { Origin };
+
+    /// What each listener told at the start.
+    ghost told: { List Told };
 }
 
 impl Name for Brand {
@@ -19,4 +24,6 @@ impl Name for Brand {
     ghost script = { record { timeout = 0; results = 0; mapping = []; rows = []; queries = []; sessions = []; schedule = [] } };
 
     ghost from = { record { tables = None; faults = 0; asked = 0 } };
+
+    ghost told = { [] };
 }

@@ -8,7 +8,7 @@ ghost use Rattle.hib_journal.specs.Played.{play_order};
 ghost use Rattle.hib_core.specs.Standing.{outside_entry};
 ghost use Rattle.hib_engines.specs.Registry.{holds};
 ghost use Rattle.hib_core.specs.Bound.{outside_count};
-ghost use Rattle.hib_core.specs.Factory.{IsRun, IsAsked, AreSessions, AreKilled};
+ghost use Rattle.hib_core.specs.Factory.{IsRun, IsAsked, AreSessions, AreKilled, HasGrown};
 ghost use Rattle.hib_core.specs.Playing.{played, Leads};
 ghost use Rattle.hib_session.specs.declared.session.Session.{Session};
 
@@ -61,6 +61,15 @@ fn kill_open(sessions: &mut Vec<Session>, registry: &Registry)
     }
 }
 
+/// Whether a session is open.
+pub fn opened<K: Keeper, N: Name>(number: SessionNo, parts: &Parts<K>, journal: &Journal) -> bool
+    requires run { IsRun N.script N.from (past journal.now) parts.now }
+    ensures { result ≡ is_open number (past journal.now) }
+{
+    let _ = journal;
+    parts.registry.is_open(number)
+}
+
 /// Kills a session, if it is open. Its locks stay until their time is over. Where memory runs out nothing has changed.
 pub fn kill<K: Keeper, N: Name>(
     number: SessionNo,
@@ -75,7 +84,8 @@ pub fn kill<K: Keeper, N: Name>(
     ensures asked { IsAsked N.from (past journal.old) parts.old → IsAsked N.from (past journal.new) parts.new }
     ensures played { OnOk result (Leads (play_order N.script (Order.Kill number)) played (past journal.old) (past journal.new)) }
     ensures outside { outside_count (past journal.new) ≤ outside_count (past journal.old) + 1 }
-    ensures closed { is_open number (past journal.old) ≡ false → IsOk result }
+    ensures closed { is_open number (past journal.old) ≡ false → (IsOk result) × (past journal.new ≡ past journal.old) }
+    ensures grown { OnOk result (is_open number (past journal.old) ≡ true → HasGrown (past journal.old) (past journal.new)) }
     ensures same { OnErr result (past journal.new ≡ past journal.old) }
     ensures parts { OnErr result (parts.new ≡ parts.old) }
     ensures err { OnErr result (sessions.new.items ≡ sessions.old.items) }
@@ -105,6 +115,7 @@ pub fn evict<K: Keeper, N: Name>(
     ensures sessions { (xs : List Session) → AreSessions N.script (past journal.old) xs → AreSessions N.script (past journal.new) xs }
     ensures asked { IsAsked N.from (past journal.old) parts.old → IsAsked N.from (past journal.new) parts.new }
     ensures played { OnOk result (Leads (play_order N.script (Order.Evict key)) played (past journal.old) (past journal.new)) }
+    ensures grown { OnOk result (HasGrown (past journal.old) (past journal.new)) }
     ensures outside { outside_count (past journal.new) ≤ outside_count (past journal.old) + 1 }
     ensures same { OnErr result (past journal.new ≡ past journal.old) }
     ensures parts { OnErr result (parts.new ≡ parts.old) }
@@ -132,6 +143,7 @@ pub fn restart<K: Keeper, N: Name>(
     ensures sessions { AreSessions N.script (past journal.new) sessions.new.items }
     ensures asked { IsAsked N.from (past journal.old) parts.old → IsAsked N.from (past journal.new) parts.new }
     ensures played { OnOk result (Leads (play_order N.script Order.Restart) played (past journal.old) (past journal.new)) }
+    ensures grown { OnOk result (HasGrown (past journal.old) (past journal.new)) }
     ensures outside { outside_count (past journal.new) ≤ outside_count (past journal.old) + 1 }
     ensures same { OnErr result (past journal.new ≡ past journal.old) }
     ensures parts { OnErr result (parts.new ≡ parts.old) }

@@ -46,6 +46,30 @@ fn due_act(alloc: Global, script: &Script, session: &Session) -> Result<Option<A
     Ok(act)
 }
 
+/// Whether an act is due in the session of this number.
+pub fn has_turn<N: Name>(
+    alloc: Global,
+    script: &Script,
+    number: SessionNo,
+    sessions: &[Session],
+    journal: &Journal,
+) -> Result<bool, AllocError>
+    requires script { script.now ≡ N.script }
+    requires known { number < length N.script.sessions }
+    requires queries { HasQueries N.script }
+    requires sessions { AreSessions N.script (past journal.now) sessions.now }
+    ensures due { IfOk result (λ b. b ≡ has_next N.script (past journal.now) number) }
+    ensures killed { was_killed number (past journal.now) ≡ true → result ≡ Ok false }
+{
+    let _ = journal;
+    let session = &sessions[number.0 as usize];
+    if session.was_killed() {
+        return Ok(false);
+    }
+    let due = due_act(alloc, script, session)?;
+    Ok(due.is_some())
+}
+
 /// The answer to an act that is due: the session's own, or that of a part. At an error the parts are as before, but for the
 /// keeper's counts, and so they are where the act brings something to the session.
 fn answer<K: Keeper>(

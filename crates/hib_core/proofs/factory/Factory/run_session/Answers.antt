@@ -2,7 +2,7 @@ use Rattle.std.proofs.Common.{Ok, ap, ◌∙◌}
 use Rattle.hib_journal.specs.Kept.{past}
 use Rattle.hib_core.specs.Playing.{play_all}
 use Rattle.hib_engines.proofs.Outcomes.{err_all}
-use Rattle.hib_core.proofs.Playing.{goes_by, goes_then, goes_same, all_more, others_more, stay_more}
+use Rattle.hib_core.proofs.Playing.{goes_by, goes_then, all_more, others_more, stay_more}
 use Rattle.hib_core.proofs.factory.Factory.run_session.Goals as goal
 
 pub steps-preserved : goal.steps-preserved
@@ -22,7 +22,7 @@ steps-preserved g c =
 pub returns-in_err-step-clause-stands : goal.returns-in_err-step-clause-stands
 returns-in_err-step-clause-stands g c = err_all c.from_residual.result _ (goes_then (past c.args.self.now.journal) (past c.steps.self.journal) (past c.step.new.self.journal)
     (goes_by (play_all g.N.Name.script c.args.number) (play_all g.N.Name.script c.args.number) (past c.args.self.now.journal) (past c.steps.self.journal) c.steps.invariant.played)
-    (goes_same (past c.steps.self.journal) (past c.step.new.self.journal) c.in_err-step.ensures.same))
+    c.in_err-step.ensures.stands)
 
 pub returns-in_err-step-clause-asked : goal.returns-in_err-step-clause-asked
 returns-in_err-step-clause-asked g c = err_all c.from_residual.result _ (λ p. c.in_err-step.ensures.asked (c.steps.invariant.going ∙ p))

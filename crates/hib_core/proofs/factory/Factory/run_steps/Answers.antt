@@ -2,7 +2,7 @@ use Rattle.std.proofs.Common.{◌≤◌, ℕ, ◌+◌, length, Ok, ap, subst, �
 use Rattle.hib_journal.specs.Kept.{past}
 use Rattle.hib_journal.specs.Played.{play_steps}
 use Rattle.hib_engines.proofs.Outcomes.{err_all}
-use Rattle.hib_core.proofs.Playing.{goes_by, goes_then, goes_same, steps_more, steps_over, steps_done, unknown_leads}
+use Rattle.hib_core.proofs.Playing.{goes_by, goes_then, steps_more, steps_over, steps_done, unknown_leads}
 use Rattle.hib_core.proofs.factory.Factory.run_steps.Goals as goal
 
 pub returns-in-Done-clause-played : goal.returns-in-Done-clause-played
@@ -31,7 +31,7 @@ returns-then-number-sessions-clause-played g c =
 pub returns-in_err-step-clause-stands : goal.returns-in_err-step-clause-stands
 returns-in_err-step-clause-stands g c = err_all c.from_residual.result _ (goes_then (past c.args.self.now.journal) (past c.loop-step.self.journal) (past c.step.new.self.journal)
     (goes_by (play_steps g.N.Name.script c.args.number (c.loop-step.step + 0)) (play_steps g.N.Name.script c.args.number 0) (past c.args.self.now.journal) (past c.loop-step.self.journal) (c.loop-step.invariant.played 0))
-    (goes_same (past c.loop-step.self.journal) (past c.step.new.self.journal) c.in_err-step.ensures.same))
+    c.in_err-step.ensures.stands)
 
 pub returns-in_err-step-clause-asked : goal.returns-in_err-step-clause-asked
 returns-in_err-step-clause-asked g c = err_all c.from_residual.result _ (λ p. c.in_err-step.ensures.asked (c.loop-step.invariant.going ∙ p))

@@ -8,7 +8,7 @@ use Rattle.hib_engines.specs.Region.{empty}
 use Rattle.hib_core.specs.Standing.{Origin, told_start}
 use Rattle.hib_core.specs.Factory.{AreSessions, IsBuilt}
 use Rattle.hib_core.proofs.Begun.{standing_begins, parts_begin}
-use Rattle.hib_core.proofs.factory.Factory.open.Goals as goal
+use Rattle.hib_core.proofs.steps.Core.open.Goals as goal
 
 pub invariant_of-result : goal.invariant_of-result
 invariant_of-result g c =
