@@ -6,3 +6,6 @@ mod parse;
 mod words;
 
 pub use words::{Command, Options, read};
+
+#[cfg(test)]
+mod tests;
