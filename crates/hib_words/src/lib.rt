@@ -3,8 +3,10 @@
 
 mod forms;
 mod parse;
+mod texts;
 mod words;
 
+pub use texts::{VERSION, help};
 pub use words::{Command, Options, read};
 
 #[cfg(test)]

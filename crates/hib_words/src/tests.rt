@@ -1,4 +1,4 @@
-use crate::read;
+use crate::{help, read};
 use std::test::Fail;
 
 #[test]
@@ -15,5 +15,12 @@ fn refuses_many_words(rt: HostRuntime) -> Result<(), Fail> {
     let alloc = rt.alloc();
     let words = vec![in alloc; String::from_str(alloc, "audit")?; 100_000]?;
     assert!(rt; read(alloc, &words)?.is_none());
+    Ok(())
+}
+
+#[test]
+fn helps(rt: HostRuntime) -> Result<(), Fail> {
+    let text = help(rt.alloc())?;
+    assert!(rt; text.as_str().contains("\nUsage: hib play"), "{text}");
     Ok(())
 }
