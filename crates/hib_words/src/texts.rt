@@ -69,6 +69,16 @@ impl Verb {
         }
     }
 
+    /// The program's name and its word.
+    fn full_name<'a>(self) -> &'a str {
+        match self {
+            Verb::Play => "hib play",
+            Verb::Work => "hib work",
+            Verb::Make => "hib make",
+            Verb::Audit => "hib audit",
+        }
+    }
+
     /// What the help says of it.
     fn about<'a>(self) -> &'a str {
         match self {
@@ -102,8 +112,8 @@ impl OptionName {
 const VERBS: [Verb; 4] = [Verb::Play, Verb::Work, Verb::Make, Verb::Audit];
 
 /// A command with its options that are built, as the help shows them.
-fn shown<'a>(alloc: Global, verb: Verb) -> Result<Command<'a>, AllocError> {
-    let mut command = Command::new(alloc, verb.word()).disable_help_flag(true);
+fn shown<'a>(alloc: Global, verb: Verb, name: &'a str) -> Result<Command<'a>, AllocError> {
+    let mut command = Command::new(alloc, name).disable_help_flag(true);
     for option in verb.options() {
         if option.is_built() {
             command = command.arg(option.arg(alloc).required(option.is_required()))?;
@@ -120,39 +130,65 @@ fn lone_word<'a>(alloc: Global, name: &'a str, help: &'a str) -> Arg<'a> {
         .help(help)
 }
 
-/// The program as the help shows it, with its commands.
+/// The program as the help shows it, without its commands.
 fn program<'a>(alloc: Global) -> Result<Command<'a>, AllocError> {
-    let mut program = Command::new(alloc, "hib")
+    let help = lone_word(alloc, "help", "Prints this text");
+    let version = lone_word(alloc, "version", "Prints the version");
+    Command::new(alloc, "hib")
         .about(ABOUT)
         .override_usage("hib <COMMAND> [OPTIONS]")
         .disable_help_flag(true)
         .disable_help_subcommand(true)
-        .arg(lone_word(alloc, "help", "Prints this text"))?
-        .arg(lone_word(alloc, "version", "Prints the version"))?;
-    for verb in VERBS {
-        if verb.is_built() {
-            program = program.subcommand(shown(alloc, verb)?.about(verb.about()))?;
-        }
-    }
-    Ok(program)
+        .arg(help)?
+        .arg(version)
 }
 
-/// Adds what the help says of a command of its own.
-fn add_command(alloc: Global, text: &mut String, verb: Verb) -> Result<(), AllocError> {
-    let name = format!(in alloc; "hib {}", verb.word())?;
-    let mut command = shown(alloc, verb)?.bin_name(name.as_str())?;
+/// The program with one command more, if that is built.
+fn with_command<'a>(
+    alloc: Global,
+    program: Command<'a>,
+    verb: Verb,
+) -> Result<Command<'a>, AllocError> {
+    if !verb.is_built() {
+        return Ok(program);
+    }
+    let command = shown(alloc, verb, verb.word())?;
+    program.subcommand(command.about(verb.about()))
+}
+
+/// What clap says of the program and its commands.
+fn overview(alloc: Global) -> Result<String, AllocError> {
+    let mut program = program(alloc)?;
+    for verb in VERBS {
+        program = with_command(alloc, program, verb)?;
+    }
+    program.render_help()
+}
+
+/// What clap says of a command alone; nothing if it isn't built.
+fn section(alloc: Global, verb: Verb) -> Result<String, AllocError> {
+    if !verb.is_built() {
+        return Ok(String::new(alloc));
+    }
+    let mut command = shown(alloc, verb, verb.full_name())?;
+    command.render_help()
+}
+
+fn add_section(alloc: Global, text: &mut String, verb: Verb) -> Result<(), AllocError> {
+    let section = section(alloc, verb)?;
+    if section.is_empty() {
+        return Ok(());
+    }
     text.push_str("\n")?;
-    text.push_str(command.render_help()?.as_str())
+    text.push_str(section.as_str())
 }
 
 /// The text of `--help`: clap's own for the commands and options that are built, and then what a user has to know besides. The
 /// only error is want of memory.
 pub fn help(alloc: Global) -> Result<String, AllocError> {
-    let mut text = program(alloc)?.render_help()?;
+    let mut text = overview(alloc)?;
     for verb in VERBS {
-        if verb.is_built() {
-            add_command(alloc, &mut text, verb)?;
-        }
+        add_section(alloc, &mut text, verb)?;
     }
     text.push_str(AFTER_HELP)?;
     Ok(text)
