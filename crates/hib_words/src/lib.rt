@@ -8,6 +8,3 @@ mod words;
 
 pub use texts::{VERSION, help};
 pub use words::{Command, Options, read};
-
-#[cfg(test)]
-mod tests;
