@@ -1,14 +1,19 @@
 -- What the getters read from the entries of a parse.
 use Rattle.std.proofs.Common.{◌≡◌, ◌∙◌, ◌||◌, Bool, cond, true, false, refl, sym, ap, subst, List, [], ◌∷◌, ◌++◌, map, Option, Some, None, true≢false, append-nil}
-use Rattle.std.specs.Prelude.{codes, is_some, option_and_then, find, slice_get}
-use Rattle.std.specs.List.{fold}
+use Rattle.std.specs.Prelude.{◌&&◌, not, codes, is_some, option_and_then, find, slice_get}
+use Rattle.std.specs.List.{fold, list_any}
 use Rattle.std.specs.Str.{bytes_eq}
 use Rattle.clap.specs.Walk.{Row, first_of, has_row, more_values, one_of, row_text, with_default}
 use Rattle.clap.specs.declared.builder.value_parser.Reading.TheVariants.{AsWritten}
 use Rattle.clap.specs.declared.parser.matches.ValueSource.TheVariants.{DefaultValue}
-use Rattle.hib_words.specs.Given.{Text, Form, Given, IsProper, Read, add, and_then, as_option, begins_with_hyphen, has_flag, is_given, options_from, read_named, read_option, read_word, takes_value, value_of}
+use Rattle.hib_words.specs.Given.{Text, Form, Given, Read, add, and_then, as_option, begins_with_hyphen, is_given, options_from, read_named, read_option, read_word, takes_value, value_of}
+use Rattle.hib_words.specs.Matched.{IsProper}
 use Rattle.hib_words.specs.Clap.{built_rule, built_rules, given_row, rows_for}
 use Rattle.hib_words.proofs.Finds.{at_new_row, bytes_eq-refl, bytes_eq-same, has_given_row}
+
+-- the form has a flag of this name
+abbrev pub has_flag : Form → Text → Bool
+has_flag form name = list_any (λ o. not o.1 && bytes_eq o.0 name) form
 
 -- ---- what was given is of the form
 

@@ -3,7 +3,7 @@ use Rattle.clap.specs.declared.parser.matches.ArgMatches.{ArgMatches}
 use Rattle.hib_words.specs.Matched.{HoldsGiven}
 use Rattle.hib_words.specs.Commands.{form_of}
 use Rattle.hib_words.specs.Given.{options_in}
-use Rattle.hib_words.proofs.Options_read.{all_read}
+use Rattle.hib_words.proofs.OptionsByName.{all_read}
 use Rattle.hib_words.proofs.parse.parse.Goals as goal
 
 pub returns : goal.returns

@@ -7,14 +7,14 @@ use Rattle.clap.specs.Matches.{first_value, found_of, one_text}
 use Rattle.clap.specs.Walk.{first_of, one_of, rows_of}
 use Rattle.clap.specs.declared.parser.matches.ArgMatches.{ArgMatches}
 use Rattle.clap.proofs.WalkLemmas.{first_value-rows, one_text-rows}
-use Rattle.hib_words.specs.Given.{Text, Form, Given, IsProper, has_flag, is_given, takes_value, value_of}
+use Rattle.hib_words.specs.Given.{Text, Form, Given, is_given, takes_value, value_of}
 use Rattle.hib_words.specs.Clap.{rows_for}
 use Rattle.hib_words.specs.Commands.{Chosen, chosen_in, form_of, word_of}
-use Rattle.hib_words.specs.Matched.{HoldsGiven}
+use Rattle.hib_words.specs.Matched.{HoldsGiven, IsProper}
 use Rattle.hib_words.specs.declared.forms.OptionName.TheVariants as name
 use Rattle.hib_words.specs.declared.forms.Verb.{Verb}
 use Rattle.hib_words.specs.declared.forms.Verb.TheVariants.{Play, Work, Make, Audit}
-use Rattle.hib_words.proofs.Getters.{flag_given, flag_not_given, value_given}
+use Rattle.hib_words.proofs.Getters.{has_flag, flag_given, flag_not_given, value_given}
 
 -- what `get_flag` and `get_str` ensure
 pub record ReadsFlag (m : ArgMatches) (id : Text) (b : Bool) : Type 0 where
