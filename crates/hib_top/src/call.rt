@@ -4,7 +4,7 @@ ghost use Rattle.hib_journal.specs.Kept.{past};
 ghost use Rattle.hib_journal.specs.Runs.{ask_count, fault_count};
 ghost use Rattle.hib_outside.specs.Causes.{Rose};
 ghost use Rattle.hib_top.specs.Words.{have_form};
-ghost use Rattle.hib_top.specs.Play.{Plays, HasScript, IsCompleted};
+ghost use Rattle.hib_top.specs.Play.{Plays, HasScript, IsCompleted, IsIdle};
 ghost use Rattle.hib_core.specs.Standing.{RoseBy, RoseWithin};
 ghost use Rattle.hib_top.specs.Streams.{ReadsFew};
 
@@ -30,6 +30,7 @@ pub fn top<R: Threads + Wait + Sync, S: Source, W: Sink, K: Keeper, G: Gate, L: 
     ensures run { Plays result.status (S.left script.old) (S.left script.new) (K.tables keeper) (K.tables result.keeper) result.journal (W.taken out.old) (W.taken out.new) }
     ensures usage { result.status ≢ Status.NoMemory → ((result.status ≡ Status.Usage) ↔ (have_form words.now ≡ false)) }
     ensures unread { have_form words.now ≡ false → (S.left script.new ≡ S.left script.old) × (S.faults script.new ≡ S.faults script.old) }
+    ensures idle { have_form words.now ≡ false → IsIdle (K.tables keeper) (K.tables result.keeper) result.journal (W.taken out.old) (W.taken out.new) }
     ensures read { result.status ≡ Status.ReadFault → Rose (S.faults script.old) (S.faults script.new) }
     ensures write { result.status ≡ Status.WriteFault → Rose (W.faults out.old) (W.faults out.new) }
     ensures long { result.status ≡ Status.TooLong → IfSome (S.left script.old) (λ bytes. LIMIT < length bytes) }

@@ -9,7 +9,7 @@ ghost use Rattle.hib_base.specs.Valid.{is_valid};
 ghost use Rattle.hib_top.specs.Streams.{ReadsFew};
 ghost use Rattle.hib_top.specs.Words.{have_form, is_built};
 ghost use Rattle.hib_words.specs.Commands.{asked_of};
-ghost use Rattle.hib_top.specs.Play.{Plays, Runs, IsWritten, IsAfterRun, HasScript, IsCompleted};
+ghost use Rattle.hib_top.specs.Play.{Plays, Runs, IsIdle, IsWritten, IsAfterRun, HasScript, IsCompleted};
 
 use crate::run::{End, Ran, run};
 use crate::status::Status;
@@ -177,6 +177,7 @@ pub fn play_words<S: Source, W: Sink, K: Keeper, L: Listener>(
     ensures run { Plays result.status (S.left script.old) (S.left script.new) (K.tables keeper) (K.tables result.keeper) result.journal (W.taken out.old) (W.taken out.new) }
     ensures usage { result.status ≢ Status.NoMemory → ((result.status ≡ Status.Usage) ↔ (have_form words.now ≡ false)) }
     ensures unread { have_form words.now ≡ false → (S.left script.new ≡ S.left script.old) × (S.faults script.new ≡ S.faults script.old) }
+    ensures idle { have_form words.now ≡ false → IsIdle (K.tables keeper) (K.tables result.keeper) result.journal (W.taken out.old) (W.taken out.new) }
     ensures read { result.status ≡ Status.ReadFault → Rose (S.faults script.old) (S.faults script.new) }
     ensures write { result.status ≡ Status.WriteFault → Rose (W.faults out.old) (W.faults out.new) }
     ensures long { result.status ≡ Status.TooLong → IfSome (S.left script.old) (λ bytes. LIMIT < length bytes) }
