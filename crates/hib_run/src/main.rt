@@ -4,31 +4,10 @@
 use hib_base::Seq;
 use hib_outside::{Listener, MemKeeper, OpenGate, StdSink, StdSource};
 use hib_top::{Status, status_line, top};
+use hib_words::{VERSION, help};
 use std::alloc::Global;
 use std::process::ExitCode;
 use std::{env, io};
-
-const VERSION: &str = "hib 0.1";
-
-const HELP: &str =
-    "hib runs sessions over a store with a second-level cache, and prints each atomic step.
-
-usage:
-  hib play        reads a script from standard input, runs it, and prints the report of its journal
-  hib --help      prints this text
-  hib --version   prints the version
-
-exit status:
-  0   all was done
-  2   the words are no command
-  3   the input is no script; the first bad line is named on standard error
-  4   reading failed
-  5   writing failed
-  6   the input has more than 1,048,576 bytes
-  8   memory ran out
-  9   the store didn't take the script's rows
-
-docs/SCRIPT.md tells what a script may say.";
 
 fn main(rt: HostRuntime) -> io::Result<ExitCode> {
     let alloc = rt.alloc();
@@ -54,9 +33,9 @@ fn main(rt: HostRuntime) -> io::Result<ExitCode> {
         )),
         Err(error) => return Err(error),
     }
-    if let Some(text) = text_asked(&words) {
-        rt.println(text)?;
-        return Ok(ExitCode::from(0));
+    if let Some(topic) = topic_asked(&words) {
+        let status = print_topic(&rt, alloc, topic);
+        return Ok(told(&rt, alloc, status));
     }
     let mut source = StdSource {
         inner: rt.reader(),
@@ -81,15 +60,39 @@ fn main(rt: HostRuntime) -> io::Result<ExitCode> {
     Ok(told(&rt, alloc, ended.status))
 }
 
-/// The text that the words ask for, where they ask for help or the version alone.
-fn text_asked(words: &[String]) -> Option<&'static str> {
+/// What main itself answers.
+enum Topic {
+    Help,
+    Version,
+}
+
+/// What the words ask of main itself: help or the version, each as the only word.
+fn topic_asked(words: &[String]) -> Option<Topic> {
     let [word] = words else {
         return None;
     };
     match word.as_str() {
-        "--help" => Some(HELP),
-        "--version" => Some(VERSION),
+        "--help" => Some(Topic::Help),
+        "--version" => Some(Topic::Version),
         _ => None,
+    }
+}
+
+/// Prints what is asked for on standard output, and answers how that ended.
+fn print_topic(rt: &impl Print, alloc: Global, topic: Topic) -> Status {
+    match topic {
+        Topic::Help => match help(alloc) {
+            Ok(text) => print_text(rt, text.as_str()),
+            Err(_) => Status::NoMemory,
+        },
+        Topic::Version => print_text(rt, VERSION),
+    }
+}
+
+fn print_text(rt: &impl Print, text: &str) -> Status {
+    match rt.print(text) {
+        Ok(()) => Status::Done,
+        Err(_) => Status::WriteFault,
     }
 }
 

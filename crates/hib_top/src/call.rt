@@ -1,10 +1,10 @@
 // The call that main makes.
-ghost use Rattle.std.specs.Prelude.{◌+◌, ◌≡◌, ◌≢◌, ◌<◌, ◌↔◌, length, IfSome};
+ghost use Rattle.std.specs.Prelude.{◌+◌, ◌≡◌, ◌≢◌, ◌<◌, ◌↔◌, false, length, true, IfSome};
 ghost use Rattle.hib_journal.specs.Kept.{past};
 ghost use Rattle.hib_journal.specs.Runs.{ask_count, fault_count};
 ghost use Rattle.hib_outside.specs.Causes.{Rose};
-ghost use Rattle.hib_top.specs.Words.{IsPlay};
-ghost use Rattle.hib_top.specs.Play.{Plays, HasScript, IsCompleted};
+ghost use Rattle.hib_top.specs.Words.{have_form};
+ghost use Rattle.hib_top.specs.Play.{Plays, HasScript, IsCompleted, IsIdle};
 ghost use Rattle.hib_core.specs.Standing.{RoseBy, RoseWithin};
 ghost use Rattle.hib_top.specs.Streams.{ReadsFew};
 
@@ -28,8 +28,9 @@ pub fn top<R: Threads + Wait + Sync, S: Source, W: Sink, K: Keeper, G: Gate, L: 
     listeners: Vec<L>,
 ) -> Ended<K, L>
     ensures run { Plays result.status (S.left script.old) (S.left script.new) (K.tables keeper) (K.tables result.keeper) result.journal (W.taken out.old) (W.taken out.new) }
-    ensures usage { (result.status ≡ Status.Usage) ↔ (IsPlay words.now → ⊥) }
-    ensures unread { result.status ≡ Status.Usage → (S.left script.new ≡ S.left script.old) × (S.faults script.new ≡ S.faults script.old) }
+    ensures usage { result.status ≢ Status.NoMemory → ((result.status ≡ Status.Usage) ↔ (have_form words.now ≡ false)) }
+    ensures unread { have_form words.now ≡ false → (S.left script.new ≡ S.left script.old) × (S.faults script.new ≡ S.faults script.old) }
+    ensures idle { have_form words.now ≡ false → IsIdle (K.tables keeper) (K.tables result.keeper) result.journal (W.taken out.old) (W.taken out.new) }
     ensures read { result.status ≡ Status.ReadFault → Rose (S.faults script.old) (S.faults script.new) }
     ensures write { result.status ≡ Status.WriteFault → Rose (W.faults out.old) (W.faults out.new) }
     ensures long { result.status ≡ Status.TooLong → IfSome (S.left script.old) (λ bytes. LIMIT < length bytes) }
@@ -41,7 +42,7 @@ pub fn top<R: Threads + Wait + Sync, S: Source, W: Sink, K: Keeper, G: Gate, L: 
     // At most one piece of 4,096 bytes beyond the limit is read.
     ensures taken { ReadsFew 1052672 (S.left script.old) (S.left script.new) }
     // A script is run to its end where source and sink don't fail, unless memory runs out or the keeper doesn't take its rows.
-    ensures complete { IsPlay words.now → HasScript (S.left script.old) → (Rose (S.faults script.old) (S.faults script.new) → ⊥)
+    ensures complete { have_form words.now ≡ true → HasScript (S.left script.old) → (Rose (S.faults script.old) (S.faults script.new) → ⊥)
         → (Rose (W.faults out.old) (W.faults out.new) → ⊥) → IsCompleted result.status }
     // The listeners are handed back untold.
     ensures listeners { result.listeners ≡ listeners }

@@ -1,5 +1,5 @@
 // The top call.
-ghost use Rattle.std.specs.Prelude.{◌+◌, ◌≡◌, ◌≢◌, ◌<◌, ◌↔◌, [], length, true, IsTrue, IfSome};
+ghost use Rattle.std.specs.Prelude.{◌+◌, ◌≡◌, ◌≢◌, ◌<◌, ◌↔◌, [], length, false, true, IfOk, IfSome};
 ghost use Rattle.hib_journal.specs.Kept.{past};
 ghost use Rattle.hib_journal.specs.Runs.{ask_count, fault_count};
 ghost use Rattle.hib_core.specs.Standing.{RoseBy, RoseWithin};
@@ -7,8 +7,9 @@ ghost use Rattle.hib_outside.specs.Causes.{Rose};
 ghost use Rattle.hib_report.specs.Report.{report};
 ghost use Rattle.hib_base.specs.Valid.{is_valid};
 ghost use Rattle.hib_top.specs.Streams.{ReadsFew};
-ghost use Rattle.hib_top.specs.Words.{IsPlay};
-ghost use Rattle.hib_top.specs.Play.{Plays, Runs, IsWritten, IsAfterRun, HasScript, IsCompleted};
+ghost use Rattle.hib_top.specs.Words.{have_form, is_built};
+ghost use Rattle.hib_words.specs.Commands.{asked_of};
+ghost use Rattle.hib_top.specs.Play.{Plays, Runs, IsIdle, IsWritten, IsAfterRun, HasScript, IsCompleted};
 
 use crate::run::{End, Ran, run};
 use crate::status::Status;
@@ -17,7 +18,8 @@ use hib_base::Script;
 use hib_journal::Journal;
 use hib_outside::{Keeper, Listener, Sink, Source};
 use hib_script::ScriptError;
-use std::alloc::Global;
+use hib_words::Command;
+use std::alloc::{AllocError, Global};
 
 /// What a call of the program hands back.
 #[derive(Drop)]
@@ -39,10 +41,24 @@ struct Played<K> {
     journal: Journal,
 }
 
-fn is_play(words: &[String]) -> bool
-    ensures { IsTrue result ↔ IsPlay words.now }
+/// The program does it today: play, without an option.
+fn is_built(command: &Command) -> bool
+    ensures { result ≡ is_built (asked_of command.now) }
 {
-    words.len() == 1 && words[0].as_str() == "play"
+    match command {
+        Command::Play { options } => !options.journal && !options.trace && options.file.is_none(),
+        _ => false,
+    }
+}
+
+/// The words are a command, and it is built.
+fn have_form(alloc: Global, words: &[String]) -> Result<bool, AllocError>
+    ensures { IfOk result (λ is. is ≡ have_form words.now) }
+{
+    match hib_words::read(alloc, words)? {
+        Some(command) => Ok(is_built(&command)),
+        None => Ok(false),
+    }
 }
 
 /// Writes the report of a run.
@@ -143,7 +159,8 @@ fn play<S: Source, W: Sink, K: Keeper>(
 }
 
 /// Does what the words say; it takes no lock and returns. The one word `play` has a form: it reads a script from
-/// the source, runs it over the keeper and writes the report of its journal to the sink.
+/// the source, runs it over the keeper and writes the report of its journal to the sink. Where the words have no form
+/// nothing is read.
 ///
 /// Whatever the status, the journal handed back is legal for the script that the text is, from the keeper's tables as
 /// they were handed in and the script's rows beside them, and obeys the law; its k-th entry has tick k, and the keeper's
@@ -158,8 +175,9 @@ pub fn play_words<S: Source, W: Sink, K: Keeper, L: Listener>(
     listeners: Vec<L>,
 ) -> Ended<K, L>
     ensures run { Plays result.status (S.left script.old) (S.left script.new) (K.tables keeper) (K.tables result.keeper) result.journal (W.taken out.old) (W.taken out.new) }
-    ensures usage { (result.status ≡ Status.Usage) ↔ (IsPlay words.now → ⊥) }
-    ensures unread { result.status ≡ Status.Usage → (S.left script.new ≡ S.left script.old) × (S.faults script.new ≡ S.faults script.old) }
+    ensures usage { result.status ≢ Status.NoMemory → ((result.status ≡ Status.Usage) ↔ (have_form words.now ≡ false)) }
+    ensures unread { have_form words.now ≡ false → (S.left script.new ≡ S.left script.old) × (S.faults script.new ≡ S.faults script.old) }
+    ensures idle { have_form words.now ≡ false → IsIdle (K.tables keeper) (K.tables result.keeper) result.journal (W.taken out.old) (W.taken out.new) }
     ensures read { result.status ≡ Status.ReadFault → Rose (S.faults script.old) (S.faults script.new) }
     ensures write { result.status ≡ Status.WriteFault → Rose (W.faults out.old) (W.faults out.new) }
     ensures long { result.status ≡ Status.TooLong → IfSome (S.left script.old) (λ bytes. LIMIT < length bytes) }
@@ -171,7 +189,7 @@ pub fn play_words<S: Source, W: Sink, K: Keeper, L: Listener>(
     // At most one piece of 4,096 bytes beyond the limit is read.
     ensures taken { ReadsFew 1052672 (S.left script.old) (S.left script.new) }
     // A script is run to its end where source and sink don't fail, unless memory runs out or the keeper doesn't take its rows.
-    ensures complete { IsPlay words.now → HasScript (S.left script.old) → (Rose (S.faults script.old) (S.faults script.new) → ⊥)
+    ensures complete { have_form words.now ≡ true → HasScript (S.left script.old) → (Rose (S.faults script.old) (S.faults script.new) → ⊥)
         → (Rose (W.faults out.old) (W.faults out.new) → ⊥) → IsCompleted result.status }
     // The listeners are handed back untold.
     ensures listeners { result.listeners ≡ listeners }
@@ -180,10 +198,10 @@ pub fn play_words<S: Source, W: Sink, K: Keeper, L: Listener>(
         status,
         keeper,
         journal,
-    } = if is_play(words) {
-        play(alloc, script, out, keeper)
-    } else {
-        stop(alloc, Status::Usage, keeper)
+    } = match have_form(alloc, words) {
+        Ok(true) => play(alloc, script, out, keeper),
+        Ok(false) => stop(alloc, Status::Usage, keeper),
+        Err(_) => stop(alloc, Status::NoMemory, keeper),
     };
     Ended {
         status,

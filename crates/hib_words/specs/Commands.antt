@@ -1,0 +1,138 @@
+-- The command that words are.
+use Rattle.std.specs.Prelude.{ℕ, ◌==◌, ◌&&◌, Bool, true, false, not, List, [], ◌∷◌, Option, Some, None}
+use Rattle.std.specs.Prelude.{if◌then◌else◌, option_map, option_and_then, nat_le, nat_lt, string_bytes, codes, length, map, slice_index}
+use Rattle.std.specs.Option.{option_map_or}
+use Rattle.std.specs.Char.{is_ascii_digit}
+use Rattle.std.specs.List.{list_all}
+use Rattle.std.specs.Str.{bytes_eq}
+use Rattle.std.specs.Str.Parse.{digits_value}
+use Rattle.hib_words.specs.Given.{Text, Form, Given, is_given, options_in, value_of}
+use Rattle.hib_words.specs.declared.forms.OptionName.{OptionName}
+use Rattle.hib_words.specs.declared.forms.OptionName.TheVariants as name
+use Rattle.hib_words.specs.declared.forms.Verb.{Verb}
+use Rattle.hib_words.specs.declared.forms.Verb.TheVariants.{Play, Work, Make, Audit}
+use Rattle.hib_words.specs.declared.words.Command.{Command}
+use Rattle.hib_words.specs.declared.words.Command.TheVariants as variant
+use Rattle.hib_words.specs.declared.words.Options.{Options}
+
+-- ---- the forms: a command more is a line of verb_word, options_of and asked; an option more is a line of word_of and its place in
+-- options_of
+
+abbrev pub verb_word : Verb → Text
+verb_word Play = codes "play"
+verb_word Work = codes "work"
+verb_word Make = codes "make"
+verb_word Audit = codes "audit"
+
+abbrev pub word_of : OptionName → Text
+word_of name.Journal = codes "journal"
+word_of name.File = codes "file"
+word_of name.Trace = codes "trace"
+word_of name.Workers = codes "workers"
+word_of name.Seed = codes "seed"
+word_of name.Text = codes "text"
+
+abbrev pub is_valued : OptionName → Bool
+is_valued name.File = true
+is_valued name.Workers = true
+is_valued name.Seed = true
+is_valued _ = false
+
+abbrev pub options_of : Verb → List OptionName
+options_of Play = name.Journal ∷ name.File ∷ name.Trace ∷ []
+options_of Work = name.Workers ∷ name.Journal ∷ name.File ∷ name.Trace ∷ []
+options_of Make = name.Seed ∷ name.Text ∷ []
+options_of Audit = []
+
+abbrev pub form_of : Verb → Form
+form_of verb = map (λ o. (word_of o, is_valued o)) (options_of verb)
+
+-- the command that the first word names
+abbrev pub verb_named : Text → Option Verb
+verb_named word =
+    if bytes_eq word (verb_word Play) then Some Play
+    else if bytes_eq word (verb_word Work) then Some Work
+    else if bytes_eq word (verb_word Make) then Some Make
+    else if bytes_eq word (verb_word Audit) then Some Audit
+    else None
+
+-- ---- values
+
+-- not empty, and its first byte is no hyphen (45)
+abbrev pub is_value : Text → Bool
+is_value text = nat_lt 0 (length text) && not (slice_index text 0 == 45)
+
+-- decimal digits, with no sign and no leading zero (48)
+abbrev pub is_numeral : Text → Bool
+is_numeral text = not (nat_lt 1 (length text) && slice_index text 0 == 48)
+    && (nat_lt 0 (length text) && list_all is_ascii_digit text)
+
+abbrev pub in_range : ℕ → ℕ → ℕ → Option ℕ
+in_range low high n = if nat_le low n && nat_le n high then Some n else None
+
+-- the number that a text is, from low to high
+abbrev pub number_between : ℕ → ℕ → Text → Option ℕ
+number_between low high text = if is_numeral text then in_range low high (digits_value 10 text) else None
+
+-- ---- commands
+
+-- the options that were given, each by its name
+pub record Chosen : Type 0 where
+  pub journal : Bool
+  pub trace : Bool
+  pub text : Bool
+  pub file : Option Text
+  pub workers : Option Text
+  pub seed : Option Text
+
+abbrev pub chosen_in : Given → Chosen
+chosen_in given = record {
+  journal = is_given (word_of name.Journal) given;
+  trace = is_given (word_of name.Trace) given;
+  text = is_given (word_of name.Text) given;
+  file = value_of (word_of name.File) given;
+  workers = value_of (word_of name.Workers) given;
+  seed = value_of (word_of name.Seed) given;
+}
+
+-- the options of play and work
+pub record Settings : Type 0 where
+  pub journal : Bool
+  pub trace : Bool
+  pub file : Option Text
+
+-- what a command line asks for
+pub data Asked : Type 0 where
+  play : Settings → Asked
+  work : ℕ → Settings → Asked
+  make : ℕ → Bool → Asked
+  audit : Asked
+
+-- none where the file's path is no value
+abbrev pub settings_in : Chosen → Option Settings
+settings_in chosen = if option_map_or is_value chosen.file true
+    then Some (record { journal = chosen.journal; trace = chosen.trace; file = chosen.file }) else None
+
+-- what a verb asks for with these options; none where a number is missing or out of its range, or a value is none
+abbrev pub asked : Verb → Chosen → Option Asked
+asked Play chosen = option_map play (settings_in chosen)
+asked Work chosen = option_and_then (λ n. option_map (work n) (settings_in chosen)) (option_and_then (number_between 1 64) chosen.workers)
+asked Make chosen = option_map (λ n. make n chosen.text) (option_and_then (number_between 0 4294967295) chosen.seed)
+asked Audit chosen = Some audit
+
+-- the command that words are, without the program's name; none where they have no form
+abbrev pub command : List Text → Option Asked
+command [] = None
+command (word ∷ rest) = option_and_then (λ verb. option_and_then (λ given. asked verb (chosen_in given))
+    (options_in (form_of verb) rest)) (verb_named word)
+
+-- ---- a command of the program, with its path as a text
+
+abbrev pub settings_of : Options → Settings
+settings_of o = record { journal = o.journal; trace = o.trace; file = option_map string_bytes o.file }
+
+abbrev pub asked_of : Command → Asked
+asked_of (variant.Play options) = play (settings_of options)
+asked_of (variant.Work workers options) = work workers (settings_of options)
+asked_of (variant.Make seed text) = make seed text
+asked_of variant.Audit = audit

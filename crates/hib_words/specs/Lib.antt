@@ -1,0 +1,4 @@
+pub mod Given
+pub mod Commands
+pub mod Clap
+pub mod Matched

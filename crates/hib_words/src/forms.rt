@@ -1,0 +1,153 @@
+// The commands with their options, and the commands of clap that read them.
+ghost use Rattle.std.specs.Prelude.{◌≡◌, false, is_some, IfOk};
+ghost use Rattle.clap.specs.Words.{app_of, rule_of};
+ghost use Rattle.hib_words.specs.Clap.{app_for, rule_for};
+ghost use Rattle.hib_words.specs.Commands.{form_of, options_of, is_valued, verb_named, verb_word, word_of};
+
+use clap::{Arg, ArgAction};
+use std::alloc::{AllocError, Global};
+
+/// What the first word asks for.
+#[derive(Clone, Copy)]
+pub enum Verb {
+    /// Runs a script by its schedule.
+    Play,
+    /// Runs a script on several workers.
+    Work,
+    /// Makes a script from a seed.
+    Make,
+    /// Says whether a journal is legal for a script.
+    Audit,
+}
+
+/// An option, which each command that has it takes at most once.
+#[derive(Clone, Copy)]
+pub enum OptionName {
+    /// The journal in place of the report.
+    Journal,
+    /// The file that the store is on.
+    File,
+    /// Each step is told on standard error.
+    Trace,
+    /// How many workers run the sessions.
+    Workers,
+    /// The number that a script is made from.
+    Seed,
+    /// The script that was made, in place of a run of it.
+    Text,
+}
+
+const PLAY_OPTIONS: [OptionName; 3] = [OptionName::Journal, OptionName::File, OptionName::Trace];
+
+const WORK_OPTIONS: [OptionName; 4] = [
+    OptionName::Workers,
+    OptionName::Journal,
+    OptionName::File,
+    OptionName::Trace,
+];
+
+const MAKE_OPTIONS: [OptionName; 2] = [OptionName::Seed, OptionName::Text];
+
+impl Verb {
+    /// The word that it is written by.
+    pub fn word<'a>(self) -> &'a str
+        ensures { result.now ≡ verb_word self }
+    {
+        match self {
+            Verb::Play => "play",
+            Verb::Work => "work",
+            Verb::Make => "make",
+            Verb::Audit => "audit",
+        }
+    }
+
+    /// The options that it takes.
+    pub fn options(self) -> &'static [OptionName]
+        ensures { result.now ≡ options_of self }
+    {
+        match self {
+            Verb::Play => &PLAY_OPTIONS,
+            Verb::Work => &WORK_OPTIONS,
+            Verb::Make => &MAKE_OPTIONS,
+            Verb::Audit => &[],
+        }
+    }
+}
+
+/// The command that a word names.
+pub fn verb_named(word: &str) -> Option<Verb>
+    ensures { result ≡ verb_named word.now }
+{
+    match word {
+        "play" => Some(Verb::Play),
+        "work" => Some(Verb::Work),
+        "make" => Some(Verb::Make),
+        "audit" => Some(Verb::Audit),
+        _ => None,
+    }
+}
+
+impl OptionName {
+    /// The word that it is written by, without its two hyphens.
+    pub fn word<'a>(self) -> &'a str
+        ensures { result.now ≡ word_of self }
+    {
+        match self {
+            OptionName::Journal => "journal",
+            OptionName::File => "file",
+            OptionName::Trace => "trace",
+            OptionName::Workers => "workers",
+            OptionName::Seed => "seed",
+            OptionName::Text => "text",
+        }
+    }
+
+    /// What its value is called, if it takes one.
+    fn value_name<'a>(self) -> Option<&'a str>
+        ensures { is_some result ≡ is_valued self }
+    {
+        match self {
+            OptionName::File => Some("PATH"),
+            OptionName::Workers => Some("N"),
+            OptionName::Seed => Some("N"),
+            _ => None,
+        }
+    }
+
+    /// What the help says of it.
+    fn help<'a>(self) -> &'a str {
+        match self {
+            OptionName::Journal => "Writes the journal as JSON lines in place of the report",
+            OptionName::File => "Keeps the store in the SQLite file PATH, and not in memory",
+            OptionName::Trace => "Tells each step on standard error",
+            OptionName::Workers => "Runs the sessions on N workers, 1 to 64",
+            OptionName::Seed => "Makes the script from N, 0 to 4294967295",
+            OptionName::Text => "Writes the script that was made, and runs nothing",
+        }
+    }
+
+    /// The argument of clap that reads it.
+    pub fn arg<'a>(self, alloc: Global) -> Arg<'a>
+        ensures rule { rule_of result ≡ rule_for (word_of self) (is_valued self) }
+        ensures local { result.global ≡ false }
+    {
+        let arg = Arg::new(alloc, self.word())
+            .long(self.word())
+            .help(self.help());
+        match self.value_name() {
+            Some(value) => arg.action(ArgAction::Set).value_name(value),
+            None => arg.action(ArgAction::SetTrue),
+        }
+    }
+}
+
+/// The flat command of clap that reads the words after the verb.
+pub fn command_for<'a>(alloc: Global, verb: Verb) -> Result<clap::Command<'a>, AllocError>
+    ensures { IfOk result (λ c. app_of c ≡ app_for (verb_word verb) (form_of verb)) }
+{
+    let mut command = clap::Command::new(alloc, verb.word()).disable_help_flag(true);
+    for option in verb.options() {
+        command = command.arg(option.arg(alloc))?;
+    }
+    Ok(command)
+}

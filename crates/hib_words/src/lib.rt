@@ -1,0 +1,10 @@
+//! The words of the command line: which command they are, and the texts that tell of them.
+#![tactic(auto)]
+
+mod forms;
+mod parse;
+mod texts;
+mod words;
+
+pub use texts::{VERSION, help};
+pub use words::{Command, Options, read};

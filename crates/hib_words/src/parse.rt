@@ -1,0 +1,94 @@
+// The options that the words after the first give, by clap.
+ghost use Rattle.std.specs.Prelude.{option_map, ◌≡◌, IfOk, drop, map, string_bytes};
+ghost use Rattle.std.specs.List.{list_all};
+ghost use Rattle.hib_words.specs.Given.{options_in};
+ghost use Rattle.hib_words.specs.Matched.{HoldsGiven, chosen_of, is_fit};
+ghost use Rattle.hib_words.specs.Commands.{chosen_in, form_of};
+
+use crate::forms::{Verb, command_for};
+use clap::ArgMatches;
+use clap::error::ErrorKind;
+use std::alloc::{AllocError, Global};
+
+/// The options that the words give, each value as it is written.
+#[derive(Clone, Copy)]
+pub struct Found<'a> {
+    /// `--journal` is among them.
+    pub journal: bool,
+    /// `--trace` is among them.
+    pub trace: bool,
+    /// `--text` is among them.
+    pub text: bool,
+    /// The value of `--file`.
+    pub file: Option<&'a str>,
+    /// The value of `--workers`.
+    pub workers: Option<&'a str>,
+    /// The value of `--seed`.
+    pub seed: Option<&'a str>,
+}
+
+/// Whether clap reads the word as the definition does: it begins with no hyphen, or with two before something more. No other
+/// word has a form after the first.
+fn is_fit(word: &str) -> bool
+    ensures { result ≡ is_fit word.now }
+{
+    let bytes = word.as_bytes();
+    if bytes.is_empty() || bytes[0] != b'-' {
+        return true;
+    }
+    bytes.len() > 2 && bytes[1] == b'-'
+}
+
+fn all_fit_after_first(words: &[String]) -> bool
+    ensures { result ≡ list_all (λ w. is_fit (string_bytes w)) (drop 1 words.now) }
+{
+    words.iter().skip(1).all(|word| is_fit(word.as_str()))
+}
+
+/// What clap matches, of which the first word is the verb's own; none where the words have no form.
+fn matches_for<'a>(
+    alloc: Global,
+    verb: Verb,
+    words: &'a [String],
+) -> Result<Option<ArgMatches<'a>>, AllocError>
+    ensures { IfOk result (HoldsGiven (form_of verb) (options_in (form_of verb) (drop 1 (map string_bytes words.entry.now)))) }
+{
+    if !all_fit_after_first(words) {
+        return Ok(None);
+    }
+    let command = command_for(alloc, verb)?;
+    match command.try_get_matches_from(words) {
+        Ok(matches) => Ok(Some(matches)),
+        Err(error) => match error.kind() {
+            ErrorKind::OutOfMemory => Err(AllocError),
+            _ => Ok(None),
+        },
+    }
+}
+
+/// The options that the words after the first give; none where they have no form.
+pub fn parse<'a>(
+    alloc: Global,
+    verb: Verb,
+    words: &'a [String],
+) -> Result<Option<Found<'a>>, AllocError>
+    ensures { IfOk result (λ r. option_map chosen_of r ≡ option_map chosen_in (options_in (form_of verb) (drop 1 (map string_bytes words.entry.now)))) }
+{
+    let Some(matches) = matches_for(alloc, verb, words)? else {
+        return Ok(None);
+    };
+    let journal = matches.get_flag("journal");
+    let trace = matches.get_flag("trace");
+    let text = matches.get_flag("text");
+    let file = matches.get_str("file");
+    let workers = matches.get_str("workers");
+    let seed = matches.get_str("seed");
+    Ok(Some(Found {
+        journal,
+        trace,
+        text,
+        file,
+        workers,
+        seed,
+    }))
+}

@@ -1,0 +1,195 @@
+// What `--help` and `--version` print.
+use crate::forms::{OptionName, Verb};
+use clap::{Arg, ArgAction, Command};
+use std::alloc::{AllocError, Global};
+
+/// The program, the project, and the toolchain that it is proved with.
+pub const VERSION: &str = "hib 0.1
+Zughvarti, sessions over a second-level cache, with a proof
+proved with rattle-kit-13f logic dac8208d650f15bf
+";
+
+const ABOUT: &str =
+    "Runs sessions over a store with a second-level cache, and prints each atomic step.";
+
+const AFTER_HELP: &str = "
+A script comes by standard input, and the report goes to standard output:
+  hib play < examples/first.hib
+
+The words --help and --version stand alone: beside another word they are no command.
+
+Exit status, which a line on standard error explains where it isn't 0:
+  0  all was done, and the text was written whole
+  2  the words are no command
+  3  the input is no script, as in 'hib: line 7: no-end'; nothing was written
+  4  reading failed; nothing was written
+  5  writing failed; a first part of the text may be written
+  6  the input has more than 1,048,576 bytes; nothing was written
+  8  memory ran out
+  9  the store didn't take the script's rows; nothing was run
+
+Why a line of a script is refused, at status 3:
+  byte           it has a byte that isn't printable
+  long           it has more than 4,096 bytes
+  token          a part of it is no token
+  header         it is the first line, and isn't 'hib 1'
+  line           its first word can't begin a line at this place
+  words          its tokens haven't the form of the line
+  many-entities  it is one more entity than there may be
+  many-columns   it is one more column than an entity may have
+  entity-taken   an entity of this name was declared before
+  column-taken   the entity has a column of this name
+  strategy       it names none of the four strategies
+  capacity       the capacity is out of its range
+  column-type    it names none of the four types
+  ref-unknown    the entity that it refers to isn't declared yet
+  no-columns     no column comes after the entity
+  reserved       the name that it declares is a reserved word
+  taken          what it declares is there already
+  unknown        what it names isn't there
+  number         a number is out of its range
+  cells          it has not as many cells as the entity has columns
+  type           a cell isn't of its column's type, or a bool has no order
+  depth          a condition is nested too deeply, or lists too many cells
+  many           it is one more than there may be
+  last           it comes after the end of the transaction, or the session ends without one
+  no-end         the input ends inside a session or a schedule
+
+docs/SCRIPT.md tells what a script may say, README.md what a report says and what is proved.
+";
+
+impl Verb {
+    /// The program does it today, and so the help shows it.
+    fn is_built(self) -> bool {
+        match self {
+            Verb::Play => true,
+            Verb::Work => false,
+            Verb::Make => false,
+            Verb::Audit => false,
+        }
+    }
+
+    /// The program's name and its word.
+    fn full_name<'a>(self) -> &'a str {
+        match self {
+            Verb::Play => "hib play",
+            Verb::Work => "hib work",
+            Verb::Make => "hib make",
+            Verb::Audit => "hib audit",
+        }
+    }
+
+    /// What the help says of it.
+    fn about<'a>(self) -> &'a str {
+        match self {
+            Verb::Play => "Runs a script by its schedule, and writes the report of its journal",
+            Verb::Work => "Runs a script on several workers, and writes the report of its journal",
+            Verb::Make => "Makes a script from a number, runs it and sums it up",
+            Verb::Audit => "Says whether a journal is legal for a script",
+        }
+    }
+}
+
+impl OptionName {
+    /// The program takes it today, with each command that has it and is built.
+    fn is_built(self) -> bool {
+        match self {
+            OptionName::Journal => false,
+            OptionName::File => false,
+            OptionName::Trace => false,
+            OptionName::Workers => false,
+            OptionName::Seed => false,
+            OptionName::Text => false,
+        }
+    }
+
+    /// Its command has no form without it.
+    fn is_required(self) -> bool {
+        matches!(self, OptionName::Workers | OptionName::Seed)
+    }
+}
+
+const VERBS: [Verb; 4] = [Verb::Play, Verb::Work, Verb::Make, Verb::Audit];
+
+/// A command with its options that are built, as the help shows them.
+fn shown<'a>(alloc: Global, verb: Verb, name: &'a str) -> Result<Command<'a>, AllocError> {
+    let mut command = Command::new(alloc, name).disable_help_flag(true);
+    for option in verb.options() {
+        if option.is_built() {
+            command = command.arg(option.arg(alloc).required(option.is_required()))?;
+        }
+    }
+    Ok(command)
+}
+
+/// A word that stands alone, as the help shows it.
+fn lone_word<'a>(alloc: Global, name: &'a str, help: &'a str) -> Arg<'a> {
+    Arg::new(alloc, name)
+        .long(name)
+        .action(ArgAction::SetTrue)
+        .help(help)
+}
+
+/// The program as the help shows it, without its commands.
+fn program<'a>(alloc: Global) -> Result<Command<'a>, AllocError> {
+    let help = lone_word(alloc, "help", "Prints this text");
+    let version = lone_word(alloc, "version", "Prints the version");
+    Command::new(alloc, "hib")
+        .about(ABOUT)
+        .override_usage("hib <COMMAND> [OPTIONS]")
+        .disable_help_flag(true)
+        .disable_help_subcommand(true)
+        .arg(help)?
+        .arg(version)
+}
+
+/// The program with one command more, if that is built.
+fn with_command<'a>(
+    alloc: Global,
+    program: Command<'a>,
+    verb: Verb,
+) -> Result<Command<'a>, AllocError> {
+    if !verb.is_built() {
+        return Ok(program);
+    }
+    let command = shown(alloc, verb, verb.word())?;
+    program.subcommand(command.about(verb.about()))
+}
+
+/// What clap says of the program and its commands.
+fn overview(alloc: Global) -> Result<String, AllocError> {
+    let mut program = program(alloc)?;
+    for verb in VERBS {
+        program = with_command(alloc, program, verb)?;
+    }
+    program.render_help()
+}
+
+/// What clap says of a command alone; nothing if it isn't built.
+fn section(alloc: Global, verb: Verb) -> Result<String, AllocError> {
+    if !verb.is_built() {
+        return Ok(String::new(alloc));
+    }
+    let mut command = shown(alloc, verb, verb.full_name())?;
+    command.render_help()
+}
+
+fn add_section(alloc: Global, text: &mut String, verb: Verb) -> Result<(), AllocError> {
+    let section = section(alloc, verb)?;
+    if section.is_empty() {
+        return Ok(());
+    }
+    text.push_str("\n")?;
+    text.push_str(section.as_str())
+}
+
+/// The text of `--help`: clap's own for the commands and options that are built, and then what a user has to know besides. The
+/// only error is want of memory.
+pub fn help(alloc: Global) -> Result<String, AllocError> {
+    let mut text = overview(alloc)?;
+    for verb in VERBS {
+        add_section(alloc, &mut text, verb)?;
+    }
+    text.push_str(AFTER_HELP)?;
+    Ok(text)
+}
