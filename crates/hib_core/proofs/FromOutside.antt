@@ -28,7 +28,7 @@ use Rattle.hib_engines.proofs.ResultsServed.{results_stay}
 use Rattle.hib_engines.proofs.RegionServed.{restart_placed}
 use Rattle.hib_engines.proofs.Stored.{store_stays}
 use Rattle.hib_engines.proofs.Elsewhere.{registry_kept, region_kept}
-use Rattle.hib_core.specs.Standing.{Origin, RoseBy, RoseWithin, IsBridged, IsStore, PartsState, AreParts, region_of, outside_entry, IsAtRegion, AreEmptied}
+use Rattle.hib_core.specs.Standing.{Origin, RoseBy, RoseWithin, IsStore, PartsState, AreParts, region_of, outside_entry, IsAtRegion, AreEmptied}
 use Rattle.hib_core.specs.Factory.{Lawful, AreSessions, IsRun, IsAsked, IsAsBefore, AreKilled}
 use Rattle.hib_core.specs.Playing.{played, Leads}
 use Rattle.hib_core.proofs.Stored.{self_by, either, reply_any, store_of, bridged_kill, bridged_restart, bridged_evict}

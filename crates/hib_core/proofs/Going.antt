@@ -1,9 +1,10 @@
 -- A factory goes on: with one entry more its journal is legal, and its parts and sessions stand for it.
-use Rattle.std.proofs.Common.{◌≡◌, ℕ, ◌+◌, ◌<◌, ◌^◌, ◌==◌, Bool, true, false, List, ◌∷◌, length, get_or, IsSome, IfSome, Some, None, Option, refl, sym, ap, ◌∙◌, subst, arith, inl, inr}
+use Rattle.std.proofs.Common.{◌≡◌, ℕ, ◌+◌, ◌<◌, ◌^◌, ◌==◌, Bool, true, false, List, ◌∷◌, length, get_or, IsSome, IfSome, Some, None, Option, is_some, IfOk, Result, Ok, Err, refl, sym, ap, ◌∙◌, subst, arith, inl, inr}
 use Rattle.std.proofs.lemmas.Bool.{true≢false, eqb-true}
 use Rattle.std.proofs.lemmas.List.{get_or-set_same, get_or-set_other, length-set}
 use Rattle.std.proofs.lemmas.Option.{slice_get_within, get_or_from_slice_get, slice_get-get_or}
 use Rattle.std.specs.Prelude.{slice_get, slice_set}
+use Rattle.std.specs.declared.alloc.AllocError.{AllocError}
 use Rattle.hib_base.proofs.Tables.{Tested, tested}
 use Rattle.hib_journal.specs.Types.{Part, Script, Act, Reply, Entry}
 use Rattle.hib_journal.specs.Sessions.{Journal, own, is_open, was_killed, killed_by, IsTimely}
@@ -14,7 +15,7 @@ use Rattle.hib_journal.specs.Runs.{IsNumbered}
 use Rattle.hib_session.specs.declared.session.Session.{Session}
 use Rattle.hib_session.specs.Session.{Follows, IsTaken, number_of, is_killed}
 use Rattle.hib_engines.specs.Served.{AreWithin}
-use Rattle.hib_core.specs.Standing.{Origin, PartsState, AreParts, IsStill, IsDue, IsReady, IsAnswered, entry_of}
+use Rattle.hib_core.specs.Standing.{Origin, PartsState, IsStill, IsDue, IsReady, IsAnswered, entry_of}
 use Rattle.hib_core.specs.Factory.{Lawful, AreSessions, IsRun, IsMember, IsTurn, IsTold, Answers}
 use Rattle.hib_core.proofs.Served.{last_le, still_parts}
 use Rattle.hib_core.proofs.Stored.{self_by, own_self, own_other}
@@ -228,3 +229,24 @@ over_of told script h y o q m f e = by_kill (tested (was_killed (number_of y) h)
         let none : next script (number_of y) (own (number_of y) h) ≡ None =
         subst (λ (v : Script). next v (number_of y) (own (number_of y) h) ≡ None) q (sym (f (own (number_of y) h) there) ∙ e) in
         rw (t, none) refl
+
+-- whether one is, by what a call answers
+due_or : (told script : Script) (h : Journal) (y : Session) (b : Bool) → told ≡ script → IsMember script h y → ((mine : Journal) → Follows told y mine → is_killed y ≡ false → b ≡ is_some (next told (number_of y) mine)) →
+    (is_killed y ≡ true → ◌≡◌ {A = Result Bool AllocError} (Ok b) (Ok false)) → b ≡ has_next script h (number_of y)
+due_or told script h y b q m f k = by_kill (tested (was_killed (number_of y) h))
+  where
+    same_ok : (c : Bool) → ◌≡◌ {A = Result Bool AllocError} (Ok b) (Ok c) → b ≡ c
+    same_ok c e = cc
+
+    by_kill : Tested (was_killed (number_of y) h) → b ≡ has_next script h (number_of y)
+    by_kill (inl t) = rw t (same_ok false (k (m.killed ∙ t)))
+    by_kill (inr t) =
+        let there : Follows told y (own (number_of y) h) = subst (λ (v : Script). Follows v y (own (number_of y) h)) (sym q) (m.follow t) in
+        let due : b ≡ is_some (next script (number_of y) (own (number_of y) h)) =
+        subst (λ (v : Script). b ≡ is_some (next v (number_of y) (own (number_of y) h))) q (f (own (number_of y) h) there (m.killed ∙ t)) in
+        rw t due
+
+pub due_in : (told script : Script) (h : Journal) (y : Session) (s : ℕ) (r : Result Bool AllocError) → told ≡ script → number_of y ≡ s → IsMember script h y →
+    IfOk r (λ b. (mine : Journal) → Follows told y mine → is_killed y ≡ false → b ≡ is_some (next told (number_of y) mine)) → (is_killed y ≡ true → r ≡ Ok false) → IfOk r (λ b. b ≡ has_next script h s)
+due_in told script h y s (Err e) q n m f k = tt
+due_in told script h y s (Ok b) q n m f k = subst (λ i. b ≡ has_next script h i) n (due_or told script h y b q m f k)

@@ -10,3 +10,4 @@ pub mod Playing
 pub mod FromOutside
 pub mod Short
 pub mod Moved
+pub mod Hearing

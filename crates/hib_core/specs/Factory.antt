@@ -10,7 +10,7 @@ use Rattle.hib_journal.specs.Played.{has_next}
 use Rattle.hib_journal.specs.Runs.{IsNumbered, ask_count, is_fault}
 use Rattle.hib_session.specs.declared.session.Session.{Session}
 use Rattle.hib_law.specs.Law.{Obeys}
-use Rattle.hib_listeners.specs.Told.{Told}
+use Rattle.hib_listeners.specs.Told.{Told, AreTold}
 use Rattle.hib_outside.specs.Causes.{Rose}
 use Rattle.hib_session.specs.Session.{Follows, IsTaken, number_of, is_killed, own_reply, left_in}
 use Rattle.hib_journal.specs.Due.{is_asked}
@@ -169,6 +169,10 @@ pub record Does (script : Script) (s : ℕ) (old new : Journal) (xs ys : List Se
 -- one entry was added
 abbrev pub HasGrown : Journal → Journal → Type 0
 HasGrown old new = (e : Entry) × (new ≡ e ∷ old)
+
+-- what listeners told before and after a step: where it added an entry they were told that, and else nothing
+abbrev pub Hears : Journal → Journal → Bool → List Told → List Told → Type 0
+Hears old new whole told now = ((e : Entry) → new ≡ e ∷ old → AreTold e whole told now) × (new ≡ old → now ≡ told)
 
 -- session s has no act left, and no entry was added
 pub record IsOver (script : Script) (s : ℕ) (old new : Journal) : Type 0 where

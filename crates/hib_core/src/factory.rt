@@ -15,7 +15,7 @@ ghost use Rattle.hib_core.specs.Standing.{RoseBy, RoseWithin, IsStill, told_star
 ghost use Rattle.hib_outside.specs.Causes.{Rose};
 ghost use Rattle.hib_store.specs.Stores.{handed_back, is_store_fault};
 ghost use Rattle.hib_core.specs.Bound.{most_in, outside_count};
-ghost use Rattle.hib_core.specs.Factory.{AreSessions, Does, IsOver, IsAskedOnceMore, AreOver, IsSound};
+ghost use Rattle.hib_core.specs.Factory.{AreSessions, Does, IsOver, IsAskedOnceMore, AreOver, IsSound, Hears};
 ghost use Rattle.hib_core.specs.Playing.{played, play_all, play_script, GoesOn, Leads};
 ghost use Rattle.hib_listeners.specs.Told.{Told, tells, AreTold};
 ghost use Rattle.hib_listeners.specs.Heard.{HaveHeard};
@@ -132,8 +132,7 @@ impl<K: Keeper, N: Name, L: Listener> Factory<K, N, L> {
         ensures inside { outside_count (past self.new.journal) ≡ outside_count (past self.old.journal) }
         ensures fault { (e : Entry) → past self.new.journal ≡ e ∷ past self.old.journal → is_fault e.reply ≡ true → Rose self.old.parts.store.faults self.new.parts.store.faults }
         ensures going { OnOk result (self.new.refused ≡ self.old.refused) }
-        ensures told { (e : Entry) → past self.new.journal ≡ e ∷ past self.old.journal → AreTold e (is_ok result) self.old.told self.new.told }
-        ensures untold { past self.new.journal ≡ past self.old.journal → self.new.told ≡ self.old.told }
+        ensures hears { Hears (past self.old.journal) (past self.new.journal) (is_ok result) self.old.told self.new.told }
         ensures same { OnErr result (self.new.deaf ≡ self.old.deaf → past self.new.journal ≡ past self.old.journal) }
         ensures parts { OnErr result (self.new.deaf ≡ self.old.deaf → IsStill self.old.parts self.new.parts) }
         ensures unheard { OnErr result (self.old.deaf ≡ false → self.new.deaf ≡ true
@@ -146,17 +145,14 @@ impl<K: Keeper, N: Name, L: Listener> Factory<K, N, L> {
         ensures refused { OnErr result (self.new.refused ≡ true) }
     {
         if self.deaf {
-            self.core.lawful();
-            return if self.core.has_due(alloc, number)? {
-                Err(AllocError)
-            } else {
-                Ok(Stepped::Done)
-            };
+            return self.core.idle_step(alloc, number);
         }
         match self.core.step(alloc, number)? {
             Stepped::Did => {
-                tell(alloc, self.core.journal(), &mut self.listeners, &mut self.deaf)?;
-                Ok(Stepped::Did)
+                match tell(alloc, self.core.journal(), &mut self.listeners, &mut self.deaf) {
+                    Ok(()) => Ok(Stepped::Did),
+                    Err(error) => Err(error),
+                }
             }
             Stepped::Done => Ok(Stepped::Done),
         }
@@ -292,8 +288,7 @@ impl<K: Keeper, N: Name, L: Listener> Factory<K, N, L> {
         ensures outside { outside_count (past self.new.journal) ≤ outside_count (past self.old.journal) + 1 }
         ensures law { Obeys N.script N.from.tables (past self.new.journal) }
         ensures going { OnOk result (self.new.refused ≡ self.old.refused) }
-        ensures told { (e : Entry) → past self.new.journal ≡ e ∷ past self.old.journal → AreTold e (is_ok result) self.old.told self.new.told }
-        ensures untold { past self.new.journal ≡ past self.old.journal → self.new.told ≡ self.old.told }
+        ensures hears { Hears (past self.old.journal) (past self.new.journal) (is_ok result) self.old.told self.new.told }
         ensures same { OnErr result (self.new.deaf ≡ self.old.deaf → past self.new.journal ≡ past self.old.journal) }
         ensures unheard { OnErr result (self.old.deaf ≡ false → self.new.deaf ≡ true → Leads (play_order N.script (Order.Kill number)) played (past self.old.journal) (past self.new.journal)) }
         ensures deaf { self.old.deaf ≡ true → self.new ≡ self.old }
@@ -301,17 +296,14 @@ impl<K: Keeper, N: Name, L: Listener> Factory<K, N, L> {
         ensures asked { OnErr result (self.old.refused ≡ false → IsAskedOnceMore N.from (past self.new.journal) self.new.parts) }
         ensures refused { OnErr result (self.new.refused ≡ true) }
     {
-        let open = self.core.is_open(number);
         if self.deaf {
-            self.core.lawful();
-            return if open { Err(AllocError) } else { Ok(()) };
+            return self.core.idle_kill(number);
+        }
+        if !self.core.is_open(number) {
+            return self.core.kill(number);
         }
         self.core.kill(number)?;
-        if open {
-            tell(alloc, self.core.journal(), &mut self.listeners, &mut self.deaf)
-        } else {
-            Ok(())
-        }
+        tell(alloc, self.core.journal(), &mut self.listeners, &mut self.deaf)
     }
 
     /// Evicts a row of a cached entity from its region. What want of memory leaves is as after `step`.
@@ -321,8 +313,7 @@ impl<K: Keeper, N: Name, L: Listener> Factory<K, N, L> {
         ensures outside { outside_count (past self.new.journal) ≤ outside_count (past self.old.journal) + 1 }
         ensures law { Obeys N.script N.from.tables (past self.new.journal) }
         ensures going { OnOk result (self.new.refused ≡ self.old.refused) }
-        ensures told { (e : Entry) → past self.new.journal ≡ e ∷ past self.old.journal → AreTold e (is_ok result) self.old.told self.new.told }
-        ensures untold { past self.new.journal ≡ past self.old.journal → self.new.told ≡ self.old.told }
+        ensures hears { Hears (past self.old.journal) (past self.new.journal) (is_ok result) self.old.told self.new.told }
         ensures same { OnErr result (self.new.deaf ≡ self.old.deaf → past self.new.journal ≡ past self.old.journal) }
         ensures unheard { OnErr result (self.old.deaf ≡ false → self.new.deaf ≡ true → Leads (play_order N.script (Order.Evict key)) played (past self.old.journal) (past self.new.journal)) }
         ensures deaf { self.old.deaf ≡ true → self.new ≡ self.old }
@@ -345,8 +336,7 @@ impl<K: Keeper, N: Name, L: Listener> Factory<K, N, L> {
         ensures outside { outside_count (past self.new.journal) ≤ outside_count (past self.old.journal) + 1 }
         ensures law { Obeys N.script N.from.tables (past self.new.journal) }
         ensures going { OnOk result (self.new.refused ≡ self.old.refused) }
-        ensures told { (e : Entry) → past self.new.journal ≡ e ∷ past self.old.journal → AreTold e (is_ok result) self.old.told self.new.told }
-        ensures untold { past self.new.journal ≡ past self.old.journal → self.new.told ≡ self.old.told }
+        ensures hears { Hears (past self.old.journal) (past self.new.journal) (is_ok result) self.old.told self.new.told }
         ensures same { OnErr result (self.new.deaf ≡ self.old.deaf → past self.new.journal ≡ past self.old.journal) }
         ensures unheard { OnErr result (self.old.deaf ≡ false → self.new.deaf ≡ true → Leads (play_order N.script Order.Restart) played (past self.old.journal) (past self.new.journal)) }
         ensures deaf { self.old.deaf ≡ true → self.new ≡ self.old }

@@ -1,5 +1,5 @@
 // The steps of a factory, each of which adds one entry to its journal, whoever hears of it.
-ghost use Rattle.std.specs.Prelude.{◌≡◌, ◌+◌, ◌<◌, ◌≤◌, ◌^◌, ◌==◌, ℕ, [], ◌∷◌, length, slice_get, OnOk, OnErr, IfOk, IfErr, IsOk, Ok, Some, true, false};
+ghost use Rattle.std.specs.Prelude.{◌≡◌, ◌≢◌, ◌+◌, ◌<◌, ◌≤◌, ◌^◌, ◌==◌, ℕ, [], ◌∷◌, length, slice_get, OnOk, OnErr, IfOk, IfErr, IsOk, Ok, Some, true, false};
 ghost use Rattle.hib_journal.specs.Kept.{past};
 ghost use Rattle.hib_base.specs.declared.scripts.Order.{Order};
 ghost use Rattle.hib_base.specs.Valid.{is_valid};
@@ -114,7 +114,7 @@ impl<K: Keeper, N: Name> Core<K, N> {
         ensures going { OnOk result (self.new.refused ≡ self.old.refused) }
         ensures same { OnErr result (past self.new.journal ≡ past self.old.journal) }
         ensures parts { OnErr result (IsStill self.old.parts self.new.parts) }
-        ensures sessions { OnErr result (AreSessions N.script (past self.old.journal) self.new.sessions) }
+        ensures after { AreSessions N.script (past self.new.journal) self.new.sessions }
         ensures others { (s : ℕ) → (number == s) ≡ false → slice_get self.new.sessions s ≡ slice_get self.old.sessions s }
         ensures asks { self.new.refused ≡ false → IsAsked N.from (past self.new.journal) self.new.parts }
         ensures asked { OnErr result (self.old.refused ≡ false → IsAskedOnceMore N.from (past self.new.journal) self.new.parts) }
@@ -181,19 +181,40 @@ impl<K: Keeper, N: Name> Core<K, N> {
         *self.script.schedule.at(at)
     }
 
-    /// Whether an act is due in a session.
-    pub fn has_due(&self, alloc: Global, number: SessionNo) -> Result<bool, AllocError>
+    /// A step that adds no entry: where an act is due, it answers want of memory.
+    pub fn idle_step(&self, alloc: Global, number: SessionNo) -> Result<Stepped, AllocError>
         requires known { number < length N.script.sessions }
-        ensures due { IfOk result (λ b. b ≡ has_next N.script (past self.now.journal) number) }
-        ensures killed { was_killed number (past self.now.journal) ≡ true → result ≡ Ok false }
+        ensures none { result ≢ Ok Stepped.Did }
+        ensures done { result ≡ Ok Stepped.Done → has_next N.script (past self.now.journal) number ≡ false }
+        ensures killed { was_killed number (past self.now.journal) ≡ true → result ≡ Ok Stepped.Done }
+        ensures law { Obeys N.script N.from.tables (past self.now.journal) }
+        ensures sessions { AreSessions N.script (past self.now.journal) self.now.sessions }
     {
-        has_turn::<N>(
+        if has_turn::<N>(
             alloc,
             &self.script,
             number,
             self.sessions.as_slice(),
             &self.journal,
-        )
+        )? {
+            Err(AllocError)
+        } else {
+            Ok(Stepped::Done)
+        }
+    }
+
+    /// A kill that adds no entry: where the session is open, it answers want of memory.
+    pub fn idle_kill(&self, number: SessionNo) -> Result<(), AllocError>
+        ensures closed { is_open number (past self.now.journal) ≡ false → IsOk result }
+        ensures open { IsOk result → is_open number (past self.now.journal) ≡ false }
+        ensures law { Obeys N.script N.from.tables (past self.now.journal) }
+    {
+        self.lawful();
+        if self.is_open(number) {
+            Err(AllocError)
+        } else {
+            Ok(())
+        }
     }
 
     /// Whether a session is open: it has begun, and is neither at its end nor killed.

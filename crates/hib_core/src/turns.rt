@@ -1,5 +1,5 @@
 // One turn of a session: the act that is due is answered by the session or by a part, and its entry is added.
-ghost use Rattle.std.specs.Prelude.{ℕ, ◌≡◌, ◌≢◌, ◌∷◌, ◌<◌, ◌≤◌, ◌^◌, ◌+◌, ◌==◌, List, length, slice_get, IfOk, OnOk, OnErr, IsOk, Ok, None, false, true, IfSome};
+ghost use Rattle.std.specs.Prelude.{ℕ, ◌≡◌, ◌≢◌, ◌∷◌, ◌<◌, ◌≤◌, ◌^◌, ◌+◌, ◌==◌, List, length, slice_get, is_some, IfOk, OnOk, OnErr, IsOk, Ok, None, false, true, IfSome};
 ghost use Rattle.hib_base.specs.declared.entries.Entry.{Entry};
 ghost use Rattle.hib_journal.specs.Kept.{past};
 ghost use Rattle.hib_journal.specs.Sessions.{Journal as Past, own, was_killed};
@@ -46,6 +46,25 @@ fn due_act(alloc: Global, script: &Script, session: &Session) -> Result<Option<A
     Ok(act)
 }
 
+fn is_some(act: Option<Act>) -> bool
+    ensures { result ≡ is_some act }
+{
+    act.is_some()
+}
+
+/// Whether an act is due in a session.
+fn is_due(alloc: Global, script: &Script, session: &Session) -> Result<bool, AllocError>
+    requires queries { HasQueries script.now }
+    ensures due { IfOk result (λ b. (mine : Past) → Follows script.now session.now mine → is_killed session.now ≡ false → b ≡ is_some (next script.now (number_of session.now) mine)) }
+    ensures killed { is_killed session.now ≡ true → result ≡ Ok false }
+{
+    if session.was_killed() {
+        return Ok(false);
+    }
+    let due = due_act(alloc, script, session)?;
+    Ok(is_some(due))
+}
+
 /// Whether an act is due in the session of this number.
 pub fn has_turn<N: Name>(
     alloc: Global,
@@ -62,12 +81,7 @@ pub fn has_turn<N: Name>(
     ensures killed { was_killed number (past journal.now) ≡ true → result ≡ Ok false }
 {
     let _ = journal;
-    let session = &sessions[number.0 as usize];
-    if session.was_killed() {
-        return Ok(false);
-    }
-    let due = due_act(alloc, script, session)?;
-    Ok(due.is_some())
+    is_due(alloc, script, &sessions[number.0 as usize])
 }
 
 /// The answer to an act that is due: the session's own, or that of a part. At an error the parts are as before, but for the

@@ -2,10 +2,11 @@
 #![tactic(auto)]
 
 use hib_base::Seq;
+use hib_listeners::Trace;
 use hib_outside::{Listener, MemKeeper, OpenGate, StdSink, StdSource};
 use hib_top::{Status, status_line, top};
-use hib_words::{VERSION, help};
-use std::alloc::Global;
+use hib_words::{Command, VERSION, help};
+use std::alloc::{AllocError, Global};
 use std::process::ExitCode;
 use std::{env, io};
 
@@ -46,7 +47,9 @@ fn main(rt: HostRuntime) -> io::Result<ExitCode> {
         faults: 0,
     };
     let keeper = MemKeeper::new(alloc, Seq::new(alloc));
-    let listeners: Vec<Box<dyn Listener>> = Vec::new(alloc);
+    let Ok(listeners) = listeners_asked(&rt, alloc, &words) else {
+        return Ok(told(&rt, alloc, Status::NoMemory));
+    };
     let ended = top(
         &rt,
         alloc,
@@ -58,6 +61,22 @@ fn main(rt: HostRuntime) -> io::Result<ExitCode> {
         listeners,
     );
     Ok(told(&rt, alloc, ended.status))
+}
+
+/// The listeners that the words ask for: with `--trace`, one that writes a line for each entry on standard error.
+fn listeners_asked(
+    rt: &HostRuntime,
+    alloc: Global,
+    words: &[String],
+) -> Result<Vec<Box<dyn Listener>>, AllocError> {
+    let mut listeners: Vec<Box<dyn Listener>> = Vec::new(alloc);
+    if let Some(Command::Play { options }) = hib_words::read(alloc, words)? {
+        if options.trace {
+            let trace = Trace::new(StdSink::new(rt.stderr()));
+            listeners.push(Box::new(alloc, trace)?)?;
+        }
+    }
+    Ok(listeners)
 }
 
 /// What main itself answers.

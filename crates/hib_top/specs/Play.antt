@@ -1,9 +1,12 @@
 -- What a call of the program promises.
-use Rattle.std.specs.Prelude.{◌≡◌, ◌⊎◌, ◌≤◌, ◌+◌, ℕ, true, false, List, [], ⊤, length, slice_get, IfSome, Some, Option, Result, Ok, Err}
+use Rattle.std.specs.Prelude.{◌≡◌, ◌⊎◌, ◌≤◌, ◌+◌, ℕ, Bool, true, false, List, [], ⊤, length, slice_get, IfSome, Some, Option, Result, Ok, Err}
 use Rattle.std.specs.Io.KnownBytes.{Appends, IsAtEnd}
 use Rattle.hib_base.specs.Tables.{Tables}
 use Rattle.hib_base.specs.declared.refusals.Refused.{Refused}
-use Rattle.hib_journal.specs.Types.{Script, SessionDef}
+use Rattle.hib_journal.specs.Types.{Script, SessionDef, Entry}
+use Rattle.hib_listeners.specs.Heard.{HaveHeard}
+use Rattle.hib_listeners.specs.Told.{Told}
+use Rattle.hib_store.specs.declared.store.OpenFault.{OpenFault}
 use Rattle.hib_journal.specs.Kept.{Kept, past}
 use Rattle.hib_journal.specs.Sessions.{Journal}
 use Rattle.hib_journal.specs.Played.{has_next, is_played}
@@ -46,7 +49,29 @@ CameTo End.Stopped script kept start rows h = IsPlayed script start rows h
 CameTo End.Unopened script kept start rows h = (h ≡ []) × (rows ≡ kept)
 CameTo End.Unseeded script kept start rows h = (h ≡ []) × (rows ≡ kept)
 
+-- memory ran out on the way
+abbrev pub is_stopped : End → Bool
+is_stopped End.Stopped = true
+is_stopped _ = false
+
+-- what a run came to whose factory wasn't opened
+abbrev pub unopened : {K : Type 0} → OpenFault K → End
+unopened (OpenFault.NoMemory k) = End.Unopened
+unopened (OpenFault.StoreFault k) = End.Unseeded
+
+-- the listeners at the start of a run of these entries and those that are handed back: of the ones that tell, exactly those that
+-- stay when they hear all entries, each with these behind what it had heard. Where memory ran out, one may have had none for the
+-- last entry, so that from it on nobody has heard that
+abbrev pub AreHandedBack : Bool → List Entry → List Told → List Told → Type 0
+AreHandedBack false es start now = HaveHeard false es start now
+AreHandedBack true es start now = HaveHeard false es start now ⊎ HaveHeard true es start now
+
 -- ---- a call
+-- memory ran out
+abbrev pub is_short : Status → Bool
+is_short Status.NoMemory = true
+is_short _ = false
+
 -- the run is finished at Done, and where only the writing failed
 abbrev pub EndsWell : Status → Script → Journal → Type 0
 EndsWell Status.Done script h = IsFinished script h

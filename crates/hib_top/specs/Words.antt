@@ -6,9 +6,9 @@ use Rattle.std.specs.declared.string.String.{String}
 use Rattle.std.specs.declared.alloc.Global.{Global}
 use Rattle.hib_words.specs.Commands.{Asked, play, work, make, audit, command}
 
--- the program does it today: play, without an option
+-- the program does it today: play, and listening to it
 abbrev pub is_built : Asked → Bool
-is_built (play s) = not s.journal && not s.trace && is_none s.file
+is_built (play s) = not s.journal && is_none s.file
 is_built (work n s) = false
 is_built (make n t) = false
 is_built audit = false

@@ -4,7 +4,8 @@ ghost use Rattle.hib_journal.specs.Kept.{past};
 ghost use Rattle.hib_journal.specs.Runs.{ask_count, fault_count};
 ghost use Rattle.hib_outside.specs.Causes.{Rose};
 ghost use Rattle.hib_top.specs.Words.{have_form};
-ghost use Rattle.hib_top.specs.Play.{Plays, HasScript, IsCompleted, IsIdle};
+ghost use Rattle.hib_listeners.specs.Told.{tells};
+ghost use Rattle.hib_top.specs.Play.{Plays, HasScript, IsCompleted, IsIdle, AreHandedBack, is_short};
 ghost use Rattle.hib_core.specs.Standing.{RoseBy, RoseWithin};
 ghost use Rattle.hib_top.specs.Streams.{ReadsFew};
 
@@ -44,8 +45,8 @@ pub fn top<R: Threads + Wait + Sync, S: Source, W: Sink, K: Keeper, G: Gate, L: 
     // A script is run to its end where source and sink don't fail, unless memory runs out or the keeper doesn't take its rows.
     ensures complete { have_form words.now ≡ true → HasScript (S.left script.old) → (Rose (S.faults script.old) (S.faults script.new) → ⊥)
         → (Rose (W.faults out.old) (W.faults out.new) → ⊥) → IsCompleted result.status }
-    // The listeners are handed back untold.
-    ensures listeners { result.listeners ≡ listeners }
+    // Which listeners are handed back, and what they have heard.
+    ensures listeners { AreHandedBack (is_short result.status) result.journal.list (tells L.heard L.left listeners.items) (tells L.heard L.left result.listeners.items) }
 {
     play_words(alloc, words, script, out, keeper, listeners)
 }

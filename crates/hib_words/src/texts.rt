@@ -96,7 +96,7 @@ impl OptionName {
         match self {
             OptionName::Journal => false,
             OptionName::File => false,
-            OptionName::Trace => false,
+            OptionName::Trace => true,
             OptionName::Workers => false,
             OptionName::Seed => false,
             OptionName::Text => false,

@@ -1,4 +1,4 @@
-use Rattle.std.proofs.Common.{◌≤◌, arith}
+use Rattle.std.proofs.Common.{arith}
 use Rattle.hib_core.proofs.Short.{run_few, most_few}
 use Rattle.hib_core.proofs.bounds.runs_are_short.Goals as goal
 

@@ -90,3 +90,17 @@ returns-in_err-now-clause-closed g c = λ k.
     let here : c.parts.inside.registry ≡ x.registry = ap (λ (v : PartsState). v.registry) c.parts.view_is in
     let begun : is_open n h ≡ true = sym (ap (λ (ps : Opened). holds n ps) here ∙ holds_open x.registry h n c.requires.run.parts.registry) ∙ (sym c.is_open.ensures ∙ c.if-not-is_open.false) in
     absurd (false≢true (sym k ∙ begun))
+
+pub returns-then-not-is_open-clause-grown : goal.returns-then-not-is_open-clause-grown
+returns-then-not-is_open-clause-grown g c = λ p.
+    let n = c.args.number in
+    let x = c.args.parts.now in
+    let here : c.parts.inside.registry ≡ x.registry = ap (λ (v : PartsState). v.registry) c.parts.view_is in
+    absurd (false≢true (sym (sym (ap (λ (ps : Opened). holds n ps) here ∙ holds_open x.registry (past c.args.journal.now) n c.requires.run.parts.registry) ∙ (sym c.is_open.ensures ∙ c.if-not-is_open.true)) ∙ p))
+
+pub returns-clause-closed : goal.returns-clause-closed
+returns-clause-closed g c = λ p.
+    let n = c.args.number in
+    let x = c.args.parts.now in
+    let here : c.parts.inside.registry ≡ x.registry = ap (λ (v : PartsState). v.registry) c.parts.view_is in
+    absurd (false≢true (sym p ∙ (sym (ap (λ (ps : Opened). holds n ps) here ∙ holds_open x.registry (past c.args.journal.now) n c.requires.run.parts.registry) ∙ (sym c.is_open.ensures ∙ c.if-not-is_open.false))))

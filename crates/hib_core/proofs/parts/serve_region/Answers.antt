@@ -1,4 +1,4 @@
-use Rattle.std.proofs.Common.{rules, get_or, vec_len, ◌≡◌, ◌<◌, ◌≤◌, ℕ, List, Ok, length, sym, ap, subst, ◌∙◌}
+use Rattle.std.proofs.Common.{rules, get_or, vec_len, ◌≡◌, ◌<◌, ◌≤◌, ℕ, List, length, sym, ap, subst, ◌∙◌}
 use Rattle.std.proofs.lemmas.List.{places, set-get_or}
 use Rattle.std.specs.Prelude.{slice_set}
 use Rattle.hib_engines.specs.declared.region.Region.{Region}

@@ -1,0 +1,47 @@
+use Rattle.std.proofs.Common.{refl, sym, ap, subst, ◌∙◌}
+use Rattle.hib_journal.specs.Kept.{past}
+use Rattle.hib_journal.specs.Sessions.{Journal}
+use Rattle.hib_listeners.specs.Told.{tells}
+use Rattle.hib_core.specs.Factory.{HasGrown, FactoryState}
+use Rattle.hib_core.proofs.Hearing.{heard_none, heard_same, heard_more, heard_told}
+use Rattle.hib_core.proofs.factory.Factory.kill.Goals as goal
+
+pub returns-then-self-clause-hears : goal.returns-then-self-clause-hears
+returns-then-self-clause-hears g c = let h = past c.args.self.now.journal in heard_none h h _ c.args.self.now.told c.args.self.now.told refl refl
+
+pub invariant_of-self : goal.invariant_of-self
+invariant_of-self g c =
+    let told = tells g.L.Listener.heard g.L.Listener.left c.self.inside.listeners in
+    heard_same c.self.inside.deaf c.self.inside.core.journal c.kill.new.self.journal g.N.Name.told told (c.kill.ensures.closed (sym c.is_open.ensures ∙ c.if-not-is_open.true)).1 c.self.invariant
+
+pub returns-then-not-is_open-clause-hears : goal.returns-then-not-is_open-clause-hears
+returns-then-not-is_open-clause-hears g c =
+    let told = tells g.L.Listener.heard g.L.Listener.left c.self.inside.listeners in
+    heard_none (past c.args.self.now.journal) (past c.kill.new.self.journal) _ c.args.self.now.told told
+    ((c.kill.ensures.closed (sym c.is_open.ensures ∙ c.if-not-is_open.true)).1 ∙ ap (λ (v : FactoryState). past v.journal) c.self.view_is) (ap (λ (v : FactoryState). v.told) c.self.view_is)
+
+pub invariant_of-self-in_err-kill : goal.invariant_of-self-in_err-kill
+invariant_of-self-in_err-kill g c =
+    let told = tells g.L.Listener.heard g.L.Listener.left c.self.inside.listeners in
+    heard_same c.self.inside.deaf c.self.inside.core.journal c.kill-2.new.self.journal g.N.Name.told told c.in_err-kill.ensures.same c.self.invariant
+
+pub returns-in_err-kill-clause-hears : goal.returns-in_err-kill-clause-hears
+returns-in_err-kill-clause-hears g c =
+    let told = tells g.L.Listener.heard g.L.Listener.left c.self.inside.listeners in
+    heard_none (past c.args.self.now.journal) (past c.kill-2.new.self.journal) _ c.args.self.now.told told
+    (c.in_err-kill.ensures.same ∙ ap (λ (v : FactoryState). past v.journal) c.self.view_is) (ap (λ (v : FactoryState). v.told) c.self.view_is)
+
+pub invariant_of-self-2 : goal.invariant_of-self-2
+invariant_of-self-2 g c =
+    let now = tells g.L.Listener.heard g.L.Listener.left c.self.inside.listeners in
+    let next = tells g.L.Listener.heard g.L.Listener.left c.tell.new.listeners in
+    heard_more c.journal.result.now c.self.inside.core.journal c.kill-2.new.self.journal c.tell.new.deaf c.self.inside.deaf g.N.Name.told now next c.tell.ensures.heard
+    c.journal.ensures (c.in_ok-kill.ensures.grown (sym c.is_open.ensures ∙ c.if-not-is_open.false)) c.if-self.false c.self.invariant
+
+pub returns-clause-hears : goal.returns-clause-hears
+returns-clause-hears g c =
+    let now = tells g.L.Listener.heard g.L.Listener.left c.self.inside.listeners in
+    let next = tells g.L.Listener.heard g.L.Listener.left c.tell.new.listeners in
+    heard_told c.journal.result.now c.kill-2.new.self.journal (past c.args.self.now.journal) _ c.args.self.now.told now next c.tell.ensures.told c.journal.ensures
+    (subst (λ (h : Journal). HasGrown h (past c.kill-2.new.self.journal)) (ap (λ (v : FactoryState). past v.journal) c.self.view_is) (c.in_ok-kill.ensures.grown (sym c.is_open.ensures ∙ c.if-not-is_open.false)))
+    (ap (λ (v : FactoryState). v.told) c.self.view_is)
