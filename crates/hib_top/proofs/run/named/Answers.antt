@@ -7,7 +7,7 @@ use Rattle.hib_top.specs.Play.{IsPlayed}
 use Rattle.hib_top.proofs.Ends.{over, stopped}
 use Rattle.hib_top.proofs.Finished.{all_ended}
 use Rattle.hib_top.proofs.run.named.Goals as goal
-use Rattle.hib_top.proofs.run.named.Goals.{in-Ok-finished, in-Err}
+use Rattle.hib_top.proofs.run.named.Goals.{in-Ok-finished, in-Err-finished}
 
 pub returns-clause-came : goal.returns-clause-came
 returns-clause-came g c =
@@ -31,5 +31,5 @@ returns-clause-came g c =
       | in-Ok-finished w ↦ over _ _ g.N.Name.script _ _ _ h w.end-is c.close-keeper.ensures.script played
           (all_ended g.N.Name.script h (subst (λ (k : Kept). AreOver g.N.Name.script (past k)) (sym c.close-keeper.ensures.journal) w.in-Ok-finished.ensures.over)
           (subst (λ (k : Kept). is_played g.N.Name.script (past k) ≡ true) (sym c.close-keeper.ensures.journal) (w.in-Ok-finished.ensures.played c.in-Ok.ensures.empty)))
-      | in-Err w ↦ stopped _ g.N.Name.script _ _ _ h w.end-is played
+      | in-Err-finished w ↦ stopped _ g.N.Name.script _ _ _ h w.end-is played
     ]
