@@ -1,7 +1,8 @@
 // What listeners hear, by direct calls: whether each has heard the entries that it is to hear, and who is left.
 use hib_base::{Act, Entry, Part, Reply, Seq, Tick};
 use hib_listeners::{Limited, Listeners, Recorder, Trace};
-use hib_outside::{Heard, Listener, MemSink};
+use hib_outside::{Heard, Listener, MemKeeper, MemSink, MemSource};
+use hib_top::{Status, play_words};
 use std::alloc::{AllocError, Global};
 
 /// Listeners of several kinds.
@@ -131,4 +132,37 @@ pub fn writes_lines(alloc: Global) -> Result<bool, AllocError> {
             && trace.nth(0).is_none()
             && trace.sink.bytes() == b"entry 1\nentry 2\n".as_slice(),
     )
+}
+
+/// A session that persists a book and commits, which is eight entries.
+const PERSISTS: &[u8] = b"hib 1
+entity Book read-write versioned 100
+column title text
+column stock int
+session a
+persist Book 1 \"Dune\" 3
+commit
+end
+";
+
+/// Whether of a recorder and one limited to three entries, which hear a run of eight, the recorder alone comes back, and has
+/// heard all.
+pub fn hears_a_run(alloc: Global) -> Result<bool, AllocError> {
+    let mut several: Several = Vec::new(alloc);
+    several.push(Box::new(alloc, Recorder::new(alloc))?)?;
+    several.push(Box::new(alloc, Limited::new(alloc, 3))?)?;
+    let mut source = MemSource::new(Seq::from_vec(PERSISTS.to_vec(alloc)?), Seq::new(alloc));
+    let mut sink = MemSink::new(alloc, 100000, Seq::new(alloc))?;
+    let mut words = Vec::new(alloc);
+    words.push(String::from_str(alloc, "play")?)?;
+    let ended = play_words(
+        alloc,
+        &words,
+        &mut source,
+        &mut sink,
+        MemKeeper::new(alloc, Seq::new(alloc)),
+        several,
+    );
+    let left = ended.listeners.as_slice();
+    Ok(ended.status == Status::Done && left.len() == 1 && left.iter().all(|one| heard_to(one, 8)))
 }

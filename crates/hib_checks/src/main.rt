@@ -44,7 +44,8 @@ fn tell_listening(rt: &impl Print, alloc: Global) -> io::Result<()> {
         "listener-without-memory",
         listening::stops_at_the_second(alloc)?,
     )?;
-    tell(rt, "trace", listening::writes_lines(alloc)?)
+    tell(rt, "trace", listening::writes_lines(alloc)?)?;
+    tell(rt, "listener-of-a-run", listening::hears_a_run(alloc)?)
 }
 
 /// Prints a line that says nothing of a row.

@@ -58,8 +58,14 @@ impl<K: Keeper, N: Name, L: Listener> Model for Factory<K, N, L> {
 
     ghost Value = { FactoryState };
 
-    ghost view = { λ f. record { journal = f.core.journal; parts = f.core.parts; sessions = f.core.sessions; refused = f.core.refused || f.deaf;
-        told = tells L.heard L.left f.listeners; deaf = f.deaf } };
+    ghost view = { λ f. record {
+      journal = f.core.journal;
+      parts = f.core.parts;
+      sessions = f.core.sessions;
+      refused = f.core.refused || f.deaf;
+      told = tells L.heard L.left f.listeners;
+      deaf = f.deaf;
+    } };
 
     ghost invariant = { λ f. HaveHeard f.deaf f.core.journal.list N.told (tells L.heard L.left f.listeners) };
 }
@@ -149,7 +155,12 @@ impl<K: Keeper, N: Name, L: Listener> Factory<K, N, L> {
         }
         match self.core.step(alloc, number)? {
             Stepped::Did => {
-                match tell(alloc, self.core.journal(), &mut self.listeners, &mut self.deaf) {
+                match tell(
+                    alloc,
+                    self.core.journal(),
+                    &mut self.listeners,
+                    &mut self.deaf,
+                ) {
                     Ok(()) => Ok(Stepped::Did),
                     Err(error) => Err(error),
                 }
@@ -303,7 +314,12 @@ impl<K: Keeper, N: Name, L: Listener> Factory<K, N, L> {
             return self.core.kill(number);
         }
         self.core.kill(number)?;
-        tell(alloc, self.core.journal(), &mut self.listeners, &mut self.deaf)
+        tell(
+            alloc,
+            self.core.journal(),
+            &mut self.listeners,
+            &mut self.deaf,
+        )
     }
 
     /// Evicts a row of a cached entity from its region. What want of memory leaves is as after `step`.
@@ -326,7 +342,12 @@ impl<K: Keeper, N: Name, L: Listener> Factory<K, N, L> {
             return Err(AllocError);
         }
         self.core.evict(alloc, key)?;
-        tell(alloc, self.core.journal(), &mut self.listeners, &mut self.deaf)
+        tell(
+            alloc,
+            self.core.journal(),
+            &mut self.listeners,
+            &mut self.deaf,
+        )
     }
 
     /// A restart: the sessions that are open are killed, and nothing is cached, locked, stamped or kept any more. What want of
@@ -349,7 +370,12 @@ impl<K: Keeper, N: Name, L: Listener> Factory<K, N, L> {
             return Err(AllocError);
         }
         self.core.restart()?;
-        tell(alloc, self.core.journal(), &mut self.listeners, &mut self.deaf)
+        tell(
+            alloc,
+            self.core.journal(),
+            &mut self.listeners,
+            &mut self.deaf,
+        )
     }
 
     /// Carries an order of the schedule out.

@@ -91,8 +91,7 @@ two_passed n st a b rest f g e h =
     let first : Passed n (2 ∷ used st) a (parts_of b ++ rest) =
     f (2 ∷ used st) (parts_of b ++ rest) (further n 1 st e) (subst (λ xs. are_shallow (2 ∷ used st) xs ≡ true) (append_assoc (parts_of a) (parts_of b) rest) both.1) in
     let second : Passed n first.1.left b rest =
-    g first.1.left rest (subst (λ (ns : List ℕ). n + length ns ≡ 16) (sym first.1.same) (further n 0 st e)) first.1.shallow in
-    (
+    g first.1.left rest (subst (λ (ns : List ℕ). n + length ns ≡ 16) (sym first.1.same) (further n 0 st e)) first.1.shallow in (
       and_from (is_nested n a) (is_nested n b) first.0 second.0,
       record { left = second.1.left; same = second.1.same ∙ ap rid (used_same first.1.left (1 ∷ used st) first.1.same); shallow = second.1.shallow },
     )

@@ -72,8 +72,7 @@ from_sound : (m : List EntityDef) (f : Form) (fs : List Frame) (t : Token) → S
 from_sound m f fs t b =
     let e : Option ℕ = entity_at m (word_of t) in
     let none : (f.nodes ≡ []) × (f.order ≡ []) × (f.select ≡ Select.Ids) = b.1.head refl in
-    then_if (is_a_word t) (lines.at (lines.chosen f e) fs Place.Chosen) None (Holds m)
-    (
+    then_if (is_a_word t) (lines.at (lines.chosen f e) fs Place.Chosen) None (Holds m) (
       b.0,
       record {
         parts = λ _ _. subst (λ (ns : List Node). list_all (λ x. fits_part m (unwrap_or e 0) x) ns ≡ true) (sym none.0) refl;
@@ -144,8 +143,7 @@ closed_sound : (m : List EntityDef) (f : Form) (fs : List Frame) → Sound m f f
 closed_sound m f [] b = tt
 closed_sound m f (Frame.Closing ∷ fs) b =
     let q : Place = lines.behind fs in
-    let i : IsBehind q = behind_so fs in
-    (
+    let i : IsBehind q = behind_so fs in (
       subst (λ v. Nested f.nodes f.deep fs v) (sym i.within) (record { shallow = b.0.shallow; state = b.0.state }),
       fitted m f.nodes f.unknown f.mistyped f.entity f.order f.select Place.Condition q b.1 (not_head q i.head) (i.at m f.entity f.unknown f.mistyped),
       kept f.nodes f.deep f.bad_number f.offset f.limit f.order f.select Place.Condition q b.2 refl,
@@ -232,8 +230,7 @@ operand_sound : (m : List EntityDef) (f : Form) (fs : List Frame) (op : Op) (c :
 operand_sound m f fs op c None i b = tt
 operand_sound m f fs op c (Some x) i b =
     let node : Node = Node.Test op (path_or_first c) x in
-    let bad : Bool = not (is_typed c x && is_comparable op c) in
-    (
+    let bad : Bool = not (is_typed c x && is_comparable op c) in (
       noted f.nodes f.deep fs (Frame.Closing ∷ fs) node b.0 refl,
       parted m f.nodes node f.unknown f.mistyped bad f.entity f.order f.select (Place.Operand op c) Place.Condition b.1 (λ g h. test_fits m f.entity f.unknown f.mistyped op c x b.1.at i g h) refl tt,
       plain_longer f.nodes node f.deep f.bad_number f.offset f.limit f.order f.select (Place.Operand op c) Place.Condition b.2 refl refl,
@@ -259,8 +256,7 @@ operand_more : (m : List EntityDef) (f : Form) (fs : List Frame) (c : Option Col
 operand_more m f fs c xs None i b = tt
 operand_more m f fs c xs (Some x) i b =
     let bad : Bool = not (is_typed c x) in
-    let n : IsNamed m f.entity f.unknown c = b.1.at.0 in
-    (
+    let n : IsNamed m f.entity f.unknown c = b.1.at.0 in (
       b.0,
       record {
         parts = λ g h. b.1.parts g (or_parts f.mistyped bad h).0;
@@ -297,8 +293,7 @@ order_sound : (m : List EntityDef) (f : Form) (fs : List Frame) (p : Place) (t :
 order_sound m f fs p t w o b =
     let c : Option Found = plain_column (columns_of m f.entity) (word_of t) in
     let q : Place = Place.Sorted (place_or_first c) in
-    then_if (is_a_word t && not (lines.is_clause t)) (lines.sorted f fs c) None (Holds m)
-    (
+    then_if (is_a_word t && not (lines.is_clause t)) (lines.sorted f fs c) None (Holds m) (
       subst (λ v. Nested f.nodes f.deep fs v) w b.0,
       missed m f.nodes f.unknown f.mistyped (is_none c) f.entity f.order f.select p q b.1 refl (λ g. place_in (length (columns m f.entity)) f.unknown c (found_in m f.entity (word_of t)) g),
       kept f.nodes f.deep f.bad_number f.offset f.limit f.order f.select p q b.2 o,
@@ -312,8 +307,7 @@ sorting_sound m f fs p t w o h b =
 -- a column of the order more
 with_sort : (m : List EntityDef) (f : Form) (fs : List Frame) (c : ℕ) (desc : Bool) → Sound m f fs (Place.Sorted c) → Sound m (lines.with_sort f c desc) fs Place.Sorting
 with_sort m f fs c desc b =
-    let s : Sort = record { column = c; desc = desc } in
-    (
+    let s : Sort = record { column = c; desc = desc } in (
       b.0,
       record {
         parts = b.1.parts;
@@ -355,8 +349,7 @@ from_one most _ h = absurd (false≢true h)
 offset_sound : (m : List EntityDef) (f : Form) (fs : List Frame) (t : Token) → Sound m f fs Place.Offset → Then (lines.step_offset f fs t) (Holds m)
 offset_sound m f fs t b =
     let g : Form = record f { offset = Some (number_up_to 1000000 t); bad_number = f.bad_number || not (is_within 0 1000000 t) } in
-    then_if (is_a_number t) (lines.at g fs Place.Clauses) None (Holds m)
-    (
+    then_if (is_a_number t) (lines.at g fs Place.Clauses) None (Holds m) (
       b.0,
       fitted m f.nodes f.unknown f.mistyped f.entity f.order f.select Place.Offset Place.Clauses b.1 (λ h. h) tt,
       record {
@@ -373,8 +366,7 @@ offset_sound m f fs t b =
 limit_sound : (m : List EntityDef) (f : Form) (fs : List Frame) (t : Token) → Sound m f fs Place.Limit → Then (lines.step_limit f fs t) (Holds m)
 limit_sound m f fs t b =
     let g : Form = record f { limit = Some (number_up_to 200 t); bad_number = f.bad_number || not (is_within 1 200 t) } in
-    then_if (is_a_number t) (lines.at g fs Place.Clauses) None (Holds m)
-    (
+    then_if (is_a_number t) (lines.at g fs Place.Clauses) None (Holds m) (
       b.0,
       fitted m f.nodes f.unknown f.mistyped f.entity f.order f.select Place.Limit Place.Clauses b.1 (λ h. h) tt,
       record {

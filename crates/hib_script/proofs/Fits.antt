@@ -203,10 +203,10 @@ none_mapped (r ∷ rows) k h =
 
 turned : (j k : Key) → same_key j k ≡ false → same_key k j ≡ false
 turned j k h = false_from_ne_true (same_key k j) (λ e.
-  let both : ((k.entity == j.entity) ≡ true) × ((k.id == j.id) ≡ true) = and_parts (k.entity == j.entity) (k.id == j.id) e in
-  let a : k.entity ≡ j.entity = eqb-true k.entity j.entity both.0 in
-  let b : k.id ≡ j.id = eqb-true k.id j.id both.1 in
-  false≢true (sym h ∙ subst (λ n. ((j.entity == n) && (j.id == k.id)) ≡ true) (sym a) (subst (λ n. ((j.entity == j.entity) && (j.id == n)) ≡ true) (sym b) (and_from (j.entity == j.entity) (j.id == j.id) (same j.entity) (same j.id)))))
+    let both : ((k.entity == j.entity) ≡ true) × ((k.id == j.id) ≡ true) = and_parts (k.entity == j.entity) (k.id == j.id) e in
+    let a : k.entity ≡ j.entity = eqb-true k.entity j.entity both.0 in
+    let b : k.id ≡ j.id = eqb-true k.id j.id both.1 in
+    false≢true (sym h ∙ subst (λ n. ((j.entity == n) && (j.id == k.id)) ≡ true) (sym a) (subst (λ n. ((j.entity == j.entity) && (j.id == n)) ≡ true) (sym b) (and_from (j.entity == j.entity) (j.id == j.id) (same j.entity) (same j.id)))))
 
 pub rows_more : (rows : List (Key × Row)) (x : Key × Row) → IsRows rows → is_given x ≡ true → has_key rows x.0 ≡ false → IsRows (rows ++ x ∷ [])
 rows_more rows x k g f = (
