@@ -2,5 +2,12 @@
 #![tactic(auto)]
 
 mod body;
+mod memory;
+mod statements;
+mod store;
+mod table;
 
 pub use body::{can_pack, pack, unpack};
+pub use memory::MemoryTable;
+pub use store::StoreTable;
+pub use table::RowTable;
