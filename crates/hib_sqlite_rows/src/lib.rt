@@ -3,11 +3,13 @@
 
 mod body;
 mod memory;
+mod reads;
 mod statements;
 mod store;
 mod table;
 
 pub use body::{can_pack, pack, unpack};
 pub use memory::MemoryTable;
+pub use reads::{list, read};
 pub use store::StoreTable;
 pub use table::RowTable;

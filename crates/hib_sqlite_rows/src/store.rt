@@ -20,7 +20,7 @@ impl<S: Alter + Drop> StoreTable<S> {
     }
 }
 
-impl<S: Alter + Send> RowTable for StoreTable<S> {
+impl<S: Alter> RowTable for StoreTable<S> {
     ghost told = { λ _. None };
 
     ghost ordered = { λ _. tt };

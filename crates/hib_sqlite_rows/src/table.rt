@@ -10,7 +10,7 @@ use sqlite::{Error, Row as SqlRow};
 use std::alloc::Global;
 
 /// A table of rows in SQL. At an error nothing has changed, or the transaction is undone.
-pub trait RowTable: Send {
+pub trait RowTable {
     /// What it tells, where it tells anything.
     ghost told: { Self → Option Told };
 
