@@ -2,6 +2,10 @@
 #![tactic(auto)]
 
 mod batch;
+mod fits;
+mod keeper;
+mod open;
 
 pub use hib_sqlite_rows::{pack, unpack};
-pub use batch::{apply, seed};
+pub use keeper::{SqlKeeper, SqliteKeeper, SqliteTables};
+pub use open::{adopt, in_memory, open_file};

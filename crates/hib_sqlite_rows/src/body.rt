@@ -17,6 +17,7 @@ fn can_pack_cell(cell: &Cell) -> bool
     ensures { IsTrue result ↔ IsPackableCell cell.now }
 {
     match cell {
+        // A number that is read is known to be within its type.
         Cell::Int(number) => {
             let _number = *number;
             true

@@ -46,6 +46,8 @@ impl RowTable for MemoryTable {
 
     ghost told = { λ t. Some (told_of t) };
 
+    ghost tells = { true };
+
     ghost ordered = { λ t. tables_in_order t.now };
 
     fn select(&mut self, key: Key) -> Result<Vec<SqlRow>, Error> {

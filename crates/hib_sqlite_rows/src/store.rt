@@ -1,9 +1,10 @@
 // The table over any store, which tells nothing.
+ghost use Rattle.std.specs.Prelude.{false};
 ghost use Rattle.std.specs.declared.option.Option.TheVariants.{None};
 
 use crate::{RowTable, pack, statements};
 use hib_base::{EntityNo, Key, Row};
-use sqlite::{Alter, Connection, Error, Row as SqlRow};
+use sqlite::{Alter, Connection, Error, ErrorCode, Row as SqlRow};
 use std::alloc::Global;
 
 /// The table of a connection over any store, such as a file. It tells nothing.
@@ -13,8 +14,11 @@ pub struct StoreTable<S: Alter> {
 }
 
 impl<S: Alter + Drop> StoreTable<S> {
-    /// The table of a connection, which it makes where it isn't there.
+    /// The table of a connection that has begun no transaction. It is made where it isn't there.
     pub fn over(mut conn: Connection<S>) -> Result<StoreTable<S>, Error> {
+        if !conn.is_autocommit() {
+            return Err(Error::SqliteFailure(ErrorCode::TransactionState));
+        }
         statements::create(&mut conn)?;
         Ok(StoreTable { conn })
     }
@@ -22,6 +26,8 @@ impl<S: Alter + Drop> StoreTable<S> {
 
 impl<S: Alter> RowTable for StoreTable<S> {
     ghost told = { λ _. None };
+
+    ghost tells = { false };
 
     ghost ordered = { λ _. tt };
 

@@ -1,5 +1,5 @@
 // The table of rows, with a function for each statement.
-ghost use Rattle.std.specs.Prelude.{◌≡◌, ◌≢◌, ◌<◌, ◌^◌, None, true, false, IfOk, IfSome, OnOk, OnErr};
+ghost use Rattle.std.specs.Prelude.{◌≡◌, ◌≢◌, ◌<◌, ◌^◌, Bool, None, true, false, IfOk, IfSome, OnOk, OnErr};
 ghost use Rattle.std.specs.declared.option.Option.{Option};
 ghost use Rattle.hib_base.specs.Tables.{row_at, with_row, without_row, in_order};
 ghost use Rattle.hib_sqlite_rows.specs.Told.{Told, changed, begun, committed, rolled_back, LeavesOrUndoes};
@@ -13,6 +13,9 @@ use std::alloc::Global;
 pub trait RowTable {
     /// What it tells, where it tells anything.
     ghost told: { Self → Option Told };
+
+    /// Whether a table of this type tells its rows. One that couldn't be opened then has none.
+    ghost tells: { Bool };
 
     /// The version and the body of a key's row, or nothing.
     fn select(&mut self, key: Key) -> Result<Vec<SqlRow>, Error>

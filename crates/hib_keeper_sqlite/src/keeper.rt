@@ -1,0 +1,145 @@
+// A keeper over a table of rows in SQL.
+ghost use Rattle.std.specs.Prelude.{◌≡◌, ◌≤◌, None, IfOk, IfErr};
+ghost use Rattle.hib_outside.specs.Causes.{Rose, one_more};
+ghost use Rattle.hib_outside.specs.declared.keeper.KeepFault.TheVariants.{NoMemory, Failed};
+ghost use Rattle.hib_keeper_sqlite.specs.Batches.{IsAtRest};
+ghost use Rattle.hib_keeper_sqlite.specs.Keeps.{told_in, tables_in};
+
+use crate::batch;
+use crate::fits::{batch_fits, key_fits, rows_fit};
+use hib_base::{Change, EntityNo, Key, Row, Rows};
+use hib_outside::{Applied, KeepFault, Keeper};
+use hib_sqlite_rows::{MemoryTable, RowTable, StoreTable, list, read};
+use sqlite::{Error, ErrorCode};
+use std::alloc::Global;
+
+/// A keeper over a table of rows in SQL. Where the table couldn't be opened, each call fails.
+#[derive(Drop)]
+pub struct SqlKeeper<T: RowTable> {
+    table: Option<T>,
+    faults: u64,
+    asked: u64,
+    ghost rest: { IsAtRest (told_in T.tells T.told table) },
+}
+
+/// The keeper in memory, which tells its tables.
+pub type SqliteTables = SqlKeeper<MemoryTable>;
+
+/// The keeper over any store, such as a file. It tells nothing.
+pub type SqliteKeeper<S> = SqlKeeper<StoreTable<S>>;
+
+impl<T: RowTable> SqlKeeper<T> {
+    /// The keeper over a table. It hasn't failed, and was asked for nothing yet.
+    pub(crate) fn over(table: T) -> SqlKeeper<T>
+        requires { IsAtRest (T.told table) }
+        ensures table { told_in T.tells T.told result.table ≡ T.told table }
+        ensures counts { (result.faults ≡ 0) × (result.asked ≡ 0) }
+    {
+        SqlKeeper {
+            table: Some(table),
+            faults: 0,
+            asked: 0,
+        }
+    }
+
+    /// The keeper of a table that couldn't be opened, or the fault where memory ran out.
+    pub(crate) fn without(error: Error) -> Result<SqlKeeper<T>, KeepFault>
+        ensures table { IfOk result (λ k. k.table ≡ None) }
+        ensures counts { IfOk result (λ k. (k.faults ≡ 0) × (k.asked ≡ 0)) }
+        ensures err { IfErr result (λ e. e ≡ NoMemory) }
+    {
+        match error {
+            Error::SqliteFailure(ErrorCode::OutOfMemory) => Err(KeepFault::NoMemory),
+            _ => Ok(SqlKeeper {
+                table: None,
+                faults: 0,
+                asked: 0,
+            }),
+        }
+    }
+}
+
+/// Counts a failure.
+fn failed(faults: &mut u64) -> KeepFault
+    ensures count { faults.new ≡ one_more faults.old }
+    ensures later { faults.old ≤ faults.new }
+    ensures rose { Rose faults.old faults.new }
+    ensures fault { result ≡ Failed }
+{
+    *faults = faults.saturating_add(1);
+    KeepFault::Failed
+}
+
+/// What an error of SQL is to a keeper. The count rises unless memory ran out.
+fn cause(faults: &mut u64, error: Error) -> KeepFault
+    ensures later { faults.old ≤ faults.new }
+    ensures failed { result ≡ Failed → Rose faults.old faults.new }
+{
+    match error {
+        Error::SqliteFailure(ErrorCode::OutOfMemory) => KeepFault::NoMemory,
+        _ => failed(faults),
+    }
+}
+
+impl<T: RowTable + Send> Keeper for SqlKeeper<T> {
+    ghost use Rattle.hib_keeper_sqlite.specs.Ordered.{tables_in_order};
+
+    ghost tables = { λ k. tables_in T.RowTable.tells T.RowTable.told k.table };
+
+    ghost faults = { λ k. k.faults };
+
+    ghost asked = { λ k. k.asked };
+
+    ghost ordered = { λ k. tables_in_order T.RowTable.tells T.RowTable.told T.RowTable.ordered k.table };
+
+    fn seed(&mut self, alloc: Global, rows: &[(Key, Row)]) -> Result<(), KeepFault> {
+        let Some(table) = &mut self.table else {
+            return Err(failed(&mut self.faults));
+        };
+        if !rows_fit(rows) {
+            return Err(failed(&mut self.faults));
+        }
+        match batch::seed(table, alloc, rows) {
+            Ok(()) => Ok(()),
+            Err(error) => Err(cause(&mut self.faults, error)),
+        }
+    }
+
+    fn read(&mut self, alloc: Global, key: Key) -> Result<Option<Row>, KeepFault> {
+        self.asked = self.asked.saturating_add(1);
+        let Some(table) = &mut self.table else {
+            return Err(failed(&mut self.faults));
+        };
+        if !key_fits(&key) {
+            return Err(failed(&mut self.faults));
+        }
+        match read(table, alloc, key) {
+            Ok(row) => Ok(row),
+            Err(error) => Err(cause(&mut self.faults, error)),
+        }
+    }
+
+    fn list(&mut self, alloc: Global, entities: &[EntityNo]) -> Result<Rows, KeepFault> {
+        self.asked = self.asked.saturating_add(1);
+        let Some(table) = &mut self.table else {
+            return Err(failed(&mut self.faults));
+        };
+        match list(table, alloc, entities) {
+            Ok(rows) => Ok(rows),
+            Err(error) => Err(cause(&mut self.faults, error)),
+        }
+    }
+
+    fn apply(&mut self, alloc: Global, batch: &[Change]) -> Result<Applied, KeepFault> {
+        let Some(table) = &mut self.table else {
+            return Err(failed(&mut self.faults));
+        };
+        if !batch_fits(batch) {
+            return Err(failed(&mut self.faults));
+        }
+        match batch::apply(table, alloc, batch) {
+            Ok(applied) => Ok(applied),
+            Err(error) => Err(cause(&mut self.faults, error)),
+        }
+    }
+}
