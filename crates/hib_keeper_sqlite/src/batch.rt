@@ -104,11 +104,7 @@ fn apply_one<T: RowTable>(
 }
 
 /// Makes changes in a transaction up to the first that doesn't apply.
-fn apply_all<T: RowTable>(
-    table: &mut T,
-    alloc: Global,
-    batch: &[Change],
-) -> Result<Applied, Error>
+fn apply_all<T: RowTable>(table: &mut T, alloc: Global, batch: &[Change]) -> Result<Applied, Error>
     requires range { All IsKeepable batch.now }
     requires inside { IfSome (T.told table.old) (λ t. t.in_transaction ≡ true) }
     ensures verdict { IfOk result (λ a. IfSome (T.told table.old) (λ t. a ≡ verdict t.now batch.now 0)) }

@@ -36,10 +36,7 @@ pub fn adopt<S: Alter + Drop>(connection: Connection<S>) -> Result<SqliteKeeper<
 
 /// Opens the file at a path, or makes it, and the table `hib_rows` in it. It is refused for want of memory alone. Where the
 /// file can't be opened, as one that another program has open, or the table can't be made, each later call fails.
-pub fn open_file(
-    rt: &HostRuntime,
-    path: &str,
-) -> Result<SqliteKeeper<FileStore<File>>, KeepFault>
+pub fn open_file(rt: &HostRuntime, path: &str) -> Result<SqliteKeeper<FileStore<File>>, KeepFault>
     ensures err { IfErr result (λ e. e ≡ NoMemory) }
 {
     match Connection::open(rt, path) {

@@ -22,6 +22,11 @@ impl<S: Alter + Drop> StoreTable<S> {
         statements::create(&mut conn)?;
         Ok(StoreTable { conn })
     }
+
+    /// The connection, which has the table.
+    pub fn into_connection(self) -> Connection<S> {
+        self.conn
+    }
 }
 
 impl<S: Alter> RowTable for StoreTable<S> {
