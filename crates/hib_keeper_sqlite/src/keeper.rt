@@ -1,5 +1,6 @@
 // A keeper over a table of rows in SQL.
 ghost use Rattle.std.specs.Prelude.{◌≡◌, ◌+◌, ◌≤◌, length, None, Err, IfOk, IfErr, IfSome};
+ghost use Rattle.std.specs.Option.{option_map};
 ghost use Rattle.hib_base.specs.Tables.{row_at};
 ghost use Rattle.hib_outside.specs.Keeps.{tables_seeded, tables_after, rows_of};
 ghost use Rattle.hib_outside.specs.Verdicts.{verdict, IsPlace};
@@ -65,7 +66,9 @@ impl<T: RowTable> SqlKeeper<T> {
 impl<S: Alter + Drop> SqlKeeper<StoreTable<S>> {
     /// Gives the connection back, if there is one. So a file can be closed by `close_files`, which leaves all in the
     /// database file, and nothing in the log beside it.
-    pub fn into_connection(self) -> Option<Connection<S>> {
+    pub fn into_connection(self) -> Option<Connection<S>>
+        ensures { result ≡ option_map (λ table. table.conn) self.table }
+    {
         let SqlKeeper {
             table,
             faults: _,

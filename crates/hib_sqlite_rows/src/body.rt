@@ -10,7 +10,9 @@ const MOST: usize = 255;
 
 /// What stands before the bytes of a number, of a text and of a truth.
 const NUMBER: u8 = 1;
+
 const TEXT: u8 = 2;
+
 const TRUTH: u8 = 3;
 
 fn can_pack_cell(cell: &Cell) -> bool

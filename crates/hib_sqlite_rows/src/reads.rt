@@ -94,11 +94,7 @@ fn distinct(alloc: Global, entities: &[EntityNo]) -> Result<Vec<u16>, AllocError
 }
 
 /// All rows of these entities, in order of keys.
-pub fn list<T: RowTable>(
-    table: &mut T,
-    alloc: Global,
-    entities: &[EntityNo],
-) -> Result<Rows, Error>
+pub fn list<T: RowTable>(table: &mut T, alloc: Global, entities: &[EntityNo]) -> Result<Rows, Error>
     ensures rows { IfOk result (λ rows. IfSome (T.told table.old) (λ t. rows ≡ rows_of entities.now t.now)) }
     ensures same { OnOk result (T.told table.new ≡ T.told table.old) }
     ensures err { OnErr result (LeavesOrUndoes (T.told table.old) (T.told table.new)) }

@@ -19,10 +19,10 @@ returns-clause-rising c = subst IsStrictlyIncreasing (sym (left c)) (IsStrictlyI
 
 pub returns-clause-same : goal.returns-clause-same
 returns-clause-same c = λ n. (
-    (λ h. subst (λ l. Contains l n) (all c)
-        (Contains-permutation c.sort_unstable.new.self.items c.loop-entity.numbers.items n (IsPermutation-sym c.loop-entity.numbers.items c.sort_unstable.new.self.items c.sort_unstable.ensures.permutation)
-        (Contains-from_dedup eqb c.sort_unstable.new.self.items n (subst (λ l. Contains l n) (left c) h)))),
-    (λ h. subst (λ l. Contains l n) (sym (left c))
-        (Contains-dedup_nat c.sort_unstable.new.self.items n
-        (Contains-permutation c.loop-entity.numbers.items c.sort_unstable.new.self.items n c.sort_unstable.ensures.permutation (subst (λ l. Contains l n) (sym (all c)) h)))),
+  (λ h. subst (λ l. Contains l n) (all c)
+      (Contains-permutation c.sort_unstable.new.self.items c.loop-entity.numbers.items n (IsPermutation-sym c.loop-entity.numbers.items c.sort_unstable.new.self.items c.sort_unstable.ensures.permutation)
+      (Contains-from_dedup eqb c.sort_unstable.new.self.items n (subst (λ l. Contains l n) (left c) h)))),
+  (λ h. subst (λ l. Contains l n) (sym (left c))
+      (Contains-dedup_nat c.sort_unstable.new.self.items n
+      (Contains-permutation c.loop-entity.numbers.items c.sort_unstable.new.self.items n c.sort_unstable.ensures.permutation (subst (λ l. Contains l n) (sym (all c)) h)))),
 )
