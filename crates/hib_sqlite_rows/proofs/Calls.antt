@@ -1,5 +1,5 @@
 -- The statements over a connection in memory.
-use Rattle.std.proofs.Common.{◌≡◌, ◌≢◌, ℕ, pos, Bool, true, false, not, List, [], ◌∷◌, map, Some, None, Option, Ok, Err, Result, IfOk, IfErr, OnOk, OnErr, refl, sym, ◌∙◌, ap}
+use Rattle.std.proofs.Common.{◌≡◌, ◌≢◌, ℕ, pos, Bool, true, false, not, List, [], ◌∷◌, Some, None, Option, Ok, Err, Result, IfOk, IfErr, OnOk, OnErr, refl, sym, ◌∙◌, ap}
 use Rattle.sqlite_value.specs.declared.value.Value.TheVariants.{Int, Blob}
 use Rattle.sqlite_value.specs.declared.value.ValueRef.{ValueRef}
 use Rattle.sqlite_value.specs.Value.{owned}
@@ -17,7 +17,7 @@ use Rattle.hib_base.specs.Tables.{row_at, with_row, without_row}
 use Rattle.hib_sqlite_rows.specs.Types.{Key, Row}
 use Rattle.hib_sqlite_rows.specs.Body.{packed}
 use Rattle.hib_sqlite_rows.specs.Texts.{insert_text, update_text, delete_text, begin_text, commit_text, rollback_text, read_text, list_text}
-use Rattle.hib_sqlite_rows.specs.Told.{Told, at_rest, LeavesOrUndoes, rows_in}
+use Rattle.hib_sqlite_rows.specs.Told.{Told, at_rest, LeavesOrUndoes}
 use Rattle.hib_sqlite_rows.specs.Shown.{IsInRange, bound_key, bound_row, ShowsKey, ShowsEntity}
 use Rattle.hib_sqlite_rows.specs.Stored.{kept_schema, tables_of, KeepsRows}
 use Rattle.hib_sqlite_rows.proofs.Told.{packable_at, packable_in}

@@ -1,14 +1,12 @@
 -- The rows of several entities, in order, are those of the least and then those of the others.
-use Rattle.std.proofs.Common.{◌≡◌, ◌⊎◌, ◌↔◌, inl, inr, ◌+◌, ◌<◌, ◌≤◌, ℕ, zero, suc, Bool, true, false, cond, ◌==◌, nat_eq, List, [], ◌∷◌, ◌++◌, length, drop, get_or, filter, Contains, Some, None, Option, IfSome, refl, sym, ◌∙◌, subst, ap, arith, true≢false, eq-eqb, append-nil, append_assoc, add-one}
+use Rattle.std.proofs.Common.{◌≡◌, ◌⊎◌, ◌↔◌, inl, inr, ◌+◌, ◌<◌, ◌≤◌, ℕ, zero, suc, Bool, true, false, cond, ◌==◌, nat_eq, List, [], ◌∷◌, ◌++◌, length, drop, get_or, Contains, Some, None, Option, IfSome, refl, sym, ◌∙◌, subst, ap, arith, true≢false, eq-eqb, append-nil, append_assoc, add-one}
 use native.Mathlib.Numerals.{unary_clauses}
-use Rattle.std.specs.List.{list_any, AllByRecursion}
+use Rattle.std.specs.List.{AllByRecursion}
 use Rattle.std.specs.List.Sorted.{IsStrictlyIncreasing}
-use Rattle.std.proofs.lemmas.Bool.{eqb-true, ne_eqb, or_cases, cases_Bool}
+use Rattle.std.proofs.lemmas.Bool.{eqb-true, ne_eqb, or_cases}
 use Rattle.std.proofs.lemmas.List.Folds.{list_any_at}
-use Rattle.sqlite_rules.specs.Lists.{Has}
 use Rattle.sqlite_rules.proofs.ListLemmas.{all_from, all_has, some_has}
 use Rattle.sqlite_trees.proofs.ListLemmas.{filter_none}
-use Rattle.hib_base.specs.Keys.{is_before}
 use Rattle.hib_base.specs.Tables.{Tables, is_first, in_order}
 use Rattle.hib_base.proofs.Tables.{Tested, tested}
 use Rattle.hib_outside.specs.Keeps.{is_listed, rows_of}

@@ -1,6 +1,6 @@
 -- The table of SQL, and the rows that it stands for.
 use Rattle.std.specs.Fmt.{decimal}
-use Rattle.std.specs.Prelude.{◌++◌, ◌≡◌, ◌<◌, ◌^◌, true, false, Bool, [], ◌∷◌, Some, None, Option, codes, List, ℕ, ℤ, pos, IsTrue, IfSome, unwrap_or}
+use Rattle.std.specs.Prelude.{◌++◌, ◌≡◌, true, false, Bool, [], ◌∷◌, Some, None, Option, codes, List, ℕ, ℤ, pos, IsTrue, unwrap_or}
 use Rattle.sqlite.specs.declared.types.Value.{Value}
 use Rattle.sqlite.specs.declared.types.Value.TheVariants.{Null, Int}
 use Rattle.sqlite.specs.Collation.TheVariants.{Binary}
@@ -16,7 +16,7 @@ use Rattle.sqlite.specs.Kind.TheVariants.{Integer, Blob}
 use Rattle.sqlite_schema.specs.declared.schema.Index.{Index}
 use Rattle.hib_base.specs.Tables.{Tables, with_row}
 use Rattle.hib_sqlite_rows.specs.Types.{Key, Row, Cell}
-use Rattle.hib_sqlite_rows.specs.Body.{unpacked, IsPackable}
+use Rattle.hib_sqlite_rows.specs.Body.{unpacked}
 use Rattle.hib_sqlite_rows.specs.Shown.{shown, IsInRange}
 use Rattle.hib_sqlite_rows.specs.Told.{Told}
 

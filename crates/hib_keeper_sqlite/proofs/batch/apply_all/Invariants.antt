@@ -1,7 +1,7 @@
-use Rattle.std.proofs.Common.{◌≡◌, true, drop, take, IfSome}
+use Rattle.std.proofs.Common.{◌≡◌, drop, take, IfSome}
 use Rattle.hib_base.specs.Tables.{after_changes}
 use Rattle.hib_outside.specs.Verdicts.{verdict}
-use Rattle.hib_sqlite_rows.specs.Told.{changed, rolled_back}
+use Rattle.hib_sqlite_rows.specs.Told.{changed}
 use Rattle.hib_keeper_sqlite.proofs.batch.apply_all.Given as goal
 
 abbrev pub invariant-loop-at : goal.invariant-loop-at

@@ -1,5 +1,4 @@
-use Rattle.std.proofs.Common.{◌∙◌, subst, arith}
-use Rattle.std.specs.List.Sorted.{IsStrictlyIncreasing}
+use Rattle.std.proofs.Common.{◌∙◌, arith}
 use Rattle.std.proofs.lemmas.List.{drop_all}
 use Rattle.hib_sqlite_rows.proofs.Entities.{more_rows, all_rows}
 use Rattle.hib_sqlite_rows.proofs.reads.list.Goals as goal
