@@ -1,0 +1,180 @@
+// A disk that stops at a call. Step by step a keeper is given rows, the disk stops, and is opened again.
+use hib_base::{Cell, Change, EntityNo, Key, Row, Seq};
+use hib_keeper_sqlite::{SqliteKeeper, adopt};
+use hib_outside::{Applied, Keeper};
+use sqlite::{Connection, FileStore, Files, Options};
+use sqlite_disk::{Crash, Fuse, Memory};
+use std::alloc::Global;
+use std::io;
+
+/// More calls than a run makes of one of its files.
+const MOST_CALLS: u64 = 1000;
+
+const STEPS: i64 = 4;
+
+fn key(id: u64) -> Key {
+    Key {
+        entity: EntityNo(1),
+        id,
+    }
+}
+
+fn row(alloc: Global, step: i64) -> Option<Row> {
+    let mut cells = Seq::new(alloc);
+    cells.push(Cell::Int(step)).ok()?;
+    Some(Row {
+        version: None,
+        cells,
+    })
+}
+
+fn seed<K: Keeper>(alloc: Global, keeper: &mut K) -> Option<()> {
+    let mut rows = Vec::new(alloc);
+    rows.push((key(1), row(alloc, 1)?)).ok()?;
+    rows.push((key(2), row(alloc, 1)?)).ok()?;
+    keeper.seed(alloc, rows.as_slice()).ok()
+}
+
+fn update(alloc: Global, id: u64, step: i64) -> Option<Change> {
+    Some(Change::Update {
+        key: key(id),
+        expected: None,
+        row: row(alloc, step)?,
+    })
+}
+
+/// Gives both rows the number of the step.
+fn apply<K: Keeper>(alloc: Global, keeper: &mut K, step: i64) -> Option<()> {
+    let mut batch = Vec::new(alloc);
+    batch.push(update(alloc, 1, step)?).ok()?;
+    batch.push(update(alloc, 2, step)?).ok()?;
+    match keeper.apply(alloc, batch.as_slice()) {
+        Ok(Applied::Done) => Some(()),
+        _ => None,
+    }
+}
+
+/// The last step that was answered with Done; 0 where the seed wasn't.
+fn last_done<K: Keeper>(alloc: Global, keeper: &mut K) -> i64 {
+    if seed(alloc, keeper).is_none() {
+        return 0;
+    }
+    let mut done = 1;
+    for step in 2..=STEPS {
+        if apply(alloc, keeper, step).is_none() {
+            return done;
+        }
+        done = step;
+    }
+    done
+}
+
+/// The step that a row shows; 0 where there is no row.
+fn step_of<K: Keeper>(alloc: Global, keeper: &mut K, id: u64) -> Option<i64> {
+    let Some(row) = keeper.read(alloc, key(id)).ok()? else {
+        return Some(0);
+    };
+    match row.cells.as_slice() {
+        [Cell::Int(step)] => Some(*step),
+        _ => None,
+    }
+}
+
+/// What a stop leaves.
+#[derive(Clone, Copy, PartialEq, Eq)]
+enum Left {
+    /// No table: the file couldn't be opened, or its table not be made, before the stop.
+    Nothing,
+    /// The rows after a step, and none before one that was answered.
+    Step,
+    /// The same, and the run came to its end.
+    Last,
+    /// Something else.
+    Broken,
+}
+
+/// What a keeper shows after a run whose last answered step is this.
+fn judge<K: Keeper>(alloc: Global, keeper: &mut K, done: i64) -> Left {
+    let first = step_of(alloc, keeper, 1);
+    let second = step_of(alloc, keeper, 2);
+    match (first, second) {
+        (Some(first), Some(second)) if first == second && done <= first => {
+            if done == STEPS {
+                Left::Last
+            } else {
+                Left::Step
+            }
+        }
+        _ => Left::Broken,
+    }
+}
+
+/// A keeper over a database file and its log.
+type DiskKeeper<D> = SqliteKeeper<FileStore<D>>;
+
+fn open<D: Crash + Drop>(alloc: Global, files: Files<D>) -> Option<DiskKeeper<D>> {
+    if !files.may_be_used() {
+        return None;
+    }
+    match Connection::open_files(alloc, files, Options::new(7)) {
+        Ok(conn) => adopt(conn).ok(),
+        Err(_) => None,
+    }
+}
+
+/// The keeper's files, after a crash.
+fn crashed<D: Crash + Drop>(keeper: DiskKeeper<D>) -> Option<Files<D>> {
+    let mut files = keeper.into_connection()?.into_store().close();
+    files.log.crash();
+    files.db.crash();
+    Some(files)
+}
+
+/// Opens the keeper again after a crash, and judges what it shows.
+fn after_crash<D: Crash + Drop + Send>(alloc: Global, keeper: DiskKeeper<D>, done: i64) -> Left {
+    let Some(files) = crashed(keeper) else {
+        return Left::Nothing;
+    };
+    match open(alloc, files) {
+        Some(mut again) => judge(alloc, &mut again, done),
+        None => Left::Broken,
+    }
+}
+
+/// Runs over files that may stop, and judges what is left after a crash.
+fn after_stop<D: Crash + Drop + Send>(alloc: Global, log: D, db: D) -> Left {
+    match open(alloc, Files { log, db }) {
+        Some(mut keeper) => {
+            let done = last_done(alloc, &mut keeper);
+            after_crash(alloc, keeper, done)
+        }
+        None => Left::Nothing,
+    }
+}
+
+fn fused(alloc: Global, calls: u64) -> Fuse<Memory> {
+    Fuse::new(Memory::new(alloc), calls)
+}
+
+/// Stops the log or the database file at each call in turn, up to a run that ends before. Whether each time the rows are
+/// those after one step, and none before one that was answered.
+pub fn holds_at_each_stop(alloc: Global, of_log: bool) -> bool {
+    for calls in 0..MOST_CALLS {
+        let (log, db) = if of_log {
+            (calls, u64::MAX)
+        } else {
+            (u64::MAX, calls)
+        };
+        match after_stop(alloc, fused(alloc, log), fused(alloc, db)) {
+            Left::Nothing | Left::Step => {}
+            Left::Last => return true,
+            Left::Broken => return false,
+        }
+    }
+    false
+}
+
+pub fn tell(rt: &impl Print, name: &str, holds: bool) -> io::Result<()> {
+    let end = if holds { "ok" } else { "it isn't so" };
+    println!(rt; "stops of the {name}: {end}")
+}

@@ -1,0 +1,4 @@
+pub mod Types
+pub mod Batches
+pub mod Keeps
+pub mod Ordered
