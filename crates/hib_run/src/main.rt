@@ -2,12 +2,16 @@
 #![tactic(auto)]
 
 use hib_base::Seq;
+use hib_keeper_sqlite::{SqliteKeeper, in_memory, open_file};
 use hib_listeners::Trace;
-use hib_outside::{Listener, MemKeeper, OpenGate, StdSink, StdSource};
+use hib_outside::{Keeper, Listener, MemKeeper, OpenGate, StdSink, StdSource};
 use hib_top::{Status, status_line, top};
 use hib_words::{Command, VERSION, help};
+use sqlite::{File, FileStore};
 use std::alloc::{AllocError, Global};
 use std::process::ExitCode;
+use std::sync::Wait;
+use std::thread::Threads;
 use std::{env, io};
 
 fn main(rt: HostRuntime) -> io::Result<ExitCode> {
@@ -38,41 +42,107 @@ fn main(rt: HostRuntime) -> io::Result<ExitCode> {
         let status = print_topic(&rt, alloc, topic);
         return Ok(told(&rt, alloc, status));
     }
-    let mut source = StdSource {
-        inner: rt.reader(),
-        faults: 0,
+    let status = serve(&rt, &rt, alloc, &words);
+    Ok(told(&rt, alloc, status))
+}
+
+/// Does what the words say, over the keeper that they ask for: the file that `--file` names, SQLite in memory for the name
+/// `:memory:`, and else one in memory.
+fn serve<R: Threads + Wait + Sync>(
+    rt: &R,
+    host: &HostRuntime,
+    alloc: Global,
+    words: &[String],
+) -> Status {
+    let Ok(command) = hib_words::read(alloc, words) else {
+        return Status::NoMemory;
     };
-    let mut sink = StdSink {
-        inner: io::writer(&rt),
-        faults: 0,
+    match file_asked(&command) {
+        None => over(
+            rt,
+            host,
+            alloc,
+            words,
+            &command,
+            MemKeeper::new(alloc, Seq::new(alloc)),
+        )
+        .0,
+        Some(":memory:") => match in_memory(alloc) {
+            Ok(keeper) => over(rt, host, alloc, words, &command, keeper).0,
+            Err(_) => Status::NoMemory,
+        },
+        Some(path) => match open_file(host, path) {
+            Ok(keeper) => over_file(rt, host, alloc, words, &command, keeper),
+            Err(_) => Status::NoMemory,
+        },
+    }
+}
+
+/// The path of the file that the words ask for.
+fn file_asked(command: &Option<Command>) -> Option<&str> {
+    match command {
+        Some(Command::Play { options }) => match &options.file {
+            Some(path) => Some(path.as_str()),
+            None => None,
+        },
+        _ => None,
+    }
+}
+
+/// Does what the words say over a file, and closes it, so that it stands alone. Where closing fails, what was committed is in
+/// the log beside it.
+fn over_file<R: Threads + Wait + Sync>(
+    rt: &R,
+    host: &HostRuntime,
+    alloc: Global,
+    words: &[String],
+    command: &Option<Command>,
+    keeper: SqliteKeeper<FileStore<File>>,
+) -> Status {
+    let (status, keeper) = over(rt, host, alloc, words, command, keeper);
+    if let Some(connection) = keeper.into_connection() {
+        let _ = connection.close();
+    }
+    status
+}
+
+/// Calls the top call with the words, over this keeper.
+fn over<R: Threads + Wait + Sync, K: Keeper>(
+    rt: &R,
+    host: &HostRuntime,
+    alloc: Global,
+    words: &[String],
+    command: &Option<Command>,
+    keeper: K,
+) -> (Status, K) {
+    let Ok(listeners) = listeners_asked(host, alloc, command) else {
+        return (Status::NoMemory, keeper);
     };
-    let keeper = MemKeeper::new(alloc, Seq::new(alloc));
-    let Ok(listeners) = listeners_asked(&rt, alloc, &words) else {
-        return Ok(told(&rt, alloc, Status::NoMemory));
-    };
+    let mut source = StdSource::new(host.reader());
+    let mut sink = StdSink::new(io::writer(host));
     let ended = top(
-        &rt,
+        rt,
         alloc,
-        &words,
+        words,
         &mut source,
         &mut sink,
         keeper,
         &OpenGate,
         listeners,
     );
-    Ok(told(&rt, alloc, ended.status))
+    (ended.status, ended.keeper)
 }
 
 /// The listeners that the words ask for: with `--trace`, one that writes a line for each entry on standard error.
 fn listeners_asked(
-    rt: &HostRuntime,
+    host: &HostRuntime,
     alloc: Global,
-    words: &[String],
+    command: &Option<Command>,
 ) -> Result<Vec<Box<dyn Listener>>, AllocError> {
     let mut listeners: Vec<Box<dyn Listener>> = Vec::new(alloc);
-    if let Some(Command::Play { options }) = hib_words::read(alloc, words)? {
+    if let Some(Command::Play { options }) = command {
         if options.trace {
-            let trace = Trace::new(StdSink::new(rt.stderr()));
+            let trace = Trace::new(StdSink::new(host.stderr()));
             listeners.push(Box::new(alloc, trace)?)?;
         }
     }

@@ -44,12 +44,12 @@ struct Played<K, L> {
     listeners: Vec<L>,
 }
 
-/// The program does it today: play, with its listeners or without.
+/// The program does it today: play, over whatever keeper is handed in, and with its listeners or without.
 fn is_built(command: &Command) -> bool
     ensures { result ≡ is_built (asked_of command.now) }
 {
     match command {
-        Command::Play { options } => !options.journal && options.file.is_none(),
+        Command::Play { options } => !options.journal,
         _ => false,
     }
 }

@@ -95,7 +95,7 @@ impl OptionName {
     fn is_built(self) -> bool {
         match self {
             OptionName::Journal => false,
-            OptionName::File => false,
+            OptionName::File => true,
             OptionName::Trace => true,
             OptionName::Workers => false,
             OptionName::Seed => false,
