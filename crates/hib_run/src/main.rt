@@ -4,15 +4,19 @@
 use hib_base::Seq;
 use hib_keeper_sqlite::{SqliteKeeper, in_memory, open_file};
 use hib_listeners::Trace;
-use hib_outside::{Keeper, Listener, MemKeeper, OpenGate, StdSink, StdSource};
+use hib_outside::{Keeper, MemKeeper, OpenGate, StdSink, StdSource};
 use hib_top::{Status, status_line, top};
 use hib_words::{Command, VERSION, help};
 use sqlite::{File, FileStore};
 use std::alloc::{AllocError, Global};
+use std::io::Stderr;
 use std::process::ExitCode;
 use std::sync::Wait;
 use std::thread::Threads;
 use std::{env, io};
+
+/// Writes its lines on standard error.
+type ErrorTrace = Trace<StdSink<Stderr>>;
 
 fn main(rt: HostRuntime) -> io::Result<ExitCode> {
     let alloc = rt.alloc();
@@ -138,12 +142,11 @@ fn listeners_asked(
     host: &HostRuntime,
     alloc: Global,
     command: &Option<Command>,
-) -> Result<Vec<Box<dyn Listener>>, AllocError> {
-    let mut listeners: Vec<Box<dyn Listener>> = Vec::new(alloc);
+) -> Result<Vec<ErrorTrace>, AllocError> {
+    let mut listeners = Vec::new(alloc);
     if let Some(Command::Play { options }) = command {
         if options.trace {
-            let trace = Trace::new(StdSink::new(host.stderr()));
-            listeners.push(Box::new(alloc, trace)?)?;
+            listeners.push(Trace::new(StdSink::new(host.stderr())))?;
         }
     }
     Ok(listeners)
