@@ -1,0 +1,191 @@
+// The first rows of a made script.
+ghost use Rattle.std.specs.Prelude.{◌≡◌, ◌++◌, IfOk, OnOk};
+ghost use Rattle.hib_make.specs.Draws.{many};
+ghost use Rattle.hib_make.specs.Rows.{key, numbered, row, number, truth, author_row, book_row, customer_row, shelf_row, made_rows};
+
+use crate::draws::Draws;
+use crate::entities::{AUTHOR, BOOK, CUSTOMER, SHELF};
+use hib_base::{Cell, EntityNo, Key, Row, Rows, Seq, Text};
+use std::alloc::{AllocError, Global};
+
+/// A word and a number behind it.
+pub fn numbered(alloc: Global, word: &[u8], number: u32) -> Result<Text, AllocError>
+    ensures { IfOk result (λ t. t ≡ numbered word.now number) }
+{
+    let mut text = word.to_vec(alloc)?;
+    let digits = number.to_string(alloc)?;
+    text.extend_from_slice(digits.as_bytes())?;
+    Ok(Seq::from_vec(text))
+}
+
+pub fn key(entity: EntityNo, id: u32) -> Key
+    ensures { result ≡ key entity id }
+{
+    Key {
+        entity,
+        id: u64::from(id),
+    }
+}
+
+pub fn number(n: u32) -> Cell
+    ensures { result ≡ number n }
+{
+    Cell::Int(i64::from(n))
+}
+
+/// Whether a draw of two numbers answered the second.
+pub fn truth(answer: u32) -> Cell
+    ensures { result ≡ truth answer }
+{
+    Cell::Bool(answer == 1)
+}
+
+fn row(entity: EntityNo, id: u32, version: Option<u32>, cells: Vec<Cell>) -> (Key, Row)
+    ensures { result ≡ row entity id version cells.items }
+{
+    let row = Row {
+        version,
+        cells: Seq::from_vec(cells),
+    };
+    (key(entity, id), row)
+}
+
+fn push_author(
+    alloc: Global,
+    place: u32,
+    draws: &mut Draws,
+    rows: &mut Vec<(Key, Row)>,
+) -> Result<(), AllocError>
+    ensures made { OnOk result (rows.new.items ≡ rows.old.items ++ (author_row place draws.old).made) }
+    ensures state { OnOk result (draws.new ≡ (author_row place draws.old).state) }
+{
+    let name = numbered(alloc, b"author ", place)?;
+    let cells = vec![in alloc; Cell::Text(name)]?;
+    rows.push(row(AUTHOR, place, None, cells))?;
+    Ok(())
+}
+
+fn push_book(
+    alloc: Global,
+    place: u32,
+    draws: &mut Draws,
+    rows: &mut Vec<(Key, Row)>,
+) -> Result<(), AllocError>
+    ensures made { OnOk result (rows.new.items ≡ rows.old.items ++ (book_row place draws.old).made) }
+    ensures state { OnOk result (draws.new ≡ (book_row place draws.old).state) }
+{
+    let title = numbered(alloc, b"book ", place)?;
+    let author = draws.draw(10);
+    let stock = draws.draw(50);
+    let price = draws.draw(900);
+    let cells = vec![in alloc;
+        Cell::Text(title),
+        number(1 + author),
+        number(stock),
+        number(100 + price),
+    ]?;
+    rows.push(row(BOOK, place, Some(0), cells))?;
+    Ok(())
+}
+
+fn push_customer(
+    alloc: Global,
+    place: u32,
+    draws: &mut Draws,
+    rows: &mut Vec<(Key, Row)>,
+) -> Result<(), AllocError>
+    ensures made { OnOk result (rows.new.items ≡ rows.old.items ++ (customer_row place draws.old).made) }
+    ensures state { OnOk result (draws.new ≡ (customer_row place draws.old).state) }
+{
+    let name = numbered(alloc, b"customer ", place)?;
+    let credit = draws.draw(1000);
+    let cells = vec![in alloc; Cell::Text(name), number(1000 + credit)]?;
+    rows.push(row(CUSTOMER, place, Some(0), cells))?;
+    Ok(())
+}
+
+fn push_shelf(
+    alloc: Global,
+    place: u32,
+    draws: &mut Draws,
+    rows: &mut Vec<(Key, Row)>,
+) -> Result<(), AllocError>
+    ensures made { OnOk result (rows.new.items ≡ rows.old.items ++ (shelf_row place draws.old).made) }
+    ensures state { OnOk result (draws.new ≡ (shelf_row place draws.old).state) }
+{
+    let label = numbered(alloc, b"shelf ", place)?;
+    let full = draws.draw(2);
+    let cells = vec![in alloc; Cell::Text(label), truth(full)]?;
+    rows.push(row(SHELF, place, None, cells))?;
+    Ok(())
+}
+
+fn push_authors(
+    alloc: Global,
+    draws: &mut Draws,
+    rows: &mut Vec<(Key, Row)>,
+) -> Result<(), AllocError>
+    ensures made { OnOk result (rows.new.items ≡ rows.old.items ++ (many author_row 10 draws.old).made) }
+    ensures state { OnOk result (draws.new ≡ (many author_row 10 draws.old).state) }
+{
+    for i in 0..10 {
+        push_author(alloc, i + 1, draws, rows)?;
+    }
+    Ok(())
+}
+
+fn push_books(
+    alloc: Global,
+    draws: &mut Draws,
+    rows: &mut Vec<(Key, Row)>,
+) -> Result<(), AllocError>
+    ensures made { OnOk result (rows.new.items ≡ rows.old.items ++ (many book_row 60 draws.old).made) }
+    ensures state { OnOk result (draws.new ≡ (many book_row 60 draws.old).state) }
+{
+    for i in 0..60 {
+        push_book(alloc, i + 1, draws, rows)?;
+    }
+    Ok(())
+}
+
+fn push_customers(
+    alloc: Global,
+    draws: &mut Draws,
+    rows: &mut Vec<(Key, Row)>,
+) -> Result<(), AllocError>
+    ensures made { OnOk result (rows.new.items ≡ rows.old.items ++ (many customer_row 30 draws.old).made) }
+    ensures state { OnOk result (draws.new ≡ (many customer_row 30 draws.old).state) }
+{
+    for i in 0..30 {
+        push_customer(alloc, i + 1, draws, rows)?;
+    }
+    Ok(())
+}
+
+fn push_shelves(
+    alloc: Global,
+    draws: &mut Draws,
+    rows: &mut Vec<(Key, Row)>,
+) -> Result<(), AllocError>
+    ensures made { OnOk result (rows.new.items ≡ rows.old.items ++ (many shelf_row 12 draws.old).made) }
+    ensures state { OnOk result (draws.new ≡ (many shelf_row 12 draws.old).state) }
+{
+    for i in 0..12 {
+        push_shelf(alloc, i + 1, draws, rows)?;
+    }
+    Ok(())
+}
+
+/// The rows, and the draws after them.
+#[tactic(auto, unfolding(crate::specs::Rows::made_rows))]
+pub fn rows(alloc: Global, draws: &mut Draws) -> Result<Rows, AllocError>
+    ensures made { IfOk result (λ r. r ≡ (made_rows draws.old).made) }
+    ensures state { OnOk result (draws.new ≡ (made_rows draws.old).state) }
+{
+    let mut rows = Vec::with_capacity(alloc, 112)?;
+    push_authors(alloc, draws, &mut rows)?;
+    push_books(alloc, draws, &mut rows)?;
+    push_customers(alloc, draws, &mut rows)?;
+    push_shelves(alloc, draws, &mut rows)?;
+    Ok(Seq::from_vec(rows))
+}
