@@ -1,5 +1,4 @@
 pub mod Places
 pub mod Counted
 pub mod Telling
-pub mod Writing
 pub mod Hearing

@@ -8,8 +8,8 @@ ghost use Rattle.hib_outside.specs.Hears.{heard_after, left_after, IsDue};
 ghost use Rattle.hib_outside.specs.declared.listener.Heard.TheVariants.{Stay, Leave, NoMemory};
 
 use hib_base::Entry;
-use hib_outside::{Failed, Heard, Listener, Sink};
-use std::alloc::{AllocError, Global};
+use hib_outside::{Failed, Heard, Listener, Sink, write_all};
+use std::alloc::Global;
 
 /// Writes `entry N` to a sink for each entry that it hears, with N the number of entries so far. It tells nothing, and
 /// leaves where writing fails.
@@ -29,18 +29,6 @@ impl<W> Trace<W> {
     {
         Trace { sink, count: 0 }
     }
-}
-
-// All the bytes go to the sink.
-fn write_whole<W: Sink>(sink: &mut W, bytes: &[u8]) -> Result<(), Failed>
-    ensures whole { OnOk result (Appends (W.taken sink.old) (W.taken sink.new) bytes.now) }
-    ensures cause { HasCause (W.faults sink.old) (W.faults sink.new) result }
-{
-    let mut at = 0;
-    while at < bytes.len() {
-        at += sink.write(&bytes[at..])?;
-    }
-    Ok(())
 }
 
 impl<W: Sink + Send + Drop> Listener for Trace<W> {
@@ -64,7 +52,7 @@ impl<W: Sink + Send + Drop> Listener for Trace<W> {
             return Heard::NoMemory;
         };
         self.count = number;
-        match write_whole(&mut self.sink, line.as_bytes()) {
+        match write_all(&mut self.sink, line.as_bytes()) {
             Ok(()) => Heard::Stay,
             Err(Failed) => Heard::Leave,
         }

@@ -3,3 +3,4 @@ pub mod Orders
 pub mod Places
 pub mod Searches
 pub mod Commits
+pub mod Pieces

@@ -4,3 +4,4 @@ pub mod Verdicts
 pub mod Keeps
 pub mod Hears
 pub mod Places
+pub mod Fronts

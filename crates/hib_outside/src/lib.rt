@@ -10,6 +10,7 @@ mod mem_keeper;
 mod mem_streams;
 mod shelf;
 mod streams;
+mod writing;
 
 pub use adapters::{StdSink, StdSource};
 pub use failing::{Failing, Numbers};
@@ -20,3 +21,4 @@ pub use mem_keeper::MemKeeper;
 pub use mem_streams::{MemSink, MemSource};
 pub use shelf::laid_over;
 pub use streams::{Failed, Sink, Source};
+pub use writing::write_all;

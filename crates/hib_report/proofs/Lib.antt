@@ -3,3 +3,4 @@ pub mod Watched
 pub mod Keys
 pub mod Fated
 pub mod Whole
+pub mod Sent

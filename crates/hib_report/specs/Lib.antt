@@ -3,3 +3,4 @@ pub mod Unsound
 pub mod Watch
 pub mod Fates
 pub mod Report
+pub mod Sending

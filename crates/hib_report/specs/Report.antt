@@ -4,7 +4,8 @@ use Rattle.std.specs.Fmt.{decimal}
 use Rattle.hib_journal.specs.Types.{Outcome, Entry, SessionDef, Script}
 use Rattle.hib_journal.specs.Sessions.{Journal, own, was_killed}
 use Rattle.hib_journal.specs.Legal.{outcome}
-use Rattle.hib_report.specs.Lines.{outcome_text, lines_text, entity_text}
+use Rattle.hib_report.specs.Lines.{outcome_text, lines_text}
+use Rattle.hib_texts.specs.Texts.{entity_text}
 use Rattle.hib_report.specs.Unsound.{unsound_text}
 use Rattle.hib_listeners.specs.Statistics.{counted}
 use Rattle.hib_listeners.specs.declared.counts.RegionCounts.{RegionCounts}

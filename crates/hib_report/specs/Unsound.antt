@@ -9,7 +9,7 @@ use Rattle.hib_journal.specs.Sessions.{Journal}
 use Rattle.hib_journal.specs.Slot.{Touch, key_in}
 use Rattle.hib_journal.specs.Next.{strategy}
 use Rattle.hib_journal.specs.Sound.{is_calm, is_sound}
-use Rattle.hib_report.specs.Lines.{key_text}
+use Rattle.hib_texts.specs.Texts.{key_text}
 
 -- the key that an act names, in a region or in a change of the store
 abbrev pub named : Act → Option Key

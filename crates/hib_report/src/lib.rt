@@ -7,10 +7,11 @@ mod lines;
 mod regions;
 mod replies;
 mod report;
-mod rows;
+mod sending;
 mod sessions;
 mod unsound;
 mod watch;
 
 pub use lines::line;
 pub use report::{summary, text};
+pub use sending::{WriteStop, write};

@@ -1,11 +1,11 @@
 // The lines of entries.
-ghost use Rattle.std.specs.Prelude.{◌≡◌, ◌++◌, OnOk, IfOk};
+ghost use Rattle.std.specs.Prelude.{◌≡◌, ◌++◌, OnOk, IfOk, codes};
 ghost use Rattle.hib_report.specs.Lines.{actor_text, line_text, lines_text};
 
 use crate::acts::{put_act, put_part};
 use crate::replies::put_reply;
-use crate::rows::{put_number, put_session};
 use hib_base::{Bytes, Entry, Script, Seq, SessionNo};
+use hib_texts::{put_number, put_session};
 use std::alloc::{AllocError, Global};
 
 fn put_actor(
@@ -41,6 +41,19 @@ fn put_line(
     put_reply(alloc, out, script, &entry.reply)
 }
 
+// The line of an entry, and its end.
+pub fn put_entry(
+    alloc: Global,
+    out: &mut Vec<u8>,
+    script: &Script,
+    entry: &Entry,
+) -> Result<(), AllocError>
+    ensures { OnOk result (out.new.items ≡ out.old.items ++ (line_text script.now entry.now ++ codes "\n")) }
+{
+    put_line(alloc, out, script, entry)?;
+    out.extend_from_slice(b"\n")
+}
+
 pub fn put_lines(
     alloc: Global,
     out: &mut Vec<u8>,
@@ -50,8 +63,7 @@ pub fn put_lines(
     ensures { OnOk result (out.new.items ≡ out.old.items ++ lines_text script.now entries.now) }
 {
     for entry in entries {
-        put_line(alloc, out, script, entry)?;
-        out.push(b'\n')?;
+        put_entry(alloc, out, script, entry)?;
     }
     Ok(())
 }

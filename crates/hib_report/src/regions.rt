@@ -3,10 +3,10 @@ ghost use Rattle.std.specs.Prelude.{◌≡◌, ◌++◌, OnOk};
 ghost use Rattle.hib_listeners.specs.Statistics.{counted};
 ghost use Rattle.hib_report.specs.Report.{reads_text, puts_text, locks_text, region_text, regions_text, asked_text, ends_text, store_text, looks_text, keeps_text, queries_text, counts_text};
 
-use crate::rows::{put_entity, put_labelled};
 use hib_base::Script;
 use hib_journal::Journal;
 use hib_listeners::{QueryCounts, RegionCounts, Statistics, StoreCounts};
+use hib_texts::{put_entity, put_labelled};
 use std::alloc::{AllocError, Global};
 
 fn put_reads(alloc: Global, out: &mut Vec<u8>, counts: &RegionCounts) -> Result<(), AllocError>

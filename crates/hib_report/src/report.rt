@@ -1,21 +1,39 @@
 // The report of a journal.
-ghost use Rattle.std.specs.Prelude.{◌≡◌, ◌++◌, OnOk, IfOk};
-ghost use Rattle.hib_report.specs.Report.{journal_text, report, summary};
+ghost use Rattle.std.specs.Prelude.{◌≡◌, ◌++◌, OnOk, IfOk, reverse};
+ghost use Rattle.hib_listeners.specs.Statistics.{counted};
+ghost use Rattle.hib_report.specs.Report.{journal_text, sessions_text, counts_text, report, summary};
+ghost use Rattle.hib_report.specs.Unsound.{unsound_text};
 
 use crate::lines::put_lines;
 use crate::regions::put_counts;
-use crate::rows::put_labelled;
 use crate::sessions::put_sessions;
 use crate::unsound::put_unsound;
 use hib_base::{Bytes, Entry, Script, Seq};
 use hib_journal::Journal;
+use hib_texts::put_labelled;
 use std::alloc::{AllocError, Global};
 
-fn put_journal(alloc: Global, out: &mut Vec<u8>, entries: &[Entry]) -> Result<(), AllocError>
+/// The number of entries.
+pub fn put_journal(alloc: Global, out: &mut Vec<u8>, entries: &[Entry]) -> Result<(), AllocError>
     ensures { OnOk result (out.new.items ≡ out.old.items ++ journal_text entries.now) }
 {
     put_labelled(alloc, out, b"journal ", entries.len() as u64)?;
     out.extend_from_slice(b"\n")
+}
+
+/// What comes behind the entries: the sessions, the unsound keys and the counts.
+pub fn put_ends(
+    alloc: Global,
+    out: &mut Vec<u8>,
+    script: &Script,
+    journal: &Journal,
+) -> Result<(), AllocError>
+    ensures { OnOk result (out.new.items ≡ out.old.items ++ sessions_text script.now (reverse journal.now.list) ++ unsound_text script.now (reverse journal.now.list) ++ counts_text script.now (counted script.now journal.now.list)) }
+{
+    let entries = journal.as_slice();
+    put_sessions(alloc, out, script, entries)?;
+    put_unsound(alloc, out, script, entries)?;
+    put_counts(alloc, out, script, journal)
 }
 
 /// The report of a journal, with a line feed after each line: the number of entries and a line for
@@ -33,9 +51,7 @@ pub fn text(alloc: Global, script: &Script, journal: &Journal) -> Result<Bytes, 
     let mut out = Vec::new(alloc);
     put_journal(alloc, &mut out, entries)?;
     put_lines(alloc, &mut out, script, entries)?;
-    put_sessions(alloc, &mut out, script, entries)?;
-    put_unsound(alloc, &mut out, script, entries)?;
-    put_counts(alloc, &mut out, script, journal)?;
+    put_ends(alloc, &mut out, script, journal)?;
     Ok(Seq::from_vec(out))
 }
 

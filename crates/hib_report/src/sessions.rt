@@ -5,8 +5,8 @@ ghost use Rattle.hib_report.specs.Report.{end_text, fates_text, sessions_text};
 
 use crate::fates::Fates;
 use crate::replies::put_outcome;
-use crate::rows::put_labelled;
 use hib_base::{Entry, Outcome, Script, SessionDef};
+use hib_texts::put_labelled;
 use std::alloc::{AllocError, Global};
 
 fn put_fate(out: &mut Vec<u8>, killed: bool, outcome: Outcome) -> Result<(), AllocError>

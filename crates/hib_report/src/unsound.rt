@@ -5,14 +5,14 @@ ghost use Rattle.std.specs.List.{filter};
 ghost use Rattle.hib_journal.specs.Sessions.{Journal};
 ghost use Rattle.hib_journal.specs.Next.{strategy};
 ghost use Rattle.hib_journal.specs.Sound.{is_sound};
-ghost use Rattle.hib_report.specs.Lines.{key_text};
+ghost use Rattle.hib_texts.specs.Texts.{key_text};
 ghost use Rattle.hib_report.specs.Watch.{Watches};
 ghost use Rattle.hib_report.specs.Unsound.{named, is_read_write, with_key, with_named, keys_in, unsound, unsound_text};
 
-use crate::rows::{put_key, put_labelled};
 use crate::watch::Watch;
 use hib_base::{Act, EntityNo, Entry, Key, Script, Strategy};
 use hib_listeners::key_in;
+use hib_texts::{put_key, put_labelled};
 use std::alloc::{AllocError, Global};
 use std::collections::BTreeSet;
 

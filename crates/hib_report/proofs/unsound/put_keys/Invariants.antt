@@ -1,5 +1,5 @@
 use Rattle.std.proofs.Common.{◌≡◌, ◌++◌, take, flat_map, codes}
-use Rattle.hib_report.specs.Lines.{key_text}
+use Rattle.hib_texts.specs.Texts.{key_text}
 use Rattle.hib_report.proofs.unsound.put_keys.Given as goal
 
 abbrev pub invariant-loop-key : goal.invariant-loop-key

@@ -1,8 +1,8 @@
 use Rattle.std.proofs.Common.{◌≡◌, ◌∙◌, ◌≤◌, ◌-◌, arith, subst, take, drop, length, length-drop, ℕ, List}
 use Rattle.std.proofs.lemmas.Grind.{common_steps}
 use Rattle.std.specs.Io.KnownBytes.{Appends}
-use Rattle.hib_listeners.proofs.Writing.{appends_more}
-use Rattle.hib_listeners.proofs.trace.write_whole.Goals as goal
+use Rattle.hib_outside.proofs.Pieces.{appends_more}
+use Rattle.hib_outside.proofs.writing.write_all.Goals as goal
 
 pub loop-at-preserved : goal.loop-at-preserved
 loop-at-preserved g c =

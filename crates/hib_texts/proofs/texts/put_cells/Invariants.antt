@@ -1,6 +1,6 @@
 use Rattle.std.proofs.Common.{◌≡◌, ◌++◌, take, flat_map, codes}
-use Rattle.hib_report.specs.Lines.{cell_text}
-use Rattle.hib_report.proofs.rows.put_cells.Given as goal
+use Rattle.hib_texts.specs.Texts.{cell_text}
+use Rattle.hib_texts.proofs.texts.put_cells.Given as goal
 
 abbrev pub invariant-loop-cell : goal.invariant-loop-cell
 invariant-loop-cell l = l.out.items ≡ l.fn.out.items ++ flat_map (λ c. codes " " ++ cell_text c) (take l.cell-index l.cells)

@@ -1,4 +1,4 @@
--- A piece written behind another.
+-- Bytes that were written in pieces.
 use Rattle.std.proofs.Common.{ℕ, ◌+◌, List, ◌++◌, Some, None, take, drop, sym, ◌∙◌, ap, append_assoc}
 use Rattle.std.proofs.Math.Seq.{take-add}
 use Rattle.std.specs.declared.option.Option.{Option}
