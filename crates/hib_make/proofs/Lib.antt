@@ -1,3 +1,6 @@
 pub mod Many
 pub mod Rules
+pub mod RowRules
+pub mod SessionRules
+pub mod Valid
 mod Worked

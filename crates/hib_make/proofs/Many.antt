@@ -1,7 +1,7 @@
 -- What is made one after another, with one more.
-use Rattle.std.proofs.Common.{◌≡◌, ℕ, zero, suc, ◌+◌, List, [], ◌∷◌, ◌++◌, refl, sym, ap, subst, ◌∙◌, arith}
+use Rattle.std.proofs.Common.{◌≡◌, ℕ, suc, ◌+◌, List, ◌++◌, refl, sym, ap, subst, ◌∙◌, arith}
 use Rattle.std.proofs.lemmas.List.{append-nil, append_assoc}
-use Rattle.hib_make.specs.Draws.{Drawn, at_once, then, many}
+use Rattle.hib_make.specs.Draws.{Drawn, then, many}
 
 -- what is made so far, and the state that it leaves
 pub record Grown {A : Type 0} (before now : List A) (state : ℕ) (d : Drawn A) : Type 0 where

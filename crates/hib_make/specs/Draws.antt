@@ -1,5 +1,5 @@
 -- Numbers that are drawn one after another from a state of 64 bits, and what is made by draws.
-use Rattle.std.specs.Prelude.{ℕ, zero, suc, ◌+◌, ◌*◌, ◌/◌, ◌%◌, ◌^◌, bit_xor, List, [], ◌∷◌, ◌++◌}
+use Rattle.std.specs.Prelude.{ℕ, zero, suc, ◌+◌, ◌*◌, ◌/◌, ◌%◌, ◌^◌, bit_xor, List, [], ◌++◌}
 
 -- ---- the state
 -- changed by itself, shifted to the left by some bits; what goes above 64 bits is dropped

@@ -50,7 +50,7 @@ shelf_entity =
     entity (codes "Shelf") Strategy.ReadWrite false 10 (column (codes "label") ColumnType.Text ∷ column (codes "full") ColumnType.Bool ∷ [])
 
 abbrev pub note_entity : EntityDef
-note_entity = entity (codes "Note") Strategy.Uncached false 0 (column (codes "text") ColumnType.Text ∷ [])
+note_entity = entity (codes "Note") Strategy.Uncached false 0 (column (codes "note") ColumnType.Text ∷ [])
 
 abbrev pub made_mapping : List EntityDef
 made_mapping = author_entity ∷ book_entity ∷ customer_entity ∷ order_entity ∷ shelf_entity ∷ note_entity ∷ []

@@ -3,7 +3,6 @@ use Rattle.std.specs.Prelude.{ℕ, Bool, true, false, List, [], ◌∷◌, Optio
 use Rattle.hib_base.specs.declared.rows.Cell.{Cell}
 use Rattle.hib_base.specs.declared.scripts.Op.{Op}
 use Rattle.hib_base.specs.declared.scripts.Path.{Path}
-use Rattle.hib_base.specs.declared.scripts.Target.{Target}
 use Rattle.hib_base.specs.declared.scripts.Cond.{Cond}
 use Rattle.hib_base.specs.declared.scripts.Sort.{Sort}
 use Rattle.hib_base.specs.declared.scripts.Select.{Select}

@@ -92,7 +92,7 @@ fn shelf_entity(alloc: Global) -> Result<EntityDef, AllocError>
 fn note_entity(alloc: Global) -> Result<EntityDef, AllocError>
     ensures { IfOk result (λ e. e ≡ note_entity) }
 {
-    let columns = vec![in alloc; column(alloc, b"text", ColumnType::Text)?]?;
+    let columns = vec![in alloc; column(alloc, b"note", ColumnType::Text)?]?;
     entity(alloc, b"Note", Strategy::Uncached, false, 0, columns)
 }
 

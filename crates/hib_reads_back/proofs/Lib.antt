@@ -1,0 +1,21 @@
+pub mod Bytes
+pub mod Numbers
+pub mod Scanned
+pub mod Lexed
+pub mod Named
+pub mod Cells
+pub mod Statements
+pub mod Orders
+pub mod Conditions
+pub mod Queries
+pub mod Entities
+pub mod Steps
+pub mod Parts
+pub mod Sessions
+pub mod Mapping
+pub mod Spelt
+pub mod SpeltQueries
+pub mod Whole
+pub mod Short
+pub mod MadeReads
+mod Worked
