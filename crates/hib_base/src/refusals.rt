@@ -51,7 +51,7 @@ pub enum Kind {
     Depth,
     /// One more than the limit.
     Many,
-    /// A statement behind the last one, or a session that doesn't end its transaction.
+    /// A session whose last statement doesn't end its transaction.
     Last,
     /// The input ends inside a session or a schedule.
     NoEnd,

@@ -143,9 +143,7 @@ next_full next r last (Some p) ts = gives_cond (may_follow last p) (lines.part_l
 statement_full : (next : Bool) (r : Reader) (s : SessionDef) (t : Result Statement Kind) → r.entity ≡ None → Gives (lines.with_statement r s t) (Full next)
 statement_full next r s (Err k) h = tt
 statement_full next r s (Ok t) h =
-    let going : After = cond (are_over s.statements) (Err Kind.Last) (Ok (lines.one_more r s t)) in
-    gives_cond (nat_lt r.statements 5000) going (Err Kind.Many) (Full next)
-    (λ _. gives_cond (are_over s.statements) (Err Kind.Last) (Ok (lines.one_more r s t)) (Full next) (λ _. tt) (λ _. idle next (lines.one_more r s t) h)) (λ _. tt)
+    gives_cond (nat_lt r.statements 5000) (Ok (lines.one_more r s t)) (Err Kind.Many) (Full next) (λ _. idle next (lines.one_more r s t) h) (λ _. tt)
 
 end_full : (next : Bool) (r : Reader) (s : SessionDef) (ts : List Token) → r.entity ≡ None → Gives (lines.end_line r s ts) (Full next)
 end_full next r s ts h =

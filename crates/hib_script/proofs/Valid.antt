@@ -371,10 +371,7 @@ statement_keeps : (r : Reader) (s : SessionDef) (t : Result Statement Kind) → 
     Gives t (λ x. fits_statement r.outline.mapping x ≡ true) → Gives (lines.with_statement r s t) Keeps
 statement_keeps r s (Err x) k e g f = tt
 statement_keeps r s (Ok t) k e g f =
-    let open_still : After = cond (are_over s.statements) (Err Kind.Last) (Ok (lines.one_more r s t)) in
-    gives_cond (nat_lt r.statements 5000) open_still (Err Kind.Many) Keeps
-    (λ h. gives_cond (are_over s.statements) (Err Kind.Last) (Ok (lines.one_more r s t)) Keeps (λ _. tt) (λ _. one_more_keeps r s t h k e g f))
-    (λ _. tt)
+    gives_cond (nat_lt r.statements 5000) (Ok (lines.one_more r s t)) (Err Kind.Many) Keeps (λ h. one_more_keeps r s t h k e g f) (λ _. tt)
 
 count_more : (ss : List SessionDef) (s : SessionDef) → statement_count (ss ++ s ∷ []) ≡ statement_count ss + length s.statements
 count_more ss s = rw (sum_by-append) (omega arith)

@@ -179,15 +179,16 @@ abbrev pub one_more : Reader → SessionDef → Statement → Reader
 one_more r s t =
     record r { statements = r.statements + 1; place = Place.Session (record s { statements = s.statements ++ t ∷ [] }) }
 
--- there is a most of statements of all sessions, and none stands behind a commit or a rollback
+-- there is a most of statements of all sessions
 abbrev pub with_statement : Reader → SessionDef → Result Statement Kind → After
 with_statement r s (Err k) = Err k
 with_statement r s (Ok t) =
-    cond (nat_lt r.statements max_statements) (cond (are_over s.statements) (Err Kind.Last) (Ok (one_more r s t))) (Err Kind.Many)
+    cond (nat_lt r.statements max_statements) (Ok (one_more r s t)) (Err Kind.Many)
 
 abbrev pub with_session : Reader → SessionDef → Reader
 with_session r s = behind Part.Sessions (record r { outline = record r.outline { sessions = r.outline.sessions ++ s ∷ [] } })
 
+-- a session ends behind a commit or a rollback alone
 abbrev pub end_line : Reader → SessionDef → List Token → After
 end_line r s ts =
     cond (is_alone ts) (cond (are_over s.statements) (Ok (with_session r s)) (Err Kind.Last)) (Err Kind.Words)

@@ -15,8 +15,8 @@ use hib_base::{Kind, Refused, Script};
 use hib_lex::{LexError, Line, Lines, begins, lex};
 use std::alloc::{AllocError, Global};
 
-/// The script that a text is. It keeps the rules of scripts: its limits at both ends, each session ends its transaction, what it
-/// names is there, and more.
+/// The script that a text is. It keeps the rules of scripts: its limits at both ends, each session ends its last transaction, what
+/// it names is there, and more.
 ///
 /// Errors: `Refused` exactly where the text is no script, with its first bad line and the first kind that this has, those
 /// of bytes, length and tokens over the whole text before all others; where the text ends too early, the line is the

@@ -122,9 +122,6 @@ fn with_statement(
     if draft.statements >= MOST_STATEMENTS {
         return Err(LineError::Fault(Kind::Many));
     }
-    if are_over(session.statements.as_slice()) {
-        return Err(LineError::Fault(Kind::Last));
-    }
     session.statements.push(statement)?;
     draft.statements += 1;
     at(Place::Session(session), draft);
@@ -138,7 +135,7 @@ fn ends_one(statement: &Statement) -> bool
     matches!(statement, Statement::Commit | Statement::Rollback)
 }
 
-/// Whether the last statement ends its transaction.
+/// Whether the last statement ends a transaction.
 #[tactic(auto, using(crate::proofs::Statements::over_last))]
 fn are_over(statements: &[Statement]) -> bool
     ensures { result ≡ are_over statements.now }
