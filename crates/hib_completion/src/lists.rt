@@ -74,14 +74,13 @@ pub fn first_of(key: Key, changes: &[Change]) -> Option<&Change>
 pub fn last_of(key: Key, changes: &[Change]) -> Option<&Change>
     ensures { option_copied result ≡ last_on key changes.now }
 {
-    match changes {
-        [] => None,
-        [change, rest @ ..] => match last_of(key, rest) {
-            Some(later) => Some(later),
-            None if change.key() == key => Some(change),
-            None => None,
-        },
+    let mut last = None;
+    for change in changes {
+        if change.key() == key {
+            last = Some(change);
+        }
     }
+    last
 }
 
 fn is_among(key: Key, keys: &[Key]) -> bool

@@ -215,7 +215,7 @@ impl<K: Keeper, N: Name, L: Listener> Factory<K, N, L> {
     }
 
     /// The journal obeys the law.
-    fn lawful(&self)
+    pub fn lawful(&self)
         ensures { Obeys N.script N.from.tables (past self.now.journal) }
     {
         self.core.lawful();
@@ -301,6 +301,7 @@ impl<K: Keeper, N: Name, L: Listener> Factory<K, N, L> {
         ensures going { OnOk result (self.new.refused ≡ self.old.refused) }
         ensures hears { Hears (past self.old.journal) (past self.new.journal) (is_ok result) self.old.told self.new.told }
         ensures same { OnErr result (self.new.deaf ≡ self.old.deaf → past self.new.journal ≡ past self.old.journal) }
+        ensures err { OnErr result (self.new.deaf ≡ self.old.deaf → self.new ≡ record self.old { journal = self.new.journal; refused = true }) }
         ensures unheard { OnErr result (self.old.deaf ≡ false → self.new.deaf ≡ true → Leads (play_order N.script (Order.Kill number)) played (past self.old.journal) (past self.new.journal)) }
         ensures deaf { self.old.deaf ≡ true → self.new ≡ self.old }
         ensures stands { OnErr result (GoesOn (past self.old.journal) (past self.new.journal)) }
@@ -331,6 +332,7 @@ impl<K: Keeper, N: Name, L: Listener> Factory<K, N, L> {
         ensures going { OnOk result (self.new.refused ≡ self.old.refused) }
         ensures hears { Hears (past self.old.journal) (past self.new.journal) (is_ok result) self.old.told self.new.told }
         ensures same { OnErr result (self.new.deaf ≡ self.old.deaf → past self.new.journal ≡ past self.old.journal) }
+        ensures err { OnErr result (self.new.deaf ≡ self.old.deaf → self.new ≡ record self.old { journal = self.new.journal; refused = true }) }
         ensures unheard { OnErr result (self.old.deaf ≡ false → self.new.deaf ≡ true → Leads (play_order N.script (Order.Evict key)) played (past self.old.journal) (past self.new.journal)) }
         ensures deaf { self.old.deaf ≡ true → self.new ≡ self.old }
         ensures stands { OnErr result (GoesOn (past self.old.journal) (past self.new.journal)) }
@@ -359,6 +361,7 @@ impl<K: Keeper, N: Name, L: Listener> Factory<K, N, L> {
         ensures going { OnOk result (self.new.refused ≡ self.old.refused) }
         ensures hears { Hears (past self.old.journal) (past self.new.journal) (is_ok result) self.old.told self.new.told }
         ensures same { OnErr result (self.new.deaf ≡ self.old.deaf → past self.new.journal ≡ past self.old.journal) }
+        ensures err { OnErr result (self.new.deaf ≡ self.old.deaf → self.new ≡ record self.old { journal = self.new.journal; refused = true }) }
         ensures unheard { OnErr result (self.old.deaf ≡ false → self.new.deaf ≡ true → Leads (play_order N.script Order.Restart) played (past self.old.journal) (past self.new.journal)) }
         ensures deaf { self.old.deaf ≡ true → self.new ≡ self.old }
         ensures stands { OnErr result (GoesOn (past self.old.journal) (past self.new.journal)) }
