@@ -1,0 +1,185 @@
+// Workers: threads that step the sessions of a factory, each a session at a time.
+ghost use Rattle.std.specs.Prelude.{◌≡◌, ◌≤◌, ◌<◌, ◌^◌, false, length, IfSome};
+ghost use denote.Param.Send.{IsSend};
+ghost use Rattle.hib_journal.specs.Kept.{past};
+ghost use Rattle.hib_core.specs.Bound.{outside_count};
+ghost use Rattle.hib_core.specs.Factory.{AreOver};
+ghost use Rattle.hib_workers.specs.Worked.{IsWorked};
+
+use crate::desk::{Desk, Handed};
+use hib_base::{Query, SessionNo};
+use hib_core::{Factory, Name, Stepped};
+use hib_outside::{Gate, Keeper, Listener};
+use std::alloc::{AllocError, Global};
+use std::marker::Brand;
+use std::sync::atomic::{AtomicUsize, Ordering};
+use std::sync::{Mutex, Wait};
+use std::thread;
+use std::thread::Threads;
+
+/// What comes of a factory on which workers took turns.
+pub struct Worked<K: Keeper, N: Name, L: Listener> {
+    /// The factory that was handed in.
+    pub factory: Factory<K, N, L>,
+    /// Whether a call of it answered want of memory, since it was opened.
+    pub out_of_memory: bool,
+}
+
+/// Runs each session to its end, on so many threads. Each takes the next session that nobody has taken, and makes its steps one
+/// after the other: before a step it passes the gate, and for a step it takes the factory's lock. What they leave undone is done here
+/// once they have ended. Once memory has run out no further step is made.
+pub fn work<R: Threads + Wait + Sync, K: Keeper, N: Name + Send + Sync, L: Listener, G: Gate>(
+    rt: &R,
+    alloc: Global,
+    factory: Factory<K, N, L>,
+    workers: u32,
+    gate: &G,
+) -> Worked<K, N, L>
+    requires workers { (1 ≤ workers) × (workers ≤ 64) }
+    requires inside { outside_count (past factory.journal) ≡ 0 }
+    ensures worked { IsWorked N.script N.from factory result.factory }
+    ensures over { result.out_of_memory ≡ false → AreOver N.script (past result.factory.journal) }
+    ensures memory { result.out_of_memory ≡ result.factory.refused }
+{
+    work_from::<Brand, R, K, N, L, G>(rt, alloc, factory, workers, gate)
+}
+
+/// The same, of the factory that was handed in.
+fn work_from<
+    H: Handed + Send + Sync,
+    R: Threads + Wait + Sync,
+    K: Keeper,
+    N: Name + Send + Sync,
+    L: Listener,
+    G: Gate,
+>(rt: &R, alloc: Global, factory: Factory<K, N, L>, workers: u32, gate: &G) -> Worked<K, N, L>
+    requires handed { factory ≡ H.factory }
+    requires inside { outside_count (past factory.journal) ≡ 0 }
+    ensures worked { IsWorked N.script N.from H.factory result.factory }
+    ensures over { result.out_of_memory ≡ false → AreOver N.script (past result.factory.journal) }
+    ensures memory { result.out_of_memory ≡ result.factory.refused }
+{
+    let desk: Desk<K, N, L, H> = Desk::open(factory);
+    let mut desk = on_threads(rt, alloc, desk, workers, gate);
+    desk.finish(alloc);
+    let factory = desk.close();
+    let out_of_memory = factory.refused();
+    Worked {
+        factory,
+        out_of_memory,
+    }
+}
+
+/// What workers share: the factory behind its lock, and the number of the next session that nobody has taken.
+struct Bench<K: Keeper, N: Name, L: Listener, H: Handed> {
+    desk: Mutex<Desk<K, N, L, H>>,
+    next: AtomicUsize,
+    sessions: usize,
+    ghost all: { sessions ≡ length N.script.sessions },
+    ghost few: { sessions < 2 ^ 32 },
+}
+
+impl<K: Keeper, N: Name, L: Listener, H: Handed> Bench<K, N, L, H> {
+    /// The next session that nobody has taken, or none where all are taken.
+    fn take_session(&self) -> Option<SessionNo>
+        ensures { IfSome result (λ number. number < length N.script.sessions) }
+    {
+        let number = self.next.fetch_add(1, Ordering::SeqCst);
+        if number >= self.sessions {
+            return None;
+        }
+        Some(SessionNo(number as u32))
+    }
+}
+
+/// Puts the factory behind a lock, for as long as the workers take.
+fn on_threads<
+    H: Handed + Send + Sync,
+    R: Threads + Wait + Sync,
+    K: Keeper,
+    N: Name + Send + Sync,
+    L: Listener,
+    G: Gate,
+>(rt: &R, alloc: Global, desk: Desk<K, N, L, H>, workers: u32, gate: &G) -> Desk<K, N, L, H> {
+    let sessions = desk.sessions();
+    let bench = Bench {
+        desk: Mutex::new(desk),
+        next: AtomicUsize::new(0),
+        sessions,
+    };
+    take_turns(rt, alloc, &bench, workers, gate);
+    let Bench {
+        desk,
+        next: _,
+        sessions: _,
+    } = bench;
+    desk.into_inner()
+}
+
+/// What may go from thread to thread, proofs may say so of.
+fn may_be_sent<T: Send>()
+    ensures { IsSend T.row }
+{}
+
+/// Has the workers take turns.
+fn take_turns<
+    H: Handed + Send + Sync,
+    R: Threads + Wait + Sync,
+    K: Keeper,
+    N: Name + Send + Sync,
+    L: Listener,
+    G: Gate,
+>(rt: &R, alloc: Global, bench: &Bench<K, N, L, H>, workers: u32, gate: &G) {
+    may_be_sent::<Query>();
+    spread(rt, workers, &move || serve(rt, alloc, bench, gate));
+}
+
+/// Starts so many threads that do this work, and waits for their ends. One that can't be started is done without.
+fn spread<R: Threads + Wait + Sync, F: Fn() + Sync>(rt: &R, workers: u32, work: &F)
+    requires { F.pre work.now }
+{
+    thread::scope(thread::scope_env(), rt, |scope| {
+        for _ in 0..workers {
+            let _ = scope.spawn(move || work());
+        }
+    });
+}
+
+/// A worker: takes sessions until none is left, or memory runs out.
+fn serve<H: Handed, R: Wait, K: Keeper, N: Name, L: Listener, G: Gate>(
+    rt: &R,
+    alloc: Global,
+    bench: &Bench<K, N, L, H>,
+    gate: &G,
+) {
+    for _ in rt.forever() {
+        let Some(number) = bench.take_session() else {
+            break;
+        };
+        if run_session(rt, alloc, bench, number, gate).is_err() {
+            break;
+        }
+    }
+}
+
+/// Steps a session to its end. The lock is free before each step, and while the gate holds the worker.
+fn run_session<H: Handed, R: Wait, K: Keeper, N: Name, L: Listener, G: Gate>(
+    rt: &R,
+    alloc: Global,
+    bench: &Bench<K, N, L, H>,
+    number: SessionNo,
+    gate: &G,
+) -> Result<(), AllocError>
+    requires { number < length N.script.sessions }
+{
+    let mut place = bench.desk.lock(rt).place_of(number);
+    for _ in rt.forever() {
+        gate.pass(number, place);
+        let stepped = bench.desk.lock(rt).step(alloc, number)?;
+        match stepped {
+            Stepped::Did => place = place.saturating_add(1),
+            Stepped::Done => break,
+        }
+    }
+    Ok(())
+}
