@@ -1,5 +1,5 @@
 -- A call on a script ends well, unless something outside failed.
-use Rattle.std.proofs.Common.{◌≡◌, ◌<◌, ◌≤◌, ℕ, List, [], ◌↔◌, true, false, length, Some, Option, IfSome, Result, Ok, Err, refl, sym, ◌∙◌, ap, subst, arith, inl, inr}
+use Rattle.std.proofs.Common.{◌≡◌, ◌≢◌, ◌<◌, ◌≤◌, ℕ, List, [], length, Some, None, Option, IfSome, Result, Ok, Err, refl, sym, ◌∙◌, ap, subst, arith, inl, inr}
 use Rattle.std.proofs.lemmas.Bool.{true≢false}
 use Rattle.hib_base.specs.Tables.{Tables}
 use Rattle.hib_base.specs.declared.refusals.Refused.{Refused}
@@ -8,17 +8,31 @@ use Rattle.hib_journal.specs.Types.{Script}
 use Rattle.hib_script.specs.Outline.{Outline, outline_of}
 use Rattle.hib_script.specs.Script.{script_of}
 use Rattle.hib_top.specs.declared.status.Status.{Status}
-use Rattle.hib_top.specs.Play.{Plays, Runs, Reads, HasScript, IsCompleted}
+use Rattle.hib_top.specs.declared.ways.Way.{Way}
+use Rattle.hib_top.proofs.Ends.{none_taken}
+use Rattle.hib_top.specs.Play.{ComesOf, Plays, Runs, Prints, Reads, HasRead, HasNoScript, HasScript, IsAfterRun, IsWritten, IsCompleted}
 
 -- what a run leaves is what the call leaves that read the script
-pub played : (answer : Status) (left after : Option (List ℕ)) (text : List ℕ) (script : Script) (kept rows : Option Tables) (journal : Kept) (taken written : Option (List ℕ)) →
-    Reads left after text (Ok (outline_of script)) → Runs answer script kept rows journal taken written → Plays answer left after kept rows journal taken written
-played Status.Done left after text script kept rows journal taken written r x = record { text = text; script = script; read = r; run = x }
-played Status.WriteFault left after text script kept rows journal taken written r x = record { text = text; script = script; read = r; run = x }
-played Status.NoMemory left after text script kept rows journal taken written r (inl x) = inl x
-played Status.NoMemory left after text script kept rows journal taken written r (inr x) = inr (record { text = text; script = script; read = r; run = x })
-played Status.StoreFault left after text script kept rows journal taken written r x = record { text = text; said = outline_of script; read = r; idle = x }
-played _ left after text script kept rows journal taken written r x = absurd x
+pub played : (way : Way) (answer : Status) (left after : Option (List ℕ)) (text : List ℕ) (script : Script) (kept rows : Option Tables) (journal : Kept) (taken written : Option (List ℕ)) →
+    Reads left after text (Ok (outline_of script)) → Runs way answer script kept rows journal taken written → Plays way answer left after kept rows journal taken written
+played way Status.Done left after text script kept rows journal taken written r x = record { text = text; script = script; read = r; run = x }
+played way Status.WriteFault left after text script kept rows journal taken written r x = record { text = text; script = script; read = r; run = x }
+played way Status.NoMemory left after text script kept rows journal taken written r (inl x) = inl x
+played way Status.NoMemory left after text script kept rows journal taken written r (inr x) = inr (record { text = text; script = script; read = r; run = x })
+played way Status.StoreFault left after text script kept rows journal taken written r x = record { text = text; said = outline_of script; read = r; idle = x }
+played way _ left after text script kept rows journal taken written r x = absurd x
+
+-- and so it is where none was read
+pub unread : (way : Way) (answer : Status) (left after : Option (List ℕ)) (kept rows : Option Tables) (journal : Kept) (taken : Option (List ℕ)) →
+    HasNoScript left after answer → past journal ≡ [] → rows ≡ kept → Plays way answer left after kept rows journal taken taken
+unread way (Status.Refused q) left after kept rows journal taken (text, read) e s = record { text = text; read = read; idle = record { empty = e; same = s; silent = refl } }
+unread way Status.ReadFault left after kept rows journal taken n e s = record { empty = e; same = s; silent = refl }
+unread way Status.TooLong left after kept rows journal taken n e s = record { empty = e; same = s; silent = refl }
+unread way Status.NoMemory left after kept rows journal taken n e s = inl (record { empty = e; same = s; silent = refl })
+unread way _ left after kept rows journal taken n e s = absurd n
+
+pub no_usage : (left after : Option (List ℕ)) (answer : Status) → HasNoScript left after answer → answer ≡ Status.Usage → ⊥
+no_usage left after answer n p = subst (HasNoScript left after) p n
 
 told_is : (left : Option (List ℕ)) (text : List ℕ) (P : List ℕ → Type 0) → left ≡ Some text → IfSome left P → P text
 told_is left text P e p = subst (λ o. IfSome o P) e p
@@ -26,17 +40,67 @@ told_is left text P e p = subst (λ o. IfSome o P) e p
 other : (o : Outline) (r : Refused) → ◌≡◌ {A = Result Outline Refused} (Err r) (Ok o) → ⊥
 other o r e = cc
 
-pub completes : (answer : Status) (left after : Option (List ℕ)) (kept rows : Option Tables) (journal : Kept) (taken written : Option (List ℕ)) (word read write : Type 0) →
-    Plays answer left after kept rows journal taken written → ((answer ≡ Status.Usage) ↔ (word → ⊥)) → (answer ≡ Status.ReadFault → read) → (answer ≡ Status.WriteFault → write) →
+pub completes : (way : Way) (answer : Status) (left after : Option (List ℕ)) (kept rows : Option Tables) (journal : Kept) (taken written : Option (List ℕ)) (read write : Type 0) →
+    Plays way answer left after kept rows journal taken written → answer ≢ Status.Usage → (answer ≡ Status.ReadFault → read) → (answer ≡ Status.WriteFault → write) →
     (answer ≡ Status.TooLong → IfSome left (λ bytes. 1048576 < length bytes)) →
-    word → HasScript left → (read → ⊥) → (write → ⊥) → IsCompleted answer
-completes Status.Done left after kept rows journal taken written word read write p u r w l x y nr nw = tt
-completes Status.NoMemory left after kept rows journal taken written word read write p u r w l x y nr nw = tt
-completes Status.Usage left after kept rows journal taken written word read write p u r w l x y nr nw = absurd (u.0 refl x)
-completes (Status.Refused q) left after kept rows journal taken written word read write p u r w l x y nr nw =
+    HasScript left → (read → ⊥) → (write → ⊥) → IsCompleted answer
+completes way Status.Done left after kept rows journal taken written read write p u r w l y nr nw = tt
+completes way Status.NoMemory left after kept rows journal taken written read write p u r w l y nr nw = tt
+completes way Status.Usage left after kept rows journal taken written read write p u r w l y nr nw = absurd (u refl)
+completes way (Status.Refused q) left after kept rows journal taken written read write p u r w l y nr nw =
     absurd (other y.said q (sym p.read.is ∙ (ap script_of (sym (told_is left y.text (λ bytes. bytes ≡ p.text) y.told p.read.whole)) ∙ y.is)))
-completes Status.ReadFault left after kept rows journal taken written word read write p u r w l x y nr nw = absurd (nr (r refl))
-completes Status.WriteFault left after kept rows journal taken written word read write p u r w l x y nr nw = absurd (nw (w refl))
-completes Status.StoreFault left after kept rows journal taken written word read write p u r w l x y nr nw = tt
-completes Status.TooLong left after kept rows journal taken written word read write p u r w l x y nr nw =
+completes way Status.ReadFault left after kept rows journal taken written read write p u r w l y nr nw = absurd (nr (r refl))
+completes way Status.WriteFault left after kept rows journal taken written read write p u r w l y nr nw = absurd (nw (w refl))
+completes way Status.StoreFault left after kept rows journal taken written read write p u r w l y nr nw = tt
+completes way Status.TooLong left after kept rows journal taken written read write p u r w l y nr nw =
     absurd (let m : 1048576 < length y.text = told_is left y.text (λ bytes. 1048576 < length bytes) y.told (l refl) in let few : length y.text ≤ 1048576 = y.few in omega (arith, m, few))
+
+-- ---- scripts that are made
+pub completes_made : (way : Way) (answer : Status) (script : Script) (kept rows : Option Tables) (journal : Kept) (taken written : Option (List ℕ)) (write : Type 0) →
+    Runs way answer script kept rows journal taken written → (answer ≡ Status.WriteFault → write) → (write → ⊥) → IsCompleted answer
+completes_made way Status.Done script kept rows journal taken written write p w nw = tt
+completes_made way Status.NoMemory script kept rows journal taken written write p w nw = tt
+completes_made way Status.StoreFault script kept rows journal taken written write p w nw = tt
+completes_made way Status.WriteFault script kept rows journal taken written write p w nw = absurd (nw (w refl))
+completes_made way _ script kept rows journal taken written write p w nw = absurd p
+
+pub no_usage_made : (way : Way) (answer : Status) (script : Script) (kept rows : Option Tables) (journal : Kept) (taken written : Option (List ℕ)) →
+    Runs way answer script kept rows journal taken written → answer ≢ Status.Usage
+no_usage_made way answer script kept rows journal taken written p q = subst (λ z. Runs way z script kept rows journal taken written) q p
+
+pub prints : (answer : Status) (text : List ℕ) (kept : Option Tables) (journal : Kept) (taken written : Option (List ℕ)) →
+    IsAfterRun answer → past journal ≡ [] → IsWritten answer text taken written → Prints answer text kept kept journal taken written
+prints Status.Done text kept journal taken written a e w = record { empty = e; same = refl; written_text = w }
+prints Status.WriteFault text kept journal taken written a e w = record { empty = e; same = refl; written_text = w }
+prints Status.NoMemory text kept journal taken written a e w = record { empty = e; same = refl; written_text = w }
+prints _ text kept journal taken written a e w = absurd a
+
+pub completes_printed : (answer : Status) (write : Type 0) → IsAfterRun answer → (answer ≡ Status.WriteFault → write) → (write → ⊥) → IsCompleted answer
+completes_printed Status.Done write a w nw = tt
+completes_printed Status.NoMemory write a w nw = tt
+completes_printed Status.WriteFault write a w nw = absurd (nw (w refl))
+completes_printed _ write a w nw = absurd a
+
+pub no_usage_printed : (answer : Status) → IsAfterRun answer → answer ≢ Status.Usage
+no_usage_printed answer a q = subst IsAfterRun q a
+
+-- a run that is told ends neither by a fault of reading nor by a text that is too long
+pub no_read : (way : Way) (answer : Status) (script : Script) (kept rows : Option Tables) (journal : Kept) (taken written : Option (List ℕ)) →
+    Runs way answer script kept rows journal taken written → answer ≡ Status.ReadFault → ⊥
+no_read way answer script kept rows journal taken written p q = subst (λ z. Runs way z script kept rows journal taken written) q p
+
+pub not_long : (way : Way) (answer : Status) (script : Script) (kept rows : Option Tables) (journal : Kept) (taken written : Option (List ℕ)) →
+    Runs way answer script kept rows journal taken written → answer ≡ Status.TooLong → ⊥
+not_long way answer script kept rows journal taken written p q = subst (λ z. Runs way z script kept rows journal taken written) q p
+
+-- ---- memory ran out before anything was done
+idle_by : (w : Option Way) (left kept : Option Tables) (bytes : Option (List ℕ)) (journal : Kept) (taken : Option (List ℕ)) → past journal ≡ [] → kept ≡ left → ComesOf w Status.NoMemory bytes bytes left kept journal taken taken
+unfolding ComesOf
+idle_by None left kept bytes journal taken e s = record { empty = e; same = s; silent = refl }
+idle_by (Some Way.Scheduled) left kept bytes journal taken e s = inl (record { empty = e; same = s; silent = refl })
+idle_by (Some (Way.Made n)) left kept bytes journal taken e s = inl (record { empty = e; same = s; silent = refl })
+idle_by (Some (Way.Printed n)) left kept bytes journal taken e s = record { empty = e; same = s; written_text = none_taken taken _ }
+
+pub idle_comes : (w : Option Way) (answer : Status) (start rows : Option Tables) (bytes : Option (List ℕ)) (journal : Kept) (taken : Option (List ℕ)) →
+    answer ≡ Status.NoMemory → past journal ≡ [] → rows ≡ start → ComesOf w answer bytes bytes start rows journal taken taken
+idle_comes w answer start rows bytes journal taken p e s = subst (λ z. ComesOf w z bytes bytes start rows journal taken taken) (sym p) (idle_by w start rows bytes journal taken e s)

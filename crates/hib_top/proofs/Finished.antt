@@ -1,11 +1,11 @@
 -- A run in which every session that there is has ended is finished.
-use Rattle.std.proofs.Common.{◌≡◌, ℕ, zero, suc, ◌<◌, true, List, [], ◌∷◌, length, Some, None, arith}
+use Rattle.std.proofs.Common.{◌≡◌, ℕ, zero, suc, ◌<◌, List, [], ◌∷◌, length, Some, None, arith}
 use Rattle.std.specs.Prelude.{slice_get}
 use Rattle.hib_journal.specs.Types.{Script}
 use Rattle.hib_journal.specs.Sessions.{Journal}
-use Rattle.hib_journal.specs.Played.{is_played}
 use Rattle.hib_core.specs.Factory.{AreOver}
-use Rattle.hib_top.specs.Play.{IsFinished}
+use Rattle.hib_top.specs.declared.ways.Way.{Way}
+use Rattle.hib_top.specs.Play.{IsOrdered, IsFinished}
 
 below : {A : Type 0} (xs : List A) (n : ℕ) (x : A) → slice_get xs n ≡ Some x → n < length xs
 below [] n x e = absurd (no e)
@@ -15,5 +15,5 @@ below [] n x e = absurd (no e)
 below (y ∷ xs) zero x e = omega arith
 below (y ∷ xs) (suc n) x e = let l : n < length xs = below xs n x e in omega (arith, l)
 
-pub all_ended : (script : Script) (h : Journal) → AreOver script h → is_played script h ≡ true → IsFinished script h
-all_ended script h over played = record { ended = λ s d e. over s (below script.sessions s d e); scheduled = played }
+pub all_ended : (way : Way) (script : Script) (h : Journal) → AreOver script h → IsOrdered way script h → IsFinished way script h
+all_ended way script h over ordered = record { ended = λ s d e. over s (below script.sessions s d e); ordered = ordered }

@@ -1,18 +1,25 @@
--- The words that the program has a command for.
-use Rattle.std.specs.Prelude.{Bool, true, false, not, List, map}
-use Rattle.std.specs.Option.{option_map_or}
+-- What words have the program do with a script.
+use Rattle.std.specs.Prelude.{Bool, true, false, cond, List, map, Option, Some, None, option_and_then}
 use Rattle.std.specs.String.{string_bytes}
 use Rattle.std.specs.declared.string.String.{String}
 use Rattle.std.specs.declared.alloc.Global.{Global}
 use Rattle.hib_words.specs.Commands.{Asked, play, work, make, audit, command}
+use Rattle.hib_top.specs.declared.ways.Way.{Way}
 
--- the program does it today: play, over a file or not, and listening to it
-abbrev pub is_built : Asked → Bool
-is_built (play s) = not s.journal
-is_built (work n s) = false
-is_built (make n t) = false
-is_built audit = false
+-- what a command has it do; none where the command, or an option of it, isn't built
+abbrev pub way_in : Asked → Option Way
+way_in (play s) = cond s.journal None (Some Way.Scheduled)
+way_in (work n s) = None
+way_in (make n t) = Some (cond t (Way.Printed n) (Way.Made n))
+way_in audit = None
 
--- the words are a command, and it is built
-abbrev pub have_form : List (String Global) → Bool
-have_form words = option_map_or is_built (command (map string_bytes words)) false
+-- what the words have it do; none where they have no form
+unfoldable pub way_asked : List (String Global) → Option Way
+way_asked words = option_and_then way_in (command (map string_bytes words))
+
+-- the script is read from the source
+abbrev pub is_read : Option Way → Bool
+is_read None = false
+is_read (Some (Way.Made n)) = false
+is_read (Some (Way.Printed n)) = false
+is_read (Some way) = true

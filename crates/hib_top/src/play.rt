@@ -1,26 +1,28 @@
-// The top call.
-ghost use Rattle.std.specs.Prelude.{◌+◌, ◌≡◌, ◌≢◌, ◌<◌, ◌↔◌, [], length, false, true, IfOk, IfSome};
+// The run of a script by its schedule, and what is told of a run.
+ghost use Rattle.std.specs.Prelude.{◌+◌, ◌++◌, ◌≡◌, ◌≢◌, ◌<◌, [], codes, length, true, IfOk, IfErr, IfSome, Some, Option};
+ghost use Rattle.std.specs.Fmt.{decimal};
 ghost use Rattle.hib_journal.specs.Kept.{past};
 ghost use Rattle.hib_journal.specs.Runs.{ask_count, fault_count};
-ghost use Rattle.hib_core.specs.Standing.{RoseBy, RoseWithin};
+ghost use Rattle.hib_core.specs.Standing.{RoseBy, RoseWithin, told_start};
+ghost use Rattle.hib_base.specs.Tables.{Tables};
+ghost use Rattle.hib_journal.specs.Types.{Script};
 ghost use Rattle.hib_outside.specs.Causes.{Rose};
-ghost use Rattle.hib_report.specs.Report.{report};
+ghost use Rattle.hib_report.specs.Report.{report, summary};
 ghost use Rattle.hib_base.specs.Valid.{is_valid};
 ghost use Rattle.hib_top.specs.Streams.{ReadsFew};
-ghost use Rattle.hib_top.specs.Words.{have_form, is_built};
-ghost use Rattle.hib_words.specs.Commands.{asked_of};
 ghost use Rattle.hib_listeners.specs.Told.{tells};
-ghost use Rattle.hib_top.specs.Play.{Plays, Runs, IsIdle, IsWritten, IsAfterRun, HasScript, IsCompleted, AreHandedBack, is_short};
+ghost use Rattle.hib_top.specs.declared.ways.Way.{Way};
+ghost use Rattle.hib_top.specs.Play.{IsByTurns, CameTo, Plays, Runs, IsWritten, IsAfter, IsAfterRun, HasRead, HasNoScript, HasScript, IsCompleted, AreHandedBack, is_short, seed_of, told_by};
 
 use crate::run::{End, Ran, run};
 use crate::status::Status;
-use crate::streams::{LIMIT, ReadStop, read_all, write_all};
+use crate::streams::{LIMIT, ReadStop, read_all};
 use hib_base::Script;
 use hib_journal::Journal;
 use hib_listeners::nothing_was_told;
-use hib_outside::{Keeper, Listener, Sink, Source};
+use hib_outside::{Keeper, Listener, Sink, Source, write_all};
+use hib_report::WriteStop;
 use hib_script::ScriptError;
-use hib_words::Command;
 use std::alloc::{AllocError, Global};
 
 /// What a call of the program hands back.
@@ -36,59 +38,112 @@ pub struct Ended<K, L> {
     pub listeners: Vec<L>,
 }
 
-/// How the top call ended, with what it worked on.
-struct Played<K, L> {
-    status: Status,
-    keeper: K,
-    journal: Journal,
-    listeners: Vec<L>,
-}
-
-/// The program does it today: play, over whatever keeper is handed in, and with its listeners or without.
-fn is_built(command: &Command) -> bool
-    ensures { result ≡ is_built (asked_of command.now) }
-{
-    match command {
-        Command::Play { options } => !options.journal,
-        _ => false,
-    }
-}
-
-/// The words are a command, and it is built.
-fn have_form(alloc: Global, words: &[String]) -> Result<bool, AllocError>
-    ensures { IfOk result (λ is. is ≡ have_form words.now) }
-{
-    match hib_words::read(alloc, words)? {
-        Some(command) => Ok(is_built(&command)),
-        None => Ok(false),
-    }
-}
-
-/// Writes the report of a run.
-fn tell<W: Sink>(alloc: Global, script: &Script, journal: &Journal, out: &mut W) -> Status
+/// Writes the report of a run, piece by piece.
+fn tell_report<W: Sink>(alloc: Global, script: &Script, journal: &Journal, out: &mut W) -> Status
     ensures report { IsWritten result (report script.now journal.now.list) (W.taken out.old) (W.taken out.new) }
     ensures write { result ≡ Status.WriteFault → Rose (W.faults out.old) (W.faults out.new) }
     ensures after { IsAfterRun result }
 {
-    let Ok(report) = hib_report::text(alloc, script, journal) else {
-        return Status::NoMemory;
-    };
-    match write_all(out, report.as_slice()) {
+    match hib_report::write(alloc, script, journal, out) {
+        Ok(()) => Status::Done,
+        Err(WriteStop::Failed) => Status::WriteFault,
+        Err(WriteStop::NoMemory) => Status::NoMemory,
+    }
+}
+
+/// The number that a script was made from, and the summary of its run.
+fn sum(alloc: Global, seed: u32, script: &Script, journal: &Journal) -> Result<Vec<u8>, AllocError>
+    ensures { IfOk result (λ v. v.items ≡ codes "seed " ++ decimal seed ++ codes "\n" ++ summary script.now journal.now.list) }
+{
+    let mut text = b"seed ".to_vec(alloc)?;
+    let number = seed.to_string(alloc)?;
+    text.extend_from_slice(number.as_bytes())?;
+    text.extend_from_slice(b"\n")?;
+    let summary = hib_report::summary(alloc, script, journal)?;
+    text.extend_from_slice(summary.as_slice())?;
+    Ok(text)
+}
+
+/// Writes a text whole.
+pub fn write_text<W: Sink>(text: &[u8], out: &mut W) -> Status
+    ensures text { IsWritten result text.now (W.taken out.old) (W.taken out.new) }
+    ensures write { result ≡ Status.WriteFault → Rose (W.faults out.old) (W.faults out.new) }
+    ensures after { IsAfterRun result }
+{
+    match write_all(out, text) {
         Ok(()) => Status::Done,
         Err(_) => Status::WriteFault,
     }
 }
 
-/// Runs a script over a keeper, and writes the report.
-fn play_script<W: Sink, K: Keeper, L: Listener>(
+/// Writes the number that a script was made from, and the summary of its run.
+fn tell_sum<W: Sink>(
     alloc: Global,
+    seed: u32,
+    script: &Script,
+    journal: &Journal,
+    out: &mut W,
+) -> Status
+    ensures text { IsWritten result (told_by (Some seed) script.now journal.now.list) (W.taken out.old) (W.taken out.new) }
+    ensures write { result ≡ Status.WriteFault → Rose (W.faults out.old) (W.faults out.new) }
+    ensures after { IsAfterRun result }
+{
+    let Ok(text) = sum(alloc, seed, script, journal) else {
+        return Status::NoMemory;
+    };
+    write_text(&text, out)
+}
+
+/// Tells a run that is over: by its report, or by the number that its script was made from and the summary.
+fn tell<W: Sink>(
+    alloc: Global,
+    seed: Option<u32>,
+    script: &Script,
+    journal: &Journal,
+    out: &mut W,
+) -> Status
+    ensures report { IsWritten result (told_by seed script.now journal.now.list) (W.taken out.old) (W.taken out.new) }
+    ensures write { result ≡ Status.WriteFault → Rose (W.faults out.old) (W.faults out.new) }
+    ensures after { IsAfterRun result }
+{
+    match seed {
+        None => tell_report(alloc, script, journal, out),
+        Some(seed) => tell_sum(alloc, seed, script, journal, out),
+    }
+}
+
+/// Tells a run that came to its end, and answers how the call ends.
+pub fn tell_end<W: Sink>(
+    alloc: Global,
+    end: End,
+    seed: Option<u32>,
+    journal: &Journal,
+    out: &mut W,
+) -> Status
+    ensures after { IsAfter end result }
+    ensures run { (way : Way) (script : Script) (kept rows : Option Tables) → seed_of way ≡ seed → CameTo way end script kept (told_start script kept) rows (past journal.now)
+        → Runs way result script kept rows journal.now (W.taken out.old) (W.taken out.new) }
+    ensures write { result ≡ Status.WriteFault → Rose (W.faults out.old) (W.faults out.new) }
+{
+    match end {
+        End::Over(script) => tell(alloc, seed, &script, journal, out),
+        End::Stopped => Status::NoMemory,
+        End::Unopened => Status::NoMemory,
+        End::Unseeded => Status::StoreFault,
+    }
+}
+
+/// Runs a script over a keeper by its schedule, and tells the run.
+pub fn play_script<W: Sink, K: Keeper, L: Listener>(
+    alloc: Global,
+    seed: Option<u32>,
     script: Script,
     out: &mut W,
     keeper: K,
     listeners: Vec<L>,
-) -> Played<K, L>
+) -> Ended<K, L>
     requires { is_valid script ≡ true }
-    ensures run { Runs result.status script (K.tables keeper) (K.tables result.keeper) result.journal (W.taken out.old) (W.taken out.new) }
+    ensures run { (way : Way) → seed_of way ≡ seed → IsByTurns way → Runs way result.status script (K.tables keeper) (K.tables result.keeper) result.journal (W.taken out.old) (W.taken out.new) }
     ensures write { result.status ≡ Status.WriteFault → Rose (W.faults out.old) (W.faults out.new) }
     ensures store { result.status ≡ Status.StoreFault → Rose (K.faults keeper) (K.faults result.keeper) }
     ensures faults { RoseBy (K.faults keeper) (fault_count (past result.journal)) (K.faults result.keeper) }
@@ -103,13 +158,8 @@ fn play_script<W: Sink, K: Keeper, L: Listener>(
         journal,
         listeners,
     } = run(alloc, script, keeper, listeners);
-    let status = match end {
-        End::Over(script) => tell(alloc, &script, &journal, out),
-        End::Stopped => Status::NoMemory,
-        End::Unopened => Status::NoMemory,
-        End::Unseeded => Status::StoreFault,
-    };
-    Played {
+    let status = tell_end(alloc, end, seed, &journal, out);
+    Ended {
         status,
         keeper,
         journal,
@@ -117,20 +167,42 @@ fn play_script<W: Sink, K: Keeper, L: Listener>(
     }
 }
 
+/// The script that the source has, or how a call ends that finds none.
+pub fn read_script<S: Source>(alloc: Global, source: &mut S) -> Result<Script, Status>
+    ensures script { IfOk result (λ script. HasRead (S.left source.old) (S.left source.new) script) }
+    ensures valid { IfOk result (λ script. is_valid script ≡ true) }
+    ensures none { IfErr result (λ status. HasNoScript (S.left source.old) (S.left source.new) status) }
+    ensures read { result ≡ Err Status.ReadFault → Rose (S.faults source.old) (S.faults source.new) }
+    ensures long { result ≡ Err Status.TooLong → IfSome (S.left source.old) (λ bytes. LIMIT < length bytes) }
+    ensures taken { ReadsFew 1052672 (S.left source.old) (S.left source.new) }
+{
+    let text = match read_all(alloc, source) {
+        Ok(text) => text,
+        Err(ReadStop::NoMemory) => return Err(Status::NoMemory),
+        Err(ReadStop::Failed) => return Err(Status::ReadFault),
+        Err(ReadStop::TooLong) => return Err(Status::TooLong),
+    };
+    match hib_script::read(alloc, &text) {
+        Ok(script) => Ok(script),
+        Err(ScriptError::Refused(refused)) => Err(Status::Refused(refused)),
+        Err(ScriptError::NoMemory) => Err(Status::NoMemory),
+    }
+}
+
 /// Nothing is done.
-fn stop<K: Keeper, L: Listener>(
+pub fn stop<K: Keeper, L: Listener>(
     alloc: Global,
     status: Status,
     keeper: K,
     listeners: Vec<L>,
-) -> Played<K, L>
+) -> Ended<K, L>
     ensures status { result.status ≡ status }
     ensures empty { past result.journal ≡ [] }
     ensures keeper { result.keeper ≡ keeper }
     ensures listeners { AreHandedBack (is_short result.status) result.journal.list (tells L.heard L.left listeners.items) (tells L.heard L.left result.listeners.items) }
 {
     nothing_was_told();
-    Played {
+    Ended {
         status,
         keeper,
         journal: Journal::open(alloc),
@@ -138,15 +210,15 @@ fn stop<K: Keeper, L: Listener>(
     }
 }
 
-/// Reads the script, runs it and writes the report.
-fn play<S: Source, W: Sink, K: Keeper, L: Listener>(
+/// Reads the script, runs it by its schedule and writes the report.
+pub fn play<S: Source, W: Sink, K: Keeper, L: Listener>(
     alloc: Global,
     source: &mut S,
     out: &mut W,
     keeper: K,
     listeners: Vec<L>,
-) -> Played<K, L>
-    ensures run { Plays result.status (S.left source.old) (S.left source.new) (K.tables keeper) (K.tables result.keeper) result.journal (W.taken out.old) (W.taken out.new) }
+) -> Ended<K, L>
+    ensures run { Plays Way.Scheduled result.status (S.left source.old) (S.left source.new) (K.tables keeper) (K.tables result.keeper) result.journal (W.taken out.old) (W.taken out.new) }
     ensures read { result.status ≡ Status.ReadFault → Rose (S.faults source.old) (S.faults source.new) }
     ensures write { result.status ≡ Status.WriteFault → Rose (W.faults out.old) (W.faults out.new) }
     ensures long { result.status ≡ Status.TooLong → IfSome (S.left source.old) (λ bytes. LIMIT < length bytes) }
@@ -156,75 +228,14 @@ fn play<S: Source, W: Sink, K: Keeper, L: Listener>(
     ensures asked { result.status ≢ Status.NoMemory → RoseWithin (K.asked keeper) (ask_count (past result.journal)) (K.asked result.keeper) }
     // Where memory runs out it may have been asked once more, without an entry.
     ensures once { RoseWithin (K.asked keeper) (ask_count (past result.journal) + 1) (K.asked result.keeper) }
+    // A script is run to its end where source and sink don't fail, unless memory runs out or the keeper doesn't take its rows.
+    ensures complete { HasScript (S.left source.old) → (Rose (S.faults source.old) (S.faults source.new) → ⊥)
+        → (Rose (W.faults out.old) (W.faults out.new) → ⊥) → IsCompleted result.status }
     ensures taken { ReadsFew 1052672 (S.left source.old) (S.left source.new) }
     ensures listeners { AreHandedBack (is_short result.status) result.journal.list (tells L.heard L.left listeners.items) (tells L.heard L.left result.listeners.items) }
 {
-    let text = match read_all(alloc, source) {
-        Ok(text) => text,
-        Err(ReadStop::NoMemory) => return stop(alloc, Status::NoMemory, keeper, listeners),
-        Err(ReadStop::Failed) => return stop(alloc, Status::ReadFault, keeper, listeners),
-        Err(ReadStop::TooLong) => return stop(alloc, Status::TooLong, keeper, listeners),
-    };
-    let script = match hib_script::read(alloc, &text) {
-        Ok(script) => script,
-        Err(ScriptError::Refused(refused)) => {
-            return stop(alloc, Status::Refused(refused), keeper, listeners);
-        }
-        Err(ScriptError::NoMemory) => return stop(alloc, Status::NoMemory, keeper, listeners),
-    };
-    play_script(alloc, script, out, keeper, listeners)
-}
-
-/// Does what the words say; it takes no lock and returns. The one word `play` has a form: it reads a script from
-/// the source, runs it over the keeper and writes the report of its journal to the sink. Where the words have no form
-/// nothing is read.
-///
-/// Whatever the status, the journal handed back is legal for the script that the text is, from the keeper's tables as
-/// they were handed in and the script's rows beside them, and obeys the law; its k-th entry has tick k, and the keeper's
-/// tables are those that its commits gave. The listeners hear of each entry in the step that adds it.
-#[tactic(auto, using(crate::proofs::Complete::completes, crate::proofs::Taken::reads_none))]
-pub fn play_words<S: Source, W: Sink, K: Keeper, L: Listener>(
-    alloc: Global,
-    words: &[String],
-    script: &mut S,
-    out: &mut W,
-    keeper: K,
-    listeners: Vec<L>,
-) -> Ended<K, L>
-    ensures run { Plays result.status (S.left script.old) (S.left script.new) (K.tables keeper) (K.tables result.keeper) result.journal (W.taken out.old) (W.taken out.new) }
-    ensures usage { result.status ≢ Status.NoMemory → ((result.status ≡ Status.Usage) ↔ (have_form words.now ≡ false)) }
-    ensures unread { have_form words.now ≡ false → (S.left script.new ≡ S.left script.old) × (S.faults script.new ≡ S.faults script.old) }
-    ensures idle { have_form words.now ≡ false → IsIdle (K.tables keeper) (K.tables result.keeper) result.journal (W.taken out.old) (W.taken out.new) }
-    ensures read { result.status ≡ Status.ReadFault → Rose (S.faults script.old) (S.faults script.new) }
-    ensures write { result.status ≡ Status.WriteFault → Rose (W.faults out.old) (W.faults out.new) }
-    ensures long { result.status ≡ Status.TooLong → IfSome (S.left script.old) (λ bytes. LIMIT < length bytes) }
-    ensures store { result.status ≡ Status.StoreFault → Rose (K.faults keeper) (K.faults result.keeper) }
-    ensures faults { RoseBy (K.faults keeper) (fault_count (past result.journal)) (K.faults result.keeper) }
-    ensures asked { result.status ≢ Status.NoMemory → RoseWithin (K.asked keeper) (ask_count (past result.journal)) (K.asked result.keeper) }
-    // Where memory runs out it may have been asked once more, without an entry.
-    ensures once { RoseWithin (K.asked keeper) (ask_count (past result.journal) + 1) (K.asked result.keeper) }
-    // At most one piece of 4,096 bytes beyond the limit is read.
-    ensures taken { ReadsFew 1052672 (S.left script.old) (S.left script.new) }
-    // A script is run to its end where source and sink don't fail, unless memory runs out or the keeper doesn't take its rows.
-    ensures complete { have_form words.now ≡ true → HasScript (S.left script.old) → (Rose (S.faults script.old) (S.faults script.new) → ⊥)
-        → (Rose (W.faults out.old) (W.faults out.new) → ⊥) → IsCompleted result.status }
-    // Which listeners are handed back, and what they have heard.
-    ensures listeners { AreHandedBack (is_short result.status) result.journal.list (tells L.heard L.left listeners.items) (tells L.heard L.left result.listeners.items) }
-{
-    let Played {
-        status,
-        keeper,
-        journal,
-        listeners,
-    } = match have_form(alloc, words) {
-        Ok(true) => play(alloc, script, out, keeper, listeners),
-        Ok(false) => stop(alloc, Status::Usage, keeper, listeners),
-        Err(_) => stop(alloc, Status::NoMemory, keeper, listeners),
-    };
-    Ended {
-        status,
-        keeper,
-        journal,
-        listeners,
+    match read_script(alloc, source) {
+        Ok(script) => play_script(alloc, None, script, out, keeper, listeners),
+        Err(status) => stop(alloc, status, keeper, listeners),
     }
 }

@@ -1,10 +1,10 @@
-// Reading to the end, and writing whole.
-ghost use Rattle.std.specs.Prelude.{◌≡◌, ◌+◌, ◌<◌, ◌≤◌, ◌^◌, ◌++◌, take, length, IfOk, OnOk, OnErr, IfErr, IfSome, ℕ, List};
-ghost use Rattle.std.specs.Io.KnownBytes.{Appends, IsAtEnd, Keeps};
-ghost use Rattle.hib_outside.specs.Causes.{Rose, HasCause};
-ghost use Rattle.hib_top.specs.Streams.{TakesFront, ReadsFew};
+// Reading to the end.
+ghost use Rattle.std.specs.Prelude.{◌≡◌, ◌+◌, ◌<◌, ◌≤◌, length, IfOk, OnOk, IfSome};
+ghost use Rattle.std.specs.Io.KnownBytes.{IsAtEnd};
+ghost use Rattle.hib_outside.specs.Causes.{Rose};
+ghost use Rattle.hib_top.specs.Streams.{ReadsFew};
 
-use hib_outside::{Failed, Sink, Source};
+use hib_outside::{Failed, Source};
 use std::alloc::{AllocError, AllocFailed, Global};
 use thiserror::Error;
 
@@ -71,17 +71,4 @@ pub fn read_all<S: Source>(alloc: Global, source: &mut S) -> Result<Vec<u8>, Rea
         }
     }
     Err(ReadStop::TooLong)
-}
-
-/// Writes all the bytes.
-pub fn write_all<W: Sink>(sink: &mut W, bytes: &[u8]) -> Result<(), Failed>
-    ensures whole { OnOk result (Appends (W.taken sink.old) (W.taken sink.new) bytes.now) }
-    ensures front { OnErr result (TakesFront (W.taken sink.old) (W.taken sink.new) bytes.now) }
-    ensures cause { HasCause (W.faults sink.old) (W.faults sink.new) result }
-{
-    let mut at = 0;
-    while at < bytes.len() {
-        at += sink.write(&bytes[at..])?;
-    }
-    Ok(())
 }

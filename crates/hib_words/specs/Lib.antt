@@ -2,3 +2,4 @@ pub mod Given
 pub mod Commands
 pub mod Clap
 pub mod Matched
+pub mod Topics

@@ -4,7 +4,9 @@
 mod forms;
 mod parse;
 mod texts;
+mod topics;
 mod words;
 
 pub use texts::{VERSION, help};
+pub use topics::{Topic, topic_asked};
 pub use words::{Command, Options, read};

@@ -15,6 +15,8 @@ const ABOUT: &str =
 const AFTER_HELP: &str = "
 A script comes by standard input, and the report goes to standard output:
   hib play < examples/first.hib
+A script may also be made from a number, to be looked at or run:
+  hib make --seed 7 --text > made.hib
 
 The words --help and --version stand alone: beside another word they are no command.
 
@@ -25,7 +27,7 @@ Exit status, which a line on standard error explains where it isn't 0:
   4  reading failed; nothing was written
   5  writing failed; a first part of the text may be written
   6  the input has more than 1,048,576 bytes; nothing was written
-  8  memory ran out
+  8  memory ran out; a first part of the text may be written
   9  the store didn't take the script's rows; nothing was run
 
 Why a line of a script is refused, at status 3:
@@ -52,10 +54,10 @@ Why a line of a script is refused, at status 3:
   type           a cell isn't of its column's type, or a bool has no order
   depth          a condition is nested too deeply, or lists too many cells
   many           it is one more than there may be
-  last           it comes after the end of the transaction, or the session ends without one
+  last           it ends a session whose last statement is no commit and no rollback
   no-end         the input ends inside a session or a schedule
 
-docs/SCRIPT.md tells what a script may say, README.md what a report says and what is proved.
+docs/SCRIPT.md tells what a script may say, docs/JOURNAL.md what a report says, docs/CLAIMS.md what is proved.
 ";
 
 impl Verb {
@@ -64,7 +66,7 @@ impl Verb {
         match self {
             Verb::Play => true,
             Verb::Work => false,
-            Verb::Make => false,
+            Verb::Make => true,
             Verb::Audit => false,
         }
     }
@@ -98,8 +100,8 @@ impl OptionName {
             OptionName::File => true,
             OptionName::Trace => true,
             OptionName::Workers => false,
-            OptionName::Seed => false,
-            OptionName::Text => false,
+            OptionName::Seed => true,
+            OptionName::Text => true,
         }
     }
 

@@ -4,6 +4,7 @@ ghost use Rattle.std.specs.Char.{is_ascii_digit};
 ghost use Rattle.std.specs.List.{list_all};
 ghost use Rattle.hib_words.specs.Commands.{asked, asked_of, command, in_range, is_numeral, is_value, number_between, settings_in, settings_of};
 ghost use Rattle.hib_words.specs.Matched.{chosen_of};
+ghost use Rattle.hib_words.specs.Topics.{file_of, is_traced};
 
 use crate::forms::{Verb, verb_named};
 use crate::parse::{Found, parse};
@@ -44,6 +45,47 @@ pub struct Options {
     pub trace: bool,
     /// The path of the file that the store is on, not empty and not beginning with a hyphen. With none it is in memory.
     pub file: Option<String>,
+}
+
+impl Command {
+    /// The path of the file that it works on, if it names one.
+    pub fn file(&self) -> Option<&str>
+        ensures { option_map (λ path. path.now) result ≡ file_of (asked_of self.now) }
+    {
+        match self {
+            Command::Play { options } => options.path(),
+            Command::Work {
+                workers: _,
+                options,
+            } => options.path(),
+            _ => None,
+        }
+    }
+
+    /// Its steps are told on standard error.
+    pub fn is_traced(&self) -> bool
+        ensures { result ≡ is_traced (asked_of self.now) }
+    {
+        match self {
+            Command::Play { options } => options.trace,
+            Command::Work {
+                workers: _,
+                options,
+            } => options.trace,
+            _ => false,
+        }
+    }
+}
+
+impl Options {
+    fn path(&self) -> Option<&str>
+        ensures { option_map (λ path. path.now) result ≡ option_map string_bytes self.now.file }
+    {
+        match &self.file {
+            Some(path) => Some(path.as_str()),
+            None => None,
+        }
+    }
 }
 
 /// The text isn't empty and begins with no hyphen.

@@ -1,17 +1,20 @@
-use Rattle.std.proofs.Common.{◌≡◌, ℕ, List, Ok, subst}
-use Rattle.hib_script.specs.Outline.{outline_of}
-use Rattle.hib_script.specs.Script.{script_of}
-use Rattle.hib_top.specs.Play.{Reads}
-use Rattle.hib_top.proofs.Complete.{played}
+use Rattle.std.proofs.Common.{refl}
+use Rattle.hib_top.specs.declared.ways.Way.{Way}
+use Rattle.hib_top.proofs.Complete.{played, completes_made, no_read, not_long, no_usage_made}
 use Rattle.hib_top.proofs.play.play.Goals as goal
 
-pub returns-clause-run : goal.returns-clause-run
-returns-clause-run g c =
-    let reads : Reads (g.S.Source.left c.args.source.now) _ c.in-Ok.text.items (Ok (outline_of c.in-Ok-read.script)) =
-    record {
-      whole = c.in-Ok.ensures.bytes;
-      end = c.in-Ok.ensures.end;
-      few = c.in-Ok.ensures.few;
-      is = subst (λ (t : List ℕ). script_of t ≡ Ok (outline_of c.in-Ok-read.script)) c.deref.ensures.value c.in-Ok-read.ensures.script;
-    } in
-    played c.play_script.result.status _ _ c.in-Ok.text.items c.in-Ok-read.script _ _ c.play_script.result.journal _ _ reads c.play_script.ensures.run
+pub returns-in-Ok-clause-run : goal.returns-in-Ok-clause-run
+returns-in-Ok-clause-run g c =
+    played Way.Scheduled c.play_script.result.status _ _ c.in-Ok.ensures.script.text c.in-Ok.script _ _ c.play_script.result.journal _ _ c.in-Ok.ensures.script.read (c.play_script.ensures.run Way.Scheduled refl tt)
+
+pub returns-in-Ok-clause-read : goal.returns-in-Ok-clause-read
+returns-in-Ok-clause-read g c = λ p. absurd (no_read Way.Scheduled c.play_script.result.status c.in-Ok.script _ _ c.play_script.result.journal _ _ (c.play_script.ensures.run Way.Scheduled refl tt) p)
+
+pub returns-in-Ok-clause-long : goal.returns-in-Ok-clause-long
+returns-in-Ok-clause-long g c = λ p. absurd (not_long Way.Scheduled c.play_script.result.status c.in-Ok.script _ _ c.play_script.result.journal _ _ (c.play_script.ensures.run Way.Scheduled refl tt) p)
+
+pub returns-in-Ok-clause-usage : goal.returns-in-Ok-clause-usage
+returns-in-Ok-clause-usage g c = no_usage_made Way.Scheduled c.play_script.result.status c.in-Ok.script _ _ c.play_script.result.journal _ _ (c.play_script.ensures.run Way.Scheduled refl tt)
+
+pub returns-in-Ok-clause-complete : goal.returns-in-Ok-clause-complete
+returns-in-Ok-clause-complete g c = λ has nr nw. completes_made Way.Scheduled c.play_script.result.status c.in-Ok.script _ _ c.play_script.result.journal _ _ _ (c.play_script.ensures.run Way.Scheduled refl tt) c.play_script.ensures.write nw

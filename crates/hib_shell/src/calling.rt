@@ -1,0 +1,86 @@
+// The top call over the host's streams.
+ghost use Rattle.std.specs.Prelude.{◌≡◌, ◌≢◌, ◌↔◌, cond, false, length, IfOk, None};
+ghost use Rattle.std.specs.Option.{option_map_or};
+ghost use Rattle.hib_outside.specs.Causes.{Rose};
+ghost use Rattle.hib_top.specs.Words.{way_asked};
+ghost use Rattle.hib_words.specs.Commands.{asked_of};
+ghost use Rattle.hib_words.specs.Topics.{is_traced};
+
+use hib_listeners::Trace;
+use hib_outside::{Keeper, OpenGate, StdSink, StdSource};
+use hib_top::{Status, top};
+use hib_words::Command;
+use std::alloc::{AllocError, Global};
+use std::io::Stderr;
+use std::sync::Wait;
+use std::thread::Threads;
+use std::{env, io};
+
+/// Writes its lines on standard error.
+pub type ErrorTrace = Trace<StdSink<Stderr>>;
+
+/// The words of the command line behind the program's name; or how the program ends where they can't be had: a word that isn't
+/// UTF-8 is no word of a command. Another failure of the host is handed on.
+pub fn words_given(host: &HostRuntime) -> io::Result<Result<Vec<String>, Status>> {
+    let mut words = Vec::new(host.alloc());
+    match env::args(host) {
+        Ok(args) => {
+            for word in args.skip(1) {
+                if words.push(word).is_err() {
+                    return Ok(Err(Status::NoMemory));
+                }
+            }
+            Ok(Ok(words))
+        }
+        Err(error) if error.kind() == io::ErrorKind::InvalidData => Ok(Err(Status::Usage)),
+        Err(error) if error.kind() == io::ErrorKind::OutOfMemory => Ok(Err(Status::NoMemory)),
+        Err(error) => Err(error),
+    }
+}
+
+/// The listeners that the words ask for: with `--trace`, one that writes a line for each entry on standard error.
+pub fn listeners_asked(
+    host: &HostRuntime,
+    command: &Option<Command>,
+) -> Result<Vec<ErrorTrace>, AllocError>
+    ensures { IfOk result (λ v. length v.items ≡ cond (option_map_or (λ c. is_traced (asked_of c)) command.now false) 1 0) }
+{
+    let mut listeners = Vec::new(host.alloc());
+    if let Some(command) = command {
+        if command.is_traced() {
+            listeners.push(Trace::new(StdSink::new(host.stderr())))?;
+        }
+    }
+    Ok(listeners)
+}
+
+/// Calls the top call with the words, over this keeper: the script comes by standard input, the text goes to standard output.
+#[tactic(auto, unfolding(hib_top::specs::Play::ComesOf))]
+pub fn call<R: Threads + Wait + Sync, K: Keeper>(
+    rt: &R,
+    host: &HostRuntime,
+    words: &[String],
+    command: &Option<Command>,
+    keeper: K,
+) -> (Status, K)
+    ensures usage { result.0 ≢ Status.NoMemory → ((result.0 ≡ Status.Usage) ↔ (way_asked words.now ≡ None)) }
+    ensures idle { way_asked words.now ≡ None → K.tables result.1 ≡ K.tables keeper }
+    ensures store { result.0 ≡ Status.StoreFault → Rose (K.faults keeper) (K.faults result.1) }
+{
+    let Ok(listeners) = listeners_asked(host, command) else {
+        return (Status::NoMemory, keeper);
+    };
+    let mut source = StdSource::new(host.reader());
+    let mut sink = StdSink::new(io::writer(host));
+    let ended = top(
+        rt,
+        host.alloc(),
+        words,
+        &mut source,
+        &mut sink,
+        keeper,
+        &OpenGate,
+        listeners,
+    );
+    (ended.status, ended.keeper)
+}
