@@ -1,9 +1,12 @@
 // The acts that complete a transaction.
-ghost use Rattle.std.specs.Prelude.{◌≡◌, ◌∷◌, [], IfOk, option_copied};
-ghost use Rattle.hib_journal.specs.Next.{mode_puts, puts_back, complete_by, complete_insert, complete_update, release_of};
+ghost use Rattle.std.specs.Prelude.{◌≡◌, ◌∷◌, [], ℕ, List, IfOk, option_copied};
+ghost use Rattle.hib_base.specs.declared.numbers.Key.{Key as KeyOf};
+ghost use Rattle.hib_journal.specs.Next.{mode_puts, puts_back, complete_by, complete_insert, complete_update, release_of, keys_of};
 ghost use Rattle.hib_completion.specs.Completed.{acts_of, key_acts, keys_acts, completes};
+ghost use Rattle.hib_completion.specs.Touched.{StandsFor};
 
-use crate::lists::{first_of, keys, last_of, lock_of, strategy_of, tables};
+use crate::lists::{strategy_of, tables};
+use crate::touched::{Touched, change_of, key_at, lock_of};
 use hib_base::{Act, Acts, Change, Key, Mapping, Mode, Row, Seq, Strategy, Tick};
 use std::alloc::{AllocError, Global};
 
@@ -101,46 +104,63 @@ fn key_completed(
     }
 }
 
-/// What completes one of the changed keys.
+/// What completes one of the changed keys, by the places of its changes and its last lock.
 fn completed(
     alloc: Global,
     mapping: &Mapping,
     changes: &[Change],
-    locks: &[(Key, Tick)],
+    touched: &Touched,
     done: bool,
     floor: Tick,
     key: &Key,
 ) -> Result<Option<Act>, AllocError>
-    ensures { IfOk result (λ a. acts_of a ≡ key_acts mapping.now changes.now locks.now done floor key.now) }
+    ensures { IfOk result (λ a. (locks : List (KeyOf × ℕ)) → StandsFor changes.now locks touched.now
+        → acts_of a ≡ key_acts mapping.now changes.now locks done floor key.now) }
 {
-    let first = first_of(*key, changes);
+    let first = change_of(changes, &touched.firsts, key);
     let strategy = strategy_of(mapping, *key);
-    let lock = lock_of(*key, locks);
-    let last = last_of(*key, changes);
+    let lock = lock_of(&touched.locks, key);
+    let last = change_of(changes, &touched.lasts, key);
     let row = put_back(done, last);
     let act = key_completed(alloc, first, strategy, *key, lock, floor, row)?;
     Ok(act)
 }
 
-/// What completes each of these keys, in their order.
+/// What completes each of the changed keys, in order of first change.
 fn all_completed(
+    alloc: Global,
+    mapping: &Mapping,
+    changes: &[Change],
+    touched: &Touched,
+    done: bool,
+    floor: Tick,
+) -> Result<Acts, AllocError>
+    ensures { IfOk result (λ q. (locks : List (KeyOf × ℕ)) → StandsFor changes.now locks touched.now
+        → q ≡ keys_acts mapping.now changes.now locks done floor (keys_of changes.now)) }
+{
+    let mut acts = Seq::new(alloc);
+    for place in 0..touched.firsts.len() {
+        let key = key_at(&touched.firsts, place);
+        if let Some(act) = completed(alloc, mapping, changes, touched, done, floor, &key)? {
+            acts.push(act)?;
+        }
+    }
+    Ok(acts)
+}
+
+/// What completes each of the keys of these changes, in order of first change.
+fn keys_completed(
     alloc: Global,
     mapping: &Mapping,
     changes: &[Change],
     locks: &[(Key, Tick)],
     done: bool,
     floor: Tick,
-    keys: &[Key],
 ) -> Result<Acts, AllocError>
-    ensures { IfOk result (λ q. q ≡ keys_acts mapping.now changes.now locks.now done floor keys.now) }
+    ensures { IfOk result (λ q. q ≡ keys_acts mapping.now changes.now locks.now done floor (keys_of changes.now)) }
 {
-    let mut acts = Seq::new(alloc);
-    for key in keys {
-        if let Some(act) = completed(alloc, mapping, changes, locks, done, floor, key)? {
-            acts.push(act)?;
-        }
-    }
-    Ok(acts)
+    let touched = Touched::of(alloc, changes, locks)?;
+    all_completed(alloc, mapping, changes, &touched, done, floor)
 }
 
 /// What completes a transaction that wrote these changes, but for its End: key by key in order of first change, a row is
@@ -156,9 +176,8 @@ pub fn acts(
 ) -> Result<Acts, AllocError>
     ensures { IfOk result (λ q. q ≡ completes mapping.now changes.now locks.now committed mode floor) }
 {
-    let keys = keys(alloc, changes)?;
     let done = committed && does_put(mode);
-    let mut acts = all_completed(alloc, mapping, changes, locks, done, floor, keys.as_slice())?;
+    let mut acts = keys_completed(alloc, mapping, changes, locks, done, floor)?;
     let tables = tables(alloc, mapping, changes)?;
     if !tables.is_empty() {
         acts.push(Act::Stamp { tables })?;

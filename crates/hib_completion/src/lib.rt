@@ -3,6 +3,7 @@
 
 mod completing;
 mod lists;
+mod touched;
 
 pub use completing::acts;
 pub use lists::tables;

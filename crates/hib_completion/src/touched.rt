@@ -1,0 +1,138 @@
+// The places of the first and the last change of each key, and its last lock, each found in one pass.
+ghost use Rattle.std.specs.Prelude.{◌≡◌, ◌<◌, cond, IfOk, OnOk, None, Some, length, option_copied, slice_get};
+ghost use Rattle.std.specs.Map.{keys_of as keys_in, lookup};
+ghost use Rattle.hib_base.specs.Keys.{same_key};
+ghost use Rattle.hib_base.specs.Tables.{first_on, last_on};
+ghost use Rattle.hib_base.specs.declared.numbers.Key.{Key as KeyOf};
+ghost use Rattle.hib_journal.specs.Next.{keys_of};
+ghost use Rattle.hib_completion.specs.Completed.{lock_from};
+ghost use Rattle.hib_completion.specs.Touched.{at_place, or_place, with_key, or_zero, StandsFor};
+
+use hib_base::{Change, Key, Tick};
+use indexmap::IndexMap;
+use std::alloc::{AllocError, Global};
+
+/// The change at the place that a key has, if it has one.
+pub fn change_of<'a>(
+    changes: &'a [Change],
+    places: &IndexMap<Key, usize>,
+    key: &Key,
+) -> Option<&'a Change>
+    ensures { option_copied result ≡ at_place changes.now (lookup (same_key key.now) places.now.entries) }
+{
+    changes.get(*places.get(key)?)
+}
+
+/// A key has its first change at this place, unless it has one before.
+fn note_first(firsts: &mut IndexMap<Key, usize>, key: Key, place: usize) -> Result<(), AllocError>
+    ensures keys { OnOk result (keys_in firsts.new.entries ≡ with_key key (keys_in firsts.old.entries)) }
+    ensures each { OnOk result ((k : KeyOf) → lookup (same_key k) firsts.new.entries
+        ≡ or_place (lookup (same_key k) firsts.old.entries) (cond (same_key key k) (Some place) None)) }
+{
+    if !firsts.contains_key(&key) {
+        firsts.insert(key, place)?;
+    }
+    Ok(())
+}
+
+/// The place of the first change of each key; the keys stand in the order of these.
+fn firsts_of(alloc: Global, changes: &[Change]) -> Result<IndexMap<Key, usize>, AllocError>
+    ensures keys { IfOk result (λ m. keys_in m.entries ≡ keys_of changes.now) }
+    ensures each { IfOk result (λ m. (k : KeyOf) → at_place changes.now (lookup (same_key k) m.entries) ≡ first_on k changes.now) }
+{
+    let mut firsts = IndexMap::new(alloc);
+    for place in 0..changes.len() {
+        note_first(&mut firsts, changes[place].key(), place)?;
+    }
+    Ok(firsts)
+}
+
+/// A key has its last change at this place, so far.
+fn note_last(lasts: &mut IndexMap<Key, usize>, key: Key, place: usize) -> Result<(), AllocError>
+    ensures { OnOk result ((k : KeyOf) → lookup (same_key k) lasts.new.entries
+        ≡ cond (same_key key k) (Some place) (lookup (same_key k) lasts.old.entries)) }
+{
+    lasts.insert(key, place)?;
+    Ok(())
+}
+
+/// The place of the last change of each key.
+fn lasts_of(alloc: Global, changes: &[Change]) -> Result<IndexMap<Key, usize>, AllocError>
+    ensures { IfOk result (λ m. (k : KeyOf) → at_place changes.now (lookup (same_key k) m.entries) ≡ last_on k changes.now) }
+{
+    let mut lasts = IndexMap::new(alloc);
+    for place in 0..changes.len() {
+        note_last(&mut lasts, changes[place].key(), place)?;
+    }
+    Ok(lasts)
+}
+
+/// A lock is the last of its key so far.
+fn note_lock(ids: &mut IndexMap<Key, Tick>, key: Key, id: Tick) -> Result<(), AllocError>
+    ensures { OnOk result ((k : KeyOf) → lookup (same_key k) ids.new.entries
+        ≡ cond (same_key key k) (Some id) (lookup (same_key k) ids.old.entries)) }
+{
+    ids.insert(key, id)?;
+    Ok(())
+}
+
+/// The number of the last lock of each key.
+fn locks_of(alloc: Global, locks: &[(Key, Tick)]) -> Result<IndexMap<Key, Tick>, AllocError>
+    ensures { IfOk result (λ m. (k : KeyOf) → or_zero (lookup (same_key k) m.entries) ≡ lock_from k 0 locks.now) }
+{
+    let mut ids = IndexMap::new(alloc);
+    for (key, id) in locks {
+        note_lock(&mut ids, *key, *id)?;
+    }
+    Ok(ids)
+}
+
+/// The number of a key's last lock, or 0 if it has none.
+pub fn lock_of(ids: &IndexMap<Key, Tick>, key: &Key) -> Tick
+    ensures { result ≡ or_zero (lookup (same_key key.now) ids.now.entries) }
+{
+    match ids.get(key) {
+        Some(id) => *id,
+        None => Tick(0),
+    }
+}
+
+/// The key at a place.
+pub fn key_at(firsts: &IndexMap<Key, usize>, place: usize) -> Key
+    requires { place < length firsts.now.entries }
+    ensures { slice_get (keys_in firsts.now.entries) place ≡ Some result }
+{
+    let (key, _) = firsts.get_index(place).unwrap();
+    *key
+}
+
+/// What is known of the keys that a transaction has changed.
+#[derive(Drop)]
+pub struct Touched {
+    /// The place of the first change of each key; the keys stand in the order of these.
+    pub firsts: IndexMap<Key, usize>,
+    /// The place of the last change of each key.
+    pub lasts: IndexMap<Key, usize>,
+    /// The number of the last lock of each key that was locked.
+    pub locks: IndexMap<Key, Tick>,
+}
+
+impl Touched {
+    /// Of these changes, and these locks.
+    pub fn of(
+        alloc: Global,
+        changes: &[Change],
+        locks: &[(Key, Tick)],
+    ) -> Result<Touched, AllocError>
+        ensures { IfOk result (StandsFor changes.now locks.now) }
+    {
+        let firsts = firsts_of(alloc, changes)?;
+        let lasts = lasts_of(alloc, changes)?;
+        let locks = locks_of(alloc, locks)?;
+        Ok(Touched {
+            firsts,
+            lasts,
+            locks,
+        })
+    }
+}
