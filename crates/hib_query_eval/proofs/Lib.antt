@@ -1,3 +1,4 @@
 pub mod Walks
+pub mod Merges
 pub mod Untouched
 pub mod Searches
