@@ -14,7 +14,7 @@ use Rattle.hib_journal.specs.Types.{Key, Row, Change, Query}
 use Rattle.hib_query_eval.specs.Reads.{read_by}
 
 -- the rows of some tables
-abbrev kept : (ℕ → Bool) → Tables → Tables
+abbrev pub kept : (ℕ → Bool) → Tables → Tables
 kept p t = filter (λ e. p e.0.entity) t
 
 -- the rows of the entities that a query reads are those that are listed
@@ -24,7 +24,7 @@ listed_read es q (e ∷ m) f =
     ap (λ b. cond b (e ∷ rows_of es m) (rows_of es m)) (f e.0.entity)
     ∙ ap (λ rows. cond (reads q e.0.entity) (e ∷ rows) rows) (listed_read es q m f)
 
-row_at_kept : (p : ℕ → Bool) (t : Tables) (k : Key) → row_at (kept p t) k ≡ cond (p k.entity) (row_at t k) None
+pub row_at_kept : (p : ℕ → Bool) (t : Tables) (k : Key) → row_at (kept p t) k ≡ cond (p k.entity) (row_at t k) None
 row_at_kept p [] k = at (p k.entity) None
   where
     at : (b : Bool) (o : Option Row) → o ≡ cond b o o
@@ -52,7 +52,7 @@ is_first_kept p k (e ∷ es) f o =
     at (inl r) h = rw r f
     at (inr r) h = rw r h
 
-in_order_kept : (p : ℕ → Bool) (t : Tables) → in_order t ≡ true → in_order (kept p t) ≡ true
+pub in_order_kept : (p : ℕ → Bool) (t : Tables) → in_order t ≡ true → in_order (kept p t) ≡ true
 in_order_kept p [] o = refl
 in_order_kept p (e ∷ es) o =
     let r : (is_first e.0 es ≡ true) × (in_order es ≡ true) = rest_in_order e es o in
@@ -109,7 +109,7 @@ same_tables (a ∷ xs) (b ∷ ys) o p f = at (tested (same_key a.0 b.0)) (tested
         let c : same_key b.0 a.0 ≡ false = other_way a.0 b.0 s in
         missing b.1 (row_at (b ∷ ys) b.0) (here b ys) (sym (f b.0) ∙ row_at_before (a ∷ xs) b.0 o (is_before_total b.0 a.0 c d))
 
-abbrev or_row : Option Row → Option Row → Option Row
+abbrev pub or_row : Option Row → Option Row → Option Row
 or_row None o = o
 or_row (Some r) o = Some r
 
@@ -132,7 +132,7 @@ row_at_unless t k j r = at (row_at t k) refl (tested (same_key k j)) (row_at t j
     at (Some z) e (inr s) (Some y) f = rw (e, f) refl
 
 -- of the rows of a key the first one counts
-row_at_start : (t es : Tables) (k : Key) → row_at (start t es) k ≡ or_row (row_at t k) (row_at es k)
+pub row_at_start : (t es : Tables) (k : Key) → row_at (start t es) k ≡ or_row (row_at t k) (row_at es k)
 row_at_start t [] k = at (row_at t k)
   where
     at : (o : Option Row) → o ≡ or_row o None
