@@ -1,5 +1,5 @@
 // Which rows may meet a condition, by the places of cells.
-ghost use Rattle.std.specs.Prelude.{◌≡◌, ℕ, ◌<◌, ◌^◌, true, false, Some, IfOk, IfSome, OnOk};
+ghost use Rattle.std.specs.Prelude.{◌≡◌, ◌⊎◌, ℕ, ◌<◌, ◌^◌, true, false, Some, IfOk, IfSome, OnOk};
 ghost use Rattle.std.specs.List.{list_any};
 ghost use Rattle.std.specs.Ordering.{is_le, is_lt};
 ghost use Rattle.hib_journal.specs.Types.{Cell as CellSpec};
@@ -170,6 +170,19 @@ fn among(
     Ok(ids)
 }
 
+/// The shorter list, if there are two; else the one that there is.
+fn shorter(first: Option<Vec<u64>>, second: Option<Vec<u64>>) -> Option<Vec<u64>>
+    ensures { IfSome result (λ ids. (first ≡ Some ids) ⊎ (second ≡ Some ids)) }
+{
+    let Some(first) = first else {
+        return second;
+    };
+    match second {
+        Some(second) if second.len() < first.len() => Some(second),
+        _ => Some(first),
+    }
+}
+
 /// The identifiers of the rows of an entity that meet a condition, and perhaps of others, in any order. None if the places
 /// don't narrow the condition.
 pub fn candidates(
@@ -181,10 +194,11 @@ pub fn candidates(
     ensures { IfOk result (λ o. IfSome o (λ ids. Covers places.now.keys entity condition.now ids.items)) }
 {
     match condition {
-        Cond::And(first, second) => match candidates(alloc, places, entity, first)? {
-            Some(ids) => Ok(Some(ids)),
-            None => candidates(alloc, places, entity, second),
-        },
+        Cond::And(first, second) => {
+            let of_first = candidates(alloc, places, entity, first)?;
+            let of_second = candidates(alloc, places, entity, second)?;
+            Ok(shorter(of_first, of_second))
+        }
         Cond::Test { op, path, cell } if path.target.is_none() => compared(
             alloc,
             places,
