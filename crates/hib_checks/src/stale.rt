@@ -43,7 +43,7 @@ fn commit(alloc: Global, id: u64) -> Result<Option<(Commit, usize)>, AllocError>
     let mut rows: Rows = Seq::new(alloc);
     rows.push((key(1), row(alloc, 1)?))?;
     let keeper = MemKeeper::new(alloc, Seq::new(alloc));
-    let Ok(mut store) = Store::open(alloc, keeper, rows.as_slice()) else {
+    let Ok(mut store) = Store::open(alloc, keeper, rows.as_slice(), 1) else {
         return Ok(None);
     };
     let answer = answer(alloc, &mut store, id);

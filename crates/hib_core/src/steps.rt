@@ -84,7 +84,8 @@ impl<K: Keeper, N: Name> Core<K, N> {
         let Ok(sessions) = open_sessions(alloc, &script) else {
             return Err(OpenFault::NoMemory(keeper));
         };
-        let store = StoreEngine::open(alloc, keeper, script.rows.as_slice())?;
+        let entities = script.mapping.len() as u16;
+        let store = StoreEngine::open(alloc, keeper, script.rows.as_slice(), entities)?;
         Ok(Core {
             script,
             parts: Parts {

@@ -56,11 +56,13 @@ impl<K: Keeper> Model for StoreEngine<K> {
 
 impl<K: Keeper> StoreEngine<K> {
     /// The store over a keeper that is seeded by one call: each of these rows whose key has none is added. No session has
-    /// written. At an error the keeper is handed back, with the rows that it had.
+    /// written. At an error the keeper is handed back, with the rows that it had. Lists of the first entities, so many as are
+    /// said here, are answered from an index.
     pub fn open(
         alloc: Global,
         keeper: K,
         rows: &[(Key, Row)],
+        entities: u16,
     ) -> Result<StoreEngine<K>, OpenFault<K>>
         ensures tables { IfOk result (λ s. s.tables ≡ option_map (λ m. start m rows.now) (K.tables keeper)) }
         ensures faults { IfOk result (λ s. K.faults keeper ≤ s.faults) }
@@ -71,7 +73,7 @@ impl<K: Keeper> StoreEngine<K> {
         ensures back_asked { IfErr result (λ e. K.asked (handed_back e) ≡ K.asked keeper) }
         ensures fault { IfErr result (λ e. is_store_fault e ≡ true → Rose (K.faults keeper) (K.faults (handed_back e))) }
     {
-        let store = Store::open(alloc, keeper, rows)?;
+        let store = Store::open(alloc, keeper, rows, entities)?;
         Ok(StoreEngine { store })
     }
 

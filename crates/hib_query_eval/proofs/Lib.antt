@@ -1,3 +1,10 @@
 pub mod Walks
+pub mod Merges
+pub mod Columns
+pub mod Compared
+pub mod Derived
+pub mod Found
+pub mod Indexed
+pub mod Spans
 pub mod Untouched
-pub mod Searches
+pub mod Laid

@@ -1,46 +1,11 @@
 // Whether a row meets a condition.
 ghost use Rattle.std.specs.Prelude.{◌≡◌, true, option_copied};
 ghost use Rattle.std.specs.List.{list_any};
-ghost use Rattle.hib_base.specs.Keys.{same_key, is_before};
-ghost use Rattle.hib_base.specs.Tables.{in_order, row_at};
+ghost use Rattle.hib_base.specs.Tables.{in_order};
 ghost use Rattle.hib_journal.specs.Query.{same_cell, row_of_ref, cell_at, holds, meets};
 
-use crate::cells;
+use crate::{cells, keyed};
 use hib_base::{Cell, Cond, EntityNo, Key, Path, Row};
-
-fn is_same_key(a: &Key, b: &Key) -> bool
-    ensures { result ≡ same_key a.now b.now }
-{
-    a == b
-}
-
-fn is_before(a: &Key, b: &Key) -> bool
-    ensures { result ≡ is_before a.now b.now }
-{
-    a.entity.0 < b.entity.0 || (a.entity.0 == b.entity.0 && a.id < b.id)
-}
-
-/// The row of a key. A search by halves.
-fn row_of<'a>(rows: &'a [(Key, Row)], key: &Key) -> Option<&'a Row>
-    requires { in_order rows.now ≡ true }
-    ensures { option_copied result ≡ row_at rows.now key.now }
-{
-    let mut low = 0;
-    let mut high = rows.len();
-    while low < high {
-        let middle = low + (high - low) / 2;
-        let row = &rows[middle];
-        if is_same_key(&row.0, key) {
-            return Some(&row.1);
-        }
-        if is_before(&row.0, key) {
-            low = middle + 1;
-        } else {
-            high = middle;
-        }
-    }
-    None
-}
 
 /// The row to which a cell refers.
 fn referred<'a>(rows: &'a [(Key, Row)], entity: EntityNo, cell: Option<&Cell>) -> Option<&'a Row>
@@ -48,7 +13,7 @@ fn referred<'a>(rows: &'a [(Key, Row)], entity: EntityNo, cell: Option<&Cell>) -
     ensures { option_copied result ≡ row_of_ref rows.now entity (option_copied cell.entry) }
 {
     match cell {
-        Some(Cell::Int(id)) if *id >= 0 => row_of(
+        Some(Cell::Int(id)) if *id >= 0 => keyed::row_of(
             rows,
             &Key {
                 entity,

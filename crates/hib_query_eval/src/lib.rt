@@ -1,11 +1,19 @@
 //! What a query gives over rows.
 #![tactic(auto)]
 
+mod candidates;
 mod cells;
+mod changing;
 mod conditions;
+mod index;
+mod keyed;
 mod laws;
 mod listing;
 mod orders;
+mod places;
+mod reading;
+mod searches;
 
+pub use index::Index;
 pub use laws::other_tables_leave_what_is_given;
 pub use listing::gives;

@@ -16,6 +16,13 @@ pub fn gives(alloc: Global, query: &Query, rows: &Rows) -> Result<Listing, Alloc
     ensures { IfOk result (λ l. l ≡ gives query.now rows.now) }
 {
     let met = listed(alloc, query, rows.as_slice())?;
+    selected(alloc, query, &met)
+}
+
+/// What a query selects of the rows that meet its condition.
+pub fn selected(alloc: Global, query: &Query, met: &Vec<&(Key, Row)>) -> Result<Listing, AllocError>
+    ensures { IfOk result (λ l. l ≡ selected query.now (map (λ r. r.now) met.now.items) query.now.select) }
+{
     match query.select {
         Select::Count => count(alloc, met.len()),
         Select::Ids => {
@@ -34,7 +41,7 @@ pub fn gives(alloc: Global, query: &Query, rows: &Rows) -> Result<Listing, Alloc
 }
 
 /// The rows of a query's entity that meet its condition.
-fn listed<'a>(
+pub fn listed<'a>(
     alloc: Global,
     query: &Query,
     rows: &'a [(Key, Row)],

@@ -1,3 +1,3 @@
 pub mod Answers
-pub mod Laid
+pub mod Kept
 pub mod Sessions

@@ -1,11 +1,11 @@
 -- The store: what its keeper tells, and each session's written changes.
-use Rattle.std.specs.Prelude.{◌≡◌, ℕ, Bool, true, false, cond, ◌==◌, List, [], ◌∷◌, ◌++◌, Some, None, Option, Result, Ok, Err}
-use Rattle.std.specs.List.{filter, list_any}
+use Rattle.std.specs.Prelude.{◌≡◌, ℕ, ◌<◌, IfSome, Bool, true, false, cond, ◌==◌, List, [], ◌∷◌, ◌++◌, Some, None, Option, Result, Ok, Err}
+use Rattle.std.specs.List.{list_any}
 use Rattle.std.specs.Option.{option_map}
 use Rattle.std.specs.declared.alloc.AllocError.{AllocError}
 use Rattle.hib_base.specs.Keys.{same_key}
 use Rattle.hib_base.specs.Tables.{Tables, row_at, after_changes, key_of}
-use Rattle.hib_journal.specs.Query.{gives, reads}
+use Rattle.hib_journal.specs.Query.{gives}
 use Rattle.hib_store.specs.Types.{Key, Change, Commit, Query}
 use Rattle.hib_store.specs.declared.asking.Loaded.{Loaded}
 use Rattle.hib_store.specs.declared.store.Listed.{Listed}
@@ -53,10 +53,6 @@ IsView None cs k loaded = Unit {0}
 IsView (Some m) cs k (Loaded.Row row) = row ≡ row_at (after_changes cs m) k
 IsView (Some m) cs k Loaded.Fault = Unit {0}
 
--- the rows of the tables that a query reads
-abbrev pub read_by : Query → Tables → Tables
-read_by q m = filter (λ e. reads q e.0.entity) m
-
 -- what is listed is what the query gives over what the changes leave of the committed rows, where these are told
 abbrev pub IsListed : Option Tables → List Change → Query → Listed → Type 0
 IsListed None cs q listed = Unit {0}
@@ -90,3 +86,18 @@ tables_answered Commit.Fault cs told = told
 abbrev pub tables_committed : Result Commit AllocError → List Change → Option Tables → Option Tables
 tables_committed (Ok answer) cs told = tables_answered answer cs told
 tables_committed (Err e) cs told = told
+
+-- rows are those of the first entities
+abbrev pub AreOf : ℕ → Tables → Tables → Type 0
+AreOf entities rows m = (k : Key) → k.entity < entities → row_at rows k ≡ row_at m k
+
+-- the rows of an index, if one stands, are those of the first entities, where the keeper tells them
+abbrev pub IsIndexed : ℕ → Option Tables → Option Tables → Type 0
+IsIndexed entities index told = IfSome index (λ rows. IfSome told (λ m. AreOf entities rows m))
+
+-- an index that stays after an answer to a commit has what the answer leaves of its rows
+abbrev pub IsLeft : Commit → List Change → Tables → Tables → Type 0
+IsLeft Commit.Committed cs rows left = left ≡ after_changes cs rows
+IsLeft (Commit.Stale k found) cs rows left = left ≡ rows
+IsLeft (Commit.Duplicate k) cs rows left = left ≡ rows
+IsLeft Commit.Fault cs rows left = ⊥

@@ -1,15 +1,17 @@
 // What the store asks its keeper.
-ghost use Rattle.std.specs.Prelude.{◌≡◌, ◌≢◌, ◌+◌, ◌≤◌, ℕ, length, true, [], Ok, None, IfOk, IfSome};
+ghost use Rattle.std.specs.Prelude.{◌≡◌, ◌≢◌, ◌+◌, ◌≤◌, ℕ, length, true, [], Ok, None, IfOk, IfSome, IsSome, OnOk};
 ghost use Rattle.hib_base.specs.Tables.{row_at, commit_answer};
 ghost use Rattle.hib_outside.specs.Causes.{Rose};
 ghost use Rattle.hib_outside.specs.Verdicts.{commit_of, IsPlace};
-ghost use Rattle.hib_store.specs.Stores.{IsView, read_by, names_change, tables_committed};
+ghost use Rattle.hib_query_eval.specs.Reads.{read_by};
+ghost use Rattle.hib_store.specs.Stores.{IsIndexed, IsView, names_change, tables_committed};
 ghost use Rattle.hib_store.specs.declared.asking.Loaded.{Loaded};
 ghost use Rattle.hib_store.specs.Types.{Commit};
 
 use crate::queries;
 use hib_base::{Change, Commit, Key, Query, Row, Rows};
 use hib_outside::{Applied, KeepFault, Keeper};
+use hib_query_eval::Index;
 use std::alloc::{AllocError, Global};
 
 /// The store's answer to a load.
@@ -54,6 +56,50 @@ pub fn list<K: Keeper>(
         Err(KeepFault::NoMemory) => Err(AllocError),
         Err(KeepFault::Failed) => Ok(None),
     }
+}
+
+/// Asks a keeper for the rows of the first entities, for an index of them; none where it failed.
+fn index<K: Keeper>(
+    alloc: Global,
+    keeper: &mut K,
+    entities: u16,
+) -> Result<Option<Index>, AllocError>
+    ensures rows { IfOk result (λ index. IsIndexed entities index (K.tables keeper.old)) }
+    ensures fault { result ≡ Ok None → Rose (K.faults keeper.old) (K.faults keeper.new) }
+    ensures faults { K.faults keeper.old ≤ K.faults keeper.new }
+    ensures asked { (K.asked keeper.old ≤ K.asked keeper.new) × (K.asked keeper.new ≤ K.asked keeper.old + 1) }
+    ensures tables { K.tables keeper.new ≡ K.tables keeper.old }
+{
+    let all = queries::entities_below(alloc, entities)?;
+    match keeper.list(alloc, all.as_slice()) {
+        Ok(rows) => {
+            let rows = hib_outside::laid_over(alloc, rows, &[])?;
+            Ok(Some(Index::build(alloc, rows)?))
+        }
+        Err(KeepFault::NoMemory) => Err(AllocError),
+        Err(KeepFault::Failed) => Ok(None),
+    }
+}
+
+/// Makes an index of the rows of the first entities, unless it stands. The keeper isn't asked if it stands. There is none
+/// only where the keeper failed.
+pub fn make_index<K: Keeper>(
+    alloc: Global,
+    keeper: &mut K,
+    index: &mut Option<Index>,
+    entities: u16,
+) -> Result<(), AllocError>
+    ensures rows { IsIndexed entities index.old (K.tables keeper.old) → IsIndexed entities index.new (K.tables keeper.old) }
+    ensures stands { IsSome index.old → (keeper.new ≡ keeper.old) × (index.new ≡ index.old) }
+    ensures fault { OnOk result (index.new ≡ None → Rose (K.faults keeper.old) (K.faults keeper.new)) }
+    ensures faults { K.faults keeper.old ≤ K.faults keeper.new }
+    ensures asked { (K.asked keeper.old ≤ K.asked keeper.new) × (K.asked keeper.new ≤ K.asked keeper.old + 1) }
+    ensures tables { K.tables keeper.new ≡ K.tables keeper.old }
+{
+    if index.is_none() {
+        *index = self::index(alloc, keeper, entities)?;
+    }
+    Ok(())
 }
 
 /// Applies changes to a keeper's rows.

@@ -1,5 +1,5 @@
 // Which tables a query reads.
-ghost use Rattle.std.specs.Prelude.{◌≡◌, ◌||◌, ℕ, IfOk, OnOk};
+ghost use Rattle.std.specs.Prelude.{◌≡◌, ◌<◌, ◌||◌, ℕ, true, nat_lt, IfOk, OnOk};
 ghost use Rattle.hib_journal.specs.Query.{steps_to, mentions, mentions_in, reads};
 ghost use Rattle.hib_outside.specs.Keeps.{is_listed};
 
@@ -42,4 +42,48 @@ fn add_target(tables: &mut Vec<EntityNo>, target: Option<Target>) -> Result<(), 
         }
     }
     Ok(())
+}
+
+fn steps_below(target: Option<Target>, entities: u16) -> bool
+    ensures { result ≡ true → (n : ℕ) → steps_to n target ≡ true → n < entities }
+{
+    match target {
+        Some(target) => target.entity.0 < entities,
+        None => true,
+    }
+}
+
+/// Whether a condition steps only to the first entities.
+fn mentions_below(condition: &Cond, entities: u16) -> bool
+    ensures { result ≡ true → (n : ℕ) → mentions n condition.now ≡ true → n < entities }
+{
+    match condition {
+        Cond::And(a, b) | Cond::Or(a, b) => mentions_below(a, entities)
+            && mentions_below(b, entities),
+        Cond::Not(a) => mentions_below(a, entities),
+        Cond::Test { path, .. } => steps_below(path.target, entities),
+        Cond::Among { path, .. } => steps_below(path.target, entities),
+    }
+}
+
+/// Whether a query reads only the first entities.
+pub fn reads_below(query: &Query, entities: u16) -> bool
+    ensures { result ≡ true → (n : ℕ) → reads query.now n ≡ true → n < entities }
+{
+    query.entity.0 < entities
+        && match &query.condition {
+            Some(condition) => mentions_below(condition, entities),
+            None => true,
+        }
+}
+
+/// The first entities.
+pub fn entities_below(alloc: Global, entities: u16) -> Result<Vec<EntityNo>, AllocError>
+    ensures { IfOk result (λ v. (n : ℕ) → is_listed n v.items ≡ nat_lt n entities) }
+{
+    let mut all = Vec::new(alloc);
+    for entity in 0..entities {
+        all.push(EntityNo(entity))?;
+    }
+    Ok(all)
 }

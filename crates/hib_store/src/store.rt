@@ -5,9 +5,10 @@ ghost use Rattle.hib_base.specs.Tables.{Tables, start, row_at, row_left, last_on
 ghost use Rattle.hib_outside.specs.Causes.{Rose};
 
 use crate::asking::{self, Loaded};
-use crate::{views, written};
+use crate::{queries, views, written};
 use hib_base::{Change, Changes, Commit, Key, Listing, Query, Row, SessionNo};
 use hib_outside::{KeepFault, Keeper};
+use hib_query_eval::Index;
 use std::alloc::{AllocError, Global};
 use std::marker::Model;
 
@@ -34,6 +35,10 @@ pub enum OpenFault<K> {
 pub struct Store<K: Keeper> {
     keeper: K,
     written: Vec<(SessionNo, Changes)>,
+    // How many entities the index is of.
+    entities: u16,
+    // The committed rows of the first entities, once a list was asked of them.
+    index: Option<Index>,
 }
 
 impl<K: Keeper> Model for Store<K> {
@@ -47,6 +52,10 @@ impl<K: Keeper> Model for Store<K> {
       asked = K.asked s.keeper;
       written = s.written.items;
     } };
+
+    ghost use Rattle.hib_store.specs.Stores.{IsIndexed};
+
+    ghost invariant = { λ s. IsIndexed s.entities s.index (K.tables s.keeper) };
 }
 
 impl<K: Keeper> Store<K> {
@@ -56,7 +65,7 @@ impl<K: Keeper> Store<K> {
     ghost use Rattle.hib_store.specs.Types.{Commit};
 
     /// The store over a keeper, in which no session has written. It asks the keeper for nothing.
-    fn over(alloc: Global, keeper: K) -> Store<K>
+    fn over(alloc: Global, keeper: K, entities: u16) -> Store<K>
         ensures tables { result.tables ≡ K.tables keeper }
         ensures faults { result.faults ≡ K.faults keeper }
         ensures asked { result.asked ≡ K.asked keeper }
@@ -66,12 +75,20 @@ impl<K: Keeper> Store<K> {
         Store {
             keeper,
             written: Vec::new(alloc),
+            entities,
+            index: None,
         }
     }
 
     /// The store over a keeper that is seeded by one call: each of these rows whose key has none is added. No session has
-    /// written. At an error the keeper is handed back, with the rows that it had.
-    pub fn open(alloc: Global, mut keeper: K, rows: &[(Key, Row)]) -> Result<Store<K>, OpenFault<K>>
+    /// written. At an error the keeper is handed back, with the rows that it had. A list of the first entities, so many as
+    /// are said here, is answered from an index.
+    pub fn open(
+        alloc: Global,
+        mut keeper: K,
+        rows: &[(Key, Row)],
+        entities: u16,
+    ) -> Result<Store<K>, OpenFault<K>>
         ensures tables { IfOk result (λ s. s.tables ≡ option_map (λ m. start m rows.now) (K.tables keeper)) }
         ensures faults { IfOk result (λ s. K.faults keeper ≤ s.faults) }
         ensures asked { IfOk result (λ s. s.asked ≡ K.asked keeper) }
@@ -83,7 +100,7 @@ impl<K: Keeper> Store<K> {
         ensures fault { IfErr result (λ e. is_store_fault e ≡ true → Rose (K.faults keeper) (K.faults (handed_back e))) }
     {
         match keeper.seed(alloc, rows) {
-            Ok(()) => Ok(Store::over(alloc, keeper)),
+            Ok(()) => Ok(Store::over(alloc, keeper, entities)),
             Err(KeepFault::NoMemory) => Err(OpenFault::NoMemory(keeper)),
             Err(KeepFault::Failed) => Err(OpenFault::StoreFault(keeper)),
         }
@@ -95,7 +112,12 @@ impl<K: Keeper> Store<K> {
         ensures faults { K.faults result ≡ self.faults }
         ensures asked { K.asked result ≡ self.asked }
     {
-        let Store { keeper, written: _ } = self;
+        let Store {
+            keeper,
+            written: _,
+            entities: _,
+            index: _,
+        } = self;
         keeper
     }
 
@@ -137,7 +159,8 @@ impl<K: Keeper> Store<K> {
     }
 
     /// What a query gives over a session's view of all keys: the committed rows with the session's changes done to them. The
-    /// keeper is asked for the tables that the query reads. At every answer and error the rows and the changes stay; the
+    /// keeper is asked once for the rows of the first entities, and not again while the index of them stands. It is asked for
+    /// the tables that the query reads if there are others. At every answer and error the rows and the changes stay; the
     /// keeper's counts may have risen.
     pub fn list(
         &mut self,
@@ -153,10 +176,14 @@ impl<K: Keeper> Store<K> {
         ensures written { self.new.written ≡ self.old.written }
     {
         let changes = written::changes_of(self.written.as_slice(), session);
-        let Some(rows) = asking::list(alloc, &mut self.keeper, query)? else {
-            return Ok(Listed::Fault);
-        };
-        Ok(Listed::List(views::listed(alloc, query, rows, changes)?))
+        if !queries::reads_below(query, self.entities) {
+            let Some(rows) = asking::list(alloc, &mut self.keeper, query)? else {
+                return Ok(Listed::Fault);
+            };
+            return Ok(Listed::List(views::listed(alloc, query, rows, changes)?));
+        }
+        asking::make_index(alloc, &mut self.keeper, &mut self.index, self.entities)?;
+        views::answered(alloc, &self.index, query, changes)
     }
 
     /// Adds a change to a session's, which no other session sees. At an error nothing has changed.
@@ -221,6 +248,7 @@ impl<K: Keeper> Store<K> {
             return Ok(Commit::Committed);
         }
         let commit = asking::apply(alloc, &mut self.keeper, changes)?;
+        self.index = views::left(alloc, self.index.take(), &commit, changes);
         written::drop_session(&mut self.written, session);
         Ok(commit)
     }

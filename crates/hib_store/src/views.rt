@@ -1,10 +1,14 @@
 // What a query gives over a session's view.
-ghost use Rattle.std.specs.Prelude.{◌≡◌, true, IfOk};
+ghost use Rattle.std.specs.Prelude.{◌≡◌, ◌<◌, ℕ, true, Option, None, Ok, IfOk, IfSome, MatchOption};
 ghost use Rattle.hib_base.specs.Tables.{Tables, after_changes, in_order};
-ghost use Rattle.hib_journal.specs.Query.{gives};
-ghost use Rattle.hib_store.specs.Stores.{read_by};
+ghost use Rattle.hib_journal.specs.Query.{gives, reads};
+ghost use Rattle.hib_query_eval.specs.Reads.{read_by};
+ghost use Rattle.hib_store.specs.declared.store.Listed.{Listed};
+ghost use Rattle.hib_store.specs.Stores.{IsIndexed, IsLeft, IsListed};
 
-use hib_base::{Change, Listing, Query, Rows};
+use crate::store::Listed;
+use hib_base::{Change, Commit, Listing, Query, Rows};
+use hib_query_eval::Index;
 use std::alloc::{AllocError, Global};
 
 /// What a query gives over the rows of the tables that it reads, with changes laid over them.
@@ -19,4 +23,42 @@ pub fn listed(
 {
     let view = hib_outside::laid_over(alloc, rows, changes)?;
     hib_query_eval::gives(alloc, query, &view)
+}
+
+/// What a query gives over the rows of an index with changes laid over them; a fault if there is no index.
+pub fn answered(
+    alloc: Global,
+    index: &Option<Index>,
+    query: &Query,
+    changes: &[Change],
+) -> Result<Listed, AllocError>
+    ensures listed { (n : ℕ) (told : Option Tables) → IfSome told (λ m. in_order m ≡ true) → IsIndexed n index.now told
+        → ((k : ℕ) → reads query.now k ≡ true → k < n) → IfOk result (IsListed told changes.now query.now) }
+    ensures fault { result ≡ Ok Listed.Fault → index.now ≡ None }
+{
+    match index {
+        Some(index) => Ok(Listed::List(index.gives(alloc, query, changes)?)),
+        None => Ok(Listed::Fault),
+    }
+}
+
+/// The index after an answer to a commit of changes. It is dropped after a fault, if there is no memory to change it, and
+/// if its rows don't have what the changes change.
+pub fn left(
+    alloc: Global,
+    index: Option<Index>,
+    commit: &Commit,
+    changes: &[Change],
+) -> Option<Index>
+    ensures { IfSome result (λ left. MatchOption index ⊥ (λ rows. IsLeft commit.now changes.now rows left)) }
+{
+    let index = index?;
+    match commit {
+        Commit::Committed => match index.apply(alloc, changes) {
+            Ok(applied) => applied,
+            Err(_) => None,
+        },
+        Commit::Stale { .. } | Commit::Duplicate { .. } => Some(index),
+        Commit::Fault => None,
+    }
 }

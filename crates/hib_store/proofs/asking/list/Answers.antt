@@ -1,6 +1,6 @@
 use Rattle.std.proofs.Common.{ap, ◌∙◌}
 use Rattle.hib_outside.specs.Keeps.{is_listed}
-use Rattle.hib_store.proofs.Laid.{listed_told}
+use Rattle.hib_query_eval.proofs.Laid.{listed_told}
 use Rattle.hib_store.proofs.asking.list.Goals as goal
 
 pub returns-in-Ok-clause-rows : goal.returns-in-Ok-clause-rows

@@ -1,6 +1,6 @@
 use Rattle.std.proofs.Common.{◌∙◌}
 use Rattle.std.proofs.lemmas.Result.{IfOk-weaker}
-use Rattle.hib_store.proofs.Laid.{read_gives}
+use Rattle.hib_query_eval.proofs.Laid.{read_gives}
 use Rattle.hib_store.proofs.views.listed.Goals as goal
 
 pub returns : goal.returns

@@ -1,0 +1,222 @@
+// Which rows may meet a condition, by the places of cells.
+ghost use Rattle.std.specs.Prelude.{◌≡◌, ◌⊎◌, ℕ, ◌<◌, ◌^◌, true, false, Some, IfOk, IfSome, OnOk};
+ghost use Rattle.std.specs.List.{list_any};
+ghost use Rattle.std.specs.Ordering.{is_le, is_lt};
+ghost use Rattle.hib_journal.specs.Types.{Cell as CellSpec};
+ghost use Rattle.hib_journal.specs.Query.{passes, same_cell};
+ghost use Rattle.hib_query_eval.specs.declared.places.Value.{Value as ValueSpec};
+ghost use Rattle.hib_query_eval.specs.Orders.{kind};
+ghost use Rattle.hib_query_eval.specs.Places.{cell_in, has_place, has_id};
+ghost use Rattle.hib_query_eval.specs.Spans.{value_cmp};
+ghost use Rattle.hib_query_eval.specs.Covers.{Covers};
+
+use crate::places::{self, Place, Value};
+use hib_base::{Cell, Cond, EntityNo, Op};
+use std::alloc::{AllocError, Global};
+use std::collections::BTreeSet;
+
+/// The first value of the types above a cell's.
+fn above_kind(alloc: Global, cell: &Cell) -> Value
+    ensures { (v : ValueSpec) → kind (Some cell.now) < kind (cell_in v) → is_le (value_cmp result v) ≡ true }
+{
+    match cell {
+        Cell::Int(_) => Value::Text(Vec::new(alloc)),
+        Cell::Text(_) => Value::Bool(false),
+        Cell::Bool(_) => Value::Greatest,
+    }
+}
+
+/// A value that is above all of the types below a cell's.
+fn below_kind(alloc: Global, cell: &Cell) -> Value
+    ensures { (v : ValueSpec) → 0 < kind (cell_in v) → kind (cell_in v) < kind (Some cell.now) → is_lt (value_cmp result v) ≡ false }
+{
+    match cell {
+        Cell::Int(_) => Value::Least,
+        Cell::Text(_) => Value::Text(Vec::new(alloc)),
+        Cell::Bool(_) => Value::Bool(false),
+    }
+}
+
+/// Adds the identifiers of the rows whose cell in a column is the same.
+fn add_same(
+    alloc: Global,
+    places: &BTreeSet<Place>,
+    entity: EntityNo,
+    column: usize,
+    cell: &Cell,
+    ids: &mut Vec<u64>,
+) -> Result<(), AllocError>
+    ensures kept { OnOk result ((i : ℕ) → has_id i ids.old.items ≡ true → has_id i ids.new.items ≡ true) }
+    ensures found { OnOk result ((i : ℕ) (d : CellSpec) → i < 2 ^ 64 → has_place places.now.keys entity column i d ≡ true
+        → passes Op.Eq d cell.now ≡ true → has_id i ids.new.items ≡ true) }
+{
+    let from = places::value_of(alloc, cell)?;
+    let to = places::value_of(alloc, cell)?;
+    places::add_between(places, entity, column, from, to, ids)
+}
+
+/// Adds the identifiers of the rows whose cell in a column is below.
+fn add_below(
+    alloc: Global,
+    places: &BTreeSet<Place>,
+    entity: EntityNo,
+    column: usize,
+    cell: &Cell,
+    ids: &mut Vec<u64>,
+) -> Result<(), AllocError>
+    ensures kept { OnOk result ((i : ℕ) → has_id i ids.old.items ≡ true → has_id i ids.new.items ≡ true) }
+    ensures found { OnOk result ((i : ℕ) (d : CellSpec) → i < 2 ^ 64 → has_place places.now.keys entity column i d ≡ true
+        → passes Op.Lt d cell.now ≡ true → has_id i ids.new.items ≡ true) }
+{
+    let to = places::value_of(alloc, cell)?;
+    places::add_between(places, entity, column, Value::Least, to, ids)
+}
+
+/// Adds the identifiers of the rows whose cell in a column is above.
+fn add_above(
+    alloc: Global,
+    places: &BTreeSet<Place>,
+    entity: EntityNo,
+    column: usize,
+    cell: &Cell,
+    ids: &mut Vec<u64>,
+) -> Result<(), AllocError>
+    ensures kept { OnOk result ((i : ℕ) → has_id i ids.old.items ≡ true → has_id i ids.new.items ≡ true) }
+    ensures found { OnOk result ((i : ℕ) (d : CellSpec) → i < 2 ^ 64 → has_place places.now.keys entity column i d ≡ true
+        → passes Op.Gt d cell.now ≡ true → has_id i ids.new.items ≡ true) }
+{
+    let from = places::value_of(alloc, cell)?;
+    places::add_between(places, entity, column, from, Value::Greatest, ids)
+}
+
+/// Adds the identifiers of the rows whose cell in a column isn't above: one of another type isn't above either.
+fn add_not_above(
+    alloc: Global,
+    places: &BTreeSet<Place>,
+    entity: EntityNo,
+    column: usize,
+    cell: &Cell,
+    ids: &mut Vec<u64>,
+) -> Result<(), AllocError>
+    ensures kept { OnOk result ((i : ℕ) → has_id i ids.old.items ≡ true → has_id i ids.new.items ≡ true) }
+    ensures found { OnOk result ((i : ℕ) (d : CellSpec) → i < 2 ^ 64 → has_place places.now.keys entity column i d ≡ true
+        → passes Op.Le d cell.now ≡ true → has_id i ids.new.items ≡ true) }
+{
+    let to = places::value_of(alloc, cell)?;
+    places::add_between(places, entity, column, Value::Least, to, ids)?;
+    let next = above_kind(alloc, cell);
+    places::add_between(places, entity, column, next, Value::Greatest, ids)
+}
+
+/// Adds the identifiers of the rows whose cell in a column isn't below: one of another type isn't below either.
+fn add_not_below(
+    alloc: Global,
+    places: &BTreeSet<Place>,
+    entity: EntityNo,
+    column: usize,
+    cell: &Cell,
+    ids: &mut Vec<u64>,
+) -> Result<(), AllocError>
+    ensures kept { OnOk result ((i : ℕ) → has_id i ids.old.items ≡ true → has_id i ids.new.items ≡ true) }
+    ensures found { OnOk result ((i : ℕ) (d : CellSpec) → i < 2 ^ 64 → has_place places.now.keys entity column i d ≡ true
+        → passes Op.Ge d cell.now ≡ true → has_id i ids.new.items ≡ true) }
+{
+    let from = places::value_of(alloc, cell)?;
+    places::add_between(places, entity, column, from, Value::Greatest, ids)?;
+    let last = below_kind(alloc, cell);
+    places::add_between(places, entity, column, Value::Least, last, ids)
+}
+
+/// The identifiers of the rows whose cell in a column stands to a cell as a comparison says, and perhaps of others. None if
+/// an index doesn't narrow the comparison.
+fn compared(
+    alloc: Global,
+    places: &BTreeSet<Place>,
+    entity: EntityNo,
+    column: usize,
+    op: Op,
+    cell: &Cell,
+) -> Result<Option<Vec<u64>>, AllocError>
+    ensures { IfOk result (λ o. IfSome o (λ ids. (i : ℕ) (d : CellSpec) → i < 2 ^ 64 → has_place places.now.keys entity column i d ≡ true
+        → passes op d cell.now ≡ true → has_id i ids.items ≡ true)) }
+{
+    let mut ids = Vec::new(alloc);
+    match op {
+        Op::Eq => add_same(alloc, places, entity, column, cell, &mut ids)?,
+        Op::Ne => return Ok(None),
+        Op::Lt => add_below(alloc, places, entity, column, cell, &mut ids)?,
+        Op::Le => add_not_above(alloc, places, entity, column, cell, &mut ids)?,
+        Op::Gt => add_above(alloc, places, entity, column, cell, &mut ids)?,
+        Op::Ge => add_not_below(alloc, places, entity, column, cell, &mut ids)?,
+    }
+    Ok(Some(ids))
+}
+
+/// The identifiers of the rows whose cell in a column is one of some cells.
+fn among(
+    alloc: Global,
+    places: &BTreeSet<Place>,
+    entity: EntityNo,
+    column: usize,
+    cells: &[Cell],
+) -> Result<Vec<u64>, AllocError>
+    ensures { IfOk result (λ ids. (i : ℕ) (d : CellSpec) → i < 2 ^ 64 → has_place places.now.keys entity column i d ≡ true
+        → list_any (λ c. same_cell d c) cells.now ≡ true → has_id i ids.items ≡ true) }
+{
+    let mut ids = Vec::new(alloc);
+    for cell in cells {
+        add_same(alloc, places, entity, column, cell, &mut ids)?;
+    }
+    Ok(ids)
+}
+
+/// The shorter list, if there are two; else the one that there is.
+fn shorter(first: Option<Vec<u64>>, second: Option<Vec<u64>>) -> Option<Vec<u64>>
+    ensures { IfSome result (λ ids. (first ≡ Some ids) ⊎ (second ≡ Some ids)) }
+{
+    let Some(first) = first else {
+        return second;
+    };
+    match second {
+        Some(second) if second.len() < first.len() => Some(second),
+        _ => Some(first),
+    }
+}
+
+/// The identifiers of the rows of an entity that meet a condition, and perhaps of others, in any order. None if the places
+/// don't narrow the condition.
+pub fn candidates(
+    alloc: Global,
+    places: &BTreeSet<Place>,
+    entity: EntityNo,
+    condition: &Cond,
+) -> Result<Option<Vec<u64>>, AllocError>
+    ensures { IfOk result (λ o. IfSome o (λ ids. Covers places.now.keys entity condition.now ids.items)) }
+{
+    match condition {
+        Cond::And(first, second) => {
+            let of_first = candidates(alloc, places, entity, first)?;
+            let of_second = candidates(alloc, places, entity, second)?;
+            Ok(shorter(of_first, of_second))
+        }
+        Cond::Test { op, path, cell } if path.target.is_none() => compared(
+            alloc,
+            places,
+            entity,
+            usize::from(path.column),
+            *op,
+            cell,
+        ),
+        Cond::Among { path, cells } if path.target.is_none() => {
+            let ids = among(
+                alloc,
+                places,
+                entity,
+                usize::from(path.column),
+                cells.as_slice(),
+            )?;
+            Ok(Some(ids))
+        }
+        _ => Ok(None),
+    }
+}

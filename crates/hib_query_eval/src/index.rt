@@ -1,0 +1,77 @@
+// Rows, found by their cells.
+ghost use Rattle.std.specs.Prelude.{◌≡◌, ◌≢◌, true, IfOk, MatchOption};
+ghost use Rattle.hib_base.specs.Tables.{in_order, after_changes, commit_answer};
+ghost use Rattle.hib_journal.specs.Query.{gives};
+ghost use Rattle.hib_journal.specs.Types.{Commit};
+
+use crate::places::Place;
+use crate::{changing, listing, reading, searches};
+use hib_base::{Change, Key, Listing, Query, Row, Rows};
+use std::alloc::{AllocError, Global};
+use std::collections::BTreeSet;
+use std::marker::Model;
+
+/// The rows of tables, which are found by their keys and by their cells. Contracts see the rows with their keys, in
+/// order of keys.
+#[derive(Drop)]
+pub struct Index {
+    rows: Vec<(Key, Row)>,
+    places: BTreeSet<Place>,
+}
+
+impl Model for Index {
+    ghost use Rattle.hib_base.specs.Tables.{Tables};
+
+    ghost Value = { Tables };
+
+    ghost use Rattle.std.specs.Prelude.{◌≡◌, true};
+    ghost use Rattle.hib_base.specs.Tables.{in_order};
+    ghost use Rattle.hib_query_eval.specs.Places.{IsIndexOf};
+
+    ghost view = { λ i. i.rows.items };
+
+    ghost invariant = { λ i. (in_order i.rows.items ≡ true) × IsIndexOf i.places.keys i.rows.items };
+}
+
+impl Index {
+    /// The index of rows in order of keys.
+    pub fn build(alloc: Global, rows: Rows) -> Result<Index, AllocError>
+        requires { in_order rows ≡ true }
+        ensures { IfOk result (λ index. index ≡ rows) }
+    {
+        let rows = rows.into_vec();
+        let places = changing::places_of(alloc, rows.as_slice())?;
+        Ok(Index { rows, places })
+    }
+
+    /// The index after changes one after the other; none exactly if they don't apply so. At none and at an error the index
+    /// is dropped.
+    pub fn apply(self, alloc: Global, changes: &[Change]) -> Result<Option<Index>, AllocError>
+        ensures { IfOk result (λ applied. MatchOption applied (commit_answer changes.now self ≢ Commit.Committed)
+            (λ index. (commit_answer changes.now self ≡ Commit.Committed) × (index ≡ after_changes changes.now self))) }
+    {
+        let Index {
+            mut rows,
+            mut places,
+        } = self;
+        for change in changes {
+            if !changing::change_one(alloc, &mut rows, &mut places, change)? {
+                return Ok(None);
+            }
+        }
+        Ok(Some(Index { rows, places }))
+    }
+
+    /// What a query gives over the rows with a session's own changes laid over them. Unless these touch a table that the
+    /// query reads, the rows aren't copied.
+    pub fn gives(&self, alloc: Global, query: &Query, own: &[Change]) -> Result<Listing, AllocError>
+        ensures ordered { in_order self.now ≡ true }
+        ensures given { IfOk result (λ l. l ≡ gives query.now (after_changes own.now self.now)) }
+    {
+        if reading::is_touched(query, own) {
+            return searches::overlaid(alloc, query, self.rows.as_slice(), own);
+        }
+        let met = searches::listed(alloc, query, self.rows.as_slice(), &self.places)?;
+        listing::selected(alloc, query, &met)
+    }
+}

@@ -1,0 +1,154 @@
+// The places of cells, in order.
+ghost use Rattle.std.specs.Prelude.{◌≡◌, ◌<◌, ◌^◌, ℕ, ◌&&◌, ◌||◌, not, ◌++◌, false, map, Some, IfOk, OnOk};
+ghost use Rattle.std.specs.List.{filter};
+ghost use Rattle.std.specs.Ordering.{is_gt};
+ghost use Rattle.hib_journal.specs.Types.{Cell as CellSpec};
+ghost use Rattle.hib_base.specs.Keys.{same_key};
+ghost use Rattle.hib_journal.specs.Room.{key as key_at};
+ghost use Rattle.hib_query_eval.specs.Places.{cell_in, is_place, has_place, has_cell};
+ghost use Rattle.hib_query_eval.specs.Spans.{value_cmp, is_within};
+
+use hib_base::{Cell, EntityNo, Key, Row};
+use std::alloc::{AllocError, Global};
+use std::collections::BTreeSet;
+use std::ops::Bound;
+
+/// A cell as an index orders it, or a bound of a search.
+#[derive(PartialEq, Eq, PartialOrd, Ord, Drop)]
+pub enum Value {
+    /// Below each cell.
+    Least,
+    /// A number.
+    Int(i64),
+    /// A text, which is above each number.
+    Text(Vec<u8>),
+    /// True or false, which are above each text.
+    Bool(bool),
+    /// Above each cell.
+    Greatest,
+}
+
+/// The place of a cell: cells of one column stand together, in order of their values and then of identifiers.
+#[derive(PartialEq, Eq, PartialOrd, Ord, Drop)]
+pub struct Place {
+    /// The entity that the cell's row is of.
+    pub entity: EntityNo,
+    /// The column, from 0.
+    pub column: usize,
+    /// The cell.
+    pub value: Value,
+    /// The identifier of the cell's row.
+    pub id: u64,
+}
+
+/// A cell as an index orders it.
+pub fn value_of(alloc: Global, cell: &Cell) -> Result<Value, AllocError>
+    ensures { IfOk result (λ v. cell_in v ≡ Some cell.now) }
+{
+    match cell {
+        Cell::Int(n) => Ok(Value::Int(*n)),
+        Cell::Text(text) => Ok(Value::Text(text.as_slice().to_vec(alloc)?)),
+        Cell::Bool(b) => Ok(Value::Bool(*b)),
+    }
+}
+
+/// The place of a cell in a column of the row of an identifier.
+fn place_of(
+    alloc: Global,
+    entity: EntityNo,
+    id: u64,
+    column: usize,
+    cell: &Cell,
+) -> Result<Place, AllocError>
+    ensures entity { IfOk result (λ p. p.entity ≡ entity) }
+    ensures column { IfOk result (λ p. p.column ≡ column) }
+    ensures cell { IfOk result (λ p. cell_in p.value ≡ Some cell.now) }
+    ensures id { IfOk result (λ p. p.id ≡ id) }
+{
+    Ok(Place {
+        entity,
+        column,
+        value: value_of(alloc, cell)?,
+        id,
+    })
+}
+
+fn add_place(places: &mut BTreeSet<Place>, place: Place) -> Result<(), AllocError>
+    ensures { OnOk result ((e c i : ℕ) (d : CellSpec) → has_place places.new.keys e c i d ≡ (is_place e c i d place || has_place places.old.keys e c i d)) }
+{
+    places.insert(place)?;
+    Ok(())
+}
+
+fn drop_place(places: &mut BTreeSet<Place>, place: Place)
+    ensures { (e c i : ℕ) (d : CellSpec) → has_place places.new.keys e c i d ≡ (not (is_place e c i d place) && has_place places.old.keys e c i d) }
+{
+    places.remove(&place);
+}
+
+/// Adds the places of a row's cells.
+pub fn add_cells(
+    alloc: Global,
+    places: &mut BTreeSet<Place>,
+    key: &Key,
+    row: &Row,
+) -> Result<(), AllocError>
+    ensures fit { key.now.id < 2 ^ 64 }
+    ensures added { OnOk result ((e c i : ℕ) (d : CellSpec) → has_place places.new.keys e c i d
+        ≡ ((same_key key.now (key_at e i) && has_cell (Some row.now) c d) || has_place places.old.keys e c i d)) }
+{
+    let id = key.id;
+    for column in 0..row.cells.len() {
+        let place = place_of(alloc, key.entity, id, column, row.cells.at(column))?;
+        add_place(places, place)?;
+    }
+    Ok(())
+}
+
+/// Drops the places of a row's cells.
+pub fn drop_cells(
+    alloc: Global,
+    places: &mut BTreeSet<Place>,
+    key: &Key,
+    row: &Row,
+) -> Result<(), AllocError>
+    ensures { OnOk result ((e c i : ℕ) (d : CellSpec) → has_place places.new.keys e c i d
+        ≡ (not (same_key key.now (key_at e i) && has_cell (Some row.now) c d) && has_place places.old.keys e c i d)) }
+{
+    for column in 0..row.cells.len() {
+        let place = place_of(alloc, key.entity, key.id, column, row.cells.at(column))?;
+        drop_place(places, place);
+    }
+    Ok(())
+}
+
+/// Adds the identifiers of the rows whose cell in a column is at one of two values or between them.
+pub fn add_between(
+    places: &BTreeSet<Place>,
+    entity: EntityNo,
+    column: usize,
+    from: Value,
+    to: Value,
+    ids: &mut Vec<u64>,
+) -> Result<(), AllocError>
+    requires { is_gt (value_cmp from to) ≡ false }
+    ensures { OnOk result (ids.new.items ≡ ids.old.items ++ map (λ p. p.id) (filter (is_within entity column from to) places.now.keys)) }
+{
+    let first = Place {
+        entity,
+        column,
+        value: from,
+        id: 0,
+    };
+    let last = Place {
+        entity,
+        column,
+        value: to,
+        id: u64::MAX,
+    };
+    let found = places.range((Bound::Included(first), Bound::Included(last)));
+    for place in found {
+        ids.push(place.id)?;
+    }
+    Ok(())
+}

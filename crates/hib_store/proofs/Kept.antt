@@ -1,0 +1,98 @@
+-- The rows of an index: as they are asked for, after a commit, and what a query gives over them.
+use Rattle.std.proofs.Common.{◌≡◌, ℕ, ◌+◌, ◌<◌, ◌≤◌, Bool, true, false, cond, ◌==◌, ◌||◌, List, [], ◌∷◌, ◌++◌, arith, Some, None, Option, IfSome, MatchOption, refl, sym, ap, ◌∙◌, subst, inl, inr}
+use Rattle.std.specs.Prelude.{nat_lt}
+use Rattle.std.proofs.lemmas.Bool.{true≢false, eqb-true, eq-eqb, or_left, or_right, lt-ltb, le-ltb, ltb-true, ltb-false}
+use Rattle.hib_base.specs.Tables.{Tables, row_at, start, last_on, after_changes, in_order}
+use Rattle.hib_base.proofs.Tables.{Tested, tested, left_by, row_at_changes}
+use Rattle.hib_outside.specs.Keeps.{is_listed, rows_of}
+use Rattle.hib_outside.proofs.Orders.{in_order_changes}
+use Rattle.hib_journal.specs.Query.{reads, mentions_in, gives}
+use Rattle.hib_journal.specs.Room.{key}
+use Rattle.hib_query_eval.proofs.Untouched.{gives_alike}
+use Rattle.hib_query_eval.proofs.Laid.{kept, row_at_kept, in_order_kept, same_tables, row_at_start}
+use Rattle.hib_store.specs.Types.{Key, Change, Commit, Query}
+use Rattle.hib_store.specs.Stores.{AreOf, IsIndexed, IsLeft, IsListed, tables_answered}
+use Rattle.hib_store.specs.declared.store.Listed.{Listed}
+use Rattle.hib_journal.specs.Types.{Cell}
+
+-- what is asked of the keeper
+pub asked_rows : (n : ℕ) (es : List ℕ) (rows view : Tables) (told : Option Tables) → ((k : ℕ) → is_listed k es ≡ nat_lt k n) → IfSome told (λ m. rows ≡ rows_of es m)
+    → view ≡ after_changes [] (start [] rows) → IfSome told (λ m. AreOf n view m)
+asked_rows n es rows view None f h e = tt
+asked_rows n es rows view (Some m) f h e = λ k l.
+    let t : is_listed k.entity es ≡ true = f k.entity ∙ lt-ltb k.entity n l in
+    ap (λ t. row_at t k) e ∙ row_at_start [] rows k ∙ ap (λ t. row_at t k) h ∙ row_at_kept (λ e. is_listed e es) m k ∙ ap (λ b. cond b (row_at m k) None) t
+
+-- after changes
+changed_rows : (n : ℕ) (cs : List Change) (rows m : Tables) → AreOf n rows m → AreOf n (after_changes cs rows) (after_changes cs m)
+changed_rows n cs rows m a k l = row_at_changes cs rows k ∙ ap (left_by (last_on k cs)) (a k l) ∙ sym (row_at_changes cs m k)
+
+-- and after an answer to a commit
+pub left_rows : (n : ℕ) (index left told told' : Option Tables) (c : Commit) (cs : List Change) → IsIndexed n index told
+    → IfSome left (λ l. MatchOption index ⊥ (λ rows. IsLeft c cs rows l)) → told' ≡ tables_answered c cs told → IsIndexed n left told'
+left_rows n index None told told' c cs x h e = tt
+left_rows n None (Some l) told told' c cs x h e = absurd h
+left_rows n (Some rows) (Some l) told told' c cs x h e = subst (λ o. IfSome o (λ m. AreOf n l m)) (sym e) (at c told x h)
+  where
+    at : (c : Commit) (told : Option Tables) → IfSome told (λ m. AreOf n rows m) → IsLeft c cs rows l → IfSome (tables_answered c cs told) (λ m. AreOf n l m)
+    at Commit.Committed None x h = tt
+    at Commit.Committed (Some m) x h = subst (λ t. AreOf n t (after_changes cs m)) (sym h) (changed_rows n cs rows m x)
+    at (Commit.Stale k found) None x h = tt
+    at (Commit.Stale k found) (Some m) x h = subst (λ t. AreOf n t m) (sym h) x
+    at (Commit.Duplicate k) None x h = tt
+    at (Commit.Duplicate k) (Some m) x h = subst (λ t. AreOf n t m) (sym h) x
+    at Commit.Fault told x h = absurd h
+
+-- a query that reads only the first entities gives the same over their rows
+pub gives_of : (n : ℕ) (q : Query) (cs : List Change) (rows m : Tables) → in_order rows ≡ true → in_order m ≡ true → AreOf n rows m
+    → ((k : ℕ) → reads q k ≡ true → k < n) → gives q (after_changes cs rows) ≡ gives q (after_changes cs m)
+gives_of n q cs rows m o p a f =
+    gives_alike q (after_changes cs rows) (after_changes cs m)
+    (same_tables (kept own (after_changes cs rows)) (kept own (after_changes cs m))
+    (in_order_kept own (after_changes cs rows) (in_order_changes cs rows o)) (in_order_kept own (after_changes cs m) (in_order_changes cs m p))
+    (λ k. row_at_kept own (after_changes cs rows) k ∙ at k (tested (k.entity == q.entity)) ∙ sym (row_at_kept own (after_changes cs m) k)))
+    (λ k i e. changed_rows n cs rows m a (key k i) (f k (or_right (q.entity == k) (mentions_in k q.condition) e)))
+  where
+    own : ℕ → Bool
+    own n = n == q.entity
+
+    at : (k : Key) → Tested (k.entity == q.entity) → cond (k.entity == q.entity) (row_at (after_changes cs rows) k) None ≡ cond (k.entity == q.entity) (row_at (after_changes cs m) k) None
+    at k (inl s) =
+        let e : q.entity ≡ k.entity = sym (eqb-true k.entity q.entity s) in
+        ap (λ o. cond (k.entity == q.entity) o None)
+        (changed_rows n cs rows m a k (f k.entity (or_left (q.entity == k.entity) (mentions_in k.entity q.condition) (eq-eqb q.entity k.entity e))))
+    at k (inr s) = rw s refl
+
+-- one entity more
+pub one_entity : (n e : ℕ) (xs new : List ℕ) → new ≡ xs ++ e ∷ [] → is_listed n xs ≡ nat_lt n e → is_listed n new ≡ nat_lt n (e + 1)
+one_entity n e xs new g h = ap (is_listed n) g ∙ behind xs ∙ ap (λ b. b || (e == n)) h ∙ at (tested (nat_lt n e)) (tested (e == n))
+  where
+    behind : (xs : List ℕ) → is_listed n (xs ++ e ∷ []) ≡ (is_listed n xs || (e == n))
+    behind [] = or_false (e == n)
+      where
+        or_false : (b : Bool) → (b || false) ≡ b
+        or_false true = refl
+        or_false false = refl
+    behind (x ∷ xs) = ap (λ b. (x == n) || b) (behind xs) ∙ or_assoc (x == n)
+      where
+        or_assoc : (b : Bool) → (b || (is_listed n xs || (e == n))) ≡ ((b || is_listed n xs) || (e == n))
+        or_assoc true = refl
+        or_assoc false = refl
+
+    at : Tested (nat_lt n e) → Tested (e == n) → (nat_lt n e || (e == n)) ≡ nat_lt n (e + 1)
+    at (inl p) q =
+        let l : n < e = ltb-true n e p in
+        ap (λ b. b || (e == n)) p ∙ sym (lt-ltb n (e + 1) (omega arith))
+    at (inr p) (inl q) =
+        let r : e ≡ n = eqb-true e n q in
+        (λ j. p j || q j) ∙ sym (lt-ltb n (e + 1) (omega arith))
+    at (inr p) (inr q) =
+        let l : e ≤ n = ltb-false n e p in
+        let d : (e ≡ n → ⊥) = λ r. true≢false (sym (eq-eqb e n r) ∙ q) in
+        (λ j. p j || q j) ∙ sym (le-ltb n (e + 1) (omega (arith, d)))
+
+-- what is listed from an index
+pub listed_of : (n : ℕ) (q : Query) (cs : List Change) (rows : Tables) (told : Option Tables) (cells : List Cell) → IfSome told (λ m. in_order m ≡ true) → in_order rows ≡ true
+    → IfSome told (λ m. AreOf n rows m) → ((k : ℕ) → reads q k ≡ true → k < n) → cells ≡ gives q (after_changes cs rows) → IsListed told cs q (Listed.List cells)
+listed_of n q cs rows None cells o p a f e = tt
+listed_of n q cs rows (Some m) cells o p a f e = e ∙ gives_of n q cs rows m p o a f
