@@ -1,0 +1,7 @@
+pub mod PieceLaws
+pub mod CellLaws
+pub mod NameLaws
+pub mod FieldLaws
+pub mod ListLaws
+pub mod Loops
+pub mod Scans
