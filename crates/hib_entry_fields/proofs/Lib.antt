@@ -3,5 +3,6 @@ pub mod CellLaws
 pub mod NameLaws
 pub mod FieldLaws
 pub mod ListLaws
+pub mod AsciiLaws
 pub mod Loops
 pub mod Scans

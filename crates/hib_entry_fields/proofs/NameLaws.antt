@@ -16,12 +16,13 @@ use Rattle.hib_base.proofs.Valid.{Rules, rules}
 use Rattle.hib_journal.specs.Types.{ColumnDef, EntityDef, Query, SessionDef, Script}
 use Rattle.hib_texts.specs.Texts.{entity_name, query_name, session_name, column_name, column_in, entity_text, query_text, session_text, column_text}
 use Rattle.hib_entry_fields.specs.Fields.{is_stop, place, entity_of, query_of, session_of, column_of}
-use Rattle.hib_entry_fields.proofs.PieceLaws.{is_plain, and_left, and_right, lt_true}
+use Rattle.hib_entry_fields.proofs.PieceLaws.{is_plain, is_ascii, and_left, and_right, lt_true}
 
 -- a name that stands for this number alone
 pub record IsName (of : List ℕ → ℕ) (text : List ℕ) (n : ℕ) : Type 0 where
   pub back : of text ≡ n
   pub plain : is_plain text ≡ true
+  pub ascii : is_ascii text ≡ true
 
 abbrev pub IsEntity : Script → ℕ → Type 0
 IsEntity script n = IsName (entity_of script) (entity_text script n) n
@@ -80,6 +81,22 @@ word_plain (b ∷ bs) h =
     let rest = and_right (is_letter b) (nat_lt (length bs) 32 && list_all is_word_byte bs) h in
     rw (letter_plain b (and_left (is_letter b) (nat_lt (length bs) 32 && list_all is_word_byte bs) h)) (word_bytes_plain bs (and_right (nat_lt (length bs) 32) (list_all is_word_byte bs) rest))
 
+word_byte_ascii : (b : ℕ) → is_word_byte b ≡ true → nat_lt b 128 ≡ true
+word_byte_ascii b h = grind (arith, nat_tests)
+
+letter_ascii : (b : ℕ) → is_letter b ≡ true → nat_lt b 128 ≡ true
+letter_ascii b h = grind (arith, nat_tests)
+
+word_bytes_ascii : (bs : List ℕ) → list_all is_word_byte bs ≡ true → is_ascii bs ≡ true
+word_bytes_ascii [] h = refl
+word_bytes_ascii (b ∷ bs) h = rw (word_byte_ascii b (and_left (is_word_byte b) (list_all is_word_byte bs) h)) (word_bytes_ascii bs (and_right (is_word_byte b) (list_all is_word_byte bs) h))
+
+word_ascii : (bs : List ℕ) → is_word bs ≡ true → is_ascii bs ≡ true
+word_ascii [] h = refl
+word_ascii (b ∷ bs) h =
+    let rest = and_right (is_letter b) (nat_lt (length bs) 32 && list_all is_word_byte bs) h in
+    rw (letter_ascii b (and_left (is_letter b) (nat_lt (length bs) 32 && list_all is_word_byte bs) h)) (word_bytes_ascii bs (and_right (nat_lt (length bs) 32) (list_all is_word_byte bs) rest))
+
 name_at : {X : Type 0} (f : X → List ℕ) (g : Option X → List ℕ) → IsNaming f g → (xs : List X) (n : ℕ) → n < length xs → list_all is_name (map f xs) ≡ true → is_name (g (slice_get xs n)) ≡ true
 name_at {X = X} f g naming [] n lt h = absurd (omega arith)
 name_at {X = X} f g naming (x ∷ xs) zero lt h = rw (naming.same x) (and_left (is_name (f x)) (list_all is_name (map f xs)) h)
@@ -91,9 +108,11 @@ named : {X : Type 0} (f : X → List ℕ) (g : Option X → List ℕ) → IsNami
 named {X = X} f g naming limit xs n lt le h =
     let at = place_at f g naming xs n lt (and_right (list_all is_name (map f xs)) (are_apart (map f xs)) h) in
     let name = name_at f g naming xs n lt (and_left (list_all is_name (map f xs)) (are_apart (map f xs)) h) in
+    let word = and_left (is_word (g (slice_get xs n))) (not (is_reserved (g (slice_get xs n)))) name in
     record {
       back = rw (at, lt_true n (length xs) lt, lt_true n limit (omega (arith, lt, le))) refl;
-      plain = word_plain (g (slice_get xs n)) (and_left (is_word (g (slice_get xs n))) (not (is_reserved (g (slice_get xs n)))) name);
+      plain = word_plain (g (slice_get xs n)) word;
+      ascii = word_ascii (g (slice_get xs n)) word;
     }
 
 -- ---- the names of a script

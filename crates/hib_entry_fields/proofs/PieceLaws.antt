@@ -12,6 +12,10 @@ use Rattle.hib_entry_fields.specs.Fields.{is_stop, piece_len, piece, behind, nex
 abbrev pub is_plain : List ℕ → Bool
 is_plain bs = list_all (λ b. not (is_stop b)) bs
 
+-- bytes of seven bits
+abbrev pub is_ascii : List ℕ → Bool
+is_ascii bs = list_all (λ b. nat_lt b 128) bs
+
 -- the end, or a byte at which a piece stops
 abbrev pub Stops : List ℕ → Type 0
 Stops [] = Unit {0}

@@ -4,3 +4,4 @@ pub mod RegionLaws
 pub mod ActWhole
 pub mod AnswerLaws
 pub mod ReplyWhole
+pub mod AsciiWhole
