@@ -1,12 +1,12 @@
 -- The texts of well-formed fields are ASCII.
-use Rattle.std.proofs.Common.{◌≡◌, ℕ, suc, ◌^◌, ◌<◌, List, [], ◌∷◌, ◌++◌, Option, Some, None, refl, Bool, true, false, ◌==◌, ◌||◌, ◌&&◌, arith, flat_map, nat_lt, nat_le, codes, pos, negsuc, length}
+use Rattle.std.proofs.Common.{◌≡◌, ℕ, suc, ◌^◌, ◌<◌, List, [], ◌∷◌, ◌++◌, Option, Some, None, refl, Bool, true, false, ◌==◌, ◌||◌, arith, flat_map, nat_lt, nat_le, codes, pos, negsuc, length}
 use Rattle.std.specs.Fmt.{decimal}
 use Rattle.std.specs.List.{list_all}
 use Rattle.std.proofs.lemmas.List.Folds.{list_all-append}
 use Rattle.std.proofs.lemmas.List.Concat.{flat_map-cons}
 use Rattle.std.proofs.lemmas.Bool.{and_from}
 use Rattle.std.proofs.lemmas.Bool.Decides.{nat_tests}
-use Rattle.hib_base.specs.Fits.{is_printable, is_text, entity_columns}
+use Rattle.hib_base.specs.Fits.{is_printable, entity_columns}
 use Rattle.hib_lex.specs.Tokens.{is_digit}
 use Rattle.hib_journal.specs.Types.{Key, Cell, Row, Script}
 use Rattle.hib_texts.specs.Texts.{escaped, cell_text, version_text, row_text, list_text, entity_text, column_text, key_text, names_text, sets_text}

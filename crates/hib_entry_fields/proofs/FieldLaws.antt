@@ -1,5 +1,5 @@
 -- Names, numbers, versions and keys that were written behind a space are read again.
-use Rattle.std.proofs.Common.{◌≡◌, ℕ, ◌^◌, ◌<◌, List, [], ◌∷◌, ◌++◌, Option, Some, None, refl, ap, sym, ◌∙◌, true, arith, append_assoc, codes, length, nat_lt}
+use Rattle.std.proofs.Common.{◌≡◌, ℕ, ◌^◌, ◌<◌, List, [], ◌∷◌, ◌++◌, Option, refl, ap, sym, ◌∙◌, true, arith, append_assoc, length, nat_lt}
 use Rattle.std.specs.Fmt.{decimal}
 use Rattle.std.proofs.lemmas.List.{append-nil}
 use Rattle.std.proofs.lemmas.Bool.Decides.{nat_tests}
@@ -8,7 +8,7 @@ use Rattle.hib_journal.specs.Types.{Key, Row, Script}
 use Rattle.hib_texts.specs.Texts.{key_text, entity_text, version_text, row_text}
 use Rattle.hib_entry_fields.specs.Fields.{next, after, number_of, version_of, entity_of, key_at, after_key, row_at, cell_at}
 use Rattle.hib_entry_fields.specs.Known.{is_key, is_tick}
-use Rattle.hib_entry_fields.proofs.PieceLaws.{is_plain, Stops, and_left, and_right, next_again, after_again, decimal_plain, number_again}
+use Rattle.hib_entry_fields.proofs.PieceLaws.{Stops, and_left, and_right, next_again, after_again, decimal_plain, number_again}
 use Rattle.hib_entry_fields.proofs.CellLaws.{IsVersion, IsRow, Ends, version_plain, version_again, row_again}
 use Rattle.hib_entry_fields.proofs.NameLaws.{IsName, IsEntity, IsNamed, known_entity}
 

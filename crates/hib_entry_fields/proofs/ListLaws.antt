@@ -1,14 +1,13 @@
 -- Tables and sets that were written are read again; cells and rows that are well formed can be read.
-use Rattle.std.proofs.Common.{◌≡◌, ℕ, zero, suc, ◌^◌, ◌<◌, ◌≤◌, List, [], ◌∷◌, ◌++◌, length, drop, Option, Some, None, refl, ap, sym, ◌∙◌, true, ◌&&◌, arith, append_assoc, codes, nat_lt, nat_le, length-append, pos, negsuc}
+use Rattle.std.proofs.Common.{◌≡◌, ℕ, zero, suc, ◌^◌, ◌≤◌, List, [], ◌∷◌, ◌++◌, length, Option, Some, None, refl, ap, ◌∙◌, true, arith, append_assoc, codes, nat_lt, nat_le, length-append, pos, negsuc}
 use Rattle.std.specs.List.{list_all}
-use Rattle.std.specs.Prelude.{option_map}
 use Rattle.std.proofs.lemmas.Bool.{leb-true}
 use Rattle.hib_base.specs.Fits.{entity_columns}
 use Rattle.hib_journal.specs.Types.{Cell, Row, Script}
 use Rattle.hib_texts.specs.Texts.{entity_text, column_text, cell_text, names_text, sets_text}
 use Rattle.hib_entry_fields.specs.Fields.{entity_of, column_of, next, after, behind, names_from, cell_at, set_at, sets_from}
 use Rattle.hib_entry_fields.specs.Known.{is_version, is_cell, are_cells, is_row, is_entity, are_tables, is_set, are_sets}
-use Rattle.hib_entry_fields.proofs.PieceLaws.{Stops, and_left, and_right, next_again, after_again}
+use Rattle.hib_entry_fields.proofs.PieceLaws.{Stops, and_left, and_right, after_again}
 use Rattle.hib_entry_fields.proofs.CellLaws.{IsCell, AreCells, IsVersion, IsRow, cell_again}
 use Rattle.hib_entry_fields.proofs.NameLaws.{IsNamed, IsColumn, known_entity, known_column}
 use Rattle.hib_entry_fields.proofs.FieldLaws.{lt_from, name_next}

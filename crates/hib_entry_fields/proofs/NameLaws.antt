@@ -1,18 +1,17 @@
 -- The names of a valid script stand for one thing each.
-use Rattle.std.proofs.Common.{◌≡◌, ℕ, zero, suc, ◌+◌, ◌^◌, ◌<◌, ◌≤◌, List, [], ◌∷◌, length, ◌==◌, Option, Some, None, refl, Bool, true, false, not, ◌&&◌, ◌||◌, arith, bytes_eq, map, nat_lt, nat_le, sym, ap}
+use Rattle.std.proofs.Common.{◌≡◌, ℕ, zero, suc, ◌+◌, ◌^◌, ◌<◌, ◌≤◌, List, [], ◌∷◌, length, Option, Some, None, refl, true, false, not, ◌&&◌, arith, bytes_eq, map, nat_lt, nat_le}
 use Rattle.std.specs.Prelude.{position, slice_get}
 use Rattle.std.specs.List.{list_all, list_any, position_or_len}
 use Rattle.std.proofs.lemmas.Bool.{and_parts, or_parts, not-true, leb-true}
 use Rattle.std.proofs.lemmas.Bool.Decides.{nat_tests}
 use Rattle.std.proofs.lemmas.Slice.Eq.{bytes_eq-Decides}
-use Rattle.hib_base.specs.Apart.{are_apart_by}
 use Rattle.hib_base.specs.Words.{is_letter, is_word_byte, is_word, is_name, is_reserved, are_apart, are_names}
 use Rattle.hib_base.specs.Fits.{columns_in, entity_columns}
 use Rattle.hib_base.specs.Valid.{is_valid, are_columns, max_columns}
 use Rattle.hib_base.specs.Scripts.{is_type_below}
 use Rattle.hib_base.proofs.Lists.{all_at}
 use Rattle.hib_base.proofs.Names.{differ}
-use Rattle.hib_base.proofs.Valid.{Rules, rules}
+use Rattle.hib_base.proofs.Valid.{rules}
 use Rattle.hib_journal.specs.Types.{ColumnDef, EntityDef, Query, SessionDef, Script}
 use Rattle.hib_texts.specs.Texts.{entity_name, query_name, session_name, column_name, column_in, entity_text, query_text, session_text, column_text}
 use Rattle.hib_entry_fields.specs.Fields.{is_stop, place, entity_of, query_of, session_of, column_of}

@@ -1,6 +1,6 @@
 // Cells and rows.
 ghost use Rattle.hib_entry_fields.specs.Fields as format;
-ghost use Rattle.std.specs.Prelude.{◌≡◌, IfOk, false, length};
+ghost use Rattle.std.specs.Prelude.{◌≡◌, IfOk, false, length, option_map};
 
 use crate::fields::{after_one, is, next, piece, signed_of, version_of};
 use hib_base::{Cell, Cells, Row, Seq, Text};
@@ -38,7 +38,7 @@ fn begins_number(piece: &[u8]) -> bool
     }
 }
 
-/// The cell that a piece looks like, where it is no text.
+/// The cell that a piece looks like, if it is no text.
 #[tactic(auto, unfolding(crate::specs::Fields::bare_cell))]
 fn bare_cell(piece: &[u8]) -> Option<Cell>
     ensures { result ≡ format.bare_cell piece.now }
@@ -74,8 +74,6 @@ pub fn cell_at(alloc: Global, bytes: &[u8]) -> Result<Option<(Cell, &[u8])>, All
         }
     }
 }
-
-ghost use Rattle.std.specs.Prelude.{option_map};
 
 /// Cells, each behind one byte, and what follows them.
 #[tactic(auto, using(crate::proofs::Loops::cells_go_on, crate::proofs::Loops::cells_stop_at, crate::proofs::Loops::cells_end), unfolding(crate::specs::Fields::cells_at))]

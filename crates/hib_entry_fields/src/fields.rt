@@ -1,7 +1,7 @@
 // Pieces of bytes between spaces, and the numbers and versions that they look like.
 ghost use Rattle.hib_entry_fields.specs.Fields as format;
 ghost use Rattle.hib_lex.specs.Tokens.{is_digit, size_of};
-ghost use Rattle.std.specs.Prelude.{◌≡◌, ◌^◌, ◌<◌, ◌≤◌, SomeIff, drop, neg_ℤ, pos};
+ghost use Rattle.std.specs.Prelude.{◌≡◌, ◌^◌, ◌<◌, ◌≤◌, SomeIff, drop, neg_ℤ, pos, bytes_eq, codes};
 
 /// The bytes but the first.
 pub fn after_one(bytes: &[u8]) -> &[u8]
@@ -121,8 +121,6 @@ pub fn version_of(piece: &[u8]) -> Option<u32>
         }
     }
 }
-
-ghost use Rattle.std.specs.Prelude.{bytes_eq, codes};
 
 fn is_dash(bytes: &[u8]) -> bool
     ensures { result ≡ bytes_eq bytes.now (codes "-") }

@@ -1,5 +1,6 @@
 // Which fields are well formed.
 ghost use Rattle.hib_base.specs.Fits as fits;
+ghost use Rattle.hib_base.specs.declared.rows.Cell.TheVariants.{Int};
 ghost use Rattle.hib_entry_fields.specs.Known as known;
 ghost use Rattle.std.specs.List.{list_all};
 ghost use Rattle.std.specs.Prelude.{◌≡◌, ◌&&◌, length, nat_lt};
@@ -77,8 +78,6 @@ fn is_wide(n: i64) -> bool
     n >= i64::MIN && n <= i64::MAX
 }
 
-ghost use Rattle.hib_base.specs.declared.rows.Cell.TheVariants.{Int};
-
 /// Whether a cell is one.
 pub fn is_cell(cell: &Cell) -> bool
     ensures { result ≡ known.is_cell cell.now }
@@ -130,7 +129,8 @@ fn column_count(script: &Script, entity: EntityNo) -> usize
 fn are_set(sets: &[(u16, Cell)], count: usize) -> bool
     ensures { result ≡ list_all (λ x. nat_lt x.0 count && known.is_cell x.1) sets.now }
 {
-    sets.iter().all(|set| (set.0 as usize) < count && is_cell(&set.1))
+    sets.iter()
+        .all(|set| (set.0 as usize) < count && is_cell(&set.1))
 }
 
 /// Whether columns are the entity's, and at least one, with cells.

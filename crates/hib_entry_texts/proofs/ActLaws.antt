@@ -1,12 +1,12 @@
 -- Acts that were written are read again: registry, own, store, stamps and results.
-use Rattle.std.proofs.Common.{◌≡◌, ℕ, ◌^◌, ◌<◌, ◌≤◌, List, [], ◌∷◌, ◌++◌, drop, length, Option, refl, ap, sym, ◌∙◌, true, arith, codes}
+use Rattle.std.proofs.Common.{◌≡◌, ℕ, ◌^◌, ◌<◌, List, [], ◌∷◌, ◌++◌, drop, length, Option, refl, ap, ◌∙◌, true, arith, codes}
 use Rattle.std.specs.Fmt.{decimal}
 use Rattle.hib_journal.specs.Types.{Key, Cell, Row, Change, Act, Script}
 use Rattle.hib_report.specs.Lines.{act_text}
-use Rattle.hib_texts.specs.Texts.{key_text, query_text, session_text, version_text, row_text, list_text, names_text, sets_text}
+use Rattle.hib_texts.specs.Texts.{key_text, query_text, session_text, version_text, row_text, list_text, sets_text}
 use Rattle.hib_entry_fields.specs.Fields.{piece, behind, next, after, number_of, version_of, query_of, session_of, key_at, after_key, cells_at, row_at, sets_from}
 use Rattle.hib_entry_fields.specs.Known.{are_tables, are_sets}
-use Rattle.hib_entry_fields.proofs.PieceLaws.{Stops, after_again, decimal_plain}
+use Rattle.hib_entry_fields.proofs.PieceLaws.{after_again, decimal_plain}
 use Rattle.hib_entry_fields.proofs.CellLaws.{IsVersion, IsRow, AreCells, version_plain, list_again}
 use Rattle.hib_entry_fields.proofs.NameLaws.{IsNamed, IsQuery, IsSession}
 use Rattle.hib_entry_fields.proofs.FieldLaws.{IsKey, name_next, name_end, number_next, number_end, version_next, version_end, key_again, after_key_again, key_end, row_end}

@@ -1,6 +1,6 @@
 -- Every act that is well formed is read again from its text and the word of its part.
-use Rattle.std.proofs.Common.{◌≡◌, ℕ, List, Option, Some, None, refl, ap, sym, ◌∙◌, true, ◌&&◌, codes, length}
-use Rattle.hib_journal.specs.Types.{Key, Change, Part, Act, Script}
+use Rattle.std.proofs.Common.{◌≡◌, ℕ, List, Option, Some, None, refl, ap, sym, true, ◌&&◌, codes, length}
+use Rattle.hib_journal.specs.Types.{Change, Part, Act, Script}
 use Rattle.hib_report.specs.Lines.{act_text, part_text}
 use Rattle.hib_entry_fields.specs.Fields.{piece, behind}
 use Rattle.hib_entry_fields.specs.Known.{is_key, is_query, is_tick, is_version, are_cells, is_row, are_sets}

@@ -1,13 +1,12 @@
 -- What replies hold is read again from its text.
-use Rattle.std.proofs.Common.{◌≡◌, ℕ, ◌^◌, ◌<◌, List, [], ◌∷◌, ◌++◌, drop, Option, Some, None, refl, ap, sym, ◌∙◌, Bool, true, false, ◌&&◌, arith, append_assoc, codes, bytes_eq, length, nat_lt}
+use Rattle.std.proofs.Common.{◌≡◌, ℕ, ◌^◌, ◌<◌, List, [], ◌∷◌, ◌++◌, drop, Option, Some, None, refl, ap, sym, ◌∙◌, Bool, true, false, ◌&&◌, arith, codes, bytes_eq, length}
 use Rattle.std.specs.Fmt.{decimal}
 use Rattle.std.proofs.lemmas.List.{append-nil}
-use Rattle.hib_base.specs.Fits.{is_identifier}
 use Rattle.hib_journal.specs.Types.{Key, Commit, Checked, Miss, Put, Locked, Unlocked, Inserted, Updated, Evicted, Outcome, Script}
 use Rattle.hib_report.specs.Lines.{outcome_text, found_text, commit_text, checked_text, reason_text, evicted_id_text, late_text, put_reply_text, locked_text, unlocked_text, inserted_text, updated_text, evicted_text, dropped_text}
 use Rattle.hib_texts.specs.Texts.{entity_text, query_text, key_text, version_text}
-use Rattle.hib_entry_fields.specs.Fields.{piece, behind, next, after, number_of, version_of, entity_of, query_of, key_at, after_key, small}
-use Rattle.hib_entry_fields.specs.Known.{is_key, is_entity, is_query, is_tick, is_version}
+use Rattle.hib_entry_fields.specs.Fields.{piece, behind, next, after, number_of, entity_of, query_of, key_at, after_key, small}
+use Rattle.hib_entry_fields.specs.Known.{is_key, is_entity, is_tick, is_version}
 use Rattle.hib_entry_fields.proofs.PieceLaws.{Stops, and_left, and_right, next_again, after_again, decimal_plain, number_again, lt_true}
 use Rattle.hib_entry_fields.proofs.CellLaws.{IsVersion, version_plain, version_again}
 use Rattle.hib_entry_fields.proofs.NameLaws.{IsNamed, known_entity, known_query}

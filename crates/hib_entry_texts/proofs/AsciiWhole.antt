@@ -1,7 +1,6 @@
 -- The texts of well-formed acts and replies are ASCII.
-use Rattle.std.proofs.Common.{◌≡◌, ℕ, ◌^◌, ◌<◌, List, [], ◌∷◌, ◌++◌, Option, Some, None, refl, Bool, true, false, ◌&&◌, codes, length, nat_lt}
+use Rattle.std.proofs.Common.{◌≡◌, ℕ, List, ◌++◌, Option, Some, None, refl, Bool, true, false, ◌&&◌, codes, length}
 use Rattle.std.specs.Fmt.{decimal}
-use Rattle.hib_base.specs.Fits.{is_identifier}
 use Rattle.hib_journal.specs.Types.{Key, Row, Change, Part, Act, Reply, Commit, Checked, Miss, Put, Locked, Unlocked, Inserted, Updated, Evicted, Outcome, Script}
 use Rattle.hib_report.specs.Lines.{act_text, part_text, reply_text, outcome_text, found_text, commit_text, checked_text, reason_text, evicted_id_text, late_text, put_reply_text, locked_text, unlocked_text, inserted_text, updated_text, evicted_text, read_text, dropped_text}
 use Rattle.hib_texts.specs.Texts.{key_text, entity_text, query_text, session_text, version_text, row_text, list_text, names_text, sets_text}

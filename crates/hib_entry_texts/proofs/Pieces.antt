@@ -1,6 +1,6 @@
 -- Texts are joined from the left, and read from the right. Labels between fields are passed over.
-use Rattle.std.proofs.Common.{◌≡◌, ℕ, List, [], ◌∷◌, ◌++◌, refl, append_assoc, codes}
-use Rattle.hib_entry_fields.specs.Fields.{piece, behind, next, after, bare_cell, cell_at}
+use Rattle.std.proofs.Common.{◌≡◌, ℕ, List, ◌∷◌, ◌++◌, refl, append_assoc, codes}
+use Rattle.hib_entry_fields.specs.Fields.{piece, behind, after, bare_cell, cell_at}
 use Rattle.hib_entry_fields.proofs.CellLaws.{Ends}
 
 pub regroup3 : (a b c : List ℕ) → a ++ b ++ c ≡ a ++ (b ++ c)

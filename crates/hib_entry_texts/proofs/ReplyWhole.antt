@@ -1,11 +1,11 @@
 -- Every reply that is well formed after its act is read again from its text.
-use Rattle.std.proofs.Common.{◌≡◌, ℕ, ◌^◌, ◌<◌, List, [], ◌∷◌, ◌++◌, drop, Option, Some, None, refl, ap, sym, ◌∙◌, true, false, ◌&&◌, codes}
+use Rattle.std.proofs.Common.{◌≡◌, ℕ, List, [], ◌∷◌, ◌++◌, drop, Some, None, refl, ap, sym, ◌∙◌, true, codes}
 use Rattle.std.specs.Fmt.{decimal}
 use Rattle.std.proofs.lemmas.List.{append-nil}
 use Rattle.hib_journal.specs.Types.{Row, Act, Reply, Script}
 use Rattle.hib_report.specs.Lines.{reply_text}
-use Rattle.hib_texts.specs.Texts.{list_text, row_text}
-use Rattle.hib_entry_fields.specs.Fields.{piece, behind, next, after, number_of, cells_at, row_at}
+use Rattle.hib_texts.specs.Texts.{list_text}
+use Rattle.hib_entry_fields.specs.Fields.{piece, behind, next, after, number_of, cells_at}
 use Rattle.hib_entry_fields.specs.Known.{is_tick, are_cells}
 use Rattle.hib_entry_fields.proofs.PieceLaws.{and_left, and_right, piece_again, after_again, decimal_plain, number_again}
 use Rattle.hib_entry_fields.proofs.CellLaws.{list_again}

@@ -1,5 +1,5 @@
 -- Which acts are a script's, on which part they are, and which replies answer them.
-use Rattle.std.specs.Prelude.{ℕ, ◌^◌, Bool, true, false, ◌&&◌, nat_lt, List, Option, Some, None}
+use Rattle.std.specs.Prelude.{ℕ, ◌^◌, Bool, true, false, ◌&&◌, nat_lt, Option, Some, None}
 use Rattle.hib_base.specs.Fits.{is_identifier}
 use Rattle.hib_journal.specs.Types.{Row, Change, Part, Act, Reply, Commit, Checked, Miss, Put, Locked, Unlocked, Inserted, Updated, Script}
 use Rattle.hib_entry_fields.specs.Known.{is_key, is_entity, is_query, is_session, is_tick, is_version, are_cells, is_row, are_tables, are_sets}

@@ -38,12 +38,7 @@ fn check_of(script: &Script, bytes: &[u8]) -> Act
     }
 }
 
-fn stamps_act(
-    alloc: Global,
-    script: &Script,
-    word: &[u8],
-    bytes: &[u8],
-) -> Result<Act, AllocError>
+fn stamps_act(alloc: Global, script: &Script, word: &[u8], bytes: &[u8]) -> Result<Act, AllocError>
     ensures { IfOk result (λ a. a ≡ format.stamps_act script.now word.now bytes.now) }
 {
     if is(word, b"pre") {
@@ -73,12 +68,7 @@ fn keep_of(alloc: Global, script: &Script, bytes: &[u8]) -> Result<Act, AllocErr
     })
 }
 
-fn results_act(
-    alloc: Global,
-    script: &Script,
-    word: &[u8],
-    bytes: &[u8],
-) -> Result<Act, AllocError>
+fn results_act(alloc: Global, script: &Script, word: &[u8], bytes: &[u8]) -> Result<Act, AllocError>
     ensures { IfOk result (λ a. a ≡ format.results_act script.now word.now bytes.now) }
 {
     if is(word, b"look") {

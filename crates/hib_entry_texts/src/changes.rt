@@ -23,12 +23,7 @@ fn set_of(alloc: Global, script: &Script, bytes: &[u8]) -> Result<Act, AllocErro
 }
 
 /// The act on what is a session's own, by its word and what follows.
-pub fn own_act(
-    alloc: Global,
-    script: &Script,
-    word: &[u8],
-    bytes: &[u8],
-) -> Result<Act, AllocError>
+pub fn own_act(alloc: Global, script: &Script, word: &[u8], bytes: &[u8]) -> Result<Act, AllocError>
     ensures { IfOk result (λ a. a ≡ format.own_act script.now word.now bytes.now) }
 {
     if is(word, b"find") {

@@ -1,4 +1,5 @@
 // The acts on regions that bytes look like.
+ghost use Rattle.hib_entry_fields.specs.Fields.{key_at};
 ghost use Rattle.hib_entry_texts.specs.Acts as format;
 ghost use Rattle.std.specs.Prelude.{◌≡◌, IfOk};
 
@@ -16,8 +17,6 @@ fn marked(script: &Script, bytes: &[u8]) -> (Key, Tick)
     let (number, _) = next(rest);
     (key, Tick(number_of(number)))
 }
-
-ghost use Rattle.hib_entry_fields.specs.Fields.{key_at};
 
 fn get_of(script: &Script, bytes: &[u8]) -> Act
     ensures { result ≡ format.get_of script.now bytes.now }

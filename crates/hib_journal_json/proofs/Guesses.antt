@@ -1,5 +1,5 @@
 -- The entry whose texts were written is guessed from them.
-use Rattle.std.proofs.Common.{◌≡◌, ℕ, List, Option, Some, None, refl, ap, sym, ◌∙◌, subst, Bool, true, false, ◌&&◌, ◌==◌, arith, bytes_eq, option_map, length, IsUtf8}
+use Rattle.std.proofs.Common.{◌≡◌, ℕ, List, Option, Some, None, refl, ap, sym, ◌∙◌, subst, true, false, ◌&&◌, ◌==◌, arith, bytes_eq, option_map, length, IsUtf8}
 use Rattle.std.proofs.lemmas.Bool.Decides.{nat_tests}
 use Rattle.std.proofs.lemmas.Slice.Eq.{bytes_eq-Decides}
 use Rattle.serde_json.specs.Data.{string}

@@ -1,18 +1,14 @@
 -- Lines and the entries that they are, one after the other.
-use Rattle.std.proofs.Common.{◌≡◌, ℕ, zero, suc, ◌+◌, ◌-◌, ◌^◌, ◌<◌, ◌≤◌, List, [], ◌∷◌, ◌++◌, length, take, drop, map, Option, Some, None, refl, ap, sym, ◌∙◌, subst, Bool, true, false, not, ◌&&◌, ◌==◌, arith, append_assoc, All, IsUtf8, codes, flat_map, nat_lt, option_map}
-use Rattle.std.specs.Prelude.{Result, Ok, Err, MatchResult, IfErr}
+use Rattle.std.proofs.Common.{◌≡◌, ℕ, zero, suc, ◌+◌, ◌-◌, ◌<◌, ◌≤◌, List, [], ◌∷◌, ◌++◌, length, take, drop, Option, Some, None, refl, ap, sym, ◌∙◌, subst, true, false, not, ◌&&◌, ◌==◌, arith, append_assoc, IsUtf8, nat_lt, option_map}
 use Rattle.std.specs.Fmt.{decimal}
 use Rattle.std.specs.List.{list_all}
 use Rattle.std.proofs.lemmas.List.{append-nil, drop_all, length-drop, drop-drop, take_all}
-use Rattle.std.proofs.lemmas.List.Concat.{flat_map-cons}
 use Rattle.std.proofs.lemmas.Bool.{not-true}
 use Rattle.std.proofs.lemmas.Bool.Decides.{nat_tests}
-use Rattle.serde_json.specs.Read.{read}
-use Rattle.serde_json.specs.Written.{compact_text}
 use Rattle.json.proofs.Printed.Utf8.{are_ascii, IsUtf8-are_ascii}
 use Rattle.hib_base.specs.Valid.{is_valid}
 use Rattle.hib_lex.specs.Tokens.{is_digit}
-use Rattle.hib_lex.specs.Lines.{line_feed, before_lines, lines_of, line_length}
+use Rattle.hib_lex.specs.Lines.{before_lines, lines_of, line_length}
 use Rattle.hib_lex.proofs.Texts.{lines_first, length_fits}
 use Rattle.hib_journal.specs.Types.{Entry, Script}
 use Rattle.hib_texts.specs.Texts.{session_text}
@@ -22,10 +18,10 @@ use Rattle.hib_entry_fields.proofs.NameLaws.{IsNamed, valid_names}
 use Rattle.hib_entry_fields.proofs.FieldLaws.{tick_small}
 use Rattle.hib_entry_texts.specs.WellFormed.{is_act, is_reply}
 use Rattle.hib_entry_texts.proofs.AsciiWhole.{act_ascii, reply_ascii, part_ascii, session_ascii}
-use Rattle.hib_json_lines.specs.Line.{texts, object_of, json_line, json_lines}
+use Rattle.hib_json_lines.specs.Line.{texts, json_line, json_lines}
 use Rattle.hib_json_lines.proofs.Feeds.{has_none, line_none}
 use Rattle.hib_json_lines.proofs.ReadsBack.{IsText, reads_back, line_text}
-use Rattle.hib_journal_json.specs.Entries.{is_actor, is_known, IsEntry, AreEntries, IsLine, IsBad, AreLines, IsFirstBad, refused_at, IsRefusedAs, IsRefused}
+use Rattle.hib_journal_json.specs.Entries.{is_actor, IsEntry, AreEntries, IsLine, IsBad, AreLines, IsFirstBad, refused_at, IsRefusedAs, IsRefused}
 use Rattle.hib_journal_json.specs.declared.faults.JournalFault.{JournalFault}
 use Rattle.hib_journal_json.proofs.Guesses.{line_one}
 

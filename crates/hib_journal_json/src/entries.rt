@@ -1,13 +1,14 @@
 // The entry whose JSON line a text is: it is guessed from the members, tested, and written again.
 ghost use Rattle.hib_base.specs.Valid.{is_valid};
 ghost use Rattle.hib_entry_fields.specs.Fields as fields;
+ghost use Rattle.hib_journal.specs.Types.{Entry};
 ghost use Rattle.hib_journal_json.specs.Entries as entries;
 ghost use Rattle.hib_journal_json.specs.Entries.{IsLine, IsBad};
 ghost use Rattle.hib_journal_json.specs.Guesses as format;
 ghost use Rattle.hib_json_lines.specs.Line.{texts};
 ghost use Rattle.hib_report.specs.Lines.{act_text, part_text, reply_text};
 ghost use Rattle.hib_texts.specs.Texts.{session_text};
-ghost use Rattle.std.specs.Prelude.{◌≡◌, IfOk, IfSome, IfNone, bytes_eq, option_map, string_bytes, true};
+ghost use Rattle.std.specs.Prelude.{◌≡◌, IfOk, IfSome, IfNone, bytes_eq, option_map, string_bytes, true, ◌&&◌, false, Some};
 
 use hib_base::{Act, Entry, Part, Reply, Script, SessionNo, Tick};
 use hib_entry_fields::{is_session, is_tick, session_of};
@@ -155,8 +156,6 @@ fn is_entry_of(
     }
 }
 
-ghost use Rattle.std.specs.Prelude.{◌&&◌};
-
 // The entry whose object has these members, or none.
 fn entry_of(alloc: Global, script: &Script, line: &Line) -> Result<Option<Entry>, AllocError>
     ensures found { IfOk result (λ o. IfSome o (λ e. (format.guess script.now line.now ≡ Some e) × (entries.is_known script.now e && format.same_texts (texts script.now e) line.now ≡ true))) }
@@ -172,9 +171,6 @@ fn entry_of(alloc: Global, script: &Script, line: &Line) -> Result<Option<Entry>
     }
 }
 
-ghost use Rattle.hib_journal.specs.Types.{Entry};
-ghost use Rattle.std.specs.Prelude.{false, Some};
-
 // The entry whose JSON line a text is, or none.
 #[tactic(auto, using(crate::proofs::Guesses::found_line, crate::proofs::Guesses::bad_members, crate::proofs::Guesses::bad_entry))]
 fn read_entry(alloc: Global, script: &Script, text: &str) -> Result<Option<Entry>, AllocError>
@@ -189,11 +185,7 @@ fn read_entry(alloc: Global, script: &Script, text: &str) -> Result<Option<Entry
 }
 
 /// The entry whose JSON line some bytes are, or none if they are no well-formed entry's. Fails for want of memory alone.
-pub fn line_entry(
-    alloc: Global,
-    script: &Script,
-    line: &[u8],
-) -> Result<Option<Entry>, AllocError>
+pub fn line_entry(alloc: Global, script: &Script, line: &[u8]) -> Result<Option<Entry>, AllocError>
     requires { is_valid script.now ≡ true }
     ensures found { IfOk result (λ o. IfSome o (IsLine script.now line.now)) }
     ensures none { IfOk result (λ o. IfNone o (IsBad script.now line.now)) }

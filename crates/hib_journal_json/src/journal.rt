@@ -2,10 +2,10 @@
 ghost use Rattle.hib_base.specs.Valid.{is_valid};
 ghost use Rattle.hib_journal.specs.Types.{Entry};
 ghost use Rattle.hib_journal_json.specs.Entries.{AreEntries, AreLines, IsFirstBad, IsRefused, IsRefusedAs, refused_at};
+ghost use Rattle.hib_journal_json.specs.declared.faults.JournalFault.TheVariants.{NoMemory};
 ghost use Rattle.hib_json_lines.specs.Line.{json_lines};
 ghost use Rattle.hib_lex.specs.Lines as lines;
 ghost use Rattle.hib_lex.specs.Lines.{lines_of};
-ghost use Rattle.hib_journal_json.specs.declared.faults.JournalFault.TheVariants.{NoMemory};
 ghost use Rattle.std.specs.Prelude.{◌≡◌, ◌≤◌, ◌^◌, ℕ, List, [], OnOk, IfErr, IfOk, MatchResult, length, true};
 
 use crate::entries::line_entry;
@@ -34,7 +34,11 @@ fn refused(first: u32, before: usize) -> Refused
 {
     let line = u64::from(first) + before as u64;
     Refused {
-        line: if line < 1 << 32 { line as u32 } else { u32::MAX },
+        line: if line < 1 << 32 {
+            line as u32
+        } else {
+            u32::MAX
+        },
         kind: Kind::Journal,
     }
 }

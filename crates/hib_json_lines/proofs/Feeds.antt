@@ -1,5 +1,5 @@
 -- A JSON line has no line feed, whatever the texts in it.
-use Rattle.std.proofs.Common.{◌≡◌, ℕ, ◌^◌, ◌<◌, List, [], ◌∷◌, ◌++◌, Option, Some, None, refl, Bool, true, false, not, ◌==◌, ◌||◌, ◌&&◌, ◌/◌, ◌%◌, arith, flat_map, nat_lt, codes}
+use Rattle.std.proofs.Common.{◌≡◌, ℕ, List, [], ◌∷◌, ◌++◌, Option, Some, None, refl, Bool, true, false, not, ◌==◌, ◌||◌, ◌/◌, ◌%◌, arith, nat_lt, codes}
 use Rattle.std.specs.Fmt.{decimal}
 use Rattle.std.specs.Char.{digit_char}
 use Rattle.std.specs.List.{list_all}

@@ -1,5 +1,5 @@
 -- The pieces of a JSON line, in order.
-use Rattle.std.proofs.Common.{◌≡◌, ℕ, List, [], ◌∷◌, ◌++◌, refl, ap, sym, ◌∙◌, append_assoc, codes, option_map, Option, Some, None}
+use Rattle.std.proofs.Common.{◌≡◌, ℕ, List, ◌++◌, refl, ap, sym, ◌∙◌, append_assoc, codes, option_map, Option, Some, None}
 use Rattle.std.specs.Fmt.{decimal}
 use Rattle.json.specs.Print.{escape_byte, quoted}
 use Rattle.serde_json.specs.Written.{compact_text}
@@ -27,7 +27,7 @@ line_parts : (out value : List ℕ) (script : Script) (e : Entry) → value ≡ 
 unfolding json_line
 line_parts out value script e h =
     joined out (codes "{\"act\":") (quoted (act_text script e.act)) (codes ",\"part\":") (quoted (part_text e.part)) (codes ",\"reply\":") (quoted (reply_text script e.reply)) (codes ",\"session\":") value (codes ",\"tick\":") (decimal e.tick) (codes "}")
-    ∙ ap (λ (v : List ℕ). out ++ ((codes "{\"act\":" ++ (quoted (act_text script e.act) ++ (codes ",\"part\":" ++ (quoted (part_text e.part) ++ (codes ",\"reply\":" ++ (quoted (reply_text script e.reply) ++ (codes ",\"session\":" ++ (v ++ (codes ",\"tick\":" ++ (decimal e.tick ++ codes "}"))))))))) ) ++ codes "\n")) h
+    ∙ ap (λ (v : List ℕ). out ++ ((codes "{\"act\":" ++ (quoted (act_text script e.act) ++ (codes ",\"part\":" ++ (quoted (part_text e.part) ++ (codes ",\"reply\":" ++ (quoted (reply_text script e.reply) ++ (codes ",\"session\":" ++ (v ++ (codes ",\"tick\":" ++ (decimal e.tick ++ codes "}")))))))))) ++ codes "\n")) h
     ∙ ap (λ (t : List ℕ). out ++ (t ++ codes "\n")) (sym (spelled (texts script e)))
 
 -- one piece after the other, of an entry's fields

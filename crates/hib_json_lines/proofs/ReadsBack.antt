@@ -1,11 +1,11 @@
 -- The object that is written is read again.
-use Rattle.std.proofs.Common.{◌≡◌, ℕ, ◌^◌, ◌<◌, ◌≤◌, List, [], ◌∷◌, ◌++◌, Option, Some, None, refl, ap, sym, ◌∙◌, append-nil, arith, IsUtf8, codes, option_and_then}
+use Rattle.std.proofs.Common.{◌≡◌, ℕ, ◌^◌, ◌<◌, ◌≤◌, List, [], Option, Some, None, refl, ap, sym, ◌∙◌, append-nil, arith, IsUtf8, codes}
 use Rattle.std.specs.Fmt.{decimal}
 use Rattle.std.proofs.lemmas.Str.{IsUtf8-append, IsUtf8-from_ascii}
 use Rattle.std.proofs.lemmas.Fmt.{IsAscii-decimal}
 use Rattle.json.specs.Json as json
 use Rattle.json.specs.Lex.{tokens}
-use Rattle.json.specs.Print.{print, quoted, escape_byte}
+use Rattle.json.specs.Print.{quoted, escape_byte}
 use Rattle.json.specs.Tree as tree
 use Rattle.json.proofs.Printed.Tokens.{tokens-print}
 use Rattle.json.proofs.Printed.Trees.{ArePrintable-json_tokens, value-json_tokens}
@@ -42,7 +42,6 @@ reads_back l lt =
 abbrev pub IsText : Option (List ℕ) → Type 0
 IsText None = Unit {0}
 IsText (Some s) = IsUtf8 s
-
 
 value_text : (s : Option (List ℕ)) → IsText s → IsUtf8 (compact_text (session_data s))
 value_text None h = IsUtf8-are_ascii (codes "null") refl

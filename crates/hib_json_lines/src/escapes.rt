@@ -1,7 +1,7 @@
 // Texts in quotation marks, with JSON's escapes, appended to bytes.
 ghost use Rattle.json.specs.Print.{escape_byte, escape, quoted};
 ghost use Rattle.std.specs.Char.{digit_char};
-ghost use Rattle.std.specs.Prelude.{◌≡◌, ◌++◌, ◌∷◌, [], ◌<◌, OnOk};
+ghost use Rattle.std.specs.Prelude.{◌≡◌, ◌++◌, ◌∷◌, [], ◌<◌, OnOk, ◌/◌, ◌%◌};
 
 use std::alloc::AllocError;
 
@@ -21,8 +21,6 @@ fn put_code(out: &mut Vec<u8>, byte: u8) -> Result<(), AllocError>
     out.push(digit(byte % 16))?;
     Ok(())
 }
-
-ghost use Rattle.std.specs.Prelude.{◌/◌, ◌%◌};
 
 // A byte of a text, escaped if it has to be.
 #[tactic(auto, unfolding(json::specs::Print::escape_byte))]

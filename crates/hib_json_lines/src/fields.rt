@@ -1,19 +1,28 @@
 // The five members of an entry's object.
-ghost use Rattle.std.specs.Prelude.{◌≡◌, Some, None, IfOk, string_bytes};
-ghost use Rattle.serde_json.specs.Read.{read};
+ghost use Rattle.hib_json_lines.specs.Line.{object_of, LineText};
+ghost use Rattle.hib_json_lines.specs.Members.{fields_of, text_at, session_at, tick_at};
+ghost use Rattle.serde_json.specs.Data.{depth};
+ghost use Rattle.serde_json.specs.Read.{read, max_depth};
 ghost use Rattle.serde_json.specs.View.{view};
+ghost use Rattle.std.specs.Option.{option_map};
+ghost use Rattle.std.specs.Prelude.{◌≡◌, Some, None, IfOk, string_bytes, IfSome, IfNone, ◌≤◌, ◌↔◌, IsTrue};
 
 use serde_json::{Value, json};
 use std::alloc::{AllocError, Global};
 use std::marker::Model;
 
-/// An entry as texts, which contracts see as the record of their bytes.
+/// The five members of an entry's object. Contracts see the bytes of the texts.
 #[derive(Drop)]
 pub struct Line {
+    /// The text of the act.
     pub act: String,
+    /// The word of the part.
     pub part: String,
+    /// The text of the reply.
     pub reply: String,
+    /// The name of the session; none if the member is null.
     pub session: Option<String>,
+    /// The number of the tick.
     pub tick: u64,
 }
 
@@ -26,14 +35,6 @@ impl Model for Line {
 
     ghost view = { λ l. record { act = string_bytes l.act; part = string_bytes l.part; reply = string_bytes l.reply; session = option_map string_bytes l.session; tick = l.tick } };
 }
-
-ghost use Rattle.std.specs.Prelude.{IfSome, IfNone};
-ghost use Rattle.std.specs.Option.{option_map};
-ghost use Rattle.std.specs.Prelude.{◌≤◌, ◌↔◌, IsTrue};
-ghost use Rattle.serde_json.specs.Data.{depth};
-ghost use Rattle.serde_json.specs.Read.{max_depth};
-ghost use Rattle.hib_json_lines.specs.Line.{object_of, LineText};
-ghost use Rattle.hib_json_lines.specs.Members.{fields_of, text_at, session_at, tick_at};
 
 // The object of an entry.
 fn object(alloc: Global, line: &Line) -> Result<Value, AllocError>
@@ -52,7 +53,8 @@ fn object(alloc: Global, line: &Line) -> Result<Value, AllocError>
     }
 }
 
-/// The entry's line that the text is, or nothing where it is none. Members may stand in any order and spacing.
+/// The five members of the object that a text is, or none if it is no object with exactly these, of their forms. They may
+/// stand in any order and with any spacing; of one that stands twice the later counts. Fails for want of memory alone.
 pub fn read_line(alloc: Global, text: &str) -> Result<Option<Line>, AllocError>
     ensures found { IfOk result (λ o. IfSome o (λ l. read text.now ≡ Some (object_of l))) }
     ensures none { IfOk result (λ o. IfNone o ((l : LineText) → read text.now ≡ Some (object_of l) → ⊥)) }

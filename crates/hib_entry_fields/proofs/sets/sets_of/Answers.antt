@@ -1,4 +1,4 @@
-use Rattle.std.proofs.Common.{◌≡◌, ◌∙◌, ◌-◌, ◌+◌, length, sym, Some, None}
+use Rattle.std.proofs.Common.{◌≡◌, ◌∙◌, length, sym, Some}
 use Rattle.hib_entry_fields.specs.Fields.{set_at}
 use Rattle.hib_entry_fields.proofs.Loops.{sets_go_on, sets_stop, sets_end}
 use Rattle.hib_entry_fields.proofs.sets.sets_of.Goals as goal

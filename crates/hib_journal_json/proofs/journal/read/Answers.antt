@@ -1,4 +1,3 @@
-use Rattle.std.proofs.Common.{◌∙◌}
 use Rattle.std.proofs.lemmas.Result.{err_from_is_err_and}
 use Rattle.hib_lex.specs.Lines.{lines_of}
 use Rattle.hib_journal_json.specs.Entries.{AreLines}

@@ -15,6 +15,6 @@ loop-start-preserved c =
     let inside : c.loop-start.start + c.line_length.result ≤ length c.args.text.now = size_within c.args.text.now c.loop-start.start c.line_length.result c.loop-start-test.true c.line_length.ensures in
     record {
       read = rw c.in_ok-push-in-Some.ensures.ok
-      (goes_on c.args.script.now c.args.text.now c.loop-start.start c.line_length.result c.loop-start.journal.list c.in-Some.entry c.loop-start-test.true c.line_length.ensures c.loop-start.invariant.read line);
+          (goes_on c.args.script.now c.args.text.now c.loop-start.start c.line_length.result c.loop-start.journal.list c.in-Some.entry c.loop-start-test.true c.line_length.ensures c.loop-start.invariant.read line);
       within = omega arith;
     }
