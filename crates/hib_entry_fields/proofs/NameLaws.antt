@@ -1,5 +1,5 @@
 -- The names of a valid script stand for one thing each.
-use Rattle.std.proofs.Common.{◌≡◌, ℕ, zero, suc, ◌+◌, ◌^◌, ◌<◌, ◌≤◌, List, [], ◌∷◌, length, Option, Some, None, refl, true, false, not, ◌&&◌, arith, bytes_eq, map, nat_lt, nat_le}
+use Rattle.std.proofs.Common.{◌∙◌, ap, sym, ◌≡◌, ℕ, zero, suc, ◌+◌, ◌^◌, ◌<◌, ◌≤◌, List, [], ◌∷◌, length, Option, Some, None, refl, true, false, not, ◌&&◌, arith, bytes_eq, map, nat_lt, nat_le}
 use Rattle.std.specs.Prelude.{position, slice_get}
 use Rattle.std.specs.List.{list_all, list_any, position_or_len}
 use Rattle.std.proofs.lemmas.Bool.{and_parts, or_parts, not-true, leb-true}
@@ -14,7 +14,7 @@ use Rattle.hib_base.proofs.Names.{differ}
 use Rattle.hib_base.proofs.Valid.{rules}
 use Rattle.hib_journal.specs.Types.{ColumnDef, EntityDef, Query, SessionDef, Script}
 use Rattle.hib_texts.specs.Texts.{entity_name, query_name, session_name, column_name, column_in, entity_text, query_text, session_text, column_text}
-use Rattle.hib_entry_fields.specs.Fields.{is_stop, place, entity_of, query_of, session_of, column_of}
+use Rattle.hib_entry_fields.specs.Fields.{is_stop, place, entity_of, query_of, session_of, is_called, column_of}
 use Rattle.hib_entry_fields.proofs.PieceLaws.{is_plain, is_ascii, and_left, and_right, lt_true}
 
 -- a name that stands for this number alone
@@ -145,6 +145,26 @@ known_query script n h lt = named (λ (q : Query). q.name) query_name (record { 
 pub known_session : (script : Script) (n : ℕ) → IsNamed script → n < length script.sessions → IsSession script n
 unfolding session_of
 known_session script n h lt = named (λ (s : SessionDef). s.name) session_name (record { same = λ (s : SessionDef). refl }) (2 ^ 32) script.sessions n lt (omega (arith, h.session_limit)) h.sessions
+
+called_by : (o : Option SessionDef) (name : List ℕ) → is_called o name ≡ true → session_name o ≡ name
+called_by None name h = absurd cc
+called_by (Some d) name h = (bytes_eq-Decides d.name name).0 h
+
+called_below : {X : Type 0} (xs : List X) (n : ℕ) (o : Option X) → slice_get xs n ≡ o → (o ≡ None → ⊥) → n < length xs
+called_below {X = X} [] n o e h = absurd (h (sym e))
+called_below {X = X} (x ∷ xs) zero o e h = omega arith
+called_below {X = X} (x ∷ xs) (suc n) o e h = let lt : n < length xs = called_below xs n o e h in omega arith
+
+not_called : (o : Option SessionDef) (name : List ℕ) → is_called o name ≡ true → o ≡ None → ⊥
+not_called None name h e = cc
+not_called (Some d) name h e = cc
+
+-- a session that has a name is the one that the name stands for
+pub called_session : (script : Script) (n : ℕ) (name : List ℕ) → is_valid script ≡ true → is_called (slice_get script.sessions n) name ≡ true → n ≡ session_of script name
+called_session script n name v h =
+    let lt : n < length script.sessions = called_below script.sessions n (slice_get script.sessions n) refl (not_called (slice_get script.sessions n) name h) in
+    let known : session_of script (session_text script n) ≡ n = (known_session script n (valid_names script v) lt).back in
+    sym known ∙ ap (session_of script) (called_by (slice_get script.sessions n) name h)
 
 -- ---- columns
 

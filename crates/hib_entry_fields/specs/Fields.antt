@@ -63,6 +63,11 @@ query_of script name = place (2 ^ 16) (position (λ (q : Query). bytes_eq q.name
 unfoldable pub session_of : Script → List ℕ → ℕ
 session_of script name = place (2 ^ 32) (position (λ (s : SessionDef). bytes_eq s.name name) script.sessions)
 
+-- whether there is a session, and it has this name
+abbrev pub is_called : Option SessionDef → List ℕ → Bool
+is_called None name = false
+is_called (Some d) name = bytes_eq d.name name
+
 unfoldable pub column_of : Script → ℕ → List ℕ → ℕ
 column_of script entity name = place (2 ^ 16) (position (λ (d : ColumnDef). bytes_eq d.name name) (entity_columns script.mapping entity))
 

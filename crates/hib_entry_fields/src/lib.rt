@@ -5,6 +5,7 @@ mod cells;
 mod fields;
 mod known;
 mod names;
+mod sessions;
 mod sets;
 
 pub use cells::{cells_at, row_at};
@@ -13,5 +14,6 @@ pub use known::{
     are_cells, are_sets, are_tables, is_entity, is_identifier, is_key, is_query, is_row,
     is_session, is_tick, is_version,
 };
-pub use names::{entity_of, key_at, names_of, query_of, session_of};
+pub use names::{entity_of, key_at, names_of, query_of};
+pub use sessions::{SessionNames, session_of};
 pub use sets::sets_of;

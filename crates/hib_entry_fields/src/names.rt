@@ -3,9 +3,7 @@ ghost use Rattle.hib_entry_fields.specs.Fields as format;
 ghost use Rattle.std.specs.Prelude.{◌≡◌, ◌^◌, IfOk, bytes_eq, length, position};
 
 use crate::fields::{next, number_of};
-use hib_base::{
-    ColumnDef, EntityDef, EntityNo, Key, Names, Query, QueryNo, Script, Seq, SessionDef, SessionNo,
-};
+use hib_base::{ColumnDef, EntityDef, EntityNo, Key, Names, Query, QueryNo, Script, Seq};
 use std::alloc::{AllocError, Global};
 
 fn small16(place: Option<usize>) -> u16
@@ -13,15 +11,6 @@ fn small16(place: Option<usize>) -> u16
 {
     match place {
         Some(i) if i < 1 << 16 => i as u16,
-        _ => 0,
-    }
-}
-
-fn small32(place: Option<usize>) -> u32
-    ensures { result ≡ format.place (2 ^ 32) place }
-{
-    match place {
-        Some(i) if i < 1 << 32 => i as u32,
         _ => 0,
     }
 }
@@ -36,12 +25,6 @@ fn query_place(queries: &[Query], name: &[u8]) -> Option<usize>
     ensures { result ≡ position (λ d. bytes_eq d.name name.now) queries.now }
 {
     queries.iter().position(|d| d.name.as_slice() == name)
-}
-
-fn session_place(sessions: &[SessionDef], name: &[u8]) -> Option<usize>
-    ensures { result ≡ position (λ d. bytes_eq d.name name.now) sessions.now }
-{
-    sessions.iter().position(|d| d.name.as_slice() == name)
 }
 
 fn column_place(columns: &[ColumnDef], name: &[u8]) -> Option<usize>
@@ -75,14 +58,6 @@ pub fn column_of(script: &Script, entity: EntityNo, name: &[u8]) -> u16
         Some(def) => small16(column_place(def.columns.as_slice(), name)),
         None => 0,
     }
-}
-
-/// The session that a name looks like.
-#[tactic(auto, unfolding(crate::specs::Fields::session_of))]
-pub fn session_of(script: &Script, name: &[u8]) -> SessionNo
-    ensures { result ≡ format.session_of script.now name.now }
-{
-    SessionNo(small32(session_place(script.sessions.as_slice(), name)))
 }
 
 /// The key behind a space, and what follows it.

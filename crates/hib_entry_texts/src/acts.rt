@@ -1,23 +1,25 @@
 // The act that bytes look like.
 ghost use Rattle.hib_entry_texts.specs.Acts as format;
-ghost use Rattle.std.specs.Prelude.{◌≡◌, IfOk};
+ghost use Rattle.hib_base.specs.Valid.{is_valid};
+ghost use Rattle.std.specs.Prelude.{◌≡◌, IfOk, true};
 
 use crate::changes::{own_act, store_act};
 use crate::regions::region_act;
 use hib_base::{Act, Script, Tick};
 use hib_entry_fields::{
-    after_one, cells_at, is, names_of, next, number_of, piece, query_of, session_of,
+    SessionNames, after_one, cells_at, is, names_of, next, number_of, piece, query_of, session_of,
 };
 use std::alloc::{AllocError, Global};
 
-fn registry_act(script: &Script, word: &[u8], bytes: &[u8]) -> Act
+fn registry_act(script: &Script, names: &SessionNames, word: &[u8], bytes: &[u8]) -> Act
+    requires { is_valid script.now ≡ true }
     ensures { result ≡ format.registry_act script.now word.now bytes.now }
 {
     if is(word, b"end") {
         Act::End
     } else if is(word, b"kill") {
         Act::Kill {
-            session: session_of(script, next(bytes).0),
+            session: session_of(script, names, next(bytes).0),
         }
     } else if is(word, b"restart") {
         Act::Restart
@@ -80,9 +82,16 @@ fn results_act(alloc: Global, script: &Script, word: &[u8], bytes: &[u8]) -> Res
     }
 }
 
-/// The act that bytes look like, on the part of a word. Fails for want of memory alone.
+/// The act of a valid script that bytes look like, on the part of a word. Fails for want of memory alone.
 #[tactic(auto, unfolding(crate::specs::Acts::act_of))]
-pub fn act_of(alloc: Global, script: &Script, part: &[u8], bytes: &[u8]) -> Result<Act, AllocError>
+pub fn act_of(
+    alloc: Global,
+    script: &Script,
+    names: &SessionNames,
+    part: &[u8],
+    bytes: &[u8],
+) -> Result<Act, AllocError>
+    requires { is_valid script.now ≡ true }
     ensures { IfOk result (λ a. a ≡ format.act_of script.now part.now bytes.now) }
 {
     let (word, rest) = piece(bytes);
@@ -97,6 +106,6 @@ pub fn act_of(alloc: Global, script: &Script, part: &[u8], bytes: &[u8]) -> Resu
     } else if is(part, b"region") {
         region_act(alloc, script, word, rest)
     } else {
-        Ok(registry_act(script, word, rest))
+        Ok(registry_act(script, names, word, rest))
     }
 }

@@ -7,9 +7,11 @@ use Rattle.hib_entry_texts.specs.Replies.{reply_of}
 use Rattle.hib_entry_texts.specs.WellFormed.{part_of}
 use Rattle.hib_json_lines.specs.Line.{LineText}
 
+abbrev pub entry_with : Script → LineText → Option ℕ → Part → Act → Entry
+entry_with script l session part act = record { tick = l.tick; session = session; part = part; act = act; reply = reply_of script act l.reply }
+
 abbrev pub guess_with : Script → LineText → Option ℕ → Act → Option Entry
-guess_with script l session act =
-    option_map (λ (p : Part). record { tick = l.tick; session = session; part = p; act = act; reply = reply_of script act l.reply }) (part_of act session)
+guess_with script l session act = option_map (λ (p : Part). entry_with script l session p act) (part_of act session)
 
 -- none if the act is a session's own, and no session is named
 abbrev pub guess : Script → LineText → Option Entry

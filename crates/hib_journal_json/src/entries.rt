@@ -11,7 +11,7 @@ ghost use Rattle.hib_texts.specs.Texts.{session_text};
 ghost use Rattle.std.specs.Prelude.{◌≡◌, IfOk, IfSome, IfNone, bytes_eq, option_map, string_bytes, true, ◌&&◌, false, Some};
 
 use hib_base::{Act, Entry, Part, Reply, Script, SessionNo, Tick};
-use hib_entry_fields::{is_session, is_tick, session_of};
+use hib_entry_fields::{SessionNames, is_session, is_tick, session_of};
 use hib_entry_texts::{act_of, is_act, is_reply, part_of, reply_of};
 use hib_json_lines::{Line, read_line};
 use hib_report::{put_act, put_part, put_reply};
@@ -37,42 +37,52 @@ fn is_known(script: &Script, entry: &Entry) -> bool
         && is_tick(entry.tick)
 }
 
-fn session_named(script: &Script, name: &Option<String>) -> Option<SessionNo>
+fn session_named(script: &Script, names: &SessionNames, name: &Option<String>) -> Option<SessionNo>
+    requires { is_valid script.now ≡ true }
     ensures { result ≡ option_map (fields.session_of script.now) (option_map string_bytes name.now) }
 {
     match name {
         None => None,
-        Some(name) => Some(session_of(script, name.as_str().as_bytes())),
+        Some(name) => Some(session_of(script, names, name.as_str().as_bytes())),
     }
 }
 
-fn guess_with(
+fn entry_with(
     alloc: Global,
     script: &Script,
     line: &Line,
+    session: Option<SessionNo>,
+    part: Part,
     act: Act,
-) -> Result<Option<Entry>, AllocError>
-    ensures { IfOk result (λ o. o ≡ format.guess_with script.now line.now (option_map (fields.session_of script.now) line.now.session) act) }
+) -> Result<Entry, AllocError>
+    ensures { IfOk result (λ e. e ≡ format.entry_with script.now line.now session part act) }
 {
-    let Some(part) = part_of(&act, session_named(script, &line.session)) else {
-        return Ok(None);
-    };
     let reply = reply_of(alloc, script, &act, line.reply.as_str().as_bytes())?;
-    Ok(Some(Entry {
+    Ok(Entry {
         tick: Tick(line.tick),
-        session: session_named(script, &line.session),
+        session,
         part,
         act,
         reply,
-    }))
+    })
 }
 
-fn guess(alloc: Global, script: &Script, line: &Line) -> Result<Option<Entry>, AllocError>
+fn guess(
+    alloc: Global,
+    script: &Script,
+    names: &SessionNames,
+    line: &Line,
+) -> Result<Option<Entry>, AllocError>
+    requires { is_valid script.now ≡ true }
     ensures { IfOk result (λ o. o ≡ format.guess script.now line.now) }
 {
     let part = line.part.as_str().as_bytes();
-    let act = act_of(alloc, script, part, line.act.as_str().as_bytes())?;
-    guess_with(alloc, script, line, act)
+    let act = act_of(alloc, script, names, part, line.act.as_str().as_bytes())?;
+    let session = session_named(script, names, &line.session);
+    let Some(part) = part_of(&act, session) else {
+        return Ok(None);
+    };
+    Ok(Some(entry_with(alloc, script, line, session, part, act)?))
 }
 
 fn is_act_text(alloc: Global, script: &Script, act: &Act, bytes: &[u8]) -> Result<bool, AllocError>
@@ -157,11 +167,17 @@ fn is_entry_of(
 }
 
 // The entry whose object has these members, or none.
-fn entry_of(alloc: Global, script: &Script, line: &Line) -> Result<Option<Entry>, AllocError>
+fn entry_of(
+    alloc: Global,
+    script: &Script,
+    names: &SessionNames,
+    line: &Line,
+) -> Result<Option<Entry>, AllocError>
+    requires { is_valid script.now ≡ true }
     ensures found { IfOk result (λ o. IfSome o (λ e. (format.guess script.now line.now ≡ Some e) × (entries.is_known script.now e && format.same_texts (texts script.now e) line.now ≡ true))) }
     ensures none { IfOk result (λ o. IfNone o ((e : Entry) → format.guess script.now line.now ≡ Some e → entries.is_known script.now e && format.same_texts (texts script.now e) line.now ≡ false)) }
 {
-    let Some(entry) = guess(alloc, script, line)? else {
+    let Some(entry) = guess(alloc, script, names, line)? else {
         return Ok(None);
     };
     if is_entry_of(alloc, script, &entry, line)? {
@@ -173,7 +189,12 @@ fn entry_of(alloc: Global, script: &Script, line: &Line) -> Result<Option<Entry>
 
 // The entry whose JSON line a text is, or none.
 #[tactic(auto, using(crate::proofs::Guesses::found_line, crate::proofs::Guesses::bad_members, crate::proofs::Guesses::bad_entry))]
-fn read_entry(alloc: Global, script: &Script, text: &str) -> Result<Option<Entry>, AllocError>
+fn read_entry(
+    alloc: Global,
+    script: &Script,
+    names: &SessionNames,
+    text: &str,
+) -> Result<Option<Entry>, AllocError>
     requires { is_valid script.now ≡ true }
     ensures found { IfOk result (λ o. IfSome o (IsLine script.now text.now)) }
     ensures none { IfOk result (λ o. IfNone o (IsBad script.now text.now)) }
@@ -181,17 +202,22 @@ fn read_entry(alloc: Global, script: &Script, text: &str) -> Result<Option<Entry
     let Some(line) = read_line(alloc, text)? else {
         return Ok(None);
     };
-    entry_of(alloc, script, &line)
+    entry_of(alloc, script, names, &line)
 }
 
 /// The entry whose JSON line some bytes are, or none if they are no well-formed entry's. Fails for want of memory alone.
-pub fn line_entry(alloc: Global, script: &Script, line: &[u8]) -> Result<Option<Entry>, AllocError>
+pub fn line_entry(
+    alloc: Global,
+    script: &Script,
+    names: &SessionNames,
+    line: &[u8],
+) -> Result<Option<Entry>, AllocError>
     requires { is_valid script.now ≡ true }
     ensures found { IfOk result (λ o. IfSome o (IsLine script.now line.now)) }
     ensures none { IfOk result (λ o. IfNone o (IsBad script.now line.now)) }
 {
     match str::from_utf8(line) {
-        Ok(text) => read_entry(alloc, script, text),
+        Ok(text) => read_entry(alloc, script, names, text),
         Err(_) => Ok(None),
     }
 }

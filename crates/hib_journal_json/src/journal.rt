@@ -11,6 +11,7 @@ ghost use Rattle.std.specs.Prelude.{◌≡◌, ◌≤◌, ◌^◌, ℕ, List, []
 use crate::entries::line_entry;
 use crate::faults::JournalFault;
 use hib_base::{Kind, Refused, Script};
+use hib_entry_fields::SessionNames;
 use hib_journal::Journal;
 use std::alloc::Global;
 
@@ -45,9 +46,10 @@ fn refused(first: u32, before: usize) -> Refused
 
 // Adds an entry for each line to an empty journal.
 #[tactic(auto, using(hib_lex::proofs::Texts::length_fits, crate::proofs::Journals::at_start, crate::proofs::Journals::at_end))]
-fn read_lines(
+fn read_named(
     alloc: Global,
     script: &Script,
+    names: &SessionNames,
     text: &[u8],
     first: u32,
     journal: &mut Journal,
@@ -60,13 +62,30 @@ fn read_lines(
     let mut start = 0;
     while start < text.len() {
         let end = start + line_length(&text[start..]);
-        match line_entry(alloc, script, &text[start..end])? {
+        match line_entry(alloc, script, names, &text[start..end])? {
             Some(entry) => journal.push(entry)?,
             None => return Err(JournalFault::Refused(refused(first, journal.len()))),
         }
         start = end + 1;
     }
     Ok(())
+}
+
+// The same, with the names of the script's sessions made for it.
+fn read_lines(
+    alloc: Global,
+    script: &Script,
+    text: &[u8],
+    first: u32,
+    journal: &mut Journal,
+) -> Result<(), JournalFault>
+    requires valid { is_valid script.now ≡ true }
+    requires empty { journal.old.list ≡ [] }
+    ensures lines { OnOk result (AreLines script.now (lines_of text.now) journal.new.list) }
+    ensures refused { IfErr result (IsRefused script.now (lines_of text.now) first) }
+{
+    let names = SessionNames::of(alloc, script)?;
+    read_named(alloc, script, &names, text, first, journal)
 }
 
 /// The journal whose entries' JSON lines a text has, one entry for each line to the end of the text. The line feed of

@@ -1,6 +1,6 @@
 use Rattle.std.proofs.Common.{◌+◌, ◌-◌, ◌≤◌, length}
 use Rattle.hib_journal_json.proofs.Journals.{SoFar}
-use Rattle.hib_journal_json.proofs.journal.read_lines.Given as goal
+use Rattle.hib_journal_json.proofs.journal.read_named.Given as goal
 
 abbrev pub decreases-loop-start : goal.decreases-loop-start
 decreases-loop-start l = length l.text - l.start
