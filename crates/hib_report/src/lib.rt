@@ -12,6 +12,8 @@ mod sessions;
 mod unsound;
 mod watch;
 
+pub use acts::{put_act, put_part};
 pub use lines::line;
+pub use replies::put_reply;
 pub use report::{summary, text};
 pub use sending::{WriteStop, write};

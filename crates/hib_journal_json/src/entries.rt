@@ -1,0 +1,223 @@
+// The entry whose JSON line a text is: it is guessed from the members, tested, and written again.
+ghost use Rattle.hib_base.specs.Valid.{is_valid};
+ghost use Rattle.hib_entry_fields.specs.Fields as fields;
+ghost use Rattle.hib_journal.specs.Types.{Entry};
+ghost use Rattle.hib_journal_json.specs.Entries as entries;
+ghost use Rattle.hib_journal_json.specs.Entries.{IsLine, IsBad};
+ghost use Rattle.hib_journal_json.specs.Guesses as format;
+ghost use Rattle.hib_json_lines.specs.Line.{texts};
+ghost use Rattle.hib_report.specs.Lines.{act_text, part_text, reply_text};
+ghost use Rattle.hib_texts.specs.Texts.{session_text};
+ghost use Rattle.std.specs.Prelude.{◌≡◌, IfOk, IfSome, IfNone, bytes_eq, option_map, string_bytes, true, ◌&&◌, false, Some};
+
+use hib_base::{Act, Entry, Part, Reply, Script, SessionNo, Tick};
+use hib_entry_fields::{SessionNames, is_session, is_tick, session_of};
+use hib_entry_texts::{act_of, is_act, is_reply, part_of, reply_of};
+use hib_json_lines::{Line, read_line};
+use hib_report::{put_act, put_part, put_reply};
+use hib_texts::put_session;
+use std::alloc::{AllocError, Global};
+use std::str;
+
+fn is_actor(script: &Script, session: Option<SessionNo>) -> bool
+    ensures { result ≡ entries.is_actor script.now session }
+{
+    match session {
+        None => true,
+        Some(session) => is_session(script, session),
+    }
+}
+
+fn is_known(script: &Script, entry: &Entry) -> bool
+    ensures { result ≡ entries.is_known script.now entry.now }
+{
+    is_act(script, &entry.act)
+        && is_reply(script, &entry.act, &entry.reply)
+        && is_actor(script, entry.session)
+        && is_tick(entry.tick)
+}
+
+fn session_named(script: &Script, names: &SessionNames, name: &Option<String>) -> Option<SessionNo>
+    requires { is_valid script.now ≡ true }
+    ensures { result ≡ option_map (fields.session_of script.now) (option_map string_bytes name.now) }
+{
+    match name {
+        None => None,
+        Some(name) => Some(session_of(script, names, name.as_str().as_bytes())),
+    }
+}
+
+fn entry_with(
+    alloc: Global,
+    script: &Script,
+    line: &Line,
+    session: Option<SessionNo>,
+    part: Part,
+    act: Act,
+) -> Result<Entry, AllocError>
+    ensures { IfOk result (λ e. e ≡ format.entry_with script.now line.now session part act) }
+{
+    let reply = reply_of(alloc, script, &act, line.reply.as_str().as_bytes())?;
+    Ok(Entry {
+        tick: Tick(line.tick),
+        session,
+        part,
+        act,
+        reply,
+    })
+}
+
+fn guess(
+    alloc: Global,
+    script: &Script,
+    names: &SessionNames,
+    line: &Line,
+) -> Result<Option<Entry>, AllocError>
+    requires { is_valid script.now ≡ true }
+    ensures { IfOk result (λ o. o ≡ format.guess script.now line.now) }
+{
+    let part = line.part.as_str().as_bytes();
+    let act = act_of(alloc, script, names, part, line.act.as_str().as_bytes())?;
+    let session = session_named(script, names, &line.session);
+    let Some(part) = part_of(&act, session) else {
+        return Ok(None);
+    };
+    Ok(Some(entry_with(alloc, script, line, session, part, act)?))
+}
+
+fn is_act_text(alloc: Global, script: &Script, act: &Act, bytes: &[u8]) -> Result<bool, AllocError>
+    ensures { IfOk result (λ b. b ≡ bytes_eq (act_text script.now act.now) bytes.now) }
+{
+    let mut text = Vec::new(alloc);
+    put_act(alloc, &mut text, script, act)?;
+    Ok(text.as_slice() == bytes)
+}
+
+fn is_reply_text(
+    alloc: Global,
+    script: &Script,
+    reply: &Reply,
+    bytes: &[u8],
+) -> Result<bool, AllocError>
+    ensures { IfOk result (λ b. b ≡ bytes_eq (reply_text script.now reply.now) bytes.now) }
+{
+    let mut text = Vec::new(alloc);
+    put_reply(alloc, &mut text, script, reply)?;
+    Ok(text.as_slice() == bytes)
+}
+
+fn is_part_text(alloc: Global, part: Part, bytes: &[u8]) -> Result<bool, AllocError>
+    ensures { IfOk result (λ b. b ≡ bytes_eq (part_text part) bytes.now) }
+{
+    let mut text = Vec::new(alloc);
+    put_part(&mut text, part)?;
+    Ok(text.as_slice() == bytes)
+}
+
+fn is_session_name(
+    alloc: Global,
+    script: &Script,
+    session: Option<SessionNo>,
+    name: &Option<String>,
+) -> Result<bool, AllocError>
+    ensures { IfOk result (λ b. b ≡ format.same_names (option_map (session_text script.now) session) (option_map string_bytes name.now)) }
+{
+    match (session, name) {
+        (None, None) => Ok(true),
+        (Some(session), Some(name)) => {
+            let mut text = Vec::new(alloc);
+            put_session(&mut text, script, session)?;
+            Ok(text.as_slice() == name.as_str().as_bytes())
+        }
+        _ => Ok(false),
+    }
+}
+
+fn is_texts_of(
+    alloc: Global,
+    script: &Script,
+    entry: &Entry,
+    line: &Line,
+) -> Result<bool, AllocError>
+    ensures { IfOk result (λ b. b ≡ format.same_texts (texts script.now entry.now) line.now) }
+{
+    Ok(
+        is_act_text(alloc, script, &entry.act, line.act.as_str().as_bytes())?
+            && is_part_text(alloc, entry.part, line.part.as_str().as_bytes())?
+            && is_reply_text(alloc, script, &entry.reply, line.reply.as_str().as_bytes())?
+            && is_session_name(alloc, script, entry.session, &line.session)?
+            && entry.tick.0 == line.tick,
+    )
+}
+
+// Whether an entry is the script's, and the members are its texts.
+fn is_entry_of(
+    alloc: Global,
+    script: &Script,
+    entry: &Entry,
+    line: &Line,
+) -> Result<bool, AllocError>
+    ensures { IfOk result (λ b. b ≡ entries.is_known script.now entry.now && format.same_texts (texts script.now entry.now) line.now) }
+{
+    if is_known(script, entry) {
+        is_texts_of(alloc, script, entry, line)
+    } else {
+        Ok(false)
+    }
+}
+
+// The entry whose object has these members, or none.
+fn entry_of(
+    alloc: Global,
+    script: &Script,
+    names: &SessionNames,
+    line: &Line,
+) -> Result<Option<Entry>, AllocError>
+    requires { is_valid script.now ≡ true }
+    ensures found { IfOk result (λ o. IfSome o (λ e. (format.guess script.now line.now ≡ Some e) × (entries.is_known script.now e && format.same_texts (texts script.now e) line.now ≡ true))) }
+    ensures none { IfOk result (λ o. IfNone o ((e : Entry) → format.guess script.now line.now ≡ Some e → entries.is_known script.now e && format.same_texts (texts script.now e) line.now ≡ false)) }
+{
+    let Some(entry) = guess(alloc, script, names, line)? else {
+        return Ok(None);
+    };
+    if is_entry_of(alloc, script, &entry, line)? {
+        Ok(Some(entry))
+    } else {
+        Ok(None)
+    }
+}
+
+// The entry whose JSON line a text is, or none.
+#[tactic(auto, using(crate::proofs::Guesses::found_line, crate::proofs::Guesses::bad_members, crate::proofs::Guesses::bad_entry))]
+fn read_entry(
+    alloc: Global,
+    script: &Script,
+    names: &SessionNames,
+    text: &str,
+) -> Result<Option<Entry>, AllocError>
+    requires { is_valid script.now ≡ true }
+    ensures found { IfOk result (λ o. IfSome o (IsLine script.now text.now)) }
+    ensures none { IfOk result (λ o. IfNone o (IsBad script.now text.now)) }
+{
+    let Some(line) = read_line(alloc, text)? else {
+        return Ok(None);
+    };
+    entry_of(alloc, script, names, &line)
+}
+
+/// The entry whose JSON line some bytes are, or none if they are no well-formed entry's. Fails for want of memory alone.
+pub fn line_entry(
+    alloc: Global,
+    script: &Script,
+    names: &SessionNames,
+    line: &[u8],
+) -> Result<Option<Entry>, AllocError>
+    requires { is_valid script.now ≡ true }
+    ensures found { IfOk result (λ o. IfSome o (IsLine script.now line.now)) }
+    ensures none { IfOk result (λ o. IfNone o (IsBad script.now line.now)) }
+{
+    match str::from_utf8(line) {
+        Ok(text) => read_entry(alloc, script, names, text),
+        Err(_) => Ok(None),
+    }
+}

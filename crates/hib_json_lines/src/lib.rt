@@ -1,0 +1,9 @@
+//! The JSON lines of entries: written byte for byte, and read as five members.
+#![tactic(auto)]
+
+mod escapes;
+mod fields;
+mod lines;
+
+pub use fields::{Line, read_line};
+pub use lines::{put_line, write};
