@@ -114,7 +114,7 @@ impl Auditor {
             return Ok(false);
         }
         advance(alloc, script, &mut self.sessions, number, before, entry)?;
-        note_written(script, &mut self.written, number, before, entry)?;
+        note_written(alloc, script, &mut self.written, number, before, entry)?;
         self.ticks.note(entry);
         Ok(true)
     }

@@ -58,6 +58,7 @@ pub fn advance(
 
 /// What the session of an entry has written, with the entry.
 pub fn note_written(
+    alloc: Global,
     script: &Script,
     written: &mut Vec<Written>,
     number: SessionNo,
@@ -71,7 +72,7 @@ pub fn note_written(
 {
     let _ = script;
     let _ = before;
-    written[number.0 as usize].note(&entry.act)
+    written[number.0 as usize].note(alloc, &entry.act)
 }
 
 /// Kills the session at a place, if there is one.

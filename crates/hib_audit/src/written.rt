@@ -66,14 +66,13 @@ impl Written {
         }
     }
 
-    /// Takes the entry of an act.
-    pub fn note(&mut self, act: &Act) -> Result<(), AllocError>
+    /// Takes an act of the session.
+    pub fn note(&mut self, alloc: Global, act: &Act) -> Result<(), AllocError>
         ensures { OnOk result ((cs : List Change) → HasWritten cs self.old → HasWritten (changes_after act.now cs) self.new) }
     {
         match act {
             Act::Begin => {
-                self.keys.clear();
-                self.any = false;
+                *self = Written::new(alloc);
                 Ok(())
             }
             Act::Write(change) => {
