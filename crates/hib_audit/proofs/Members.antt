@@ -115,7 +115,7 @@ sessions_step script h s e xs z b w l k d i f = record {
         (subst (λ v. Follows script v (own s (e ∷ h))) (sym (placed_here s n xs y z l p g)) (subst (λ m. Follows script z m) (sym (own_self s e h b)) f))
     follow n y p live (inr q) = subst (λ m. Follows script y m) (sym (own_other s n e h b q)) (w.follow n y (placed_there s n xs y z p q) live)
 
--- and where a session was read at its place
+-- with the session that was read at its place
 pub session_taken : (script : Script) (h : Journal) (i s : ℕ) (e : Entry) (xs : List Session) (y z : Session) → i ≡ s → y ≡ get_or xs i y → e.session ≡ Some s → AreSessions script h xs → s < length xs →
     was_killed s h ≡ false → is_outside e.act ≡ false → IsTaken script s (own s h) e → number_of z ≡ number_of y → is_killed z ≡ is_killed y →
     ((mine : Journal) → Follows script y mine → IsTaken script (number_of y) mine e → Follows script z (e ∷ mine)) → AreSessions script (e ∷ h) (slice_set xs i z)

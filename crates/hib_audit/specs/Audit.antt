@@ -20,12 +20,12 @@ pub record BreaksAt (script : Script) (start : Tables) (whole : Journal) (n : �
   pub legal : IsLegal script (Some start) before
   pub broken : Breaks script start before entry kind
 
--- where the audit names an entry, it is the first that is not legal
+-- if the audit names an entry, it is the first that is not legal
 abbrev pub IsFound : Script → Tables → Journal → Audit → Type 0
 IsFound script start whole Audit.Legal = Unit {0}
 IsFound script start whole (Audit.Illegal n kind) = BreaksAt script start whole n kind
 
--- what holds of the journal where the audit says that it is legal
+-- what holds of the journal if the audit says that it is legal
 abbrev pub IsLawful : Script → Tables → Journal → Audit → Type 0
 IsLawful script start whole Audit.Legal = Coheres script start whole × AreListsGiven script start whole
 IsLawful script start whole (Audit.Illegal n kind) = Unit {0}

@@ -105,14 +105,14 @@ pub record IsAnswered (script : Script) (start : Tables) (h : Journal) (by : Opt
 
 -- ---- the sessions
 
--- the sessions of a script: killed where the journal says so, and else each as far as its own entries
+-- the sessions of a script: each is killed if the journal says so, and else as far as its own entries
 pub record AreSessions (script : Script) (h : Journal) (sessions : List Session) : Type 0 where
   pub all : length sessions ≡ length script.sessions
   pub numbers : (s : ℕ) (y : Session) → slice_get sessions s ≡ Some y → number_of y ≡ s
   pub killed : (s : ℕ) (y : Session) → slice_get sessions s ≡ Some y → is_killed y ≡ was_killed s h
   pub follow : (s : ℕ) (y : Session) → slice_get sessions s ≡ Some y → was_killed s h ≡ false → Follows script y (own s h)
 
--- a session that was at this place, and is killed where this says so
+-- a session that was at this place, and is killed if this says so
 pub record IsAsBefore (kills : Bool) (xs : List Session) (s : ℕ) (y : Session) : Type 0 where
   pub before : Session
   pub there : slice_get xs s ≡ Some before

@@ -44,12 +44,12 @@ fn first_bad(
 }
 
 /// Whether a journal is legal for a script from the script's rows; else its first entry that isn't, and the first point that this
-/// entry breaks. What a keeper may fail at the journal may say. Nothing of the entries after the first bad one is looked at.
+/// entry breaks. A fault in the journal is taken if the act may fail there. The entries after the first bad one are not looked at.
 pub fn audit(alloc: Global, script: &Script, journal: &Journal) -> Result<Audit, AllocError>
     requires valid { is_valid script.now ≡ true }
     requires few { length (past journal.now) < 2 ^ 32 }
 
-    // It is legal exactly where the audit says so, and then it obeys the law.
+    // It is legal exactly if the audit says so, and then it obeys the law.
     ensures legal { IfOk result (λ a. (a ≡ Audit.Legal) ↔ IsLegal script.now (Some (start_rows script.now)) (past journal.now)) }
     ensures law { IfOk result (IsLawful script.now (start_rows script.now) (past journal.now)) }
 

@@ -222,7 +222,7 @@ impl Engines {
         }
     }
 
-    /// The answer to an act that is due in a session: the session's own, or that of an engine. It is a fault only where the keeper
+    /// The answer to an act that is due in a session: the session's own, or that of an engine. It is a fault only if the keeper
     /// has failed.
     pub fn answer(
         &mut self,

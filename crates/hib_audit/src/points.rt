@@ -27,7 +27,7 @@ pub enum AuditKind {
     Part,
     /// Its act is the one that is due; a kill is of an open session, and an eviction of a cached entity.
     Act,
-    /// Its reply is the one that the session or the part gives, or a fault where one may come.
+    /// Its reply is the one that the session or the part gives, or a fault that may come.
     Reply,
 }
 

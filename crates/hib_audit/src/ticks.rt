@@ -9,7 +9,7 @@ use std::marker::Model;
 /// The last tick that an entry may have.
 const LAST: u64 = 1 << 62;
 
-/// The last tick of all entries so far, of each part and of each session; 0 where there is none.
+/// The last tick of all entries so far, of each part and of each session; 0 if there is none.
 #[derive(Drop)]
 pub struct Ticks {
     last: Tick,
