@@ -1,0 +1,14 @@
+pub mod Lists
+pub mod Allowed
+pub mod Ready
+pub mod Bridge
+pub mod Replies
+pub mod Regions
+pub mod Served
+pub mod Outside
+pub mod Begun
+pub mod Members
+pub mod Kept
+pub mod Ticking
+pub mod Taking
+pub mod Verdicts

@@ -1,0 +1,241 @@
+-- An entry is judged, and taken.
+use Rattle.std.proofs.Common.{◌≡◌, ℕ, ◌<◌, ◌==◌, Bool, true, false, cond, List, ◌∷◌, length, IsSome, Some, None, Option, refl, sym, ap, ◌∙◌, subst, inl, inr}
+use Rattle.std.proofs.lemmas.Bool.{true≢false}
+use Rattle.hib_base.specs.Tables.{Tables}
+use Rattle.hib_journal.specs.Types.{Key, Script, Part, Act, Reply, Entry}
+use Rattle.hib_journal.specs.Sessions.{Journal, own, changes, is_open, killed_by}
+use Rattle.hib_journal.specs.Next.{is_cached}
+use Rattle.hib_journal.specs.Legal.{IsReply, IsStep, due_by, part_due, may_come, part_of, number, is_outside, reply_of, fault_of}
+use Rattle.hib_journal.specs.Lists.{entry_at, IsLate}
+use Rattle.hib_journal.specs.Runs.{is_fault}
+use Rattle.hib_session.specs.declared.session.Session.{Session}
+use Rattle.hib_session.specs.Session.{IsTaken, own_reply}
+use Rattle.hib_engines.specs.Region.{is_regional, acts_on}
+use Rattle.hib_audit.specs.Standing.{EnginesState, AreStanding, WrittenState, HasWritten, AreWritten, AreSessions, AreKilled, TicksState, noted, IsReady, IsAnswered, IsJudged, IsComing, IsPartOf, IsSessionOf, AuditorState, Knows, IsTakenOr}
+use Rattle.hib_audit.proofs.Allowed.{is_due}
+use Rattle.hib_audit.proofs.Replies.{own_is, own_unfailing, fault_is}
+use Rattle.hib_audit.proofs.Regions.{entity_within}
+use Rattle.hib_audit.proofs.Members.{due_within, due_lives}
+use Rattle.hib_audit.proofs.Kept.{written_outside}
+use Rattle.hib_audit.proofs.Outside.{sessions_outside}
+use Rattle.hib_audit.proofs.Ticking.{ticks_noted, roomy_noted}
+
+-- ---- the reply
+
+pub judged_true : (script : Script) (start : Tables) (h : Journal) (by : Option ℕ) (now : ℕ) (a : Act) (r q : Reply) (y : EnginesState) → IsAnswered script start h by now a r y → r ≡ q → IsAnswered script start h by now a q y
+judged_true script start h by now a r q y w e = subst (λ z. IsAnswered script start h by now a z y) e w
+
+-- the engine's reply is the one that is due, unless it is a fault
+due_reply : (script : Script) (start : Tables) (h : Journal) (by : Option ℕ) (now : ℕ) (a : Act) (r : Reply) → IsReply script (Some start) h (entry_at now by a r) → is_fault r ≡ false →
+    r ≡ reply_of script start h (number by) now a
+due_reply script start h by now a r (inl e) f = e
+due_reply script start h by now a r (inr e) f = absurd (true≢false (sym (fault_is (changes (number by) h) a r e) ∙ f))
+
+-- and then another reply may not be, unless the act may fail with it
+pub judged_false : (script : Script) (start : Tables) (h : Journal) (by : Option ℕ) (now : ℕ) (a : Act) (r q : Reply) → IsReply script (Some start) h (entry_at now by a r) → is_fault r ≡ false → (r ≡ q → ⊥) →
+    (fault_of (changes (number by) h) a ≡ Some q → ⊥) → IsReply script (Some start) h (entry_at now by a q) → ⊥
+judged_false script start h by now a r q w f d n (inl e) = d (due_reply script start h by now a r w f ∙ sym e)
+judged_false script start h by now a r q w f d n (inr e) = n e
+
+judged : (b : Bool) (script : Script) (start : Tables) (h : Journal) (by : Option ℕ) (now : ℕ) (a : Act) (q : Reply) (y : EnginesState) → (b ≡ true → IsAnswered script start h by now a q y) →
+    (b ≡ false → y.store.faults ≡ 0 → IsReply script (Some start) h (entry_at now by a q) → ⊥) → IsJudged b script start h by now a q y
+judged true script start h by now a q y f g = f refl
+judged false script start h by now a q y f g = g refl
+
+-- by a test of the two replies
+pub reply_judged : (b : Bool) (script : Script) (start : Tables) (h : Journal) (by : Option ℕ) (now : ℕ) (a : Act) (r q : Reply) (y : EnginesState) → (b ≡ true → r ≡ q) → (r ≡ q → b ≡ true) →
+    IsAnswered script start h by now a r y → (y.store.faults ≡ 0 → is_fault r ≡ false) → (fault_of (changes (number by) h) a ≡ Some q → ⊥) → IsJudged b script start h by now a q y
+reply_judged b script start h by now a r q y f g v s n = judged b script start h by now a q y (λ e. judged_true script start h by now a r q y v (f e))
+    (λ e z. judged_false script start h by now a r q v.reply (s z) (λ d. true≢false (sym (g d) ∙ e)) n)
+
+-- ---- an entry that comes
+
+pub entry_is : (e : Entry) (by : Option ℕ) → e.session ≡ by → part_of e.act (number e.session) ≡ e.part → entry_at e.tick by e.act e.reply ≡ e
+entry_is e by p q = λ i. record { tick = e.tick; session = sym p i; part = (ap (λ (s : Option ℕ). part_of e.act (number s)) (sym p) ∙ q) i; act = e.act; reply = e.reply }
+
+due_at : (script : Script) (h : Journal) (e : Entry) (s : ℕ) → IsComing script h e → e.session ≡ Some s → due_by script h (Some s) e.act ≡ Some e.act
+due_at script h e s c p = subst (λ by. due_by script h by e.act ≡ Some e.act) p c.due
+
+allowed_at : (script : Script) (h : Journal) (e : Entry) (s : ℕ) → IsComing script h e → e.session ≡ Some s → Rattle.hib_journal.specs.Due.IsAllowed script s (own s h) e.act
+allowed_at script h e s c p = subst (λ by. Rattle.hib_audit.specs.Standing.IsAllowedFor script h by e.act) p c.allowed
+
+pub late_of : (script : Script) (h : Journal) (e : Entry) → IsComing script h e → IsLate (part_of e.act (number e.session)) e.tick h
+late_of script h e c = subst (λ p. IsLate p e.tick h) (sym c.part) c.tick.in_part
+
+pub ready_of : (script : Script) (start : Tables) (h : Journal) (s : ℕ) (e : Entry) (x : AuditorState) → Knows script start h x → IsComing script h e → e.session ≡ Some s →
+    IsReady script start h s e.tick e.act x.engines
+ready_of script start h s e x k c p = record {
+  standing = k.engines;
+  live = (due_lives script h s e.act e.act (due_at script h e s c p)).0;
+  late = subst (λ by. IsLate (part_of e.act (number by)) e.tick h) p (late_of script h e c);
+  due = is_due script s (own s h) e.act k.built.queries (allowed_at script h e s c p);
+}
+
+pub session_within : (script : Script) (h : Journal) (s : ℕ) (e : Entry) → IsComing script h e → e.session ≡ Some s → s < length script.sessions
+session_within script h s e c p = due_within script h s e.act e.act (due_at script h e s c p)
+
+pub inside_of : (script : Script) (h : Journal) (s : ℕ) (e : Entry) → IsComing script h e → e.session ≡ Some s → is_outside e.act ≡ false
+inside_of script h s e c p = (allowed_at script h e s c p).inside
+
+-- the session takes its entry
+own_or : (script : Script) (start : Tables) (h : Journal) (s now : ℕ) (a : Act) (r q : Reply) → IsReply script (Some start) h (entry_at now (Some s) a r) → own_reply script (own s h) a ≡ Some q → r ≡ q
+own_or script start h s now a r q (inl e) p = e ∙ sym (own_is script h s now a q p start)
+own_or script start h s now a r q (inr e) p = absurd (own_unfailing script (own s h) (changes s h) a q r p e)
+
+pub taken_of : (script : Script) (start : Tables) (h : Journal) (s : ℕ) (e : Entry) (y : EnginesState) → IsComing script h e → e.session ≡ Some s → IsAnswered script start h (Some s) e.tick e.act e.reply y →
+    IsTaken script s (own s h) e
+taken_of script start h s e y c p v = record {
+  due = (due_lives script h s e.act e.act (due_at script h e s c p)).1;
+  own = λ q o. own_or script start h s e.tick e.act e.reply q v.reply o;
+}
+
+-- ---- the part and the session of an entry are the script's
+
+part_within : (script : Script) (a : Act) (s : ℕ) → s < length script.sessions → (is_regional a ≡ true → acts_on a < length script.mapping) → IsPartOf script (part_of a s)
+part_within script Act.Begin s l f = tt
+part_within script Act.End s l f = tt
+part_within script (Act.Kill n) s l f = tt
+part_within script Act.Restart s l f = tt
+part_within script (Act.Find k) s l f = l
+part_within script (Act.Persist k r) s l f = l
+part_within script (Act.Set k cells) s l f = l
+part_within script (Act.Remove k) s l f = l
+part_within script Act.Clear s l f = l
+part_within script (Act.Load k) s l f = tt
+part_within script (Act.List q) s l f = tt
+part_within script (Act.Write c) s l f = tt
+part_within script Act.Commit s l f = tt
+part_within script Act.Rollback s l f = tt
+part_within script (Act.Pre ts) s l f = tt
+part_within script (Act.Stamp ts) s l f = tt
+part_within script (Act.Check q t) s l f = tt
+part_within script (Act.Look q) s l f = tt
+part_within script (Act.Keep q t r) s l f = tt
+part_within script (Act.Get k t) s l f = f refl
+part_within script (Act.Put k r t v) s l f = f refl
+part_within script (Act.Lock k v r) s l f = f refl
+part_within script (Act.Unlock k i) s l f = f refl
+part_within script (Act.AfterInsert k r v) s l f = f refl
+part_within script (Act.AfterUpdate k i r) s l f = f refl
+part_within script (Act.RegionRemove k) s l f = f refl
+part_within script (Act.Evict k) s l f = f refl
+
+-- ---- all that is kept, with an entry more
+
+-- the five points hold
+step_of : (script : Script) (start : Tables) (h : Journal) (e : Entry) → IsComing script h e → IsReply script (Some start) h e → IsStep script (Some start) h e
+step_of script start h e c r = record {
+  tick = c.tick;
+  session = subst (λ (o : Option Act). IsSome o) (sym c.due) refl;
+  part = ap (λ (o : Option Act). part_due o (number e.session)) c.due ∙ ap (λ (p : Part). Some p) c.part;
+  act = ap (λ (o : Option Act). may_come script h o) c.due ∙ c.comes;
+  reply = r;
+}
+
+knows_more : (script : Script) (start : Tables) (h : Journal) (by : Option ℕ) (e : Entry) (x y : AuditorState) → Knows script start h x → IsComing script h e → e.session ≡ by →
+    IsAnswered script start h by e.tick e.act e.reply y.engines → AreSessions script (e ∷ h) y.sessions → AreWritten script (e ∷ h) y.written → y.ticks ≡ noted e x.ticks → IsPartOf script e.part → IsSessionOf script by →
+    Knows script start (e ∷ h) y
+knows_more script start h by e x y k c p v ss ws q part session = record {
+  legal = (k.legal, step_of script start h e c (subst (λ (d : Entry). IsReply script (Some start) h d) same v.reply));
+  engines = subst (λ (d : Entry). AreStanding script start (d ∷ h) y.engines) same v.standing;
+  sessions = ss;
+  written = ws;
+  ticks = subst (λ t. Rattle.hib_audit.specs.Standing.AreTicks (e ∷ h) t) (sym q) (ticks_noted script h e x.ticks k.ticks k.roomy part (subst (λ b. IsSessionOf script b) (sym p) session));
+  roomy = subst (λ t. Rattle.hib_audit.specs.Standing.AreRoomy script t) (sym q) (roomy_noted script e x.ticks k.roomy);
+  built = k.built;
+}
+  where
+    same : entry_at e.tick by e.act e.reply ≡ e
+    same = entry_is e by p c.part
+
+pub knows_session : (script : Script) (start : Tables) (h : Journal) (s : ℕ) (e : Entry) (x y : AuditorState) → Knows script start h x → IsComing script h e → e.session ≡ Some s →
+    IsAnswered script start h (Some s) e.tick e.act e.reply y.engines → AreSessions script (e ∷ h) y.sessions → AreWritten script (e ∷ h) y.written → y.ticks ≡ noted e x.ticks → Knows script start (e ∷ h) y
+knows_session script start h s e x y k c p v ss ws q = knows_more script start h (Some s) e x y k c p v ss ws q
+    (subst (λ (z : Part). IsPartOf script z) (subst (λ by. part_of e.act (number by) ≡ e.part) p c.part) (part_within script e.act s within (λ r. entity_within script e.act r ready.due.suits))) within
+  where
+    within : s < length script.sessions
+    within = session_within script h s e c p
+
+    ready : IsReady script start h s e.tick e.act x.engines
+    ready = ready_of script start h s e x k c p
+
+-- of an entry whose reply may not be
+pub not_taken : (script : Script) (start : Tables) (h : Journal) (by : Option ℕ) (e : Entry) (y : EnginesState) → IsComing script h e → e.session ≡ by →
+    (y.store.faults ≡ 0 → IsReply script (Some start) h (entry_at e.tick by e.act e.reply) → ⊥) → y.store.faults ≡ 0 → IsReply script (Some start) h e → ⊥
+not_taken script start h by e y c p f z r = f z (subst (λ (d : Entry). IsReply script (Some start) h d) (sym (entry_is e by p c.part)) r)
+
+-- ---- from outside
+
+knows_outside : (script : Script) (start : Tables) (h : Journal) (e : Entry) (x y : AuditorState) → Knows script start h x → IsComing script h e → e.session ≡ None →
+    IsAnswered script start h None e.tick e.act e.reply y.engines → AreKilled (λ s. killed_by s e.act (is_open s h)) x.sessions y.sessions → y.written ≡ x.written → y.ticks ≡ noted e x.ticks → IsPartOf script (part_of e.act 0) →
+    Knows script start (e ∷ h) y
+knows_outside script start h e x y k c p v ss ws q part = knows_more script start h None e x y k c p v
+    (subst (λ (d : Entry). AreSessions script (d ∷ h) y.sessions) (entry_is e None p c.part) (sessions_outside script h e.tick e.act e.reply x.sessions y.sessions k.sessions ss))
+    (subst (λ xs. AreWritten script (e ∷ h) xs) (sym ws) (written_outside script h e x.written p k.written)) q
+    (subst (λ (z : Part). IsPartOf script z) (subst (λ by. part_of e.act (number by) ≡ e.part) p c.part) part) tt
+
+done_answered : (script : Script) (start : Tables) (h : Journal) (now : ℕ) (a : Act) (y : EnginesState) → ((r : Tables) → Reply.Done ≡ reply_of script r h 0 now a) →
+    AreStanding script start (entry_at now None a Reply.Done ∷ h) y → IsAnswered script start h None now a Reply.Done y
+done_answered script start h now a y f w = record { reply = inl (f start); standing = w }
+
+pub knows_kill : (script : Script) (start : Tables) (h : Journal) (n : ℕ) (e : Entry) (x y : AuditorState) → Knows script start h x → IsComing script h e → e.session ≡ None → e.act ≡ Act.Kill n → e.reply ≡ Reply.Done →
+    (AreStanding script start h x.engines → IsLate Part.Registry e.tick h → AreStanding script start (entry_at e.tick None (Act.Kill n) Reply.Done ∷ h) y.engines) →
+    AreKilled (λ s. n == s) x.sessions y.sessions → y.written ≡ x.written → y.ticks ≡ noted e x.ticks → Knows script start (e ∷ h) y
+knows_kill script start h n e x y k c p a r f ss ws q = knows_outside script start h e x y k c p
+    (subst (λ (z : Reply). IsAnswered script start h None e.tick e.act z y.engines) (sym r)
+    (subst (λ (o : Act). IsAnswered script start h None e.tick o Reply.Done y.engines) (sym a) (done_answered script start h e.tick (Act.Kill n) y.engines (λ t. refl) (f k.engines late))))
+    (subst (λ (o : Act). AreKilled (λ s. killed_by s o (is_open s h)) x.sessions y.sessions) (sym a) ss) ws q (subst (λ (o : Act). IsPartOf script (part_of o 0)) (sym a) tt)
+  where
+    late : IsLate Part.Registry e.tick h
+    late = subst (λ (o : Act). IsLate (part_of o (number e.session)) e.tick h) a (late_of script h e c)
+
+pub knows_restart : (script : Script) (start : Tables) (h : Journal) (e : Entry) (x y : AuditorState) → Knows script start h x → IsComing script h e → e.session ≡ None → e.act ≡ Act.Restart → e.reply ≡ Reply.Done →
+    (AreStanding script start h x.engines → IsLate Part.Registry e.tick h → AreStanding script start (entry_at e.tick None Act.Restart Reply.Done ∷ h) y.engines) →
+    AreKilled (λ s. is_open s h) x.sessions y.sessions → y.written ≡ x.written → y.ticks ≡ noted e x.ticks → Knows script start (e ∷ h) y
+knows_restart script start h e x y k c p a r f ss ws q = knows_outside script start h e x y k c p
+    (subst (λ (z : Reply). IsAnswered script start h None e.tick e.act z y.engines) (sym r)
+    (subst (λ (o : Act). IsAnswered script start h None e.tick o Reply.Done y.engines) (sym a) (done_answered script start h e.tick Act.Restart y.engines (λ t. refl) (f k.engines late))))
+    (subst (λ (o : Act). AreKilled (λ s. killed_by s o (is_open s h)) x.sessions y.sessions) (sym a) ss) ws q (subst (λ (o : Act). IsPartOf script (part_of o 0)) (sym a) tt)
+  where
+    late : IsLate Part.Registry e.tick h
+    late = subst (λ (o : Act). IsLate (part_of o (number e.session)) e.tick h) a (late_of script h e c)
+
+pub evict_cached : (script : Script) (h : Journal) (k : Key) (a : Act) → a ≡ Act.Evict k → may_come script h (Some a) ≡ Some a → is_cached script k.entity ≡ true
+evict_cached script h k a e m = by_test (is_cached script k.entity) refl (subst (λ (o : Act). may_come script h (Some o) ≡ Some o) e m)
+  where
+    none_some : ◌≡◌ {A = Option Act} None (Some (Act.Evict k)) → ⊥
+    none_some z = cc
+
+    by_test : (b : Bool) → is_cached script k.entity ≡ b → cond b (Some (Act.Evict k)) None ≡ Some (Act.Evict k) → b ≡ true
+    by_test true q z = refl
+    by_test false q z = absurd (none_some z)
+
+pub evict_late : (script : Script) (h : Journal) (k : Key) (e : Entry) → IsComing script h e → e.act ≡ Act.Evict k → IsLate (Part.Region k.entity) e.tick h
+evict_late script h k e c a = subst (λ (o : Act). IsLate (part_of o (number e.session)) e.tick h) a (late_of script h e c)
+
+none_dead : (xs : List Session) → AreKilled (λ s. false) xs xs
+none_dead xs = Rattle.hib_audit.proofs.Outside.none_killed xs
+
+pub knows_evict : (script : Script) (start : Tables) (h : Journal) (k : Key) (e : Entry) (x y : AuditorState) → Knows script start h x → IsComing script h e → e.session ≡ None → e.act ≡ Act.Evict k →
+    IsAnswered script start h None e.tick e.act e.reply y.engines → y.sessions ≡ x.sessions → y.written ≡ x.written → y.ticks ≡ noted e x.ticks → Knows script start (e ∷ h) y
+knows_evict script start h k e x y w c p a v ss ws q = knows_outside script start h e x y w c p v
+    (subst (λ xs. AreKilled (λ s. killed_by s e.act (is_open s h)) x.sessions xs) (sym ss) (subst (λ (o : Act). AreKilled (λ s. killed_by s o (is_open s h)) x.sessions x.sessions) (sym a) (none_dead x.sessions))) ws q
+    (subst (λ (o : Act). IsPartOf script (part_of o 0)) (sym a) (entity_within script (Act.Evict k) refl (evict_cached script h k e.act a c.comes)))
+
+pub evict_sure : (cs : List Rattle.hib_journal.specs.Types.Change) (k : Key) (a : Act) (q : Reply) → a ≡ Act.Evict k → fault_of cs a ≡ Some q → ⊥
+evict_sure cs k a q e f = none (subst (λ (o : Act). fault_of cs o ≡ Some q) e f)
+  where
+    none : ◌≡◌ {A = Option Reply} None (Some q) → ⊥
+    none z = cc
+
+-- a kill and a restart are answered Done
+pub done_due : (script : Script) (start : Tables) (h : Journal) (by : Option ℕ) (now : ℕ) (a b : Act) (q : Reply) → a ≡ b → reply_of script start h (number by) now b ≡ Reply.Done → ((cs : List Rattle.hib_journal.specs.Types.Change) → fault_of cs b ≡ None) →
+    (q ≡ Reply.Done → ⊥) → IsReply script (Some start) h (entry_at now by a q) → ⊥
+done_due script start h by now a b q e d f n w = by_cases (subst (λ (o : Act). IsReply script (Some start) h (entry_at now by o q)) e w)
+  where
+    some_none : ◌≡◌ {A = Option Reply} None (Some q) → ⊥
+    some_none z = cc
+
+    by_cases : IsReply script (Some start) h (entry_at now by b q) → ⊥
+    by_cases (inl z) = n (z ∙ d)
+    by_cases (inr z) = some_none (sym (f (changes (number by) h)) ∙ z)

@@ -1,0 +1,50 @@
+use Rattle.std.proofs.Common.{Some, refl, sym, ap, subst, ◌∙◌}
+use Rattle.hib_journal.specs.Types.{Part}
+use Rattle.hib_journal.specs.Sessions.{same_part}
+use Rattle.hib_engines.proofs.Outcomes.{map_ok, both_ok}
+use Rattle.hib_audit.specs.Standing.{EnginesState, IsReady}
+use Rattle.hib_audit.proofs.Served.{registry_answered, store_answered, stamps_answered, results_answered, region_answered}
+use Rattle.hib_audit.proofs.engines.Engines.serve.Goals as goal
+
+pub returns-in-Registry-clause-answered : goal.returns-in-Registry-clause-answered
+returns-in-Registry-clause-answered c = map_ok c.serve.result _ _ c.serve.ensures.answered (λ r p start h w o.
+    let script = c.args.script.now in
+    let x : EnginesState = record { store = c.self.inside.store; registry = c.self.inside.registry; stamps = c.self.inside.stamps; regions = c.self.inside.regions.items; results = c.self.inside.results } in
+    let y : EnginesState = record { store = c.self.inside.store; registry = c.serve.new.self; stamps = c.self.inside.stamps; regions = c.self.inside.regions.items; results = c.self.inside.results } in
+    let k : IsReady script start h c.args.session c.args.now c.args.act.now x = subst (λ v. IsReady script start h c.args.session c.args.now c.args.act.now v) (sym c.self.view_is) w in
+    registry_answered c.laws.ensures script start h c.args.session c.args.now c.args.act.now r x y k (sym c.part_of.ensures ∙ c.in-Registry.is) o (p script h) refl refl refl refl)
+
+pub returns-in-Store-clause-answered : goal.returns-in-Store-clause-answered
+returns-in-Store-clause-answered c = map_ok c.serve-in-Store.result _ _ c.serve-in-Store.ensures.answered (λ r p start h w o.
+    let script = c.args.script.now in
+    let x : EnginesState = record { store = c.self.inside.store; registry = c.self.inside.registry; stamps = c.self.inside.stamps; regions = c.self.inside.regions.items; results = c.self.inside.results } in
+    let y : EnginesState = record { store = c.serve-in-Store.new.self; registry = c.self.inside.registry; stamps = c.self.inside.stamps; regions = c.self.inside.regions.items; results = c.self.inside.results } in
+    let k : IsReady script start h c.args.session c.args.now c.args.act.now x = subst (λ v. IsReady script start h c.args.session c.args.now c.args.act.now v) (sym c.self.view_is) w in
+    let q = sym c.part_of.ensures ∙ c.in-Store.is in
+    store_answered c.laws.ensures script start h c.args.session c.args.now c.args.act.now r x y k q
+    (p (Some start) h c.args.now k.standing.store (ap (same_part Part.Store) q) k.due.query) refl refl refl refl)
+
+pub returns-in-Stamps-clause-answered : goal.returns-in-Stamps-clause-answered
+returns-in-Stamps-clause-answered c = map_ok c.serve-in-Stamps.result _ _ c.serve-in-Stamps.ensures.answered (λ r p start h w o.
+    let script = c.args.script.now in
+    let x : EnginesState = record { store = c.self.inside.store; registry = c.self.inside.registry; stamps = c.self.inside.stamps; regions = c.self.inside.regions.items; results = c.self.inside.results } in
+    let y : EnginesState = record { store = c.self.inside.store; registry = c.self.inside.registry; stamps = c.serve-in-Stamps.new.self; regions = c.self.inside.regions.items; results = c.self.inside.results } in
+    let k : IsReady script start h c.args.session c.args.now c.args.act.now x = subst (λ v. IsReady script start h c.args.session c.args.now c.args.act.now v) (sym c.self.view_is) w in
+    stamps_answered c.laws.ensures script start h c.args.session c.args.now c.args.act.now r x y k (sym c.part_of.ensures ∙ c.in-Stamps.is) (p h (Some c.args.session)) refl refl refl refl)
+
+pub returns-in-Results-clause-answered : goal.returns-in-Results-clause-answered
+returns-in-Results-clause-answered c = map_ok c.serve-in-Results.result _ _ c.serve-in-Results.ensures.answered (λ r p start h w o.
+    let script = c.args.script.now in
+    let x : EnginesState = record { store = c.self.inside.store; registry = c.self.inside.registry; stamps = c.self.inside.stamps; regions = c.self.inside.regions.items; results = c.self.inside.results } in
+    let y : EnginesState = record { store = c.self.inside.store; registry = c.self.inside.registry; stamps = c.self.inside.stamps; regions = c.self.inside.regions.items; results = c.serve-in-Results.new.self } in
+    let k : IsReady script start h c.args.session c.args.now c.args.act.now x = subst (λ v. IsReady script start h c.args.session c.args.now c.args.act.now v) (sym c.self.view_is) w in
+    results_answered c.laws.ensures script start h c.args.session c.args.now c.args.act.now r x y k (sym c.part_of.ensures ∙ c.in-Results.is) (p script h (Some c.args.session) c.args.now) refl refl refl refl)
+
+pub returns-in-Region-clause-answered : goal.returns-in-Region-clause-answered
+returns-in-Region-clause-answered c = both_ok c.serve_region.result _ _ _ c.serve_region.ensures.answered c.serve_region.ensures.others (λ r p at start h w o.
+    let script = c.args.script.now in
+    let x : EnginesState = record { store = c.self.inside.store; registry = c.self.inside.registry; stamps = c.self.inside.stamps; regions = c.self.inside.regions.items; results = c.self.inside.results } in
+    let y : EnginesState = record { store = c.self.inside.store; registry = c.self.inside.registry; stamps = c.self.inside.stamps; regions = c.serve_region.new.regions.items; results = c.self.inside.results } in
+    let k : IsReady script start h c.args.session c.args.now c.args.act.now x = subst (λ v. IsReady script start h c.args.session c.args.now c.args.act.now v) (sym c.self.view_is) w in
+    region_answered c.laws.ensures script start h c.args.session c.args.now c.in-Region.entity c.args.act.now r x y k
+    (sym c.part_of.ensures ∙ c.in-Region.is) (p script h (Some c.args.session)) at refl refl refl refl)

@@ -1,0 +1,35 @@
+use Rattle.std.proofs.Common.{rules, vec_len, ◌≡◌, ◌<◌, ◌≤◌, ℕ, List, length, sym, subst, ◌∙◌}
+use Rattle.std.proofs.lemmas.List.{places}
+use Rattle.std.specs.Prelude.{slice_set}
+use Rattle.hib_engines.specs.declared.region.Region.{Region}
+use Rattle.hib_engines.specs.Region.{IsPlaced}
+use Rattle.hib_engines.specs.Served.{IsServed}
+use Rattle.hib_engines.proofs.Outcomes.{map_ok}
+use Rattle.hib_audit.specs.Standing.{region_of, IsAtRegion}
+use Rattle.hib_audit.proofs.Regions.{region_at, region_put, at_region, none_past, none_due, on_ok}
+use Rattle.hib_audit.proofs.engines.serve_region.Goals as goal
+
+pub returns-then-at-len-clause-answered : goal.returns-then-at-len-clause-answered
+returns-then-at-len-clause-answered c = map_ok c.serve.result _ _ c.serve.ensures.answered (λ r p script l by k late e u.
+    let xs : List Region = c.args.regions.now.items in
+    let i : ℕ = c.entity.inside.0 in
+    let whole : vec_len c.args.regions.now ≡ length c.args.regions.now.items = search (rules, places) in
+    let below : i < length xs = subst (λ (m : ℕ). i < m) (c.len.ensures ∙ whole) c.if-at-len.true in
+    let there : region_of xs c.args.entity ≡ c.index_mut.result.now =
+    subst (λ (n : ℕ). region_of xs n ≡ c.index_mut.result.now) c.entity.view_is (region_at xs i c.index_mut.result.now below c.index_mut.ensures.value) in
+    subst (λ (z : Region). IsServed (λ m. IsPlaced script c.args.entity m z) script l by c.args.now c.args.act.now r)
+    (sym (region_put xs i c.args.entity c.serve.new.self c.entity.view_is below))
+    (p script l c.args.entity by (subst (λ (z : Region). IsPlaced script c.args.entity l z) there k) late e u))
+
+pub returns-then-at-len-clause-others : goal.returns-then-at-len-clause-others
+returns-then-at-len-clause-others c =
+    let xs : List Region = c.args.regions.now.items in
+    on_ok c.serve.result _ (subst (λ (n : ℕ). IsAtRegion n xs (slice_set xs c.entity.inside.0 c.serve.new.self)) c.entity.view_is (at_region xs c.entity.inside.0 c.serve.new.self))
+
+pub returns-clause-answered : goal.returns-clause-answered
+returns-clause-answered c = λ script l by k late e u.
+    let xs : List Region = c.args.regions.now.items in
+    let i : ℕ = c.entity.inside.0 in
+    let whole : vec_len c.args.regions.now ≡ length c.args.regions.now.items = search (rules, places) in
+    let above : length xs ≤ i = subst (λ (m : ℕ). m ≤ i) (c.len.ensures ∙ whole) c.if-at-len.false in
+    absurd (none_due script l c.args.entity c.args.act.now (region_of xs c.args.entity) (subst (λ (n : ℕ). region_of xs n ≡ Region.Uncached) c.entity.view_is (none_past xs i above)) k e u)

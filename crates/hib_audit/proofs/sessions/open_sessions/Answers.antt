@@ -1,0 +1,11 @@
+use Rattle.std.proofs.Common.{◌+◌, sym, subst}
+use Rattle.hib_audit.proofs.Begun.{AreOpened, opened_more, all_opened}
+use Rattle.hib_audit.proofs.sessions.open_sessions.Goals as goal
+
+pub loop-number-preserved : goal.loop-number-preserved
+loop-number-preserved c = subst (λ xs. AreOpened (c.loop-number.number + 1) c.args.script.now xs) (sym c.in_ok-push.ensures.items)
+    (opened_more c.loop-number.number c.args.script.now c.loop-number.sessions.items c.open.result c.loop-number.invariant c.open.ensures.number c.open.ensures.alive (c.open.ensures.follows c.args.script.now))
+
+pub returns : goal.returns
+returns c = all_opened c.loop-number.number c.len-number-end.result c.args.script.now c.loop-number.sessions.items c.loop-number.auto.number-end c.loop-number-test.false
+    c.len-number-end.ensures c.loop-number.invariant

@@ -1,0 +1,250 @@
+// What is kept of the entries so far, and one entry more.
+ghost use Rattle.std.specs.Prelude.{◌≡◌, ◌↔◌, ◌≤◌, ◌<◌, ◌^◌, [], IsTrue, length, reverse, IfOk, Some, None};
+ghost use Rattle.hib_base.specs.declared.entries.Act.{Act};
+ghost use Rattle.hib_base.specs.declared.replies.Reply.{Reply};
+ghost use Rattle.hib_journal.specs.Sessions.{own, changes};
+ghost use Rattle.hib_session.specs.Session.{Follows, number_of};
+ghost use Rattle.hib_audit.specs.Breaks.{start_rows};
+ghost use Rattle.hib_audit.specs.Standing.{HasWritten, IsReady, IsComing, IsJudged, IsBuilt, Knows, IsTakenOr, IsPassed};
+
+use crate::engines::Engines;
+use crate::points::{AuditKind, difference, due_act};
+use crate::same_replies::is_same_reply;
+use crate::sessions::{advance, kill_at, kill_open, note_written, open_sessions, open_written};
+use crate::ticks::Ticks;
+use crate::written::Written;
+use hib_base::{Act, Entry, Key, Reply, Script, SessionNo};
+use hib_session::Session;
+use std::alloc::{AllocError, Global};
+use std::marker::Model;
+
+/// What is kept of the entries so far, all of which are legal.
+pub struct Auditor {
+    engines: Engines,
+    sessions: Vec<Session>,
+    written: Vec<Written>,
+    ticks: Ticks,
+}
+
+impl Model for Auditor {
+    ghost use Rattle.hib_audit.specs.Standing.{AuditorState};
+
+    ghost Value = { AuditorState };
+
+    ghost view = { λ a. record { engines = a.engines; sessions = a.sessions.items; written = a.written.items; ticks = a.ticks } };
+}
+
+/// Whether the reply of an entry of a session, whose act is due, is one that may be. If it is, the engines stand for the journal with
+/// the entry.
+fn answers(
+    alloc: Global,
+    script: &Script,
+    engines: &mut Engines,
+    session: &Session,
+    written: &Written,
+    before: &[Entry],
+    entry: &Entry,
+) -> Result<bool, AllocError>
+    requires late { entry.now.tick ≤ 2 ^ 62 }
+    requires mapping { length script.now.mapping < 2 ^ 16 }
+    requires ready { IsReady script.now (start_rows script.now) (reverse before.now) (number_of session.now) entry.now.tick entry.now.act engines.old }
+    requires follows { Follows script.now session.now (own (number_of session.now) (reverse before.now)) }
+    requires written { HasWritten (changes (number_of session.now) (reverse before.now)) written.now }
+    ensures { IfOk result (λ b. IsJudged b script.now (start_rows script.now) (reverse before.now) (Some (number_of session.now)) entry.now.tick entry.now.act entry.now.reply engines.new) }
+{
+    let _ = before;
+    if written.may_fail(&entry.act, &entry.reply) {
+        engines.fail(session.number(), &entry.act);
+        return Ok(true);
+    }
+    let reply = engines.answer(alloc, script, session, &entry.act, entry.tick)?;
+    Ok(is_same_reply(&reply, &entry.reply))
+}
+
+impl Auditor {
+    /// No entry came yet.
+    pub fn open(alloc: Global, script: &Script) -> Result<Auditor, AllocError>
+        requires { IsBuilt script.now }
+        ensures { IfOk result (λ a. Knows script.now (start_rows script.now) [] a) }
+    {
+        let sessions = open_sessions(alloc, script)?;
+        let written = open_written(alloc, script)?;
+        let ticks = Ticks::open(alloc, script)?;
+        let engines = Engines::open(alloc, script)?;
+        Ok(Auditor {
+            engines,
+            sessions,
+            written,
+            ticks,
+        })
+    }
+
+    /// All is let go. The keeper of the engines has never failed.
+    pub fn close(self)
+        ensures { self.engines.store.faults ≡ 0 }
+    {
+        let Auditor {
+            engines,
+            sessions: _,
+            written: _,
+            ticks: _,
+        } = self;
+        engines.close();
+    }
+
+    /// Takes the entry of a session, whose act is due, if its reply may be.
+    fn take_session(
+        &mut self,
+        alloc: Global,
+        script: &Script,
+        number: SessionNo,
+        before: &[Entry],
+        entry: &Entry,
+    ) -> Result<bool, AllocError>
+        requires known { Knows script.now (start_rows script.now) (reverse before.now) self.old }
+        requires coming { IsComing script.now (reverse before.now) entry.now }
+        requires by { entry.now.session ≡ Some number }
+        ensures { IfOk result (λ b. IsTakenOr b script.now (start_rows script.now) (reverse before.now) entry.now self.new) }
+    {
+        let at = number.0 as usize;
+        let session = &self.sessions[at];
+        let written = &self.written[at];
+        let engines = &mut self.engines;
+        if !answers(alloc, script, engines, session, written, before, entry)? {
+            return Ok(false);
+        }
+        advance(alloc, script, &mut self.sessions, number, before, entry)?;
+        note_written(alloc, script, &mut self.written, number, before, entry)?;
+        self.ticks.note(entry);
+        Ok(true)
+    }
+
+    /// Takes the entry of a kill, which may come, if its reply may be.
+    fn take_kill(
+        &mut self,
+        script: &Script,
+        session: SessionNo,
+        before: &[Entry],
+        entry: &Entry,
+    ) -> bool
+        requires known { Knows script.now (start_rows script.now) (reverse before.now) self.old }
+        requires coming { IsComing script.now (reverse before.now) entry.now }
+        requires by { entry.now.session ≡ None }
+        requires act { entry.now.act ≡ Act.Kill session }
+        ensures { IsTakenOr result script.now (start_rows script.now) (reverse before.now) entry.now self.new }
+    {
+        let _ = script;
+        let _ = before;
+        if !is_done(&entry.reply) {
+            return false;
+        }
+        self.engines.kill(session);
+        kill_at(&mut self.sessions, session.0 as usize);
+        self.ticks.note(entry);
+        true
+    }
+
+    /// Takes the entry of a restart, if its reply may be.
+    fn take_restart(&mut self, script: &Script, before: &[Entry], entry: &Entry) -> bool
+        requires known { Knows script.now (start_rows script.now) (reverse before.now) self.old }
+        requires coming { IsComing script.now (reverse before.now) entry.now }
+        requires by { entry.now.session ≡ None }
+        requires act { entry.now.act ≡ Act.Restart }
+        ensures { IsTakenOr result script.now (start_rows script.now) (reverse before.now) entry.now self.new }
+    {
+        let _ = script;
+        let _ = before;
+        if !is_done(&entry.reply) {
+            return false;
+        }
+        kill_open(&mut self.sessions, self.engines.registry());
+        self.engines.restart();
+        self.ticks.note(entry);
+        true
+    }
+
+    /// Takes the entry of an eviction, which may come, if its reply may be.
+    fn take_evict(
+        &mut self,
+        alloc: Global,
+        script: &Script,
+        key: Key,
+        before: &[Entry],
+        entry: &Entry,
+    ) -> Result<bool, AllocError>
+        requires known { Knows script.now (start_rows script.now) (reverse before.now) self.old }
+        requires coming { IsComing script.now (reverse before.now) entry.now }
+        requires by { entry.now.session ≡ None }
+        requires act { entry.now.act ≡ Act.Evict key }
+        ensures { IfOk result (λ b. IsTakenOr b script.now (start_rows script.now) (reverse before.now) entry.now self.new) }
+    {
+        let _ = script;
+        let _ = before;
+        let reply = self
+            .engines
+            .evict(alloc, key.entity, &entry.act, entry.tick)?;
+        if !is_same_reply(&reply, &entry.reply) {
+            return Ok(false);
+        }
+        self.ticks.note(entry);
+        Ok(true)
+    }
+
+    /// Takes an entry, whose act is due, if its reply may be.
+    fn take(
+        &mut self,
+        alloc: Global,
+        script: &Script,
+        before: &[Entry],
+        entry: &Entry,
+    ) -> Result<bool, AllocError>
+        requires known { Knows script.now (start_rows script.now) (reverse before.now) self.old }
+        requires coming { IsComing script.now (reverse before.now) entry.now }
+        ensures { IfOk result (λ b. IsTakenOr b script.now (start_rows script.now) (reverse before.now) entry.now self.new) }
+    {
+        if let Some(number) = entry.session {
+            return self.take_session(alloc, script, number, before, entry);
+        }
+        match &entry.act {
+            Act::Kill { session } => Ok(self.take_kill(script, *session, before, entry)),
+            Act::Restart => Ok(self.take_restart(script, before, entry)),
+            Act::Evict { key } => self.take_evict(alloc, script, *key, before, entry),
+            // No other act comes from outside.
+            _ => unreachable!(),
+        }
+    }
+
+    /// Takes an entry, if it is legal over those before it; else the first point that it breaks.
+    pub fn pass(
+        &mut self,
+        alloc: Global,
+        script: &Script,
+        before: &[Entry],
+        entry: &Entry,
+    ) -> Result<Option<AuditKind>, AllocError>
+        requires { Knows script.now (start_rows script.now) (reverse before.now) self.old }
+        ensures { IfOk result (λ o. IsPassed script.now (start_rows script.now) (reverse before.now) entry.now o self.new) }
+    {
+        if !self.ticks.is_after(entry) {
+            return Ok(Some(AuditKind::Tick));
+        }
+        let Some(due) = due_act(alloc, script, self.sessions.as_slice(), before, entry)? else {
+            return Ok(Some(AuditKind::Session));
+        };
+        let registry = self.engines.registry();
+        let difference = difference(script, registry, &due, before, entry);
+        if difference.is_some() {
+            return Ok(difference);
+        }
+        if self.take(alloc, script, before, entry)? {
+            return Ok(None);
+        }
+        Ok(Some(AuditKind::Reply))
+    }
+}
+
+fn is_done(reply: &Reply) -> bool
+    ensures { IsTrue result ↔ (reply.now ≡ Reply.Done) }
+{
+    matches!(reply, Reply::Done)
+}

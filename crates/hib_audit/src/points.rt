@@ -1,0 +1,125 @@
+// The points of an entry, but for its tick and its reply.
+ghost use Rattle.std.specs.Prelude.{◌≡◌, reverse, IfOk, IfSome, Some, None, cond};
+ghost use Rattle.hib_base.specs.declared.entries.Act.{Act};
+ghost use Rattle.hib_journal.specs.Sessions.{own, is_open};
+ghost use Rattle.hib_journal.specs.Legal;
+ghost use Rattle.hib_journal.specs.Next;
+ghost use Rattle.hib_journal.specs.Legal.{due_by, may_come};
+ghost use Rattle.hib_journal.specs.Due.{IsAllowed};
+ghost use Rattle.hib_engines.specs.Registry.{IsRegistry};
+ghost use Rattle.hib_audit.specs.Standing.{AreSessions, IsAllowedFor, Differs};
+
+use crate::parts::{is_outside, part_of};
+use crate::same_acts::is_same_act;
+use hib_base::{Act, EntityNo, Entry, Script, SessionNo, Strategy};
+use hib_engines::Registry;
+use hib_session::Session;
+use std::alloc::{AllocError, Global};
+
+/// The points of an entry of a legal journal, in the order in which they are looked at.
+#[derive(Clone, Copy, Debug, PartialEq, Eq)]
+pub enum AuditKind {
+    /// Its tick is from 1 to 2^62, not before the last one, and after those of its part and of its session.
+    Tick,
+    /// An act is due in its session, which wasn't killed; or it has no session, and no session does such an act.
+    Session,
+    /// Its part is that of the act that is due.
+    Part,
+    /// Its act is the one that is due; a kill is of an open session, and an eviction of a cached entity.
+    Act,
+    /// Its reply is the one that the session or the part gives, or a fault that may come.
+    Reply,
+}
+
+/// The act that is due in a session of this number, if there is one and an act is due in it.
+fn session_act(
+    alloc: Global,
+    script: &Script,
+    sessions: &[Session],
+    before: &[Entry],
+    number: SessionNo,
+) -> Result<Option<Act>, AllocError>
+    requires { AreSessions script.now (reverse before.now) sessions.now }
+    ensures due { IfOk result (λ o. (a : Act) → o ≡ due_by script.now (reverse before.now) (Some number) a) }
+    ensures allowed { IfOk result (λ o. IfSome o (IsAllowed script.now number (own number (reverse before.now)))) }
+{
+    let _ = before;
+    match sessions.get(number.0 as usize) {
+        Some(session) => {
+            let act = session.next_act(alloc, script)?;
+            Ok(act)
+        }
+        None => Ok(None),
+    }
+}
+
+/// The act from outside that an entry without a session names, if no session does such an act.
+fn outside_act(alloc: Global, act: &Act) -> Result<Option<Act>, AllocError>
+    ensures { IfOk result (λ o. o ≡ cond (Legal.is_outside act.now) (Some act.now) None) }
+{
+    if is_outside(act) {
+        return Ok(Some(act.copy(alloc)?));
+    }
+    Ok(None)
+}
+
+/// The act that is due: of a session its next one, and without a session the entry's own, if no session does such an act.
+pub fn due_act(
+    alloc: Global,
+    script: &Script,
+    sessions: &[Session],
+    before: &[Entry],
+    entry: &Entry,
+) -> Result<Option<Act>, AllocError>
+    requires { AreSessions script.now (reverse before.now) sessions.now }
+    ensures due { IfOk result (λ o. o ≡ Legal.due script.now (reverse before.now) entry.now) }
+    ensures allowed { IfOk result (λ o. IfSome o (IsAllowedFor script.now (reverse before.now) entry.now.session)) }
+{
+    match entry.session {
+        Some(number) => session_act(alloc, script, sessions, before, number),
+        None => outside_act(alloc, &entry.act),
+    }
+}
+
+fn is_cached(script: &Script, entity: EntityNo) -> bool
+    ensures { result ≡ Next.is_cached script.now entity }
+{
+    match script.mapping.as_slice().get(entity.0 as usize) {
+        Some(def) => def.strategy != Strategy::Uncached,
+        None => false,
+    }
+}
+
+/// Whether an act may come: a kill is of an open session, and an eviction of a cached entity.
+fn comes(script: &Script, registry: &Registry, before: &[Entry], act: &Act) -> bool
+    requires { IsRegistry registry.now (reverse before.now) }
+    ensures { may_come script.now (reverse before.now) (Some act.now) ≡ cond result (Some act.now) None }
+{
+    let _ = before;
+    match act {
+        Act::Kill { session } => registry.is_open(*session),
+        Act::Evict { key } => is_cached(script, key.entity),
+        _ => true,
+    }
+}
+
+/// What an entry names otherwise than the act that is due: first its part, then the act.
+pub fn difference(
+    script: &Script,
+    registry: &Registry,
+    due: &Act,
+    before: &[Entry],
+    entry: &Entry,
+) -> Option<AuditKind>
+    requires { IsRegistry registry.now (reverse before.now) }
+    ensures { Differs script.now (reverse before.now) due.now entry.now result }
+{
+    let number = entry.session.unwrap_or(SessionNo(0));
+    if part_of(due, number) != entry.part {
+        return Some(AuditKind::Part);
+    }
+    if !comes(script, registry, before, due) || !is_same_act(due, &entry.act) {
+        return Some(AuditKind::Act);
+    }
+    None
+}
