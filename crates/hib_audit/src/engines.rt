@@ -94,8 +94,9 @@ impl Engines {
         let regions = open_regions(alloc, script)?;
         let stamps = StampsEngine::open(alloc, script.mapping.len() as u16)?;
         let results = ResultsEngine::open(alloc, script.results)?;
-        let Ok(store) = StoreEngine::open(alloc, Unfailing::new(alloc), script.rows.as_slice())
-        else {
+        let entities = script.mapping.len() as u16;
+        let rows = script.rows.as_slice();
+        let Ok(store) = StoreEngine::open(alloc, Unfailing::new(alloc), rows, entities) else {
             // The keeper never fails, so that memory ran out.
             return Err(AllocError);
         };

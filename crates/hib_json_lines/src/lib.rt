@@ -4,6 +4,8 @@
 mod escapes;
 mod fields;
 mod lines;
+mod sending;
 
 pub use fields::{Line, read_line};
 pub use lines::{put_line, write};
+pub use sending::send;

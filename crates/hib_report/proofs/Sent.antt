@@ -4,7 +4,7 @@ use Rattle.std.proofs.KnownBytes.{Appends-nil, Appends-trans}
 use Rattle.std.proofs.Math.Seq.{take-append_seam, take-append-add}
 use Rattle.std.proofs.lemmas.List.{take-append-le, take_min, take-append-drop, take_more}
 use Rattle.std.proofs.lemmas.Grind.{flat_map-append}
-use Rattle.std.specs.Prelude.{codes, reverse, OnErr, Result, Ok, Err}
+use Rattle.std.specs.Prelude.{codes, flat_map, reverse, OnErr, Result, Ok, Err}
 use Rattle.hib_listeners.specs.Statistics.{counted}
 use Rattle.hib_report.specs.Report.{journal_text, sessions_text, counts_text, report}
 use Rattle.hib_report.specs.Unsound.{unsound_text}
@@ -57,28 +57,29 @@ sent_on old mid new text rest last s t = record {
   whole = append_assoc s.front t.front last ∙ (ap (λ w. s.front ++ w) t.whole ∙ s.whole);
 }
 
--- ---- the lines of entries
-split_lines : (script : Script) (es : List Entry) (i : ℕ) (text : List ℕ) → (text ++ lines_text script (take i es)) ++ lines_text script (drop i es) ≡ text ++ lines_text script es
-split_lines script es i text =
-    append_assoc text _ _ ∙ ap (λ w. text ++ w) (sym (flat_map-append (λ (e : Entry). line_text script e ++ codes "\n") (take i es) (drop i es)) ∙ ap (lines_text script) (take-append-drop i es))
+-- ---- the texts of entries
+split_lines : (f : Entry → List ℕ) (es : List Entry) (i : ℕ) (text : List ℕ) → (text ++ flat_map f (take i es)) ++ flat_map f (drop i es) ≡ text ++ flat_map f es
+split_lines f es i text = append_assoc text _ _ ∙ ap (λ w. text ++ w) (sym (flat_map-append f (take i es) (drop i es)) ∙ ap (flat_map f) (take-append-drop i es))
 
--- what was taken behind some entries is a front of the lines of all
-pub lines_front : (script : Script) (es : List Entry) (i : ℕ) (old new : Option (List ℕ)) (text rest : List ℕ) → IsSent old new (text ++ lines_text script (take i es)) rest →
-    TakesFront old new (text ++ lines_text script es)
-lines_front script es i old new text rest s = subst (TakesFront old new) (split_lines script es i text) (sent_front old new _ rest (lines_text script (drop i es)) s)
+-- what was taken behind some entries is a front of the texts of all
+pub lines_front : (f : Entry → List ℕ) (es : List Entry) (i : ℕ) (old new : Option (List ℕ)) (text rest : List ℕ) → IsSent old new (text ++ flat_map f (take i es)) rest → TakesFront old new (text ++ flat_map f es)
+lines_front f es i old new text rest s = subst (TakesFront old new) (split_lines f es i text) (sent_front old new _ rest (flat_map f (drop i es)) s)
 
-pub lines_part : (script : Script) (es : List Entry) (i : ℕ) (old mid new : Option (List ℕ)) (text rest : List ℕ) → IsSent old mid (text ++ lines_text script (take i es)) rest → TakesFront mid new rest →
-    TakesFront old new (text ++ lines_text script es)
-lines_part script es i old mid new text rest s f = subst (TakesFront old new) (split_lines script es i text) (sent_part old mid new _ rest (lines_text script (drop i es)) s f)
+pub lines_part : (f : Entry → List ℕ) (es : List Entry) (i : ℕ) (old mid new : Option (List ℕ)) (text rest : List ℕ) → IsSent old mid (text ++ flat_map f (take i es)) rest → TakesFront mid new rest →
+    TakesFront old new (text ++ flat_map f es)
+lines_part f es i old mid new text rest s t = subst (TakesFront old new) (split_lines f es i text) (sent_part old mid new _ rest (flat_map f (drop i es)) s t)
 
--- one line more
-pub one_line : (script : Script) (es : List Entry) (i : ℕ) (e : Entry) (old mid : Option (List ℕ)) (text rest : List ℕ) → i < length es → e ≡ get_or es i e → IsSent old mid (text ++ lines_text script (take i es)) rest →
-    IsSent old mid (text ++ lines_text script (take (i + 1) es)) (rest ++ (line_text script e ++ codes "\n"))
-one_line script es i e old mid text rest h q s =
-    let f : Entry → List ℕ = λ x. line_text script x ++ codes "\n" in
-    let step : lines_text script (take (i + 1) es) ≡ lines_text script (take i es) ++ f e =
-    ap (lines_text script) (take_more es i e h) ∙ (flat_map-append f (take i es) (get_or es i e ∷ []) ∙ ap (λ w. lines_text script (take i es) ++ w) (append-nil (f (get_or es i e)) ∙ ap f (sym q))) in
-    subst (λ w. IsSent old mid w (rest ++ f e)) (append_assoc text (lines_text script (take i es)) (f e) ∙ ap (λ w. text ++ w) (sym step)) (sent_more old mid (text ++ lines_text script (take i es)) rest (f e) s)
+-- one entry more
+pub one_line : (f : Entry → List ℕ) (es : List Entry) (i : ℕ) (e : Entry) (old mid : Option (List ℕ)) (text rest : List ℕ) → i < length es → e ≡ get_or es i e → IsSent old mid (text ++ flat_map f (take i es)) rest →
+    IsSent old mid (text ++ flat_map f (take (i + 1) es)) (rest ++ f e)
+one_line f es i e old mid text rest h q s =
+    let step : flat_map f (take (i + 1) es) ≡ flat_map f (take i es) ++ f e =
+    ap (flat_map f) (take_more es i e h) ∙ (flat_map-append f (take i es) (get_or es i e ∷ []) ∙ ap (λ w. flat_map f (take i es) ++ w) (append-nil (f (get_or es i e)) ∙ ap f (sym q))) in
+    subst (λ w. IsSent old mid w (rest ++ f e)) (append_assoc text (flat_map f (take i es)) (f e) ∙ ap (λ w. text ++ w) (sym step)) (sent_more old mid (text ++ flat_map f (take i es)) rest (f e) s)
+
+-- the line of an entry, with its end
+abbrev pub with_end : Script → Entry → List ℕ
+with_end script e = line_text script e ++ codes "\n"
 
 -- what holds whatever was answered
 pub on_err : {T E P : Type 0} (r : Result T E) → P → OnErr r P

@@ -16,4 +16,4 @@ pub use acts::{put_act, put_part};
 pub use lines::line;
 pub use replies::put_reply;
 pub use report::{summary, text};
-pub use sending::{WriteStop, write};
+pub use sending::{WriteStop, send, send_piece, write};

@@ -15,7 +15,7 @@ use hib_outside::{Failed, Sink, write_all};
 use std::alloc::{AllocError, Global};
 use thiserror::Error;
 
-/// Why a report wasn't written whole.
+/// Why a text wasn't written whole.
 #[derive(Clone, Copy, Debug, PartialEq, Eq, Error)]
 pub enum WriteStop {
     /// Memory ran out.
@@ -49,8 +49,8 @@ impl From<Failed> for WriteStop {
 /// How many bytes are gathered before they go to the sink.
 const PIECE: usize = 65_536;
 
-/// Sends all that is gathered.
-fn send<W: Sink>(out: &mut W, gathered: &mut Vec<u8>) -> Result<(), Failed>
+/// Sends all that is gathered. Where the sink fails a front of it was taken.
+pub fn send<W: Sink>(out: &mut W, gathered: &mut Vec<u8>) -> Result<(), Failed>
     ensures whole { OnOk result (Appends (W.taken out.old) (W.taken out.new) gathered.old.items) }
     ensures empty { OnOk result (gathered.new.items ≡ []) }
     ensures front { OnErr result (TakesFront (W.taken out.old) (W.taken out.new) gathered.old.items) }
@@ -61,8 +61,8 @@ fn send<W: Sink>(out: &mut W, gathered: &mut Vec<u8>) -> Result<(), Failed>
     Ok(())
 }
 
-/// Sends what is gathered if it is a piece.
-fn send_piece<W: Sink>(out: &mut W, gathered: &mut Vec<u8>) -> Result<(), Failed>
+/// Sends what is gathered if it is a piece of 65,536 bytes or more. Where the sink fails a front of it was taken.
+pub fn send_piece<W: Sink>(out: &mut W, gathered: &mut Vec<u8>) -> Result<(), Failed>
     ensures sent { OnOk result (IsSent (W.taken out.old) (W.taken out.new) gathered.old.items gathered.new.items) }
     ensures front { OnErr result (TakesFront (W.taken out.old) (W.taken out.new) gathered.old.items) }
     ensures cause { HasCause (W.faults out.old) (W.faults out.new) result }

@@ -7,5 +7,5 @@ use Rattle.hib_audit.proofs.engines.Engines.open.Goals as goal
 
 pub returns : goal.returns
 returns c = engines_begin c.laws.ensures c.args.script.now (start [] c.args.script.now.rows) _
-    (c.in-Ok.ensures.tables ∙ (ap (λ (rows : Tables). option_map (λ t. start t rows) (Some c.new.result.memory.rows.items)) c.as_slice.ensures ∙ ap (λ (t : Tables). Some (start t c.args.script.now.rows)) c.new.ensures))
+    (c.in-Ok.ensures.tables ∙ (ap (λ (rows : Tables). option_map (λ t. start t rows) (Some c.new.result.memory.rows.items)) c.as_slice-rows.ensures ∙ ap (λ (t : Tables). Some (start t c.args.script.now.rows)) c.new.ensures))
     c.in-Ok.ensures.written c.new-2.ensures (c.in_ok-stamps.ensures ∙ ap unstamped c.len.ensures) c.in_ok-regions.ensures c.in_ok-results.ensures c.requires.results
