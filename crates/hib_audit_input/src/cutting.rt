@@ -1,0 +1,64 @@
+// Where the line `journal` cuts a text.
+ghost use Rattle.std.specs.Prelude.{◌≡◌, ◌≤◌, ◌+◌, IfOk, IfErr, length, take, drop, Some, None};
+ghost use Rattle.hib_lex.specs.Lines as lines;
+ghost use Rattle.hib_lex.specs.Lines.{lines_of};
+ghost use Rattle.hib_audit_input.specs.Input.{is_mark, cut};
+
+/// Where a text is cut.
+#[derive(Clone, Copy)]
+pub struct Cut {
+    /// The bytes before the line `journal`.
+    pub before: usize,
+    /// The bytes before what comes behind that line.
+    pub behind: usize,
+    /// The number of lines before it.
+    pub lines: usize,
+}
+
+/// How many bytes stand before the first line feed, or in all.
+#[tactic(auto, using(hib_lex::proofs::Texts::length_next, hib_lex::proofs::Texts::length_done))]
+fn line_length(text: &[u8]) -> usize
+    ensures { result ≡ lines.line_length text.now }
+{
+    for (i, byte) in text.iter().enumerate() {
+        if *byte == b'\n' {
+            return i;
+        }
+    }
+    text.len()
+}
+
+/// Whether a line ends the script.
+fn is_mark(line: &[u8]) -> bool
+    ensures { result ≡ is_mark line.now }
+{
+    line == b"journal".as_slice()
+}
+
+/// Where the first line that is exactly `journal` cuts a text; or the number of lines, if there is none.
+#[tactic(auto, using(hib_lex::proofs::Texts::length_fits))]
+pub fn cut_of(text: &[u8]) -> Result<Cut, usize>
+    ensures within { IfOk result (λ c. (c.before ≤ length text.now) × (c.behind ≤ length text.now)) }
+    ensures lines { IfOk result (λ c. c.lines ≡ length (lines_of (take c.before text.now))) }
+    ensures short { IfOk result (λ c. c.lines ≤ c.before) }
+    ensures cut { IfOk result (λ c. cut (lines_of text.now) ≡ Some (lines_of (take c.before text.now), lines_of (drop c.behind text.now))) }
+    ensures none { IfErr result (λ n. cut (lines_of text.now) ≡ None) }
+    ensures count { IfErr result (λ n. n ≡ length (lines_of text.now)) }
+    ensures few { IfErr result (λ n. n ≤ length text.now + 1) }
+{
+    let mut start = 0;
+    let mut count = 0;
+    while start < text.len() {
+        let end = start + line_length(&text[start..]);
+        if is_mark(&text[start..end]) {
+            return Ok(Cut {
+                before: start,
+                behind: text.len().min(end + 1),
+                lines: count,
+            });
+        }
+        start = end + 1;
+        count += 1;
+    }
+    Err(count)
+}
