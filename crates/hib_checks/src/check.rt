@@ -1,9 +1,11 @@
 // What comes of a row.
 use crate::row::Row;
 use hib_base::Seq;
-use hib_outside::{Keeper, Listener, MemKeeper, MemSink, MemSource};
-use hib_top::{Ended, Status, play_words, status_line};
+use hib_outside::{Keeper, Listener, MemKeeper, MemSink, MemSource, OpenGate};
+use hib_top::{Ended, Status, status_line, top};
 use std::alloc::{AllocError, Global};
+use std::sync::Wait;
+use std::thread::Threads;
 
 /// What the top call left.
 #[derive(Drop)]
@@ -73,20 +75,28 @@ fn left_by(
     })
 }
 
-/// Runs the top call on an input as a row says, over objects in memory.
-fn play(alloc: Global, row: &Row, input: &[u8]) -> Result<Came, AllocError> {
+/// Runs the top call with these words on an input, over objects in memory that are as a row says.
+fn play<R: Threads + Wait + Sync>(
+    rt: &R,
+    alloc: Global,
+    row: &Row,
+    words: &[String],
+    input: &[u8],
+) -> Result<Came, AllocError> {
     let World {
         mut source,
         mut sink,
         mut keeper,
     } = make_world(alloc, row, input)?;
     place(alloc, &mut keeper, row);
-    let ended = play_words(
+    let ended = top(
+        rt,
         alloc,
-        row.words.as_slice(),
+        words,
         &mut source,
         &mut sink,
         keeper,
+        &OpenGate,
         Vec::new(alloc),
     );
     left_by(alloc, &ended, &sink)
@@ -147,11 +157,15 @@ fn may_end(row: &Row, front: &[u8], next: Option<&u8>) -> bool {
 }
 
 /// The bytes of the first front of the input that came to another end than it must, if there is one.
-fn wrong_front(alloc: Global, row: &Row) -> Result<Option<usize>, AllocError> {
+fn wrong_front<R: Threads + Wait + Sync>(
+    rt: &R,
+    alloc: Global,
+    row: &Row,
+) -> Result<Option<usize>, AllocError> {
     let input = row.input.as_slice();
     for size in 0..input.len() {
         let front = &input[..size];
-        let came = play(alloc, row, front)?;
+        let came = play(rt, alloc, row, row.words.as_slice(), front)?;
         let wanted = if may_end(row, front, input.get(size)) {
             0
         } else {
@@ -169,51 +183,137 @@ fn told(alloc: Global, name: &str, what: &str) -> Result<String, AllocError> {
     format!(in alloc; "row {name}: {what}")
 }
 
-/// The line of a row: that it is as it must be, or the first thing that differs.
-pub fn report(alloc: Global, row: &Row) -> Result<String, AllocError> {
-    let came = play(alloc, row, row.input.as_slice())?;
-    judged(alloc, row, &came)
+/// The bytes that a journal may have as JSON lines.
+const LINES_ROOM: usize = 4_194_304;
+
+/// These words.
+fn words_of(alloc: Global, words: &[&str]) -> Result<Vec<String>, AllocError> {
+    let mut owned = Vec::new(alloc);
+    for word in words {
+        owned.push(String::from_str(alloc, word)?)?;
+    }
+    Ok(owned)
 }
 
-/// The line of a row of which this came.
-fn judged(alloc: Global, row: &Row, came: &Came) -> Result<String, AllocError> {
-    let asks = row.asks;
-    let name = row.name.as_str();
+/// The journal of a row as JSON lines, behind its script and the line `journal`.
+fn with_journal<R: Threads + Wait + Sync>(
+    rt: &R,
+    alloc: Global,
+    row: &Row,
+) -> Result<Row, AllocError> {
+    let mut told = Row::new(alloc, row.name.as_str())?;
+    told.room = LINES_ROOM;
+    told.keeper_fails = row.keeper_fails.as_slice().to_vec(alloc)?;
+    let words = words_of(alloc, &["play", "--journal"])?;
+    let lines = play(rt, alloc, &told, words.as_slice(), row.input.as_slice())?;
+    let mut audited = Row::new(alloc, row.name.as_str())?;
+    audited.input = row.input.as_slice().to_vec(alloc)?;
+    if !audited.input.ends_with(b"\n") {
+        audited.input.push(b'\n')?;
+    }
+    audited.input.extend_from_slice(b"journal\n")?;
+    audited.input.extend_from_slice(lines.output.as_slice())?;
+    Ok(audited)
+}
+
+/// Whether the journal of a row is legal by the audit.
+fn is_legal<R: Threads + Wait + Sync>(
+    rt: &R,
+    alloc: Global,
+    row: &Row,
+) -> Result<bool, AllocError> {
+    let audited = with_journal(rt, alloc, row)?;
+    let words = words_of(alloc, &["audit"])?;
+    let came = play(
+        rt,
+        alloc,
+        &audited,
+        words.as_slice(),
+        audited.input.as_slice(),
+    )?;
+    Ok(came.status == 0 && came.output.starts_with(b"legal "))
+}
+
+/// Whether a row is a run whose journal is to be audited: by its schedule, to its end, from the script's rows.
+fn has_journal(row: &Row) -> bool {
+    let is_play = row.words.len() == 1 && row.words[0].as_str() == "play";
+    is_play && row.status == 0 && row.kept.is_empty()
+}
+
+/// The line of a row: that it is as it must be, or the first thing that differs.
+pub fn report<R: Threads + Wait + Sync>(
+    rt: &R,
+    alloc: Global,
+    row: &Row,
+) -> Result<String, AllocError> {
+    let input = row.input.as_slice();
+    if !row.also.is_empty() {
+        let came = play(rt, alloc, row, row.also.as_slice(), input)?;
+        if let Some(fault) = fault_of(alloc, row, &came)? {
+            return told(alloc, row.name.as_str(), fault.as_str());
+        }
+    }
+    let came = play(rt, alloc, row, row.words.as_slice(), input)?;
+    judged(rt, alloc, row, &came)
+}
+
+/// What is wrong with the counts of the keeper, if anything.
+fn keeper_fault(alloc: Global, row: &Row, came: &Came) -> Result<Option<String>, AllocError> {
+    if came.keeps != row.keeps as usize {
+        return Ok(Some(format!(in alloc;
+            "the keeper has {} rows, and not {}",
+            came.keeps, row.keeps
+        )?));
+    }
+    match row.asks {
+        Some(asks) if came.asks != u64::from(asks) => Ok(Some(format!(in alloc;
+            "the keeper was asked {} times, and not {}",
+            came.asks, asks
+        )?)),
+        _ => Ok(None),
+    }
+}
+
+/// What is wrong with what came of a row, if anything.
+fn fault_of(alloc: Global, row: &Row, came: &Came) -> Result<Option<String>, AllocError> {
     if came.status != row.status {
-        return format!(in alloc;
-            "row {name}: its status is {}, and not {}",
+        return Ok(Some(format!(in alloc;
+            "its status is {}, and not {}",
             came.status, row.status
-        );
+        )?));
     }
     if !is_line(came.says.as_slice(), row.says.as_str()) {
         let says = String::from_utf8_lossy(alloc, came.says.as_slice())?;
-        return format!(in alloc;
-            "row {name}: it says {}, and not {}",
+        return Ok(Some(format!(in alloc;
+            "it says {}, and not {}",
             says.trim(),
             row.says.as_str()
-        );
+        )?));
     }
-    if let Some(fault) = output_fault(alloc, row, came)? {
+    match output_fault(alloc, row, came)? {
+        Some(fault) => Ok(Some(fault)),
+        None => keeper_fault(alloc, row, came),
+    }
+}
+
+/// The line of a row of which this came.
+fn judged<R: Threads + Wait + Sync>(
+    rt: &R,
+    alloc: Global,
+    row: &Row,
+    came: &Came,
+) -> Result<String, AllocError> {
+    let name = row.name.as_str();
+    if let Some(fault) = fault_of(alloc, row, came)? {
         return told(alloc, name, fault.as_str());
     }
-    if came.keeps != row.keeps as usize {
-        return format!(in alloc;
-            "row {name}: the keeper has {} rows, and not {}",
-            came.keeps, row.keeps
-        );
-    }
-    if let Some(asks) = asks
-        && came.asks != u64::from(asks)
-    {
-        return format!(in alloc;
-            "row {name}: the keeper was asked {} times, and not {}",
-            came.asks, asks
-        );
-    }
     if !row.ends.is_empty()
-        && let Some(size) = wrong_front(alloc, row)?
+        && let Some(size) = wrong_front(rt, alloc, row)?
     {
         return format!(in alloc; "row {name}: its first {size} bytes end otherwise");
     }
-    format!(in alloc; "row {name}: ok")
+    if has_journal(row) && !is_legal(rt, alloc, row)? {
+        return told(alloc, name, "its journal isn't legal by the audit");
+    }
+    told(alloc, name, "ok")
 }

@@ -5,14 +5,18 @@
 
 mod check;
 mod evicting;
+mod gate;
 mod listening;
 mod row;
 mod stale;
 mod words;
+mod working;
 
 use row::Row;
 use std::alloc::{AllocError, Global};
 use std::io;
+use std::sync::Wait;
+use std::thread::Threads;
 
 /// The word and the text behind it.
 fn split(line: &str) -> (&str, &str) {
@@ -20,9 +24,14 @@ fn split(line: &str) -> (&str, &str) {
 }
 
 /// Runs a row and prints its line.
-fn finish(rt: &impl Print, alloc: Global, row: &Row) -> io::Result<()> {
-    let report = check::report(alloc, row)?;
-    rt.println(report.as_str())
+fn finish<R: Threads + Wait + Sync>(
+    rt: &R,
+    out: &impl Print,
+    alloc: Global,
+    row: &Row,
+) -> io::Result<()> {
+    let report = check::report(rt, alloc, row)?;
+    out.println(report.as_str())
 }
 
 /// Prints the line of what is tried by direct calls.
@@ -48,16 +57,37 @@ fn tell_listening(rt: &impl Print, alloc: Global) -> io::Result<()> {
     tell(rt, "listener-of-a-run", listening::hears_a_run(alloc)?)
 }
 
+/// Prints the lines of what is tried of workers.
+fn tell_working<R: Threads + Wait + Sync>(
+    rt: &R,
+    out: &impl Print,
+    alloc: Global,
+) -> io::Result<()> {
+    tell(out, "work-alone", working::has_no_form_alone(alloc)?)?;
+    tell(
+        out,
+        "made-on-workers",
+        working::ends_made_sessions(rt, alloc)?,
+    )?;
+    tell(out, "workers-beside", working::runs_beside(rt, alloc)?)
+}
+
 /// Prints a line that says nothing of a row.
 fn complain(rt: &impl Print, line: &str) -> io::Result<()> {
     println!(rt; "no form: {line}")
 }
 
 /// Begins a row of this name, and runs the one before it.
-fn begin(rt: &impl Print, alloc: Global, open: &mut Option<Row>, name: &str) -> io::Result<()> {
+fn begin<R: Threads + Wait + Sync>(
+    rt: &R,
+    out: &impl Print,
+    alloc: Global,
+    open: &mut Option<Row>,
+    name: &str,
+) -> io::Result<()> {
     let row = Row::new(alloc, name)?;
     match open.replace(row) {
-        Some(done) => finish(rt, alloc, &done),
+        Some(done) => finish(rt, out, alloc, &done),
         None => Ok(()),
     }
 }
@@ -76,18 +106,24 @@ fn describe(
 }
 
 /// Takes a line of the input.
-fn take_line(rt: &impl Print, alloc: Global, open: &mut Option<Row>, line: &str) -> io::Result<()> {
+fn take_line<R: Threads + Wait + Sync>(
+    rt: &R,
+    out: &impl Print,
+    alloc: Global,
+    open: &mut Option<Row>,
+    line: &str,
+) -> io::Result<()> {
     let (word, text) = split(line);
     if word.is_empty() || word == "#" {
         return Ok(());
     }
     if word == "row" {
-        return begin(rt, alloc, open, text);
+        return begin(rt, out, alloc, open, text);
     }
     if describe(alloc, open, word, text)? {
         return Ok(());
     }
-    complain(rt, line)
+    complain(out, line)
 }
 
 fn main(rt: HostRuntime) -> io::Result<()> {
@@ -95,10 +131,10 @@ fn main(rt: HostRuntime) -> io::Result<()> {
     let mut open: Option<Row> = None;
     for line in rt.lines(alloc) {
         let line = line?;
-        take_line(&rt, alloc, &mut open, line.as_str())?;
+        take_line(&rt, &rt, alloc, &mut open, line.as_str())?;
     }
     if let Some(row) = &open {
-        finish(&rt, alloc, row)?;
+        finish(&rt, &rt, alloc, row)?;
     }
     tell(&rt, "stale-version", stale::finds_the_version(alloc)?)?;
     tell(&rt, "stale-row", stale::finds_no_row(alloc)?)?;
@@ -106,5 +142,6 @@ fn main(rt: HostRuntime) -> io::Result<()> {
     tell(&rt, "word-with-a-path", words::keeps_a_path(alloc)?)?;
     tell(&rt, "many-words", words::refuses_many(alloc)?)?;
     tell(&rt, "help", words::helps(alloc)?)?;
-    tell_listening(&rt, alloc)
+    tell_listening(&rt, alloc)?;
+    tell_working(&rt, &rt, alloc)
 }

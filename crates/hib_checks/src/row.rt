@@ -12,6 +12,8 @@ pub struct Row {
     pub name: String,
     /// The words of the command line.
     pub words: Vec<String>,
+    /// Other words that must come to the same, if there are any.
+    pub also: Vec<String>,
     /// The bytes of the source.
     pub input: Vec<u8>,
     /// The rows that the keeper has at first. It places them at its first call.
@@ -47,6 +49,7 @@ impl Row {
         Ok(Row {
             name: String::from_str(alloc, name)?,
             words: Vec::new(alloc),
+            also: Vec::new(alloc),
             input: Vec::new(alloc),
             kept: Seq::new(alloc),
             room: ROOM,
@@ -67,7 +70,9 @@ impl Row {
     pub fn take(&mut self, alloc: Global, word: &str, text: &str) -> Result<bool, AllocError> {
         match word {
             "words" => add_words(alloc, &mut self.words, text)?,
+            "also" => add_words(alloc, &mut self.also, text)?,
             "in" => add_line(&mut self.input, text)?,
+            "times" => return add_many(alloc, &mut self.input, text),
             "part" => self.input.extend_from_slice(text.as_bytes())?,
             "out" => add_line(&mut self.output, text)?,
             "has" => self.lines.push(String::from_str(alloc, text)?)?,
@@ -130,6 +135,28 @@ fn add_line(bytes: &mut Vec<u8>, text: &str) -> Result<(), AllocError> {
     bytes.extend_from_slice(text.as_bytes())?;
     bytes.push(b'\n')?;
     Ok(())
+}
+
+/// Adds lines for each number from 1 to the one before the space; `#` stands for it, and `|` for a line's end.
+fn add_many(alloc: Global, bytes: &mut Vec<u8>, text: &str) -> Result<bool, AllocError> {
+    let Some((count, lines)) = text.split_once(' ') else {
+        return Ok(false);
+    };
+    let Ok(count) = count.parse::<u32>() else {
+        return Ok(false);
+    };
+    for number in 0..count {
+        let shown = u64::from(number).saturating_add(1).to_string(alloc)?;
+        for byte in lines.as_bytes() {
+            match *byte {
+                b'#' => bytes.extend_from_slice(shown.as_bytes())?,
+                b'|' => bytes.push(b'\n')?,
+                other => bytes.push(other)?,
+            }
+        }
+        bytes.push(b'\n')?;
+    }
+    Ok(true)
 }
 
 fn add_words(alloc: Global, words: &mut Vec<String>, text: &str) -> Result<(), AllocError> {

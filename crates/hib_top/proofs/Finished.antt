@@ -4,7 +4,7 @@ use Rattle.std.specs.Prelude.{slice_get}
 use Rattle.hib_journal.specs.Types.{Script}
 use Rattle.hib_journal.specs.Sessions.{Journal}
 use Rattle.hib_core.specs.Factory.{AreOver}
-use Rattle.hib_top.specs.declared.ways.Way.{Way}
+use Rattle.hib_top.specs.declared.ways.Turns.{Turns}
 use Rattle.hib_top.specs.Play.{IsOrdered, IsFinished}
 
 below : {A : Type 0} (xs : List A) (n : ℕ) (x : A) → slice_get xs n ≡ Some x → n < length xs
@@ -15,5 +15,5 @@ below [] n x e = absurd (no e)
 below (y ∷ xs) zero x e = omega arith
 below (y ∷ xs) (suc n) x e = let l : n < length xs = below xs n x e in omega (arith, l)
 
-pub all_ended : (way : Way) (script : Script) (h : Journal) → AreOver script h → IsOrdered way script h → IsFinished way script h
-all_ended way script h over ordered = record { ended = λ s d e. over s (below script.sessions s d e); ordered = ordered }
+pub all_ended : (turns : Turns) (script : Script) (h : Journal) → AreOver script h → IsOrdered turns script h → IsFinished turns script h
+all_ended turns script h over ordered = record { ended = λ s d e. over s (below script.sessions s d e); ordered = ordered }

@@ -2,3 +2,5 @@ pub mod Taken
 pub mod Finished
 pub mod Ends
 pub mod Complete
+pub mod Asked
+pub mod Audited

@@ -4,6 +4,7 @@ use Rattle.hib_top.specs.declared.status.Status.{Status}
 
 abbrev pub exit_number : Status → ℕ
 exit_number Status.Done = 0
+exit_number (Status.Illegal n k) = 1
 exit_number Status.Usage = 2
 exit_number (Status.Refused r) = 3
 exit_number Status.ReadFault = 4

@@ -1,5 +1,5 @@
 -- What a call of the program promises.
-use Rattle.std.specs.Prelude.{◌≡◌, ◌⊎◌, ◌≤◌, ◌+◌, ℕ, Bool, true, false, List, [], ⊤, length, slice_get, IfSome, Some, None, Option, Result, Ok, Err, ◌++◌, codes}
+use Rattle.std.specs.Prelude.{◌≡◌, ◌⊎◌, ◌↔◌, reverse, ◌≤◌, ◌+◌, ℕ, Bool, true, false, List, [], ⊤, length, slice_get, IfSome, Some, None, Option, Result, Ok, Err, ◌++◌, codes}
 use Rattle.std.specs.Io.KnownBytes.{Appends, IsAtEnd}
 use Rattle.hib_base.specs.Tables.{Tables}
 use Rattle.hib_base.specs.declared.refusals.Refused.{Refused}
@@ -14,47 +14,44 @@ use Rattle.hib_journal.specs.Legal.{IsLegal}
 use Rattle.hib_journal.specs.Runs.{IsNumbered, told_committed}
 use Rattle.hib_law.specs.Hits.{AreListsGiven}
 use Rattle.hib_law.specs.Law.{Obeys}
-use Rattle.hib_core.specs.Bound.{most_in}
+use Rattle.hib_core.specs.Bound.{most_in, outside_count}
 use Rattle.hib_core.specs.Standing.{told_start}
 use Rattle.std.specs.Fmt.{decimal}
 use Rattle.hib_make.specs.Made.{made}
 use Rattle.hib_print.specs.Printed.{printed}
 use Rattle.hib_report.specs.Report.{report, summary}
+use Rattle.hib_json_lines.specs.Line.{json_lines}
 use Rattle.hib_script.specs.Outline.{Outline, outline_of}
 use Rattle.hib_script.specs.Script.{script_of}
 use Rattle.hib_top.specs.declared.run.End.{End}
 use Rattle.hib_top.specs.declared.status.Status.{Status}
+use Rattle.hib_top.specs.declared.ways.Turns.{Turns}
+use Rattle.hib_top.specs.declared.ways.Telling.{Telling}
 use Rattle.hib_top.specs.declared.ways.Way.{Way}
 use Rattle.hib_outside.specs.Fronts.{TakesFront}
+use Rattle.hib_audit.specs.declared.verdict.Audit.{Audit}
+use Rattle.hib_audit.specs.Audit.{IsFound, IsLawful}
+use Rattle.hib_audit.specs.Breaks.{start_rows}
+use Rattle.hib_audit_input.specs.Input.{IsInput, IsBadInput, IsWholeInput}
+use Rattle.hib_top.specs.StatusLine.{illegal_text}
 
 -- ---- a run
--- by its schedule: the entries are those of its orders, one after the other, and then of the rest of each session
-abbrev pub IsOrdered : Way → Script → Journal → Type 0
-IsOrdered way script h = is_played script h ≡ true
+-- by its schedule: the entries are those of its orders, one after the other, and then of the rest of each session. On workers
+-- they are steps of sessions alone: no kill, no eviction and no restart
+abbrev pub IsOrdered : Turns → Script → Journal → Type 0
+IsOrdered Turns.Scheduled script h = is_played script h ≡ true
+IsOrdered (Turns.OnWorkers n) script h = outside_count h ≡ 0
 
--- its script is run by the schedule
-abbrev pub IsByTurns : Way → Type 0
-IsByTurns Way.Scheduled = ⊤
-IsByTurns (Way.Made n) = ⊤
-IsByTurns way = ⊥
-
--- the number that a script was made from, where its run is summed up
-abbrev pub seed_of : Way → Option ℕ
-seed_of (Way.Made n) = Some n
-seed_of _ = None
-
--- what is written of a run: its report; or the number and the summary
-abbrev pub told_by : Option ℕ → Script → List Entry → List ℕ
-told_by None script es = report script es
-told_by (Some n) script es = codes "seed " ++ decimal n ++ codes "\n" ++ summary script es
-
-abbrev pub told_of : Way → Script → List Entry → List ℕ
-told_of way script es = told_by (seed_of way) script es
+-- what is written of a run: its report; its journal as JSON lines; or the number that its script was made from and the summary
+abbrev pub told_by : Telling → Script → List Entry → List ℕ
+told_by Telling.Report script es = report script es
+told_by Telling.JsonLines script es = json_lines script es
+told_by (Telling.Summary n) script es = codes "seed " ++ decimal n ++ codes "\n" ++ summary script es
 
 -- each session is at its end, where it has no next act, or was killed
-pub record IsFinished (way : Way) (script : Script) (h : Journal) : Type 0 where
+pub record IsFinished (turns : Turns) (script : Script) (h : Journal) : Type 0 where
   pub ended : (s : ℕ) (d : SessionDef) → slice_get script.sessions s ≡ Some d → has_next script h s ≡ false
-  pub ordered : IsOrdered way script h
+  pub ordered : IsOrdered turns script h
 
 -- the journal is legal for the script from the rows at the start, with its ticks in turn, and so obeys the law; the keeper has
 -- the rows that its commits gave
@@ -69,11 +66,11 @@ pub record IsPlayed (script : Script) (start rows : Option Tables) (h : Journal)
   pub committed : rows ≡ told_committed start h
 
 -- what a run came to, from what the keeper kept: start is that with the script's rows
-abbrev pub CameTo : Way → End → Script → Option Tables → Option Tables → Option Tables → Journal → Type 0
-CameTo way (End.Over s) script kept start rows h = (s ≡ script) × IsPlayed script start rows h × IsFinished way script h
-CameTo way End.Stopped script kept start rows h = IsPlayed script start rows h
-CameTo way End.Unopened script kept start rows h = (h ≡ []) × (rows ≡ kept)
-CameTo way End.Unseeded script kept start rows h = (h ≡ []) × (rows ≡ kept)
+abbrev pub CameTo : Turns → End → Script → Option Tables → Option Tables → Option Tables → Journal → Type 0
+CameTo turns (End.Over s) script kept start rows h = (s ≡ script) × IsPlayed script start rows h × IsFinished turns script h
+CameTo turns End.Stopped script kept start rows h = IsPlayed script start rows h
+CameTo turns End.Unopened script kept start rows h = (h ≡ []) × (rows ≡ kept)
+CameTo turns End.Unseeded script kept start rows h = (h ≡ []) × (rows ≡ kept)
 
 -- memory ran out on the way
 abbrev pub is_stopped : End → Bool
@@ -99,24 +96,25 @@ is_short Status.NoMemory = true
 is_short _ = false
 
 -- the run is finished at Done, and where only the writing failed; where memory ran out it is finished if anything was written
-abbrev pub EndsWell : Way → Status → Script → Journal → Option (List ℕ) → Option (List ℕ) → Type 0
-EndsWell way Status.Done script h taken written = IsFinished way script h
-EndsWell way Status.WriteFault script h taken written = IsFinished way script h
-EndsWell way Status.NoMemory script h taken written = (written ≡ taken) ⊎ IsFinished way script h
-EndsWell way _ script h taken written = ⊤
+abbrev pub EndsWell : Turns → Status → Script → Journal → Option (List ℕ) → Option (List ℕ) → Type 0
+EndsWell turns Status.Done script h taken written = IsFinished turns script h
+EndsWell turns Status.WriteFault script h taken written = IsFinished turns script h
+EndsWell turns Status.NoMemory script h taken written = (written ≡ taken) ⊎ IsFinished turns script h
+EndsWell turns _ script h taken written = ⊤
 
--- what was written: the text at Done, a front of it where the sink failed or memory ran out, else nothing
+-- what was written: the text at Done and Illegal, a front of it where the sink failed or memory ran out, else nothing
 abbrev pub IsWritten : Status → List ℕ → Option (List ℕ) → Option (List ℕ) → Type 0
 IsWritten Status.Done text old new = Appends old new text
+IsWritten (Status.Illegal n k) text old new = Appends old new text
 IsWritten Status.WriteFault text old new = TakesFront old new text
 IsWritten Status.NoMemory text old new = TakesFront old new text
 IsWritten _ text old new = new ≡ old
 
 -- a script was run, and its journal was told, or a front of that
-pub record IsRunOf (way : Way) (answer : Status) (script : Script) (start rows : Option Tables) (journal : Kept) (taken written : Option (List ℕ)) : Type 0 where
+pub record IsRunOf (turns : Turns) (telling : Telling) (answer : Status) (script : Script) (start rows : Option Tables) (journal : Kept) (taken written : Option (List ℕ)) : Type 0 where
   pub played : IsPlayed script start rows (past journal)
-  pub ended : EndsWell way answer script (past journal) taken written
-  pub report : IsWritten answer (told_of way script journal.list) taken written
+  pub ended : EndsWell turns answer script (past journal) taken written
+  pub report : IsWritten answer (told_by telling script journal.list) taken written
 
 -- nothing was run, nothing written, and no table changed
 pub record IsIdle (start rows : Option Tables) (journal : Kept) (taken written : Option (List ℕ)) : Type 0 where
@@ -125,13 +123,13 @@ pub record IsIdle (start rows : Option Tables) (journal : Kept) (taken written :
   pub silent : written ≡ taken
 
 -- what stands after the run of a script, by the status
-abbrev pub Runs : Way → Status → Script → Option Tables → Option Tables → Kept → Option (List ℕ) → Option (List ℕ) → Type 0
-Runs way Status.Done script kept rows journal taken written = IsRunOf way Status.Done script (told_start script kept) rows journal taken written
-Runs way Status.WriteFault script kept rows journal taken written = IsRunOf way Status.WriteFault script (told_start script kept) rows journal taken written
-Runs way Status.NoMemory script kept rows journal taken written =
-    IsIdle kept rows journal taken written ⊎ IsRunOf way Status.NoMemory script (told_start script kept) rows journal taken written
-Runs way Status.StoreFault script kept rows journal taken written = IsIdle kept rows journal taken written
-Runs way _ script kept rows journal taken written = ⊥
+abbrev pub Runs : Turns → Telling → Status → Script → Option Tables → Option Tables → Kept → Option (List ℕ) → Option (List ℕ) → Type 0
+Runs turns telling Status.Done script kept rows journal taken written = IsRunOf turns telling Status.Done script (told_start script kept) rows journal taken written
+Runs turns telling Status.WriteFault script kept rows journal taken written = IsRunOf turns telling Status.WriteFault script (told_start script kept) rows journal taken written
+Runs turns telling Status.NoMemory script kept rows journal taken written =
+    IsIdle kept rows journal taken written ⊎ IsRunOf turns telling Status.NoMemory script (told_start script kept) rows journal taken written
+Runs turns telling Status.StoreFault script kept rows journal taken written = IsIdle kept rows journal taken written
+Runs turns telling _ script kept rows journal taken written = ⊥
 
 -- a text within the limit was read to the source's end: it is all that the source had left, where it tells. This is what the text is
 pub record Reads (left after : Option (List ℕ)) (text : List ℕ) (reading : Result Outline Refused) : Type 0 where
@@ -153,12 +151,96 @@ HasNoScript left after Status.TooLong = ⊤
 HasNoScript left after Status.NoMemory = ⊤
 HasNoScript left after _ = ⊥
 
+-- ---- an audit
+-- what is said of a journal: that it is legal, and then it is so and obeys the law; or its first bad entry and the point that it breaks
+pub record IsJudged (script : Script) (h : Journal) (a : Audit) : Type 0 where
+  pub legal : (a ≡ Audit.Legal) ↔ IsLegal script (Some (start_rows script)) h
+  pub law : IsLawful script (start_rows script) h a
+  pub found : IsFound script (start_rows script) h a
+
+-- a text is a script and a journal of n entries, of which this is said
+pub record HasJudged (text : List ℕ) (n : ℕ) (a : Audit) : Type 0 where
+  pub script : Script
+  pub entries : List Entry
+  pub input : IsInput text script entries
+  pub count : length entries ≡ n
+  pub judged : IsJudged script (reverse entries) a
+
+abbrev pub verdict_text : ℕ → Audit → List ℕ
+verdict_text n Audit.Legal = codes "legal " ++ decimal n ++ codes "\n"
+verdict_text n (Audit.Illegal entry kind) = illegal_text entry kind ++ codes "\n"
+
+abbrev pub status_said : Audit → Status
+status_said Audit.Legal = Status.Done
+status_said (Audit.Illegal entry kind) = Status.Illegal entry kind
+
+-- the status says it too, unless it could not be written
+abbrev pub IsSaid : Status → Audit → Type 0
+IsSaid Status.Done a = a ≡ Audit.Legal
+IsSaid (Status.Illegal n k) a = a ≡ Audit.Illegal n k
+IsSaid Status.WriteFault a = ⊤
+IsSaid Status.NoMemory a = ⊤
+IsSaid _ a = ⊥
+
+-- all that the source had left, within the limit, was read
+pub record HasText (left after : Option (List ℕ)) (text : List ℕ) : Type 0 where
+  pub whole : IfSome left (λ bytes. bytes ≡ text)
+  pub end : IsAtEnd after
+  pub few : length text ≤ 67108864
+
+-- how a call ends on a text that hasn't the form
+abbrev pub HasNoInput : List ℕ → Status → Type 0
+HasNoInput text (Status.Refused r) = IsBadInput text r
+HasNoInput text Status.NoMemory = ⊤
+HasNoInput text _ = ⊥
+
+-- a text was read, and what is said of it was written
+pub record IsAudited (answer : Status) (left after : Option (List ℕ)) (taken written : Option (List ℕ)) : Type 0 where
+  pub text : List ℕ
+  pub read : HasText left after text
+  pub count : ℕ
+  pub audit : Audit
+  pub judged : HasJudged text count audit
+  pub said : IsSaid answer audit
+  pub written_text : IsWritten answer (verdict_text count audit) taken written
+
+-- a text was read that hasn't the form, with its first bad line, and nothing was written
+pub record RefusesInput (r : Refused) (left after : Option (List ℕ)) (taken written : Option (List ℕ)) : Type 0 where
+  pub text : List ℕ
+  pub read : HasText left after text
+  pub bad : IsBadInput text r
+  pub silent : written ≡ taken
+
+abbrev pub Judges : Status → Option (List ℕ) → Option (List ℕ) → Option (List ℕ) → Option (List ℕ) → Type 0
+Judges Status.Done left after taken written = IsAudited Status.Done left after taken written
+Judges (Status.Illegal n k) left after taken written = IsAudited (Status.Illegal n k) left after taken written
+Judges Status.WriteFault left after taken written = IsAudited Status.WriteFault left after taken written
+Judges Status.NoMemory left after taken written = (written ≡ taken) ⊎ IsAudited Status.NoMemory left after taken written
+Judges (Status.Refused r) left after taken written = RefusesInput r left after taken written
+Judges Status.ReadFault left after taken written = written ≡ taken
+Judges Status.TooLong left after taken written = written ≡ taken
+Judges _ left after taken written = ⊥
+
+-- nothing is run in an audit, and no table changes
+pub record Audits (answer : Status) (left after : Option (List ℕ)) (kept rows : Option Tables) (journal : Kept) (taken written : Option (List ℕ)) : Type 0 where
+  pub empty : past journal ≡ []
+  pub same : rows ≡ kept
+  pub judges : Judges answer left after taken written
+
+-- what a source has left is told, and is a script and a journal within the limit
+pub record HasJournal (left : Option (List ℕ)) : Type 0 where
+  pub text : List ℕ
+  pub told : left ≡ Some text
+  pub few : length text ≤ 67108864
+  pub whole : IsWholeInput text
+
+-- ---- a script that is read
 -- a script was read and run, from the keeper's rows and its own
-pub record PlaysScript (way : Way) (answer : Status) (left after : Option (List ℕ)) (kept rows : Option Tables) (journal : Kept) (taken written : Option (List ℕ)) : Type 0 where
+pub record PlaysScript (turns : Turns) (telling : Telling) (answer : Status) (left after : Option (List ℕ)) (kept rows : Option Tables) (journal : Kept) (taken written : Option (List ℕ)) : Type 0 where
   pub text : List ℕ
   pub script : Script
   pub read : Reads left after text (Ok (outline_of script))
-  pub run : IsRunOf way answer script (told_start script kept) rows journal taken written
+  pub run : IsRunOf turns telling answer script (told_start script kept) rows journal taken written
 
 -- a script was read, and not run
 pub record Leaves (left after : Option (List ℕ)) (kept rows : Option Tables) (journal : Kept) (taken written : Option (List ℕ)) : Type 0 where
@@ -175,14 +257,15 @@ pub record Refuses (r : Refused) (left after : Option (List ℕ)) (kept rows : O
 
 -- what stands after a call, by its status: left and after are what the source had to read before and behind it, kept the keeper's
 -- tables as they were handed in
-abbrev pub Plays : Way → Status → Option (List ℕ) → Option (List ℕ) → Option Tables → Option Tables → Kept → Option (List ℕ) → Option (List ℕ) → Type 0
-Plays way Status.Done left after kept rows journal taken written = PlaysScript way Status.Done left after kept rows journal taken written
-Plays way Status.WriteFault left after kept rows journal taken written = PlaysScript way Status.WriteFault left after kept rows journal taken written
-Plays way Status.NoMemory left after kept rows journal taken written =
-    IsIdle kept rows journal taken written ⊎ PlaysScript way Status.NoMemory left after kept rows journal taken written
-Plays way (Status.Refused r) left after kept rows journal taken written = Refuses r left after kept rows journal taken written
-Plays way Status.StoreFault left after kept rows journal taken written = Leaves left after kept rows journal taken written
-Plays way _ left after kept rows journal taken written = IsIdle kept rows journal taken written
+abbrev pub Plays : Turns → Telling → Status → Option (List ℕ) → Option (List ℕ) → Option Tables → Option Tables → Kept → Option (List ℕ) → Option (List ℕ) → Type 0
+Plays turns telling Status.Done left after kept rows journal taken written = PlaysScript turns telling Status.Done left after kept rows journal taken written
+Plays turns telling Status.WriteFault left after kept rows journal taken written = PlaysScript turns telling Status.WriteFault left after kept rows journal taken written
+Plays turns telling Status.NoMemory left after kept rows journal taken written =
+    IsIdle kept rows journal taken written ⊎ PlaysScript turns telling Status.NoMemory left after kept rows journal taken written
+Plays turns telling (Status.Refused r) left after kept rows journal taken written = Refuses r left after kept rows journal taken written
+Plays turns telling Status.StoreFault left after kept rows journal taken written = Leaves left after kept rows journal taken written
+Plays turns telling (Status.Illegal n k) left after kept rows journal taken written = ⊥
+Plays turns telling _ left after kept rows journal taken written = IsIdle kept rows journal taken written
 
 -- a text was written, and nothing was run
 pub record IsPrinted (answer : Status) (text : List ℕ) (start rows : Option Tables) (journal : Kept) (taken written : Option (List ℕ)) : Type 0 where
@@ -199,9 +282,10 @@ Prints _ text kept rows journal taken written = ⊥
 
 -- what stands after a call, by what it does with a script, and by its status. A script that is made isn't read
 abbrev pub Comes : Way → Status → Option (List ℕ) → Option (List ℕ) → Option Tables → Option Tables → Kept → Option (List ℕ) → Option (List ℕ) → Type 0
-Comes (Way.Made n) answer left after kept rows journal taken written = Runs (Way.Made n) answer (made n) kept rows journal taken written
+Comes (Way.Run turns telling) answer left after kept rows journal taken written = Plays turns telling answer left after kept rows journal taken written
+Comes Way.Audited answer left after kept rows journal taken written = Audits answer left after kept rows journal taken written
+Comes (Way.Made n) answer left after kept rows journal taken written = Runs Turns.Scheduled (Telling.Summary n) answer (made n) kept rows journal taken written
 Comes (Way.Printed n) answer left after kept rows journal taken written = Prints answer (printed (made n)) kept rows journal taken written
-Comes way answer left after kept rows journal taken written = Plays way answer left after kept rows journal taken written
 
 -- and where the words have no form, nothing is done
 unfoldable pub ComesOf : Option Way → Status → Option (List ℕ) → Option (List ℕ) → Option Tables → Option Tables → Kept → Option (List ℕ) → Option (List ℕ) → Type 0
@@ -235,11 +319,13 @@ abbrev pub HasInput : Option Way → Option (List ℕ) → Type 0 → Type 0
 HasInput None left failed = ⊥
 HasInput (Some (Way.Made n)) left failed = ⊤
 HasInput (Some (Way.Printed n)) left failed = ⊤
+HasInput (Some Way.Audited) left failed = HasJournal left × (failed → ⊥)
 HasInput (Some way) left failed = HasScript left × (failed → ⊥)
 
--- all was done, or memory ran out, or the keeper didn't take the script's rows
+-- all was done, a journal that isn't legal was found so, memory ran out, or the keeper didn't take the script's rows
 abbrev pub IsCompleted : Status → Type 0
 IsCompleted Status.Done = ⊤
+IsCompleted (Status.Illegal n k) = ⊤
 IsCompleted Status.NoMemory = ⊤
 IsCompleted Status.StoreFault = ⊤
 IsCompleted _ = ⊥

@@ -1,6 +1,8 @@
-//! The top call: reads or makes a script, runs it over a keeper, by its schedule, and tells the run.
+//! The top call: reads or makes a script, runs it over a keeper, by its schedule or on workers, and tells the run; or judges a
+//! journal that comes behind its script.
 #![tactic(auto)]
 
+mod audit;
 mod call;
 mod make;
 mod play;
@@ -8,8 +10,9 @@ mod run;
 mod status;
 mod streams;
 mod ways;
+mod work;
 
 pub use call::{play_words, top};
 pub use play::Ended;
 pub use status::{Status, status_line};
-pub use ways::Way;
+pub use ways::{Telling, Turns, Way};

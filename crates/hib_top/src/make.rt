@@ -7,11 +7,13 @@ ghost use Rattle.hib_outside.specs.Causes.{Rose};
 ghost use Rattle.hib_listeners.specs.Told.{tells};
 ghost use Rattle.hib_make.specs.Made.{made};
 ghost use Rattle.hib_print.specs.Printed.{printed};
-ghost use Rattle.hib_top.specs.declared.ways.Way.{Way};
+ghost use Rattle.hib_top.specs.declared.ways.Turns.{Turns};
+ghost use Rattle.hib_top.specs.declared.ways.Telling.{Telling};
 ghost use Rattle.hib_top.specs.Play.{Runs, Prints, IsWritten, IsAfterRun, IsCompleted, AreHandedBack, is_short};
 
 use crate::play::{Ended, play_script, stop, write_text};
 use crate::status::Status;
+use crate::ways::Telling;
 use hib_base::Bytes;
 use hib_outside::{Keeper, Listener, Sink};
 use std::alloc::{AllocError, Global};
@@ -24,7 +26,7 @@ pub fn make<W: Sink, K: Keeper, L: Listener>(
     keeper: K,
     listeners: Vec<L>,
 ) -> Ended<K, L>
-    ensures run { Runs (Way.Made seed) result.status (made seed) (K.tables keeper) (K.tables result.keeper) result.journal (W.taken out.old) (W.taken out.new) }
+    ensures run { Runs Turns.Scheduled (Telling.Summary seed) result.status (made seed) (K.tables keeper) (K.tables result.keeper) result.journal (W.taken out.old) (W.taken out.new) }
     ensures write { result.status ≡ Status.WriteFault → Rose (W.faults out.old) (W.faults out.new) }
     ensures store { result.status ≡ Status.StoreFault → Rose (K.faults keeper) (K.faults result.keeper) }
     ensures faults { RoseBy (K.faults keeper) (fault_count (past result.journal)) (K.faults result.keeper) }
@@ -35,7 +37,14 @@ pub fn make<W: Sink, K: Keeper, L: Listener>(
     ensures listeners { AreHandedBack (is_short result.status) result.journal.list (tells L.heard L.left listeners.items) (tells L.heard L.left result.listeners.items) }
 {
     match hib_make::make(alloc, seed) {
-        Ok(script) => play_script(alloc, Some(seed), script, out, keeper, listeners),
+        Ok(script) => play_script(
+            alloc,
+            Telling::Summary(seed),
+            script,
+            out,
+            keeper,
+            listeners,
+        ),
         Err(_) => stop(alloc, Status::NoMemory, keeper, listeners),
     }
 }

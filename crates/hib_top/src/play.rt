@@ -7,16 +7,19 @@ ghost use Rattle.hib_core.specs.Standing.{RoseBy, RoseWithin, told_start};
 ghost use Rattle.hib_base.specs.Tables.{Tables};
 ghost use Rattle.hib_journal.specs.Types.{Script};
 ghost use Rattle.hib_outside.specs.Causes.{Rose};
+ghost use Rattle.hib_json_lines.specs.Line.{json_lines};
 ghost use Rattle.hib_report.specs.Report.{report, summary};
 ghost use Rattle.hib_base.specs.Valid.{is_valid};
 ghost use Rattle.hib_top.specs.Streams.{ReadsFew};
 ghost use Rattle.hib_listeners.specs.Told.{tells};
-ghost use Rattle.hib_top.specs.declared.ways.Way.{Way};
-ghost use Rattle.hib_top.specs.Play.{IsByTurns, CameTo, Plays, Runs, IsWritten, IsAfter, IsAfterRun, HasRead, HasNoScript, HasScript, IsCompleted, AreHandedBack, is_short, seed_of, told_by};
+ghost use Rattle.hib_top.specs.declared.ways.Turns.{Turns};
+ghost use Rattle.hib_top.specs.declared.ways.Telling.{Telling};
+ghost use Rattle.hib_top.specs.Play.{CameTo, Plays, Runs, IsWritten, IsAfter, IsAfterRun, HasRead, HasNoScript, HasScript, IsCompleted, AreHandedBack, is_short, told_by};
 
 use crate::run::{End, Ran, run};
 use crate::status::Status;
 use crate::streams::{LIMIT, ReadStop, read_all};
+use crate::ways::Telling;
 use hib_base::Script;
 use hib_journal::Journal;
 use hib_listeners::nothing_was_told;
@@ -84,7 +87,7 @@ fn tell_sum<W: Sink>(
     journal: &Journal,
     out: &mut W,
 ) -> Status
-    ensures text { IsWritten result (told_by (Some seed) script.now journal.now.list) (W.taken out.old) (W.taken out.new) }
+    ensures text { IsWritten result (told_by (Telling.Summary seed) script.now journal.now.list) (W.taken out.old) (W.taken out.new) }
     ensures write { result ≡ Status.WriteFault → Rose (W.faults out.old) (W.faults out.new) }
     ensures after { IsAfterRun result }
 {
@@ -94,21 +97,35 @@ fn tell_sum<W: Sink>(
     write_text(&text, out)
 }
 
-/// Tells a run that is over: by its report, or by the number that its script was made from and the summary.
+/// Writes the journal of a run as JSON lines, piece by piece.
+fn tell_lines<W: Sink>(alloc: Global, script: &Script, journal: &Journal, out: &mut W) -> Status
+    ensures lines { IsWritten result (json_lines script.now journal.now.list) (W.taken out.old) (W.taken out.new) }
+    ensures write { result ≡ Status.WriteFault → Rose (W.faults out.old) (W.faults out.new) }
+    ensures after { IsAfterRun result }
+{
+    match hib_json_lines::send(alloc, script, journal, out) {
+        Ok(()) => Status::Done,
+        Err(WriteStop::Failed) => Status::WriteFault,
+        Err(WriteStop::NoMemory) => Status::NoMemory,
+    }
+}
+
+/// Tells a run that is over.
 fn tell<W: Sink>(
     alloc: Global,
-    seed: Option<u32>,
+    telling: Telling,
     script: &Script,
     journal: &Journal,
     out: &mut W,
 ) -> Status
-    ensures report { IsWritten result (told_by seed script.now journal.now.list) (W.taken out.old) (W.taken out.new) }
+    ensures report { IsWritten result (told_by telling script.now journal.now.list) (W.taken out.old) (W.taken out.new) }
     ensures write { result ≡ Status.WriteFault → Rose (W.faults out.old) (W.faults out.new) }
     ensures after { IsAfterRun result }
 {
-    match seed {
-        None => tell_report(alloc, script, journal, out),
-        Some(seed) => tell_sum(alloc, seed, script, journal, out),
+    match telling {
+        Telling::Report => tell_report(alloc, script, journal, out),
+        Telling::JsonLines => tell_lines(alloc, script, journal, out),
+        Telling::Summary(seed) => tell_sum(alloc, seed, script, journal, out),
     }
 }
 
@@ -116,17 +133,17 @@ fn tell<W: Sink>(
 pub fn tell_end<W: Sink>(
     alloc: Global,
     end: End,
-    seed: Option<u32>,
+    telling: Telling,
     journal: &Journal,
     out: &mut W,
 ) -> Status
     ensures after { IsAfter end result }
-    ensures run { (way : Way) (script : Script) (kept rows : Option Tables) → seed_of way ≡ seed → CameTo way end script kept (told_start script kept) rows (past journal.now)
-        → Runs way result script kept rows journal.now (W.taken out.old) (W.taken out.new) }
+    ensures run { (turns : Turns) (script : Script) (kept rows : Option Tables) → CameTo turns end script kept (told_start script kept) rows (past journal.now)
+        → Runs turns telling result script kept rows journal.now (W.taken out.old) (W.taken out.new) }
     ensures write { result ≡ Status.WriteFault → Rose (W.faults out.old) (W.faults out.new) }
 {
     match end {
-        End::Over(script) => tell(alloc, seed, &script, journal, out),
+        End::Over(script) => tell(alloc, telling, &script, journal, out),
         End::Stopped => Status::NoMemory,
         End::Unopened => Status::NoMemory,
         End::Unseeded => Status::StoreFault,
@@ -136,14 +153,14 @@ pub fn tell_end<W: Sink>(
 /// Runs a script over a keeper by its schedule, and tells the run.
 pub fn play_script<W: Sink, K: Keeper, L: Listener>(
     alloc: Global,
-    seed: Option<u32>,
+    telling: Telling,
     script: Script,
     out: &mut W,
     keeper: K,
     listeners: Vec<L>,
 ) -> Ended<K, L>
     requires { is_valid script ≡ true }
-    ensures run { (way : Way) → seed_of way ≡ seed → IsByTurns way → Runs way result.status script (K.tables keeper) (K.tables result.keeper) result.journal (W.taken out.old) (W.taken out.new) }
+    ensures run { Runs Turns.Scheduled telling result.status script (K.tables keeper) (K.tables result.keeper) result.journal (W.taken out.old) (W.taken out.new) }
     ensures write { result.status ≡ Status.WriteFault → Rose (W.faults out.old) (W.faults out.new) }
     ensures store { result.status ≡ Status.StoreFault → Rose (K.faults keeper) (K.faults result.keeper) }
     ensures faults { RoseBy (K.faults keeper) (fault_count (past result.journal)) (K.faults result.keeper) }
@@ -158,7 +175,7 @@ pub fn play_script<W: Sink, K: Keeper, L: Listener>(
         journal,
         listeners,
     } = run(alloc, script, keeper, listeners);
-    let status = tell_end(alloc, end, seed, &journal, out);
+    let status = tell_end(alloc, end, telling, &journal, out);
     Ended {
         status,
         keeper,
@@ -176,7 +193,7 @@ pub fn read_script<S: Source>(alloc: Global, source: &mut S) -> Result<Script, S
     ensures long { result ≡ Err Status.TooLong → IfSome (S.left source.old) (λ bytes. LIMIT < length bytes) }
     ensures taken { ReadsFew 1052672 (S.left source.old) (S.left source.new) }
 {
-    let text = match read_all(alloc, source) {
+    let text = match read_all(alloc, source, LIMIT) {
         Ok(text) => text,
         Err(ReadStop::NoMemory) => return Err(Status::NoMemory),
         Err(ReadStop::Failed) => return Err(Status::ReadFault),
@@ -210,15 +227,16 @@ pub fn stop<K: Keeper, L: Listener>(
     }
 }
 
-/// Reads the script, runs it by its schedule and writes the report.
+/// Reads the script, runs it by its schedule and tells the run.
 pub fn play<S: Source, W: Sink, K: Keeper, L: Listener>(
     alloc: Global,
+    telling: Telling,
     source: &mut S,
     out: &mut W,
     keeper: K,
     listeners: Vec<L>,
 ) -> Ended<K, L>
-    ensures run { Plays Way.Scheduled result.status (S.left source.old) (S.left source.new) (K.tables keeper) (K.tables result.keeper) result.journal (W.taken out.old) (W.taken out.new) }
+    ensures run { Plays Turns.Scheduled telling result.status (S.left source.old) (S.left source.new) (K.tables keeper) (K.tables result.keeper) result.journal (W.taken out.old) (W.taken out.new) }
     ensures read { result.status ≡ Status.ReadFault → Rose (S.faults source.old) (S.faults source.new) }
     ensures write { result.status ≡ Status.WriteFault → Rose (W.faults out.old) (W.faults out.new) }
     ensures long { result.status ≡ Status.TooLong → IfSome (S.left source.old) (λ bytes. LIMIT < length bytes) }
@@ -235,7 +253,7 @@ pub fn play<S: Source, W: Sink, K: Keeper, L: Listener>(
     ensures listeners { AreHandedBack (is_short result.status) result.journal.list (tells L.heard L.left listeners.items) (tells L.heard L.left result.listeners.items) }
 {
     match read_script(alloc, source) {
-        Ok(script) => play_script(alloc, None, script, out, keeper, listeners),
+        Ok(script) => play_script(alloc, telling, script, out, keeper, listeners),
         Err(status) => stop(alloc, status, keeper, listeners),
     }
 }

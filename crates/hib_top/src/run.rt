@@ -7,7 +7,7 @@ ghost use Rattle.hib_outside.specs.Causes.{Rose};
 ghost use Rattle.hib_store.specs.Stores.{handed_back};
 ghost use Rattle.hib_base.specs.Valid.{is_valid};
 ghost use Rattle.hib_listeners.specs.Told.{tells};
-ghost use Rattle.hib_top.specs.declared.ways.Way.{Way};
+ghost use Rattle.hib_top.specs.declared.ways.Turns.{Turns};
 ghost use Rattle.hib_top.specs.Play.{CameTo, AreHandedBack, is_stopped, unopened};
 
 use hib_base::Script;
@@ -94,7 +94,7 @@ fn named<N: Name, K: Keeper, L: Listener>(
     requires valid { is_valid N.script ≡ true }
     requires from { record { tables = told_start N.script (K.tables keeper); faults = K.faults keeper; asked = K.asked keeper } ≡ N.from }
     requires told { tells L.heard L.left listeners.items ≡ N.told }
-    ensures came { CameTo Way.Scheduled result.end N.script (K.tables keeper) N.from.tables (K.tables result.keeper) (past result.journal) }
+    ensures came { CameTo Turns.Scheduled result.end N.script (K.tables keeper) N.from.tables (K.tables result.keeper) (past result.journal) }
     ensures faults { RoseBy N.from.faults (fault_count (past result.journal)) (K.faults result.keeper) }
     ensures asked { result.end ≢ End.Stopped → RoseWithin N.from.asked (ask_count (past result.journal)) (K.asked result.keeper) }
     ensures once { RoseWithin N.from.asked (ask_count (past result.journal) + 1) (K.asked result.keeper) }
@@ -129,7 +129,7 @@ pub fn run<K: Keeper, L: Listener>(
     listeners: Vec<L>,
 ) -> Ran<K, L>
     requires { is_valid script ≡ true }
-    ensures came { CameTo Way.Scheduled result.end script (K.tables keeper) (told_start script (K.tables keeper)) (K.tables result.keeper) (past result.journal) }
+    ensures came { CameTo Turns.Scheduled result.end script (K.tables keeper) (told_start script (K.tables keeper)) (K.tables result.keeper) (past result.journal) }
     ensures faults { RoseBy (K.faults keeper) (fault_count (past result.journal)) (K.faults result.keeper) }
     ensures asked { result.end ≢ End.Stopped → RoseWithin (K.asked keeper) (ask_count (past result.journal)) (K.asked result.keeper) }
     ensures once { RoseWithin (K.asked keeper) (ask_count (past result.journal) + 1) (K.asked result.keeper) }

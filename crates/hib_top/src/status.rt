@@ -1,8 +1,9 @@
 // How a call of the program ends.
 ghost use Rattle.hib_top.specs.Exits.{exit_number};
-ghost use Rattle.hib_top.specs.StatusLine.{status_text, refused_text};
+ghost use Rattle.hib_top.specs.StatusLine.{status_text, refused_text, illegal_text, kind_text};
 ghost use Rattle.std.specs.Prelude.{◌≡◌, ◌++◌, IfOk, OnOk};
 
+use hib_audit::AuditKind;
 use hib_base::{Bytes, Refused, Seq};
 use std::alloc::{AllocError, Global};
 
@@ -11,6 +12,13 @@ use std::alloc::{AllocError, Global};
 pub enum Status {
     /// All was done, and the text was written whole.
     Done,
+    /// The journal that was audited isn't legal.
+    Illegal {
+        /// Its first entry that isn't legal, numbered from 1.
+        entry: u32,
+        /// The first point that the entry breaks.
+        kind: AuditKind,
+    },
     /// The words have no form.
     Usage,
     /// The input is no script: its first line that can't stand at its place.
@@ -34,6 +42,7 @@ impl Status {
     {
         match self {
             Status::Done => 0,
+            Status::Illegal { .. } => 1,
             Status::Usage => 2,
             Status::Refused(_) => 3,
             Status::ReadFault => 4,
@@ -52,6 +61,7 @@ pub fn status_line(alloc: Global, status: &Status) -> Result<Bytes, AllocError>
     let mut line = b"hib: ".to_vec(alloc)?;
     match status {
         Status::Done => line.extend_from_slice(b"done")?,
+        Status::Illegal { entry, kind } => put_illegal(alloc, &mut line, *entry, *kind)?,
         Status::Usage => line.extend_from_slice(b"usage")?,
         Status::Refused(refused) => put_refused(alloc, &mut line, refused)?,
         Status::ReadFault => line.extend_from_slice(b"read fault")?,
@@ -73,5 +83,35 @@ fn put_refused(alloc: Global, line: &mut Vec<u8>, refused: &Refused) -> Result<(
     line.extend_from_slice(number.as_bytes())?;
     line.extend_from_slice(b": ")?;
     line.extend_from_slice(refused.kind.word())?;
+    Ok(())
+}
+
+/// The word of a point.
+fn word_of<'a>(kind: AuditKind) -> &'a [u8]
+    ensures { result.now ≡ kind_text kind }
+{
+    match kind {
+        AuditKind::Tick => b"tick",
+        AuditKind::Session => b"session",
+        AuditKind::Part => b"part",
+        AuditKind::Act => b"act",
+        AuditKind::Reply => b"reply",
+    }
+}
+
+/// The first entry that isn't legal, and the point that it breaks.
+pub fn put_illegal(
+    alloc: Global,
+    line: &mut Vec<u8>,
+    entry: u32,
+    kind: AuditKind,
+) -> Result<(), AllocError>
+    ensures { OnOk result (line.new.items ≡ line.old.items ++ illegal_text entry kind) }
+{
+    line.extend_from_slice(b"illegal ")?;
+    let number = entry.to_string(alloc)?;
+    line.extend_from_slice(number.as_bytes())?;
+    line.extend_from_slice(b" ")?;
+    line.extend_from_slice(word_of(kind))?;
     Ok(())
 }

@@ -42,17 +42,21 @@ impl From<Failed> for ReadStop {
     }
 }
 
-/// The most bytes that are read.
+/// The most bytes that a script has.
 pub const LIMIT: usize = 1_048_576;
+
+/// The most bytes that a script has with its journal behind it.
+pub const AUDIT_LIMIT: usize = 67_108_864;
 
 /// All that the source has left, up to the limit: where it is all, the source is at its end, and has not failed. Each turn takes a byte at least, meets the end or fails, and no more than
 /// one piece beyond the limit is read.
 #[tactic(auto, using(crate::proofs::Taken::reads_more, crate::proofs::Taken::reads_still))]
-pub fn read_all<S: Source>(alloc: Global, source: &mut S) -> Result<Vec<u8>, ReadStop>
+pub fn read_all<S: Source>(alloc: Global, source: &mut S, limit: usize) -> Result<Vec<u8>, ReadStop>
+    requires { limit ≤ AUDIT_LIMIT }
     ensures bytes { IfOk result (λ v. IfSome (S.left source.old) (λ bytes. bytes ≡ v.items)) }
-    ensures few { IfOk result (λ v. length v.items ≤ LIMIT) }
-    ensures long { result ≡ Err ReadStop.TooLong → IfSome (S.left source.old) (λ bytes. LIMIT < length bytes) }
-    ensures taken { ReadsFew 1052672 (S.left source.old) (S.left source.new) }
+    ensures few { IfOk result (λ v. length v.items ≤ limit) }
+    ensures long { result ≡ Err ReadStop.TooLong → IfSome (S.left source.old) (λ bytes. limit < length bytes) }
+    ensures taken { ReadsFew (limit + 4096) (S.left source.old) (S.left source.new) }
     ensures end { IfOk result (λ _. IsAtEnd (S.left source.new)) }
     ensures calm { OnOk result (S.faults source.new ≡ S.faults source.old) }
     ensures later { S.faults source.old ≤ S.faults source.new }
@@ -60,13 +64,13 @@ pub fn read_all<S: Source>(alloc: Global, source: &mut S) -> Result<Vec<u8>, Rea
 {
     let mut text = Vec::new(alloc);
     let mut piece = [0u8; 4096];
-    for turn in 0..LIMIT + 1 {
+    for turn in 0..limit + 1 {
         let n = source.read(&mut piece)?;
         if n == 0 {
             return Ok(text);
         }
         text.extend_from_slice(&piece[..n])?;
-        if text.len() > LIMIT {
+        if text.len() > limit {
             return Err(ReadStop::TooLong);
         }
     }

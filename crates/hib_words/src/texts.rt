@@ -17,16 +17,22 @@ A script comes by standard input, and the report goes to standard output:
   hib play < examples/first.hib
 A script may also be made from a number, to be looked at or run:
   hib make --seed 7 --text > made.hib
+On workers the sessions run side by side, each at its own pace; the schedule isn't used:
+  hib work --workers 4 < made.hib
+A journal may be kept, and judged later, behind its script and a line 'journal':
+  hib play --journal < made.hib > lines
+  (cat made.hib; echo journal; cat lines) | hib audit
 
 The words --help and --version stand alone: beside another word they are no command.
 
 Exit status, which a line on standard error explains where it isn't 0:
   0  all was done, and the text was written whole
+  1  the journal that was audited isn't legal; the verdict was written
   2  the words are no command
   3  the input is no script, as in 'hib: line 7: no-end'; nothing was written
   4  reading failed; nothing was written
   5  writing failed; a first part of the text may be written
-  6  the input has more than 1,048,576 bytes; nothing was written
+  6  the input has more than 1,048,576 bytes, or 67,108,864 of an audit; nothing was written
   8  memory ran out; a first part of the text may be written
   9  the store didn't take the script's rows; nothing was run
 
@@ -56,6 +62,7 @@ Why a line of a script is refused, at status 3:
   many           it is one more than there may be
   last           it ends a session whose last statement is no commit and no rollback
   no-end         the input ends inside a session or a schedule
+  journal        no line 'journal' follows the script, or this one is no entry's
 
 docs/SCRIPT.md tells what a script may say, docs/JOURNAL.md what a report says, docs/CLAIMS.md what is proved.
 ";
@@ -65,9 +72,9 @@ impl Verb {
     fn is_built(self) -> bool {
         match self {
             Verb::Play => true,
-            Verb::Work => false,
+            Verb::Work => true,
             Verb::Make => true,
-            Verb::Audit => false,
+            Verb::Audit => true,
         }
     }
 
@@ -96,10 +103,10 @@ impl OptionName {
     /// The program takes it today, with each command that has it and is built.
     fn is_built(self) -> bool {
         match self {
-            OptionName::Journal => false,
+            OptionName::Journal => true,
             OptionName::File => true,
             OptionName::Trace => true,
-            OptionName::Workers => false,
+            OptionName::Workers => true,
             OptionName::Seed => true,
             OptionName::Text => true,
         }

@@ -40,6 +40,9 @@ use Rattle.hib_other_regions.specs.contracts.read_only.ReadOnlyRegion as ReadOnl
 use Rattle.hib_other_regions.specs.contracts.nonstrict.NonstrictRegion as NonstrictT
 use Rattle.hib_rw_region.specs.contracts.region.RwRegion as ReadWriteT
 use Rattle.hib_engines.specs.contracts.region.Region as RegionT
+use Rattle.hib_query_eval.specs.contracts.places.Value as ValueT
+use Rattle.hib_query_eval.specs.contracts.places.Place as PlaceT
+use Rattle.hib_query_eval.specs.contracts.index.Index as IndexT
 use Rattle.hib_store.specs.contracts.store.Store as StoreT
 use Rattle.hib_engines.specs.contracts.store.StoreEngine as StoreEngineT
 use Rattle.hib_core.specs.contracts.parts.Parts as PartsT
@@ -147,13 +150,22 @@ read_write_send = search (sendable, crosses, slot_send) depth 100 fits 100000
 region_send : IsSend RegionT.the_field.row
 region_send = search (sendable, crosses, read_only_send, nonstrict_send, read_write_send) depth 100 fits 100000
 
+value_send : IsSend ValueT.the_field.row
+value_send = search (sendable, crosses) depth 100 fits 100000
+
+place_send : IsSend PlaceT.the_field.row
+place_send = search (sendable, crosses, value_send) depth 100 fits 100000
+
+index_send : IsSend IndexT.the_field.row
+index_send = search (sendable, crosses, maps, place_send, key_send, row_send) depth 100 fits 100000
+
 script_send : IsSend QueryT.the_row → IsSend ScriptT.the_field.row
 script_send query = search (sendable, crosses, entity_send, row_send, session_def_send) depth 100 fits 100000
 
 -- a query's condition is a tree, of which this is known beforehand
 module _ (query : IsSend QueryT.the_row) (K : RattleType) (k : keeper.Ghosts K.Denot) (sk : IsSend K) where
   store_send : IsSend (StoreT.the_field K k).row
-  store_send = search (sendable, crosses, change_send) depth 100 fits 100000
+  store_send = search (sendable, crosses, change_send, index_send) depth 100 fits 100000
 
   engine_send : IsSend (StoreEngineT.the_field K k).row
   engine_send = search (sendable, crosses, store_send) depth 100 fits 100000

@@ -1,9 +1,9 @@
-use Rattle.hib_top.proofs.Ends.{by_turns, unseeded, not_stopped, handed_on}
-use Rattle.hib_top.specs.declared.ways.Way.{Way}
+use Rattle.hib_top.proofs.Ends.{unseeded, not_stopped, handed_on}
+use Rattle.hib_top.specs.declared.ways.Turns.{Turns}
 use Rattle.hib_top.proofs.play.play_script.Goals as goal
 
 pub returns-clause-run : goal.returns-clause-run
-returns-clause-run g c = λ way o turns. c.tell_end-status.ensures.run way c.args.script _ _ o (by_turns way _ c.args.script _ _ _ _ turns c.run-end.ensures.came)
+returns-clause-run g c = c.tell_end-status.ensures.run Turns.Scheduled c.args.script _ _ c.run-end.ensures.came
 
 pub returns-clause-store : goal.returns-clause-store
 returns-clause-store g c = λ p. c.run-end.ensures.store (unseeded _ c.tell_end-status.result c.tell_end-status.ensures.after p)

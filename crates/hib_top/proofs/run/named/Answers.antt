@@ -3,7 +3,7 @@ use Rattle.hib_journal.specs.Kept.{Kept, past}
 use Rattle.hib_journal.specs.Played.{is_played}
 use Rattle.hib_core.specs.Bound.{outside_count}
 use Rattle.hib_core.specs.Factory.{AreOver}
-use Rattle.hib_top.specs.declared.ways.Way.{Way}
+use Rattle.hib_top.specs.declared.ways.Turns.{Turns}
 use Rattle.hib_top.specs.Play.{IsPlayed}
 use Rattle.hib_top.proofs.Ends.{over, stopped}
 use Rattle.hib_top.proofs.Finished.{all_ended}
@@ -29,8 +29,8 @@ returns-clause-came g c =
       committed = c.close-keeper.ensures.rows;
     } in
     elim c.match-finished.branch [
-      | in-Ok-finished w ↦ over Way.Scheduled _ _ g.N.Name.script _ _ _ h w.end-is c.close-keeper.ensures.script played
-          (all_ended Way.Scheduled g.N.Name.script h (subst (λ (k : Kept). AreOver g.N.Name.script (past k)) (sym c.close-keeper.ensures.journal) w.in-Ok-finished.ensures.over)
+      | in-Ok-finished w ↦ over Turns.Scheduled _ _ g.N.Name.script _ _ _ h w.end-is c.close-keeper.ensures.script played
+          (all_ended Turns.Scheduled g.N.Name.script h (subst (λ (k : Kept). AreOver g.N.Name.script (past k)) (sym c.close-keeper.ensures.journal) w.in-Ok-finished.ensures.over)
           (subst (λ (k : Kept). is_played g.N.Name.script (past k) ≡ true) (sym c.close-keeper.ensures.journal) (w.in-Ok-finished.ensures.played c.in-Ok.ensures.empty)))
-      | in-Err-finished w ↦ stopped Way.Scheduled _ g.N.Name.script _ _ _ h w.end-is played
+      | in-Err-finished w ↦ stopped Turns.Scheduled _ g.N.Name.script _ _ _ h w.end-is played
     ]

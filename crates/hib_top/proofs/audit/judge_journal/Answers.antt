@@ -1,0 +1,5 @@
+use Rattle.hib_top.proofs.Audited.{few_entries}
+use Rattle.hib_top.proofs.audit.judge_journal.Goals as goal
+
+pub audit-requires-clause-few : goal.audit-requires-clause-few
+audit-requires-clause-few c = few_entries c.args.journal.now c.requires.few

@@ -1,0 +1,30 @@
+use Rattle.std.proofs.Common.{◌≡◌, sym, ap, subst, arith, ◌∙◌}
+use Rattle.hib_journal.specs.Kept.{Kept, past}
+use Rattle.hib_core.specs.Bound.{outside_count}
+use Rattle.hib_core.specs.Factory.{AreOver}
+use Rattle.hib_top.specs.declared.ways.Turns.{Turns}
+use Rattle.hib_top.specs.Play.{IsPlayed}
+use Rattle.hib_top.proofs.Ends.{over, stopped}
+use Rattle.hib_top.proofs.Finished.{all_ended}
+use Rattle.hib_top.proofs.work.named.Goals as goal
+use Rattle.hib_top.proofs.work.named.Goals.{then-out_of_memory, else-out_of_memory}
+
+pub returns-clause-came : goal.returns-clause-came
+returns-clause-came g c =
+    let turns = Turns.OnWorkers c.args.workers in
+    let h = past c.close-keeper.result.2 in
+    let inside : outside_count h ≡ 0 = ap (λ (k : Kept). outside_count (past k)) c.close-keeper.ensures.journal ∙ c.work-factory.ensures.worked.inside in
+    let played : IsPlayed g.N.Name.script g.N.Name.from.tables (g.K.Keeper.tables c.close-keeper.result.0) h =
+    record {
+      legal = c.close-keeper.ensures.legal;
+      law = c.close-keeper.ensures.law;
+      given = c.lists_are_given.ensures.lists g.N.Name.script g.N.Name.from.tables h c.requires.valid c.close-keeper.ensures.legal;
+      numbered = c.close-keeper.ensures.numbered;
+      few = omega (arith, c.close-keeper.ensures.short, inside);
+      committed = c.close-keeper.ensures.rows;
+    } in
+    elim c.if-out_of_memory.branch [
+      | then-out_of_memory w ↦ stopped turns _ g.N.Name.script _ _ _ h w.end-is played
+      | else-out_of_memory w ↦ over turns _ _ g.N.Name.script _ _ _ h w.end-is c.close-keeper.ensures.script played
+          (all_ended turns g.N.Name.script h (subst (λ (k : Kept). AreOver g.N.Name.script (past k)) (sym c.close-keeper.ensures.journal) (c.work-factory.ensures.over w.if-out_of_memory.false)) inside)
+    ]
