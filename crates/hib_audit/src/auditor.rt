@@ -9,7 +9,7 @@ ghost use Rattle.hib_audit.specs.Standing.{HasWritten, IsReady, IsComing, IsJudg
 
 use crate::engines::Engines;
 use crate::points::{AuditKind, difference, due_act};
-use crate::same_replies::is_same_reply;
+use crate::same::is_same_reply;
 use crate::sessions::{advance, kill_at, kill_open, note_written, open_sessions, open_written};
 use crate::ticks::Ticks;
 use crate::written::Written;

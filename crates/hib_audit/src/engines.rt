@@ -16,9 +16,9 @@ ghost use Rattle.hib_engines.specs.Served.{IsServed, AreWithin};
 ghost use Rattle.hib_audit.specs.Standing.{region_of, own_after, AreStanding, IsAtRegion, AreEmptied, IsReady, IsAnswered, IsBuilt};
 
 use crate::keeper::Unfailing;
-use crate::parts::part_of;
 use hib_base::{Act, EntityNo, Part, Reply, Script, SessionNo, Tick};
 use hib_engines::{Region, Registry, ResultsEngine, StampsEngine, StoreEngine, laws};
+use hib_journal::part_of;
 use hib_session::Session;
 use std::alloc::{AllocError, Global};
 use std::marker::Model;

@@ -6,15 +6,13 @@
 //! first bad entry is not looked at.
 #![tactic(auto)]
 
+mod actors;
 mod auditing;
 mod auditor;
 mod engines;
 mod keeper;
-mod parts;
 mod points;
 mod same;
-mod same_acts;
-mod same_replies;
 mod sessions;
 mod ticks;
 mod verdict;

@@ -9,10 +9,11 @@ ghost use Rattle.hib_journal.specs.Due.{IsAllowed};
 ghost use Rattle.hib_engines.specs.Registry.{IsRegistry};
 ghost use Rattle.hib_audit.specs.Standing.{AreSessions, IsAllowedFor, Differs};
 
-use crate::parts::{is_outside, part_of};
-use crate::same_acts::is_same_act;
-use hib_base::{Act, EntityNo, Entry, Script, SessionNo, Strategy};
+use crate::actors::is_outside;
+use crate::same::is_same_act;
+use hib_base::{Act, Entry, Script, SessionNo, is_cached};
 use hib_engines::Registry;
+use hib_journal::part_of;
 use hib_session::Session;
 use std::alloc::{AllocError, Global};
 
@@ -81,15 +82,6 @@ pub fn due_act(
     }
 }
 
-fn is_cached(script: &Script, entity: EntityNo) -> bool
-    ensures { result ≡ Next.is_cached script.now entity }
-{
-    match script.mapping.as_slice().get(entity.0 as usize) {
-        Some(def) => def.strategy != Strategy::Uncached,
-        None => false,
-    }
-}
-
 /// Whether an act may come: a kill is of an open session, and an eviction of a cached entity.
 fn comes(script: &Script, registry: &Registry, before: &[Entry], act: &Act) -> bool
     requires { IsRegistry registry.now (reverse before.now) }
@@ -98,7 +90,7 @@ fn comes(script: &Script, registry: &Registry, before: &[Entry], act: &Act) -> b
     let _ = before;
     match act {
         Act::Kill { session } => registry.is_open(*session),
-        Act::Evict { key } => is_cached(script, key.entity),
+        Act::Evict { key } => is_cached(script.mapping.as_slice(), key.entity),
         _ => true,
     }
 }

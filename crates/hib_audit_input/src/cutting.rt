@@ -1,8 +1,9 @@
 // Where the line `journal` cuts a text.
 ghost use Rattle.std.specs.Prelude.{◌≡◌, ◌≤◌, ◌+◌, IfOk, IfErr, length, take, drop, Some, None};
-ghost use Rattle.hib_lex.specs.Lines as lines;
 ghost use Rattle.hib_lex.specs.Lines.{lines_of};
 ghost use Rattle.hib_audit_input.specs.Input.{is_mark, cut};
+
+use hib_lex::line_length;
 
 /// Where a text is cut.
 #[derive(Clone, Copy)]
@@ -13,19 +14,6 @@ pub struct Cut {
     pub behind: usize,
     /// The number of lines before it.
     pub lines: usize,
-}
-
-/// How many bytes stand before the first line feed, or in all.
-#[tactic(auto, using(hib_lex::proofs::Texts::length_next, hib_lex::proofs::Texts::length_done))]
-fn line_length(text: &[u8]) -> usize
-    ensures { result ≡ lines.line_length text.now }
-{
-    for (i, byte) in text.iter().enumerate() {
-        if *byte == b'\n' {
-            return i;
-        }
-    }
-    text.len()
 }
 
 /// Whether a line ends the script.

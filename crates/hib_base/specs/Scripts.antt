@@ -1,7 +1,7 @@
 -- What a script says of its entities, queries, sessions and orders.
 use Rattle.std.specs.Prelude.{ℕ, Bool, true, false, ◌&&◌, nat_lt, sum_by, List, [], ◌∷◌, length, slice_get, Some, None, Option}
 use Rattle.std.specs.List.{list_all}
-use Rattle.hib_base.specs.Types.{Strategy, ColumnType, EntityDef, Key, Row, Target, Cond, Query, Statement, SessionDef, Order, Script}
+use Rattle.hib_base.specs.Types.{Strategy, ColumnType, EntityDef, Mode, Key, Row, Target, Cond, Query, Statement, SessionDef, Order, Script}
 
 -- ---- entities
 -- what the mapping says of an entity
@@ -16,6 +16,18 @@ is_cached_by _ = true
 abbrev pub is_cached_in : List EntityDef → ℕ → Bool
 is_cached_in mapping n = is_cached_by (strategy_in (slice_get mapping n))
 
+-- ---- modes
+abbrev pub mode_reads : Mode → Bool
+mode_reads Mode.Normal = true
+mode_reads Mode.Get = true
+mode_reads _ = false
+
+abbrev pub mode_puts : Mode → Bool
+mode_puts Mode.Normal = true
+mode_puts Mode.Put = true
+mode_puts _ = false
+
+-- ---- references
 -- a reference leads to one of the first n entities
 abbrev pub is_type_below : ℕ → ColumnType → Bool
 is_type_below n (ColumnType.Ref e) = nat_lt e n

@@ -24,7 +24,7 @@ pub use rows::{
 pub use scripts::{
     ColumnDef, ColumnType, Columns, Cond, EntityDef, Mapping, Mode, Node, Op, Order, Orders, Path,
     Queries, Query, Script, Select, SessionDef, Sessions, Sort, Sorts, Statement, Statements,
-    Strategy, Target,
+    Strategy, Target, is_cached, strategy_of,
 };
 pub use seq::Seq;
 

@@ -182,36 +182,82 @@ pub enum Evicted {
 }
 
 /// What was answered to an act.
-#[derive(Drop)]
+#[derive(Drop, PartialEq, Eq)]
 pub enum Reply {
-    Began { floor: Tick },
-    Ended { outcome: Outcome },
+    /// To a begin.
+    Began {
+        /// The least time among the sessions that are open, this one among them.
+        floor: Tick,
+    },
+    /// To an end.
+    Ended {
+        /// How the transaction ended.
+        outcome: Outcome,
+    },
+    /// To a kill, a restart or a rollback.
     Done,
+    /// To a find or a load: the row, if there is one.
     Row(Option<Row>),
+    /// To a persist: the session holds the row now.
     New,
+    /// To a persist: nothing has changed, since the session holds the key or has written it.
     Known,
+    /// To a set: the cells are set.
     Set,
+    /// To a set or a removal: nothing has changed, since the session doesn't hold the key, or has marked it for deletion.
     Unknown,
+    /// To a set: nothing has changed, since rows of the entity are never updated.
     ReadOnly,
+    /// To a removal: the row is marked, or forgotten.
     Removed,
+    /// To a clear.
     Cleared,
+    /// To a list: what the query gives.
     Listed(Listing),
+    /// To a load or a list: the keeper failed.
     Fault,
+    /// To a write.
     Written,
+    /// To a commit.
     Commit(Commit),
-    Stamped { value: Tick },
+    /// To both kinds of stamping.
+    Stamped {
+        /// The stamp, which is in the future before a flush.
+        value: Tick,
+    },
+    /// To a check.
     Check(Checked),
-    Found { time: Tick, list: Listing },
+    /// To a look: there is a kept result.
+    Found {
+        /// Its time.
+        time: Tick,
+        /// What the query gave.
+        list: Listing,
+    },
+    /// To a look or a removal in a region: there is none.
     Absent,
-    Kept { dropped: Option<QueryNo> },
+    /// To a keep.
+    Kept {
+        /// The query whose result had to leave, if one had to.
+        dropped: Option<QueryNo>,
+    },
+    /// To a get: the row of the item.
     Hit(Row),
+    /// To a get: there is no row for this session.
     Miss(Miss),
+    /// To a put.
     Put(Put),
+    /// To a lock.
     Locked(Locked),
+    /// To an unlock.
     Unlocked(Unlocked),
+    /// To a row whose insert was committed.
     Inserted(Inserted),
+    /// To a row whose update was committed.
     Updated(Updated),
+    /// To a removal in a region: the item is gone.
     Dropped,
+    /// To an eviction.
     Evicted(Evicted),
 }
 

@@ -1,6 +1,6 @@
 // Cells, rows and changes.
-ghost use Rattle.std.specs.Prelude.{◌≡◌, IfOk};
-ghost use Rattle.hib_base.specs.Tables.{key_of};
+ghost use Rattle.std.specs.Prelude.{◌≡◌, IfOk, option_copied};
+ghost use Rattle.hib_base.specs.Tables.{key_of, row_left};
 
 use crate::numbers::{EntityNo, Key};
 use crate::seq::Seq;
@@ -13,7 +13,7 @@ pub type Bytes = Seq<u8>;
 pub type Text = Seq<u8>;
 
 /// A value in a column of a row.
-#[derive(Drop)]
+#[derive(Drop, PartialEq, Eq)]
 pub enum Cell {
     /// A number, or the identifier of a row that is referred to.
     Int(i64),
@@ -30,7 +30,7 @@ pub type Cells = Seq<Cell>;
 pub type Listing = Seq<Cell>;
 
 /// A row of an entity.
-#[derive(Drop)]
+#[derive(Drop, PartialEq, Eq)]
 pub struct Row {
     /// Its version, where its entity is versioned.
     pub version: Option<u32>,
@@ -42,7 +42,7 @@ pub struct Row {
 pub type Rows = Seq<(Key, Row)>;
 
 /// What a transaction does to one row.
-#[derive(Drop)]
+#[derive(Drop, PartialEq, Eq)]
 pub enum Change {
     /// A new row, where there is none.
     Insert {
@@ -140,6 +140,16 @@ impl Change {
         match self {
             Change::Insert { key, .. } | Change::Update { key, .. } | Change::Delete { key, .. } =>
                 *key,
+        }
+    }
+
+    /// The row that it leaves; none after a delete.
+    pub fn row_left(&self) -> Option<&Row>
+        ensures { option_copied result ≡ row_left self.now }
+    {
+        match self {
+            Change::Insert { row, .. } | Change::Update { row, .. } => Some(row),
+            Change::Delete { .. } => None,
         }
     }
 

@@ -1,4 +1,4 @@
--- What is noted of keys, one change or lock after another.
+-- What is noted of keys, one change after another.
 use Rattle.std.proofs.Common.{◌≡◌, ℕ, zero, suc, ◌+◌, ◌<◌, length, get_or, add-one, arith, Bool, true, false, cond, ◌||◌, List, [], ◌∷◌, ◌++◌, Some, None, Option, is_some, slice_get, drop, refl, sym, ap, ◌∙◌, append_assoc}
 use Rattle.std.specs.List.{flat_map}
 use Rattle.std.specs.Map.{keys_of as keys_in, lookup}
@@ -7,8 +7,8 @@ use Rattle.hib_base.specs.Keys.{same_key}
 use Rattle.hib_base.specs.Tables.{or_change}
 use Rattle.hib_journal.specs.Types.{Key, Change, Act}
 use Rattle.hib_journal.specs.Next.{add_key}
-use Rattle.hib_completion.specs.Completed.{is_key_in, lock_from}
-use Rattle.hib_completion.specs.Touched.{at_place, or_place, with_key, or_zero}
+use Rattle.hib_completion.specs.Completed.{is_key_in}
+use Rattle.hib_completion.specs.Touched.{at_place, or_place, with_key}
 use Rattle.hib_completion.proofs.Keys.{less, keep_there, keep_new, same_key_sym}
 
 -- the item at a place, and those behind it
@@ -66,11 +66,6 @@ pub last_more : (cs : List Change) (a : Option ℕ) (rest : Option Change) (b : 
 last_more cs a (Some d) b i c whole e h = h
 last_more cs a None true i c whole e h = rw e h
 last_more cs a None false i c whole e h = h
-
--- a lock more
-pub lock_more : (k : Key) (a : Option ℕ) (b : Bool) (i : ℕ) (rest : List (Key × ℕ)) (whole : ℕ) → lock_from k (cond b i (or_zero a)) rest ≡ whole → lock_from k (or_zero (cond b (Some i) a)) rest ≡ whole
-lock_more k a true i rest whole h = h
-lock_more k a false i rest whole h = h
 
 -- what completes one key more
 pub acts_more : (f : Key → List Act) (ks : List Key) (i : ℕ) (k : Key) (done acts whole : List Act) → slice_get ks i ≡ Some k → acts ≡ f k → done ++ flat_map f (drop i ks) ≡ whole →

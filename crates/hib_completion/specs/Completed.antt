@@ -1,15 +1,19 @@
 -- What completes a transaction, but for its End.
-use Rattle.std.specs.Prelude.{ℕ, Bool, cond, ◌&&◌, ◌==◌, List, [], ◌∷◌, ◌++◌, length, slice_get, Some, None, Option}
+use Rattle.std.specs.Prelude.{ℕ, Bool, ◌&&◌, ◌==◌, List, [], ◌∷◌, ◌++◌, length, slice_get, Some, None, Option}
 use Rattle.std.specs.List.{filter, flat_map, list_any, range_with_len}
+use Rattle.std.specs.Map.{lookup}
 use Rattle.hib_base.specs.Keys.{same_key}
 use Rattle.hib_base.specs.Tables.{key_of, first_on, last_on}
 use Rattle.hib_journal.specs.Types.{Key, Change, EntityDef, Mode, Act}
 use Rattle.hib_journal.specs.Next.{strategy_in, mode_puts, puts_back, complete_by, keys_of, stamps_of}
 
--- the number of the last lock of a key, or i where there is none
-abbrev pub lock_from : Key → ℕ → List (Key × ℕ) → ℕ
-lock_from k i [] = i
-lock_from k i (p ∷ ps) = lock_from k (cond (same_key p.0 k) p.1 i) ps
+abbrev pub or_zero : Option ℕ → ℕ
+or_zero None = 0
+or_zero (Some n) = n
+
+-- the number of the lock of a key, or 0 if it has none
+abbrev pub lock_of : Key → List (Key × ℕ) → ℕ
+lock_of k locks = or_zero (lookup (same_key k) locks)
 
 -- the entities of a list of changes, in the mapping's order
 abbrev pub tables_by : List EntityDef → List Change → List ℕ
@@ -18,7 +22,7 @@ tables_by mapping cs = filter (λ n. list_any (λ c. (key_of c).entity == n) cs)
 -- what completes one key, by whether rows may be put back: by its first change, and by the row that its last one left
 abbrev pub key_acts : List EntityDef → List Change → List (Key × ℕ) → Bool → ℕ → Key → List Act
 key_acts mapping cs locks done floor k =
-    complete_by (first_on k cs) (strategy_in (slice_get mapping k.entity)) k (lock_from k 0 locks) floor (puts_back done (last_on k cs))
+    complete_by (first_on k cs) (strategy_in (slice_get mapping k.entity)) k (lock_of k locks) floor (puts_back done (last_on k cs))
 
 abbrev pub keys_acts : List EntityDef → List Change → List (Key × ℕ) → Bool → ℕ → List Key → List Act
 keys_acts mapping cs locks done floor ks = flat_map (λ k. key_acts mapping cs locks done floor k) ks

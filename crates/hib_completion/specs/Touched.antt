@@ -1,11 +1,11 @@
--- The changes and locks of a transaction by key.
+-- The changes of a transaction by key.
 use Rattle.std.specs.Prelude.{◌≡◌, ℕ, cond, List, [], ◌∷◌, ◌++◌, Some, None, Option, slice_get}
 use Rattle.std.specs.Map.{keys_of as keys_in, lookup}
 use Rattle.hib_base.specs.Keys.{same_key}
 use Rattle.hib_base.specs.Tables.{first_on, last_on}
 use Rattle.hib_journal.specs.Types.{Key, Change}
 use Rattle.hib_journal.specs.Next.{keys_of}
-use Rattle.hib_completion.specs.Completed.{lock_from, is_key_in}
+use Rattle.hib_completion.specs.Completed.{is_key_in}
 use Rattle.hib_completion.specs.declared.touched.Touched.{Touched}
 
 -- the change at a place, if there is one
@@ -21,13 +21,8 @@ or_place (Some i) b = Some i
 abbrev pub with_key : Key → List Key → List Key
 with_key k ks = cond (is_key_in k ks) ks (ks ++ k ∷ [])
 
-abbrev pub or_zero : Option ℕ → ℕ
-or_zero None = 0
-or_zero (Some n) = n
-
--- what is known of the changed keys is what these changes and locks say
-pub record StandsFor (cs : List Change) (locks : List (Key × ℕ)) (touched : Touched) : Type 0 where
+-- what is known of the changed keys is what these changes say
+pub record StandsFor (cs : List Change) (touched : Touched) : Type 0 where
   pub keys : keys_in touched.firsts.entries ≡ keys_of cs
   pub first : (k : Key) → at_place cs (lookup (same_key k) touched.firsts.entries) ≡ first_on k cs
   pub last : (k : Key) → at_place cs (lookup (same_key k) touched.lasts.entries) ≡ last_on k cs
-  pub lock : (k : Key) → or_zero (lookup (same_key k) touched.locks.entries) ≡ lock_from k 0 locks

@@ -1,24 +1,14 @@
 // The acts that complete a transaction.
-ghost use Rattle.std.specs.Prelude.{◌≡◌, ◌∷◌, [], ℕ, List, IfOk, option_copied};
-ghost use Rattle.hib_base.specs.declared.numbers.Key.{Key as KeyOf};
-ghost use Rattle.hib_journal.specs.Next.{mode_puts, puts_back, complete_by, complete_insert, complete_update, release_of, keys_of};
+ghost use Rattle.std.specs.Prelude.{◌≡◌, ◌∷◌, [], IfOk, option_copied};
+ghost use Rattle.hib_journal.specs.Next.{puts_back, complete_by, complete_insert, complete_update, release_of, keys_of};
 ghost use Rattle.hib_completion.specs.Completed.{acts_of, key_acts, keys_acts, completes};
 ghost use Rattle.hib_completion.specs.Touched.{StandsFor};
 
-use crate::lists::{strategy_of, tables};
-use crate::touched::{Touched, change_of, key_at, lock_of};
-use hib_base::{Act, Acts, Change, Key, Mapping, Mode, Row, Seq, Strategy, Tick};
+use crate::lists::tables;
+use crate::touched::{Touched, change_of, key_at, lock_number};
+use hib_base::{Act, Acts, Change, Key, Mapping, Mode, Row, Seq, Strategy, Tick, strategy_of};
+use indexmap::IndexMap;
 use std::alloc::{AllocError, Global};
-
-/// Whether a session in this mode puts into the cache.
-fn does_put(mode: Mode) -> bool
-    ensures { result ≡ mode_puts mode }
-{
-    match mode {
-        Mode::Normal | Mode::Put => true,
-        Mode::Ignore | Mode::Get => false,
-    }
-}
 
 /// The row that may be put back after a key's last change.
 fn put_back(done: bool, last: Option<&Change>) -> Option<&Row>
@@ -27,10 +17,7 @@ fn put_back(done: bool, last: Option<&Change>) -> Option<&Row>
     if !done {
         return None;
     }
-    match last? {
-        Change::Insert { row, .. } | Change::Update { row, .. } => Some(row),
-        Change::Delete { .. } => None,
-    }
+    last?.row_left()
 }
 
 /// What completes a key that was inserted first.
@@ -104,22 +91,23 @@ fn key_completed(
     }
 }
 
-/// What completes one of the changed keys, by the places of its changes and its last lock.
+/// What completes one of the changed keys, by the places of its changes and its lock.
 fn completed(
     alloc: Global,
     mapping: &Mapping,
     changes: &[Change],
     touched: &Touched,
+    locks: &IndexMap<Key, Tick>,
     done: bool,
     floor: Tick,
     key: &Key,
 ) -> Result<Option<Act>, AllocError>
-    ensures { IfOk result (λ a. (locks : List (KeyOf × ℕ)) → StandsFor changes.now locks touched.now
-        → acts_of a ≡ key_acts mapping.now changes.now locks done floor key.now) }
+    ensures { IfOk result (λ a. StandsFor changes.now touched.now
+        → acts_of a ≡ key_acts mapping.now changes.now locks.now.entries done floor key.now) }
 {
     let first = change_of(changes, &touched.firsts, key);
-    let strategy = strategy_of(mapping, *key);
-    let lock = lock_of(&touched.locks, key);
+    let strategy = strategy_of(mapping.as_slice(), key.entity);
+    let lock = lock_number(locks, key);
     let last = change_of(changes, &touched.lasts, key);
     let row = put_back(done, last);
     let act = key_completed(alloc, first, strategy, *key, lock, floor, row)?;
@@ -132,16 +120,17 @@ fn all_completed(
     mapping: &Mapping,
     changes: &[Change],
     touched: &Touched,
+    locks: &IndexMap<Key, Tick>,
     done: bool,
     floor: Tick,
 ) -> Result<Acts, AllocError>
-    ensures { IfOk result (λ q. (locks : List (KeyOf × ℕ)) → StandsFor changes.now locks touched.now
-        → q ≡ keys_acts mapping.now changes.now locks done floor (keys_of changes.now)) }
+    ensures { IfOk result (λ q. StandsFor changes.now touched.now
+        → q ≡ keys_acts mapping.now changes.now locks.now.entries done floor (keys_of changes.now)) }
 {
     let mut acts = Seq::new(alloc);
     for place in 0..touched.firsts.len() {
         let key = key_at(&touched.firsts, place);
-        if let Some(act) = completed(alloc, mapping, changes, touched, done, floor, &key)? {
+        if let Some(act) = completed(alloc, mapping, changes, touched, locks, done, floor, &key)? {
             acts.push(act)?;
         }
     }
@@ -153,30 +142,31 @@ fn keys_completed(
     alloc: Global,
     mapping: &Mapping,
     changes: &[Change],
-    locks: &[(Key, Tick)],
+    locks: &IndexMap<Key, Tick>,
     done: bool,
     floor: Tick,
 ) -> Result<Acts, AllocError>
-    ensures { IfOk result (λ q. q ≡ keys_acts mapping.now changes.now locks.now done floor (keys_of changes.now)) }
+    ensures { IfOk result (λ q. q ≡ keys_acts mapping.now changes.now locks.now.entries done floor (keys_of changes.now)) }
 {
-    let touched = Touched::of(alloc, changes, locks)?;
-    all_completed(alloc, mapping, changes, &touched, done, floor)
+    let touched = Touched::of(alloc, changes)?;
+    all_completed(alloc, mapping, changes, &touched, locks, done, floor)
 }
 
 /// What completes a transaction that wrote these changes, but for its End: key by key in order of first change, a row is
-/// put back or a lock is given back; and then the changed tables are stamped, if there are any.
+/// put back or a lock is given back; and then the changed tables are stamped, if there are any. The locks are by key, and may be of
+/// more keys than were changed.
 pub fn acts(
     alloc: Global,
     mapping: &Mapping,
     changes: &[Change],
-    locks: &[(Key, Tick)],
+    locks: &IndexMap<Key, Tick>,
     committed: bool,
     mode: Mode,
     floor: Tick,
 ) -> Result<Acts, AllocError>
-    ensures { IfOk result (λ q. q ≡ completes mapping.now changes.now locks.now committed mode floor) }
+    ensures { IfOk result (λ q. q ≡ completes mapping.now changes.now locks.now.entries committed mode floor) }
 {
-    let done = committed && does_put(mode);
+    let done = committed && mode.puts();
     let mut acts = keys_completed(alloc, mapping, changes, locks, done, floor)?;
     let tables = tables(alloc, mapping, changes)?;
     if !tables.is_empty() {

@@ -1,22 +1,11 @@
-// What a completion looks up in the mapping.
-ghost use Rattle.std.specs.Prelude.{◌≡◌, ◌==◌, IfOk, MatchOption, false, true, slice_get};
+// The tables that a completion stamps.
+ghost use Rattle.std.specs.Prelude.{◌≡◌, ◌==◌, IfOk, MatchOption, false, true};
 ghost use Rattle.std.specs.List.{list_any};
 ghost use Rattle.hib_base.specs.Tables.{key_of};
-ghost use Rattle.hib_journal.specs.Next.{strategy_in};
 ghost use Rattle.hib_completion.specs.Completed.{tables_by};
 
-use hib_base::{Change, EntityNo, Key, Mapping, Names, Seq, Strategy};
+use hib_base::{Change, EntityNo, Mapping, Names, Seq};
 use std::alloc::{AllocError, Global};
-
-/// The strategy of a key's entity; an undeclared one isn't cached.
-pub fn strategy_of(mapping: &Mapping, key: Key) -> Strategy
-    ensures { result ≡ strategy_in (slice_get mapping.now key.entity) }
-{
-    match mapping.as_slice().get(key.entity.0 as usize) {
-        Some(def) => def.strategy,
-        None => Strategy::Uncached,
-    }
-}
 
 /// The entity of this number, where one of the changes is of it.
 fn touched(changes: &[Change], number: usize) -> Option<EntityNo>

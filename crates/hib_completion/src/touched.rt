@@ -1,12 +1,12 @@
-// The places of the first and the last change of each key, and its last lock, each found in one pass.
+// The places of the first and the last change of each key, each found in one pass.
 ghost use Rattle.std.specs.Prelude.{◌≡◌, ◌<◌, cond, IfOk, OnOk, None, Some, length, option_copied, slice_get};
 ghost use Rattle.std.specs.Map.{keys_of as keys_in, lookup};
 ghost use Rattle.hib_base.specs.Keys.{same_key};
 ghost use Rattle.hib_base.specs.Tables.{first_on, last_on};
 ghost use Rattle.hib_base.specs.declared.numbers.Key.{Key as KeyOf};
 ghost use Rattle.hib_journal.specs.Next.{keys_of};
-ghost use Rattle.hib_completion.specs.Completed.{lock_from};
-ghost use Rattle.hib_completion.specs.Touched.{at_place, or_place, with_key, or_zero, StandsFor};
+ghost use Rattle.hib_completion.specs.Completed.{lock_of};
+ghost use Rattle.hib_completion.specs.Touched.{at_place, or_place, with_key, StandsFor};
 
 use hib_base::{Change, Key, Tick};
 use indexmap::IndexMap;
@@ -67,31 +67,11 @@ fn lasts_of(alloc: Global, changes: &[Change]) -> Result<IndexMap<Key, usize>, A
     Ok(lasts)
 }
 
-/// A lock is the last of its key so far.
-fn note_lock(ids: &mut IndexMap<Key, Tick>, key: Key, id: Tick) -> Result<(), AllocError>
-    ensures { OnOk result ((k : KeyOf) → lookup (same_key k) ids.new.entries
-        ≡ cond (same_key key k) (Some id) (lookup (same_key k) ids.old.entries)) }
+/// The number of a key's lock, or 0 if it has none.
+pub fn lock_number(locks: &IndexMap<Key, Tick>, key: &Key) -> Tick
+    ensures { result ≡ lock_of key.now locks.now.entries }
 {
-    ids.insert(key, id)?;
-    Ok(())
-}
-
-/// The number of the last lock of each key.
-fn locks_of(alloc: Global, locks: &[(Key, Tick)]) -> Result<IndexMap<Key, Tick>, AllocError>
-    ensures { IfOk result (λ m. (k : KeyOf) → or_zero (lookup (same_key k) m.entries) ≡ lock_from k 0 locks.now) }
-{
-    let mut ids = IndexMap::new(alloc);
-    for (key, id) in locks {
-        note_lock(&mut ids, *key, *id)?;
-    }
-    Ok(ids)
-}
-
-/// The number of a key's last lock, or 0 if it has none.
-pub fn lock_of(ids: &IndexMap<Key, Tick>, key: &Key) -> Tick
-    ensures { result ≡ or_zero (lookup (same_key key.now) ids.now.entries) }
-{
-    match ids.get(key) {
+    match locks.get(key) {
         Some(id) => *id,
         None => Tick(0),
     }
@@ -113,26 +93,15 @@ pub struct Touched {
     pub firsts: IndexMap<Key, usize>,
     /// The place of the last change of each key.
     pub lasts: IndexMap<Key, usize>,
-    /// The number of the last lock of each key that was locked.
-    pub locks: IndexMap<Key, Tick>,
 }
 
 impl Touched {
-    /// Of these changes, and these locks.
-    pub fn of(
-        alloc: Global,
-        changes: &[Change],
-        locks: &[(Key, Tick)],
-    ) -> Result<Touched, AllocError>
-        ensures { IfOk result (StandsFor changes.now locks.now) }
+    /// Of these changes.
+    pub fn of(alloc: Global, changes: &[Change]) -> Result<Touched, AllocError>
+        ensures { IfOk result (StandsFor changes.now) }
     {
         let firsts = firsts_of(alloc, changes)?;
         let lasts = lasts_of(alloc, changes)?;
-        let locks = locks_of(alloc, locks)?;
-        Ok(Touched {
-            firsts,
-            lasts,
-            locks,
-        })
+        Ok(Touched { firsts, lasts })
     }
 }

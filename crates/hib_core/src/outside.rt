@@ -14,10 +14,10 @@ ghost use Rattle.hib_session.specs.declared.session.Session.{Session};
 
 use crate::names::Name;
 use crate::parts::Parts;
-use crate::turns::{add, part_of, reserve_tick};
+use crate::turns::{add, reserve_tick};
 use hib_base::{Act, Entry, Key, Reply, SessionNo, Tick};
 use hib_engines::{Registry, laws};
-use hib_journal::Journal;
+use hib_journal::{Journal, part_of};
 use hib_law::law;
 use hib_outside::Keeper;
 use hib_session::Session;

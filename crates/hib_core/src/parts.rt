@@ -15,9 +15,9 @@ ghost use Rattle.hib_engines.specs.Region.{entity_in, IsPlaced, Suits};
 ghost use Rattle.hib_engines.specs.Served.{IsServed, AreWithin, reads};
 ghost use Rattle.hib_core.specs.Standing.{Origin, region_of, own_after, outside_entry, AreParts, IsAtRegion, IsStill, IsReady, IsAnswered, IsAskedFor, AreEmptied};
 
-use crate::turns::part_of;
 use hib_base::{Act, EntityNo, Part, Reply, Script, SessionNo, Tick};
 use hib_engines::{Region, Registry, ResultsEngine, StampsEngine, StoreEngine, laws};
+use hib_journal::part_of;
 use hib_outside::Keeper;
 use std::alloc::{AllocError, Global};
 use std::marker::Model;

@@ -5,7 +5,6 @@ ghost use Rattle.hib_journal.specs.Kept.{past};
 ghost use Rattle.hib_journal.specs.Sessions.{Journal as Past, own, was_killed};
 ghost use Rattle.hib_journal.specs.Next.{next};
 ghost use Rattle.hib_journal.specs.Played.{has_next};
-ghost use Rattle.hib_journal.specs.Legal;
 ghost use Rattle.hib_journal.specs.Runs.{is_fault};
 ghost use Rattle.hib_outside.specs.Causes.{Rose};
 ghost use Rattle.hib_session.specs.Memory.{brings};
@@ -17,10 +16,10 @@ ghost use Rattle.hib_core.specs.Factory.{IsTold, IsRun, IsAsked, IsMember, IsTur
 
 use crate::names::Name;
 use crate::parts::Parts;
-use hib_base::{Act, Entry, Part, Reply, Script, SessionNo, Tick};
+use hib_base::{Act, Entry, Reply, Script, SessionNo, Tick};
 use hib_clock::next as tick_after;
 use hib_engines::laws;
-use hib_journal::Journal;
+use hib_journal::{Journal, part_of};
 use hib_law::law;
 use hib_outside::Keeper;
 use hib_session::Session;
@@ -111,33 +110,6 @@ fn answer<K: Keeper>(
         return Ok(reply);
     }
     parts.serve(alloc, script, number, act, now)
-}
-
-/// The part of an act of a session.
-pub fn part_of(act: &Act, session: SessionNo) -> Part
-    ensures { result ≡ Legal.part_of act.now session }
-{
-    match act {
-        Act::Begin | Act::End | Act::Kill { .. } | Act::Restart => Part::Registry,
-        Act::Find { .. }
-        | Act::Persist { .. }
-        | Act::Set { .. }
-        | Act::Remove { .. }
-        | Act::Clear => Part::Own(session),
-        Act::Load { .. } | Act::List { .. } | Act::Write(_) | Act::Commit | Act::Rollback => {
-            Part::Store
-        }
-        Act::Pre { .. } | Act::Stamp { .. } | Act::Check { .. } => Part::Stamps,
-        Act::Look { .. } | Act::Keep { .. } => Part::Results,
-        Act::Get { key, .. }
-        | Act::Put { key, .. }
-        | Act::Lock { key, .. }
-        | Act::Unlock { key, .. }
-        | Act::AfterInsert { key, .. }
-        | Act::AfterUpdate { key, .. }
-        | Act::RegionRemove { key }
-        | Act::Evict { key } => Part::Region(key.entity),
-    }
 }
 
 /// The tick of the next entry. All parts stand under one lock, so that they share their last tick, and so do the sessions: it is

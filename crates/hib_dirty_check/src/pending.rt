@@ -45,7 +45,7 @@ pub fn update(alloc: Global, key: Key, held: &Held) -> Result<Option<Change>, Al
 fn update_from(alloc: Global, key: Key, base: &Row, row: &Row) -> Result<Option<Change>, AllocError>
     ensures { IfOk result (λ c. c ≡ update_by State.Managed key row.now (Some base.now)) }
 {
-    if are_same_cells(row.cells.as_slice(), base.cells.as_slice()) {
+    if are_same_cells(&row.cells, &base.cells) {
         return Ok(None);
     }
     let mut new = row.copy(alloc)?;

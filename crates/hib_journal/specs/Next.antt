@@ -3,7 +3,7 @@ use Rattle.std.specs.Prelude.{ℕ, Bool, true, false, cond, not, ◌&&◌, ◌==
 use Rattle.std.specs.List.{filter, flat_map, list_any, range_with_len}
 use Rattle.hib_journal.specs.Types.{Key, Row, Change, Commit, Strategy, EntityDef, Mode, Query, Statement, SessionDef, Script, Act, Reply, Checked}
 use Rattle.hib_base.specs.Keys.{same_key}
-pub use Rattle.hib_base.specs.Scripts.{strategy_in, is_cached_by, ends}
+pub use Rattle.hib_base.specs.Scripts.{strategy_in, is_cached_by, mode_reads, mode_puts, ends}
 use Rattle.hib_base.specs.Tables.{key_of, row_left, last_on, first_on}
 use Rattle.hib_journal.specs.Sessions.{Journal, time_in, floor_in, changes_in}
 use Rattle.hib_journal.specs.Query.{tables}
@@ -30,16 +30,6 @@ capacity script n = capacity_in (slice_get script.mapping n)
 
 abbrev pub first_version : Script → ℕ → Option ℕ
 first_version script n = cond (is_versioned_in (slice_get script.mapping n)) (Some 0) None
-
-abbrev pub mode_reads : Mode → Bool
-mode_reads Mode.Normal = true
-mode_reads Mode.Get = true
-mode_reads _ = false
-
-abbrev pub mode_puts : Mode → Bool
-mode_puts Mode.Normal = true
-mode_puts Mode.Put = true
-mode_puts _ = false
 
 abbrev pub is_in : Key → List Change → Bool
 is_in k cs = list_any (λ c. same_key (key_of c) k) cs

@@ -3,12 +3,12 @@ ghost use Rattle.hib_base.specs.Valid.{is_valid};
 ghost use Rattle.hib_entry_fields.specs.Fields as fields;
 ghost use Rattle.hib_journal.specs.Types.{Entry};
 ghost use Rattle.hib_journal_json.specs.Entries as entries;
-ghost use Rattle.hib_journal_json.specs.Entries.{IsLine, IsBad};
+ghost use Rattle.hib_journal_json.specs.Entries.{IsEntry, IsLine, IsBad};
 ghost use Rattle.hib_journal_json.specs.Guesses as format;
 ghost use Rattle.hib_json_lines.specs.Line.{texts};
 ghost use Rattle.hib_report.specs.Lines.{act_text, part_text, reply_text};
 ghost use Rattle.hib_texts.specs.Texts.{session_text};
-ghost use Rattle.std.specs.Prelude.{◌≡◌, IfOk, IfSome, IfNone, bytes_eq, option_map, string_bytes, true, ◌&&◌, false, Some};
+ghost use Rattle.std.specs.Prelude.{◌≡◌, ◌↔◌, IsTrue, IfOk, IfSome, IfNone, bytes_eq, option_map, string_bytes, true, ◌&&◌, false, Some};
 
 use hib_base::{Act, Entry, Part, Reply, Script, SessionNo, Tick};
 use hib_entry_fields::{SessionNames, is_session, is_tick, session_of};
@@ -35,6 +35,13 @@ fn is_known(script: &Script, entry: &Entry) -> bool
         && is_reply(script, &entry.act, &entry.reply)
         && is_actor(script, entry.session)
         && is_tick(entry.tick)
+}
+
+/// Whether an entry is well formed.
+pub fn is_entry(script: &Script, entry: &Entry) -> bool
+    ensures { IsTrue result ↔ IsEntry script.now entry.now }
+{
+    is_known(script, entry) && part_of(&entry.act, entry.session) == Some(entry.part)
 }
 
 fn session_named(script: &Script, names: &SessionNames, name: &Option<String>) -> Option<SessionNo>

@@ -4,29 +4,16 @@ ghost use Rattle.hib_journal.specs.Types.{Entry};
 ghost use Rattle.hib_journal_json.specs.Entries.{AreEntries, AreLines, IsFirstBad, IsRefused, IsRefusedAs, refused_at};
 ghost use Rattle.hib_journal_json.specs.declared.faults.JournalFault.TheVariants.{NoMemory};
 ghost use Rattle.hib_json_lines.specs.Line.{json_lines};
-ghost use Rattle.hib_lex.specs.Lines as lines;
 ghost use Rattle.hib_lex.specs.Lines.{lines_of};
-ghost use Rattle.std.specs.Prelude.{◌≡◌, ◌≤◌, ◌^◌, ℕ, List, [], OnOk, IfErr, IfOk, MatchResult, length, true};
+ghost use Rattle.std.specs.Prelude.{◌≡◌, ◌↔◌, ◌≤◌, ◌^◌, ℕ, List, [], IsTrue, OnOk, IfErr, IfOk, MatchResult, length, true};
 
-use crate::entries::line_entry;
+use crate::entries::{is_entry, line_entry};
 use crate::faults::JournalFault;
 use hib_base::{Kind, Refused, Script};
 use hib_entry_fields::SessionNames;
 use hib_journal::Journal;
+use hib_lex::line_length;
 use std::alloc::Global;
-
-/// How many bytes stand before the first line feed, or in all.
-#[tactic(auto, using(hib_lex::proofs::Texts::length_next, hib_lex::proofs::Texts::length_done))]
-fn line_length(text: &[u8]) -> usize
-    ensures { result ≡ lines.line_length text.now }
-{
-    for (i, byte) in text.iter().enumerate() {
-        if *byte == b'\n' {
-            return i;
-        }
-    }
-    text.len()
-}
 
 // The refusal of the line behind some lines.
 fn refused(first: u32, before: usize) -> Refused
@@ -88,12 +75,21 @@ fn read_lines(
     read_named(alloc, script, &names, text, first, journal)
 }
 
+/// Whether all entries of a journal are well formed: then its JSON lines are read back as this journal.
+pub fn are_entries(script: &Script, journal: &Journal) -> bool
+    ensures { IsTrue result ↔ AreEntries script.now journal.now.list }
+{
+    journal
+        .as_slice()
+        .iter()
+        .all(|entry| is_entry(script, entry))
+}
+
 /// The journal whose entries' JSON lines a text has, one entry for each line to the end of the text. The line feed of
 /// the last line may be missing; no line is skipped. The first line has the number `first`.
 ///
 /// Errors: `Refused` exactly if a line is no well-formed entry's, with the number of the first such line; `NoMemory` if there
 /// is none left. Nothing else is changed.
-
 pub fn read(
     alloc: Global,
     script: &Script,

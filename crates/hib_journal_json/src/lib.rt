@@ -7,4 +7,4 @@ mod journal;
 
 pub use faults::JournalFault;
 pub use hib_json_lines::{put_line, write};
-pub use journal::read;
+pub use journal::{are_entries, read};

@@ -107,9 +107,9 @@ fn content_of(alloc: Global, line: &[u8]) -> Result<Content, AllocError>
     }
 }
 
-/// How many bytes stand before the first line end, or in all.
+/// How many bytes stand before the first line feed, or in all.
 #[tactic(auto, using(crate::proofs::Texts::length_next, crate::proofs::Texts::length_done))]
-fn line_length(text: &[u8]) -> usize
+pub fn line_length(text: &[u8]) -> usize
     ensures { result ≡ format.line_length text.now }
 {
     for (i, byte) in text.iter().enumerate() {

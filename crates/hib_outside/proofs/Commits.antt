@@ -1,10 +1,12 @@
 -- A keeper's verdict on a batch is the store's answer to a commit.
-use Rattle.std.proofs.Common.{◌≡◌, ℕ, ◌+◌, ◌-◌, ◌<◌, ◌≤◌, Bool, true, false, cond, List, [], ◌∷◌, ◌++◌, length, take, drop, get_or, Some, None, Option, refl, sym, ap, ◌∙◌, subst, arith, slice_get, append_assoc, length-append}
+use Rattle.std.proofs.Common.{◌≡◌, ℕ, zero, suc, ◌+◌, ◌-◌, ◌<◌, ◌≤◌, Bool, true, false, cond, List, [], ◌∷◌, ◌++◌, length, take, drop, get_or, Some, None, Option, refl, sym, ap, ◌∙◌, subst, arith, slice_get, append_assoc, length-append}
 use Rattle.std.proofs.lemmas.List.{take_more, drop_more}
+use Rattle.std.specs.Map.{lookup}
 use Rattle.hib_base.specs.Keys.{same_key}
 use Rattle.hib_base.proofs.Tables.{left_by, row_at_changes}
-use Rattle.hib_base.specs.Tables.{Tables, row_at, start, unless_there, last_on, or_change, after_change, after_changes, key_of, row_left, same_version, unless_expected, unless_absent, refusal, or_answer, commit_answer}
+use Rattle.hib_base.specs.Tables.{Tables, row_at, start, unless_there, last_on, or_change, after_change, after_changes, key_of, same_version, unless_expected, unless_absent, refusal, or_answer, commit_answer}
 use Rattle.hib_outside.specs.Types.{Key, Row, Change, Commit}
+use Rattle.hib_outside.specs.Lasts.{change_at, HasLasts}
 use Rattle.hib_outside.specs.Verdicts.{unless_as_expected, unless_free, refused_at, or_verdict, verdict, commit_of}
 use Rattle.hib_outside.specs.declared.keeper.Applied.{Applied}
 
@@ -91,20 +93,32 @@ last_on_found cs k n c h l r e s =
     e ∙ ap (last_on k) (take_last cs n c h l r) ∙ last_on_push k (take (n - 1) cs) c
     ∙ ap (λ b. or_change (cond b (Some c) None) (last_on k (take (n - 1) cs))) s
 
-pub row_after_found : (cs : List Change) (t : Tables) (k : Key) (n : ℕ) (c : Change) → 0 < n → n ≤ length cs → c ≡ get_or cs (n - 1) c
-    → last_on k cs ≡ last_on k (take n cs) → same_key (key_of c) k ≡ true → row_left c ≡ row_at (after_changes cs t) k
-row_after_found cs t k n c h l r e s = sym (row_at_changes cs t k ∙ ap (λ o. left_by o (row_at t k)) (last_on_found cs k n c h l r e s))
-
 pub row_after_next : (cs : List Change) (k : Key) (n : ℕ) (c : Change) → 0 < n → n ≤ length cs → c ≡ get_or cs (n - 1) c
     → last_on k cs ≡ last_on k (take n cs) → same_key (key_of c) k ≡ false → last_on k cs ≡ last_on k (take (n - 1) cs)
 row_after_next cs k n c h l r e s =
     e ∙ ap (last_on k) (take_last cs n c h l r) ∙ last_on_push k (take (n - 1) cs) c
     ∙ ap (λ b. or_change (cond b (Some c) None) (last_on k (take (n - 1) cs))) s
 
-pub row_after_none : (cs : List Change) (t : Tables) (k : Key) (n : ℕ) → last_on k cs ≡ last_on k (take n cs) → n ≡ 0 → row_at t k ≡ row_at (after_changes cs t) k
-row_after_none cs t k n e z =
-    let none : last_on k cs ≡ None = e ∙ ap (λ m. last_on k (take m cs)) z in
-    sym (row_at_changes cs t k ∙ ap (λ o. left_by o (row_at t k)) none)
+-- the row of a key after the first changes is what the last of them on the key leaves, or else the row before
+pub row_after_last : (cs : List Change) (n : ℕ) (t : Tables) (k : Key) (ps : List (Key × ℕ)) → HasLasts cs n ps
+    → left_by (change_at cs (lookup (same_key k) ps)) (row_at t k) ≡ row_at (after_changes (take n cs) t) k
+row_after_last cs n t k ps h = ap (λ o. left_by o (row_at t k)) (h k) ∙ sym (row_at_changes (take n cs) t k)
+
+got_at : {A : Type 0} (xs : List A) (i : ℕ) (x : A) → i < length xs → x ≡ get_or xs i x → slice_get xs i ≡ Some x
+got_at [] i x l e = absurd (omega (arith, l))
+got_at (y ∷ ys) zero x l e = ap Some (sym e)
+got_at (y ∷ ys) (suc i) x l e = let m : i < length ys = omega (arith, l) in got_at ys i x m e
+
+-- the place of a key's last change after one more
+pub lasts_next : (cs : List Change) (n : ℕ) (c : Change) (k : Key) (o : Option ℕ) → n < length cs → c ≡ get_or cs n c → change_at cs o ≡ last_on k (take n cs)
+    → change_at cs (cond (same_key (key_of c) k) (Some n) o) ≡ last_on k (take (n + 1) cs)
+lasts_next cs n c k o l r h =
+    let past : take (n + 1) cs ≡ take n cs ++ c ∷ [] = take_more cs n c l ∙ ap (λ d. take n cs ++ d ∷ []) (sym r) in
+    by (same_key (key_of c) k) ∙ sym (ap (last_on k) past ∙ last_on_push k (take n cs) c)
+  where
+    by : (b : Bool) → change_at cs (cond b (Some n) o) ≡ or_change (cond b (Some c) None) (last_on k (take n cs))
+    by true = got_at cs n c l r
+    by false = h
 
 -- one more change applies
 pub verdict_next : (x : Applied) (t : Tables) (cs : List Change) (n : ℕ) (c : Change) (o : Option Row) → n < length cs → c ≡ get_or cs n c

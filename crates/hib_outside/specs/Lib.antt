@@ -5,3 +5,4 @@ pub mod Keeps
 pub mod Hears
 pub mod Places
 pub mod Fronts
+pub mod Lasts

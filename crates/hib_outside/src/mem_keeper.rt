@@ -126,7 +126,7 @@ impl Keeper for MemKeeper {
         if self.failing.comes() {
             return Err(KeepFault::Failed);
         }
-        let applied = shelf::judge(self.rows.as_slice(), batch);
+        let applied = shelf::judge(alloc, self.rows.as_slice(), batch)?;
         if applied == Applied::Done {
             let changes = shelf::copy_changes(alloc, batch)?;
             self.rows.reserve(changes.len())?;

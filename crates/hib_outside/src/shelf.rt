@@ -1,13 +1,17 @@
 // Rows in order of keys, and what is done to them in place.
-ghost use Rattle.std.specs.Prelude.{◌≡◌, ◌+◌, ◌≤◌, ◌<◌, ℕ, true, length, List, [], cond, Some, None, MatchResult, IfOk, IfSome, vec_len, vec_capacity, option_copied};
+ghost use Rattle.std.specs.Map.{lookup};
+ghost use Rattle.std.specs.Prelude.{◌≡◌, ◌+◌, ◌≤◌, ◌<◌, ℕ, true, length, take, List, [], cond, Some, None, MatchResult, IfOk, IfSome, OnOk, vec_len, vec_capacity, option_copied};
 ghost use Rattle.hib_base.specs.Keys.{same_key, is_before};
+ghost use Rattle.hib_base.specs.declared.numbers.Key.{Key as KeyOf};
 ghost use Rattle.hib_base.specs.Tables.{in_order, row_at, with_row, without_row, row_left, same_version, after_change, after_changes, unless_there, start};
 ghost use Rattle.hib_outside.specs.Places.{place_in};
 ghost use Rattle.hib_outside.specs.Keeps.{rows_of, is_listed};
 ghost use Rattle.hib_outside.specs.Verdicts.{refused_at, verdict, IsPlace};
+ghost use Rattle.hib_outside.specs.Lasts.{change_at, HasLasts};
 
 use crate::Applied;
 use hib_base::{Change, EntityNo, Key, Row, Rows, Seq};
+use indexmap::IndexMap;
 use std::alloc::{AllocError, Global};
 
 fn is_same(a: &Key, b: &Key) -> bool
@@ -96,20 +100,40 @@ fn row_left_by(change: &Change) -> Option<&Row>
     }
 }
 
-/// The row of a key once changes are done.
-fn row_after<'a>(rows: &'a [(Key, Row)], done: &'a [Change], key: &Key) -> Option<&'a Row>
-    requires { in_order rows.now ≡ true }
-    ensures { option_copied result ≡ row_at (after_changes done.now rows.now) key.now }
+/// The change at the place that a key has, if it has one.
+fn last_change<'a>(
+    batch: &'a [Change],
+    lasts: &IndexMap<Key, usize>,
+    key: &Key,
+) -> Option<&'a Change>
+    ensures { option_copied result ≡ change_at batch.now (lookup (same_key key.now) lasts.now.entries) }
 {
-    let mut at = done.len();
-    while at > 0 {
-        at -= 1;
-        let change = &done[at];
-        if is_same(&change.key(), key) {
-            return row_left_by(change);
-        }
+    batch.get(*lasts.get(key)?)
+}
+
+/// A key has its last change at this place, so far.
+fn note_last(lasts: &mut IndexMap<Key, usize>, key: Key, at: usize) -> Result<(), AllocError>
+    ensures { OnOk result ((k : KeyOf) → lookup (same_key k) lasts.new.entries
+        ≡ cond (same_key key k) (Some at) (lookup (same_key k) lasts.old.entries)) }
+{
+    lasts.insert(key, at)?;
+    Ok(())
+}
+
+/// The row of a key once the first changes of a batch are done, whose last ones are known.
+fn row_after<'a>(
+    rows: &'a [(Key, Row)],
+    batch: &'a [Change],
+    lasts: &IndexMap<Key, usize>,
+    key: &Key,
+) -> Option<&'a Row>
+    requires { in_order rows.now ≡ true }
+    ensures { (n : ℕ) → HasLasts batch.now n lasts.now.entries → option_copied result ≡ row_at (after_changes (take n batch.now) rows.now) key.now }
+{
+    match last_change(batch, lasts, key) {
+        Some(change) => row_left_by(change),
+        None => row_of(rows, key),
     }
-    row_of(rows, key)
 }
 
 /// The answer to a change that meets this row and doesn't apply; none where it applies.
@@ -148,19 +172,22 @@ fn unless_expected(at: usize, expected: Option<u32>, found: Option<u32>) -> Opti
 }
 
 /// What is answered to a batch: the first change that doesn't apply decides.
-pub fn judge(rows: &[(Key, Row)], batch: &[Change]) -> Applied
+pub fn judge(alloc: Global, rows: &[(Key, Row)], batch: &[Change]) -> Result<Applied, AllocError>
     requires { in_order rows.now ≡ true }
-    ensures value { result ≡ verdict rows.now batch.now 0 }
-    ensures place { IsPlace result (length batch.now) }
+    ensures value { IfOk result (λ a. a ≡ verdict rows.now batch.now 0) }
+    ensures place { IfOk result (λ a. IsPlace a (length batch.now)) }
 {
+    let mut lasts = IndexMap::new(alloc);
     for at in 0..batch.len() {
         let change = &batch[at];
-        let found = row_after(rows, &batch[..at], &change.key());
+        let key = change.key();
+        let found = row_after(rows, batch, &lasts, &key);
         if let Some(applied) = refused(at, change, found) {
-            return applied;
+            return Ok(applied);
         }
+        note_last(&mut lasts, key, at)?;
     }
-    Applied::Done
+    Ok(Applied::Done)
 }
 
 /// Equal changes.

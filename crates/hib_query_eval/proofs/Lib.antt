@@ -8,3 +8,5 @@ pub mod Indexed
 pub mod Spans
 pub mod Untouched
 pub mod Laid
+pub mod Views
+pub mod Searched

@@ -1,22 +1,23 @@
 -- Which places a search between two values finds.
-use Rattle.std.proofs.Common.{◌≡◌, ℕ, ◌-◌, ◌^◌, ◌<◌, ◌≤◌, Bool, true, false, cond, not, ◌&&◌, ◌||◌, ◌==◌, List, [], ◌∷◌, ◌++◌, map, filter, slice_get, is_some, ◌⊎◌, Some, None, Option, refl, ap, sym, ◌∙◌, subst, inl, inr, arith}
-use Rattle.std.specs.Prelude.{nat_lt, int_lt, ℤ}
-use Rattle.std.specs.List.{list_any}
+use Rattle.std.proofs.Common.{◌≡◌, ℕ, ◌-◌, ◌^◌, ◌<◌, ◌≤◌, Bool, true, false, cond, not, ◌&&◌, ◌||◌, ◌==◌, ◌+◌, List, [], ◌∷◌, ◌++◌, length, map, filter, take, get_or, slice_get, ◌⊎◌, IfSome, MatchOption, Some, None, Option, refl, ap, sym, ◌∙◌, subst, inl, inr, arith}
+use Rattle.std.specs.Prelude.{nat_lt, int_lt, ℤ, pos, negsuc}
 use Rattle.std.specs.Ordering.{ordering_then, nat_cmp, int_cmp, is_eq, is_le, is_lt, is_gt}
 use Rattle.std.specs.Cmp.Lexicographic.{slice_cmp}
 use Rattle.std.specs.declared.cmp.Ordering.{Ordering}
 use Rattle.std.specs.declared.cmp.Ordering.TheVariants.{Less, Equal, Greater}
-use Rattle.std.proofs.lemmas.Bool.{true≢false, or_left, or_right, lt-ltb, le-ltb, ltb-true, ltb-false, eqb-true, eq-eqb}
+use Rattle.std.proofs.lemmas.Bool.{true≢false, or_left, or_right, or_cases, lt-ltb, le-ltb, ltb-true, ltb-false, eqb-true, eq-eqb}
+use Rattle.std.proofs.lemmas.List.Folds.{list_any_more}
 use Rattle.hib_base.proofs.Tables.{Tested, tested}
 use Rattle.hib_journal.specs.Types.{Cell, Op, Row, Path, Target, Cond}
 use Rattle.hib_base.specs.Tables.{Tables, row_at}
 use Rattle.hib_journal.specs.Room.{key}
-use Rattle.hib_journal.specs.Query.{is_below_text, is_below_cell, is_below_at, passes, same_cell, if_cell, cell_by, holds}
+use Rattle.hib_journal.specs.Query.{is_below_text, is_below_cell, is_below_at, passes, same_cell, if_cell, row_of_ref, cell_at, cell_by, holds}
+use Rattle.hib_journal.specs.Query as told
 use Rattle.hib_query_eval.specs.declared.places.Place.{Place}
 use Rattle.hib_query_eval.specs.declared.places.Value.{Value}
 use Rattle.hib_query_eval.specs.Orders.{kind}
 use Rattle.hib_query_eval.specs.Places.{cell_in, is_place, has_place, has_id, has_cell, IsIndexOf}
-use Rattle.hib_query_eval.specs.Covers.{Covers}
+use Rattle.hib_query_eval.specs.Covers.{Covers, Refer}
 use Rattle.hib_query_eval.specs.Spans.{value_cmp, place_cmp, is_within}
 use Rattle.hib_query_eval.proofs.Merges.{int_one_way, text_one_way, bool_int, bool_text}
 use Rattle.hib_query_eval.proofs.Compared.{Parts, place_parts, same_cell_eq, same_cell_refl, value_ties}
@@ -400,20 +401,77 @@ cell_covers ps e c test ids f t x r i at h = by (slice_get r.cells c) refl h
         let there : has_place ps e c i d ≡ true = x.cells e c i d ∙ ap (λ o. has_cell o c d) at ∙ ap (if_cell (same_cell d)) q ∙ same_cell_refl d in
         f i d (x.fit e c i d there) there g
 
-pub no_target : (o : Option Target) → is_some o ≡ false → o ≡ None
-no_target None h = refl
-no_target (Some g) h = absurd (true≢false h)
+-- a comparison at a column of the entity itself
+pub no_target_covers : (ps : List Place) (e c : ℕ) (p : Path) (test : Cell → Bool) (ids : List ℕ) → p.target ≡ None → c ≡ p.column
+    → ((i : ℕ) (d : Cell) → i < 2 ^ 64 → has_place ps e c i d ≡ true → test d ≡ true → has_id i ids ≡ true)
+    → (t : Tables) → IsIndexOf ps t → (r : Row) (i : ℕ) → row_at t (key e i) ≡ Some r → if_cell test (cell_at t r p) ≡ true → has_id i ids ≡ true
+no_target_covers ps e c p test ids n m f t y r i at h =
+    cell_covers ps e c test ids f t y r i at (ap (λ k. if_cell test (slice_get r.cells k)) m ∙ sym (ap (λ g. if_cell test (cell_by t r p.column g)) n) ∙ h)
 
-pub test_covers : (ps : List Place) (e c : ℕ) (op : Op) (p : Path) (x : Cell) (cond : Cond) (ids : List ℕ) → cond ≡ Cond.Test op p x → is_some p.target ≡ false → c ≡ p.column
-    → ((i : ℕ) (d : Cell) → i < 2 ^ 64 → has_place ps e c i d ≡ true → passes op d x ≡ true → has_id i ids ≡ true) → Covers ps e cond ids
-test_covers ps e c op p x cond ids q n m f t y r i at h =
-    cell_covers ps e c (λ d. passes op d x) ids f t y r i at
-    (ap (λ k. if_cell (λ d. passes op d x) (slice_get r.cells k)) m ∙ sym (ap (λ g. if_cell (λ d. passes op d x) (cell_by t r p.column g)) (no_target p.target n)) ∙ ap (holds t r) (sym q) ∙ h)
+-- a comparison at a column of the row to which a cell refers
+module _ (ps : List Place) (e c : ℕ) (g : Target) (test : Cell → Bool) (targets ids : List ℕ)
+    (finds : (i : ℕ) (d : Cell) → i < 2 ^ 64 → has_place ps g.entity g.column i d ≡ true → test d ≡ true → has_id i targets ≡ true)
+    (refers : Refer ps e c targets ids) (t : Tables) (x : IsIndexOf ps t) where
+  -- a row has the place of its cell
+  placed : (n k i : ℕ) (r : Row) (d : Cell) → row_at t (key n i) ≡ Some r → slice_get r.cells k ≡ Some d → has_place ps n k i d ≡ true
+  placed n k i r d at q = x.cells n k i d ∙ ap (λ o. has_cell o k d) at ∙ ap (if_cell (same_cell d)) q ∙ same_cell_refl d
 
-pub among_covers : (ps : List Place) (e c : ℕ) (p : Path) (xs ys : List Cell) (cond : Cond) (ids : List ℕ) → cond ≡ Cond.Among p xs → ys ≡ xs → is_some p.target ≡ false → c ≡ p.column
-    → ((i : ℕ) (d : Cell) → i < 2 ^ 64 → has_place ps e c i d ≡ true → list_any (λ x. same_cell d x) ys ≡ true → has_id i ids ≡ true) → Covers ps e cond ids
-among_covers ps e c p xs ys cond ids q u n m f t y r i at h =
-    cell_covers ps e c (λ d. list_any (λ x. same_cell d x) ys) ids f t y r i at
-    (ap (λ k. if_cell (λ d. list_any (λ x. same_cell d x) ys) (slice_get r.cells k)) m
-    ∙ ap (λ zs. if_cell (λ d. list_any (λ x. same_cell d x) zs) (slice_get r.cells p.column)) u
-    ∙ sym (ap (λ g. if_cell (λ d. list_any (λ x. same_cell d x) xs) (cell_by t r p.column g)) (no_target p.target n)) ∙ ap (holds t r) (sym q) ∙ h)
+  referred : (r : Row) (i j : ℕ) → row_at t (key e i) ≡ Some r → slice_get r.cells c ≡ Some (Cell.Int (pos j))
+      → (o : Option Row) → row_at t (key g.entity j) ≡ o → if_cell test (told.cell_in g.column o) ≡ true → has_id i ids ≡ true
+  referred r i j at q None b h = absurd (true≢false (sym h))
+  referred r i j at q (Some s) b h = by (slice_get s.cells g.column) refl h
+    where
+      by : (o : Option Cell) → slice_get s.cells g.column ≡ o → if_cell test o ≡ true → has_id i ids ≡ true
+      by None v h = absurd (true≢false (sym h))
+      by (Some d) v h =
+          let there : has_place ps g.entity g.column j d ≡ true = placed g.entity g.column j s d b v in
+          let here : has_place ps e c i (Cell.Int (pos j)) ≡ true = placed e c i r (Cell.Int (pos j)) at q in
+          refers i j (x.fit e c i (Cell.Int (pos j)) here) (finds j d (x.fit g.entity g.column j d there) there h) here
+
+  pub step_covers : (p : Path) → p.target ≡ Some g → c ≡ p.column → (r : Row) (i : ℕ) → row_at t (key e i) ≡ Some r → if_cell test (cell_at t r p) ≡ true → has_id i ids ≡ true
+  step_covers p n m r i at h =
+      by (slice_get r.cells c) refl ((λ k. if_cell test (cell_by t r (m k) (sym n k))) ∙ h)
+    where
+      by : (o : Option Cell) → slice_get r.cells c ≡ o → if_cell test (told.cell_in g.column (row_of_ref t g.entity (slice_get r.cells c))) ≡ true → has_id i ids ≡ true
+      by None q h = absurd (true≢false (sym h ∙ ap (λ o. if_cell test (told.cell_in g.column (row_of_ref t g.entity o))) q))
+      by (Some (Cell.Int (pos j))) q h =
+          referred r i j at q (row_at t (key g.entity j)) refl (sym (ap (λ o. if_cell test (told.cell_in g.column (row_of_ref t g.entity o))) q) ∙ h)
+      by (Some (Cell.Int (negsuc j))) q h = absurd (true≢false (sym h ∙ ap (λ o. if_cell test (told.cell_in g.column (row_of_ref t g.entity o))) q))
+      by (Some (Cell.Text s)) q h = absurd (true≢false (sym h ∙ ap (λ o. if_cell test (told.cell_in g.column (row_of_ref t g.entity o))) q))
+      by (Some (Cell.Bool b)) q h = absurd (true≢false (sym h ∙ ap (λ o. if_cell test (told.cell_in g.column (row_of_ref t g.entity o))) q))
+
+pub steps_cover : (ps : List Place) (e c k : ℕ) (g : Target) (p : Path) (test : Cell → Bool) (found targets ids : List ℕ) → p.target ≡ Some g → c ≡ p.column → k ≡ g.column → targets ≡ found
+    → ((i : ℕ) (d : Cell) → i < 2 ^ 64 → has_place ps g.entity k i d ≡ true → test d ≡ true → has_id i found ≡ true) → Refer ps e c targets ids
+    → (t : Tables) → IsIndexOf ps t → (r : Row) (i : ℕ) → row_at t (key e i) ≡ Some r → if_cell test (cell_at t r p) ≡ true → has_id i ids ≡ true
+steps_cover ps e c k g p test found targets ids n m l s f h t x =
+    step_covers ps e c g test found ids (λ i d b v. f i d b (subst (λ w. has_place ps g.entity w i d ≡ true) (sym l) v))
+    (subst (λ xs. Refer ps e c xs ids) s h) t x p n m
+
+-- one identifier of a target more
+pub refer_more : (ps : List Place) (e c : ℕ) (targets : List ℕ) (n : ℕ) (d : Cell) (m : ℕ) (old new : List ℕ) → m < length targets → n ≡ get_or targets m n → d ≡ Cell.Int (pos n)
+    → Refer ps e c (take m targets) old → ((i : ℕ) → has_id i old ≡ true → has_id i new ≡ true)
+    → ((i : ℕ) (x : Cell) → i < 2 ^ 64 → has_place ps e c i x ≡ true → passes Op.Eq x d ≡ true → has_id i new ≡ true) → Refer ps e c (take (m + 1) targets) new
+refer_more ps e c targets n d m old new l f q r k g i j b h p = at (tested (has_id j (take m targets)))
+  where
+    at : Tested (has_id j (take m targets)) → has_id i new ≡ true
+    at (inl t) = k i (r i j b t p)
+    at (inr t) =
+        let s : (n == j) ≡ true =
+        sym (ap (λ v. v || (n == j)) t) ∙ ap (λ v. has_id j (take m targets) || (v == j)) f ∙ sym (list_any_more (λ v. v == j) targets m n l) ∙ h in
+        let e : n ≡ j = eqb-true n j s in
+        g i (Cell.Int (pos j)) b p (ap (same_cell (Cell.Int (pos j))) (q ∙ ap (λ v. Cell.Int (pos v)) e) ∙ same_cell_refl (Cell.Int (pos j)))
+
+pub no_refer : (ps : List Place) (e c : ℕ) (ids : List ℕ) → Refer ps e c [] ids
+no_refer ps e c ids i j b h p = absurd (true≢false (sym h))
+
+-- a condition of two of which one holds
+pub or_covers : (ps : List Place) (e : ℕ) (a b : Cond) (p : Option (List ℕ)) (q : Option (List ℕ)) (ids : List ℕ) → IfSome p (Covers ps e a) → IfSome q (Covers ps e b)
+    → MatchOption p ⊥ (λ x. MatchOption q ⊥ (λ y. ids ≡ x ++ y)) → (t : Tables) → IsIndexOf ps t → (r : Row) (i : ℕ) → row_at t (key e i) ≡ Some r
+    → (holds t r a || holds t r b) ≡ true → has_id i ids ≡ true
+or_covers ps e a b None q ids f g u t x r i at h = absurd u
+or_covers ps e a b (Some xs) None ids f g u t x r i at h = absurd u
+or_covers ps e a b (Some xs) (Some ys) ids f g u t x r i at h = by (or_cases (holds t r a) (holds t r b) h)
+  where
+    by : (holds t r a ≡ true) ⊎ (holds t r b ≡ true) → has_id i ids ≡ true
+    by (inl v) = still i xs ids ys u (f t x r i at v)
+    by (inr v) = gained i xs ids ys u (g t x r i at v)

@@ -56,7 +56,7 @@ not_same : (c : Change) (k : Key) → ((key_of c).entity == k.entity) ≡ false 
 not_same c k e = rw e refl
 
 -- and so the row of each key of the table
-row_same : (k : Key) (cs : List Change) (t : Tables) → touches k.entity cs ≡ false → row_at (after_changes cs t) k ≡ row_at t k
+pub row_same : (k : Key) (cs : List Change) (t : Tables) → touches k.entity cs ≡ false → row_at (after_changes cs t) k ≡ row_at t k
 row_same k [] t e = refl
 row_same k (c ∷ cs) t e =
     let p : (((key_of c).entity == k.entity) ≡ false) × (touches k.entity cs ≡ false) = or_parts ((key_of c).entity == k.entity) (touches k.entity cs) e in
@@ -64,7 +64,7 @@ row_same k (c ∷ cs) t e =
 
 -- two tables in which the rows of each mentioned table are the same
 module _ (t u : Tables) where
-  abbrev Agree : (ℕ → Bool) → Type 0
+  abbrev pub Agree : (ℕ → Bool) → Type 0
   Agree p = (n i : ℕ) → p n ≡ true → row_at t (key n i) ≡ row_at u (key n i)
 
   ref_same : (n : ℕ) (c : Option Cell) → ((i : ℕ) → row_at t (key n i) ≡ row_at u (key n i)) → told.row_of_ref t n c ≡ told.row_of_ref u n c
@@ -79,7 +79,7 @@ module _ (t u : Tables) where
   cell_same r c (Some g) f =
       ap (λ o. told.cell_in g.column o) (ref_same g.entity (slice_get r.cells c) (λ i. f g.entity i (eq-eqb g.entity g.entity refl)))
 
-  holds_same : (r : Row) (c : Cond) → Agree (λ n. told.mentions n c) → told.holds t r c ≡ told.holds u r c
+  pub holds_same : (r : Row) (c : Cond) → Agree (λ n. told.mentions n c) → told.holds t r c ≡ told.holds u r c
   holds_same r (Cond.And' p a q b) f =
       let x : told.holds t r a ≡ told.holds u r a = holds_same r a (λ n i e. f n i (or_left (told.mentions n a) (told.mentions n b) e)) in
       let y : told.holds t r b ≡ told.holds u r b = holds_same r b (λ n i e. f n i (or_right (told.mentions n a) (told.mentions n b) e)) in

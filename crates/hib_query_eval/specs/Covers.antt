@@ -1,13 +1,26 @@
 -- Identifiers among which all rows are that meet a condition.
-use Rattle.std.specs.Prelude.{◌≡◌, ℕ, true, List, Some}
-use Rattle.hib_journal.specs.Types.{Row, Cond}
+use Rattle.std.specs.Prelude.{◌≡◌, ℕ, ◌<◌, ◌^◌, true, pos, List, Some}
+use Rattle.hib_journal.specs.Types.{Row, Cell, Cond, Query}
 use Rattle.hib_base.specs.Tables.{Tables, row_at}
 use Rattle.hib_journal.specs.Room.{key}
-use Rattle.hib_journal.specs.Query.{holds}
+use Rattle.hib_journal.specs.Query.{holds, meets}
 use Rattle.hib_query_eval.specs.declared.places.Place.{Place}
-use Rattle.hib_query_eval.specs.Places.{IsIndexOf, has_id}
+use Rattle.hib_query_eval.specs.Places.{IsIndexOf, has_id, has_place}
 
 -- in all tables of which these are the places
 abbrev pub Covers : List Place → ℕ → Cond → List ℕ → Type 0
 Covers ps entity condition ids =
     (t : Tables) → IsIndexOf ps t → (r : Row) (id : ℕ) → row_at t (key entity id) ≡ Some r → holds t r condition ≡ true → has_id id ids ≡ true
+
+-- the rows whose cell in a column refers to a row of one of some identifiers
+abbrev pub Refer : List Place → ℕ → ℕ → List ℕ → List ℕ → Type 0
+Refer ps entity column targets ids =
+    (i j : ℕ) → i < 2 ^ 64 → has_id j targets ≡ true → has_place ps entity column i (Cell.Int (pos j)) ≡ true → has_id i ids ≡ true
+
+-- the rows of tables that meet a query's condition
+abbrev pub HasMet : Query → Tables → List ℕ → Type 0
+HasMet q t ids = (r : Row) (i : ℕ) → row_at t (key q.entity i) ≡ Some r → meets t r q.condition ≡ true → has_id i ids ≡ true
+
+-- all rows of an entity
+abbrev pub HasAll : ℕ → Tables → List ℕ → Type 0
+HasAll entity t ids = (r : Row) (i : ℕ) → row_at t (key entity i) ≡ Some r → has_id i ids ≡ true

@@ -5,3 +5,4 @@ pub mod Covers
 pub mod Found
 pub mod Reads
 pub mod Applies
+pub mod Views

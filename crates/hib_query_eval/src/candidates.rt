@@ -1,17 +1,17 @@
 // Which rows may meet a condition, by the places of cells.
-ghost use Rattle.std.specs.Prelude.{◌≡◌, ◌⊎◌, ℕ, ◌<◌, ◌^◌, true, false, Some, IfOk, IfSome, OnOk};
+ghost use Rattle.std.specs.Prelude.{◌≡◌, ◌⊎◌, ℕ, ◌<◌, ◌^◌, ◌++◌, true, false, Some, IfOk, IfSome, OnOk, MatchOption};
 ghost use Rattle.std.specs.List.{list_any};
 ghost use Rattle.std.specs.Ordering.{is_le, is_lt};
-ghost use Rattle.hib_journal.specs.Types.{Cell as CellSpec};
+ghost use Rattle.hib_journal.specs.Types.{Cell as CellSpec, Cond};
 ghost use Rattle.hib_journal.specs.Query.{passes, same_cell};
 ghost use Rattle.hib_query_eval.specs.declared.places.Value.{Value as ValueSpec};
 ghost use Rattle.hib_query_eval.specs.Orders.{kind};
 ghost use Rattle.hib_query_eval.specs.Places.{cell_in, has_place, has_id};
 ghost use Rattle.hib_query_eval.specs.Spans.{value_cmp};
-ghost use Rattle.hib_query_eval.specs.Covers.{Covers};
+ghost use Rattle.hib_query_eval.specs.Covers.{Covers, Refer};
 
 use crate::places::{self, Place, Value};
-use hib_base::{Cell, Cond, EntityNo, Op};
+use hib_base::{Cell, Cond, EntityNo, Op, Path};
 use std::alloc::{AllocError, Global};
 use std::collections::BTreeSet;
 
@@ -183,6 +183,79 @@ fn shorter(first: Option<Vec<u64>>, second: Option<Vec<u64>>) -> Option<Vec<u64>
     }
 }
 
+/// The identifiers of both lists, if there are two.
+fn joined(first: Option<Vec<u64>>, second: Option<Vec<u64>>) -> Result<Option<Vec<u64>>, AllocError>
+    ensures { IfOk result (λ o. IfSome o (λ ids. MatchOption first ⊥ (λ a. MatchOption second ⊥ (λ b. ids.items ≡ a.items ++ b.items)))) }
+{
+    let (Some(mut first), Some(second)) = (first, second) else {
+        return Ok(None);
+    };
+    first.extend_from_slice(second.as_slice())?;
+    Ok(Some(first))
+}
+
+/// The identifiers of the rows whose cell in a column refers to a row of one of some identifiers. None if one of these is so
+/// large that no cell holds it.
+fn referring(
+    alloc: Global,
+    places: &BTreeSet<Place>,
+    entity: EntityNo,
+    column: usize,
+    targets: &[u64],
+) -> Result<Option<Vec<u64>>, AllocError>
+    ensures { IfOk result (λ o. IfSome o (λ ids. Refer places.now.keys entity column targets.now ids.items)) }
+{
+    let mut ids = Vec::new(alloc);
+    for target in targets {
+        let Ok(id) = i64::try_from(*target) else {
+            return Ok(None);
+        };
+        add_same(alloc, places, entity, column, &Cell::Int(id), &mut ids)?;
+    }
+    Ok(Some(ids))
+}
+
+/// The identifiers of the rows of which a comparison of the cell at a path holds, and perhaps of others.
+fn compared_at(
+    alloc: Global,
+    places: &BTreeSet<Place>,
+    entity: EntityNo,
+    path: &Path,
+    op: Op,
+    cell: &Cell,
+) -> Result<Option<Vec<u64>>, AllocError>
+    ensures { IfOk result (λ o. IfSome o (λ ids. Covers places.now.keys entity (Cond.Test op path.now cell.now) ids.items)) }
+{
+    let column = usize::from(path.column);
+    let Some(target) = path.target else {
+        return compared(alloc, places, entity, column, op, cell);
+    };
+    let of_target = usize::from(target.column);
+    let Some(found) = compared(alloc, places, target.entity, of_target, op, cell)? else {
+        return Ok(None);
+    };
+    referring(alloc, places, entity, column, found.as_slice())
+}
+
+/// The identifiers of the rows of which the cell at a path is one of some cells, and perhaps of others.
+fn among_at(
+    alloc: Global,
+    places: &BTreeSet<Place>,
+    entity: EntityNo,
+    path: &Path,
+    cells: &[Cell],
+) -> Result<Option<Vec<u64>>, AllocError>
+    ensures { IfOk result (λ o. IfSome o (λ ids. Covers places.now.keys entity (Cond.Among path.now cells.now) ids.items)) }
+{
+    let column = usize::from(path.column);
+    let Some(target) = path.target else {
+        return Ok(Some(among(alloc, places, entity, column, cells)?));
+    };
+    let of_target = usize::from(target.column);
+    let found = among(alloc, places, target.entity, of_target, cells)?;
+    referring(alloc, places, entity, column, found.as_slice())
+}
+
 /// The identifiers of the rows of an entity that meet a condition, and perhaps of others, in any order. None if the places
 /// don't narrow the condition.
 pub fn candidates(
@@ -199,24 +272,13 @@ pub fn candidates(
             let of_second = candidates(alloc, places, entity, second)?;
             Ok(shorter(of_first, of_second))
         }
-        Cond::Test { op, path, cell } if path.target.is_none() => compared(
-            alloc,
-            places,
-            entity,
-            usize::from(path.column),
-            *op,
-            cell,
-        ),
-        Cond::Among { path, cells } if path.target.is_none() => {
-            let ids = among(
-                alloc,
-                places,
-                entity,
-                usize::from(path.column),
-                cells.as_slice(),
-            )?;
-            Ok(Some(ids))
+        Cond::Or(first, second) => {
+            let of_first = candidates(alloc, places, entity, first)?;
+            let of_second = candidates(alloc, places, entity, second)?;
+            joined(of_first, of_second)
         }
-        _ => Ok(None),
+        Cond::Not(_) => Ok(None),
+        Cond::Test { op, path, cell } => compared_at(alloc, places, entity, path, *op, cell),
+        Cond::Among { path, cells } => among_at(alloc, places, entity, path, cells.as_slice()),
     }
 }

@@ -1,38 +1,33 @@
 // Whether a row meets a condition.
-ghost use Rattle.std.specs.Prelude.{◌≡◌, true, option_copied};
+ghost use Rattle.std.specs.Prelude.{◌≡◌, option_copied};
 ghost use Rattle.std.specs.List.{list_any};
-ghost use Rattle.hib_base.specs.Tables.{in_order};
 ghost use Rattle.hib_journal.specs.Query.{same_cell, row_of_ref, cell_at, holds, meets};
 
-use crate::{cells, keyed};
+use crate::cells;
+use crate::view::View;
 use hib_base::{Cell, Cond, EntityNo, Key, Path, Row};
 
 /// The row to which a cell refers.
-fn referred<'a>(rows: &'a [(Key, Row)], entity: EntityNo, cell: Option<&Cell>) -> Option<&'a Row>
-    requires { in_order rows.now ≡ true }
-    ensures { option_copied result ≡ row_of_ref rows.now entity (option_copied cell.entry) }
+fn referred<'a>(view: &'a View<'_>, entity: EntityNo, cell: Option<&Cell>) -> Option<&'a Row>
+    ensures { option_copied result ≡ row_of_ref view.now entity (option_copied cell.entry) }
 {
     match cell {
-        Some(Cell::Int(id)) if *id >= 0 => keyed::row_of(
-            rows,
-            &Key {
-                entity,
-                id: *id as u64,
-            },
-        ),
+        Some(Cell::Int(id)) if *id >= 0 => view.row_of(&Key {
+            entity,
+            id: *id as u64,
+        }),
         _ => None,
     }
 }
 
 /// The cell at a path from a row, or none where the row to which it steps is missing.
-fn cell_at<'a>(rows: &'a [(Key, Row)], row: &'a Row, path: &Path) -> Option<&'a Cell>
-    requires { in_order rows.now ≡ true }
-    ensures { option_copied result ≡ cell_at rows.now row.now path.now }
+fn cell_at<'a>(view: &'a View<'_>, row: &'a Row, path: &Path) -> Option<&'a Cell>
+    ensures { option_copied result ≡ cell_at view.now row.now path.now }
 {
     let cell = row.cells.as_slice().get(usize::from(path.column));
     match path.target {
         None => cell,
-        Some(target) => referred(rows, target.entity, cell)?
+        Some(target) => referred(view, target.entity, cell)?
             .cells
             .as_slice()
             .get(usize::from(target.column)),
@@ -52,19 +47,18 @@ fn is_among(cell: &Cell, cells: &[Cell]) -> bool
 }
 
 /// Whether a condition holds of a row. A comparison at a row that is missing doesn't hold.
-fn holds(rows: &[(Key, Row)], row: &Row, cond: &Cond) -> bool
-    requires { in_order rows.now ≡ true }
-    ensures { result ≡ holds rows.now row.now cond.now }
+fn holds<'a>(view: &'a View<'_>, row: &'a Row, cond: &Cond) -> bool
+    ensures { result ≡ holds view.now row.now cond.now }
 {
     match cond {
-        Cond::And(a, b) => holds(rows, row, a) && holds(rows, row, b),
-        Cond::Or(a, b) => holds(rows, row, a) || holds(rows, row, b),
-        Cond::Not(a) => !holds(rows, row, a),
-        Cond::Test { op, path, cell } => match cell_at(rows, row, path) {
+        Cond::And(a, b) => holds(view, row, a) && holds(view, row, b),
+        Cond::Or(a, b) => holds(view, row, a) || holds(view, row, b),
+        Cond::Not(a) => !holds(view, row, a),
+        Cond::Test { op, path, cell } => match cell_at(view, row, path) {
             Some(found) => cells::is_passed(*op, found, cell),
             None => false,
         },
-        Cond::Among { path, cells } => match cell_at(rows, row, path) {
+        Cond::Among { path, cells } => match cell_at(view, row, path) {
             Some(found) => is_among(found, cells.as_slice()),
             None => false,
         },
@@ -72,12 +66,11 @@ fn holds(rows: &[(Key, Row)], row: &Row, cond: &Cond) -> bool
 }
 
 /// Whether a row meets a query's condition, if it has one.
-pub fn meets(rows: &[(Key, Row)], row: &Row, cond: &Option<Cond>) -> bool
-    requires { in_order rows.now ≡ true }
-    ensures { result ≡ meets rows.now row.now cond.now }
+pub fn meets<'a>(view: &'a View<'_>, row: &'a Row, cond: &Option<Cond>) -> bool
+    ensures { result ≡ meets view.now row.now cond.now }
 {
     match cond {
         None => true,
-        Some(cond) => holds(rows, row, cond),
+        Some(cond) => holds(view, row, cond),
     }
 }

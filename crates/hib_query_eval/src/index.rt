@@ -5,6 +5,7 @@ ghost use Rattle.hib_journal.specs.Query.{gives};
 ghost use Rattle.hib_journal.specs.Types.{Commit};
 
 use crate::places::Place;
+use crate::view::View;
 use crate::{changing, listing, reading, searches};
 use hib_base::{Change, Key, Listing, Query, Row, Rows};
 use std::alloc::{AllocError, Global};
@@ -62,16 +63,15 @@ impl Index {
         Ok(Some(Index { rows, places }))
     }
 
-    /// What a query gives over the rows with a session's own changes laid over them. Unless these touch a table that the
-    /// query reads, the rows aren't copied.
+    /// What a query gives over the rows with a session's own changes laid over them. The rows aren't copied.
     pub fn gives(&self, alloc: Global, query: &Query, own: &[Change]) -> Result<Listing, AllocError>
         ensures ordered { in_order self.now ≡ true }
         ensures given { IfOk result (λ l. l ≡ gives query.now (after_changes own.now self.now)) }
     {
-        if reading::is_touched(query, own) {
-            return searches::overlaid(alloc, query, self.rows.as_slice(), own);
-        }
-        let met = searches::listed(alloc, query, self.rows.as_slice(), &self.places)?;
+        let rows = self.rows.as_slice();
+        let changes = reading::touching(query, own);
+        let view = View::over(alloc, rows, changes)?;
+        let met = searches::listed(alloc, query, rows, &self.places, changes, &view)?;
         listing::selected(alloc, query, &met)
     }
 }

@@ -13,6 +13,7 @@ mod orders;
 mod places;
 mod reading;
 mod searches;
+mod view;
 
 pub use index::Index;
 pub use laws::other_tables_leave_what_is_given;

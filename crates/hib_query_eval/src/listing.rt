@@ -3,6 +3,7 @@ ghost use Rattle.std.specs.Prelude.{◌≡◌, ◌∷◌, pos, take, drop, map, 
 ghost use Rattle.hib_base.specs.Tables.{in_order};
 ghost use Rattle.hib_journal.specs.Query.{listed, sorted, or_false, selected, gives};
 
+use crate::view::View;
 use crate::{conditions, orders};
 use hib_base::{Cell, Key, Listing, Query, Row, Rows, Select, Seq};
 use std::alloc::{AllocError, Global};
@@ -15,7 +16,8 @@ pub fn gives(alloc: Global, query: &Query, rows: &Rows) -> Result<Listing, Alloc
     requires { in_order rows.now ≡ true }
     ensures { IfOk result (λ l. l ≡ gives query.now rows.now) }
 {
-    let met = listed(alloc, query, rows.as_slice())?;
+    let view = View::of(alloc, rows.as_slice());
+    let met = listed(alloc, query, rows.as_slice(), &view)?;
     selected(alloc, query, &met)
 }
 
@@ -40,18 +42,19 @@ pub fn selected(alloc: Global, query: &Query, met: &Vec<&(Key, Row)>) -> Result<
     }
 }
 
-/// The rows of a query's entity that meet its condition.
+/// The rows of a query's entity that meet its condition, of all rows of a view.
 pub fn listed<'a>(
     alloc: Global,
     query: &Query,
     rows: &'a [(Key, Row)],
+    view: &'a View<'_>,
 ) -> Result<Vec<&'a (Key, Row)>, AllocError>
-    requires { in_order rows.now ≡ true }
+    requires { view.now ≡ rows.now }
     ensures { IfOk result (λ v. map (λ r. r.now) v.items ≡ listed query.now rows.now) }
 {
     let mut met = Vec::new(alloc);
     for row in rows {
-        if row.0.entity == query.entity && conditions::meets(rows, &row.1, &query.condition) {
+        if row.0.entity == query.entity && conditions::meets(view, &row.1, &query.condition) {
             met.push(row)?;
         }
     }

@@ -1,12 +1,10 @@
 // Which tables a query reads.
-ghost use Rattle.std.specs.Prelude.{◌≡◌, ◌||◌, IfOk};
-ghost use Rattle.std.specs.List.{list_any, filter};
-ghost use Rattle.hib_base.specs.Tables.{key_of};
-ghost use Rattle.hib_journal.specs.Query.{steps_to, mentions, reads};
-ghost use Rattle.hib_query_eval.specs.Reads.{read_by};
+ghost use Rattle.std.specs.Prelude.{◌≡◌, ◌||◌};
+ghost use Rattle.std.specs.List.{list_any};
+ghost use Rattle.hib_base.specs.Tables.{Tables, key_of, after_changes};
+ghost use Rattle.hib_journal.specs.Query.{steps_to, mentions, reads, gives};
 
-use hib_base::{Change, Cond, EntityNo, Key, Query, Row, Rows, Seq, Target};
-use std::alloc::{AllocError, Global};
+use hib_base::{Change, Cond, EntityNo, Query, Target};
 
 fn steps_to(entity: EntityNo, target: Option<Target>) -> bool
     ensures { result ≡ steps_to entity target }
@@ -42,7 +40,7 @@ fn reads(query: &Query, entity: EntityNo) -> bool
 }
 
 /// Whether changes touch a table that a query reads.
-pub fn is_touched(query: &Query, changes: &[Change]) -> bool
+fn is_touched(query: &Query, changes: &[Change]) -> bool
     ensures { result ≡ list_any (λ c. reads query.now (key_of c).entity) changes.now }
 {
     for change in changes {
@@ -53,15 +51,25 @@ pub fn is_touched(query: &Query, changes: &[Change]) -> bool
     false
 }
 
-/// Copies of the rows of the tables that a query reads.
-pub fn read_by(alloc: Global, query: &Query, rows: &[(Key, Row)]) -> Result<Rows, AllocError>
-    ensures { IfOk result (λ r. r ≡ read_by query.now rows.now) }
+/// Whether changes touch a table to which a condition steps.
+pub fn is_stepped(condition: &Cond, changes: &[Change]) -> bool
+    ensures { result ≡ list_any (λ c. mentions (key_of c).entity condition.now) changes.now }
 {
-    let mut read = Vec::new(alloc);
-    for row in rows {
-        if reads(query, row.0.entity) {
-            read.push((row.0, row.1.copy(alloc)?))?;
+    for change in changes {
+        if mentions(change.key().entity, condition) {
+            return true;
         }
     }
-    Ok(Seq::from_vec(read))
+    false
+}
+
+/// The changes, or none if they touch no table that a query reads.
+pub fn touching<'a>(query: &Query, changes: &'a [Change]) -> &'a [Change]
+    ensures { (t : Tables) → gives query.now (after_changes result.now t) ≡ gives query.now (after_changes changes.now t) }
+{
+    if is_touched(query, changes) {
+        changes
+    } else {
+        &[]
+    }
 }

@@ -1,31 +1,32 @@
-// The rows that a query lists, by an index and by changes laid over.
-ghost use Rattle.std.specs.Prelude.{◌≡◌, ℕ, true, Some, IfOk, IfSome, map, option_copied};
+// The rows that a query lists, by an index and with changes laid over.
+ghost use Rattle.std.specs.Prelude.{◌≡◌, ℕ, true, [], None, Ok, Some, IfOk, IfSome, OnOk, map, option_copied};
 ghost use Rattle.std.specs.List.Sorted.{IsStrictlyIncreasing};
 ghost use Rattle.hib_base.specs.Tables.{Tables, in_order, row_at, after_changes};
 ghost use Rattle.hib_journal.specs.Types.{Row as RowSpec};
 ghost use Rattle.hib_journal.specs.Room.{key as key_at};
-ghost use Rattle.hib_journal.specs.Query.{meets, listed, gives};
+ghost use Rattle.hib_journal.specs.Query.{meets, listed};
+ghost use Rattle.hib_query_eval.specs.Covers.{HasAll, HasMet};
 ghost use Rattle.hib_query_eval.specs.Found.{row_in, if_met};
 ghost use Rattle.hib_query_eval.specs.Places.{IsIndexOf, has_id};
+ghost use Rattle.hib_query_eval.specs.Views.{is_changed};
 
 use crate::candidates::candidates;
 use crate::places::Place;
-use crate::{conditions, keyed, listing, reading};
-use hib_base::{Change, Key, Listing, Query, Row};
+use crate::view::View;
+use crate::{conditions, listing, reading};
+use hib_base::{Change, EntityNo, Key, Query, Row};
 use std::alloc::{AllocError, Global};
 use std::collections::BTreeSet;
 
 /// The row of an identifier, if it meets a query's condition.
-fn met_at<'a>(query: &Query, rows: &'a [(Key, Row)], id: u64) -> Option<&'a (Key, Row)>
-    requires { in_order rows.now ≡ true }
-    ensures { option_copied result ≡ if_met query.now rows.now (row_in rows.now (key_at query.now.entity id)) }
+fn met_at<'a>(query: &Query, view: &'a View<'_>, id: u64) -> Option<&'a (Key, Row)>
+    ensures { option_copied result ≡ if_met query.now view.now (row_in view.now (key_at query.now.entity id)) }
 {
-    let key = Key {
+    let entry = view.entry_of(&Key {
         entity: query.entity,
         id,
-    };
-    let entry = keyed::entry_of(rows, &key)?;
-    if conditions::meets(rows, &entry.1, &query.condition) {
+    })?;
+    if conditions::meets(view, &entry.1, &query.condition) {
         Some(entry)
     } else {
         None
@@ -36,76 +37,141 @@ fn met_at<'a>(query: &Query, rows: &'a [(Key, Row)], id: u64) -> Option<&'a (Key
 fn found<'a>(
     alloc: Global,
     query: &Query,
-    rows: &'a [(Key, Row)],
+    view: &'a View<'_>,
     ids: &[u64],
 ) -> Result<Vec<&'a (Key, Row)>, AllocError>
-    requires ordered { in_order rows.now ≡ true }
+    requires ordered { in_order view.now ≡ true }
     requires rising { IsStrictlyIncreasing ids.now }
-    requires all { (r : RowSpec) (i : ℕ) → row_at rows.now (key_at query.now.entity i) ≡ Some r → meets rows.now r query.now.condition ≡ true
-        → has_id i ids.now ≡ true }
-    ensures { IfOk result (λ v. map (λ r. r.now) v.items ≡ listed query.now rows.now) }
+    requires all { HasMet query.now view.now ids.now }
+    ensures { IfOk result (λ v. map (λ r. r.now) v.items ≡ listed query.now view.now) }
 {
     let mut met = Vec::new(alloc);
     for id in ids {
-        if let Some(row) = met_at(query, rows, *id) {
+        if let Some(row) = met_at(query, view, *id) {
             met.push(row)?;
         }
     }
     Ok(met)
 }
 
-/// Identifiers that rise, each once, among which are those of all rows that meet a query's condition. None if the places
-/// don't narrow the condition.
+/// Adds the identifiers of the rows of an entity that are changed.
+fn add_changed(ids: &mut Vec<u64>, entity: EntityNo, changes: &[Change]) -> Result<(), AllocError>
+    ensures kept { OnOk result ((i : ℕ) → has_id i ids.old.items ≡ true → has_id i ids.new.items ≡ true) }
+    ensures changed { OnOk result ((i : ℕ) → is_changed (key_at entity i) changes.now ≡ true → has_id i ids.new.items ≡ true) }
+{
+    for change in changes {
+        let key = change.key();
+        if key.entity == entity {
+            ids.push(key.id)?;
+        }
+    }
+    Ok(())
+}
+
+/// The identifiers of the rows of an entity.
+fn ids_of(alloc: Global, entity: EntityNo, rows: &[(Key, Row)]) -> Result<Vec<u64>, AllocError>
+    ensures { IfOk result (λ ids. HasAll entity rows.now ids.items) }
+{
+    let mut ids = Vec::new(alloc);
+    for row in rows {
+        if row.0.entity == entity {
+            ids.push(row.0.id)?;
+        }
+    }
+    Ok(ids)
+}
+
+/// The same identifiers in order, each once.
+fn rising(mut ids: Vec<u64>) -> Vec<u64>
+    ensures rising { IsStrictlyIncreasing result.items }
+    ensures kept { (i : ℕ) → has_id i ids.items ≡ true → has_id i result.items ≡ true }
+{
+    ids.sort_unstable();
+    ids.dedup();
+    ids
+}
+
+/// Identifiers among which are those of all rows that meet a query's condition after changes. None if the places don't
+/// narrow the condition, or if the changes touch a table to which it steps.
 fn narrowed(
     alloc: Global,
     query: &Query,
     places: &BTreeSet<Place>,
+    changes: &[Change],
 ) -> Result<Option<Vec<u64>>, AllocError>
-    ensures rising { IfOk result (λ o. IfSome o (λ ids. IsStrictlyIncreasing ids.items)) }
-    ensures all { IfOk result (λ o. IfSome o (λ ids. (t : Tables) → IsIndexOf places.now.keys t → (r : RowSpec) (i : ℕ)
-        → row_at t (key_at query.now.entity i) ≡ Some r → meets t r query.now.condition ≡ true → has_id i ids.items ≡ true)) }
+    ensures { IfOk result (λ o. IfSome o (λ ids. (t : Tables) → IsIndexOf places.now.keys t → HasMet query.now (after_changes changes.now t) ids.items)) }
 {
     let Some(condition) = &query.condition else {
         return Ok(None);
     };
+    if reading::is_stepped(condition, changes) {
+        return Ok(None);
+    }
     match candidates(alloc, places, query.entity, condition)? {
         Some(mut ids) => {
-            ids.sort_unstable();
-            ids.dedup();
+            add_changed(&mut ids, query.entity, changes)?;
             Ok(Some(ids))
         }
         None => Ok(None),
     }
 }
 
-/// The rows that a query lists.
+/// The identifiers of all rows of an entity after changes, and perhaps of others.
+fn every_id(
+    alloc: Global,
+    entity: EntityNo,
+    rows: &[(Key, Row)],
+    changes: &[Change],
+) -> Result<Vec<u64>, AllocError>
+    ensures { IfOk result (λ ids. HasAll entity (after_changes changes.now rows.now) ids.items) }
+{
+    let mut ids = ids_of(alloc, entity, rows)?;
+    add_changed(&mut ids, entity, changes)?;
+    Ok(ids)
+}
+
+/// Identifiers among which are those of all rows that meet a query's condition after changes. None only without changes,
+/// where all rows are to be gone over.
+fn searched(
+    alloc: Global,
+    query: &Query,
+    rows: &[(Key, Row)],
+    places: &BTreeSet<Place>,
+    changes: &[Change],
+) -> Result<Option<Vec<u64>>, AllocError>
+    requires { IsIndexOf places.now.keys rows.now }
+    ensures all { IfOk result (λ o. IfSome o (λ ids. HasMet query.now (after_changes changes.now rows.now) ids.items)) }
+    ensures none { result ≡ Ok None → changes.now ≡ [] }
+{
+    match narrowed(alloc, query, places, changes)? {
+        Some(ids) => Ok(Some(ids)),
+        None if changes.is_empty() => Ok(None),
+        None => {
+            let ids = every_id(alloc, query.entity, rows, changes)?;
+            Ok(Some(ids))
+        }
+    }
+}
+
+/// The rows that a query lists of a view, which is that of rows with changes laid over them.
 pub fn listed<'a>(
     alloc: Global,
     query: &Query,
     rows: &'a [(Key, Row)],
     places: &BTreeSet<Place>,
-) -> Result<Vec<&'a (Key, Row)>, AllocError>
-    requires ordered { in_order rows.now ≡ true }
-    requires indexed { IsIndexOf places.now.keys rows.now }
-    ensures { IfOk result (λ v. map (λ r. r.now) v.items ≡ listed query.now rows.now) }
-{
-    match narrowed(alloc, query, places)? {
-        Some(ids) => found(alloc, query, rows, ids.as_slice()),
-        None => listing::listed(alloc, query, rows),
-    }
-}
-
-/// What a query gives over rows with changes laid over them.
-pub fn overlaid(
-    alloc: Global,
-    query: &Query,
-    rows: &[(Key, Row)],
     changes: &[Change],
-) -> Result<Listing, AllocError>
-    requires { in_order rows.now ≡ true }
-    ensures { IfOk result (λ l. l ≡ gives query.now (after_changes changes.now rows.now)) }
+    view: &'a View<'_>,
+) -> Result<Vec<&'a (Key, Row)>, AllocError>
+    requires ordered { in_order view.now ≡ true }
+    requires indexed { IsIndexOf places.now.keys rows.now }
+    requires view { view.now ≡ after_changes changes.now rows.now }
+    ensures { IfOk result (λ v. map (λ r. r.now) v.items ≡ listed query.now view.now) }
 {
-    let read = reading::read_by(alloc, query, rows)?;
-    let view = hib_outside::laid_over(alloc, read, changes)?;
-    listing::gives(alloc, query, &view)
+    match searched(alloc, query, rows, places, changes)? {
+        Some(ids) => {
+            let ids = rising(ids);
+            found(alloc, query, view, ids.as_slice())
+        }
+        None => listing::listed(alloc, query, rows, view),
+    }
 }

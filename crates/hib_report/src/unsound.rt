@@ -10,7 +10,7 @@ ghost use Rattle.hib_report.specs.Watch.{Watches};
 ghost use Rattle.hib_report.specs.Unsound.{named, is_read_write, with_key, with_named, keys_in, unsound, unsound_text};
 
 use crate::watch::Watch;
-use hib_base::{Act, EntityNo, Entry, Key, Script, Strategy};
+use hib_base::{Act, EntityNo, Entry, Key, Script, Strategy, strategy_of};
 use hib_listeners::key_in;
 use hib_texts::{put_key, put_labelled};
 use std::alloc::{AllocError, Global};
@@ -29,10 +29,7 @@ fn named(act: &Act) -> Option<Key>
 fn is_read_write(script: &Script, entity: EntityNo) -> bool
     ensures { result ≡ is_read_write (strategy script.now entity) }
 {
-    match script.mapping.as_slice().get(entity.0 as usize) {
-        Some(def) => def.strategy == Strategy::ReadWrite,
-        None => false,
-    }
+    strategy_of(script.mapping.as_slice(), entity) == Strategy::ReadWrite
 }
 
 // Adds a key to sorted ones, among which it stands once.

@@ -170,7 +170,7 @@ pub fn row_line(alloc: Global, draft: &mut Draft, tokens: &[Token]) -> Result<()
     ensures step { OnOk result (lines.row_line (reader_of draft.old) tokens.now ≡ Ok (reader_of draft.new)) }
     ensures fault { IfErr result (lines.IsFault (lines.row_line (reader_of draft.old) tokens.now)) }
 {
-    match row(alloc, &draft.script.mapping, &draft.script.rows, tokens) {
+    match row(alloc, &draft.script.mapping, &draft.rows, tokens) {
         Ok(row) => with_row(draft, row),
         Err(StatementError::Fault(kind)) => Err(LineError::Fault(kind)),
         Err(StatementError::NoMemory) => Err(LineError::NoMemory),
@@ -181,10 +181,10 @@ fn with_row(draft: &mut Draft, row: (Key, Row)) -> Result<(), LineError>
     ensures step { OnOk result (lines.with_row (reader_of draft.old) (Ok row) ≡ Ok (reader_of draft.new)) }
     ensures fault { IfErr result (lines.IsFault (lines.with_row (reader_of draft.old) (Ok row))) }
 {
-    if !has_room(draft.script.rows.len(), MOST_ROWS) {
+    if !has_room(draft.rows.len(), MOST_ROWS) {
         return Err(LineError::Fault(Kind::Many));
     }
-    draft.script.rows.push(row)?;
+    draft.rows.push(row)?;
     behind(Part::Rows, draft);
     Ok(())
 }

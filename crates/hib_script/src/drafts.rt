@@ -6,13 +6,18 @@ ghost use Rattle.std.specs.Prelude.{◌≡◌, OnOk, nat_lt};
 
 use crate::places::{Part, Place};
 use hib_base::{EntityDef, Script, Seq};
+use hib_statements::{Given, NamedSessions};
 use std::alloc::{AllocError, Global};
 
 /// A script as far as it was read.
 #[derive(Drop)]
 pub struct Draft {
-    /// What is finished.
+    /// What is finished, but for the rows and the sessions.
     pub script: Script,
+    /// The rows so far.
+    pub rows: Given,
+    /// The sessions so far.
+    pub sessions: NamedSessions,
     /// The entity whose columns are read, if there is one.
     pub entity: Option<EntityDef>,
     /// The statements of all sessions so far.
@@ -35,6 +40,8 @@ pub fn start(alloc: Global) -> Draft
             sessions: Seq::new(alloc),
             schedule: Seq::new(alloc),
         },
+        rows: Given::new(alloc),
+        sessions: NamedSessions::new(alloc),
         entity: None,
         statements: 0,
         place: Place::Start,

@@ -98,7 +98,14 @@ fn finished(mut draft: Draft) -> Result<Script, AllocError>
     ensures { IfOk result (λ s. outline_of s ≡ order.finished (reader_of draft)) }
 {
     close(&mut draft)?;
-    let Draft { script, .. } = draft;
+    let Draft {
+        mut script,
+        rows,
+        sessions,
+        ..
+    } = draft;
+    script.rows = rows.into_rows();
+    script.sessions = sessions.into_sessions();
     Ok(script)
 }
 

@@ -55,10 +55,10 @@ fn new_session(alloc: Global, draft: &mut Draft, name: &Token) -> Result<(), Lin
     if is_reserved(bytes) {
         return Err(LineError::Fault(Kind::Reserved));
     }
-    if has_session(draft.script.sessions.as_slice(), bytes) {
+    if draft.sessions.has(bytes) {
         return Err(LineError::Fault(Kind::Taken));
     }
-    if !has_room(draft.script.sessions.len(), MOST_SESSIONS) {
+    if !has_room(draft.sessions.len(), MOST_SESSIONS) {
         return Err(LineError::Fault(Kind::Many));
     }
     let session = SessionDef {
@@ -67,14 +67,6 @@ fn new_session(alloc: Global, draft: &mut Draft, name: &Token) -> Result<(), Lin
     };
     at(Place::Session(session), draft);
     Ok(())
-}
-
-fn has_session(sessions: &[SessionDef], name: &[u8]) -> bool
-    ensures { result ≡ lines.has_session sessions.now name.now }
-{
-    sessions
-        .iter()
-        .any(|session| session.name.as_slice() == name)
 }
 
 /// A line within a session: a statement or `end`.
@@ -88,7 +80,7 @@ pub fn in_session(
     ensures fault { IfErr result (lines.IsFault (lines.in_session (reader_of draft.old) session tokens.now)) }
 {
     if begins(tokens, b"end") {
-        end_line(draft, session, tokens)
+        end_line(alloc, draft, session, tokens)
     } else {
         statement_line(alloc, draft, session, tokens)
     }
@@ -147,7 +139,12 @@ fn are_over(statements: &[Statement]) -> bool
 }
 
 /// The `end` of a session.
-fn end_line(draft: &mut Draft, session: SessionDef, tokens: &[Token]) -> Result<(), LineError>
+fn end_line(
+    alloc: Global,
+    draft: &mut Draft,
+    session: SessionDef,
+    tokens: &[Token],
+) -> Result<(), LineError>
     ensures step { OnOk result (lines.end_line (reader_of draft.old) session tokens.now ≡ Ok (reader_of draft.new)) }
     ensures fault { IfErr result (lines.IsFault (lines.end_line (reader_of draft.old) session tokens.now)) }
 {
@@ -155,16 +152,16 @@ fn end_line(draft: &mut Draft, session: SessionDef, tokens: &[Token]) -> Result<
         return Err(LineError::Fault(Kind::Words));
     }
     if are_over(session.statements.as_slice()) {
-        Ok(with_session(draft, session)?)
+        Ok(with_session(alloc, draft, session)?)
     } else {
         Err(LineError::Fault(Kind::Last))
     }
 }
 
-fn with_session(draft: &mut Draft, session: SessionDef) -> Result<(), AllocError>
+fn with_session(alloc: Global, draft: &mut Draft, session: SessionDef) -> Result<(), AllocError>
     ensures { OnOk result (reader_of draft.new ≡ lines.with_session (reader_of draft.old) session) }
 {
-    draft.script.sessions.push(session)?;
+    draft.sessions.push(alloc, session)?;
     behind(Part::Sessions, draft);
     Ok(())
 }
@@ -190,7 +187,7 @@ pub fn in_schedule(draft: &mut Draft, tokens: &[Token]) -> Result<(), LineError>
     if begins(tokens, b"end") {
         return schedule_end(draft, tokens);
     }
-    let order = order(&draft.script.mapping, &draft.script.sessions, tokens);
+    let order = order(&draft.script.mapping, &draft.sessions, tokens);
     with_order(draft, order)
 }
 

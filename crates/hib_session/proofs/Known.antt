@@ -2,6 +2,7 @@
 use Rattle.std.proofs.Common.{◌≡◌, ℕ, inl, inr, Bool, true, false, cond, not, ◌&&◌, ◌||◌, List, [], ◌∷◌, ◌++◌, map, Some, None, Option, refl, sym, ap, ◌∙◌}
 use Rattle.std.specs.List.{filter_map, cons_option, list_any}
 use Rattle.std.specs.Option.{option_map}
+use Rattle.std.specs.Map.{lookup}
 use Rattle.hib_base.specs.Keys.{same_key}
 use Rattle.hib_base.proofs.Tables.{same_key_eq, same_key_refl, Tested, tested}
 use Rattle.hib_journal.specs.Types.{Key, Row, Change, Held, Act, Reply, Entry}
@@ -10,11 +11,11 @@ use Rattle.hib_journal.specs.Held as held
 use Rattle.hib_journal.specs.Held.{Instance, Stay, Arrival, arrival, arrived, arrived_key, is_break, row_written, without_key, stay, longer, inserts, is_inserted, gives_row, gives_base, is_begin, since_begin, is_fresh, key_removed, removed}
 use Rattle.hib_journal.specs.Next.{lock_in, lock_id}
 use Rattle.hib_journal.specs.Legal.{outcome_after}
-use Rattle.hib_completion.specs.Completed.{is_key_in, lock_from}
-use Rattle.hib_completion.proofs.Keys.{in_more}
+use Rattle.hib_completion.specs.Completed.{is_key_in, or_zero, lock_of}
 use Rattle.hib_identity_map.specs.Identity.{MapState, Pairs, look_in, drop_in, change_in, written, as_removed, with_sets}
 use Rattle.hib_identity_map.specs.Holds.{shown_of, shown_by, Holds}
-use Rattle.hib_session.specs.Memory.{Remembered, with_room, is_unwritten, marked_in, Knows, made, managed, arrive_in, remove_in, unless_broken, map_after, marks_after, fresh_after, locks_after, noted}
+use Rattle.hib_session.specs.Memory.{Remembered, with_room, is_unwritten, or_false, marked_in, with_value, with_key, Knows, made, managed, arrive_in, remove_in, unless_broken, map_after, marks_after, fresh_after, locks_after, noted}
+use Rattle.hib_session.proofs.KeyMaps.{value_more, key_more}
 use Rattle.hib_session.proofs.Kept.{after_write, after_removal, after_sets, unless_unwritten, later, fresh, arrives_other, held_later, held_arrives, held_broken}
 use Rattle.hib_session.proofs.Orders.{held_key, none_map, later_map, same_map, without_none, without_same, others, dropped_map, join_map, look_changed, look_dropped, look_added, distinct_changed, distinct_dropped, distinct_added, change_at, shown_changed, shown_dropped, shown_added}
 
@@ -123,13 +124,15 @@ module _ (ps : Pairs) (mine : Journal) (e : Entry) (h : Holds ps mine) where
 
 -- the marks: which instances were never written
 
-marked_more : (k : Key) (b : Bool) (ms : List (Key × Bool)) (p : Key × Bool) → marked_in k b (ms ++ p ∷ []) ≡ cond (same_key p.0 k) p.1 (marked_in k b ms)
-marked_more k b [] p = refl
-marked_more k b (m ∷ ms) p = marked_more k (cond (same_key m.0 k) m.1 b) ms p
+or_test : {A B : Type 0} (f : Option A → B) (b : Bool) (v : A) (o : Option A) → f (cond b (Some v) o) ≡ cond b (f (Some v)) (f o)
+or_test f true v o = refl
+or_test f false v o = refl
 
-lock_more : (k : Key) (i : ℕ) (ls : List (Key × ℕ)) (p : Key × ℕ) → lock_from k i (ls ++ p ∷ []) ≡ cond (same_key p.0 k) p.1 (lock_from k i ls)
-lock_more k i [] p = refl
-lock_more k i (l ∷ ls) p = lock_more k (cond (same_key l.0 k) l.1 i) ls p
+marked_more : (k : Key) (ms : List (Key × Bool)) (j : Key) (b : Bool) → marked_in k (with_value j b ms) ≡ cond (same_key j k) b (marked_in k ms)
+marked_more k ms j b = ap or_false (value_more k j b ms) ∙ or_test or_false (same_key j k) b (lookup (same_key k) ms)
+
+lock_more : (k : Key) (ls : List (Key × ℕ)) (j : Key) (n : ℕ) → lock_of k (with_value j n ls) ≡ cond (same_key j k) n (lock_of k ls)
+lock_more k ls j n = ap or_zero (value_more k j n ls) ∙ or_test or_zero (same_key j k) n (lookup (same_key k) ls)
 
 unwritten_longer : (k : Key) (e : Entry) (o : Option Stay) → is_unwritten k (longer e o) ≡ (not (inserts k e.act) && is_unwritten k o)
 unwritten_longer k e None = by (inserts k e.act)
@@ -236,14 +239,14 @@ module _ (x : Remembered) (mine : Journal) (e : Entry) (k : Knows x mine) where
     holds_with n h b t s l = holds_arrived x.instances.held mine e k.holds n h (breaks false b) (arrives (Some n) t) s
         (λ i d. now b (Some n) t i (ap not d) ∙ l i)
 
-    holds_removed : (j : Key) (b : Bool) → marked_in j false x.marks ≡ b → a ≡ Act.Remove j → r ≡ Reply.Removed → Holds (remove_in b j x.instances.held) (e ∷ mine)
+    holds_removed : (j : Key) (b : Bool) → marked_in j x.marks ≡ b → a ≡ Act.Remove j → r ≡ Reply.Removed → Holds (remove_in b j x.instances.held) (e ∷ mine)
     holds_removed j true m i z = holds_dropped x.instances.held mine e k.holds j (two arrival (Act.Remove j) Reply.Removed (p ∙ i) (q ∙ z))
         (λ y. held_later y e mine (two is_break (Act.Remove j) Reply.Removed (p ∙ i) (q ∙ z)) (ap (arrives_other y) (two arrival (Act.Remove j) Reply.Removed (p ∙ i) (q ∙ z)))
         ∙ (two (λ c d. later (is_unwritten y (stay y mine)) y c d (held.held mine y)) (Act.Remove j) Reply.Removed (p ∙ i) (q ∙ z) ∙ by y (tested (same_key j y))))
       where
         by : (y : Key) → Tested (same_key j y) → cond (same_key j y) (unless_unwritten (is_unwritten y (stay y mine)) (held.held mine y)) (held.held mine y) ≡ cond (same_key j y) None (held.held mine y)
         by y (inl t) =
-            let v : is_unwritten y (stay y mine) ≡ true = sym (k.unwritten y) ∙ (ap (λ i. marked_in i false x.marks) (sym (same_key_eq j y t)) ∙ m) in
+            let v : is_unwritten y (stay y mine) ≡ true = sym (k.unwritten y) ∙ (ap (λ i. marked_in i x.marks) (sym (same_key_eq j y t)) ∙ m) in
             rw (t, v) refl
         by y (inr t) = rw t refl
     holds_removed j false m i z = holds_changed x.instances.held mine e k.holds j as_removed after_removal (λ c d. refl) (two arrival (Act.Remove j) Reply.Removed (p ∙ i) (q ∙ z))
@@ -253,7 +256,7 @@ module _ (x : Remembered) (mine : Journal) (e : Entry) (k : Knows x mine) where
         by : (y : Key) → Tested (same_key j y) → cond (same_key j y) (unless_unwritten (is_unwritten y (stay y mine)) (held.held mine y)) (held.held mine y)
             ≡ cond (same_key j y) (option_map after_removal (held.held mine y)) (held.held mine y)
         by y (inl t) =
-            let v : is_unwritten y (stay y mine) ≡ false = sym (k.unwritten y) ∙ (ap (λ i. marked_in i false x.marks) (sym (same_key_eq j y t)) ∙ m) in
+            let v : is_unwritten y (stay y mine) ≡ false = sym (k.unwritten y) ∙ (ap (λ i. marked_in i x.marks) (sym (same_key_eq j y t)) ∙ m) in
             rw (t, v) refl
         by y (inr t) = rw t refl
 
@@ -261,7 +264,7 @@ module _ (x : Remembered) (mine : Journal) (e : Entry) (k : Knows x mine) where
   holds_commit r p q true b = holds_broken x.instances.held mine e k.holds (breaks Act.Commit r p q true b)
   holds_commit r p q false b = holds_kept Act.Commit r p q b refl (λ j. refl)
 
-  holds_after : (a : Act) (r : Reply) → e.act ≡ a → e.reply ≡ r → Holds (map_after (λ j. marked_in j false x.marks) a r x.instances).held (e ∷ mine)
+  holds_after : (a : Act) (r : Reply) → e.act ≡ a → e.reply ≡ r → Holds (map_after (λ j. marked_in j x.marks) a r x.instances).held (e ∷ mine)
   holds_after (Act.Persist j row) Reply.New p q = holds_with (Act.Persist j row) Reply.New p q (Arrival.Made j row) (made row) refl refl (λ i. refl) (λ i. refl)
   holds_after (Act.Load j) (Reply.Row (Some row)) p q = holds_with (Act.Load j) (Reply.Row (Some row)) p q (Arrival.Read j row) (managed row) refl refl (λ i. refl) (λ i. refl)
   holds_after (Act.Get j t) (Reply.Hit row) p q = holds_with (Act.Get j t) (Reply.Hit row) p q (Arrival.Read j row) (managed row) refl refl (λ i. refl) (λ i. refl)
@@ -269,7 +272,7 @@ module _ (x : Remembered) (mine : Journal) (e : Entry) (k : Knows x mine) where
   holds_after (Act.Write (Change.Update j v row)) r p q = holds_at (Act.Write (Change.Update j v row)) r p q j (written row) (after_write row) (λ i h. refl) refl refl (λ i. refl)
   holds_after (Act.Write (Change.Delete j v)) r p q = holds_without (Act.Write (Change.Delete j v)) r p q j refl refl (λ i. refl)
   holds_after (Act.Set j cells) Reply.Set p q = holds_at (Act.Set j cells) Reply.Set p q j (with_sets cells) (after_sets cells) (λ i h. refl) refl refl (λ i. refl)
-  holds_after (Act.Remove j) Reply.Removed p q = holds_removed (Act.Remove j) Reply.Removed p q j (marked_in j false x.marks) refl refl refl
+  holds_after (Act.Remove j) Reply.Removed p q = holds_removed (Act.Remove j) Reply.Removed p q j (marked_in j x.marks) refl refl refl
   holds_after Act.Commit r p q = holds_commit r p q (is_break Act.Commit r) refl
   holds_after Act.Rollback r p q = holds_broken x.instances.held mine e k.holds (breaks Act.Rollback r p q true refl)
   holds_after Act.Clear r p q = holds_broken x.instances.held mine e k.holds (breaks Act.Clear r p q true refl)
@@ -278,7 +281,7 @@ module _ (x : Remembered) (mine : Journal) (e : Entry) (k : Knows x mine) where
   -- the marks
 
   marks_next : (j : Key) (a : Act) (r : Reply) → e.act ≡ a → e.reply ≡ r → is_break a r ≡ false →
-      is_unwritten j (stay j (e ∷ mine)) ≡ unwritten_arrival j (arrival a r) (not (inserts j a) && marked_in j false x.marks)
+      is_unwritten j (stay j (e ∷ mine)) ≡ unwritten_arrival j (arrival a r) (not (inserts j a) && marked_in j x.marks)
   marks_next j a r p q b =
       unwritten_next j e mine (breaks a r p q false b)
       ∙ (two (λ c d. unwritten_arrival j (arrival c d) (not (inserts j c) && is_unwritten j (stay j mine))) a r p q
@@ -287,7 +290,7 @@ module _ (x : Remembered) (mine : Journal) (e : Entry) (k : Knows x mine) where
   marks_broken : (j : Key) → is_break e.act e.reply ≡ true → false ≡ is_unwritten j (stay j (e ∷ mine))
   marks_broken j b = rw b refl
 
-  marks_commit : (j : Key) (r : Reply) → e.act ≡ Act.Commit → e.reply ≡ r → (b : Bool) → is_break Act.Commit r ≡ b → marked_in j false (unless_broken b x.marks) ≡ is_unwritten j (stay j (e ∷ mine))
+  marks_commit : (j : Key) (r : Reply) → e.act ≡ Act.Commit → e.reply ≡ r → (b : Bool) → is_break Act.Commit r ≡ b → marked_in j (unless_broken b x.marks) ≡ is_unwritten j (stay j (e ∷ mine))
   marks_commit j r p q true b = marks_broken j (breaks Act.Commit r p q true b)
   marks_commit j r p q false b = sym (marks_next j Act.Commit r p q b)
 
@@ -295,12 +298,12 @@ module _ (x : Remembered) (mine : Journal) (e : Entry) (k : Knows x mine) where
   and_cond true c = refl
   and_cond false c = refl
 
-  unwritten_noted : (j : Key) (a : Act) (r : Reply) → e.act ≡ a → e.reply ≡ r → marked_in j false (marks_after a r x.marks) ≡ is_unwritten j (stay j (e ∷ mine))
-  unwritten_noted j (Act.Persist i row) Reply.New p q = marked_more j false x.marks (i, true) ∙ sym (marks_next j (Act.Persist i row) Reply.New p q refl)
-  unwritten_noted j (Act.Load i) (Reply.Row (Some row)) p q = marked_more j false x.marks (i, false) ∙ sym (marks_next j (Act.Load i) (Reply.Row (Some row)) p q refl)
-  unwritten_noted j (Act.Get i t) (Reply.Hit row) p q = marked_more j false x.marks (i, false) ∙ sym (marks_next j (Act.Get i t) (Reply.Hit row) p q refl)
+  unwritten_noted : (j : Key) (a : Act) (r : Reply) → e.act ≡ a → e.reply ≡ r → marked_in j (marks_after a r x.marks) ≡ is_unwritten j (stay j (e ∷ mine))
+  unwritten_noted j (Act.Persist i row) Reply.New p q = marked_more j x.marks i true ∙ sym (marks_next j (Act.Persist i row) Reply.New p q refl)
+  unwritten_noted j (Act.Load i) (Reply.Row (Some row)) p q = marked_more j x.marks i false ∙ sym (marks_next j (Act.Load i) (Reply.Row (Some row)) p q refl)
+  unwritten_noted j (Act.Get i t) (Reply.Hit row) p q = marked_more j x.marks i false ∙ sym (marks_next j (Act.Get i t) (Reply.Hit row) p q refl)
   unwritten_noted j (Act.Write (Change.Insert i row)) r p q =
-      marked_more j false x.marks (i, false) ∙ (and_cond (same_key i j) (marked_in j false x.marks) ∙ sym (marks_next j (Act.Write (Change.Insert i row)) r p q refl))
+      marked_more j x.marks i false ∙ (and_cond (same_key i j) (marked_in j x.marks) ∙ sym (marks_next j (Act.Write (Change.Insert i row)) r p q refl))
   unwritten_noted j (Act.Write (Change.Update i v row)) r p q = sym (marks_next j (Act.Write (Change.Update i v row)) r p q refl)
   unwritten_noted j (Act.Write (Change.Delete i v)) r p q = sym (marks_next j (Act.Write (Change.Delete i v)) r p q refl)
   unwritten_noted j Act.Commit r p q = marks_commit j r p q (is_break Act.Commit r) refl
@@ -316,10 +319,10 @@ module _ (x : Remembered) (mine : Journal) (e : Entry) (k : Knows x mine) where
       fresh_next j e mine ∙ (two (λ c d. cond (is_begin c) false (gives_row j (arrival c d) (row_written j c) || is_fresh j mine)) a r p q
       ∙ ap (λ t. cond (is_begin a) false (gives_row j (arrival a r) (row_written j a) || t)) (sym (k.fresh j)))
 
-  fresh_more : (i j : Key) → is_key_in j (x.fresh ++ i ∷ []) ≡ (same_key i j || is_key_in j x.fresh)
-  fresh_more i j = in_more j x.fresh i ∙ or_comm (is_key_in j x.fresh) (same_key i j)
+  fresh_more : (i j : Key) → is_key_in j (with_key i x.fresh) ≡ (same_key i j || is_key_in j x.fresh)
+  fresh_more i j = key_more j i x.fresh ∙ or_comm (is_key_in j x.fresh) (same_key i j)
 
-  fresh_write : (i j : Key) (row : Row) → is_key_in j (x.fresh ++ i ∷ []) ≡ (gives_row j None (cond (same_key i j) (Some row) None) || is_key_in j x.fresh)
+  fresh_write : (i j : Key) (row : Row) → is_key_in j (with_key i x.fresh) ≡ (gives_row j None (cond (same_key i j) (Some row) None) || is_key_in j x.fresh)
   fresh_write i j row = fresh_more i j ∙ ap (λ t. t || is_key_in j x.fresh) (sym (written_gives j i row))
 
   fresh_noted : (j : Key) (a : Act) (r : Reply) → e.act ≡ a → e.reply ≡ r → is_key_in j (fresh_after a r x.fresh) ≡ is_fresh j (e ∷ mine)
@@ -331,8 +334,8 @@ module _ (x : Remembered) (mine : Journal) (e : Entry) (k : Knows x mine) where
   fresh_noted j (Act.Persist i row) Reply.New p q = sym (fresh_by j (Act.Persist i row) Reply.New p q)
   fresh_noted j a r p q = sym (fresh_by j a r p q)
 
-  locks_noted : (j : Key) (a : Act) (r : Reply) → e.act ≡ a → e.reply ≡ r → lock_from j 0 (locks_after a r x.locks) ≡ lock_in j a r (lock_id j mine)
-  locks_noted j (Act.Lock i v f) (Reply.Locked l) p q = lock_more j 0 x.locks (i, l.id) ∙ ap (λ n. cond (same_key i j) l.id n) (k.locks j)
+  locks_noted : (j : Key) (a : Act) (r : Reply) → e.act ≡ a → e.reply ≡ r → lock_of j (locks_after a r x.locks) ≡ lock_in j a r (lock_id j mine)
+  locks_noted j (Act.Lock i v f) (Reply.Locked l) p q = lock_more j x.locks i l.id ∙ ap (λ n. cond (same_key i j) l.id n) (k.locks j)
   locks_noted j _ r p q = k.locks j
 
   -- the memory that takes an entry stands for it
@@ -343,7 +346,7 @@ module _ (x : Remembered) (mine : Journal) (e : Entry) (k : Knows x mine) where
     changes = ap (changes_after e.act) k.changes;
     outcome = ap (outcome_after e.act e.reply) k.outcome;
     holds = holds_after e.act e.reply refl refl;
-    removals = removals_after (λ j. marked_in j false x.marks) e.act e.reply x.instances ∙ ap (key_removed e.act e.reply) k.removals;
+    removals = removals_after (λ j. marked_in j x.marks) e.act e.reply x.instances ∙ ap (key_removed e.act e.reply) k.removals;
     unwritten = λ j. unwritten_noted j e.act e.reply refl refl;
     fresh = λ j. fresh_noted j e.act e.reply refl refl;
     locks = λ j. locks_noted j e.act e.reply refl refl;

@@ -1,4 +1,5 @@
 pub mod Ranges
+pub mod KeyMaps
 pub mod Kept
 pub mod Orders
 pub mod Known

@@ -7,7 +7,7 @@ use Rattle.hib_journal.specs.Next.{completion}
 use Rattle.hib_session.specs.declared.control.Stage.{Stage}
 use Rattle.hib_session.specs.declared.ahead.Ending.{Ending}
 use Rattle.hib_session.specs.declared.written.Written.{Written}
-use Rattle.hib_session.specs.Rows.{row_left}
+use Rattle.hib_base.specs.Tables.{row_left}
 use Rattle.hib_session.specs.Memory.{has_copies}
 
 -- the acts that complete a transaction with these entries, whichever way it ends

@@ -1,5 +1,5 @@
 pub mod Queries
-pub mod Rows
+pub mod Changed
 pub mod Memory
 pub mod Control
 pub mod Ahead

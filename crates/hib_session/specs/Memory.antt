@@ -2,6 +2,9 @@
 use Rattle.std.specs.Prelude.{◌≡◌, ℕ, Bool, true, false, cond, not, List, [], ◌∷◌, ◌++◌, Some, None, Option}
 use Rattle.std.specs.List.{flat_map}
 use Rattle.std.specs.Option.{is_some}
+use Rattle.std.specs.Map.{lookup}
+use Rattle.indexmap.specs.IndexMap.{insert_entry}
+use Rattle.indexmap.specs.IndexSet.{insert_key}
 use Rattle.hib_journal.specs.Types.{Key, Row, Change, Script, State, Held, Outcome, Act, Reply, Entry}
 use Rattle.hib_base.specs.Keys.{same_key}
 use Rattle.hib_journal.specs.Sessions.{Journal, time_in, time_after, floor_in, floor_after, changes_in, changes_after}
@@ -10,9 +13,9 @@ use Rattle.hib_journal.specs.Next.{lock_id, is_in, strategy, before_cached, fres
 use Rattle.hib_journal.specs.Legal.{outcome, outcome_after}
 use Rattle.hib_identity_map.specs.Identity.{MapState, Pairs, drop_in, add_in, change_in, written, as_removed, with_sets, remove_last}
 use Rattle.hib_identity_map.specs.Holds.{Holds}
-use Rattle.hib_completion.specs.Completed.{is_key_in, lock_from}
+use Rattle.hib_completion.specs.Completed.{is_key_in, lock_of}
 use Rattle.hib_session.specs.declared.written.Written.{Written}
-use Rattle.hib_session.specs.Rows.{row_left}
+use Rattle.hib_base.specs.Tables.{row_left}
 
 -- what contracts see of a memory: what it remembers, and whether it has room for one more of each
 pub record Remembered : Type 0 where
@@ -46,10 +49,21 @@ is_unwritten k None = false
 is_unwritten k (Some (Arrival.Read j r, m)) = false
 is_unwritten k (Some (Arrival.Made j r, m)) = not (is_inserted k m)
 
--- the last mark of a key, or b where there is none
-abbrev pub marked_in : Key → Bool → List (Key × Bool) → Bool
-marked_in k b [] = b
-marked_in k b (p ∷ ps) = marked_in k (cond (same_key p.0 k) p.1 b) ps
+abbrev pub or_false : Option Bool → Bool
+or_false None = false
+or_false (Some b) = b
+
+-- whether a key is marked
+abbrev pub marked_in : Key → List (Key × Bool) → Bool
+marked_in k marks = or_false (lookup (same_key k) marks)
+
+-- a key has this value, in place of the one that it had; a new key comes last
+abbrev pub with_value : {V : Type 0} → Key → V → List (Key × V) → List (Key × V)
+with_value k v ps = insert_entry same_key ps k v
+
+-- a key is among these; a new one comes last
+abbrev pub with_key : Key → List Key → List Key
+with_key k ks = insert_key same_key ks k
 
 -- the memory stands for these entries of a session, the newest first
 pub record Knows (memory : Remembered) (mine : Journal) : Type 0 where
@@ -59,9 +73,9 @@ pub record Knows (memory : Remembered) (mine : Journal) : Type 0 where
   pub outcome : memory.outcome ≡ outcome mine
   pub holds : Holds memory.instances.held mine
   pub removals : memory.instances.removals ≡ removed mine
-  pub unwritten : (k : Key) → marked_in k false memory.marks ≡ is_unwritten k (stay k mine)
+  pub unwritten : (k : Key) → marked_in k memory.marks ≡ is_unwritten k (stay k mine)
   pub fresh : (k : Key) → is_key_in k memory.fresh ≡ is_fresh k mine
-  pub locks : (k : Key) → lock_from k 0 memory.locks ≡ lock_id k mine
+  pub locks : (k : Key) → lock_of k memory.locks ≡ lock_id k mine
 
 -- instances that arrive: made new, or read
 abbrev pub made : Row → Held
@@ -105,13 +119,13 @@ map_after u Act.Clear r m = with_pairs m []
 map_after u _ r m = m
 
 abbrev pub marks_written : Change → List (Key × Bool) → List (Key × Bool)
-marks_written (Change.Insert k r) ms = ms ++ (k, false) ∷ []
+marks_written (Change.Insert k r) ms = with_value k false ms
 marks_written _ ms = ms
 
 abbrev pub marks_after : Act → Reply → List (Key × Bool) → List (Key × Bool)
-marks_after (Act.Persist k row) Reply.New ms = ms ++ (k, true) ∷ []
-marks_after (Act.Load k) (Reply.Row (Some row)) ms = ms ++ (k, false) ∷ []
-marks_after (Act.Get k t) (Reply.Hit row) ms = ms ++ (k, false) ∷ []
+marks_after (Act.Persist k row) Reply.New ms = with_value k true ms
+marks_after (Act.Load k) (Reply.Row (Some row)) ms = with_value k false ms
+marks_after (Act.Get k t) (Reply.Hit row) ms = with_value k false ms
 marks_after (Act.Write c) r ms = marks_written c ms
 marks_after Act.Commit r ms = unless_broken (is_break Act.Commit r) ms
 marks_after Act.Rollback r ms = []
@@ -119,26 +133,26 @@ marks_after Act.Clear r ms = []
 marks_after _ r ms = ms
 
 abbrev pub fresh_written : Change → List Key → List Key
-fresh_written (Change.Insert k r) ks = ks ++ k ∷ []
-fresh_written (Change.Update k v r) ks = ks ++ k ∷ []
+fresh_written (Change.Insert k r) ks = with_key k ks
+fresh_written (Change.Update k v r) ks = with_key k ks
 fresh_written (Change.Delete k v) ks = ks
 
 abbrev pub fresh_after : Act → Reply → List Key → List Key
 fresh_after Act.Begin r ks = []
-fresh_after (Act.Load k) (Reply.Row (Some row)) ks = ks ++ k ∷ []
-fresh_after (Act.Get k t) (Reply.Hit row) ks = ks ++ k ∷ []
+fresh_after (Act.Load k) (Reply.Row (Some row)) ks = with_key k ks
+fresh_after (Act.Get k t) (Reply.Hit row) ks = with_key k ks
 fresh_after (Act.Write c) r ks = fresh_written c ks
 fresh_after _ r ks = ks
 
 abbrev pub locks_after : Act → Reply → List (Key × ℕ) → List (Key × ℕ)
-locks_after (Act.Lock k v f) (Reply.Locked l) ls = ls ++ (k, l.id) ∷ []
+locks_after (Act.Lock k v f) (Reply.Locked l) ls = with_value k l.id ls
 locks_after _ r ls = ls
 
 abbrev pub noted_by : Remembered → ℕ → Act → Reply → Remembered
 noted_by x now a r = record {
   time = time_after a now x.time;
   floor = floor_after a r x.floor;
-  instances = map_after (λ k. marked_in k false x.marks) a r x.instances;
+  instances = map_after (λ k. marked_in k x.marks) a r x.instances;
   marks = marks_after a r x.marks;
   changes = changes_after a x.changes;
   fresh = fresh_after a r x.fresh;
@@ -156,7 +170,7 @@ pub record Recalls (memory : Remembered) (mine : Journal) : Type 0 where
   pub time : memory.time ≡ time_in mine
   pub floor : memory.floor ≡ floor_in mine
   pub changes : memory.changes ≡ changes_in mine
-  pub locks : (k : Key) → lock_from k 0 memory.locks ≡ lock_id k mine
+  pub locks : (k : Key) → lock_of k memory.locks ≡ lock_id k mine
 
 -- what comes before a write, by the memory
 abbrev pub before_key_in : Script → Remembered → Key → Option ℕ → List Act

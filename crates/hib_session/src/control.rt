@@ -14,7 +14,7 @@ ghost use Rattle.hib_session.specs.Ahead.{Ends, Copies, asks_rows, has_ending};
 
 use crate::ahead::Ending;
 use crate::memory::Memory;
-use crate::modes::{does_put, does_read};
+use crate::queue::Queue;
 use crate::written::Written;
 use hib_base::{
     Act, Acts, Cells, Checked, Commit, EntityNo, Entry, Key, Mode, QueryNo, Reply, Row, Script,
@@ -57,7 +57,7 @@ pub struct Control {
     /// Whether a transaction is to begin before the next statement.
     pub begins: bool,
     /// Acts that are due one after another.
-    pub queue: Acts,
+    pub queue: Queue,
     /// What is left of the statement's block after them.
     pub stage: Stage,
 }
@@ -165,7 +165,7 @@ fn listed(
 {
     match reply {
         Reply::Listed(list) => {
-            if !memory.frees(script, query, does_put(mode)) {
+            if !memory.frees(script, query, mode.puts()) {
                 return Ok(Seq::new(alloc));
             }
             let list = copy_cells(alloc, list)?;
@@ -391,7 +391,7 @@ fn answering(script: &Script, memory: &Memory, mode: Mode, stage: Stage) -> Stag
 {
     match stage {
         Stage::Answering(query) => {
-            if memory.frees(script, query, does_read(mode)) {
+            if memory.frees(script, query, mode.reads()) {
                 Stage::Looking(query)
             } else {
                 Stage::Listing(query)
@@ -474,7 +474,7 @@ impl Control {
             place: 0,
             mode: Mode::Normal,
             begins: true,
-            queue: Seq::new(alloc),
+            queue: Queue::new(alloc),
             stage: Stage::Idle,
         }
     }
@@ -526,7 +526,7 @@ impl Control {
         let _few = queue.len();
         self.mode = mode_from(statement, self.mode);
         self.begins = is_end(statement);
-        self.queue = queue;
+        self.queue = Queue::of(queue);
         self.stage = stage;
         self.place += 1;
         Ok(())
@@ -576,7 +576,7 @@ impl Control {
             → Rattle.hib_session.specs.Control.is_settled script.now self.now ≡ true → a ≡ next script.now self.now.number mine) }
     {
         if !self.queue.is_empty() {
-            let act = self.queue.at(0).copy(alloc)?;
+            let act = self.queue.first().copy(alloc)?;
             return Ok(Some(act));
         }
         if is_idle(self.stage) {
@@ -595,7 +595,7 @@ impl Control {
             place: self.place,
             mode: self.mode,
             begins: self.begins,
-            queue: Seq::new(alloc),
+            queue: Queue::new(alloc),
             stage: self.stage,
         }
     }
@@ -606,7 +606,7 @@ impl Control {
         ensures { result ≡ Rattle.hib_session.specs.Ahead.is_made self.now.queue self.now.stage copies.now ending.now }
     {
         if !self.queue.is_empty() {
-            return are_there(self.queue.at(0), copies);
+            return are_there(self.queue.first(), copies);
         }
         match self.stage {
             Stage::Committing | Stage::RollingBack => ending.is_some(),
@@ -622,7 +622,7 @@ impl Control {
         if self.queue.is_empty() {
             return Ok(None);
         }
-        let copies = copies_of(alloc, self.queue.at(0))?;
+        let copies = copies_of(alloc, self.queue.first())?;
         Ok(copies)
     }
 
@@ -690,7 +690,7 @@ impl Control {
             return;
         }
         let _few = queue.len();
-        self.queue = queue;
+        self.queue = Queue::of(queue);
         self.stage = stage;
     }
 }

@@ -3,11 +3,13 @@
 
 mod ahead;
 mod bounds;
+mod changed;
 mod control;
+mod keyed;
 mod memory;
-mod modes;
 mod noting;
 mod queries;
+mod queue;
 mod session;
 mod written;
 

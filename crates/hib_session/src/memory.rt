@@ -1,5 +1,5 @@
 // What a session remembers of its own entries: its transaction's time, floor and changes, its locks and its instances.
-ghost use Rattle.std.specs.Prelude.{Bool, ◌≡◌, ◌||◌, ◌∷◌, [], ◌++◌, IfOk, IsOk, OnOk, false, true, Some, None, MatchOption, nat_lt, vec_len, vec_capacity};
+ghost use Rattle.std.specs.Prelude.{Bool, ◌≡◌, ◌||◌, ◌∷◌, [], ◌++◌, IfOk, IsOk, OnOk, true, Some, None, MatchOption};
 ghost use Rattle.hib_journal.specs.Sessions.{Journal};
 ghost use Rattle.hib_journal.specs.Held.{pending};
 ghost use Rattle.hib_base.specs.declared.entries.Act.{Act};
@@ -8,15 +8,17 @@ ghost use Rattle.hib_completion.specs.Completed.{acts_of, is_key_in};
 ghost use Rattle.hib_identity_map.specs.Holds.{held_in, shown_of};
 ghost use Rattle.hib_session.specs.Memory.{marked_in, before_key_in, before_in, flush_in, with_room, Knows, Recalls};
 
-use crate::modes::{does_put, does_read};
+use crate::changed::Changed;
+use crate::keyed::{has_room, has_room_in, is_among};
 use crate::queries::{is_cached as is_kept, is_touched};
 use hib_base::{
-    Act, Acts, Change, Changes, EntityNo, Held, Key, Mode, Outcome, QueryNo, Script, Seq, Strategy,
-    Tick,
+    Act, Acts, Change, Changes, Held, Key, Mode, Outcome, QueryNo, Script, Seq, Strategy, Tick,
+    is_cached, strategy_of,
 };
 use hib_completion::{acts, tables};
 use hib_flush::plan;
 use hib_identity_map::IdentityMap;
+use indexmap::{IndexMap, IndexSet};
 use std::alloc::{AllocError, Global};
 use std::marker::Model;
 
@@ -29,20 +31,22 @@ pub struct Memory {
     pub floor: Tick,
     /// Its instances in order of arrival.
     pub instances: IdentityMap,
-    /// Of a key, whether its instance was made and never written: the last mark counts.
-    pub marks: Vec<(Key, bool)>,
+    /// Of a key, whether its instance was made and never written.
+    pub marks: IndexMap<Key, bool>,
     /// The changes that it wrote since its last Begin, in order.
-    pub changes: Vec<Change>,
+    pub changes: Changed,
     /// The keys whose base it was given since its last Begin.
-    pub fresh: Vec<Key>,
-    /// The locks that it took, in order: of a key, the last one counts.
-    pub locks: Vec<(Key, Tick)>,
+    pub fresh: IndexSet<Key>,
+    /// The last lock that it took on a key.
+    pub locks: IndexMap<Key, Tick>,
     /// How its last transaction ended.
     pub outcome: Outcome,
 }
 
 impl Model for Memory {
-    ghost use Rattle.std.specs.Prelude.{◌&&◌, nat_lt, vec_len, vec_capacity};
+    ghost use Rattle.std.specs.Prelude.{◌&&◌, nat_lt};
+    ghost use Rattle.indexmap.specs.IndexMap.{spare as spare_of};
+    ghost use Rattle.indexmap.specs.IndexSet.{spare};
     ghost use Rattle.hib_session.specs.Memory.{Remembered};
 
     ghost Value = { Remembered };
@@ -51,56 +55,23 @@ impl Model for Memory {
       time = m.time;
       floor = m.floor;
       instances = m.instances;
-      marks = m.marks.items;
-      changes = m.changes.items;
-      fresh = m.fresh.items;
-      locks = m.locks.items;
+      marks = m.marks.entries;
+      changes = m.changes.list;
+      fresh = m.fresh.keys;
+      locks = m.locks.entries;
       outcome = m.outcome;
-      room = (nat_lt (vec_len m.marks) (vec_capacity m.marks) && nat_lt (vec_len m.changes) (vec_capacity m.changes)) &&
-          (nat_lt (vec_len m.fresh) (vec_capacity m.fresh) && nat_lt (vec_len m.locks) (vec_capacity m.locks));
+      room = (nat_lt 0 (spare_of m.marks) && m.changes.room) && (nat_lt 0 (spare m.fresh) && nat_lt 0 (spare_of m.locks));
     } };
 }
 
-fn is_cached(script: &Script, entity: EntityNo) -> bool
-    ensures { result ≡ Rattle.hib_journal.specs.Next.is_cached script.now entity }
+/// Whether a key is marked.
+pub fn is_marked(marks: &IndexMap<Key, bool>, key: Key) -> bool
+    ensures { result ≡ marked_in key marks.now.entries }
 {
-    match script.mapping.as_slice().get(entity.0 as usize) {
-        Some(def) => def.strategy != Strategy::Uncached,
+    match marks.get(&key) {
+        Some(mark) => *mark,
         None => false,
     }
-}
-
-fn strategy_of(script: &Script, entity: EntityNo) -> Strategy
-    ensures { result ≡ Rattle.hib_journal.specs.Next.strategy script.now entity }
-{
-    match script.mapping.as_slice().get(entity.0 as usize) {
-        Some(def) => def.strategy,
-        None => Strategy::Uncached,
-    }
-}
-
-fn is_among(keys: &[Key], key: Key) -> bool
-    ensures { result ≡ is_key_in key keys.now }
-{
-    for other in keys {
-        if *other == key {
-            return true;
-        }
-    }
-    false
-}
-
-/// The last mark of a key; false where there is none.
-pub fn last_mark(marks: &[(Key, bool)], key: Key) -> bool
-    ensures { result ≡ marked_in key false marks.now }
-{
-    let mut mark = false;
-    for (other, now) in marks {
-        if *other == key {
-            mark = *now;
-        }
-    }
-    mark
 }
 
 /// What comes before the first write of a key: a lock, or the removal of its item.
@@ -118,13 +89,6 @@ fn before_first(strategy: Strategy, key: Key, version: Option<u32>, floor: Tick)
     }
 }
 
-/// Whether a list has room for one more.
-fn has_room_in<T>(list: &Vec<T>) -> bool
-    ensures { result ≡ nat_lt (vec_len list.now) (vec_capacity list.now) }
-{
-    list.len() < list.capacity()
-}
-
 impl Memory {
     /// The memory of a session that has done nothing.
     pub fn new(alloc: Global) -> Memory
@@ -134,10 +98,10 @@ impl Memory {
             time: Tick(0),
             floor: Tick(0),
             instances: IdentityMap::open(alloc),
-            marks: Vec::new(alloc),
-            changes: Vec::new(alloc),
-            fresh: Vec::new(alloc),
-            locks: Vec::new(alloc),
+            marks: IndexMap::new(alloc),
+            changes: Changed::new(alloc),
+            fresh: IndexSet::new(alloc),
+            locks: IndexMap::new(alloc),
             outcome: Outcome::RolledBack,
         }
     }
@@ -146,10 +110,10 @@ impl Memory {
     pub fn has_room(&self) -> bool
         ensures { result ≡ self.now.room }
     {
-        has_room_in(&self.marks)
-            && has_room_in(&self.changes)
+        has_room(&self.marks)
+            && self.changes.has_room()
             && has_room_in(&self.fresh)
-            && has_room_in(&self.locks)
+            && has_room(&self.locks)
     }
 
     /// Makes room for one more of each. At an error nothing has changed but the room.
@@ -159,7 +123,7 @@ impl Memory {
         ensures room { self.old.room ≡ true → IsOk result }
     {
         self.marks.reserve(1)?;
-        self.changes.reserve(1)?;
+        self.changes.reserve()?;
         self.fresh.reserve(1)?;
         self.locks.reserve(1)?;
         Ok(())
@@ -184,10 +148,7 @@ impl Memory {
     pub fn has_changed(&self, key: Key) -> bool
         ensures { result ≡ is_in key self.now.changes }
     {
-        self.changes
-            .as_slice()
-            .iter()
-            .any(|change| change.key() == key)
+        self.changes.has(key)
     }
 
     /// Whether a key is held or in the changes.
@@ -203,14 +164,14 @@ impl Memory {
     pub fn reads(&self, script: &Script, mode: Mode, key: Key) -> bool
         ensures { (mine : Journal) → Knows self.now mine → result ≡ may_read script.now mode key mine }
     {
-        is_cached(script, key.entity) && does_read(mode) && !self.has_changed(key)
+        is_cached(script.mapping.as_slice(), key.entity) && mode.reads() && !self.has_changed(key)
     }
 
     /// Whether a loaded row of a key is put into its region.
     pub fn puts(&self, script: &Script, mode: Mode, key: Key) -> bool
         ensures { (mine : Journal) → Recalls self.now mine → result ≡ may_put script.now mode key mine }
     {
-        is_cached(script, key.entity) && does_put(mode) && !self.has_changed(key)
+        is_cached(script.mapping.as_slice(), key.entity) && mode.puts() && !self.has_changed(key)
     }
 
     /// Whether a query may use its results.
@@ -237,7 +198,7 @@ impl Memory {
     fn lock_version(&self, key: &Key, version: Option<u32>) -> Option<u32>
         ensures { result ≡ fresh_version (is_key_in key.now self.now.fresh) version }
     {
-        if is_among(self.fresh.as_slice(), *key) {
+        if is_among(&self.fresh, *key) {
             version
         } else {
             None
@@ -252,7 +213,7 @@ impl Memory {
             return None;
         }
         let version = self.lock_version(key, version);
-        let strategy = strategy_of(script, key.entity);
+        let strategy = strategy_of(script.mapping.as_slice(), key.entity);
         before_first(strategy, *key, version, self.floor)
     }
 
@@ -322,7 +283,7 @@ impl Memory {
             alloc,
             &script.mapping,
             self.changes.as_slice(),
-            self.locks.as_slice(),
+            &self.locks,
             committed,
             mode,
             self.floor,

@@ -5,14 +5,17 @@ ghost use Rattle.hib_journal.specs.Held.{is_break};
 ghost use Rattle.hib_journal.specs.Legal.{outcome_after};
 ghost use Rattle.hib_base.specs.declared.entries.Act.{Act};
 ghost use Rattle.hib_identity_map.specs.Identity.{change_in, drop_in, written, with_sets, remove_last};
-ghost use Rattle.hib_session.specs.Rows.{row_left};
-ghost use Rattle.hib_session.specs.Memory.{marked_in, made, managed, arrive_in, remove_in, with_pairs, with_room, unless_broken, map_written, marks_written, fresh_written, noted, Fits, brings, has_copies, is_write};
+ghost use Rattle.hib_base.specs.Tables.{row_left};
+ghost use Rattle.hib_session.specs.Memory.{marked_in, with_value, with_key, made, managed, arrive_in, remove_in, with_pairs, with_room, unless_broken, map_written, marks_written, fresh_written, noted, Fits, brings, has_copies, is_write};
 
-use crate::memory::{Memory, last_mark};
+use crate::changed::Changed;
+use crate::keyed::{add, put};
+use crate::memory::{Memory, is_marked};
 use crate::written::Written;
 use hib_base::{
     Act, Change, Commit, Entry, Held, Key, Outcome, Reply, Row, Sets, State, Tick, copy_sets,
 };
+use indexmap::{IndexMap, IndexSet};
 use std::alloc::{AllocError, Global};
 
 /// A row that was read, as an instance.
@@ -48,16 +51,16 @@ impl Memory {
         requires { self.old.room ≡ true }
         ensures ok { OnOk result (self.new ≡ record self.old {
           instances = with_pairs self.old.instances (arrive_in key.now (managed row.now) self.old.instances.held);
-          marks = self.old.marks ++ (key.now, false) ∷ [];
-          fresh = self.old.fresh ++ key.now ∷ [];
+          marks = with_value key.now false self.old.marks;
+          fresh = with_key key.now self.old.fresh;
           room = self.new.room;
         }) }
         ensures err { OnErr result (self.new ≡ self.old) }
     {
         let held = read_held(alloc, row)?;
         self.instances.arrive(key, held)?;
-        self.marks.push_reserved((*key, false));
-        self.fresh.push_reserved(*key);
+        put(&mut self.marks, *key, false);
+        add(&mut self.fresh, *key);
         Ok(())
     }
 
@@ -66,14 +69,14 @@ impl Memory {
         requires { self.old.room ≡ true }
         ensures ok { OnOk result (self.new ≡ record self.old {
           instances = with_pairs self.old.instances (arrive_in key.now (made row.now) self.old.instances.held);
-          marks = self.old.marks ++ (key.now, true) ∷ [];
+          marks = with_value key.now true self.old.marks;
           room = self.new.room;
         }) }
         ensures err { OnErr result (self.new ≡ self.old) }
     {
         let held = made_held(alloc, row)?;
         self.instances.arrive(key, held)?;
-        self.marks.push_reserved((*key, true));
+        put(&mut self.marks, *key, true);
         Ok(())
     }
 
@@ -85,8 +88,8 @@ impl Memory {
         if let Reply::Began { floor } = &entry.reply {
             self.floor = *floor;
         }
-        self.changes = Vec::new(alloc);
-        self.fresh = Vec::new(alloc);
+        self.changes = Changed::new(alloc);
+        self.fresh = IndexSet::new(alloc);
     }
 
     /// The identity map is emptied. It takes no memory.
@@ -94,7 +97,7 @@ impl Memory {
         ensures { self.new ≡ record self.old { instances = with_pairs self.old.instances []; marks = []; room = self.new.room } }
     {
         self.instances.clear();
-        self.marks = Vec::new(alloc);
+        self.marks = IndexMap::new(alloc);
     }
 
     /// A commit was answered. It takes no memory.
@@ -124,15 +127,15 @@ impl Memory {
         requires { self.old.room ≡ true }
         ensures { self.new ≡ record self.old {
           instances = with_pairs self.old.instances (change_in key.now (written base) self.old.instances.held);
-          marks = self.old.marks ++ (key.now, false) ∷ [];
-          fresh = self.old.fresh ++ key.now ∷ [];
+          marks = with_value key.now false self.old.marks;
+          fresh = with_key key.now self.old.fresh;
           changes = self.old.changes ++ change ∷ [];
           room = self.new.room;
         } }
     {
-        self.marks.push_reserved((*key, false));
-        self.fresh.push_reserved(*key);
-        self.changes.push_reserved(change);
+        put(&mut self.marks, *key, false);
+        add(&mut self.fresh, *key);
+        self.changes.push(change);
         self.instances.set_base(*key, base);
     }
 
@@ -141,13 +144,13 @@ impl Memory {
         requires { self.old.room ≡ true }
         ensures { self.new ≡ record self.old {
           instances = with_pairs self.old.instances (change_in key.now (written base) self.old.instances.held);
-          fresh = self.old.fresh ++ key.now ∷ [];
+          fresh = with_key key.now self.old.fresh;
           changes = self.old.changes ++ change ∷ [];
           room = self.new.room;
         } }
     {
-        self.fresh.push_reserved(*key);
-        self.changes.push_reserved(change);
+        add(&mut self.fresh, *key);
+        self.changes.push(change);
         self.instances.set_base(*key, base);
     }
 
@@ -160,7 +163,7 @@ impl Memory {
           room = self.new.room;
         } }
     {
-        self.changes.push_reserved(change);
+        self.changes.push(change);
         self.instances.drop(key);
     }
 
@@ -187,12 +190,12 @@ impl Memory {
     /// A row was removed: its instance leaves where it was never written, and else is marked.
     fn remove(&mut self, alloc: Global, key: &Key) -> Result<(), AllocError>
         ensures ok { OnOk result (self.new ≡ record self.old {
-          instances = record { held = remove_in (marked_in key.now false self.old.marks) key.now self.old.instances.held; removals = remove_last key.now self.old.instances.removals };
+          instances = record { held = remove_in (marked_in key.now self.old.marks) key.now self.old.instances.held; removals = remove_last key.now self.old.instances.removals };
         }) }
         ensures err { OnErr result (self.new ≡ self.old) }
     {
         self.instances.note_removal(alloc, *key)?;
-        if last_mark(self.marks.as_slice(), *key) {
+        if is_marked(&self.marks, *key) {
             self.instances.drop(*key);
         } else {
             self.instances.mark(*key);
@@ -215,9 +218,9 @@ impl Memory {
     /// A lock was given.
     fn lock(&mut self, key: Key, lock: Tick)
         requires { self.old.room ≡ true }
-        ensures { self.new ≡ record self.old { locks = self.old.locks ++ (key, lock) ∷ []; room = self.new.room } }
+        ensures { self.new ≡ record self.old { locks = with_value key lock self.old.locks; room = self.new.room } }
     {
-        self.locks.push_reserved((key, lock));
+        put(&mut self.locks, key, lock);
     }
 
     /// A change was written, of which there may be copies.

@@ -15,7 +15,9 @@ use crate::ahead::Ending;
 use crate::control::Control;
 use crate::memory::Memory;
 use crate::written::Written;
-use hib_base::{Act, EntityNo, Entry, Held, Key, Reply, Row, Script, SessionNo, State, Strategy};
+use hib_base::{
+    Act, EntityNo, Entry, Held, Key, Reply, Row, Script, SessionNo, State, Strategy, strategy_of,
+};
 use std::alloc::{AllocError, Global};
 use std::mem;
 
@@ -65,12 +67,9 @@ fn persist_reply(known: bool) -> Reply
 fn set_reply(script: &Script, entity: EntityNo) -> Reply
     ensures { result ≡ set_unless (strategy script.now entity) }
 {
-    match script.mapping.as_slice().get(entity.0 as usize) {
-        Some(def) => match def.strategy {
-            Strategy::ReadOnly => Reply::ReadOnly,
-            _ => Reply::Set,
-        },
-        None => Reply::Set,
+    match strategy_of(script.mapping.as_slice(), entity) {
+        Strategy::ReadOnly => Reply::ReadOnly,
+        _ => Reply::Set,
     }
 }
 

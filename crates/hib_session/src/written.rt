@@ -1,6 +1,6 @@
 // What is made ready for the entry of a write.
 ghost use Rattle.std.specs.Prelude.{◌≡◌, IfOk};
-ghost use Rattle.hib_session.specs.Rows.{row_left};
+ghost use Rattle.hib_base.specs.Tables.{row_left};
 
 use hib_base::{Change, Row};
 use std::alloc::{AllocError, Global};
@@ -18,9 +18,9 @@ pub struct Written {
 fn left_row(alloc: Global, change: &Change) -> Result<Option<Row>, AllocError>
     ensures { IfOk result (λ r. r ≡ row_left change.now) }
 {
-    match change {
-        Change::Insert { row, .. } | Change::Update { row, .. } => Ok(Some(row.copy(alloc)?)),
-        Change::Delete { .. } => Ok(None),
+    match change.row_left() {
+        Some(row) => Ok(Some(row.copy(alloc)?)),
+        None => Ok(None),
     }
 }
 

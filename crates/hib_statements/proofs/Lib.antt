@@ -6,3 +6,4 @@ pub mod Known
 pub mod Fitting
 pub mod Sets
 pub mod Ruled
+pub mod SessionPlaces

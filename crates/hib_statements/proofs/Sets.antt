@@ -53,7 +53,7 @@ named_at ds w h = by_place (position (λ d. bytes_eq d.name w) ds) refl h
 same_slot : (ds : List ColumnDef) (i : ℕ) (c d : ColumnDef) → slice_get ds i ≡ Some c → slice_get ds i ≡ Some d → c ≡ d
 same_slot ds i c d e f = cc
 
-same_bytes : (v w : List ℕ) → bytes_eq v w ≡ true → v ≡ w
+pub same_bytes : (v w : List ℕ) → bytes_eq v w ≡ true → v ≡ w
 same_bytes v w h = (bytes_eq-Decides v w).0 h
 
 -- two names of one place are one

@@ -3,12 +3,16 @@
 #![tactic(auto)]
 
 mod errors;
+mod given;
+mod named;
 mod orders;
 mod parts;
 mod rows;
 mod statements;
 
 pub use errors::StatementError;
+pub use given::Given;
+pub use named::NamedSessions;
 pub use orders::order;
 pub use rows::row;
 pub use statements::statement;

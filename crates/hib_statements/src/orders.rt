@@ -1,12 +1,10 @@
 // The order of a schedule that a line is.
-ghost use Rattle.hib_base.specs.Scripts.{is_cached_by, is_cached_in};
 ghost use Rattle.hib_statements.specs.Orders as orders;
-ghost use Rattle.std.specs.Prelude.{◌≡◌, bytes_eq, position};
+ghost use Rattle.std.specs.Prelude.{◌≡◌};
 
+use crate::named::NamedSessions;
 use crate::parts::{is_key, key};
-use hib_base::{
-    EntityDef, EntityNo, Key, Kind, Mapping, Order, SessionDef, SessionNo, Sessions, Strategy,
-};
+use hib_base::{EntityDef, Key, Kind, Mapping, Order, SessionNo, is_cached};
 use hib_lex::{Token, begins};
 use hib_mapping::{entity_number, is_number, is_within, is_word, number_up_to, word_bytes};
 
@@ -17,13 +15,13 @@ const MOST_STEPS: u32 = 1_000_000;
 ///
 /// Errors: the line is no order; the first kind that it has of line, words, unknown and number. An uncached entity is
 /// unknown to `evict`.
-pub fn order(mapping: &Mapping, sessions: &Sessions, line: &[Token]) -> Result<Order, Kind>
+pub fn order(mapping: &Mapping, sessions: &NamedSessions, line: &[Token]) -> Result<Order, Kind>
     ensures { result ≡ orders.order_of mapping.now sessions.now line.now }
 {
     if begins(line, b"run") {
-        run(sessions.as_slice(), line)
+        run(sessions, line)
     } else if begins(line, b"kill") {
-        kill(sessions.as_slice(), line)
+        kill(sessions, line)
     } else if begins(line, b"evict") {
         evict(mapping.as_slice(), line)
     } else if begins(line, b"restart") {
@@ -34,7 +32,7 @@ pub fn order(mapping: &Mapping, sessions: &Sessions, line: &[Token]) -> Result<O
 }
 
 /// `run SESSION N`.
-fn run(sessions: &[SessionDef], line: &[Token]) -> Result<Order, Kind>
+fn run(sessions: &NamedSessions, line: &[Token]) -> Result<Order, Kind>
     ensures { result ≡ orders.run_of sessions.now line.now }
 {
     match line {
@@ -60,7 +58,7 @@ fn run_from(session: Option<SessionNo>, steps: &Token) -> Result<Order, Kind>
 }
 
 /// `kill SESSION`.
-fn kill(sessions: &[SessionDef], line: &[Token]) -> Result<Order, Kind>
+fn kill(sessions: &NamedSessions, line: &[Token]) -> Result<Order, Kind>
     ensures { result ≡ orders.kill_of sessions.now line.now }
 {
     match line {
@@ -106,21 +104,6 @@ fn evicted(key: Result<Key, Kind>) -> Result<Order, Kind>
     }
 }
 
-fn is_cached(mapping: &[EntityDef], entity: EntityNo) -> bool
-    ensures { result ≡ is_cached_in mapping.now entity }
-{
-    match mapping.get(usize::from(entity.0)) {
-        Some(entity) => caches(entity.strategy),
-        None => false,
-    }
-}
-
-fn caches(strategy: Strategy) -> bool
-    ensures { result ≡ is_cached_by strategy }
-{
-    !matches!(strategy, Strategy::Uncached)
-}
-
 /// `restart`.
 fn restart(line: &[Token]) -> Result<Order, Kind>
     ensures { result ≡ orders.restart_of line.now }
@@ -132,10 +115,10 @@ fn restart(line: &[Token]) -> Result<Order, Kind>
 }
 
 /// The session of this name, if there is one.
-fn session_number(sessions: &[SessionDef], name: &[u8]) -> Option<SessionNo>
+fn session_number(sessions: &NamedSessions, name: &[u8]) -> Option<SessionNo>
     ensures { result ≡ orders.session_at sessions.now name.now }
 {
-    session_no(session_position(sessions, name)?)
+    session_no(sessions.place(name)?)
 }
 
 fn session_no(place: usize) -> Option<SessionNo>
@@ -146,12 +129,4 @@ fn session_no(place: usize) -> Option<SessionNo>
     } else {
         None
     }
-}
-
-fn session_position(sessions: &[SessionDef], name: &[u8]) -> Option<usize>
-    ensures { result ≡ position (λ s. bytes_eq s.name name.now) sessions.now }
-{
-    sessions
-        .iter()
-        .position(|session| session.name.as_slice() == name)
 }

@@ -1,5 +1,4 @@
 // The row that a line gives.
-ghost use Rattle.hib_base.specs.Keys.{same_key};
 ghost use Rattle.hib_lex.specs.Tokens as digits_of;
 ghost use Rattle.hib_mapping.specs.Parts.{entity_at, word_of};
 ghost use Rattle.hib_statements.specs.Rows as told_rows;
@@ -7,9 +6,10 @@ ghost use Rattle.std.specs.List.{list_all};
 ghost use Rattle.std.specs.Prelude.{◌≡◌, IfOk, IfErr, None, cond};
 
 use crate::errors::StatementError;
+use crate::given::Given;
 use crate::parts::{are_typed, cells, is_key, key};
 use crate::statements::named_columns;
-use hib_base::{Cells, ColumnDef, EntityDef, EntityNo, Key, Kind, Mapping, Row, Rows};
+use hib_base::{Cells, ColumnDef, EntityDef, EntityNo, Key, Kind, Mapping, Row};
 use hib_lex::Token;
 use hib_mapping::{entity_number, word_bytes};
 use std::alloc::{AllocError, Global};
@@ -33,21 +33,14 @@ pub struct Told {
 pub fn row(
     alloc: Global,
     mapping: &Mapping,
-    rows: &Rows,
+    rows: &Given,
     line: &[Token],
 ) -> Result<(Key, Row), StatementError>
     ensures said { IfOk result (λ x. told_rows.row_of mapping.now rows.now line.now ≡ Ok x) }
     ensures fault { IfErr result (told_rows.IsWhyNot (told_rows.row_of mapping.now rows.now line.now)) }
 {
     match line {
-        [_, name, id, rest @ ..] => row_parts(
-            alloc,
-            mapping.as_slice(),
-            rows.as_slice(),
-            name,
-            id,
-            rest,
-        ),
+        [_, name, id, rest @ ..] => row_parts(alloc, mapping.as_slice(), rows, name, id, rest),
         _ => Err(StatementError::Fault(Kind::Words)),
     }
 }
@@ -55,7 +48,7 @@ pub fn row(
 fn row_parts(
     alloc: Global,
     mapping: &[EntityDef],
-    rows: &[(Key, Row)],
+    rows: &Given,
     name: &Token,
     id: &Token,
     rest: &[Token],
@@ -230,7 +223,7 @@ fn size(digits: &[u8]) -> u32
 /// The row of a key and what is told behind it.
 fn row_told(
     columns: &[ColumnDef],
-    rows: &[(Key, Row)],
+    rows: &Given,
     key: Result<Key, Kind>,
     told: Option<Told>,
 ) -> Result<(Key, Row), Kind>
@@ -244,29 +237,17 @@ fn row_told(
 
 fn row_from(
     columns: &[ColumnDef],
-    rows: &[(Key, Row)],
+    rows: &Given,
     key: Result<Key, Kind>,
     told: Told,
 ) -> Result<(Key, Row), Kind>
     ensures { result ≡ told_rows.row_from columns.now rows.now key told }
 {
     match key {
-        Ok(key) if has_key(rows, key) => Err(Kind::Taken),
+        Ok(key) if rows.has(key) => Err(Kind::Taken),
         Ok(key) => fitted_row(columns, key, told),
         Err(kind) => Err(kind),
     }
-}
-
-fn has_key(rows: &[(Key, Row)], key: Key) -> bool
-    ensures { result ≡ told_rows.has_key rows.now key }
-{
-    rows.iter().any(|row| is_same(&row.0, &key))
-}
-
-fn is_same(a: &Key, b: &Key) -> bool
-    ensures { result ≡ same_key a.now b.now }
-{
-    a == b
 }
 
 fn fitted_row(columns: &[ColumnDef], key: Key, told: Told) -> Result<(Key, Row), Kind>

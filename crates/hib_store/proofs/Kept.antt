@@ -2,7 +2,7 @@
 use Rattle.std.proofs.Common.{◌≡◌, ℕ, ◌+◌, ◌<◌, ◌≤◌, Bool, true, false, cond, ◌==◌, ◌||◌, List, [], ◌∷◌, ◌++◌, arith, Some, None, Option, IfSome, MatchOption, refl, sym, ap, ◌∙◌, subst, inl, inr}
 use Rattle.std.specs.Prelude.{nat_lt}
 use Rattle.std.proofs.lemmas.Bool.{true≢false, eqb-true, eq-eqb, or_left, or_right, lt-ltb, le-ltb, ltb-true, ltb-false}
-use Rattle.hib_base.specs.Tables.{Tables, row_at, start, last_on, after_changes, in_order}
+use Rattle.hib_base.specs.Tables.{Tables, row_at, start, last_on, after_changes, commit_answer, in_order}
 use Rattle.hib_base.proofs.Tables.{Tested, tested, left_by, row_at_changes}
 use Rattle.hib_outside.specs.Keeps.{is_listed, rows_of}
 use Rattle.hib_outside.proofs.Orders.{in_order_changes}
@@ -11,7 +11,7 @@ use Rattle.hib_journal.specs.Room.{key}
 use Rattle.hib_query_eval.proofs.Untouched.{gives_alike}
 use Rattle.hib_query_eval.proofs.Laid.{kept, row_at_kept, in_order_kept, same_tables, row_at_start}
 use Rattle.hib_store.specs.Types.{Key, Change, Commit, Query}
-use Rattle.hib_store.specs.Stores.{AreOf, IsIndexed, IsLeft, IsListed, tables_answered}
+use Rattle.hib_store.specs.Stores.{AreOf, IsIndexed, IsListed, if_applied, index_left, tables_answered}
 use Rattle.hib_store.specs.declared.store.Listed.{Listed}
 use Rattle.hib_journal.specs.Types.{Cell}
 
@@ -28,20 +28,27 @@ changed_rows : (n : ℕ) (cs : List Change) (rows m : Tables) → AreOf n rows m
 changed_rows n cs rows m a k l = row_at_changes cs rows k ∙ ap (left_by (last_on k cs)) (a k l) ∙ sym (row_at_changes cs m k)
 
 -- and after an answer to a commit
+applied_rows : (c : Commit) (rows l : Tables) → if_applied c rows ≡ Some l → l ≡ rows
+applied_rows Commit.Committed rows l h = cc
+applied_rows (Commit.Stale k found) rows l h = cc
+applied_rows (Commit.Duplicate k) rows l h = cc
+applied_rows Commit.Fault rows l h = cc
+
 pub left_rows : (n : ℕ) (index left told told' : Option Tables) (c : Commit) (cs : List Change) → IsIndexed n index told
-    → IfSome left (λ l. MatchOption index ⊥ (λ rows. IsLeft c cs rows l)) → told' ≡ tables_answered c cs told → IsIndexed n left told'
+    → IfSome left (λ l. MatchOption index ⊥ (λ rows. index_left c cs rows ≡ Some l)) → told' ≡ tables_answered c cs told → IsIndexed n left told'
 left_rows n index None told told' c cs x h e = tt
 left_rows n None (Some l) told told' c cs x h e = absurd h
 left_rows n (Some rows) (Some l) told told' c cs x h e = subst (λ o. IfSome o (λ m. AreOf n l m)) (sym e) (at c told x h)
   where
-    at : (c : Commit) (told : Option Tables) → IfSome told (λ m. AreOf n rows m) → IsLeft c cs rows l → IfSome (tables_answered c cs told) (λ m. AreOf n l m)
+    at : (c : Commit) (told : Option Tables) → IfSome told (λ m. AreOf n rows m) → index_left c cs rows ≡ Some l → IfSome (tables_answered c cs told) (λ m. AreOf n l m)
     at Commit.Committed None x h = tt
-    at Commit.Committed (Some m) x h = subst (λ t. AreOf n t (after_changes cs m)) (sym h) (changed_rows n cs rows m x)
+    at Commit.Committed (Some m) x h =
+        subst (λ t. AreOf n t (after_changes cs m)) (sym (applied_rows (commit_answer cs rows) (after_changes cs rows) l h)) (changed_rows n cs rows m x)
     at (Commit.Stale k found) None x h = tt
-    at (Commit.Stale k found) (Some m) x h = subst (λ t. AreOf n t m) (sym h) x
+    at (Commit.Stale k found) (Some m) x h = let e : rows ≡ l = cc in subst (λ t. AreOf n t m) e x
     at (Commit.Duplicate k) None x h = tt
-    at (Commit.Duplicate k) (Some m) x h = subst (λ t. AreOf n t m) (sym h) x
-    at Commit.Fault told x h = absurd h
+    at (Commit.Duplicate k) (Some m) x h = let e : rows ≡ l = cc in subst (λ t. AreOf n t m) e x
+    at Commit.Fault told x h = cc
 
 -- a query that reads only the first entities gives the same over their rows
 pub gives_of : (n : ℕ) (q : Query) (cs : List Change) (rows m : Tables) → in_order rows ≡ true → in_order m ≡ true → AreOf n rows m

@@ -4,8 +4,8 @@ use Rattle.std.specs.List.{list_any}
 use Rattle.std.specs.Option.{option_map}
 use Rattle.std.specs.declared.alloc.AllocError.{AllocError}
 use Rattle.hib_base.specs.Keys.{same_key}
-use Rattle.hib_base.specs.Tables.{Tables, row_at, after_changes, key_of}
-use Rattle.hib_journal.specs.Query.{gives}
+use Rattle.hib_base.specs.Tables.{Tables, row_at, after_changes, commit_answer, key_of}
+use Rattle.hib_journal.specs.Query.{gives, reads}
 use Rattle.hib_store.specs.Types.{Key, Change, Commit, Query}
 use Rattle.hib_store.specs.declared.asking.Loaded.{Loaded}
 use Rattle.hib_store.specs.declared.store.Listed.{Listed}
@@ -24,6 +24,10 @@ pub record StoreState : Type 0 where
   -- how often the keeper was asked for rows
   pub asked : ℕ
   pub written : Written
+  -- of how many entities an index is made
+  pub entities : ℕ
+  -- whether the index stands
+  pub indexed : Bool
 
 abbrev pub changes_in : Written → ℕ → List Change
 changes_in [] s = []
@@ -95,9 +99,30 @@ AreOf entities rows m = (k : Key) → k.entity < entities → row_at rows k ≡ 
 abbrev pub IsIndexed : ℕ → Option Tables → Option Tables → Type 0
 IsIndexed entities index told = IfSome index (λ rows. IfSome told (λ m. AreOf entities rows m))
 
--- an index that stays after an answer to a commit has what the answer leaves of its rows
-abbrev pub IsLeft : Commit → List Change → Tables → Tables → Type 0
-IsLeft Commit.Committed cs rows left = left ≡ after_changes cs rows
-IsLeft (Commit.Stale k found) cs rows left = left ≡ rows
-IsLeft (Commit.Duplicate k) cs rows left = left ≡ rows
-IsLeft Commit.Fault cs rows left = ⊥
+-- a query reads only the first entities
+abbrev pub ReadsBelow : ℕ → Query → Type 0
+ReadsBelow entities q = (n : ℕ) → reads q n ≡ true → n < entities
+
+abbrev pub if_applied : Commit → Tables → Option Tables
+if_applied Commit.Committed rows = Some rows
+if_applied (Commit.Stale k found) rows = None
+if_applied (Commit.Duplicate k) rows = None
+if_applied Commit.Fault rows = None
+
+-- the rows of an index after an answer to a commit; none if it is dropped
+abbrev pub index_left : Commit → List Change → Tables → Option Tables
+index_left Commit.Committed cs rows = if_applied (commit_answer cs rows) (after_changes cs rows)
+index_left (Commit.Stale k found) cs rows = Some rows
+index_left (Commit.Duplicate k) cs rows = Some rows
+index_left Commit.Fault cs rows = None
+
+-- whether the index stands after a commit. After one that was answered Committed it may have been dropped for want of memory
+abbrev pub StandsAfter : Commit → Bool → Bool → Type 0
+StandsAfter Commit.Committed old new = new ≡ true → old ≡ true
+StandsAfter (Commit.Stale k found) old new = new ≡ old
+StandsAfter (Commit.Duplicate k) old new = new ≡ old
+StandsAfter Commit.Fault old new = new ≡ false
+
+abbrev pub StandsCommitted : Result Commit AllocError → Bool → Bool → Type 0
+StandsCommitted (Ok answer) old new = StandsAfter answer old new
+StandsCommitted (Err e) old new = new ≡ old

@@ -2,6 +2,7 @@
 ghost use Rattle.std.specs.Prelude.{◌≡◌, ◌<◌, ◌||◌, ℕ, true, nat_lt, IfOk, OnOk};
 ghost use Rattle.hib_journal.specs.Query.{steps_to, mentions, mentions_in, reads};
 ghost use Rattle.hib_outside.specs.Keeps.{is_listed};
+ghost use Rattle.hib_store.specs.Stores.{ReadsBelow};
 
 use hib_base::{Cond, EntityNo, Query, Target};
 use std::alloc::{AllocError, Global};
@@ -45,7 +46,8 @@ fn add_target(tables: &mut Vec<EntityNo>, target: Option<Target>) -> Result<(), 
 }
 
 fn steps_below(target: Option<Target>, entities: u16) -> bool
-    ensures { result ≡ true → (n : ℕ) → steps_to n target ≡ true → n < entities }
+    ensures only { result ≡ true → (n : ℕ) → steps_to n target ≡ true → n < entities }
+    ensures others { ((n : ℕ) → steps_to n target ≡ true → n < entities) → result ≡ true }
 {
     match target {
         Some(target) => target.entity.0 < entities,
@@ -55,7 +57,8 @@ fn steps_below(target: Option<Target>, entities: u16) -> bool
 
 /// Whether a condition steps only to the first entities.
 fn mentions_below(condition: &Cond, entities: u16) -> bool
-    ensures { result ≡ true → (n : ℕ) → mentions n condition.now ≡ true → n < entities }
+    ensures only { result ≡ true → (n : ℕ) → mentions n condition.now ≡ true → n < entities }
+    ensures others { ((n : ℕ) → mentions n condition.now ≡ true → n < entities) → result ≡ true }
 {
     match condition {
         Cond::And(a, b) | Cond::Or(a, b) => mentions_below(a, entities)
@@ -68,7 +71,8 @@ fn mentions_below(condition: &Cond, entities: u16) -> bool
 
 /// Whether a query reads only the first entities.
 pub fn reads_below(query: &Query, entities: u16) -> bool
-    ensures { result ≡ true → (n : ℕ) → reads query.now n ≡ true → n < entities }
+    ensures only { result ≡ true → ReadsBelow entities query.now }
+    ensures others { ReadsBelow entities query.now → result ≡ true }
 {
     query.entity.0 < entities
         && match &query.condition {

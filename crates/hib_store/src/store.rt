@@ -42,6 +42,7 @@ pub struct Store<K: Keeper> {
 }
 
 impl<K: Keeper> Model for Store<K> {
+    ghost use Rattle.std.specs.Prelude.{is_some};
     ghost use Rattle.hib_store.specs.Stores.{StoreState};
 
     ghost Value = { StoreState };
@@ -51,6 +52,8 @@ impl<K: Keeper> Model for Store<K> {
       faults = K.faults s.keeper;
       asked = K.asked s.keeper;
       written = s.written.items;
+      entities = s.entities;
+      indexed = is_some s.index;
     } };
 
     ghost use Rattle.hib_store.specs.Stores.{IsIndexed};
@@ -59,7 +62,7 @@ impl<K: Keeper> Model for Store<K> {
 }
 
 impl<K: Keeper> Store<K> {
-    ghost use Rattle.hib_store.specs.Stores.{changes_of, is_in, IsView, IsListed, names_change, tables_committed, handed_back, is_store_fault};
+    ghost use Rattle.hib_store.specs.Stores.{changes_of, is_in, IsView, IsListed, ReadsBelow, StandsCommitted, names_change, tables_committed, handed_back, is_store_fault};
     ghost use Rattle.hib_store.specs.declared.asking.Loaded.{Loaded};
     ghost use Rattle.hib_store.specs.declared.store.Listed.{Listed};
     ghost use Rattle.hib_store.specs.Types.{Commit};
@@ -70,6 +73,8 @@ impl<K: Keeper> Store<K> {
         ensures faults { result.faults ≡ K.faults keeper }
         ensures asked { result.asked ≡ K.asked keeper }
         ensures written { result.written ≡ [] }
+        ensures entities { result.entities ≡ entities }
+        ensures indexed { result.indexed ≡ false }
         ensures ordered { IfSome result.tables (λ m. in_order m ≡ true) }
     {
         Store {
@@ -93,6 +98,8 @@ impl<K: Keeper> Store<K> {
         ensures faults { IfOk result (λ s. K.faults keeper ≤ s.faults) }
         ensures asked { IfOk result (λ s. s.asked ≡ K.asked keeper) }
         ensures written { IfOk result (λ s. s.written ≡ []) }
+        ensures entities { IfOk result (λ s. s.entities ≡ entities) }
+        ensures indexed { IfOk result (λ s. s.indexed ≡ false) }
         ensures ordered { IfOk result (λ s. IfSome s.tables (λ m. in_order m ≡ true)) }
         ensures back { IfErr result (λ e. K.tables (handed_back e) ≡ K.tables keeper) }
         ensures back_faults { IfErr result (λ e. K.faults keeper ≤ K.faults (handed_back e)) }
@@ -150,6 +157,8 @@ impl<K: Keeper> Store<K> {
         ensures asked { (self.old.asked ≤ self.new.asked) × (self.new.asked ≤ self.old.asked + 1) }
         ensures tables { self.new.tables ≡ self.old.tables }
         ensures written { self.new.written ≡ self.old.written }
+        ensures entities { self.new.entities ≡ self.old.entities }
+        ensures indexed { self.new.indexed ≡ self.old.indexed }
     {
         let changes = written::changes_of(self.written.as_slice(), session);
         if let Some(change) = written::last_change(changes, &key) {
@@ -159,9 +168,10 @@ impl<K: Keeper> Store<K> {
     }
 
     /// What a query gives over a session's view of all keys: the committed rows with the session's changes done to them. The
-    /// keeper is asked once for the rows of the first entities, and not again while the index of them stands. It is asked for
-    /// the tables that the query reads if there are others. At every answer and error the rows and the changes stay; the
-    /// keeper's counts may have risen.
+    /// keeper is asked at most once. If the query reads only the first entities, it is asked for the rows of all of them, and
+    /// not at all while the index of these rows stands. The index stands from then on, unless the answer is Fault or an
+    /// error. Else the keeper is asked for the tables that the query reads. At every answer and error the rows and the changes
+    /// stay; the keeper's counts may have risen.
     pub fn list(
         &mut self,
         alloc: Global,
@@ -174,6 +184,11 @@ impl<K: Keeper> Store<K> {
         ensures asked { (self.old.asked ≤ self.new.asked) × (self.new.asked ≤ self.old.asked + 1) }
         ensures tables { self.new.tables ≡ self.old.tables }
         ensures written { self.new.written ≡ self.old.written }
+        ensures entities { self.new.entities ≡ self.old.entities }
+        ensures stands { ReadsBelow self.old.entities query.now → IfOk result (λ listed. listed ≢ Listed.Fault → self.new.indexed ≡ true) }
+        ensures quiet { ReadsBelow self.old.entities query.now → self.old.indexed ≡ true → self.new ≡ self.old }
+        ensures kept { self.old.indexed ≡ true → self.new.indexed ≡ true }
+        ensures others { ¬ ReadsBelow self.old.entities query.now → self.new.indexed ≡ self.old.indexed }
     {
         let changes = written::changes_of(self.written.as_slice(), session);
         if !queries::reads_below(query, self.entities) {
@@ -200,6 +215,8 @@ impl<K: Keeper> Store<K> {
         ensures tables { self.new.tables ≡ self.old.tables }
         ensures faults { self.new.faults ≡ self.old.faults }
         ensures asked { self.new.asked ≡ self.old.asked }
+        ensures entities { self.new.entities ≡ self.old.entities }
+        ensures indexed { self.new.indexed ≡ self.old.indexed }
     {
         written::add_change(alloc, &mut self.written, session, change)
     }
@@ -212,6 +229,8 @@ impl<K: Keeper> Store<K> {
         ensures tables { self.new.tables ≡ self.old.tables }
         ensures faults { self.new.faults ≡ self.old.faults }
         ensures asked { self.new.asked ≡ self.old.asked }
+        ensures entities { self.new.entities ≡ self.old.entities }
+        ensures indexed { self.new.indexed ≡ self.old.indexed }
     {
         written::drop_session(&mut self.written, session);
     }
@@ -222,13 +241,15 @@ impl<K: Keeper> Store<K> {
         ensures tables { self.new.tables ≡ self.old.tables }
         ensures faults { self.new.faults ≡ self.old.faults }
         ensures asked { self.new.asked ≡ self.old.asked }
+        ensures entities { self.new.entities ≡ self.old.entities }
+        ensures indexed { self.new.indexed ≡ self.old.indexed }
     {
         self.written.clear();
     }
 
     /// Applies a session's changes to the committed rows, all of them or none, and drops them. The first change
     /// that doesn't apply decides. Without changes the answer is Committed, and the keeper isn't asked. At an
-    /// error rows and changes stay.
+    /// error rows and changes stay. The index is dropped after Fault; after Committed it may be, for want of memory.
     #[tactic(auto, using(crate::proofs::Sessions::Changed))]
     pub fn commit(&mut self, alloc: Global, session: SessionNo) -> Result<Commit, AllocError>
         ensures answer { IfOk result (λ answer. answer ≢ Commit.Fault → IfSome self.old.tables
@@ -242,6 +263,8 @@ impl<K: Keeper> Store<K> {
         ensures own { OnOk result (changes_of self.new session ≡ []) }
         ensures others { (s : ℕ) → s ≢ session → changes_of self.new s ≡ changes_of self.old s }
         ensures err { OnErr result (self.new.written ≡ self.old.written) }
+        ensures entities { self.new.entities ≡ self.old.entities }
+        ensures indexed { StandsCommitted result self.old.indexed self.new.indexed }
     {
         let changes = written::changes_of(self.written.as_slice(), session);
         if changes.is_empty() {

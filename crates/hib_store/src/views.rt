@@ -1,10 +1,11 @@
 // What a query gives over a session's view.
-ghost use Rattle.std.specs.Prelude.{◌≡◌, ◌<◌, ℕ, true, Option, None, Ok, IfOk, IfSome, MatchOption};
+ghost use Rattle.std.specs.Prelude.{◌≡◌, ◌≢◌, ◌<◌, ℕ, true, Option, None, Some, Ok, IfOk, IfSome, IsSome, is_some, MatchOption, MatchResult};
 ghost use Rattle.hib_base.specs.Tables.{Tables, after_changes, in_order};
 ghost use Rattle.hib_journal.specs.Query.{gives, reads};
 ghost use Rattle.hib_query_eval.specs.Reads.{read_by};
 ghost use Rattle.hib_store.specs.declared.store.Listed.{Listed};
-ghost use Rattle.hib_store.specs.Stores.{IsIndexed, IsLeft, IsListed};
+ghost use Rattle.hib_store.specs.Stores.{IsIndexed, IsListed, StandsAfter, index_left};
+ghost use Rattle.hib_store.specs.Types.{Commit};
 
 use crate::store::Listed;
 use hib_base::{Change, Commit, Listing, Query, Rows};
@@ -35,10 +36,27 @@ pub fn answered(
     ensures listed { (n : ℕ) (told : Option Tables) → IfSome told (λ m. in_order m ≡ true) → IsIndexed n index.now told
         → ((k : ℕ) → reads query.now k ≡ true → k < n) → IfOk result (IsListed told changes.now query.now) }
     ensures fault { result ≡ Ok Listed.Fault → index.now ≡ None }
+    ensures stands { IfOk result (λ listed. listed ≢ Listed.Fault → IsSome index.now) }
 {
     match index {
         Some(index) => Ok(Listed::List(index.gives(alloc, query, changes)?)),
         None => Ok(Listed::Fault),
+    }
+}
+
+/// An index after an answer to a commit of changes. None after a fault, and if its rows don't have what the changes change.
+fn after(
+    alloc: Global,
+    index: Index,
+    commit: &Commit,
+    changes: &[Change],
+) -> Result<Option<Index>, AllocError>
+    ensures { MatchResult result (λ left. left ≡ index_left commit.now changes.now index) (λ _. commit.now ≡ Commit.Committed) }
+{
+    match commit {
+        Commit::Committed => index.apply(alloc, changes),
+        Commit::Stale { .. } | Commit::Duplicate { .. } => Ok(Some(index)),
+        Commit::Fault => Ok(None),
     }
 }
 
@@ -50,15 +68,12 @@ pub fn left(
     commit: &Commit,
     changes: &[Change],
 ) -> Option<Index>
-    ensures { IfSome result (λ left. MatchOption index ⊥ (λ rows. IsLeft commit.now changes.now rows left)) }
+    ensures rows { IfSome result (λ left. MatchOption index ⊥ (λ rows. index_left commit.now changes.now rows ≡ Some left)) }
+    ensures stands { StandsAfter commit.now (is_some index) (is_some result) }
 {
     let index = index?;
-    match commit {
-        Commit::Committed => match index.apply(alloc, changes) {
-            Ok(applied) => applied,
-            Err(_) => None,
-        },
-        Commit::Stale { .. } | Commit::Duplicate { .. } => Some(index),
-        Commit::Fault => None,
+    match after(alloc, index, commit, changes) {
+        Ok(left) => left,
+        Err(_) => None,
     }
 }

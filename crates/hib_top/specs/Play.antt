@@ -21,6 +21,7 @@ use Rattle.hib_make.specs.Made.{made}
 use Rattle.hib_print.specs.Printed.{printed}
 use Rattle.hib_report.specs.Report.{report, summary}
 use Rattle.hib_json_lines.specs.Line.{json_lines}
+use Rattle.hib_journal_json.specs.Entries.{AreEntries}
 use Rattle.hib_script.specs.Outline.{Outline, outline_of}
 use Rattle.hib_script.specs.Script.{script_of}
 use Rattle.hib_top.specs.declared.run.End.{End}
@@ -110,11 +111,18 @@ IsWritten Status.WriteFault text old new = TakesFront old new text
 IsWritten Status.NoMemory text old new = TakesFront old new text
 IsWritten _ text old new = new ≡ old
 
+-- JSON lines that are written, whole or in part, are of well-formed entries: then they are read back as these entries
+abbrev pub AreReadBack : Telling → Status → Script → List Entry → Type 0
+AreReadBack Telling.JsonLines Status.Done script es = AreEntries script es
+AreReadBack Telling.JsonLines Status.WriteFault script es = AreEntries script es
+AreReadBack _ _ script es = ⊤
+
 -- a script was run, and its journal was told, or a front of that
 pub record IsRunOf (turns : Turns) (telling : Telling) (answer : Status) (script : Script) (start rows : Option Tables) (journal : Kept) (taken written : Option (List ℕ)) : Type 0 where
   pub played : IsPlayed script start rows (past journal)
   pub ended : EndsWell turns answer script (past journal) taken written
   pub report : IsWritten answer (told_by telling script journal.list) taken written
+  pub read_back : AreReadBack telling answer script journal.list
 
 -- nothing was run, nothing written, and no table changed
 pub record IsIdle (start rows : Option Tables) (journal : Kept) (taken written : Option (List ℕ)) : Type 0 where

@@ -106,7 +106,7 @@ fn audit_source<S: Source, W: Sink>(alloc: Global, source: &mut S, out: &mut W) 
     ensures read { result ≡ Status.ReadFault → Rose (S.faults source.old) (S.faults source.new) }
     ensures write { result ≡ Status.WriteFault → Rose (W.faults out.old) (W.faults out.new) }
     ensures long { result ≡ Status.TooLong → IfSome (S.left source.old) (λ bytes. AUDIT_LIMIT < length bytes) }
-    ensures taken { ReadsFew 67112960 (S.left source.old) (S.left source.new) }
+    ensures taken { ReadsFew (AUDIT_LIMIT + 4096) (S.left source.old) (S.left source.new) }
     ensures complete { HasJournal (S.left source.old) → (Rose (S.faults source.old) (S.faults source.new) → ⊥)
         → (Rose (W.faults out.old) (W.faults out.new) → ⊥) → IsCompleted result }
 {
@@ -137,7 +137,7 @@ pub fn audit<S: Source, W: Sink, K: Keeper, L: Listener>(
     ensures long { result.status ≡ Status.TooLong → IfSome (S.left source.old) (λ bytes. AUDIT_LIMIT < length bytes) }
     ensures keeper { result.keeper ≡ keeper }
     ensures empty { past result.journal ≡ [] }
-    ensures taken { ReadsFew 67112960 (S.left source.old) (S.left source.new) }
+    ensures taken { ReadsFew (AUDIT_LIMIT + 4096) (S.left source.old) (S.left source.new) }
     ensures complete { HasJournal (S.left source.old) → (Rose (S.faults source.old) (S.faults source.new) → ⊥)
         → (Rose (W.faults out.old) (W.faults out.new) → ⊥) → IsCompleted result.status }
     ensures listeners { AreHandedBack (is_short result.status) result.journal.list (tells L.heard L.left listeners.items) (tells L.heard L.left result.listeners.items) }

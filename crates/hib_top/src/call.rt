@@ -97,9 +97,8 @@ fn serve<R: Threads + Wait + Sync, S: Source, W: Sink, K: Keeper, G: Gate, L: Li
 
 /// Does what the words say, except for `work`, of which the words have no form here; so it takes no lock, and returns. `play` reads
 /// a script from the source, runs it over the keeper by its schedule and writes the report of its journal to the sink. `make` makes
-/// the script of a number, and runs it and writes that number and the summary; or it writes the script. `audit` reads
-/// a script and a journal behind it, and says whether the journal is legal. Where the words have no form
-/// nothing is read.
+/// the script of a number, and runs it and writes that number and the summary; or it writes the script. `audit` reads a script and a
+/// journal behind it, and says whether the journal is legal. If the words have no form, nothing is read.
 ///
 /// Whatever the status, the journal handed back is legal for the script, from the keeper's tables as they were handed in and the
 /// script's rows beside them, and obeys the law; its k-th entry has tick k, and the keeper's tables are those that its commits

@@ -14,7 +14,7 @@ ghost use Rattle.hib_top.specs.Streams.{ReadsFew};
 ghost use Rattle.hib_listeners.specs.Told.{tells};
 ghost use Rattle.hib_top.specs.declared.ways.Turns.{Turns};
 ghost use Rattle.hib_top.specs.declared.ways.Telling.{Telling};
-ghost use Rattle.hib_top.specs.Play.{CameTo, Plays, Runs, IsWritten, IsAfter, IsAfterRun, HasRead, HasNoScript, HasScript, IsCompleted, AreHandedBack, is_short, told_by};
+ghost use Rattle.hib_top.specs.Play.{CameTo, Plays, Runs, IsWritten, AreReadBack, IsAfter, IsAfterRun, HasRead, HasNoScript, HasScript, IsCompleted, AreHandedBack, is_short, told_by};
 
 use crate::run::{End, Ran, run};
 use crate::status::Status;
@@ -22,6 +22,7 @@ use crate::streams::{LIMIT, ReadStop, read_all};
 use crate::ways::Telling;
 use hib_base::Script;
 use hib_journal::Journal;
+use hib_journal_json::are_entries;
 use hib_listeners::nothing_was_told;
 use hib_outside::{Keeper, Listener, Sink, Source, write_all};
 use hib_report::WriteStop;
@@ -97,12 +98,17 @@ fn tell_sum<W: Sink>(
     write_text(&text, out)
 }
 
-/// Writes the journal of a run as JSON lines, piece by piece.
+/// Writes the journal of a run as JSON lines, piece by piece. Each entry is tested before the first is written, so that what is
+/// written is read back as the journal; an entry that isn't well formed is answered as want of memory.
 fn tell_lines<W: Sink>(alloc: Global, script: &Script, journal: &Journal, out: &mut W) -> Status
     ensures lines { IsWritten result (json_lines script.now journal.now.list) (W.taken out.old) (W.taken out.new) }
+    ensures read_back { AreReadBack Telling.JsonLines result script.now journal.now.list }
     ensures write { result ≡ Status.WriteFault → Rose (W.faults out.old) (W.faults out.new) }
     ensures after { IsAfterRun result }
 {
+    if !are_entries(script, journal) {
+        return Status::NoMemory;
+    }
     match hib_json_lines::send(alloc, script, journal, out) {
         Ok(()) => Status::Done,
         Err(WriteStop::Failed) => Status::WriteFault,
@@ -119,6 +125,7 @@ fn tell<W: Sink>(
     out: &mut W,
 ) -> Status
     ensures report { IsWritten result (told_by telling script.now journal.now.list) (W.taken out.old) (W.taken out.new) }
+    ensures read_back { AreReadBack telling result script.now journal.now.list }
     ensures write { result ≡ Status.WriteFault → Rose (W.faults out.old) (W.faults out.new) }
     ensures after { IsAfterRun result }
 {
@@ -191,7 +198,7 @@ pub fn read_script<S: Source>(alloc: Global, source: &mut S) -> Result<Script, S
     ensures none { IfErr result (λ status. HasNoScript (S.left source.old) (S.left source.new) status) }
     ensures read { result ≡ Err Status.ReadFault → Rose (S.faults source.old) (S.faults source.new) }
     ensures long { result ≡ Err Status.TooLong → IfSome (S.left source.old) (λ bytes. LIMIT < length bytes) }
-    ensures taken { ReadsFew 1052672 (S.left source.old) (S.left source.new) }
+    ensures taken { ReadsFew (LIMIT + 4096) (S.left source.old) (S.left source.new) }
 {
     let text = match read_all(alloc, source, LIMIT) {
         Ok(text) => text,
@@ -249,7 +256,7 @@ pub fn play<S: Source, W: Sink, K: Keeper, L: Listener>(
     // A script is run to its end where source and sink don't fail, unless memory runs out or the keeper doesn't take its rows.
     ensures complete { HasScript (S.left source.old) → (Rose (S.faults source.old) (S.faults source.new) → ⊥)
         → (Rose (W.faults out.old) (W.faults out.new) → ⊥) → IsCompleted result.status }
-    ensures taken { ReadsFew 1052672 (S.left source.old) (S.left source.new) }
+    ensures taken { ReadsFew (LIMIT + 4096) (S.left source.old) (S.left source.new) }
     ensures listeners { AreHandedBack (is_short result.status) result.journal.list (tells L.heard L.left listeners.items) (tells L.heard L.left result.listeners.items) }
 {
     match read_script(alloc, source) {

@@ -48,8 +48,10 @@ pub const LIMIT: usize = 1_048_576;
 /// The most bytes that a script has with its journal behind it.
 pub const AUDIT_LIMIT: usize = 67_108_864;
 
-/// All that the source has left, up to the limit: where it is all, the source is at its end, and has not failed. Each turn takes a byte at least, meets the end or fails, and no more than
-/// one piece beyond the limit is read.
+/// All that the source has left, up to the limit. Then the source is at its end, and has not failed. Each turn takes a byte at least,
+/// meets the end or fails. At most one piece beyond the limit is read.
+///
+/// Errors: `TooLong` if there is more than the limit; `Failed` if the source failed; `NoMemory` if there is none left.
 #[tactic(auto, using(crate::proofs::Taken::reads_more, crate::proofs::Taken::reads_still))]
 pub fn read_all<S: Source>(alloc: Global, source: &mut S, limit: usize) -> Result<Vec<u8>, ReadStop>
     requires { limit ≤ AUDIT_LIMIT }

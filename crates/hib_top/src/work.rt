@@ -157,7 +157,7 @@ pub fn work<R: Threads + Wait + Sync, S: Source, W: Sink, K: Keeper, L: Listener
     // A script is run to its end where source and sink don't fail, unless memory runs out or the keeper doesn't take its rows.
     ensures complete { HasScript (S.left source.old) → (Rose (S.faults source.old) (S.faults source.new) → ⊥)
         → (Rose (W.faults out.old) (W.faults out.new) → ⊥) → IsCompleted result.status }
-    ensures taken { ReadsFew 1052672 (S.left source.old) (S.left source.new) }
+    ensures taken { ReadsFew (LIMIT + 4096) (S.left source.old) (S.left source.new) }
     ensures listeners { AreHandedBack (is_short result.status) result.journal.list (tells L.heard L.left listeners.items) (tells L.heard L.left result.listeners.items) }
 {
     match read_script(alloc, source) {

@@ -24,7 +24,7 @@ abbrev pub none_handed : FactoryState
 none_handed = record {
   journal = record { list = []; spare = 0 };
   parts = record {
-    store = record { tables = None; faults = 0; asked = 0; written = [] };
+    store = record { tables = None; faults = 0; asked = 0; written = []; entities = 0; indexed = false };
     registry = [];
     stamps = [];
     regions = [];

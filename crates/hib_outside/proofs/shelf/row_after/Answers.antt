@@ -1,26 +1,17 @@
-use Rattle.std.proofs.Common.{◌≡◌, true, false, ◌∙◌, arith}
-use Rattle.hib_base.specs.Keys.{same_key}
-use Rattle.hib_base.specs.Tables.{key_of}
-use Rattle.hib_outside.proofs.Commits.{row_after_found, row_after_next, row_after_none}
+use Rattle.std.proofs.Common.{◌∙◌, ap, sym, option_copied}
+use Rattle.hib_base.proofs.Tables.{left_by}
+use Rattle.hib_base.specs.Tables.{row_at}
+use Rattle.hib_outside.proofs.Commits.{row_after_last}
 use Rattle.hib_outside.proofs.shelf.row_after.Goals as goal
 
-pub returns-then-is_same : goal.returns-then-is_same
-returns-then-is_same c =
-    let same : same_key (key_of c.index-done-at.result) c.args.key.now ≡ true = cc in
+pub returns-in-Some : goal.returns-in-Some
+returns-in-Some c = λ n h.
     c.row_left_by.ensures
-    ∙ row_after_found c.args.done.now c.args.rows.now c.args.key.now c.loop-at.at c.index-done-at.result c.loop-at-test.true
-    c.loop-at.invariant.within c.index-done-at.is c.loop-at.invariant.none same
+    ∙ ap (λ o. left_by o (row_at c.args.rows.now c.args.key.now)) (sym (ap option_copied c.in-Some.is) ∙ c.last_change.ensures)
+    ∙ row_after_last c.args.batch.now n c.args.rows.now c.args.key.now c.args.lasts.now.entries h
 
-pub loop-at-preserved : goal.loop-at-preserved
-loop-at-preserved c =
-    let other : same_key (key_of c.index-done-at.result) c.args.key.now ≡ false = cc in
-    record {
-      within = omega (arith, c.loop-at.invariant.within);
-      none = row_after_next c.args.done.now c.args.key.now c.loop-at.at c.index-done-at.result c.loop-at-test.true c.loop-at.invariant.within
-          c.index-done-at.is c.loop-at.invariant.none other;
-    }
-
-pub returns : goal.returns
-returns c =
+pub returns-in-None : goal.returns-in-None
+returns-in-None c = λ n h.
     c.row_of.ensures
-    ∙ row_after_none c.args.done.now c.args.rows.now c.args.key.now c.loop-at.at c.loop-at.invariant.none (omega arith)
+    ∙ ap (λ o. left_by o (row_at c.args.rows.now c.args.key.now)) (sym (ap option_copied c.in-None.is) ∙ c.last_change.ensures)
+    ∙ row_after_last c.args.batch.now n c.args.rows.now c.args.key.now c.args.lasts.now.entries h

@@ -6,11 +6,11 @@ use Rattle.hib_query_eval.proofs.searches.found.Goals as goal
 use Rattle.hib_query_eval.proofs.searches.found.Goals.{in-Some+in_ok-push, in_default}
 
 pub loop-id-init : goal.loop-id-init
-loop-id-init c = ap (map (λ r. r.now)) c.new-met.ensures.items ∙ none_yet c.args.query.now.entity (λ a. meets c.args.rows.now a.1 c.args.query.now.condition) c.args.rows.now
+loop-id-init c = ap (map (λ r. r.now)) c.new-met.ensures.items ∙ none_yet c.args.query.now.entity (λ a. meets c.args.view.now a.1 c.args.query.now.condition) c.args.view.now
 
 pub loop-id-preserved : goal.loop-id-preserved
 loop-id-preserved c =
-    found_more c.args.query.now c.args.rows.now c.args.ids.now c.requires.ordered c.requires.rising (λ r. r.now) c.loop-id.met.items c.match-met_at.met.items
+    found_more c.args.query.now c.args.view.now c.args.ids.now c.requires.ordered c.requires.rising (λ r. r.now) c.loop-id.met.items c.match-met_at.met.items
     c.loop-id.id-index (get_or c.args.ids.now c.loop-id.id-index 0) (option_copied c.met_at.result) c.loop-id-test.true
     (get_or_default c.args.ids.now c.loop-id.id-index 0 _ c.loop-id-test.true) c.met_at.ensures c.loop-id.invariant
     (elim c.match-met_at.branch [
@@ -23,4 +23,4 @@ loop-id-preserved c =
     ])
 
 pub returns : goal.returns
-returns c = at_end c.args.query.now c.args.rows.now c.args.ids.now c.loop-id.id-index _ c.requires.ordered c.requires.all c.loop-id-test.false c.loop-id.invariant
+returns c = at_end c.args.query.now c.args.view.now c.args.ids.now c.loop-id.id-index _ c.requires.ordered c.requires.all c.loop-id-test.false c.loop-id.invariant

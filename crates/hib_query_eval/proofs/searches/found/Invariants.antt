@@ -7,4 +7,4 @@ use Rattle.hib_query_eval.proofs.searches.found.Given as goal
 -- the rows of the identifiers so far
 abbrev pub invariant-loop-id : goal.invariant-loop-id
 invariant-loop-id l =
-    map (λ r. r.now) l.met.items ≡ kept l.query.entity (λ a. meets l.rows a.1 l.query.condition) (λ m. has_id m (take l.id-index l.ids)) l.rows
+    map (λ r. r.now) l.met.items ≡ kept l.query.entity (λ a. meets l.view a.1 l.query.condition) (λ m. has_id m (take l.id-index l.ids)) l.view

@@ -3,7 +3,7 @@ use Rattle.hib_top.proofs.play.tell_end.Goals as goal
 
 pub returns-in-Over-clause-run : goal.returns-in-Over-clause-run
 returns-in-Over-clause-run g c = λ turns script kept rows came.
-    runs_over turns c.args.telling _ c.tell.result c.in-Over.script script kept rows c.args.journal.now _ _ c.in-Over.is came c.tell.ensures.after c.tell.ensures.report
+    runs_over turns c.args.telling _ c.tell.result c.in-Over.script script kept rows c.args.journal.now _ _ c.in-Over.is came c.tell.ensures.after c.tell.ensures.report c.tell.ensures.read_back
 
 pub returns-in-Stopped-clause-run : goal.returns-in-Stopped-clause-run
 returns-in-Stopped-clause-run g c = λ turns script kept rows came. runs_stopped turns c.args.telling _ script kept rows c.args.journal.now _ c.in-Stopped.is came

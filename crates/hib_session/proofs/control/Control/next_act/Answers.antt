@@ -5,7 +5,7 @@ use Rattle.hib_session.proofs.control.Control.next_act.Goals as goal
 
 pub returns-then-not-is_empty : goal.returns-then-not-is_empty
 returns-then-not-is_empty c = λ mine k s t.
-    head_due c.args.self.now.queue c.args.self.now.stage c.args.self.now.begins (untaken c.args.script.now c.args.self.now) mine _ _ c.at.ensures c.in_ok-act.ensures
+    head_due c.args.self.now.queue c.args.self.now.stage c.args.self.now.begins (untaken c.args.script.now c.args.self.now) mine _ _ c.first.ensures c.in_ok-act.ensures
     ∙ act_due c.args.script.now c.args.self.now mine s t
 
 pub returns-then-is_idle : goal.returns-then-is_idle

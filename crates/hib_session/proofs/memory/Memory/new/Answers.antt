@@ -6,11 +6,11 @@ unfolding Rattle.hib_journal.specs.Held.held
 returns c = record {
   time = refl;
   floor = refl;
-  changes = c.new-2.ensures.items;
+  changes = c.new-2.ensures;
   outcome = refl;
   holds = record { instances = λ k. rw c.open.ensures refl; order = rw c.open.ensures refl; distinct = rw c.open.ensures refl };
   removals = rw c.open.ensures refl;
-  unwritten = λ k. rw c.new.ensures.items refl;
-  fresh = λ k. rw c.new-3.ensures.items refl;
-  locks = λ k. rw c.new-4.ensures.items refl;
+  unwritten = λ k. rw c.new.ensures.empty refl;
+  fresh = λ k. rw c.new-3.ensures.empty refl;
+  locks = λ k. rw c.new-4.ensures.empty refl;
 }

@@ -1,5 +1,0 @@
-use Rattle.std.proofs.Common.{length}
-use Rattle.hib_dirty_check.proofs.cells.+are_same_cells.Given as goal
-
-abbrev pub decreases-are_same_cells : goal.decreases-are_same_cells
-decreases-are_same_cells l = length l.a.now

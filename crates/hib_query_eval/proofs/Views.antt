@@ -1,0 +1,113 @@
+-- Which keys changes change, and the rows that stand there.
+use Rattle.std.proofs.Common.{◌≡◌, ℕ, ◌+◌, ◌<◌, Bool, true, false, cond, ◌&&◌, ◌||◌, ◌==◌, List, [], ◌∷◌, length, take, get_or, Some, None, Option, is_some, refl, ap, sym, ◌∙◌, inl, inr, arith}
+use Rattle.std.specs.List.{list_any}
+use Rattle.std.specs.Cmp.{unsigned_tied, nat_eq_equiv}
+use Rattle.std.specs.Ordering.{ordering_then, nat_cmp, is_eq}
+use Rattle.std.specs.declared.cmp.Ordering.{Ordering}
+use Rattle.std.specs.declared.cmp.Ordering.TheVariants.{Less, Equal, Greater}
+use Rattle.std.proofs.lemmas.Bool.{true≢false, eqb-true}
+use Rattle.std.proofs.lemmas.List.Folds.{list_any_more}
+use Rattle.hib_base.specs.Keys.{same_key}
+use Rattle.hib_base.specs.Tables.{Tables, row_at, key_of, after_changes, last_on, or_change}
+use Rattle.hib_base.proofs.Tables.{Tested, tested, same_key_eq, left_by, row_at_changes}
+use Rattle.hib_journal.specs.Types.{Key, Row, Change}
+use Rattle.hib_query_eval.specs.Found.{row_in}
+use Rattle.hib_query_eval.specs.Views.{has_key, is_changed, IsLaid}
+
+-- the derived order of keys
+abbrev pub key_cmp : Key → Key → Ordering
+key_cmp a b = ordering_then (nat_cmp a.entity b.entity) (nat_cmp a.id b.id)
+
+then_both : (o p : Ordering) → is_eq (ordering_then o p) ≡ (is_eq o && is_eq p)
+then_both Less p = refl
+then_both Equal p = refl
+then_both Greater p = refl
+
+pub key_ties : (k j : Key) → is_eq (key_cmp k j) ≡ same_key j k
+key_ties k j =
+    then_both (nat_cmp k.entity j.entity) (nat_cmp k.id j.id)
+    ∙ (λ i. (unsigned_tied k.entity j.entity ∙ nat_eq_equiv.symm k.entity j.entity) i && (unsigned_tied k.id j.id ∙ nat_eq_equiv.symm k.id j.id) i)
+
+pub key_there : (ks : List Key) (k : Key) → list_any (λ j. is_eq (key_cmp k j)) ks ≡ has_key ks k
+key_there [] k = refl
+key_there (j ∷ ks) k = λ i. key_ties k j i || key_there ks k i
+
+pub key_added : (ks new : List Key) (k : Key)
+    → ((q : Key) → list_any (λ j. is_eq (key_cmp q j)) new ≡ cond (is_eq (key_cmp k q)) true (list_any (λ j. is_eq (key_cmp q j)) ks))
+    → (q : Key) → has_key new q ≡ has_key (k ∷ ks) q
+key_added ks new k f q =
+    sym (key_there new q) ∙ f q ∙ (λ i. cond ((key_ties k q ∙ symm k q) i) true (key_there ks q i)) ∙ at (same_key k q)
+  where
+    symm : (a b : Key) → same_key b a ≡ same_key a b
+    symm a b = λ i. nat_eq_equiv.symm b.entity a.entity i && nat_eq_equiv.symm b.id a.id i
+
+    at : (b : Bool) → cond b true (has_key ks q) ≡ (b || has_key ks q)
+    at true = refl
+    at false = refl
+
+-- one change more
+pub one_changed : (ks new : List Key) (cs : List Change) (i : ℕ) (c : Change) (k : Key) → i < length cs → c ≡ get_or cs i c → k ≡ key_of c
+    → ((q : Key) → has_key new q ≡ has_key (k ∷ ks) q) → ((q : Key) → has_key ks q ≡ is_changed q (take i cs))
+    → (q : Key) → has_key new q ≡ is_changed q (take (i + 1) cs)
+one_changed ks new cs i c k l e f g h q =
+    g q ∙ (λ j. same_key (f j) q || h q j) ∙ swap (same_key (key_of c) q) (is_changed q (take i cs))
+    ∙ ap (λ d. is_changed q (take i cs) || same_key (key_of d) q) e ∙ sym (list_any_more (λ d. same_key (key_of d) q) cs i c l)
+  where
+    swap : (a b : Bool) → (a || b) ≡ (b || a)
+    swap true true = refl
+    swap true false = refl
+    swap false true = refl
+    swap false false = refl
+
+-- the last change on a key
+changed_last : (k : Key) (cs : List Change) → is_changed k cs ≡ is_some (last_on k cs)
+changed_last k [] = refl
+changed_last k (c ∷ cs) = ap (λ b. same_key (key_of c) k || b) (changed_last k cs) ∙ at (last_on k cs) (same_key (key_of c) k)
+  where
+    at : (o : Option Change) (b : Bool) → (b || is_some o) ≡ is_some (or_change o (cond b (Some c) None))
+    at (Some d) true = refl
+    at (Some d) false = refl
+    at None true = refl
+    at None false = refl
+
+pub row_changed : (k : Key) (cs : List Change) (t : Tables) → is_changed k cs ≡ true → row_at (after_changes cs []) k ≡ row_at (after_changes cs t) k
+row_changed k cs t h = row_at_changes cs [] k ∙ at (last_on k cs) (sym (changed_last k cs) ∙ h) ∙ sym (row_at_changes cs t k)
+  where
+    at : (o : Option Change) → is_some o ≡ true → left_by o None ≡ left_by o (row_at t k)
+    at None g = absurd (true≢false (sym g))
+    at (Some c) g = refl
+
+pub row_unchanged : (k : Key) (cs : List Change) (t : Tables) → is_changed k cs ≡ false → row_at t k ≡ row_at (after_changes cs t) k
+row_unchanged k cs t h = at (last_on k cs) (sym (changed_last k cs) ∙ h) ∙ sym (row_at_changes cs t k)
+  where
+    at : (o : Option Change) → is_some o ≡ false → row_at t k ≡ left_by o (row_at t k)
+    at None g = refl
+    at (Some c) g = absurd (true≢false g)
+
+pub no_changes : (cs : List Change) → (length cs == 0) ≡ true → cs ≡ []
+no_changes [] h = refl
+no_changes (c ∷ cs) h = let e : length (c ∷ cs) ≡ 0 = eqb-true (length (c ∷ cs)) 0 h in absurd (omega arith)
+
+-- a key with its row is its row
+abbrev with_key : Key → Option Row → Option (Key × Row)
+with_key k None = None
+with_key k (Some r) = Some (k, r)
+
+row_in_at : (t : Tables) (k : Key) → row_in t k ≡ with_key k (row_at t k)
+row_in_at [] k = refl
+row_in_at (e ∷ es) k = at (tested (same_key e.0 k)) (row_in_at es k)
+  where
+    at : Tested (same_key e.0 k) → row_in es k ≡ with_key k (row_at es k) → row_in (e ∷ es) k ≡ with_key k (row_at (e ∷ es) k)
+    at (inl s) h = rw s (ap (λ j. Some (j, e.1)) (same_key_eq e.0 k s))
+    at (inr s) h = rw s h
+
+pub entry_same : (t u : Tables) (k : Key) → row_at t k ≡ row_at u k → row_in t k ≡ row_in u k
+entry_same t u k h = row_in_at t k ∙ ap (with_key k) h ∙ sym (row_in_at u k)
+
+-- the rows among which a key's row stands
+module _ (rows : Tables) (cs : List Change) (ks : List Key) (kept : Tables) (x : IsLaid rows cs ks kept) where
+  pub row_left_there : (k : Key) → has_key ks k ≡ true → row_at kept k ≡ row_at (after_changes cs rows) k
+  row_left_there k h = ap (λ t. row_at t k) x.left ∙ row_changed k cs rows (sym (x.keys k) ∙ h)
+
+  pub row_kept_there : (k : Key) → has_key ks k ≡ false → row_at rows k ≡ row_at (after_changes cs rows) k
+  row_kept_there k h = row_unchanged k cs rows (sym (x.keys k) ∙ h)

@@ -1,0 +1,25 @@
+use Rattle.std.proofs.Common.{◌≡◌, ℕ, ◌<◌, ◌^◌, true, IfSome, subst}
+use Rattle.std.proofs.lemmas.Result.{IfOk-weaker}
+use Rattle.std.proofs.lemmas.Option.{IfSome_then}
+use Rattle.hib_journal.specs.Types.{Cell}
+use Rattle.hib_journal.specs.Query.{passes}
+use Rattle.hib_query_eval.specs.Places.{has_place, has_id}
+use Rattle.hib_query_eval.proofs.Spans.{no_target_covers, steps_cover}
+use Rattle.hib_query_eval.proofs.candidates.compared_at.Goals as goal
+
+pub returns-in_default : goal.returns-in_default
+returns-in_default c = IfOk-weaker c.compared.result _ _
+    (λ o h. IfSome_then o h
+    (λ ids f. no_target_covers c.args.places.now.keys c.args.entity c.from-column.result c.args.path.now (λ d. passes c.args.op d c.args.cell.now) ids.items c.in_default.is
+    c.from-column.ensures f))
+    c.compared.ensures
+
+pub returns : goal.returns
+returns c = IfOk-weaker c.referring.result _ _
+    (λ o h. IfSome_then o h
+    (λ ids f. steps_cover c.args.places.now.keys c.args.entity c.from-column.result c.from-of_target.result c.in-Some.target c.args.path.now (λ d. passes c.args.op d c.args.cell.now)
+    c.in-Some-2.found.items c.as_slice.result.now ids.items c.in-Some.is c.from-column.ensures c.from-of_target.ensures c.as_slice.ensures.value
+    (subst (λ o. IfSome o (λ ids. (i : ℕ) (d : Cell) → i < 2 ^ 64 → has_place c.args.places.now.keys c.in-Some.target.entity c.from-of_target.result i d ≡ true
+    → passes c.args.op d c.args.cell.now ≡ true → has_id i ids.items ≡ true)) c.in-Some-2.is c.in_ok-found.ensures)
+    f))
+    c.referring.ensures
