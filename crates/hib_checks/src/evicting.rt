@@ -1,10 +1,33 @@
-// Many evictions and a full region, by direct calls of a region.
-use hib_base::{Cells, Evicted, Put, Row, Tick};
+// Many evictions through a factory, and a full region by direct calls.
+ghost use Rattle.std.specs.Prelude.{◌≡◌, true};
+ghost use Rattle.hib_base.specs.Valid.{is_valid};
+ghost use Rattle.hib_core.specs.Standing.{told_start};
+ghost use Rattle.hib_listeners.specs.Told.{tells};
+
+use hib_base::{
+    Cells, EntityNo, Entry, Evicted, Key, Put, Reply, Row, Script, Seq, Tick, is_cached,
+};
+use hib_core::{Factory, Name};
+use hib_listeners::Recorder;
+use hib_outside::{Keeper, Listener, MemKeeper};
 use hib_rw_region::RwRegion;
 use std::alloc::{AllocError, Global};
+use std::marker::Brand;
 
 /// How many keys are evicted, and how many rows are put.
 const KEYS: u64 = 100_000;
+
+/// How often each key is evicted through the factory.
+const ROUNDS: usize = 5;
+
+/// A mapping with one cached entity, and no session.
+const BOOKS: &[u8] = b"hib 1
+entity Book read-write versioned 100
+column title text
+column stock int
+";
+
+const BOOK: EntityNo = EntityNo(0);
 
 /// How many entries the region has room for.
 const CAPACITY: u32 = 1000;
@@ -38,6 +61,71 @@ fn left(alloc: Global, region: &mut RwRegion) -> Result<u64, AllocError> {
         }
     }
     Ok(left)
+}
+
+/// Whether it is the eviction of a key that had no entry.
+fn is_absent(entry: &Entry) -> bool {
+    matches!(&entry.reply, Reply::Evicted(Evicted::Absent))
+}
+
+/// Evicts a hundred thousand books, five times over. Where memory runs out the evictions so far stand.
+fn evict_all<N: Name, K: Keeper, L: Listener>(
+    alloc: Global,
+    factory: &mut Factory<K, N, L>,
+) -> Result<(), AllocError> {
+    if !is_cached(factory.script().mapping.as_slice(), BOOK) {
+        return Ok(());
+    }
+    for _ in 0..ROUNDS {
+        for id in 1..KEYS + 1 {
+            factory.evict(alloc, Key { entity: BOOK, id })?;
+        }
+    }
+    Ok(())
+}
+
+/// Whether each of the evictions of a hundred thousand books, five times over, finds no entry, in the factory of this name.
+fn evicts<N: Name, K: Keeper + Drop, L: Listener>(
+    alloc: Global,
+    script: Script,
+    keeper: K,
+    listeners: Vec<L>,
+) -> Result<bool, AllocError>
+    requires script { script ≡ N.script }
+    requires valid { is_valid N.script ≡ true }
+    requires from { record { tables = told_start N.script (K.tables keeper); faults = K.faults keeper; asked = K.asked keeper } ≡ N.from }
+    requires told { tells L.heard L.left listeners.items ≡ N.told }
+{
+    let Ok(mut factory) = Factory::<K, N, L>::open(alloc, script, keeper, listeners) else {
+        return Ok(false);
+    };
+    let evicted = evict_all(alloc, &mut factory);
+    let (_keeper, _script, journal, _listeners) = factory.close();
+    evicted?;
+    let entries = journal.as_slice();
+    Ok(entries.len() == 500_000 && entries.iter().all(is_absent))
+}
+
+/// Whether each of these evictions finds no entry, in a factory.
+fn evicts_absent<K: Keeper + Drop, L: Listener>(
+    alloc: Global,
+    script: Script,
+    keeper: K,
+    listeners: Vec<L>,
+) -> Result<bool, AllocError>
+    requires { is_valid script ≡ true }
+{
+    evicts::<Brand, K, L>(alloc, script, keeper, listeners)
+}
+
+/// Whether half a million evictions of absent books through a factory find none.
+pub fn finds_none(alloc: Global) -> Result<bool, AllocError> {
+    let Ok(script) = hib_script::read(alloc, BOOKS) else {
+        return Ok(false);
+    };
+    let keeper = MemKeeper::new(alloc, Seq::new(alloc));
+    let listeners: Vec<Recorder> = Vec::new(alloc);
+    evicts_absent(alloc, script, keeper, listeners)
 }
 
 /// Whether a hundred thousand evictions of keys that have no entry find none, and as many rows then leave room for the first

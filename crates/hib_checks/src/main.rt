@@ -138,7 +138,8 @@ fn main(rt: HostRuntime) -> io::Result<()> {
     }
     tell(&rt, "stale-version", stale::finds_the_version(alloc)?)?;
     tell(&rt, "stale-row", stale::finds_no_row(alloc)?)?;
-    tell(&rt, "long-eviction", evicting::leaves_in_turn(alloc)?)?;
+    tell(&rt, "long-eviction", evicting::finds_none(alloc)?)?;
+    tell(&rt, "full-region", evicting::leaves_in_turn(alloc)?)?;
     tell(&rt, "word-with-a-path", words::keeps_a_path(alloc)?)?;
     tell(&rt, "many-words", words::refuses_many(alloc)?)?;
     tell(&rt, "help", words::helps(alloc)?)?;

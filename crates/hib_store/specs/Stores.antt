@@ -1,6 +1,7 @@
 -- The store: what its keeper tells, and each session's written changes.
-use Rattle.std.specs.Prelude.{◌≡◌, ℕ, ◌<◌, IfSome, Bool, true, false, cond, ◌==◌, List, [], ◌∷◌, ◌++◌, Some, None, Option, Result, Ok, Err}
+use Rattle.std.specs.Prelude.{◌≡◌, ℕ, ◌<◌, IfSome, Bool, true, false, List, [], nat_eq, Some, None, Option, Result, Ok, Err}
 use Rattle.std.specs.List.{list_any}
+use Rattle.std.specs.Map.{lookup}
 use Rattle.std.specs.Option.{option_map}
 use Rattle.std.specs.declared.alloc.AllocError.{AllocError}
 use Rattle.hib_base.specs.Keys.{same_key}
@@ -29,23 +30,16 @@ pub record StoreState : Type 0 where
   -- whether the index stands
   pub indexed : Bool
 
+abbrev pub or_none : Option (List Change) → List Change
+or_none None = []
+or_none (Some cs) = cs
+
 abbrev pub changes_in : Written → ℕ → List Change
-changes_in [] s = []
-changes_in (w ∷ ws) s = cond (w.0 == s) w.1 (changes_in ws s)
+changes_in ws s = or_none (lookup (nat_eq s) ws)
 
 -- the changes that a session has written
 abbrev pub changes_of : StoreState → ℕ → List Change
 changes_of store s = changes_in store.written s
-
--- a change more at the end of a session's
-abbrev pub with_change : Written → ℕ → Change → Written
-with_change [] s c = (s, c ∷ []) ∷ []
-with_change (w ∷ ws) s c = cond (w.0 == s) ((w.0, w.1 ++ c ∷ []) ∷ ws) (w ∷ with_change ws s c)
-
--- without a session's changes
-abbrev pub without_session : Written → ℕ → Written
-without_session [] s = []
-without_session (w ∷ ws) s = cond (w.0 == s) (without_session ws s) (w ∷ without_session ws s)
 
 -- whether a change is on the key
 abbrev pub is_in : Key → List Change → Bool

@@ -5,8 +5,9 @@ ghost use Rattle.hib_base.specs.Tables.{Tables, start, row_at, row_left, last_on
 ghost use Rattle.hib_outside.specs.Causes.{Rose};
 
 use crate::asking::{self, Loaded};
+use crate::written::Written;
 use crate::{queries, views, written};
-use hib_base::{Change, Changes, Commit, Key, Listing, Query, Row, SessionNo};
+use hib_base::{Change, Commit, Key, Listing, Query, Row, SessionNo};
 use hib_outside::{KeepFault, Keeper};
 use hib_query_eval::Index;
 use std::alloc::{AllocError, Global};
@@ -34,7 +35,7 @@ pub enum OpenFault<K> {
 /// keeper tells, its counts and the changes.
 pub struct Store<K: Keeper> {
     keeper: K,
-    written: Vec<(SessionNo, Changes)>,
+    written: Written,
     // How many entities the index is of.
     entities: u16,
     // The committed rows of the first entities, once a list was asked of them.
@@ -51,7 +52,7 @@ impl<K: Keeper> Model for Store<K> {
       tables = K.tables s.keeper;
       faults = K.faults s.keeper;
       asked = K.asked s.keeper;
-      written = s.written.items;
+      written = s.written.entries;
       entities = s.entities;
       indexed = is_some s.index;
     } };
@@ -79,7 +80,7 @@ impl<K: Keeper> Store<K> {
     {
         Store {
             keeper,
-            written: Vec::new(alloc),
+            written: Written::new(alloc),
             entities,
             index: None,
         }
@@ -132,7 +133,7 @@ impl<K: Keeper> Store<K> {
     pub fn changes(&self, session: SessionNo) -> &[Change]
         ensures { result.now ≡ changes_of self.now session }
     {
-        written::changes_of(self.written.as_slice(), session)
+        written::changes_of(&self.written, session)
     }
 
     /// A session's view of a key: what its last change on the key leaves, or else the committed row. A key that
@@ -160,7 +161,7 @@ impl<K: Keeper> Store<K> {
         ensures entities { self.new.entities ≡ self.old.entities }
         ensures indexed { self.new.indexed ≡ self.old.indexed }
     {
-        let changes = written::changes_of(self.written.as_slice(), session);
+        let changes = written::changes_of(&self.written, session);
         if let Some(change) = written::last_change(changes, &key) {
             return Ok(Loaded::Row(written::copy_left(alloc, change)?));
         }
@@ -190,7 +191,7 @@ impl<K: Keeper> Store<K> {
         ensures kept { self.old.indexed ≡ true → self.new.indexed ≡ true }
         ensures others { ¬ ReadsBelow self.old.entities query.now → self.new.indexed ≡ self.old.indexed }
     {
-        let changes = written::changes_of(self.written.as_slice(), session);
+        let changes = written::changes_of(&self.written, session);
         if !queries::reads_below(query, self.entities) {
             let Some(rows) = asking::list(alloc, &mut self.keeper, query)? else {
                 return Ok(Listed::Fault);
@@ -202,7 +203,6 @@ impl<K: Keeper> Store<K> {
     }
 
     /// Adds a change to a session's, which no other session sees. At an error nothing has changed.
-    #[tactic(auto, using(crate::proofs::Sessions::Changed))]
     pub fn write(
         &mut self,
         alloc: Global,
@@ -222,7 +222,6 @@ impl<K: Keeper> Store<K> {
     }
 
     /// Drops the changes that a session has written. It takes no memory.
-    #[tactic(auto, using(crate::proofs::Sessions::Changed))]
     pub fn drop_changes(&mut self, session: SessionNo)
         ensures own { changes_of self.new session ≡ [] }
         ensures others { (s : ℕ) → s ≢ session → changes_of self.new s ≡ changes_of self.old s }
@@ -250,7 +249,6 @@ impl<K: Keeper> Store<K> {
     /// Applies a session's changes to the committed rows, all of them or none, and drops them. The first change
     /// that doesn't apply decides. Without changes the answer is Committed, and the keeper isn't asked. At an
     /// error rows and changes stay. The index is dropped after Fault; after Committed it may be, for want of memory.
-    #[tactic(auto, using(crate::proofs::Sessions::Changed))]
     pub fn commit(&mut self, alloc: Global, session: SessionNo) -> Result<Commit, AllocError>
         ensures answer { IfOk result (λ answer. answer ≢ Commit.Fault → IfSome self.old.tables
             (λ m. answer ≡ commit_answer (changes_of self.old session) m)) }
@@ -266,7 +264,7 @@ impl<K: Keeper> Store<K> {
         ensures entities { self.new.entities ≡ self.old.entities }
         ensures indexed { StandsCommitted result self.old.indexed self.new.indexed }
     {
-        let changes = written::changes_of(self.written.as_slice(), session);
+        let changes = written::changes_of(&self.written, session);
         if changes.is_empty() {
             return Ok(Commit::Committed);
         }

@@ -1,50 +1,66 @@
 // The changes that sessions have written, by session.
-ghost use Rattle.std.specs.Prelude.{◌≡◌, ◌<◌, ℕ, [], length, true, IsTrue, IfOk, OnOk, OnErr, option_copied};
+ghost use Rattle.std.specs.Prelude.{◌≡◌, ◌<◌, ◌++◌, ◌∷◌, ◌==◌, cond, ℕ, [], length, true, IsTrue, IfOk, OnOk, OnErr, option_copied};
 ghost use Rattle.hib_base.specs.Keys.{same_key};
 ghost use Rattle.hib_base.specs.Tables.{last_on, row_left};
-ghost use Rattle.hib_store.specs.Stores.{changes_in, with_change, without_session};
+ghost use Rattle.hib_store.specs.Stores.{changes_in};
 
 use hib_base::{Change, Changes, Key, Row, SessionNo};
+use indexmap::IndexMap;
 use std::alloc::{AllocError, Global};
 
+/// The changes of the sessions that have written some, by the sessions' numbers.
+pub type Written = IndexMap<SessionNo, Changes>;
+
 /// The changes of a session.
-pub fn changes_of(written: &[(SessionNo, Changes)], session: SessionNo) -> &[Change]
-    ensures { result.now ≡ changes_in written.now session }
+pub fn changes_of(written: &Written, session: SessionNo) -> &[Change]
+    ensures { result.now ≡ changes_in written.now.entries session }
 {
-    for entry in written {
-        if entry.0 == session {
-            return entry.1.as_slice();
-        }
+    match written.get(&session) {
+        Some(changes) => changes.as_slice(),
+        None => &[],
     }
-    &[]
+}
+
+/// Adds the first change of a session that has none.
+fn add_first(
+    alloc: Global,
+    written: &mut Written,
+    session: SessionNo,
+    change: Change,
+) -> Result<(), AllocError>
+    requires { changes_in written.old.entries session ≡ [] }
+    ensures ok { OnOk result ((s : ℕ) → changes_in written.new.entries s
+        ≡ cond (session == s) (changes_in written.old.entries s ++ change ∷ []) (changes_in written.old.entries s)) }
+    ensures err { OnErr result (written.new.entries ≡ written.old.entries) }
+{
+    let mut changes = Changes::new(alloc);
+    changes.push(change)?;
+    written.insert(session, changes)?;
+    Ok(())
 }
 
 /// Adds a change to a session's.
 pub fn add_change(
     alloc: Global,
-    written: &mut Vec<(SessionNo, Changes)>,
+    written: &mut Written,
     session: SessionNo,
     change: Change,
 ) -> Result<(), AllocError>
-    ensures ok { OnOk result (written.new.items ≡ with_change written.old.items session change) }
-    ensures err { OnErr result (written.new.items ≡ written.old.items) }
+    ensures ok { OnOk result ((s : ℕ) → changes_in written.new.entries s
+        ≡ cond (session == s) (changes_in written.old.entries s ++ change ∷ []) (changes_in written.old.entries s)) }
+    ensures err { OnErr result (written.new.entries ≡ written.old.entries) }
 {
-    for at in 0..written.len() {
-        if written[at].0 == session {
-            return written[at].1.push(change);
-        }
-    }
-    let mut changes = Changes::new(alloc);
-    changes.push(change)?;
-    written.push((session, changes))?;
-    Ok(())
+    let Some(index) = written.get_index_of(&session) else {
+        return add_first(alloc, written, session, change);
+    };
+    written[index].push(change)
 }
 
-/// Drops the changes of a session.
-pub fn drop_session(written: &mut Vec<(SessionNo, Changes)>, session: SessionNo)
-    ensures { written.new.items ≡ without_session written.old.items session }
+/// Drops the changes of a session. It takes no memory.
+pub fn drop_session(written: &mut Written, session: SessionNo)
+    ensures { (s : ℕ) → changes_in written.new.entries s ≡ cond (session == s) [] (changes_in written.old.entries s) }
 {
-    written.retain(|entry| entry.0 != session);
+    written.swap_remove(&session);
 }
 
 fn is_same(a: &Key, b: &Key) -> bool

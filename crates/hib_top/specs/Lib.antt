@@ -3,3 +3,4 @@ pub mod Words
 pub mod Play
 pub mod Exits
 pub mod StatusLine
+pub mod Call

@@ -1,0 +1,84 @@
+// Whether the lists of sessions agree with a merged list, and whether its ticks are those that are due.
+ghost use Rattle.std.specs.Prelude.{◌≡◌, ◌↔◌, true, length, IfOk, IsNone, MatchOption};
+ghost use Rattle.std.specs.List.{list_all};
+ghost use Rattle.hib_merge.specs.Tearing.{AreSameBelow, IsFirstUnknown, IsSessionTorn, IsTorn, IsWhole};
+
+use crate::Lists;
+use crate::differences::{copy_at, difference};
+use crate::placing::own_lists;
+use crate::tearing::Torn;
+use crate::ticks::torn_tick;
+use hib_base::Entry;
+use hib_journal::Journal;
+use std::alloc::{AllocError, Global};
+
+/// The first place of the first session at which its list and its entries differ, or none.
+fn torn_lists(
+    alloc: Global,
+    mine: &[Journal],
+    entries: &[Entry],
+) -> Result<Option<(Option<Entry>, Option<Entry>)>, AllocError>
+    ensures { IfOk result (λ o. MatchOption o (AreSameBelow (length mine.now) mine.now entries.now) (λ t. IsSessionTorn mine.now entries.now t.0 t.1)) }
+{
+    let owns = own_lists(alloc, entries, mine.len())?;
+    for s in 0..mine.len() {
+        let listed = mine[s].as_slice();
+        let own = owns[s].as_slice();
+        if let Some(place) = difference(listed, own) {
+            return Ok(Some((copy_at(alloc, listed, place)?, copy_at(alloc, own, place)?)));
+        }
+    }
+    Ok(None)
+}
+
+/// Whether an entry is of one of the first sessions, so many as are given.
+fn is_known(count: usize, entry: &Entry) -> bool
+    ensures { result ≡ Rattle.hib_merge.specs.Tearing.is_known count entry.now }
+{
+    match entry.session {
+        Some(session) => (session.0 as usize) < count,
+        None => false,
+    }
+}
+
+/// The first entry that is of none of the first sessions, or none.
+fn first_unknown(count: usize, entries: &[Entry]) -> Option<&Entry>
+    ensures { MatchOption result (list_all (Rattle.hib_merge.specs.Tearing.is_known count) entries.now ≡ true) (λ e. IsFirstUnknown count entries.now e.now) }
+{
+    for entry in entries {
+        if !is_known(count, entry) {
+            return Some(entry);
+        }
+    }
+    None
+}
+
+/// Where the lists part, or the first entry with another tick.
+fn first_torn(alloc: Global, merged: &Journal, mine: &Lists) -> Result<Option<Torn>, AllocError>
+    ensures { IfOk result (λ o. MatchOption o (IsWhole mine.now merged.now) (IsTorn mine.now merged.now)) }
+{
+    let _count = merged.len();
+    let entries = merged.as_slice();
+    let lists = mine.as_slice();
+    if let Some((listed, own)) = torn_lists(alloc, lists, entries)? {
+        return Ok(Some(Torn::Lists {
+            mine: listed,
+            part: own,
+        }));
+    }
+    if let Some(entry) = first_unknown(lists.len(), entries) {
+        let part = Some(entry.copy(alloc)?);
+        return Ok(Some(Torn::Lists { mine: None, part }));
+    }
+    torn_tick(alloc, entries)
+}
+
+/// None if the list of each session, at the place of its number, is its entries in the merged list, each entry is of one of these
+/// sessions, and each tick is the one that is due. Else where the lists part: the first place of the first session, or the first
+/// entry of none of the sessions. Where the lists don't part, it is the first entry with another tick.
+pub fn agree(alloc: Global, merged: &Journal, mine: &Lists) -> Result<Option<Torn>, AllocError>
+    ensures torn { IfOk result (λ o. MatchOption o (IsWhole mine.now merged.now) (IsTorn mine.now merged.now)) }
+    ensures exact { IfOk result (λ o. IsNone o ↔ IsWhole mine.now merged.now) }
+{
+    first_torn(alloc, merged, mine)
+}

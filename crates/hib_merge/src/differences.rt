@@ -1,0 +1,61 @@
+// Where two lists of entries part.
+ghost use Rattle.std.specs.Prelude.{◌≡◌, ◌↔◌, IsTrue, slice_get, IfOk, MatchOption};
+ghost use Rattle.hib_merge.specs.Tearing.{PartAt};
+
+use hib_base::{Act, Entry, Reply};
+use std::alloc::{AllocError, Global};
+
+/// Whether two acts are equal.
+#[tactic(auto, using(hib_base::proofs::Equality::act_decides))]
+fn is_same_act(act: &Act, other: &Act) -> bool
+    ensures { IsTrue result ↔ (act.now ≡ other.now) }
+{
+    *act == *other
+}
+
+/// Whether two replies are equal.
+#[tactic(auto, using(hib_base::proofs::Equality::reply_decides))]
+fn is_same_reply(reply: &Reply, other: &Reply) -> bool
+    ensures { IsTrue result ↔ (reply.now ≡ other.now) }
+{
+    *reply == *other
+}
+
+/// Whether two entries are equal.
+fn is_same(entry: &Entry, other: &Entry) -> bool
+    ensures { IsTrue result ↔ (entry.now ≡ other.now) }
+{
+    entry.tick == other.tick
+        && entry.session == other.session
+        && entry.part == other.part
+        && is_same_act(&entry.act, &other.act)
+        && is_same_reply(&entry.reply, &other.reply)
+}
+
+/// The first place at which two lists differ, or none if they are the same.
+pub fn difference(entries: &[Entry], others: &[Entry]) -> Option<usize>
+    ensures { MatchOption result (entries.now ≡ others.now) (λ place. PartAt entries.now others.now place) }
+{
+    for (place, entry) in entries.iter().enumerate() {
+        if place >= others.len() {
+            return Some(place);
+        }
+        if !is_same(entry, &others[place]) {
+            return Some(place);
+        }
+    }
+    if entries.len() < others.len() {
+        return Some(entries.len());
+    }
+    None
+}
+
+/// An equal entry to the one at a place, or none past the last.
+pub fn copy_at(alloc: Global, entries: &[Entry], place: usize) -> Result<Option<Entry>, AllocError>
+    ensures { IfOk result (λ e. e ≡ slice_get entries.now place) }
+{
+    match entries.get(place) {
+        Some(entry) => Ok(Some(entry.copy(alloc)?)),
+        None => Ok(None),
+    }
+}

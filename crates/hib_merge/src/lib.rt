@@ -1,0 +1,25 @@
+//! The lists of parts merged into one, and whether the lists of sessions agree with it.
+//!
+//! Where each part stands behind a lock of its own, each keeps a list of its entries, and so does each session. `merge` makes
+//! one list of those of the parts. `agree` says whether the lists of the sessions are those of their entries in it, and whether
+//! each tick is the one that is due; else where they part. Both take time by the number of entries, and `merge` also by the
+//! logarithm of the number of lists.
+#![tactic(auto)]
+
+mod agreeing;
+mod differences;
+mod last_ticks;
+mod merging;
+mod order;
+mod placing;
+mod tearing;
+mod ticks;
+
+pub use agreeing::agree;
+use hib_base::Seq;
+use hib_journal::Journal;
+pub use merging::merge;
+pub use tearing::Torn;
+
+/// Lists of entries: one of each part, or one of each session.
+pub type Lists = Seq<Journal>;
