@@ -1,7 +1,7 @@
--- Which acts are a script's, on which part they are, and which replies answer them.
-use Rattle.std.specs.Prelude.{ℕ, ◌^◌, Bool, true, false, ◌&&◌, nat_lt, Option, Some, None}
+-- Which acts are a script's, on which part they are, which replies answer them, and which entries are well formed.
+use Rattle.std.specs.Prelude.{◌≡◌, ℕ, ◌^◌, Bool, true, false, ◌&&◌, nat_lt, List, Option, Some, None, All}
 use Rattle.hib_base.specs.Fits.{is_identifier}
-use Rattle.hib_journal.specs.Types.{Row, Change, Part, Act, Reply, Commit, Checked, Miss, Put, Locked, Unlocked, Inserted, Updated, Script}
+use Rattle.hib_journal.specs.Types.{Row, Change, Part, Act, Reply, Entry, Commit, Checked, Miss, Put, Locked, Unlocked, Inserted, Updated, Script}
 use Rattle.hib_entry_fields.specs.Known.{is_key, is_entity, is_query, is_session, is_tick, is_version, are_cells, is_row, are_tables, are_sets}
 
 -- ---- acts
@@ -269,3 +269,22 @@ is_reply script (Act.AfterInsert k r f) = is_inserted
 is_reply script (Act.AfterUpdate k i r) = is_updated
 is_reply script (Act.RegionRemove k) = is_dropped
 is_reply script (Act.Evict k) = is_evicted
+
+-- ---- entries
+
+-- a session of the script, or none
+abbrev pub is_actor : Script → Option ℕ → Bool
+is_actor script None = true
+is_actor script (Some s) = is_session script s
+
+-- the act, the reply to it, the session and the tick are the script's
+abbrev pub is_known : Script → Entry → Bool
+is_known script e = is_act script e.act && (is_reply script e.act e.reply && (is_actor script e.session && is_tick e.tick))
+
+-- a well-formed entry; its part is that of its act
+pub record IsEntry (script : Script) (e : Entry) : Type 0 where
+  pub known : is_known script e ≡ true
+  pub part : part_of e.act e.session ≡ Some e.part
+
+abbrev pub AreEntries : Script → List Entry → Type 0
+AreEntries script es = All (IsEntry script) es

@@ -1,33 +1,13 @@
 -- Which entry's JSON line some bytes are, and which journal some lines are.
-use Rattle.std.specs.Prelude.{◌≡◌, ℕ, zero, suc, ◌+◌, min, Bool, true, ◌&&◌, List, [], ◌∷◌, Option, Some, None, All, IsUtf8}
+use Rattle.std.specs.Prelude.{◌≡◌, ℕ, zero, suc, ◌+◌, min, List, [], ◌∷◌, Some, IsUtf8}
 use Rattle.std.specs.List.{AllZip}
 use Rattle.serde_json.specs.Read.{read}
 use Rattle.hib_base.specs.declared.refusals.Kind.{Kind}
 use Rattle.hib_base.specs.declared.refusals.Refused.{Refused}
 use Rattle.hib_journal.specs.Types.{Entry, Script}
-use Rattle.hib_entry_fields.specs.Known.{is_session, is_tick}
-use Rattle.hib_entry_texts.specs.WellFormed.{is_act, is_reply, part_of}
+pub use Rattle.hib_entry_texts.specs.WellFormed.{is_actor, is_known, IsEntry, AreEntries}
 use Rattle.hib_json_lines.specs.Line.{texts, object_of}
 use Rattle.hib_journal_json.specs.declared.faults.JournalFault.{JournalFault}
-
--- ---- entries
-
--- a session of the script, or none
-abbrev pub is_actor : Script → Option ℕ → Bool
-is_actor script None = true
-is_actor script (Some s) = is_session script s
-
--- the act, the reply to it, the session and the tick are the script's
-abbrev pub is_known : Script → Entry → Bool
-is_known script e = is_act script e.act && (is_reply script e.act e.reply && (is_actor script e.session && is_tick e.tick))
-
--- a well-formed entry; its part is that of its act
-pub record IsEntry (script : Script) (e : Entry) : Type 0 where
-  pub known : is_known script e ≡ true
-  pub part : part_of e.act e.session ≡ Some e.part
-
-abbrev pub AreEntries : Script → List Entry → Type 0
-AreEntries script es = All (IsEntry script) es
 
 -- ---- lines
 

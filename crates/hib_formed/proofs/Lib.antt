@@ -1,0 +1,11 @@
+mod Each
+mod Goods
+mod Rows
+mod Held
+mod Walk
+mod Slots
+mod Regions
+mod Lists
+mod Replies
+mod Formed
+mod Named
