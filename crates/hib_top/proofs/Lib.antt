@@ -4,3 +4,4 @@ pub mod Ends
 pub mod Complete
 pub mod Asked
 pub mod Audited
+pub mod Formed

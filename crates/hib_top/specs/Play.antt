@@ -21,6 +21,8 @@ use Rattle.hib_make.specs.Made.{made}
 use Rattle.hib_print.specs.Printed.{printed}
 use Rattle.hib_report.specs.Report.{report, summary}
 use Rattle.hib_json_lines.specs.Line.{json_lines}
+use Rattle.hib_formed.specs.Early.{name_identifiers}
+use Rattle.hib_formed.specs.Wide.{AreFit, are_wide}
 use Rattle.hib_journal_json.specs.Entries.{AreEntries}
 use Rattle.hib_script.specs.Outline.{Outline, outline_of}
 use Rattle.hib_script.specs.Script.{script_of}
@@ -49,10 +51,11 @@ told_by Telling.Report script es = report script es
 told_by Telling.JsonLines script es = json_lines script es
 told_by (Telling.Summary n) script es = codes "seed " ++ decimal n ++ codes "\n" ++ summary script es
 
--- each session is at its end, where it has no next act, or was killed
+-- each session is at its end, where it has no next act, or was killed; and what was evicted has an identifier
 pub record IsFinished (turns : Turns) (script : Script) (h : Journal) : Type 0 where
   pub ended : (s : ℕ) (d : SessionDef) → slice_get script.sessions s ≡ Some d → has_next script h s ≡ false
   pub ordered : IsOrdered turns script h
+  pub named : name_identifiers h ≡ true
 
 -- the journal is legal for the script from the rows at the start, with its ticks in turn, and so obeys the law; the keeper has
 -- the rows that its commits gave
@@ -64,6 +67,10 @@ pub record IsPlayed (script : Script) (start rows : Option Tables) (h : Journal)
   pub numbered : IsNumbered h
   -- it is short: the sessions have few entries, and each order of the schedule adds one of another kind at most
   pub few : length h ≤ most_in script.sessions + length script.schedule
+  -- the script's numbers have 64 bits, so that its rows fit beside those that the keeper kept
+  pub wide : are_wide script ≡ true
+  -- where the rows at the start fit the mapping, each entry is well formed, if what was evicted has an identifier
+  pub formed : IfSome start (λ told. AreFit script told → name_identifiers h ≡ true → AreEntries script (reverse h))
   pub committed : rows ≡ told_committed start h
 
 -- what a run came to, from what the keeper kept: start is that with the script's rows

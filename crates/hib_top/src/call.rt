@@ -103,7 +103,8 @@ fn serve<R: Threads + Wait + Sync, S: Source, W: Sink, K: Keeper, G: Gate, L: Li
 ///
 /// Whatever the status, the journal handed back is legal for the script, from the keeper's tables as they were handed in and the
 /// script's rows beside them, and obeys the law; its k-th entry has tick k, and the keeper's tables are those that its commits
-/// gave. The listeners hear of each entry in the step that adds it.
+/// gave. If the keeper tells its tables and they fit the script's mapping, each entry of a run that came to its end is well formed.
+/// The listeners hear of each entry in the step that adds it.
 pub fn play_words<S: Source, W: Sink, K: Keeper, L: Listener>(
     alloc: Global,
     words: &[String],
