@@ -1,0 +1,5 @@
+use Rattle.hib_core.proofs.Ready.{ready}
+use Rattle.hib_parts.proofs.parts.built.Goals as goal
+
+pub returns : goal.returns
+returns c = ready c.args.script.now c.requires

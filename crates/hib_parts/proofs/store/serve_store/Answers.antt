@@ -1,0 +1,36 @@
+use Rattle.std.proofs.lemmas.Bool.{false≢true}
+use Rattle.hib_journal.specs.Kept.{past}
+use Rattle.hib_engines.proofs.Outcomes.{err_all}
+use Rattle.hib_parts.proofs.Steps.{fits_kept, entry_here}
+use Rattle.hib_parts.proofs.Stores.{store_on, store_entered, store_left}
+use Rattle.hib_parts.proofs.store.serve_store.Goals as goal
+
+pub enter_answer-requires-clause-due : goal.enter_answer-requires-clause-due
+enter_answer-requires-clause-due g c =
+    let script = g.N.Name.script in
+    let s = store_on c.args.script.now script g.N.Name.from.tables (past c.args.list.now) c.number-number.result c.args.store.now c.serve.new.self c.args.worker.now c.prepared.new.worker c.in_ok-acts.acts.0 c.args.now c.in_ok-reply.reply
+    c.requires.script c.prepared.ensures.kept c.number-number.ensures c.requires.built c.requires.stands c.requires.due c.in_ok-acts.ensures.due c.requires.later c.in_ok-reply.ensures.answered c.in_ok-reply.ensures.asked in
+    fits_kept script c.args.worker.now c.prepared.new.worker c.in_ok-acts.acts.0 c.args.now c.in_ok-reply.reply c.prepared.ensures.kept s.fits
+
+pub returns-in_err-enter_answer-clause-counted : goal.returns-in_err-enter_answer-clause-counted
+returns-in_err-enter_answer-clause-counted g c =
+    let script = g.N.Name.script in
+    let s = store_on c.args.script.now script g.N.Name.from.tables (past c.args.list.now) c.number-number.result c.args.store.now c.serve.new.self c.args.worker.now c.prepared.new.worker c.in_ok-acts.acts.0 c.args.now c.in_ok-reply.reply
+    c.requires.script c.prepared.ensures.kept c.number-number.ensures c.requires.built c.requires.stands c.requires.due c.in_ok-acts.ensures.due c.requires.later c.in_ok-reply.ensures.answered c.in_ok-reply.ensures.asked in
+    err_all c.from_residual-in_err-enter_answer.result _ (store_left c.args.store.now c.serve.new.self c.in_ok-acts.acts.0 c.args.worker.now.number s.part c.in_ok-reply.ensures.still
+    (λ b. false≢true (c.in_err-enter_answer.ensures.brings c.in_ok-acts.ensures.ready (s.small b) b)))
+
+pub returns-clause-entered : goal.returns-clause-entered
+returns-clause-entered g c =
+    let script = g.N.Name.script in
+    let w = c.args.worker.now in
+    let v = c.prepared.new.worker in
+    let a = c.in_ok-acts.acts.0 in
+    let r = c.in_ok-reply.reply in
+    let s = store_on c.args.script.now script g.N.Name.from.tables (past c.args.list.now) c.number-number.result c.args.store.now c.serve.new.self w v a c.args.now r
+    c.requires.script c.prepared.ensures.kept c.number-number.ensures c.requires.built c.requires.stands c.requires.due c.in_ok-acts.ensures.due c.requires.later c.in_ok-reply.ensures.answered c.in_ok-reply.ensures.asked in
+    store_entered script g.N.Name.from.tables (past c.args.list.now) (past c.enter_answer.new.list) c.args.store.now c.serve.new.self w c.enter_answer.new.worker a c.args.now r s
+    (entry_here w v (past c.args.list.now) (past c.prepared.new.list) (past c.enter_answer.new.list) a c.args.now r c.prepared.ensures.kept c.prepared.ensures.list c.in_ok-enter_answer.ensures.list)
+    (entry_here w v w.list v.list c.enter_answer.new.worker.list a c.args.now r c.prepared.ensures.kept c.prepared.ensures.kept.list c.in_ok-enter_answer.ensures.mine)
+    (Rattle.hib_parts.proofs.Steps.less_than c.enter_answer.new.worker.left v.left w.left c.in_ok-enter_answer.ensures.less c.prepared.ensures.left)
+    c.in_ok-reply.ensures.faults c.in_ok-reply.ensures.fault

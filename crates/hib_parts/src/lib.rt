@@ -1,0 +1,23 @@
+//! Parts under locks of their own: each part by itself and each session by itself, with the list of its own entries.
+//!
+//! A part's type keeps that its list is legal by itself, and a worker's type keeps that of its session's. What holds of the one
+//! list into which they are merged is said by `hib_split_law`.
+#![tactic(auto)]
+
+mod copied;
+mod entering;
+mod parts;
+mod region;
+mod registry;
+mod results;
+mod stamps;
+mod store;
+mod worker;
+
+pub use parts::Parts;
+pub use region::RegionPart;
+pub use registry::RegistryPart;
+pub use results::ResultsPart;
+pub use stamps::StampsPart;
+pub use store::StorePart;
+pub use worker::Worker;

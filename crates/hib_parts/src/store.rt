@@ -1,0 +1,180 @@
+// The store, with the list of its entries.
+ghost use Rattle.std.specs.Prelude.{◌≡◌, ◌≤◌, ◌^◌, [], true, false, IfOk, IfErr, OnOk, OnErr};
+ghost use Rattle.std.specs.Option.{option_map};
+ghost use Rattle.hib_base.specs.declared.entries.Part.{Part};
+ghost use Rattle.hib_journal.specs.Kept.{past};
+ghost use Rattle.hib_journal.specs.Lists.{stored};
+ghost use Rattle.hib_journal.specs.Runs.{fault_count};
+ghost use Rattle.hib_outside.specs.Causes.{Rose};
+ghost use Rattle.hib_store.specs.Stores.{handed_back, is_store_fault};
+ghost use Rattle.hib_split_law.specs.Apart.{IsPartLegal, store_ask_count};
+ghost use Rattle.hib_engines.specs.Counts.{RoseBy, RoseWithin};
+ghost use Rattle.hib_engines.specs.Store.{IsCounted, IsStored};
+ghost use Rattle.hib_core.specs.Standing.{told_start};
+ghost use Rattle.hib_core.specs.Factory.{IsBuilt};
+ghost use Rattle.hib_parts.specs.Listed.{AreOf, IsDueOn, IsEntered, IsLater, IsKept, last_of};
+ghost use Rattle.hib_parts.specs.Stored.{IsStoreEntered};
+
+use crate::entering::{enter_answer, prepared};
+use crate::worker::Worker;
+use hib_base::{Script, Tick};
+use hib_core::Name;
+use hib_engines::StoreEngine;
+use hib_journal::Journal;
+use hib_outside::Keeper;
+use hib_store::OpenFault;
+use std::alloc::{AllocError, Global};
+use std::marker::{Model, PhantomData};
+
+/// The store, with the list of its entries, which is legal by itself.
+pub struct StorePart<K: Keeper, N: Name> {
+    store: StoreEngine<K>,
+    last: Tick,
+    list: Journal,
+    /// Whether memory ran out in a call.
+    refused: bool,
+    of: PhantomData<N>,
+}
+
+impl<K: Keeper, N: Name> Model for StorePart<K, N> {
+    ghost use Rattle.hib_journal.specs.Kept.{past};
+    ghost use Rattle.hib_journal.specs.Types.{Part};
+    ghost use Rattle.hib_core.specs.Factory.{IsBuilt};
+    ghost use Rattle.hib_parts.specs.Listed.{IsPartList};
+    ghost use Rattle.hib_parts.specs.Stored.{IsKeeping, StoredState};
+
+    ghost Value = { StoredState };
+
+    ghost view = { λ p. record { list = past p.list; refused = p.refused; tables = p.store.tables; faults = p.store.faults; asked = p.store.asked } };
+
+    ghost invariant = { λ p. IsBuilt N.script × IsPartList N.script N.from.tables Part.Store (past p.list) p.last × IsKeeping N.from (past p.list) p.store p.refused };
+}
+
+/// One act of a session on the store: its entry goes to both lists, or where memory runs out to neither.
+fn serve_store<K: Keeper, N: Name>(
+    alloc: Global,
+    script: &Script,
+    worker: &mut Worker<N>,
+    store: &mut StoreEngine<K>,
+    list: &mut Journal,
+    now: Tick,
+) -> Result<(), AllocError>
+    requires script { script.now ≡ N.script }
+    requires built { IsBuilt N.script }
+    requires due { IsDueOn N.script Part.Store worker.old }
+    requires later { IsLater now (past list.old) worker.old.list }
+    requires stands { IsStored N.from.tables (past list.old) store.old }
+    ensures number { worker.new.number ≡ worker.old.number }
+    ensures entered { OnOk result (IsStoreEntered N.script N.from.tables now (past list.old) (past list.new) store.old store.new worker.old worker.new) }
+    ensures kept { OnErr result (IsKept worker.old worker.new) }
+    ensures same { OnErr result (past list.new ≡ past list.old) }
+    ensures counted { OnErr result (IsCounted store.old store.new) }
+{
+    let acts = prepared(alloc, script, worker, list)?;
+    let number = worker.number();
+    let reply = store.serve(alloc, script, number, &acts.0)?;
+    enter_answer(alloc, script, worker, list, acts, reply, now)?;
+    Ok(())
+}
+
+impl<K: Keeper, N: Name> StorePart<K, N> {
+    /// The store over a keeper that is seeded with the script's rows, each of which it takes where its key has none. At an error the
+    /// keeper is handed back, with the rows that it had.
+    pub fn open(alloc: Global, script: &Script, keeper: K) -> Result<StorePart<K, N>, OpenFault<K>>
+        requires script { script.now ≡ N.script }
+        requires built { IsBuilt N.script }
+        requires from { record { tables = told_start N.script (K.tables keeper); faults = K.faults keeper; asked = K.asked keeper } ≡ N.from }
+        ensures list { IfOk result (λ p. p.list ≡ []) }
+        ensures going { IfOk result (λ p. p.refused ≡ false) }
+        ensures back { IfErr result (λ e. K.tables (handed_back e) ≡ K.tables keeper) }
+        ensures back_faults { IfErr result (λ e. K.faults keeper ≤ K.faults (handed_back e)) }
+        ensures back_asked { IfErr result (λ e. K.asked (handed_back e) ≡ K.asked keeper) }
+        ensures fault { IfErr result (λ e. is_store_fault e ≡ true → Rose (K.faults keeper) (K.faults (handed_back e))) }
+    {
+        let entities = script.mapping.len() as u16;
+        let store = StoreEngine::open(alloc, keeper, script.rows.as_slice(), entities)?;
+        Ok(StorePart {
+            store,
+            last: Tick(0),
+            list: Journal::open(alloc),
+            refused: false,
+            of: PhantomData,
+        })
+    }
+
+    /// The tick of its last entry, or 0.
+    pub fn last(&self) -> Tick
+        ensures last { result ≡ last_of self.now.list }
+        ensures bounded { result ≤ 2 ^ 62 }
+    {
+        self.last
+    }
+
+    /// Its entries.
+    pub fn list(&self) -> &Journal
+        ensures list { past result.now ≡ self.now.list }
+        ensures legal { IsPartLegal N.script N.from.tables (past result.now) }
+    {
+        &self.list
+    }
+
+    /// Whether memory ran out in a call of `serve`. Then the keeper may have been asked more often than the list says.
+    pub fn refused(&self) -> bool
+        ensures { result ≡ self.now.refused }
+    {
+        self.refused
+    }
+
+    /// One act of a session: the act that is due in it, which is on the store, is answered at this tick, which is after the last
+    /// ticks of both. Its entry goes to both lists. Where memory runs out both lists are as before, the keeper was asked once at
+    /// most, and `refused` says so from then on.
+    pub fn serve(
+        &mut self,
+        alloc: Global,
+        worker: &mut Worker<N>,
+        script: &Script,
+        now: Tick,
+    ) -> Result<(), AllocError>
+        requires script { script.now ≡ N.script }
+        requires due { IsDueOn N.script Part.Store worker.old }
+        requires later { IsLater now self.old.list worker.old.list }
+        ensures number { worker.new.number ≡ worker.old.number }
+        ensures entered { OnOk result (IsEntered now self.old.list self.new.list worker.old worker.new) }
+        ensures going { OnOk result (self.new.refused ≡ self.old.refused) }
+        ensures kept { OnErr result (IsKept worker.old worker.new) }
+        ensures same { OnErr result (self.new.list ≡ self.old.list) }
+        ensures tables { OnErr result (self.new.tables ≡ self.old.tables) }
+        ensures refused { OnErr result (self.new.refused ≡ true) }
+    {
+        match serve_store(alloc, script, worker, &mut self.store, &mut self.list, now) {
+            Ok(()) => {
+                self.last = now;
+                Ok(())
+            }
+            Err(error) => {
+                self.refused = true;
+                Err(error)
+            }
+        }
+    }
+
+    /// The keeper, and the entries, which are legal by themselves. What the keeper tells is what the entries leave, it has failed as
+    /// often as they say, and unless memory ran out in a call it was asked no more often than they say.
+    pub fn close(self) -> (K, Journal)
+        ensures list { past result.1 ≡ self.list }
+        ensures legal { IsPartLegal N.script N.from.tables (past result.1) }
+        ensures part { AreOf Part.Store (past result.1) }
+        ensures rows { K.tables result.0 ≡ option_map (λ start. stored start (past result.1)) N.from.tables }
+        ensures faults { RoseBy N.from.faults (fault_count (past result.1)) (K.faults result.0) }
+        ensures asked { self.refused ≡ false → RoseWithin N.from.asked (store_ask_count (past result.1)) (K.asked result.0) }
+    {
+        let StorePart {
+            store,
+            last: _,
+            list,
+            refused: _,
+            of: _,
+        } = self;
+        (store.close(), list)
+    }
+}
