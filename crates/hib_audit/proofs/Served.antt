@@ -3,14 +3,13 @@ use Rattle.std.proofs.Common.{◌≡◌, ℕ, ◌==◌, Bool, true, false, not, 
 use Rattle.std.proofs.lemmas.Bool.{true≢false, false≢true}
 use Rattle.hib_base.specs.Tables.{Tables}
 use Rattle.hib_journal.specs.Types.{Strategy, Script, Part, Act, Reply}
-use Rattle.hib_journal.specs.Sessions.{Journal, own, changes, changes_in, is_restart, is_open, same_part}
-use Rattle.hib_journal.specs.Held.{is_begin, held}
+use Rattle.hib_journal.specs.Sessions.{Journal, own, changes, changes_in, is_restart, same_part}
+use Rattle.hib_journal.specs.Held.{held}
 use Rattle.hib_journal.specs.Next.{strategy, is_in, is_held}
 use Rattle.hib_journal.specs.Slot.{key_in}
 use Rattle.hib_journal.specs.Legal.{part_of, is_outside, fault_of, persisted, set_unless, is_there, row_of}
 use Rattle.hib_journal.specs.Lists.{entry_at, IsLate}
 use Rattle.hib_journal.specs.Runs.{is_fault}
-use Rattle.hib_journal.proofs.Open.{begun_open}
 use Rattle.hib_session.specs.Session.{own_reply}
 use Rattle.hib_engines.specs.declared.region.Region.{Region}
 use Rattle.hib_engines.specs.Registry.{Opened, without, IsRegistry}
@@ -87,7 +86,7 @@ begins_only script mine Act.Restart s p o i = absurd (true≢false i)
 begins_only script mine _ s p o i = absurd (false≢true p)
 
 pub registry_answered : Laws → (script : Script) (start : Tables) (h : Journal) (s now : ℕ) (a : Act) (r : Reply) (x y : EnginesState) → IsReady script start h s now a x → part_of a s ≡ Part.Registry →
-    own_reply script (own s h) a ≡ None → (IsRegistry x.registry h → IsLate Part.Registry now h → a ≡ Act.Begin → is_open s h ≡ false → IsServed (λ m. IsRegistry y.registry m) script h (Some s) now a r) →
+    own_reply script (own s h) a ≡ None → (IsRegistry x.registry h → IsLate Part.Registry now h → a ≡ Act.Begin → IsServed (λ m. IsRegistry y.registry m) script h (Some s) now a r) →
     y.store ≡ x.store → y.stamps ≡ x.stamps → y.regions ≡ x.regions → y.results ≡ x.results → IsAnswered script start h (Some s) now a r y
 registry_answered l script start h s now a r x y k p o served b c d e = record {
   reply = reply_any script start h (Some s) now a r v.reply;
@@ -109,7 +108,7 @@ registry_answered l script start h s now a r x y k p o served b c d e = record {
     begins = begins_only script (own s h) a s (ap (same_part Part.Registry) p) o k.due.inside
 
     v : IsServed (λ m. IsRegistry y.registry m) script h (Some s) now a r
-    v = served k.standing.registry (subst (λ q. IsLate q now h) p k.late) begins (begun_open s h k.live ∙ k.due.begins (ap is_begin begins))
+    v = served k.standing.registry (subst (λ q. IsLate q now h) p k.late) begins
 
 pub stamps_answered : Laws → (script : Script) (start : Tables) (h : Journal) (s now : ℕ) (a : Act) (r : Reply) (x y : EnginesState) → IsReady script start h s now a x → part_of a s ≡ Part.Stamps →
     (AreStamps script h x.stamps → is_for Part.Stamps a s ≡ true → IsServed (λ m. AreStamps script m y.stamps) script h (Some s) now a r) →

@@ -11,12 +11,13 @@ use Rattle.hib_journal.specs.Runs.{is_fault}
 use Rattle.hib_session.specs.declared.session.Session.{Session}
 use Rattle.hib_session.specs.Session.{IsTaken, own_reply}
 use Rattle.hib_engines.specs.Region.{is_regional, acts_on}
-use Rattle.hib_audit.specs.Standing.{EnginesState, AreStanding, WrittenState, HasWritten, AreWritten, AreSessions, AreKilled, TicksState, noted, IsReady, IsAnswered, IsJudged, IsComing, IsPartOf, IsSessionOf, AuditorState, Knows, IsTakenOr}
+use Rattle.hib_audit.specs.Standing.{EnginesState, AreStanding, WrittenState, HasWritten, AreWritten, AreSessions, TicksState, noted, IsReady, IsAnswered, IsJudged, IsComing, IsPartOf, IsSessionOf, AuditorState, Knows, IsTakenOr}
 use Rattle.hib_audit.proofs.Allowed.{is_due}
 use Rattle.hib_audit.proofs.Replies.{own_is, own_unfailing, fault_is}
 use Rattle.hib_audit.proofs.Regions.{entity_within}
 use Rattle.hib_audit.proofs.Members.{due_within, due_lives}
 use Rattle.hib_audit.proofs.Kept.{written_outside}
+use Rattle.hib_session.specs.Killed.{AreKilled}
 use Rattle.hib_audit.proofs.Outside.{sessions_outside}
 use Rattle.hib_audit.proofs.Ticking.{ticks_noted, roomy_noted}
 
@@ -214,7 +215,7 @@ pub evict_late : (script : Script) (h : Journal) (k : Key) (e : Entry) → IsCom
 evict_late script h k e c a = subst (λ (o : Act). IsLate (part_of o (number e.session)) e.tick h) a (late_of script h e c)
 
 none_dead : (xs : List Session) → AreKilled (λ s. false) xs xs
-none_dead xs = Rattle.hib_audit.proofs.Outside.none_killed xs
+none_dead xs = Rattle.hib_session.proofs.Killed.none_killed xs
 
 pub knows_evict : (script : Script) (start : Tables) (h : Journal) (k : Key) (e : Entry) (x y : AuditorState) → Knows script start h x → IsComing script h e → e.session ≡ None → e.act ≡ Act.Evict k →
     IsAnswered script start h None e.tick e.act e.reply y.engines → y.sessions ≡ x.sessions → y.written ≡ x.written → y.ticks ≡ noted e x.ticks → Knows script start (e ∷ h) y

@@ -112,19 +112,6 @@ pub record AreSessions (script : Script) (h : Journal) (sessions : List Session)
   pub killed : (s : ℕ) (y : Session) → slice_get sessions s ≡ Some y → is_killed y ≡ was_killed s h
   pub follow : (s : ℕ) (y : Session) → slice_get sessions s ≡ Some y → was_killed s h ≡ false → Follows script y (own s h)
 
--- a session that was at this place, and is killed if this says so
-pub record IsAsBefore (kills : Bool) (xs : List Session) (s : ℕ) (y : Session) : Type 0 where
-  pub before : Session
-  pub there : slice_get xs s ≡ Some before
-  pub number : number_of y ≡ number_of before
-  pub killed : is_killed y ≡ (kills || is_killed before)
-  pub same : kills ≡ false → y ≡ before
-
--- of these sessions those are killed of which this says so, and the others are as they were
-pub record AreKilled (kills : ℕ → Bool) (xs ys : List Session) : Type 0 where
-  pub all : length ys ≡ length xs
-  pub each : (s : ℕ) (y : Session) → slice_get ys s ≡ Some y → IsAsBefore (kills s) xs s y
-
 -- ---- the ticks
 
 -- the last tick of all entries, of each part and of each session, or 0

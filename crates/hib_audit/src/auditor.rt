@@ -10,11 +10,11 @@ ghost use Rattle.hib_audit.specs.Standing.{HasWritten, IsReady, IsComing, IsJudg
 use crate::engines::Engines;
 use crate::points::{AuditKind, difference, due_act};
 use crate::same::is_same_reply;
-use crate::sessions::{advance, kill_at, kill_open, note_written, open_sessions, open_written};
+use crate::sessions::{advance, note_written, open_sessions, open_written};
 use crate::ticks::Ticks;
 use crate::written::Written;
 use hib_base::{Act, Entry, Key, Reply, Script, SessionNo};
-use hib_session::Session;
+use hib_session::{Session, kill_all, kill_at};
 use std::alloc::{AllocError, Global};
 use std::marker::Model;
 
@@ -157,7 +157,7 @@ impl Auditor {
         if !is_done(&entry.reply) {
             return false;
         }
-        kill_open(&mut self.sessions, self.engines.registry());
+        kill_all(&mut self.sessions, self.engines.registry().open_sessions());
         self.engines.restart();
         self.ticks.note(entry);
         true

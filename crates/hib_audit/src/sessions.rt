@@ -3,12 +3,10 @@ ghost use Rattle.std.specs.Prelude.{◌≡◌, ◌∷◌, ◌<◌, ◌^◌, ◌=
 ghost use Rattle.hib_journal.specs.Sessions.{own, was_killed};
 ghost use Rattle.hib_journal.specs.Legal.{is_outside};
 ghost use Rattle.hib_session.specs.Session.{IsTaken};
-ghost use Rattle.hib_engines.specs.Registry.{holds};
-ghost use Rattle.hib_audit.specs.Standing.{AreSessions, AreKilled, AreWritten};
+ghost use Rattle.hib_audit.specs.Standing.{AreSessions, AreWritten};
 
 use crate::written::Written;
 use hib_base::{Entry, Script, SessionNo};
-use hib_engines::Registry;
 use hib_session::Session;
 use std::alloc::{AllocError, Global};
 
@@ -73,25 +71,4 @@ pub fn note_written(
     let _ = script;
     let _ = before;
     written[number.0 as usize].note(alloc, &entry.act)
-}
-
-/// Kills the session at a place, if there is one.
-pub fn kill_at(sessions: &mut Vec<Session>, number: usize)
-    ensures { AreKilled (λ s. number == s) sessions.old.items sessions.new.items }
-{
-    if number < sessions.len() {
-        sessions[number].kill();
-    }
-}
-
-/// Kills the sessions that are open.
-pub fn kill_open(sessions: &mut Vec<Session>, registry: &Registry)
-    requires few { length sessions.old.items < 2 ^ 32 }
-    ensures { AreKilled (λ s. holds s registry.now) sessions.old.items sessions.new.items }
-{
-    for number in 0..sessions.len() {
-        if registry.is_open(SessionNo(number as u32)) {
-            kill_at(sessions, number);
-        }
-    }
 }

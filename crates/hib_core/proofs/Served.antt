@@ -6,14 +6,12 @@ use Rattle.std.proofs.lemmas.Option.{unwrap_or-slice_get, slice_get_past, slice_
 use Rattle.std.specs.Prelude.{slice_get, slice_set, unwrap_or}
 use Rattle.hib_base.proofs.Tables.{Tested, tested}
 use Rattle.hib_journal.specs.Types.{Strategy, Script, Part, Act, Reply, Entry}
-use Rattle.hib_journal.specs.Sessions.{Journal, own, is_restart, is_open, last_tick, same_part}
-use Rattle.hib_journal.specs.Held.{is_begin}
+use Rattle.hib_journal.specs.Sessions.{Journal, own, is_restart, last_tick, same_part}
 use Rattle.hib_journal.specs.Next.{strategy}
 use Rattle.hib_journal.specs.Slot.{key_in}
 use Rattle.hib_journal.specs.Legal.{part_of, is_outside}
 use Rattle.hib_journal.specs.Lists.{IsLate}
 use Rattle.hib_journal.specs.Runs.{IsNumbered, one_if, asks, is_fault, fault_count}
-use Rattle.hib_journal.proofs.Open.{begun_open}
 use Rattle.hib_store.specs.Stores.{changes_of}
 use Rattle.hib_session.specs.Session.{own_reply}
 use Rattle.hib_engines.specs.declared.region.Region.{Region}
@@ -199,7 +197,7 @@ begins_only script mine Act.Restart s p o i = absurd (true≢false i)
 begins_only script mine _ s p o i = absurd (false≢true p)
 
 pub registry_answered : Laws → (script : Script) (from : Origin) (h : Journal) (s now : ℕ) (a : Act) (r : Reply) (x y : PartsState) → now ≡ length h + 1 → IsReady script from h s a x → part_of a s ≡ Part.Registry →
-    own_reply script (own s h) a ≡ None → (IsRegistry x.registry h → IsLate Part.Registry now h → a ≡ Act.Begin → is_open s h ≡ false → IsServed (λ m. IsRegistry y.registry m) script h (Some s) now a r) →
+    own_reply script (own s h) a ≡ None → (IsRegistry x.registry h → IsLate Part.Registry now h → a ≡ Act.Begin → IsServed (λ m. IsRegistry y.registry m) script h (Some s) now a r) →
     is_fault r ≡ false → y.store ≡ x.store → y.stamps ≡ x.stamps → y.regions ≡ x.regions → y.results ≡ x.results → IsAnswered script from h s a r y
 registry_answered l script from h s now a r x y m k p o served f b c d e = record {
   reply = reply_any script from.tables h (Some s) (length h + 1) a r v.reply (ap (same_part Part.Store) p);
@@ -218,7 +216,7 @@ registry_answered l script from h s now a r x y m k p o served f b c d e = recor
 
     v : IsServed (λ m. IsRegistry y.registry m) script h (Some s) (length h + 1) a r
     v = subst (λ n. IsServed (λ m. IsRegistry y.registry m) script h (Some s) n a r) m
-        (served k.parts.registry (subst (λ n. IsLate Part.Registry n h) (sym m) (late Part.Registry h k.numbered)) begins (begun_open s h k.live ∙ k.due.begins (ap is_begin begins)))
+        (served k.parts.registry (subst (λ n. IsLate Part.Registry n h) (sym m) (late Part.Registry h k.numbered)) begins)
 
 pub stamps_answered : Laws → (script : Script) (from : Origin) (h : Journal) (s now : ℕ) (a : Act) (r : Reply) (x y : PartsState) → now ≡ length h + 1 → IsReady script from h s a x → part_of a s ≡ Part.Stamps →
     (AreStamps script h x.stamps → is_for Part.Stamps a s ≡ true → IsServed (λ m. AreStamps script m y.stamps) script h (Some s) now a r) →

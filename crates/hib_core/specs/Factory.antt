@@ -136,19 +136,6 @@ pub record Moves (script : Script) (from : Origin) (h new : Journal) (x w : Part
   pub inside : is_outside act ≡ false
   pub served : Serves script from act h new x w y z
 
--- a session that was at this place, and is killed where this says so
-pub record IsAsBefore (kills : Bool) (xs : List Session) (s : ℕ) (y : Session) : Type 0 where
-  pub before : Session
-  pub there : slice_get xs s ≡ Some before
-  pub number : number_of y ≡ number_of before
-  pub killed : is_killed y ≡ (kills || is_killed before)
-  pub same : kills ≡ false → y ≡ before
-
--- of these sessions those are killed of which this says so, and the others are as they were
-pub record AreKilled (kills : ℕ → Bool) (xs ys : List Session) : Type 0 where
-  pub all : length ys ≡ length xs
-  pub each : (s : ℕ) (y : Session) → slice_get ys s ≡ Some y → IsAsBefore (kills s) xs s y
-
 -- how much is left of a session
 abbrev pub left_or : Script → Option Session → ℕ
 left_or script None = 0

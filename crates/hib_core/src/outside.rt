@@ -1,14 +1,13 @@
 // What comes from outside of the sessions: kills, evictions and restarts.
-ghost use Rattle.std.specs.Prelude.{◌≡◌, ◌∷◌, ◌+◌, ◌<◌, ◌≤◌, ◌^◌, ◌==◌, List, length, OnOk, OnErr, IsOk, true, false};
+ghost use Rattle.std.specs.Prelude.{◌≡◌, ◌∷◌, ◌+◌, ◌<◌, ◌≤◌, List, length, OnOk, OnErr, IsOk, true, false};
 ghost use Rattle.hib_base.specs.declared.scripts.Order.{Order};
 ghost use Rattle.hib_journal.specs.Kept.{past};
 ghost use Rattle.hib_journal.specs.Next.{is_cached};
 ghost use Rattle.hib_journal.specs.Sessions.{is_open};
 ghost use Rattle.hib_journal.specs.Played.{play_order};
 ghost use Rattle.hib_core.specs.Standing.{outside_entry};
-ghost use Rattle.hib_engines.specs.Registry.{holds};
 ghost use Rattle.hib_core.specs.Bound.{outside_count};
-ghost use Rattle.hib_core.specs.Factory.{IsRun, IsAsked, AreSessions, AreKilled, HasGrown};
+ghost use Rattle.hib_core.specs.Factory.{IsRun, IsAsked, AreSessions, HasGrown};
 ghost use Rattle.hib_core.specs.Playing.{played, Leads};
 ghost use Rattle.hib_session.specs.declared.session.Session.{Session};
 
@@ -16,11 +15,11 @@ use crate::names::Name;
 use crate::parts::Parts;
 use crate::turns::{add, reserve_tick};
 use hib_base::{Act, Entry, Key, Reply, SessionNo, Tick};
-use hib_engines::{Registry, laws};
+use hib_engines::laws;
 use hib_journal::{Journal, part_of};
 use hib_law::law;
 use hib_outside::Keeper;
-use hib_session::Session;
+use hib_session::{Session, kill_all, kill_at};
 use std::alloc::{AllocError, Global};
 
 /// Adds the entry of an act from outside, to a journal that has room for it. It takes no memory.
@@ -38,27 +37,6 @@ fn tell(journal: &mut Journal, tick: Tick, act: Act, reply: Reply)
         reply,
     };
     add(journal, entry);
-}
-
-/// Kills the session at a place, if there is one.
-fn kill_at(sessions: &mut Vec<Session>, number: usize)
-    ensures { AreKilled (λ s. number == s) sessions.old.items sessions.new.items }
-{
-    if number < sessions.len() {
-        sessions[number].kill();
-    }
-}
-
-/// Kills the sessions that are open.
-fn kill_open(sessions: &mut Vec<Session>, registry: &Registry)
-    requires few { length sessions.old.items < 2 ^ 32 }
-    ensures { AreKilled (λ s. holds s registry.now) sessions.old.items sessions.new.items }
-{
-    for number in 0..sessions.len() {
-        if registry.is_open(SessionNo(number as u32)) {
-            kill_at(sessions, number);
-        }
-    }
 }
 
 /// Whether a session is open.
@@ -153,7 +131,7 @@ pub fn restart<K: Keeper, N: Name>(
     law();
     let now = reserve_tick(journal)?;
     tell(journal, now, Act::Restart, Reply::Done);
-    kill_open(sessions, &parts.registry);
+    kill_all(sessions, parts.registry.open_sessions());
     parts.restart();
     Ok(())
 }

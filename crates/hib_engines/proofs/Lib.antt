@@ -1,6 +1,7 @@
 pub mod Outcomes
 pub mod QueryTables
 pub mod Opened
+pub mod Indexed
 pub mod Regions
 pub mod Grows
 pub mod Calm

@@ -1,12 +1,12 @@
 -- The open sessions are those of the journal, after each entry.
-use Rattle.std.proofs.Common.{◌≡◌, ℕ, ◌≤◌, ◌<◌, Bool, true, false, cond, ◌||◌, ◌==◌, List, [], ◌∷◌, ◌++◌, Some, None, Option, refl, sym, ap, ◌∙◌, subst, arith, inl, inr}
+use Rattle.std.proofs.Common.{◌≡◌, ℕ, ◌≤◌, ◌<◌, Bool, true, false, cond, ◌||◌, ◌==◌, List, [], ◌∷◌, ◌++◌, Some, None, Option, is_some, refl, sym, ap, ◌∙◌, subst, arith, inl, inr}
 use Rattle.std.proofs.lemmas.Bool.{true≢false, false≢true, and_parts, and_from, eqb-true, eq-eqb, ne_eqb}
 use Rattle.hib_base.proofs.Tables.{Tested, tested}
 use Rattle.hib_journal.specs.Types.{Part, Act, Entry}
 use Rattle.hib_journal.specs.Sessions.{Journal, is_by, is_session, is_open, open_after, time, time_after, is_live, least_live, floor, same_part}
 use Rattle.hib_journal.specs.Legal.{part_of}
 use Rattle.hib_journal.specs.Held.{is_begin}
-use Rattle.hib_engines.specs.Registry.{Opened, Each, floor_in, without, time_of, AreRising, time_if_open, opened_after, last_of, IsRegistry}
+use Rattle.hib_engines.specs.Registry.{Opened, Each, floor_in, holds, without, time_of, AreRising, time_if_open, opened_after, last_of, IsRegistry}
 
 -- the floor
 
@@ -76,10 +76,10 @@ least_most whole (e ∷ h) now = least_less whole h e now now (least_most whole 
 abbrev shown : Bool → ℕ → Option ℕ
 shown o t = cond o (Some t) None
 
-none_some : (t : ℕ) → ◌≡◌ {A = Option ℕ} None (Some t) → ⊥
+pub none_some : (t : ℕ) → ◌≡◌ {A = Option ℕ} None (Some t) → ⊥
 none_some t p = cc
 
-same_some : (t u : ℕ) → Some t ≡ Some u → t ≡ u
+pub same_some : (t u : ℕ) → Some t ≡ Some u → t ≡ u
 same_some t u p = cc
 
 closed : (o : Bool) (t : ℕ) → None ≡ shown o t → o ≡ false
@@ -90,20 +90,36 @@ opened : (o : Bool) (t u : ℕ) → Some u ≡ shown o t → (o ≡ true) × (t 
 opened true t u p = (refl, sym (same_some u t p))
 opened false t u p = absurd (none_some u (sym p))
 
-self_eq : (n : ℕ) → (n == n) ≡ true
+pub self_eq : (n : ℕ) → (n == n) ≡ true
 self_eq n = eq-eqb n n refl
 
-time_of_self : (p : ℕ × ℕ) (ps : Opened) → time_of (p ∷ ps) p.0 ≡ Some p.1
+pub time_of_self : (p : ℕ × ℕ) (ps : Opened) → time_of (p ∷ ps) p.0 ≡ Some p.1
 time_of_self p ps = rw (self_eq p.0) refl
 
 -- a time that is found is one of the list
-found : (P : ℕ → Type 0) (ps : Opened) (s t : ℕ) → Each P ps → time_of ps s ≡ Some t → P t
+pub found : (P : ℕ → Type 0) (ps : Opened) (s t : ℕ) → Each P ps → time_of ps s ≡ Some t → P t
 found P [] s t a e = absurd (none_some t e)
 found P (p ∷ ps) s t a e = by_test (tested (p.0 == s)) (λ q. found P ps s t a.1 q)
   where
     by_test : Tested (p.0 == s) → (time_of ps s ≡ Some t → P t) → P t
     by_test (inl q) f = subst P (same_some p.1 t (sym (rw q refl) ∙ e)) a.0
     by_test (inr q) f = f (sym (rw q refl) ∙ e)
+
+-- whether a session is open
+pub held_time : (ps : Opened) (s : ℕ) → holds s ps ≡ is_some (time_of ps s)
+held_time [] s = refl
+held_time (p ∷ ps) s = by_test (tested (p.0 == s)) (held_time ps s)
+  where
+    by_test : Tested (p.0 == s) → holds s ps ≡ is_some (time_of ps s) → holds s (p ∷ ps) ≡ is_some (time_of (p ∷ ps) s)
+    by_test (inl q) i = rw q refl
+    by_test (inr q) i = rw q i
+
+open_shown : (o : Bool) (t : ℕ) → is_some (shown o t) ≡ o
+open_shown true t = refl
+open_shown false t = refl
+
+pub holds_open : (ps : Opened) (h : Journal) (s : ℕ) → IsRegistry ps h → holds s ps ≡ is_open s h
+holds_open ps h s w = held_time ps s ∙ (ap is_some (w.each s) ∙ open_shown (is_open s h) (time s h))
 
 -- the first session's time is the floor
 pub floor_is : (ps : Opened) (h : Journal) (now : ℕ) → IsRegistry ps h → last_of h < now → floor_in ps now ≡ floor h now
@@ -124,7 +140,7 @@ floor_is (p ∷ ps) h now r l =
 
 -- after an entry
 
-time_of-append : (ps : Opened) (n t s : ℕ) → time_of ps s ≡ None → time_of (ps ++ (n, t) ∷ []) s ≡ cond (n == s) (Some t) None
+pub time_of-append : (ps : Opened) (n t s : ℕ) → time_of ps s ≡ None → time_of (ps ++ (n, t) ∷ []) s ≡ cond (n == s) (Some t) None
 time_of-append [] n t s e = refl
 time_of-append (p ∷ ps) n t s e = by_test (tested (p.0 == s)) (λ q. time_of-append ps n t s q)
   where
@@ -132,7 +148,7 @@ time_of-append (p ∷ ps) n t s e = by_test (tested (p.0 == s)) (λ q. time_of-a
     by_test (inl q) f = absurd (none_some p.1 (sym e ∙ rw q refl))
     by_test (inr q) f = rw q (f (sym (rw q refl) ∙ e))
 
-time_of-front : (ps : Opened) (n t s : ℕ) → (n == s) ≡ false → time_of (ps ++ (n, t) ∷ []) s ≡ time_of ps s
+pub time_of-front : (ps : Opened) (n t s : ℕ) → (n == s) ≡ false → time_of (ps ++ (n, t) ∷ []) s ≡ time_of ps s
 time_of-front [] n t s d = rw d refl
 time_of-front (p ∷ ps) n t s d = by_test (tested (p.0 == s)) (time_of-front ps n t s d)
   where
@@ -144,7 +160,7 @@ no_time : (b : Bool) → ◌≡◌ {A = Option ℕ} None (cond b None None)
 no_time true = refl
 no_time false = refl
 
-time_of-without : (ps : Opened) (n s : ℕ) → time_of (without n ps) s ≡ cond (n == s) None (time_of ps s)
+pub time_of-without : (ps : Opened) (n s : ℕ) → time_of (without n ps) s ≡ cond (n == s) None (time_of ps s)
 time_of-without [] n s = no_time (n == s)
 time_of-without (p ∷ ps) n s = by_first (tested (p.0 == n)) (tested (p.0 == s)) (time_of-without ps n s)
   where
@@ -169,22 +185,22 @@ same_if true t = refl
 same_if false t = refl
 
 -- one session, by an act of somebody
-each_step : (a : Act) (by : Option ℕ) (now s : ℕ) (o : Bool) (t : ℕ) (ps : Opened) → time_of ps s ≡ shown o t → (is_begin a ≡ true → is_session s by ≡ true → o ≡ false) →
+each_step : (a : Act) (by : Option ℕ) (now s : ℕ) (o : Bool) (t : ℕ) (ps : Opened) → time_of ps s ≡ shown o t →
     time_of (opened_after now by a ps) s ≡ shown (open_after s by a o) (cond (is_session s by) (time_after a now t) t)
-each_step Act.Begin (Some n) now s o t ps e f = by_test (tested (n == s))
+each_step Act.Begin (Some n) now s o t ps e = by_test (tested (n == s))
   where
-    by_test : Tested (n == s) → time_of (ps ++ (n, now) ∷ []) s ≡ shown ((n == s) || o) (cond (n == s) now t)
-    by_test (inl q) = let c : o ≡ false = f refl q in time_of-append ps n now s (e ∙ rw c refl) ∙ rw q refl
-    by_test (inr q) = time_of-front ps n now s q ∙ (e ∙ rw q refl)
-each_step Act.Begin None now s o t ps e f = e
-each_step Act.End (Some n) now s o t ps e f = time_of-without ps n s ∙ (ap (λ x. cond (n == s) None x) e ∙ (shown_if (n == s) o t ∙ ap (shown (cond (n == s) false o)) (sym (same_if (n == s) t))))
-each_step Act.End None now s o t ps e f = e
-each_step (Act.Kill n) by now s o t ps e f = time_of-without ps n s ∙ (ap (λ x. cond (n == s) None x) e ∙ (shown_if (n == s) o t ∙ ap (shown (cond (n == s) false o)) (sym (same_if (is_session s by) t))))
-each_step Act.Restart by now s o t ps e f = refl
-each_step _ by now s o t ps e f = e ∙ ap (shown o) (sym (same_if (is_session s by) t))
+    by_test : Tested (n == s) → time_of (without n ps ++ (n, now) ∷ []) s ≡ shown ((n == s) || o) (cond (n == s) now t)
+    by_test (inl q) = time_of-append (without n ps) n now s (time_of-without ps n s ∙ rw q refl) ∙ rw q refl
+    by_test (inr q) = time_of-front (without n ps) n now s q ∙ (time_of-without ps n s ∙ rw q e)
+each_step Act.Begin None now s o t ps e = e
+each_step Act.End (Some n) now s o t ps e = time_of-without ps n s ∙ (ap (λ x. cond (n == s) None x) e ∙ (shown_if (n == s) o t ∙ ap (shown (cond (n == s) false o)) (sym (same_if (n == s) t))))
+each_step Act.End None now s o t ps e = e
+each_step (Act.Kill n) by now s o t ps e = time_of-without ps n s ∙ (ap (λ x. cond (n == s) None x) e ∙ (shown_if (n == s) o t ∙ ap (shown (cond (n == s) false o)) (sym (same_if (is_session s by) t))))
+each_step Act.Restart by now s o t ps e = refl
+each_step _ by now s o t ps e = e ∙ ap (shown o) (sym (same_if (is_session s by) t))
 
 -- times that are so, without a session and with one more
-each_without : (P : ℕ → Type 0) (ps : Opened) (n : ℕ) → Each P ps → Each P (without n ps)
+pub each_without : (P : ℕ → Type 0) (ps : Opened) (n : ℕ) → Each P ps → Each P (without n ps)
 each_without P [] n a = tt
 each_without P (p ∷ ps) n a = by_test (tested (p.0 == n)) (each_without P ps n a.1)
   where
@@ -192,15 +208,15 @@ each_without P (p ∷ ps) n a = by_test (tested (p.0 == n)) (each_without P ps n
     by_test (inl q) i = rw q i
     by_test (inr q) i = rw q (a.0, i)
 
-each_more : (P : ℕ → Type 0) (ps : Opened) (n t : ℕ) → Each P ps → P t → Each P (ps ++ (n, t) ∷ [])
+pub each_more : (P : ℕ → Type 0) (ps : Opened) (n t : ℕ) → Each P ps → P t → Each P (ps ++ (n, t) ∷ [])
 each_more P [] n t a x = (x, tt)
 each_more P (p ∷ ps) n t a x = (a.0, each_more P ps n t a.1 x)
 
-each_weaker : (P Q : ℕ → Type 0) (ps : Opened) → ((t : ℕ) → P t → Q t) → Each P ps → Each Q ps
+pub each_weaker : (P Q : ℕ → Type 0) (ps : Opened) → ((t : ℕ) → P t → Q t) → Each P ps → Each Q ps
 each_weaker P Q [] f a = tt
 each_weaker P Q (p ∷ ps) f a = (f p.1 a.0, each_weaker P Q ps f a.1)
 
-rising_without : (ps : Opened) (n : ℕ) → AreRising ps → AreRising (without n ps)
+pub rising_without : (ps : Opened) (n : ℕ) → AreRising ps → AreRising (without n ps)
 rising_without [] n a = tt
 rising_without (p ∷ ps) n a = by_test (tested (p.0 == n)) (rising_without ps n a.1)
   where
@@ -208,7 +224,7 @@ rising_without (p ∷ ps) n a = by_test (tested (p.0 == n)) (rising_without ps n
     by_test (inl q) i = rw q i
     by_test (inr q) i = rw q (each_without (λ t. p.1 < t) ps n a.0, i)
 
-rising_more : (ps : Opened) (n t : ℕ) → AreRising ps → Each (λ u. u < t) ps → AreRising (ps ++ (n, t) ∷ [])
+pub rising_more : (ps : Opened) (n t : ℕ) → AreRising ps → Each (λ u. u < t) ps → AreRising (ps ++ (n, t) ∷ [])
 rising_more [] n t a b = (tt, tt)
 rising_more (p ∷ ps) n t a b = (each_more (λ u. p.1 < u) ps n t a.0 b.0, rising_more ps n t a.1 b.1)
 
@@ -230,10 +246,13 @@ fewer ps n last x = record {
 
 times_step : (a : Act) (by : Option ℕ) (now last : ℕ) (ps : Opened) → AreTimes ps last → last < now → AreTimes (opened_after now by a ps) now
 times_step Act.Begin (Some n) now last ps x e = record {
-  rising = rising_more ps n now x.rising (each_weaker (λ t. t ≤ last) (λ t. t < now) ps (λ t l. omega (arith, l, e)) x.until);
-  since = each_more (λ t. 1 ≤ t) ps n now x.since (omega (arith, e));
-  until = each_more (λ t. t ≤ now) ps n now (later ps last now x e).until (omega arith);
+  rising = rising_more (without n ps) n now rest.rising (each_weaker (λ t. t ≤ last) (λ t. t < now) (without n ps) (λ t l. omega (arith, l, e)) rest.until);
+  since = each_more (λ t. 1 ≤ t) (without n ps) n now rest.since (omega (arith, e));
+  until = each_more (λ t. t ≤ now) (without n ps) n now (later (without n ps) last now rest e).until (omega arith);
 }
+  where
+    rest : AreTimes (without n ps) last
+    rest = fewer ps n last x
 times_step Act.Begin None now last ps x e = later ps last now x e
 times_step Act.End (Some n) now last ps x e = later (without n ps) last now (fewer ps n last x) e
 times_step Act.End None now last ps x e = later ps last now x e
@@ -250,9 +269,9 @@ time_step s e h = by_test (tested (is_by s e))
 
 -- the list stands for the journal with an entry of the registry
 pub registry_step : (ps : Opened) (e : Entry) (h : Journal) → IsRegistry ps h → same_part Part.Registry e.part ≡ true → last_of h < e.tick →
-    (is_begin e.act ≡ true → (s : ℕ) → is_session s e.session ≡ true → is_open s h ≡ false) → IsRegistry (opened_after e.tick e.session e.act ps) (e ∷ h)
-registry_step ps e h r q t f = record {
-  each = λ s. each_step e.act e.session e.tick s (is_open s h) (time s h) ps (r.each s) (λ b q. f b s q) ∙ ap (shown (open_after s e.session e.act (is_open s h))) (sym (time_step s e h));
+    IsRegistry (opened_after e.tick e.session e.act ps) (e ∷ h)
+registry_step ps e h r q t = record {
+  each = λ s. each_step e.act e.session e.tick s (is_open s h) (time s h) ps (r.each s) ∙ ap (shown (open_after s e.session e.act (is_open s h))) (sym (time_step s e h));
   rising = times.rising;
   since = times.since;
   until = rw q times.until;
@@ -268,15 +287,11 @@ untouched (Act.Kill n) by now s ps q = absurd (true≢false q)
 untouched Act.Restart by now s ps q = absurd (true≢false q)
 untouched _ by now s ps q = refl
 
-begins_in : (a : Act) (s : ℕ) → same_part Part.Registry (part_of a s) ≡ false → is_begin a ≡ true → ⊥
-begins_in Act.Begin s q b = true≢false q
-begins_in _ s q b = false≢true b
-
 -- and with an entry of another part
 pub registry_stays : (ps : Opened) (e : Entry) (h : Journal) (n : ℕ) → IsRegistry ps h → e.part ≡ part_of e.act n → same_part Part.Registry (part_of e.act n) ≡ false → IsRegistry ps (e ∷ h)
 registry_stays ps e h n r p q = record {
   each = λ s. sym (ap (λ xs. time_of xs s) (untouched e.act e.session e.tick n ps q))
-      ∙ (each_step e.act e.session e.tick s (is_open s h) (time s h) ps (r.each s) (λ b x. absurd (begins_in e.act n q b)) ∙ ap (shown (open_after s e.session e.act (is_open s h))) (sym (time_step s e h)));
+      ∙ (each_step e.act e.session e.tick s (is_open s h) (time s h) ps (r.each s) ∙ ap (shown (open_after s e.session e.act (is_open s h))) (sym (time_step s e h)));
   rising = r.rising;
   since = r.since;
   until = let d : same_part Part.Registry e.part ≡ false = ap (same_part Part.Registry) p ∙ q in rw d r.until;

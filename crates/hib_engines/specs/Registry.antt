@@ -1,6 +1,7 @@
 -- The open sessions, and that they are those of a journal.
-use Rattle.std.specs.Prelude.{◌≡◌, ℕ, ◌≤◌, ◌<◌, Bool, cond, not, ◌==◌, List, [], ◌∷◌, ◌++◌, Some, None, Option}
+use Rattle.std.specs.Prelude.{◌≡◌, ℕ, ◌≤◌, ◌<◌, Bool, false, cond, not, nat_eq, ◌==◌, List, [], ◌∷◌, ◌++◌, map, Some, None, Option}
 use Rattle.std.specs.List.{filter, list_any}
+use Rattle.std.specs.Map.{lookup}
 use Rattle.hib_journal.specs.Types.{Part, Act}
 use Rattle.hib_journal.specs.Sessions.{Journal, is_open, time, same_part, last_tick}
 
@@ -18,7 +19,7 @@ without s ps = filter (λ p. not (p.0 == s)) ps
 
 abbrev pub with_begun : ℕ → Option ℕ → Opened → Opened
 with_begun now None ps = ps
-with_begun now (Some s) ps = ps ++ (s, now) ∷ []
+with_begun now (Some s) ps = without s ps ++ (s, now) ∷ []
 
 abbrev pub with_ended : Option ℕ → Opened → Opened
 with_ended None ps = ps
@@ -63,3 +64,19 @@ pub record IsRegistry (open_sessions : List (ℕ × ℕ)) (h : Journal) : Type 0
   pub rising : AreRising open_sessions
   pub since : Each (λ t. 1 ≤ t) open_sessions
   pub until : Each (λ t. t ≤ last_of h) open_sessions
+
+-- ---- how they are kept: the sessions by their times, and the times by their sessions
+
+abbrev pub by_session : List (ℕ × ℕ) → Opened
+by_session begun = map (λ e. (e.1, e.0)) begun
+
+-- no session stands twice
+abbrev pub AreApart : Opened → Type 0
+AreApart [] = Unit {0}
+AreApart (p ∷ ps) = (holds p.0 ps ≡ false) × AreApart ps
+
+-- both are of the same sessions, each of which stands once, in order of the times
+pub record IsIndexed (begun times : List (ℕ × ℕ)) : Type 0 where
+  pub same : (s : ℕ) → lookup (nat_eq s) times ≡ time_of (by_session begun) s
+  pub rising : AreRising (by_session begun)
+  pub apart : AreApart (by_session begun)

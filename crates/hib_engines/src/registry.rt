@@ -1,31 +1,40 @@
 // The engine of the registry: which sessions have a transaction open.
-ghost use Rattle.std.specs.Prelude.{◌≡◌, ◌∷◌, ◌++◌, ◌<◌, [], ℕ, Some, None, true, false, OnErr, OnOk, IfOk};
+ghost use Rattle.std.specs.Prelude.{◌≡◌, ◌↔◌, ◌∷◌, ◌++◌, ◌<◌, ◌==◌, [], ℕ, IsTrue, None, Some, OnErr, OnOk, IfOk, false};
+ghost use Rattle.std.specs.List.{list_any};
 ghost use Rattle.hib_base.specs.declared.entries.Act.{Act};
 ghost use Rattle.hib_base.specs.declared.replies.Reply.{Reply};
 ghost use Rattle.hib_base.specs.declared.scripts.Script.{Script as Said};
 ghost use Rattle.hib_journal.specs.Types.{Part};
-ghost use Rattle.hib_journal.specs.Sessions.{Journal, is_open};
+ghost use Rattle.hib_journal.specs.Sessions.{Journal};
 ghost use Rattle.hib_journal.specs.Lists.{entry_at, IsLate};
 ghost use Rattle.hib_journal.specs.Runs.{is_fault};
-ghost use Rattle.hib_engines.specs.Registry.{floor_in, without, holds, IsRegistry};
+ghost use Rattle.hib_engines.specs.Registry.{Each, floor_in, without, holds, IsRegistry};
 ghost use Rattle.hib_engines.specs.Served.{IsServed};
 
 use hib_base::{Act, Reply, SessionNo, Tick};
+use indexmap::IndexMap;
 use std::alloc::{AllocError, Global};
+use std::collections::BTreeMap;
 use std::marker::Model;
 
-/// The open sessions with their times, in the order in which they began.
+/// The open sessions with their times. The floor and a session's own time are found without a search.
 #[derive(Drop)]
 pub struct Registry {
-    open: Vec<(SessionNo, Tick)>,
+    /// The sessions by the ticks at which they began.
+    begun: BTreeMap<u64, SessionNo>,
+    /// Their ticks by the sessions.
+    times: IndexMap<SessionNo, Tick>,
 }
 
 impl Model for Registry {
     ghost use Rattle.std.specs.Prelude.{ℕ, List};
+    ghost use Rattle.hib_engines.specs.Registry.{by_session, IsIndexed};
 
     ghost Value = { List (ℕ × ℕ) };
 
-    ghost view = { λ r. r.open.items };
+    ghost view = { λ r. by_session r.begun.entries };
+
+    ghost invariant = { λ r. IsIndexed r.begun.entries r.times.entries };
 }
 
 impl Registry {
@@ -34,7 +43,8 @@ impl Registry {
         ensures { result ≡ [] }
     {
         Registry {
-            open: Vec::new(alloc),
+            begun: BTreeMap::new(alloc),
+            times: IndexMap::new(alloc),
         }
     }
 
@@ -42,26 +52,55 @@ impl Registry {
     pub fn floor(&self, now: Tick) -> Tick
         ensures { result ≡ floor_in self.now now }
     {
-        match self.open.first() {
-            Some(oldest) => oldest.1,
+        match self.begun.first_key_value() {
+            Some((oldest, _)) => Tick(*oldest),
             None => now,
         }
     }
 
-    /// A session begins: the least time among the open sessions is its floor.
-    fn begin(&mut self, session: SessionNo, now: Tick) -> Result<Reply, AllocError>
-        ensures reply { IfOk result (λ r. r ≡ Reply.Began (floor_in self.old now)) }
-        ensures state { OnOk result (self.new ≡ self.old ++ (session, now) ∷ []) }
+    /// Whether all open sessions began before this tick.
+    fn is_after_all(&self, now: Tick) -> bool
+        ensures { IsTrue result ↔ Each (λ t. t < now) self.now }
+    {
+        match self.begun.last_key_value() {
+            Some((newest, _)) => *newest < now.0,
+            None => true,
+        }
+    }
+
+    /// A session is open from this tick on, and no more from an earlier one. At an error nothing has changed.
+    fn open_at(&mut self, session: SessionNo, now: Tick) -> Result<(), AllocError>
+        requires { Each (λ t. t < now) self.old }
+        ensures ok { OnOk result (self.new ≡ without session self.old ++ (session, now) ∷ []) }
         ensures err { OnErr result (self.new ≡ self.old) }
     {
+        self.times.reserve(1)?;
+        self.begun.insert(now.0, session)?;
+        if let Some(before) = self.times.insert(session, now)? {
+            self.begun.remove(&before.0);
+        }
+        Ok(())
+    }
+
+    /// A session begins: the least time among the open sessions is its floor. At an error nothing has changed.
+    fn begin(&mut self, session: SessionNo, now: Tick) -> Result<Reply, AllocError>
+        ensures reply { IfOk result (λ r. Each (λ t. t < now) self.old → r ≡ Reply.Began (floor_in self.old now)) }
+        ensures state { OnOk result (Each (λ t. t < now) self.old → self.new ≡ without session self.old ++ (session, now) ∷ []) }
+        ensures calm { IfOk result (λ r. is_fault r ≡ false) }
+        ensures err { OnErr result (self.new ≡ self.old) }
+    {
+        if !self.is_after_all(now) {
+            // Nobody begins before one that is open.
+            return Ok(Reply::Done);
+        }
         let floor = self.floor(now);
-        self.open.push((session, now))?;
+        self.open_at(session, now)?;
         Ok(Reply::Began { floor })
     }
 
     /// Answers the Begin of a session at this tick. At an error nothing has changed.
     pub fn serve(&mut self, session: SessionNo, act: &Act, now: Tick) -> Result<Reply, AllocError>
-        ensures answered { IfOk result (λ r. (script : Said) (l : Journal) → IsRegistry self.old l → IsLate Part.Registry now l → act.now ≡ Act.Begin → is_open session l ≡ false
+        ensures answered { IfOk result (λ r. (script : Said) (l : Journal) → IsRegistry self.old l → IsLate Part.Registry now l → act.now ≡ Act.Begin
             → IsServed (λ m. IsRegistry self.new m) script l (Some session) now act.now r) }
         ensures calm { IfOk result (λ r. is_fault r ≡ false) }
         ensures err { OnErr result (self.new ≡ self.old) }
@@ -77,7 +116,14 @@ impl Registry {
     pub fn is_open(&self, session: SessionNo) -> bool
         ensures { result ≡ holds session self.now }
     {
-        self.open.iter().any(|entry| entry.0 == session)
+        self.times.contains_key(&session)
+    }
+
+    /// The open sessions, in no order.
+    pub fn open_sessions(&self) -> &[SessionNo]
+        ensures { (s : ℕ) → list_any (λ n. n == s) result.now ≡ holds s self.now }
+    {
+        self.times.keys().as_slice()
     }
 
     /// A session ends. It takes no memory.
@@ -86,7 +132,9 @@ impl Registry {
         ensures stands { (l : Journal) (now : ℕ) (r : Reply) → IsRegistry self.old l → IsLate Part.Registry now l
             → IsRegistry self.new (entry_at now (Some session) Act.End r ∷ l) }
     {
-        self.open.retain(|entry| entry.0 != session);
+        if let Some(time) = self.times.swap_remove(&session) {
+            self.begun.remove(&time.0);
+        }
     }
 
     /// A session was killed. It takes no memory.
@@ -104,6 +152,7 @@ impl Registry {
         ensures stands { (l : Journal) (now : ℕ) → IsRegistry self.old l → IsLate Part.Registry now l
             → IsRegistry self.new (entry_at now None Act.Restart Reply.Done ∷ l) }
     {
-        self.open.clear();
+        self.begun.clear();
+        self.times.clear();
     }
 }

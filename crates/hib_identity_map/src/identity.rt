@@ -3,8 +3,8 @@ ghost use Rattle.std.specs.Prelude.{◌≡◌, ◌↔◌, ◌≢◌, ◌<◌, �
 ghost use Rattle.hib_identity_map.specs.Identity.{empty, look_in, put_in, drop_in, add_in, change_in, written, as_removed, with_sets, remove_last};
 
 use crate::instance::{mark, set_base, set_cells};
-use hib_base::{Held, Key, Row, Seq, Sets};
-use indexmap::IndexMap;
+use hib_base::{Held, Key, Row, Sets};
+use indexmap::{IndexMap, IndexSet};
 use std::alloc::{AllocError, Global};
 use std::marker::Model;
 
@@ -13,7 +13,7 @@ use std::marker::Model;
 #[derive(Drop)]
 pub struct IdentityMap {
     entries: IndexMap<Key, Held>,
-    removals: Seq<Key>,
+    removals: IndexSet<Key>,
 }
 
 impl Model for IdentityMap {
@@ -21,7 +21,7 @@ impl Model for IdentityMap {
 
     ghost Value = { MapState };
 
-    ghost view = { λ m. record { held = m.entries.entries; removals = m.removals } };
+    ghost view = { λ m. record { held = m.entries.entries; removals = m.removals.keys } };
 }
 
 impl IdentityMap {
@@ -31,7 +31,7 @@ impl IdentityMap {
     {
         IdentityMap {
             entries: IndexMap::new(alloc),
-            removals: Seq::new(alloc),
+            removals: IndexSet::new(alloc),
         }
     }
 
@@ -103,12 +103,11 @@ impl IdentityMap {
     }
 
     /// Notes that a key was removed, as the last one. At an error nothing has changed.
-    pub fn note_removal(&mut self, alloc: Global, key: Key) -> Result<(), AllocError>
+    pub fn note_removal(&mut self, key: Key) -> Result<(), AllocError>
         ensures ok { OnOk result (self.new ≡ record self.old { removals = remove_last key self.old.removals }) }
         ensures err { OnErr result (self.new ≡ self.old) }
     {
-        self.removals = moved_last(alloc, self.removals.as_slice(), key)?;
-        Ok(())
+        move_last(&mut self.removals, key)
     }
 
     /// The keys that were removed, in order of their last removals.
@@ -200,18 +199,15 @@ fn pair_at(entries: &IndexMap<Key, Held>, i: usize) -> (Key, &Held)
     (*key, held)
 }
 
-// The keys with this one behind the others.
-fn moved_last(alloc: Global, keys: &[Key], key: Key) -> Result<Seq<Key>, AllocError>
-    ensures { IfOk result (λ ks. ks ≡ remove_last key keys.now) }
+// Puts a key behind the others, in place of where it was.
+fn move_last(keys: &mut IndexSet<Key>, key: Key) -> Result<(), AllocError>
+    ensures ok { OnOk result (keys.new.keys ≡ remove_last key keys.old.keys) }
+    ensures err { OnErr result (keys.new.keys ≡ keys.old.keys) }
 {
-    let mut moved = Seq::new(alloc);
-    for other in keys {
-        if *other != key {
-            moved.push(*other)?;
-        }
-    }
-    moved.push(key)?;
-    Ok(moved)
+    keys.reserve(1)?;
+    keys.shift_remove(&key);
+    keys.insert(key)?;
+    Ok(())
 }
 
 fn base_at(entries: &mut IndexMap<Key, Held>, key: Key, base: Row)

@@ -3,14 +3,13 @@ use Rattle.std.proofs.Common.{◌≡◌, ℕ, true, false, [], ◌∷◌, Some, 
 use Rattle.std.proofs.lemmas.Bool.{true≢false, false≢true}
 use Rattle.hib_base.specs.Tables.{Tables}
 use Rattle.hib_journal.specs.Types.{Script, Act, Reply, Part}
-use Rattle.hib_journal.specs.Sessions.{Journal, is_open}
+use Rattle.hib_journal.specs.Sessions.{Journal}
 use Rattle.hib_journal.specs.Legal.{part_of, is_outside}
 use Rattle.hib_journal.specs.Lists.{entry_at, IsLate}
 use Rattle.hib_session.specs.Memory.{brings}
 use Rattle.hib_session.specs.Session.{own_reply}
-use Rattle.hib_engines.specs.Registry.{Opened, IsRegistry, holds}
+use Rattle.hib_engines.specs.Registry.{Opened, IsRegistry}
 use Rattle.hib_engines.specs.Served.{is_for, IsServed}
-use Rattle.hib_core.proofs.FromOutside.{holds_open}
 use Rattle.hib_parts.specs.Listed.{WorkerState, IsPartList, IsDueAct, IsDueOn, IsLater}
 use Rattle.hib_parts.specs.Copied.{is_small}
 use Rattle.hib_parts.proofs.Lists.{late_in, part_more}
@@ -82,11 +81,11 @@ pub record BeginStep (script : Script) (told : Option Tables) (l : Journal) (y :
   pub quiet : brings a ≡ false
 
 pub begin_step : (script : Script) (told : Option Tables) (l : Journal) (last : ℕ) (x y : Opened) (w : WorkerState) (a : Act) (n now : ℕ) (r : Reply) → IsPartList script told Part.Registry l last → IsRegistry x l → IsDueAct script w Act.Begin → IsDueAct script w a →
-    n ≡ w.number → false ≡ holds n x → IsLater now l w.list →
-    ((given : Script) (j : Journal) → IsRegistry x j → IsLate Part.Registry now j → a ≡ Act.Begin → is_open n j ≡ false → IsServed (λ m. IsRegistry y m) given j (Some n) now a r) → BeginStep script told l y w a now r
-begin_step script told l last x y w a n now r k s d b e h t f =
+    n ≡ w.number → IsLater now l w.list →
+    ((given : Script) (j : Journal) → IsRegistry x j → IsLate Part.Registry now j → a ≡ Act.Begin → IsServed (λ m. IsRegistry y m) given j (Some n) now a r) → BeginStep script told l y w a now r
+begin_step script told l last x y w a n now r k s d b e t f =
     let same : Act.Begin ≡ a = act_same script w Act.Begin a d.due b.due in
-    let given : IsServed (λ m. IsRegistry y m) script l (Some n) now a r = f script l s (late_in Part.Registry l now k.of_part t.part) (sym same) (sym (holds_open x l n s) ∙ sym h) in
+    let given : IsServed (λ m. IsRegistry y m) script l (Some n) now a r = f script l s (late_in Part.Registry l now k.of_part t.part) (sym same) in
     let v : IsServed (λ m. IsRegistry y m) script l (Some w.number) now a r = subst (λ m. IsServed (λ j. IsRegistry y j) script l (Some m) now a r) e given in
     record {
       step = record {

@@ -140,9 +140,6 @@ impl<N: Name> RegistryPart<N> {
         ensures same { OnErr result (self.new ≡ self.old) }
     {
         let number = worker.number();
-        if self.registry.is_open(number) {
-            return Err(AllocError);
-        }
         let acts = prepared(alloc, script, worker, &mut self.list)?;
         let reply = self.registry.serve(number, &acts.0, now)?;
         enter_answer(alloc, script, worker, &mut self.list, acts, reply, now)?;

@@ -7,3 +7,4 @@ pub mod Flushed
 pub mod Taken
 pub mod Taking
 pub mod Few
+pub mod Killed

@@ -5,3 +5,4 @@ pub mod Control
 pub mod Ahead
 pub mod Session
 pub mod Bound
+pub mod Killed

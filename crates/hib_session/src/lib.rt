@@ -6,6 +6,7 @@ mod bounds;
 mod changed;
 mod control;
 mod keyed;
+mod killing;
 mod memory;
 mod noting;
 mod queries;
@@ -14,4 +15,5 @@ mod session;
 mod written;
 
 pub use bounds::entries_are_few;
+pub use killing::{kill_all, kill_at};
 pub use session::Session;

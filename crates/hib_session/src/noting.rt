@@ -188,13 +188,13 @@ impl Memory {
     }
 
     /// A row was removed: its instance leaves where it was never written, and else is marked.
-    fn remove(&mut self, alloc: Global, key: &Key) -> Result<(), AllocError>
+    fn remove(&mut self, key: &Key) -> Result<(), AllocError>
         ensures ok { OnOk result (self.new ≡ record self.old {
           instances = record { held = remove_in (marked_in key.now self.old.marks) key.now self.old.instances.held; removals = remove_last key.now self.old.instances.removals };
         }) }
         ensures err { OnErr result (self.new ≡ self.old) }
     {
-        self.instances.note_removal(alloc, *key)?;
+        self.instances.note_removal(*key)?;
         if is_marked(&self.marks, *key) {
             self.instances.drop(*key);
         } else {
@@ -280,7 +280,7 @@ impl Memory {
             (Act::Load { key }, Reply::Row(Some(row))) => self.read(alloc, key, row),
             (Act::Get { key, .. }, Reply::Hit(row)) => self.read(alloc, key, row),
             (Act::Set { key, cells }, Reply::Set) => self.set(alloc, key, cells),
-            (Act::Remove { key }, Reply::Removed) => self.remove(alloc, key),
+            (Act::Remove { key }, Reply::Removed) => self.remove(key),
             (Act::Lock { key, .. }, Reply::Locked(lock)) => {
                 self.lock(*key, lock.id);
                 Ok(())

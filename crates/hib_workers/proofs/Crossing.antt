@@ -121,7 +121,7 @@ session_send : IsSend SessionT.the_field.row
 session_send = search (sendable, crosses, control_send, memory_send, written_send, ending_send) depth 100 fits 100000
 
 registry_send : IsSend RegistryT.the_field.row
-registry_send = search (sendable, crosses) depth 100 fits 100000
+registry_send = search (sendable, crosses, maps) depth 100 fits 100000
 
 stamps_send : IsSend StampsT.the_field.row
 stamps_send = search (sendable, crosses) depth 100 fits 100000

@@ -2,7 +2,7 @@ use Rattle.std.proofs.Common.{◌≡◌, Bool, cond, Some, None, sym, ap, subst,
 use Rattle.std.specs.Prelude.{reverse}
 use Rattle.hib_journal.specs.Types.{Act}
 use Rattle.hib_journal.specs.Legal.{may_come}
-use Rattle.hib_audit.proofs.Outside.{holds_open}
+use Rattle.hib_engines.proofs.Opened.{holds_open}
 use Rattle.hib_audit.proofs.points.comes.Goals as goal
 
 pub returns-in-Kill : goal.returns-in-Kill

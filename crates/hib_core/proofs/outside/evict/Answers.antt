@@ -7,7 +7,8 @@ use Rattle.hib_core.specs.Standing.{PartsState, outside_entry}
 use Rattle.hib_core.specs.Factory.{AreSessions, IsRun, IsAsked}
 use Rattle.hib_core.specs.Playing.{played, Leads}
 use Rattle.hib_core.proofs.Short.{outside_same, outside_one}
-use Rattle.hib_core.proofs.FromOutside.{evict_run, evict_leads, sessions_outside, asked_outside, none_killed}
+use Rattle.hib_core.proofs.FromOutside.{evict_run, evict_leads, sessions_outside, asked_outside}
+use Rattle.hib_session.proofs.Killed.{none_killed}
 use Rattle.hib_core.proofs.outside.evict.Goals as goal
 
 pub returns-clause-run : goal.returns-clause-run

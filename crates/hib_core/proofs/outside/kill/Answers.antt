@@ -7,10 +7,12 @@ use Rattle.hib_journal.specs.Played.{play_order}
 use Rattle.hib_journal.specs.Types.{Order}
 use Rattle.hib_engines.specs.Registry.{Opened, holds}
 use Rattle.hib_core.specs.Standing.{PartsState, outside_entry}
-use Rattle.hib_core.specs.Factory.{AreSessions, IsRun, IsAsked, AreKilled}
+use Rattle.hib_core.specs.Factory.{AreSessions, IsRun, IsAsked}
+use Rattle.hib_session.specs.Killed.{AreKilled}
 use Rattle.hib_core.specs.Playing.{played, Leads}
 use Rattle.hib_core.proofs.Short.{outside_same, outside_one}
-use Rattle.hib_core.proofs.FromOutside.{holds_open, kill_run, kill_leads, no_kill_leads, sessions_outside, asked_outside}
+use Rattle.hib_core.proofs.FromOutside.{kill_run, kill_leads, no_kill_leads, sessions_outside, asked_outside}
+use Rattle.hib_engines.proofs.Opened.{holds_open}
 use Rattle.hib_core.proofs.outside.kill.Goals as goal
 
 pub returns-then-not-is_open-clause-played : goal.returns-then-not-is_open-clause-played

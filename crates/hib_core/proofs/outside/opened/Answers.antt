@@ -2,7 +2,7 @@ use Rattle.std.proofs.Common.{◌≡◌, ap, ◌∙◌}
 use Rattle.hib_journal.specs.Kept.{past}
 use Rattle.hib_engines.specs.Registry.{Opened, holds}
 use Rattle.hib_core.specs.Standing.{PartsState}
-use Rattle.hib_core.proofs.FromOutside.{holds_open}
+use Rattle.hib_engines.proofs.Opened.{holds_open}
 use Rattle.hib_core.proofs.outside.opened.Goals as goal
 
 pub returns : goal.returns

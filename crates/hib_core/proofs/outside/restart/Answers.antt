@@ -1,4 +1,5 @@
-use Rattle.std.proofs.Common.{◌≡◌, ◌∷◌, sym, ap, subst, ◌∙◌, refl}
+use Rattle.std.proofs.Common.{◌≡◌, ◌==◌, ◌∷◌, sym, ap, subst, ◌∙◌, refl}
+use Rattle.std.specs.List.{list_any}
 use Rattle.hib_journal.specs.Types.{Act, Order, Reply}
 use Rattle.hib_journal.specs.Kept.{past}
 use Rattle.hib_journal.specs.Sessions.{Journal, is_open}
@@ -8,7 +9,9 @@ use Rattle.hib_core.specs.Standing.{PartsState, outside_entry}
 use Rattle.hib_core.specs.Factory.{AreSessions, IsRun, IsAsked}
 use Rattle.hib_core.specs.Playing.{played, Leads}
 use Rattle.hib_core.proofs.Short.{outside_same, outside_one}
-use Rattle.hib_core.proofs.FromOutside.{holds_open, restart_run, restart_leads, sessions_outside, asked_outside, killed_as}
+use Rattle.hib_core.proofs.FromOutside.{restart_run, restart_leads, sessions_outside, asked_outside}
+use Rattle.hib_session.proofs.Killed.{killed_as}
+use Rattle.hib_engines.proofs.Opened.{holds_open}
 use Rattle.hib_core.proofs.outside.restart.Goals as goal
 
 pub returns-clause-run : goal.returns-clause-run
@@ -26,14 +29,15 @@ returns-clause-sessions g c =
     let h = past c.args.journal.now in
     let x = c.args.parts.now in
     let xs = c.args.sessions.now.items in
-    let ys = c.kill_open.new.sessions.items in
+    let ys = c.kill_all.new.sessions.items in
     let here : c.parts.inside.registry ≡ x.registry = ap (λ (v : PartsState). v.registry) c.parts.view_is in
     let same : past c.reserve_tick.new.journal ≡ h = c.in_ok-now.ensures.same in
     let grown : past c.tell.new.journal ≡ outside_entry h Act.Restart Reply.Done ∷ h =
     c.tell.ensures ∙ ap (λ (j : Journal). outside_entry j Act.Restart Reply.Done ∷ j) same in
     subst (λ (j : Journal). AreSessions g.N.Name.script j ys) (sym grown)
     (sessions_outside g.N.Name.script h Act.Restart Reply.Done xs ys c.requires.sessions
-    (killed_as (λ s. holds s c.parts.inside.registry) (λ s. is_open s h) xs ys (λ s l. ap (λ (ps : Opened). holds s ps) here ∙ holds_open x.registry h s c.requires.run.parts.registry) c.kill_open.ensures))
+    (killed_as (λ s. list_any (λ n. n == s) c.open_sessions.result.now) (λ s. is_open s h) xs ys
+    (λ s l. c.open_sessions.ensures s ∙ (ap (λ (ps : Opened). holds s ps) here ∙ holds_open x.registry h s c.requires.run.parts.registry)) c.kill_all.ensures))
 
 pub returns-clause-asked : goal.returns-clause-asked
 returns-clause-asked g c = λ w.

@@ -1,7 +1,8 @@
 use Rattle.std.proofs.Common.{◌==◌, ℕ, refl, sym, subst}
 use Rattle.std.specs.Prelude.{reverse}
 use Rattle.hib_audit.specs.Breaks.{start_rows}
-use Rattle.hib_audit.specs.Standing.{AreKilled, AuditorState, Knows}
+use Rattle.hib_session.specs.Killed.{AreKilled}
+use Rattle.hib_audit.specs.Standing.{AuditorState, Knows}
 use Rattle.hib_audit.proofs.Taking.{knows_kill}
 use Rattle.hib_audit.proofs.auditor.Auditor.take_kill.Goals as goal
 

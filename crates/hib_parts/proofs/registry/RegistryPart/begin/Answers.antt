@@ -1,4 +1,4 @@
-use Rattle.std.proofs.Common.{sym, subst, ◌∙◌}
+use Rattle.std.proofs.Common.{sym, subst}
 use Rattle.std.proofs.lemmas.Bool.{false≢true}
 use Rattle.hib_journal.specs.Types.{Part}
 use Rattle.hib_journal.specs.Kept.{past}
@@ -14,7 +14,7 @@ enter_answer-requires-clause-due g c =
     let script = g.N.Name.script in
     let later = subst (λ (j : Journal). IsLater c.args.now j c.args.worker.now.list) (sym c.self.view_is) c.requires.later in
     let s = begin_step script g.N.Name.from.tables (past c.self.inside.list) c.self.inside.last c.self.inside.registry c.serve.new.self c.args.worker.now c.in_ok-acts.acts.0 c.number-number.result c.args.now c.in_ok-reply.reply
-    c.self.invariant.1 c.self.invariant.2 c.requires.due c.in_ok-acts.ensures.due c.number-number.ensures (sym c.if-is_open.false ∙ c.is_open.ensures) later c.in_ok-reply.ensures.answered in
+    c.self.invariant.1 c.self.invariant.2 c.requires.due c.in_ok-acts.ensures.due c.number-number.ensures later c.in_ok-reply.ensures.answered in
     fits_kept script c.args.worker.now c.prepared.new.worker c.in_ok-acts.acts.0 c.args.now c.in_ok-reply.reply c.prepared.ensures.kept s.step.fits
 
 pub invariant_of-self-in_err-enter_answer : goal.invariant_of-self-in_err-enter_answer
@@ -22,7 +22,7 @@ invariant_of-self-in_err-enter_answer g c =
     let script = g.N.Name.script in
     let later = subst (λ (j : Journal). IsLater c.args.now j c.args.worker.now.list) (sym c.self.view_is) c.requires.later in
     let s = begin_step script g.N.Name.from.tables (past c.self.inside.list) c.self.inside.last c.self.inside.registry c.serve.new.self c.args.worker.now c.in_ok-acts.acts.0 c.number-number.result c.args.now c.in_ok-reply.reply
-    c.self.invariant.1 c.self.invariant.2 c.requires.due c.in_ok-acts.ensures.due c.number-number.ensures (sym c.if-is_open.false ∙ c.is_open.ensures) later c.in_ok-reply.ensures.answered in
+    c.self.invariant.1 c.self.invariant.2 c.requires.due c.in_ok-acts.ensures.due c.number-number.ensures later c.in_ok-reply.ensures.answered in
     absurd (false≢true (c.in_err-enter_answer.ensures.brings c.in_ok-acts.ensures.ready s.small s.quiet))
 
 pub invariant_of-self-2 : goal.invariant_of-self-2
@@ -35,7 +35,7 @@ invariant_of-self-2 g c =
     let r = c.in_ok-reply.reply in
     let later = subst (λ (j : Journal). IsLater c.args.now j w.list) (sym c.self.view_is) c.requires.later in
     let s = begin_step script told l c.self.inside.last c.self.inside.registry c.serve.new.self w a c.number-number.result c.args.now r
-    c.self.invariant.1 c.self.invariant.2 c.requires.due c.in_ok-acts.ensures.due c.number-number.ensures (sym c.if-is_open.false ∙ c.is_open.ensures) later c.in_ok-reply.ensures.answered in
+    c.self.invariant.1 c.self.invariant.2 c.requires.due c.in_ok-acts.ensures.due c.number-number.ensures later c.in_ok-reply.ensures.answered in
     let e = entry_here w c.prepared.new.worker l (past c.prepared.new.list) (past c.enter_answer.new.list) a c.args.now r c.prepared.ensures.kept c.prepared.ensures.list c.in_ok-enter_answer.ensures.list in (
       c.self.invariant.0,
       subst (λ (j : Journal). IsPartList script told Part.Registry j c.args.now) (sym e) s.step.list,

@@ -1,0 +1,9 @@
+use Rattle.std.proofs.Common.{◌==◌, ap, ◌∙◌}
+use Rattle.std.specs.List.{list_any}
+use Rattle.hib_engines.specs.Registry.{holds}
+use Rattle.hib_engines.proofs.Indexed.{is_held, keys_held}
+use Rattle.hib_engines.proofs.registry.Registry.open_sessions.Goals as goal
+
+pub returns : goal.returns
+returns c = λ s. ap (list_any (λ n. n == s)) (c.as_slice.ensures ∙ c.keys.ensures.rest)
+    ∙ (keys_held c.self.inside.times.entries s ∙ (is_held c.self.inside.begun.entries c.self.inside.times.entries s c.self.invariant ∙ ap (holds s) c.self.view_is))
