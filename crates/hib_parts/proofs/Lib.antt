@@ -6,3 +6,4 @@ pub mod Stores
 pub mod Registries
 pub mod ResultSteps
 pub mod Regions
+pub mod Gathered

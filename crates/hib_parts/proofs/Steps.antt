@@ -172,3 +172,7 @@ own_fits script w a now r n e k t b o q h = subst (λ x. IsDueEntry script w.num
   where
     same : (x y : Reply) → Some x ≡ Some y → x ≡ y
     same x y z = cc
+
+-- a tick that is due comes next in its part and in its session
+pub later_of : (a b t : ℕ) (l m : Journal) → a ≡ last_of l → b ≡ last_of m → t ≡ Rattle.hib_clock.specs.Due.due a b → t ≤ 2 ^ 62 → IsLater t l m
+later_of a b t l m p q e k = record { part = omega arith; session = omega arith; bounded = k }

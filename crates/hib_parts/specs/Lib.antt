@@ -1,3 +1,5 @@
 pub mod Listed
 pub mod Copied
 pub mod Stored
+pub mod Gathered
+pub mod Alone

@@ -4,16 +4,20 @@
 //! list into which they are merged is said by `hib_split_law`.
 #![tactic(auto)]
 
+mod alone;
 mod copied;
 mod entering;
+mod gathering;
 mod parts;
 mod region;
 mod registry;
 mod results;
 mod stamps;
 mod store;
+mod turns;
 mod worker;
 
+pub use alone::{Split, run_alone};
 pub use parts::Parts;
 pub use region::RegionPart;
 pub use registry::RegistryPart;

@@ -71,6 +71,13 @@ impl<N: Name> RegistryPart<N> {
         &self.list
     }
 
+    /// The script is one that parts take. It does nothing.
+    pub fn built(&self)
+        ensures { IsBuilt N.script }
+    {
+        let _ = &self.list;
+    }
+
     /// One act of a session: the Begin or the End that is due in it is answered at this tick, which is after the last ticks of both.
     /// Its entry goes to both lists. Where memory runs out both lists are as before, and so they are where the session is to begin
     /// but is open already, by another worker of its number; that is answered as want of memory.

@@ -1,0 +1,29 @@
+-- What comes of a run.
+use Rattle.std.specs.Prelude.{◌≡◌, ◌<◌, ℕ, List, None, Option}
+use Rattle.std.specs.Option.{option_map}
+use Rattle.hib_base.specs.Tables.{Tables}
+use Rattle.hib_journal.specs.Types.{Script, Part}
+use Rattle.hib_journal.specs.Sessions.{Journal}
+use Rattle.hib_journal.specs.Next.{next}
+use Rattle.hib_journal.specs.Lists.{stored}
+use Rattle.hib_journal.specs.Runs.{fault_count}
+use Rattle.hib_engines.specs.Counts.{RoseBy}
+use Rattle.hib_split_law.specs.Merged.{list_of, ArePartsLegal, AreOwnLegal}
+use Rattle.hib_merge.specs.Merging.{AreRising, IsInOne}
+use Rattle.hib_core.specs.Standing.{Origin}
+
+-- the lists of parts and those of sessions are legal, each by itself, and those of parts can be merged
+pub record AreListed (script : Script) (told : Option Tables) (lists mine : List Journal) : Type 0 where
+  pub parts : ArePartsLegal script told lists
+  pub sessions : AreOwnLegal script mine
+  pub apart : (p : Part) → IsInOne p lists
+  pub rising : AreRising lists
+
+-- the first n sessions are at their ends
+abbrev pub AreAtEnds : Script → ℕ → List Journal → Type 0
+AreAtEnds script n mine = (s : ℕ) → s < n → next script s (list_of s mine) ≡ None
+
+-- what a keeper tells is what the store's list leaves, and it has failed as often as the list says
+pub record IsToldBy (from : Origin) (l : Journal) (tables : Option Tables) (failed : ℕ) : Type 0 where
+  pub rows : tables ≡ option_map (λ start. stored start l) from.tables
+  pub faults : RoseBy from.faults (fault_count l) failed

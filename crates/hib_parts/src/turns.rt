@@ -1,0 +1,253 @@
+// The steps of one session after the other, with no thread and no lock.
+ghost use Rattle.std.specs.Prelude.{◌≡◌, ◌<◌, ◌≤◌, ◌^◌, None, Ok, Some, IfOk, IfSome, OnOk, OnErr, length, map, slice_get};
+ghost use Rattle.hib_base.specs.declared.entries.Part.{Part};
+ghost use Rattle.hib_journal.specs.Next.{next};
+ghost use Rattle.hib_clock.specs.Due.{due};
+ghost use Rattle.hib_parts.specs.Listed.{IsDueOn, IsKept, RegionState};
+
+use crate::parts::Parts;
+use crate::region::RegionPart;
+use crate::registry::RegistryPart;
+use crate::results::ResultsPart;
+use crate::stamps::StampsPart;
+use crate::store::StorePart;
+use crate::worker::Worker;
+use hib_base::{EntityNo, Part, Script, Tick};
+use hib_clock::next as tick_after;
+use hib_core::{Name, Stepped};
+use hib_journal::part_of;
+use hib_outside::Keeper;
+use std::alloc::{AllocError, Global};
+
+/// The tick of a step: one more than the greater of the last ticks of its part and of its session. Where there is none behind that,
+/// want of memory is answered: no memory holds so many entries.
+fn tick_of(part: Tick, session: Tick) -> Result<Tick, AllocError>
+    requires part { part ≤ 2 ^ 62 }
+    requires session { session ≤ 2 ^ 62 }
+    ensures due { IfOk result (λ t. t ≡ due part session) }
+    ensures bounded { IfOk result (λ t. t ≤ 2 ^ 62) }
+{
+    match tick_after(part, session) {
+        Some(tick) => Ok(tick),
+        None => Err(AllocError),
+    }
+}
+
+/// One act of a session on the registry.
+fn step_registry<N: Name>(
+    alloc: Global,
+    script: &Script,
+    registry: &mut RegistryPart<N>,
+    worker: &mut Worker<N>,
+) -> Result<(), AllocError>
+    requires script { script.now ≡ N.script }
+    requires due { IsDueOn N.script Part.Registry worker.old }
+    ensures number { worker.new.number ≡ worker.old.number }
+    ensures less { OnOk result (worker.new.left < worker.old.left) }
+    ensures kept { OnErr result (IsKept worker.old worker.new) }
+{
+    let now = tick_of(registry.last(), worker.last())?;
+    registry.serve(alloc, worker, script, now)?;
+    Ok(())
+}
+
+/// One act of a session on the store.
+fn step_store<K: Keeper, N: Name>(
+    alloc: Global,
+    script: &Script,
+    store: &mut StorePart<K, N>,
+    worker: &mut Worker<N>,
+) -> Result<(), AllocError>
+    requires script { script.now ≡ N.script }
+    requires due { IsDueOn N.script Part.Store worker.old }
+    ensures going { OnOk result (store.new.refused ≡ store.old.refused) }
+    ensures number { worker.new.number ≡ worker.old.number }
+    ensures less { OnOk result (worker.new.left < worker.old.left) }
+    ensures kept { OnErr result (IsKept worker.old worker.new) }
+{
+    let now = tick_of(store.last(), worker.last())?;
+    store.serve(alloc, worker, script, now)?;
+    Ok(())
+}
+
+/// One act of a session on the stamps.
+fn step_stamps<N: Name>(
+    alloc: Global,
+    script: &Script,
+    stamps: &mut StampsPart<N>,
+    worker: &mut Worker<N>,
+) -> Result<(), AllocError>
+    requires script { script.now ≡ N.script }
+    requires due { IsDueOn N.script Part.Stamps worker.old }
+    ensures number { worker.new.number ≡ worker.old.number }
+    ensures less { OnOk result (worker.new.left < worker.old.left) }
+    ensures kept { OnErr result (IsKept worker.old worker.new) }
+{
+    let now = tick_of(stamps.last(), worker.last())?;
+    stamps.serve(alloc, worker, script, now)?;
+    Ok(())
+}
+
+/// One act of a session on the results.
+fn step_results<N: Name>(
+    alloc: Global,
+    script: &Script,
+    results: &mut ResultsPart<N>,
+    worker: &mut Worker<N>,
+) -> Result<(), AllocError>
+    requires script { script.now ≡ N.script }
+    requires due { IsDueOn N.script Part.Results worker.old }
+    ensures number { worker.new.number ≡ worker.old.number }
+    ensures less { OnOk result (worker.new.left < worker.old.left) }
+    ensures kept { OnErr result (IsKept worker.old worker.new) }
+{
+    let now = tick_of(results.last(), worker.last())?;
+    results.serve(alloc, worker, script, now)?;
+    Ok(())
+}
+
+/// One act of a session on this region.
+fn step_region<N: Name>(
+    alloc: Global,
+    script: &Script,
+    region: &mut RegionPart<N>,
+    worker: &mut Worker<N>,
+) -> Result<(), AllocError>
+    requires script { script.now ≡ N.script }
+    requires due { IsDueOn N.script (Part.Region region.old.entity) worker.old }
+    ensures entity { region.new.entity ≡ region.old.entity }
+    ensures number { worker.new.number ≡ worker.old.number }
+    ensures less { OnOk result (worker.new.left < worker.old.left) }
+    ensures kept { OnErr result (IsKept worker.old worker.new) }
+{
+    let now = tick_of(region.last(), worker.last())?;
+    region.serve(alloc, worker, script, now)?;
+    Ok(())
+}
+
+/// One act of a session that is its own.
+fn step_own<N: Name>(
+    alloc: Global,
+    script: &Script,
+    worker: &mut Worker<N>,
+) -> Result<(), AllocError>
+    requires script { script.now ≡ N.script }
+    requires due { IsDueOn N.script (Part.Own worker.old.number) worker.old }
+    ensures number { worker.new.number ≡ worker.old.number }
+    ensures less { OnOk result (worker.new.left < worker.old.left) }
+    ensures kept { OnErr result (IsKept worker.old worker.new) }
+{
+    let now = tick_of(Tick(0), worker.last())?;
+    worker.own(alloc, script, now)?;
+    Ok(())
+}
+
+/// The place of an entity's region, or none.
+fn place_of<N: Name>(regions: &[RegionPart<N>], entity: EntityNo) -> Option<usize>
+    ensures there { IfSome result (λ i. i < length regions.now) }
+    ensures entity { IfSome result (λ i. (x : RegionState) → slice_get regions.now i ≡ Some x → x.entity ≡ entity) }
+{
+    for (place, region) in regions.iter().enumerate() {
+        if region.entity() == entity {
+            return Some(place);
+        }
+    }
+    None
+}
+
+/// One act of a session on the region of this entity.
+fn step_regions<N: Name>(
+    alloc: Global,
+    script: &Script,
+    regions: &mut Vec<RegionPart<N>>,
+    entity: EntityNo,
+    worker: &mut Worker<N>,
+) -> Result<(), AllocError>
+    requires script { script.now ≡ N.script }
+    requires due { IsDueOn N.script (Part.Region entity) worker.old }
+    ensures entities { map (λ r. r.entity) regions.new.items ≡ map (λ r. r.entity) regions.old.items }
+    ensures number { worker.new.number ≡ worker.old.number }
+    ensures less { OnOk result (worker.new.left < worker.old.left) }
+    ensures kept { OnErr result (IsKept worker.old worker.new) }
+{
+    // No act is due on an entity that isn't cached.
+    let Some(place) = place_of(regions.as_slice(), entity) else {
+        return Err(AllocError);
+    };
+    step_region(alloc, script, &mut regions[place], worker)
+}
+
+impl<K: Keeper, N: Name> Parts<K, N> {
+    /// The act that is due in a session, which is on this part, is answered, at the tick that is due.
+    fn step_on(
+        &mut self,
+        alloc: Global,
+        script: &Script,
+        worker: &mut Worker<N>,
+        part: Part,
+    ) -> Result<(), AllocError>
+        requires script { script.now ≡ N.script }
+        requires due { IsDueOn N.script part worker.old }
+        ensures going { OnOk result (self.new.store.refused ≡ self.old.store.refused) }
+        ensures entities { map (λ r. r.entity) self.new.regions.items ≡ map (λ r. r.entity) self.old.regions.items }
+        ensures number { worker.new.number ≡ worker.old.number }
+        ensures less { OnOk result (worker.new.left < worker.old.left) }
+        ensures kept { OnErr result (IsKept worker.old worker.new) }
+    {
+        match part {
+            Part::Registry => step_registry(alloc, script, &mut self.registry, worker),
+            Part::Store => step_store(alloc, script, &mut self.store, worker),
+            Part::Stamps => step_stamps(alloc, script, &mut self.stamps, worker),
+            Part::Results => step_results(alloc, script, &mut self.results, worker),
+            Part::Region(entity) => {
+                step_regions(alloc, script, &mut self.regions, entity, worker)
+            }
+            Part::Own(_) => step_own(alloc, script, worker),
+        }
+    }
+
+    /// One step of a session: the act that is due in it, if one is, at the tick that is due. Where memory runs out no list has an
+    /// entry more.
+    pub fn step(
+        &mut self,
+        alloc: Global,
+        script: &Script,
+        worker: &mut Worker<N>,
+    ) -> Result<Stepped, AllocError>
+        requires script { script.now ≡ N.script }
+        ensures going { OnOk result (self.new.store.refused ≡ self.old.store.refused) }
+        ensures entities { map (λ r. r.entity) self.new.regions.items ≡ map (λ r. r.entity) self.old.regions.items }
+        ensures number { worker.new.number ≡ worker.old.number }
+        ensures did { result ≡ Ok Stepped.Did → worker.new.left < worker.old.left }
+        ensures done { result ≡ Ok Stepped.Done → next N.script worker.new.number worker.new.list ≡ None }
+        ensures kept { OnErr result (IsKept worker.old worker.new) }
+    {
+        let Some(act) = worker.next(alloc, script)? else {
+            return Ok(Stepped::Done);
+        };
+        let part = part_of(&act, worker.number());
+        self.step_on(alloc, script, worker, part)?;
+        Ok(Stepped::Did)
+    }
+
+    /// Steps a session to its end. Where memory runs out the steps so far stand.
+    pub fn finish(
+        &mut self,
+        alloc: Global,
+        script: &Script,
+        worker: &mut Worker<N>,
+    ) -> Result<(), AllocError>
+        requires script { script.now ≡ N.script }
+        ensures going { OnOk result (self.new.store.refused ≡ self.old.store.refused) }
+        ensures entities { map (λ r. r.entity) self.new.regions.items ≡ map (λ r. r.entity) self.old.regions.items }
+        ensures number { worker.new.number ≡ worker.old.number }
+        ensures over { OnOk result (next N.script worker.new.number worker.new.list ≡ None) }
+    {
+        'steps: loop {
+            match self.step(alloc, script, worker)? {
+                Stepped::Did => {}
+                Stepped::Done => return Ok(()),
+            }
+        }
+    }
+}
