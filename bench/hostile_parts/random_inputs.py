@@ -11,7 +11,7 @@ import world
 COUNT = None
 USUAL = {"scripts": 40000, "mutated": 30000, "journals": 30000}
 KINDS = set(
-    "byte long token header line words many-entities many-columns entity-taken column-taken strategy capacity column-type ref-unknown no-columns reserved "
+    "byte long token header line words many-entities many-columns entity-taken column-taken strategy capacity column-type ref-unknown default no-columns reserved "
     "taken unknown number cells type depth many last no-end journal".split())
 RULES = {b"tick", b"session", b"part", b"act", b"reply"}
 

@@ -1,6 +1,7 @@
 -- The points by which an entry may break the rules of legal journals.
 use Rattle.std.specs.Prelude.{◌≡◌, [], IsSome, Some}
-use Rattle.hib_base.specs.Tables.{Tables, start}
+use Rattle.hib_base.specs.Start.{start}
+use Rattle.hib_base.specs.Tables.{Tables}
 use Rattle.hib_journal.specs.Types.{Script, Entry}
 use Rattle.hib_journal.specs.Sessions.{Journal, IsTimely}
 use Rattle.hib_journal.specs.Legal.{IsReply, due, part_due, may_come, number}
@@ -19,4 +20,4 @@ Breaks script start h e AuditKind.Reply =
 
 -- the rows at the start of an audit: those of the script
 abbrev pub start_rows : Script → Tables
-start_rows script = start [] script.rows
+start_rows script = start script.mapping [] script.rows

@@ -1,6 +1,7 @@
 // The engines that answer the acts of a journal once more.
 ghost use Rattle.std.specs.Prelude.{◌≡◌, ◌≤◌, ◌<◌, ◌^◌, ◌∷◌, [], ℕ, length, map, IfOk, OnOk, Option, Some, None, true, false};
-ghost use Rattle.hib_base.specs.Tables.{Tables, start};
+ghost use Rattle.hib_base.specs.Start.{start};
+ghost use Rattle.hib_base.specs.Tables.{Tables};
 ghost use Rattle.hib_base.specs.declared.entries.Act.{Act};
 ghost use Rattle.hib_base.specs.declared.replies.Reply.{Reply};
 ghost use Rattle.hib_base.specs.declared.scripts.Script.{Script as Said};
@@ -88,7 +89,7 @@ impl Engines {
     /// The engines of a script over its rows, before any act.
     pub fn open(alloc: Global, script: &Script) -> Result<Engines, AllocError>
         requires { IsBuilt script.now }
-        ensures { IfOk result (λ e. AreStanding script.now (start [] script.now.rows) [] e) }
+        ensures { IfOk result (λ e. AreStanding script.now (start script.now.mapping [] script.now.rows) [] e) }
     {
         laws();
         let regions = open_regions(alloc, script)?;
@@ -96,7 +97,8 @@ impl Engines {
         let results = ResultsEngine::open(alloc, script.results)?;
         let entities = script.mapping.len() as u16;
         let rows = script.rows.as_slice();
-        let Ok(store) = StoreEngine::open(alloc, Unfailing::new(alloc), rows, entities) else {
+        let keeper = Unfailing::new(alloc);
+        let Ok(store) = StoreEngine::open(alloc, keeper, &script.mapping, rows, entities) else {
             // The keeper never fails, so that memory ran out.
             return Err(AllocError);
         };

@@ -4,7 +4,7 @@ ghost use Rattle.hib_base.specs.Tables.{row_at};
 ghost use Rattle.hib_outside.specs.Keeps.{tables_seeded, tables_after, rows_of};
 ghost use Rattle.hib_outside.specs.Verdicts.{verdict, IsPlace};
 
-use hib_base::{Change, EntityNo, Key, Row, Rows, Seq};
+use hib_base::{Change, EntityNo, Key, Mapping, Row, Rows, Seq};
 use hib_outside::{Applied, KeepFault, Keeper, MemKeeper};
 use std::alloc::Global;
 
@@ -36,8 +36,13 @@ impl Keeper for Unfailing {
 
     ghost ordered = { λ k. k.memory.ordered };
 
-    fn seed(&mut self, alloc: Global, rows: &[(Key, Row)]) -> Result<(), KeepFault> {
-        self.memory.seed(alloc, rows)
+    fn seed(
+        &mut self,
+        alloc: Global,
+        mapping: &Mapping,
+        rows: &[(Key, Row)],
+    ) -> Result<(), KeepFault> {
+        self.memory.seed(alloc, mapping, rows)
     }
 
     fn read(&mut self, alloc: Global, key: Key) -> Result<Option<Row>, KeepFault> {

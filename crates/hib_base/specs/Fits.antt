@@ -1,5 +1,5 @@
 -- Tables, statements and queries that fit a mapping.
-use Rattle.std.specs.Prelude.{ℕ, Bool, true, false, not, cond, ◌&&◌, ◌||◌, ◌==◌, List, [], ◌∷◌, length, map, slice_get, nat_lt, nat_le, Some, None, Option, option_and_then}
+use Rattle.std.specs.Prelude.{ℕ, Bool, true, false, not, cond, ◌&&◌, ◌||◌, ◌==◌, List, [], ◌∷◌, length, map, slice_get, nat_lt, nat_le, Some, None, Option, option_and_then, is_some, ℤ, pos, negsuc}
 use Rattle.std.specs.List.{list_all}
 use Rattle.hib_base.specs.Types.{Key, Cell, Row, ColumnType, ColumnDef, EntityDef, Op, Path, Target, Sort, Select, Statement}
 use Rattle.hib_base.specs.declared.scripts.Node.{Node}
@@ -16,10 +16,15 @@ is_printable b = nat_le 32 b && nat_le b 126
 abbrev pub is_text : List ℕ → Bool
 is_text bytes = nat_le (length bytes) 200 && list_all is_printable bytes
 
+-- a number of 64 bits with a sign
+abbrev pub is_wide : ℤ → Bool
+is_wide (pos n) = nat_lt n 9223372036854775808
+is_wide (negsuc n) = nat_lt n 9223372036854775808
+
 -- a cell of a column's type; a reference is the number of its target
 abbrev pub is_of_type : ColumnType → Cell → Bool
-is_of_type ColumnType.Int (Cell.Int n) = true
-is_of_type (ColumnType.Ref e) (Cell.Int n) = true
+is_of_type ColumnType.Int (Cell.Int n) = is_wide n
+is_of_type (ColumnType.Ref e) (Cell.Int n) = is_wide n
 is_of_type ColumnType.Text (Cell.Text t) = is_text t
 is_of_type ColumnType.Bool (Cell.Bool b) = true
 is_of_type _ _ = false
@@ -66,6 +71,23 @@ type_at columns c = kind_in (slice_get columns c)
 abbrev pub is_of_type_in : Option ColumnType → Cell → Bool
 is_of_type_in None c = false
 is_of_type_in (Some k) c = is_of_type k c
+
+-- ---- defaults
+abbrev pub has_default : ColumnDef → Bool
+has_default d = is_some d.default
+
+-- a default is a cell of its column's type
+abbrev pub is_default : ColumnType → Option Cell → Bool
+is_default k None = true
+is_default k (Some c) = is_of_type k c
+
+-- behind a column that has a default each has one
+abbrev pub ends_in_defaults : List ColumnDef → Bool
+ends_in_defaults [] = true
+ends_in_defaults (d ∷ ds) = (not (has_default d) || list_all has_default ds) && ends_in_defaults ds
+
+abbrev pub are_defaults : List ColumnDef → Bool
+are_defaults ds = list_all (λ d. is_default d.kind d.default) ds && ends_in_defaults ds
 
 -- ---- statements
 -- of a declared entity

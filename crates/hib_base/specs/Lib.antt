@@ -3,6 +3,7 @@ pub mod Keys
 pub mod Apart
 pub mod Tables
 pub mod Fits
+pub mod Start
 pub mod Words
 pub mod Queries
 pub mod Scripts

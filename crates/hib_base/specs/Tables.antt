@@ -26,10 +26,10 @@ abbrev pub unless_there : Tables → Key → Row → Option Row → Tables
 unless_there kept k r None = with_row kept k r
 unless_there kept k r (Some old) = kept
 
--- the script's rows are placed where a key has none
-abbrev pub start : Tables → Tables → Tables
-start kept [] = kept
-start kept (e ∷ es) = start (unless_there kept e.0 e.1 (row_at kept e.0)) es
+-- each of some rows is placed where its key has none
+abbrev pub with_absent : Tables → Tables → Tables
+with_absent kept [] = kept
+with_absent kept (e ∷ es) = with_absent (unless_there kept e.0 e.1 (row_at kept e.0)) es
 
 abbrev pub key_of : Change → Key
 key_of (Change.Insert k r) = k

@@ -4,7 +4,7 @@ use Rattle.std.specs.List.{list_all}
 use Rattle.hib_base.specs.Types.{Key, Row, Strategy, EntityDef, Cond, Select, Order, Script}
 use Rattle.hib_base.specs.declared.scripts.Node.{Node}
 use Rattle.hib_base.specs.Apart.{are_apart_by}
-use Rattle.hib_base.specs.Fits.{is_identifier, fits, fits_statement, fits_query}
+use Rattle.hib_base.specs.Fits.{is_identifier, are_defaults, fits, fits_statement, fits_query}
 use Rattle.hib_base.specs.Keys.{same_key}
 use Rattle.hib_base.specs.Queries.{Said, said}
 use Rattle.hib_base.specs.Words.{are_names}
@@ -75,7 +75,7 @@ max_steps = 1000000
 abbrev pub are_columns : ℕ → EntityDef → Bool
 are_columns n e =
     nat_le (length e.columns) max_columns
-    && (list_all (λ d. is_type_below n d.kind) e.columns && are_names (map (λ d. d.name) e.columns))
+    && (list_all (λ d. is_type_below n d.kind) e.columns && (are_names (map (λ d. d.name) e.columns) && are_defaults e.columns))
 
 -- nothing is kept of an uncached entity
 abbrev pub is_capacity : Strategy → ℕ → Bool

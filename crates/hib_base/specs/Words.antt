@@ -22,7 +22,7 @@ is_word (b ∷ bs) = is_letter b && (nat_lt (length bs) 32 && list_all is_word_b
 abbrev pub reserved : List (List ℕ)
 reserved =
     codes "cached" ∷ codes "from" ∷ codes "where" ∷ codes "order" ∷ codes "desc" ∷ codes "offset" ∷ codes "limit" ∷
-    codes "select" ∷ codes "ids" ∷ codes "count" ∷ codes "true" ∷ codes "false" ∷ codes "none" ∷ []
+    codes "select" ∷ codes "ids" ∷ codes "count" ∷ codes "true" ∷ codes "false" ∷ codes "none" ∷ codes "default" ∷ []
 
 abbrev pub is_reserved : List ℕ → Bool
 is_reserved w = list_any (λ r. bytes_eq w r) reserved

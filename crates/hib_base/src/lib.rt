@@ -9,6 +9,7 @@ mod replies;
 mod rows;
 mod scripts;
 mod seq;
+mod widening;
 
 pub use entries::{Act, Entry, Part};
 pub use instances::{Held, State};
@@ -27,6 +28,7 @@ pub use scripts::{
     Strategy, Target, is_cached, strategy_of,
 };
 pub use seq::Seq;
+pub use widening::{entity_columns, has_defaults, is_narrow, widened_cells};
 
 /// Acts that are due one after another.
 pub type Acts = Seq<Act>;

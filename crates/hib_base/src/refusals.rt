@@ -33,6 +33,8 @@ pub enum Kind {
     ColumnType,
     /// The entity that is referred to isn't declared yet.
     RefUnknown,
+    /// A default isn't of its column's type, or a column without one stands behind a column that has one.
+    Default,
     /// An entity without a column.
     NoColumns,
     /// A declared name is a reserved word.
@@ -79,6 +81,7 @@ impl Kind {
             Kind::Capacity => b"capacity",
             Kind::ColumnType => b"column-type",
             Kind::RefUnknown => b"ref-unknown",
+            Kind::Default => b"default",
             Kind::NoColumns => b"no-columns",
             Kind::Reserved => b"reserved",
             Kind::Taken => b"taken",

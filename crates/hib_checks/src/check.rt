@@ -1,6 +1,6 @@
 // What comes of a row.
 use crate::row::Row;
-use hib_base::Seq;
+use hib_base::{Mapping, Seq};
 use hib_outside::{Keeper, Listener, MemKeeper, MemSink, MemSource, OpenGate};
 use hib_top::{Ended, Status, status_line, top};
 use std::alloc::{AllocError, Global};
@@ -56,7 +56,9 @@ fn make_world(alloc: Global, row: &Row, input: &[u8]) -> Result<World, AllocErro
 /// Places the rows that the keeper has at first. A row may say that even this call fails; then the keeper has nothing.
 fn place(alloc: Global, keeper: &mut MemKeeper, row: &Row) {
     if !row.kept.is_empty() {
-        let _ = keeper.seed(alloc, row.kept.as_slice());
+        // No entity is declared here, so that the rows are taken as they are.
+        let mapping: Mapping = Seq::new(alloc);
+        let _ = keeper.seed(alloc, &mapping, row.kept.as_slice());
     }
 }
 

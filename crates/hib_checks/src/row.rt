@@ -1,5 +1,5 @@
 // A row, from the lines that describe it.
-use hib_base::{Cell, EntityNo, Key, Rows, Seq};
+use hib_base::{Cell, Cells, EntityNo, Key, Rows, Seq};
 use std::alloc::{AllocError, Global};
 
 /// The bytes that a sink takes where a row says nothing of its room.
@@ -79,6 +79,7 @@ impl Row {
             "piece" => self.output.extend_from_slice(text.as_bytes())?,
             "says" => self.says.push_str(text)?,
             "kept" => return add_kept(alloc, &mut self.kept, text),
+            "kept-cells" => return add_kept_cells(alloc, &mut self.kept, text),
             _ => return self.take_number(word, text),
         }
         Ok(true)
@@ -104,14 +105,15 @@ impl Row {
     }
 }
 
-/// Adds a row of the first entity, from its identifier, its version and the one text in it.
-fn add_kept(alloc: Global, rows: &mut Rows, text: &str) -> Result<bool, AllocError> {
-    let Some((id, rest)) = text.split_once(' ') else {
-        return Ok(false);
-    };
-    let Some((version, title)) = rest.split_once(' ') else {
-        return Ok(false);
-    };
+/// Takes off what stands before the first space.
+fn next<'a>(rest: &mut &'a str) -> &'a str {
+    let (word, more) = rest.split_once(' ').unwrap_or((*rest, ""));
+    *rest = more;
+    word
+}
+
+/// Adds a row of the first entity, whose identifier and version these words are.
+fn push_kept(rows: &mut Rows, id: &str, version: &str, cells: Cells) -> Result<bool, AllocError> {
     let (Ok(id), Ok(version)) = (id.parse::<u64>(), version.parse::<u32>()) else {
         return Ok(false);
     };
@@ -119,16 +121,52 @@ fn add_kept(alloc: Global, rows: &mut Rows, text: &str) -> Result<bool, AllocErr
         entity: EntityNo(0),
         id,
     };
-    let mut cells = Seq::new(alloc);
-    cells.push(Cell::Text(Seq::from_vec(title.as_bytes().to_vec(alloc)?)))?;
-    rows.push((
-        key,
-        hib_base::Row {
-            version: Some(version),
-            cells,
-        },
-    ))?;
+    let version = Some(version);
+    rows.push((key, hib_base::Row { version, cells }))?;
     Ok(true)
+}
+
+/// Adds a row of the first entity, from its identifier, its version and the one text in it.
+fn add_kept(alloc: Global, rows: &mut Rows, text: &str) -> Result<bool, AllocError> {
+    let mut rest = text;
+    let id = next(&mut rest);
+    let version = next(&mut rest);
+    let mut cells = Seq::new(alloc);
+    cells.push(Cell::Text(Seq::from_vec(rest.as_bytes().to_vec(alloc)?)))?;
+    push_kept(rows, id, version, cells)
+}
+
+/// A text behind a quote, a truth or a number.
+fn kept_cell(alloc: Global, word: &str) -> Result<Option<Cell>, AllocError> {
+    if let Some(text) = word.strip_prefix("'") {
+        let bytes = text.as_bytes().to_vec(alloc)?;
+        return Ok(Some(Cell::Text(Seq::from_vec(bytes))));
+    }
+    if word == "true" || word == "false" {
+        return Ok(Some(Cell::Bool(word == "true")));
+    }
+    match word.parse() {
+        Ok(number) => Ok(Some(Cell::Int(number))),
+        Err(_) => Ok(None),
+    }
+}
+
+/// Adds a row of the first entity, from its identifier, its version and its cells.
+fn add_kept_cells(alloc: Global, rows: &mut Rows, text: &str) -> Result<bool, AllocError> {
+    let mut rest = text;
+    let id = next(&mut rest);
+    let version = next(&mut rest);
+    let mut cells = Seq::new(alloc);
+    for _ in 0..rest.len() {
+        if rest.is_empty() {
+            break;
+        }
+        match kept_cell(alloc, next(&mut rest))? {
+            Some(cell) => cells.push(cell)?,
+            None => return Ok(false),
+        }
+    }
+    push_kept(rows, id, version, cells)
 }
 
 fn add_line(bytes: &mut Vec<u8>, text: &str) -> Result<(), AllocError> {

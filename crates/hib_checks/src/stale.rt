@@ -1,5 +1,5 @@
 // Commits that meet another version, by direct calls of the store: sessions that act one after the other meet none.
-use hib_base::{Cell, Change, Commit, EntityNo, Key, Row, Rows, Seq, SessionNo};
+use hib_base::{Cell, Change, Commit, EntityNo, Key, Mapping, Row, Rows, Seq, SessionNo};
 use hib_outside::MemKeeper;
 use hib_store::Store;
 use std::alloc::{AllocError, Global};
@@ -43,7 +43,8 @@ fn commit(alloc: Global, id: u64) -> Result<Option<(Commit, usize)>, AllocError>
     let mut rows: Rows = Seq::new(alloc);
     rows.push((key(1), row(alloc, 1)?))?;
     let keeper = MemKeeper::new(alloc, Seq::new(alloc));
-    let Ok(mut store) = Store::open(alloc, keeper, rows.as_slice(), 1) else {
+    let mapping: Mapping = Seq::new(alloc);
+    let Ok(mut store) = Store::open(alloc, keeper, &mapping, rows.as_slice(), 1) else {
         return Ok(None);
     };
     let answer = answer(alloc, &mut store, id);

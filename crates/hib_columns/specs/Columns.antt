@@ -1,5 +1,5 @@
--- The columns that the words of a query name, and the cells that it compares them with.
-use Rattle.std.specs.Prelude.{ℕ, Bool, true, false, cond, not, ◌||◌, List, [], slice_get, Option, Some, None, option_and_then, codes}
+-- The columns that the words of a query name, and what they may be compared with.
+use Rattle.std.specs.Prelude.{ℕ, Bool, true, false, not, ◌||◌, List, [], slice_get, Option, Some, None, option_and_then}
 pub use Rattle.hib_base.specs.Fits.{columns_in, entity_columns, is_order, is_bool}
 use Rattle.hib_base.specs.declared.rows.Cell.{Cell}
 use Rattle.hib_base.specs.declared.scripts.ColumnDef.{ColumnDef}
@@ -7,8 +7,8 @@ use Rattle.hib_base.specs.declared.scripts.ColumnType.{ColumnType}
 use Rattle.hib_base.specs.declared.scripts.EntityDef.{EntityDef}
 use Rattle.hib_base.specs.declared.scripts.Op.{Op}
 use Rattle.hib_base.specs.declared.scripts.Path.{Path}
-use Rattle.hib_lex.specs.Words.{is_the_word}
 use Rattle.hib_lex.specs.declared.lexer.Token.{Token}
+use Rattle.hib_mapping.specs.Cells.{has_type}
 use Rattle.hib_mapping.specs.Parts.{column_at}
 use Rattle.hib_columns.specs.declared.columns.Column.{Column}
 use Rattle.hib_columns.specs.declared.columns.Found.{Found}
@@ -67,23 +67,6 @@ path_or_first None = record { column = 0; target = None }
 path_or_first (Some c) = c.path
 
 -- ---- cells
-abbrev pub truth_of : Token → Option Cell
-truth_of t =
-    cond (is_the_word (codes "true") t) (Some (Cell.Bool true))
-    (cond (is_the_word (codes "false") t) (Some (Cell.Bool false)) None)
-
-abbrev pub cell_of : Token → Option Cell
-cell_of (Token.Number n) = Some (Cell.Int n)
-cell_of (Token.Quoted t) = Some (Cell.Text t)
-cell_of t = truth_of t
-
-abbrev pub has_type : ColumnType → Cell → Bool
-has_type ColumnType.Int (Cell.Int n) = true
-has_type (ColumnType.Ref e) (Cell.Int n) = true
-has_type ColumnType.Text (Cell.Text t) = true
-has_type ColumnType.Bool (Cell.Bool b) = true
-has_type _ _ = false
-
 abbrev pub is_typed : Option Column → Cell → Bool
 is_typed None c = true
 is_typed (Some d) c = has_type d.kind c

@@ -1,11 +1,12 @@
-// The columns that the words of a query name, and the cells that it compares them with.
+// The columns that the words of a query name, and what they may be compared with.
 ghost use Rattle.hib_columns.specs.Columns as named;
-ghost use Rattle.std.specs.Prelude.{◌≡◌, IfOk, bytes_eq};
+ghost use Rattle.std.specs.Prelude.{◌≡◌};
 
-use hib_base::{Cell, ColumnDef, ColumnType, EntityDef, EntityNo, Op, Path, Seq, Target};
-use hib_lex::{Token, is_the_word};
-use hib_mapping::column_place;
-use std::alloc::{AllocError, Global};
+use hib_base::{
+    Cell, ColumnDef, ColumnType, EntityDef, EntityNo, Op, Path, Target, entity_columns,
+};
+use hib_lex::Token;
+use hib_mapping::{column_place, has_type};
 
 /// A column of an entity, by its place, with its type.
 #[derive(Clone, Copy)]
@@ -27,15 +28,6 @@ pub fn columns_of(mapping: &[EntityDef], entity: Option<EntityNo>) -> &[ColumnDe
 {
     match entity {
         Some(entity) => entity_columns(mapping, entity),
-        None => &[],
-    }
-}
-
-fn entity_columns(mapping: &[EntityDef], entity: EntityNo) -> &[ColumnDef]
-    ensures { result.now ≡ named.entity_columns mapping.now entity }
-{
-    match mapping.get(usize::from(entity.0)) {
-        Some(entity) => entity.columns.as_slice(),
         None => &[],
     }
 }
@@ -163,32 +155,6 @@ pub fn path_or_first(column: Option<Column>) -> Path
     }
 }
 
-/// The cell that a token is.
-pub fn cell(alloc: Global, token: &Token) -> Result<Option<Cell>, AllocError>
-    ensures { IfOk result (λ c. c ≡ named.cell_of token.now) }
-{
-    match token {
-        Token::Number(n) => Ok(Some(Cell::Int(*n))),
-        Token::Quoted(text) => {
-            let text = text.as_slice().to_vec(alloc)?;
-            Ok(Some(Cell::Text(Seq::from_vec(text))))
-        }
-        _ => Ok(truth(token)),
-    }
-}
-
-fn truth(token: &Token) -> Option<Cell>
-    ensures { result ≡ named.truth_of token.now }
-{
-    if is_the_word(token, b"true") {
-        Some(Cell::Bool(true))
-    } else if is_the_word(token, b"false") {
-        Some(Cell::Bool(false))
-    } else {
-        None
-    }
-}
-
 /// Whether a cell has a column's type, where the column is known.
 pub fn is_typed(column: &Option<Column>, cell: &Cell) -> bool
     ensures { result ≡ named.is_typed column.now cell.now }
@@ -196,19 +162,6 @@ pub fn is_typed(column: &Option<Column>, cell: &Cell) -> bool
     match column {
         Some(column) => has_type(column.kind, cell),
         None => true,
-    }
-}
-
-/// Whether a cell has a column's type; a reference is a number.
-pub fn has_type(kind: ColumnType, cell: &Cell) -> bool
-    ensures { result ≡ named.has_type kind cell.now }
-{
-    match (kind, cell) {
-        (ColumnType::Int, Cell::Int(_))
-        | (ColumnType::Ref(_), Cell::Int(_))
-        | (ColumnType::Text, Cell::Text(_))
-        | (ColumnType::Bool, Cell::Bool(_)) => true,
-        _ => false,
     }
 }
 

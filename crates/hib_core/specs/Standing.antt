@@ -1,7 +1,8 @@
 -- What a factory stands for: its parts are those that its journal's definitions give.
 use Rattle.std.specs.Prelude.{◌≡◌, ℕ, ◌+◌, ◌==◌, false, true, cond, List, [], ◌∷◌, length, slice_get, Some, None, Option}
 use Rattle.std.specs.Option.{option_map}
-use Rattle.hib_base.specs.Tables.{Tables, start}
+use Rattle.hib_base.specs.Start.{start}
+use Rattle.hib_base.specs.Tables.{Tables}
 use Rattle.hib_journal.specs.Types.{Script, Act, Reply, Entry}
 use Rattle.hib_journal.specs.Sessions.{Journal, own, is_open, is_begun, was_killed, changes_in, deferred, committed}
 use Rattle.hib_journal.specs.Held.{is_begin}
@@ -26,9 +27,10 @@ pub record Origin : Type 0 where
   pub faults : ℕ
   pub asked : ℕ
 
--- the committed rows at the start, where the keeper tells what it kept: the script's rows are beside it
+-- the committed rows at the start, where the keeper tells what it kept: this is widened to the script's mapping, and the script's
+-- rows are beside it
 abbrev pub told_start : Script → Option Tables → Option Tables
-told_start script kept = option_map (λ t. start t script.rows) kept
+told_start script kept = option_map (λ t. start script.mapping t script.rows) kept
 
 -- the next entry of a session
 abbrev pub entry_of : Journal → ℕ → Act → Reply → Entry

@@ -93,7 +93,7 @@ fn tell<L: Listener>(
 }
 
 impl<K: Keeper, N: Name, L: Listener> Factory<K, N, L> {
-    /// Opens the factory of this name, in which no session has begun. The keeper is seeded with the script's rows, each of
+    /// Opens the factory of this name, in which no session has begun. The keeper is seeded with the script's mapping and rows, each of
     /// which it takes where its key has none. At an error the keeper is handed back with the rows that it had, and the listeners
     /// untold.
     pub fn open(

@@ -56,8 +56,8 @@ impl<K: Keeper, N: Name> Model for Core<K, N> {
 }
 
 impl<K: Keeper, N: Name> Core<K, N> {
-    /// Opens the core of the factory of this name, in which no session has begun. The keeper is seeded with the script's rows, each of
-    /// which it takes where its key has none. At an error the keeper is handed back, with the rows that it had.
+    /// Opens the core of the factory of this name, in which no session has begun. The rows that the keeper keeps are widened to the
+    /// script's mapping, and each of the script's rows whose key has none is added. At an error the keeper is handed back, with the rows that it had.
     pub fn open(alloc: Global, script: Script, keeper: K) -> Result<Core<K, N>, OpenFault<K>>
         requires script { script ≡ N.script }
         requires valid { is_valid N.script ≡ true }
@@ -85,7 +85,13 @@ impl<K: Keeper, N: Name> Core<K, N> {
             return Err(OpenFault::NoMemory(keeper));
         };
         let entities = script.mapping.len() as u16;
-        let store = StoreEngine::open(alloc, keeper, script.rows.as_slice(), entities)?;
+        let store = StoreEngine::open(
+            alloc,
+            keeper,
+            &script.mapping,
+            script.rows.as_slice(),
+            entities,
+        )?;
         Ok(Core {
             script,
             parts: Parts {

@@ -24,7 +24,8 @@ use Rattle.hib_mapping.specs.Parts.{is_a_word, is_a_number, word_of, is_within, 
 use Rattle.hib_mapping.proofs.Columns.{lt_more}
 use Rattle.hib_mapping.proofs.Places.{placed}
 use Rattle.hib_columns.specs.Columns as columns
-use Rattle.hib_columns.specs.Columns.{columns_in, entity_columns, columns_of, found_at, at_place, plain_column, own, led_to, through_type, through, column_of, path_or_first, is_path, cell_of}
+use Rattle.hib_columns.specs.Columns.{columns_in, entity_columns, columns_of, found_at, at_place, plain_column, own, led_to, through_type, through, column_of, path_or_first, is_path}
+use Rattle.hib_mapping.specs.Cells.{cell_of}
 use Rattle.hib_criteria.specs.Form as lines
 use Rattle.hib_criteria.specs.Query.{are_whole, kind_of, unless_kind, read, query_of}
 use Rattle.hib_columns.specs.declared.columns.Column.{Column}

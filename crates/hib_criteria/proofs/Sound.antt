@@ -24,10 +24,11 @@ use Rattle.hib_lex.specs.Words.{is_the_word}
 use Rattle.hib_lex.specs.declared.lexer.Token.{Token}
 use Rattle.hib_lex.proofs.Lexed.{is_lexed, are_lexed}
 use Rattle.hib_mapping.specs.Parts.{is_a_word, is_a_number, word_of, is_within, number_up_to, entity_at}
-use Rattle.hib_columns.specs.Columns.{columns_of, plain_column, place_or_first, column_of, path_or_first, is_path, cell_of, is_typed, is_comparable}
+use Rattle.hib_columns.specs.Columns.{columns_of, plain_column, place_or_first, column_of, path_or_first, is_path, is_typed, is_comparable}
+use Rattle.hib_mapping.specs.Cells.{cell_of}
 use Rattle.hib_columns.specs.declared.columns.Column.{Column}
 use Rattle.hib_columns.specs.declared.columns.Found.{Found}
-use Rattle.hib_columns.proofs.Cells.{is_cell, cell_sound, typed_one}
+use Rattle.hib_mapping.proofs.TypedCells.{is_cell, cell_sound, typed_one}
 use Rattle.hib_columns.proofs.Typed.{IsColumn, plain_typed, IsLed, column_led}
 use Rattle.hib_criteria.specs.Form as lines
 use Rattle.hib_criteria.specs.Query.{arity, are_whole, kind_of, said_by, unless_kind, read, query_of}

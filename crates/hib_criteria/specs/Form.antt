@@ -8,7 +8,8 @@ use Rattle.hib_base.specs.declared.scripts.Select.{Select}
 use Rattle.hib_lex.specs.Words.{is_the_word}
 use Rattle.hib_lex.specs.declared.lexer.Token.{Token}
 use Rattle.hib_mapping.specs.Parts.{is_a_word, is_a_number, word_of, is_within, number_up_to, entity_at}
-use Rattle.hib_columns.specs.Columns.{columns_of, plain_column, column_of, is_path, path_or_first, place_or_first, cell_of, is_typed, is_comparable}
+use Rattle.hib_columns.specs.Columns.{columns_of, plain_column, column_of, is_path, path_or_first, place_or_first, is_typed, is_comparable}
+use Rattle.hib_mapping.specs.Cells.{cell_of}
 use Rattle.hib_columns.specs.declared.columns.Column.{Column}
 use Rattle.hib_columns.specs.declared.columns.Found.{Found}
 use Rattle.hib_criteria.specs.declared.forms.Draft.{Draft}

@@ -4,11 +4,13 @@ ghost use Rattle.std.specs.Prelude.{◌≡◌, ◌∷◌, IfOk};
 
 use hib_base::{Cell, Cells, EntityDef, EntityNo, Node, Op, Path, Select, Seq, Sort, Sorts, Text};
 use hib_columns::{
-    Column, Found, cell, columns_of, is_comparable, is_path, is_typed, named_column, path_or_first,
+    Column, Found, columns_of, is_comparable, is_path, is_typed, named_column, path_or_first,
     place_or_first, plain_column,
 };
 use hib_lex::{Token, is_the_word};
-use hib_mapping::{entity_number, is_number, is_within, is_word, number_up_to, word, word_bytes};
+use hib_mapping::{
+    cell, entity_number, is_number, is_within, is_word, number_up_to, word, word_bytes,
+};
 use std::alloc::{AllocError, Global};
 
 /// The deepest nesting of a condition.

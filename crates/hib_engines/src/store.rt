@@ -1,7 +1,8 @@
 // The engine of the store.
 ghost use Rattle.std.specs.Prelude.{◌≡◌, ◌≢◌, ◌≤◌, ◌∷◌, ℕ, [], Option, None, length, false, true, IfOk, IfErr, IfSome, OnOk, OnErr};
 ghost use Rattle.std.specs.Option.{option_map};
-ghost use Rattle.hib_base.specs.Tables.{Tables, start, in_order};
+ghost use Rattle.hib_base.specs.Start.{start};
+ghost use Rattle.hib_base.specs.Tables.{Tables, in_order};
 ghost use Rattle.hib_base.specs.declared.entries.Act.{Act};
 ghost use Rattle.hib_base.specs.declared.replies.Reply.{Reply};
 ghost use Rattle.hib_base.specs.declared.scripts.Script.{Script as Said};
@@ -15,7 +16,7 @@ ghost use Rattle.hib_engines.specs.Counts.{RoseWithin};
 ghost use Rattle.hib_engines.specs.Served.{is_for, HasQuery, reads};
 ghost use Rattle.hib_engines.specs.Store.{IsStored, IsStoreServed, IsCounted, reply_of_loaded, reply_of_listed};
 
-use hib_base::{Act, Change, Key, QueryNo, Reply, Row, Script, SessionNo};
+use hib_base::{Act, Change, Key, Mapping, QueryNo, Reply, Row, Script, SessionNo};
 use hib_outside::Keeper;
 use hib_store::{Listed, Loaded, OpenFault, Store};
 use std::alloc::{AllocError, Global};
@@ -55,16 +56,18 @@ impl<K: Keeper> Model for StoreEngine<K> {
 }
 
 impl<K: Keeper> StoreEngine<K> {
-    /// The store over a keeper that is seeded by one call: each of these rows whose key has none is added. No session has
-    /// written. At an error the keeper is handed back, with the rows that it had. Lists of the first entities, so many as are
+    /// The store over a keeper that is seeded by one call: the rows that it keeps are widened to the columns of this mapping,
+    /// and each of these rows whose key has none is added. No session has written. At an error the keeper is handed back, with the
+    /// rows that it had. Lists of the first entities, so many as are
     /// said here, are answered from an index.
     pub fn open(
         alloc: Global,
         keeper: K,
+        mapping: &Mapping,
         rows: &[(Key, Row)],
         entities: u16,
     ) -> Result<StoreEngine<K>, OpenFault<K>>
-        ensures tables { IfOk result (λ s. s.tables ≡ option_map (λ m. start m rows.now) (K.tables keeper)) }
+        ensures tables { IfOk result (λ s. s.tables ≡ option_map (λ m. start mapping.now m rows.now) (K.tables keeper)) }
         ensures faults { IfOk result (λ s. K.faults keeper ≤ s.faults) }
         ensures asked { IfOk result (λ s. s.asked ≡ K.asked keeper) }
         ensures written { IfOk result (λ s. s.written ≡ []) }
@@ -73,7 +76,7 @@ impl<K: Keeper> StoreEngine<K> {
         ensures back_asked { IfErr result (λ e. K.asked (handed_back e) ≡ K.asked keeper) }
         ensures fault { IfErr result (λ e. is_store_fault e ≡ true → Rose (K.faults keeper) (K.faults (handed_back e))) }
     {
-        let store = Store::open(alloc, keeper, rows, entities)?;
+        let store = Store::open(alloc, keeper, mapping, rows, entities)?;
         Ok(StoreEngine { store })
     }
 

@@ -6,7 +6,7 @@ use Rattle.std.proofs.lemmas.Bool.{and_parts, or_parts, not-true, leb-true}
 use Rattle.std.proofs.lemmas.Bool.Decides.{nat_tests}
 use Rattle.std.proofs.lemmas.Slice.Eq.{bytes_eq-Decides}
 use Rattle.hib_base.specs.Words.{is_letter, is_word_byte, is_word, is_name, is_reserved, are_apart, are_names}
-use Rattle.hib_base.specs.Fits.{columns_in, entity_columns}
+use Rattle.hib_base.specs.Fits.{columns_in, entity_columns, are_defaults}
 use Rattle.hib_base.specs.Valid.{is_valid, are_columns, max_columns}
 use Rattle.hib_base.specs.Scripts.{is_type_below}
 use Rattle.hib_base.proofs.Lists.{all_at}
@@ -172,8 +172,10 @@ columns_of_rules : (n : ℕ) (d : EntityDef) → are_columns n d ≡ true → Is
 columns_of_rules n d h =
     let names = are_names (map (λ (c : ColumnDef). c.name) d.columns) in
     let types = list_all (λ (c : ColumnDef). is_type_below n c.kind) d.columns in
-    let few = and_left (nat_le (length d.columns) max_columns) (types && names) h in
-    (leb-true (length d.columns) max_columns few, and_right types names (and_right (nat_le (length d.columns) max_columns) (types && names) h))
+    let defaults = are_defaults d.columns in
+    let few = and_left (nat_le (length d.columns) max_columns) (types && (names && defaults)) h in
+    let rest = and_right types (names && defaults) (and_right (nat_le (length d.columns) max_columns) (types && (names && defaults)) h) in
+    (leb-true (length d.columns) max_columns few, and_left names defaults rest)
 
 named_column : (o : Option EntityDef) (n : ℕ) → ((d : EntityDef) → o ≡ Some d → IsColumns d) → n < length (columns_in o)
     → IsName (λ name. place (2 ^ 16) (position (λ (c : ColumnDef). bytes_eq c.name name) (columns_in o))) (column_in o n) n

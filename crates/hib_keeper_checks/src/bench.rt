@@ -1,6 +1,6 @@
-// The keeper that is tried, and the rows and changes that the next call takes.
+// The keeper that is tried, and the mapping, the rows and the changes that the next call takes.
 use crate::{play, words};
-use hib_base::{Change, EntityNo, Key, Row};
+use hib_base::{Change, EntityNo, Key, Mapping, Row, Seq};
 use hib_keeper_sqlite::{SqliteKeeper, SqliteTables, in_memory, open_file};
 use hib_outside::Keeper;
 use sqlite::{Connection, Error, File, FileStore};
@@ -20,8 +20,23 @@ enum Open {
 pub struct Bench {
     alloc: Global,
     open: Open,
+    next: Next,
+}
+
+/// What the next call takes.
+#[derive(Drop)]
+struct Next {
+    mapping: Mapping,
     rows: Vec<(Key, Row)>,
     changes: Vec<Change>,
+}
+
+fn nothing(alloc: Global) -> Next {
+    Next {
+        mapping: Seq::new(alloc),
+        rows: Vec::new(alloc),
+        changes: Vec::new(alloc),
+    }
 }
 
 /// Runs SQL on a file, by a connection of its own.
@@ -53,14 +68,13 @@ fn call<K: Keeper>(
     keeper: &mut K,
     word: &str,
     rest: &mut &str,
-    rows: &[(Key, Row)],
-    changes: &[Change],
+    next: &Next,
 ) -> io::Result<()> {
     if word == "seed" {
-        return play::seed(out, alloc, keeper, rows);
+        return play::seed(out, alloc, keeper, &next.mapping, next.rows.as_slice());
     }
     if word == "apply" {
-        return play::apply(out, alloc, keeper, changes);
+        return play::apply(out, alloc, keeper, next.changes.as_slice());
     }
     if word == "list" {
         let mut entities = Vec::new(alloc);
@@ -83,8 +97,7 @@ impl Bench {
         Bench {
             alloc,
             open: Open::Nothing,
-            rows: Vec::new(alloc),
-            changes: Vec::new(alloc),
+            next: nothing(alloc),
         }
     }
 
@@ -95,6 +108,9 @@ impl Bench {
         }
         let mut rest = line;
         let word = words::next(&mut rest);
+        if word == "columns" {
+            return self.add_entity(rt, rest);
+        }
         if word == "row" || word == "insert" || word == "update" || word == "delete" {
             return self.add(rt, word, rest);
         }
@@ -105,18 +121,27 @@ impl Bench {
         println!(rt; "{line}: {}", out.as_str())
     }
 
+    /// Adds an entity to the mapping of the next call.
+    fn add_entity(&mut self, rt: &HostRuntime, rest: &str) -> io::Result<()> {
+        let mut rest = rest;
+        match words::entity(self.alloc, &mut rest) {
+            Some(entity) => Ok(self.next.mapping.push(entity)?),
+            None => println!(rt; "columns: no form"),
+        }
+    }
+
     /// Adds a row or a change to the next call.
     fn add(&mut self, rt: &HostRuntime, word: &str, rest: &str) -> io::Result<()> {
         let mut rest = rest;
         if word == "row" {
             if let Some(key) = words::key(&mut rest) {
                 if let Some(row) = words::row(self.alloc, &mut rest) {
-                    self.rows.push((key, row))?;
+                    self.next.rows.push((key, row))?;
                     return Ok(());
                 }
             }
         } else if let Some(change) = change(self.alloc, word, &mut rest) {
-            self.changes.push(change)?;
+            self.next.changes.push(change)?;
             return Ok(());
         }
         println!(rt; "{word}: no form")
@@ -160,15 +185,13 @@ impl Bench {
 
     /// A call of the keeper that is open. What was added for it is taken.
     fn calls(&mut self, out: &mut String, word: &str, rest: &mut &str) -> io::Result<()> {
-        let rows = self.rows.as_slice();
-        let changes = self.changes.as_slice();
+        let next = &self.next;
         match &mut self.open {
-            Open::Memory(keeper) => call(out, self.alloc, keeper, word, rest, rows, changes)?,
-            Open::File(keeper) => call(out, self.alloc, keeper, word, rest, rows, changes)?,
+            Open::Memory(keeper) => call(out, self.alloc, keeper, word, rest, next)?,
+            Open::File(keeper) => call(out, self.alloc, keeper, word, rest, next)?,
             Open::Nothing => out.push_str("nothing is open")?,
         }
-        self.rows.clear();
-        self.changes.clear();
+        self.next = nothing(self.alloc);
         Ok(())
     }
 }

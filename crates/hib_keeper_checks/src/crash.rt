@@ -1,5 +1,5 @@
 // A disk that stops at a call. Step by step a keeper is given rows, the disk stops, and is opened again.
-use hib_base::{Cell, Change, EntityNo, Key, Row, Seq};
+use hib_base::{Cell, Change, EntityNo, Key, Mapping, Row, Seq};
 use hib_keeper_sqlite::{SqliteKeeper, adopt};
 use hib_outside::{Applied, Keeper};
 use sqlite::{Connection, FileStore, Files, Options};
@@ -32,7 +32,8 @@ fn seed<K: Keeper>(alloc: Global, keeper: &mut K) -> Option<()> {
     let mut rows = Vec::new(alloc);
     rows.push((key(1), row(alloc, 1)?)).ok()?;
     rows.push((key(2), row(alloc, 1)?)).ok()?;
-    keeper.seed(alloc, rows.as_slice()).ok()
+    let mapping: Mapping = Seq::new(alloc);
+    keeper.seed(alloc, &mapping, rows.as_slice()).ok()
 }
 
 fn update(alloc: Global, id: u64, step: i64) -> Option<Change> {

@@ -1,5 +1,5 @@
 // What a keeper answers, as text.
-use hib_base::{Cell, Change, EntityNo, Key, Row};
+use hib_base::{Cell, Change, EntityNo, Key, Mapping, Row};
 use hib_outside::{Applied, KeepFault, Keeper};
 use std::alloc::Global;
 use std::io;
@@ -73,9 +73,10 @@ pub fn seed<K: Keeper>(
     out: &mut String,
     alloc: Global,
     keeper: &mut K,
+    mapping: &Mapping,
     rows: &[(Key, Row)],
 ) -> io::Result<()> {
-    match keeper.seed(alloc, rows) {
+    match keeper.seed(alloc, mapping, rows) {
         Ok(()) => Ok(out.push_str("done")?),
         Err(error) => fault(out, error),
     }

@@ -1,5 +1,5 @@
 // The words of a line.
-use hib_base::{Cell, Cells, EntityNo, Key, Row, Seq};
+use hib_base::{Cell, Cells, ColumnDef, ColumnType, EntityDef, EntityNo, Key, Row, Seq, Strategy};
 use std::alloc::Global;
 
 /// Takes the first word off.
@@ -53,6 +53,43 @@ fn cells(alloc: Global, rest: &mut &str) -> Option<Cells> {
         cells.push(cell(alloc, next(rest))?).ok()?;
     }
     Some(cells)
+}
+
+/// A column whose default is this word; - is none.
+fn column(alloc: Global, word: &str) -> Option<ColumnDef> {
+    let default = if word == "-" {
+        None
+    } else {
+        Some(cell(alloc, word)?)
+    };
+    let kind = match &default {
+        Some(Cell::Text(_)) => ColumnType::Text,
+        Some(Cell::Bool(_)) => ColumnType::Bool,
+        _ => ColumnType::Int,
+    };
+    Some(ColumnDef {
+        name: Seq::new(alloc),
+        kind,
+        default,
+    })
+}
+
+/// An entity with a column for each word.
+pub fn entity(alloc: Global, rest: &mut &str) -> Option<EntityDef> {
+    let mut columns = Seq::new(alloc);
+    for _ in 0..rest.len() {
+        if rest.is_empty() {
+            break;
+        }
+        columns.push(column(alloc, next(rest))?).ok()?;
+    }
+    Some(EntityDef {
+        name: Seq::new(alloc),
+        strategy: Strategy::Uncached,
+        versioned: true,
+        capacity: 0,
+        columns,
+    })
 }
 
 /// A version and cells.

@@ -1,9 +1,9 @@
 -- What changes in a transaction leave, of tables that are told or not.
 use Rattle.std.proofs.Common.{◌≡◌, ◌<◌, ◌≤◌, ◌+◌, ℕ, inl, inr, true, false, List, [], ◌∷◌, ◌++◌, length, take, drop, get_or, Some, None, Option, IfSome, refl, sym, ◌∙◌, ap, subst}
 use Rattle.std.proofs.lemmas.List.{take_more, take_all}
-use Rattle.hib_base.specs.Tables.{Tables, row_at, key_of, after_change, after_changes, unless_there, start}
+use Rattle.hib_base.specs.Tables.{Tables, row_at, key_of, after_change, after_changes, unless_there, with_absent}
 use Rattle.hib_outside.specs.Verdicts.{refused_at, verdict}
-use Rattle.hib_outside.proofs.Commits.{after_changes_push, start_push, verdict_next}
+use Rattle.hib_outside.proofs.Commits.{after_changes_push, with_absent_push, verdict_next}
 use Rattle.hib_keeper_sqlite.specs.Types.{Key, Row, Change}
 use Rattle.hib_sqlite_rows.specs.Told.{Told, at_rest, changed, begun, committed, rolled_back, LeavesOrUndoes}
 use Rattle.hib_keeper_sqlite.specs.Batches.{IsAtRest, made}
@@ -72,9 +72,9 @@ next_verdict (Some t) loop cs n c low is so_far applies answered =
 pub all_changes : (o loop : Option Told) (cs : List Change) (n : ℕ) → length cs ≤ n → loop ≡ changed (after_changes (take n cs)) o → loop ≡ changed (after_changes cs) o
 all_changes o loop cs n over so_far = so_far ∙ ap (λ l. changed (after_changes l) o) (take_all n cs over)
 
-pub next_row : (o loop new : Option Told) (es : Tables) (n : ℕ) (e : Key × Row) → n < length es → e ≡ get_or es n e → loop ≡ changed (λ t. start t (take n es)) o
-    → new ≡ changed (λ t. unless_there t e.0 e.1 (row_at t e.0)) loop → new ≡ changed (λ t. start t (take (n + 1) es)) o
+pub next_row : (o loop new : Option Told) (es : Tables) (n : ℕ) (e : Key × Row) → n < length es → e ≡ get_or es n e → loop ≡ changed (λ t. with_absent t (take n es)) o
+    → new ≡ changed (λ t. unless_there t e.0 e.1 (row_at t e.0)) loop → new ≡ changed (λ t. with_absent t (take (n + 1) es)) o
 next_row o loop new es n e low is so_far more =
     let past : take (n + 1) es ≡ take n es ++ e ∷ [] = take_more es n e low ∙ ap (λ d. take n es ++ d ∷ []) (sym is) in
-    let grown : (t : Tables) → unless_there (start t (take n es)) e.0 e.1 (row_at (start t (take n es)) e.0) ≡ start t (take (n + 1) es) = λ t. sym (ap (start t) past ∙ start_push t (take n es) e) in
-    more ∙ ap (changed (λ t. unless_there t e.0 e.1 (row_at t e.0))) so_far ∙ changed-twice (λ t. start t (take n es)) (λ t. unless_there t e.0 e.1 (row_at t e.0)) o ∙ (λ i. changed (λ t. grown t i) o)
+    let grown : (t : Tables) → unless_there (with_absent t (take n es)) e.0 e.1 (row_at (with_absent t (take n es)) e.0) ≡ with_absent t (take (n + 1) es) = λ t. sym (ap (with_absent t) past ∙ with_absent_push t (take n es) e) in
+    more ∙ ap (changed (λ t. unless_there t e.0 e.1 (row_at t e.0))) so_far ∙ changed-twice (λ t. with_absent t (take n es)) (λ t. unless_there t e.0 e.1 (row_at t e.0)) o ∙ (λ i. changed (λ t. grown t i) o)

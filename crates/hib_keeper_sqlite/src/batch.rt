@@ -1,12 +1,14 @@
 // Rows and changes in one transaction, over the statements of the table.
-ghost use Rattle.std.specs.Prelude.{◌≡◌, ◌≢◌, ◌<◌, ℕ, None, true, length, All, IfOk, IfSome, OnOk, OnErr};
-ghost use Rattle.hib_base.specs.Tables.{row_at, key_of, same_version, after_change, after_changes, unless_there, start};
+ghost use Rattle.std.specs.Prelude.{◌≡◌, ◌≢◌, ◌<◌, ◌≤◌, ◌^◌, ℕ, None, true, length, All, IfOk, IfSome, OnOk, OnErr};
+ghost use Rattle.hib_base.specs.Tables.{row_at, key_of, same_version, after_change, after_changes, unless_there, with_absent};
+ghost use Rattle.hib_base.specs.Start.{start};
 ghost use Rattle.hib_outside.specs.Verdicts.{unless_as_expected, refused_at, verdict, after_applied, IsPlace};
 ghost use Rattle.hib_outside.specs.declared.keeper.Applied.TheVariants.{Done};
 ghost use Rattle.hib_sqlite_rows.specs.Told.{changed, rolled_back};
 ghost use Rattle.hib_keeper_sqlite.specs.Batches.{IsKeepable, IsKeepableEntry, Meets, IsAtRest, made};
 
-use hib_base::{Change, Key, Row};
+use crate::widening::widen;
+use hib_base::{Change, EntityDef, Key, Row};
 use hib_outside::Applied;
 use hib_sqlite_rows::{RowTable, read};
 use sqlite::Error;
@@ -178,7 +180,7 @@ fn seed_one<T: RowTable>(table: &mut T, alloc: Global, entry: &(Key, Row)) -> Re
 fn seed_all<T: RowTable>(table: &mut T, alloc: Global, rows: &[(Key, Row)]) -> Result<(), Error>
     requires range { All IsKeepableEntry rows.now }
     requires inside { IfSome (T.told table.old) (λ t. t.in_transaction ≡ true) }
-    ensures ok { OnOk result (T.told table.new ≡ changed (λ t. start t rows.now) (T.told table.old)) }
+    ensures ok { OnOk result (T.told table.new ≡ changed (λ t. with_absent t rows.now) (T.told table.old)) }
     ensures before { rolled_back (T.told table.new) ≡ rolled_back (T.told table.old) }
 {
     for at in 0..rows.len() {
@@ -187,26 +189,41 @@ fn seed_all<T: RowTable>(table: &mut T, alloc: Global, rows: &[(Key, Row)]) -> R
     Ok(())
 }
 
-/// Begins a transaction, adds rows, and commits.
-fn seed_within<T: RowTable>(table: &mut T, alloc: Global, rows: &[(Key, Row)]) -> Result<(), Error>
+/// Begins a transaction, widens rows, adds rows, and commits.
+fn seed_within<T: RowTable>(
+    table: &mut T,
+    alloc: Global,
+    mapping: &[EntityDef],
+    rows: &[(Key, Row)],
+) -> Result<(), Error>
+    requires few { length mapping.now ≤ 2 ^ 16 }
     requires range { All IsKeepableEntry rows.now }
     requires rest { IsAtRest (T.told table.old) }
-    ensures ok { OnOk result (T.told table.new ≡ made (λ t. start t rows.now) (T.told table.old)) }
+    ensures ok { OnOk result (T.told table.new ≡ made (λ t. start mapping.now t rows.now) (T.told table.old)) }
     ensures err { OnErr result (rolled_back (T.told table.new) ≡ T.told table.old) }
 {
     table.begin()?;
+    widen(table, alloc, mapping)?;
     seed_all(table, alloc, rows)?;
     table.commit()
 }
 
-/// Adds each row whose key has none in one transaction: all of them, or none where a call fails.
-pub fn seed<T: RowTable>(table: &mut T, alloc: Global, rows: &[(Key, Row)]) -> Result<(), Error>
+/// In one transaction gives each row of an entity of this mapping the defaults of the columns that it lacks, if each of these
+/// has one, and adds each of these rows whose key has none. It does all of this, or nothing where a call fails or a row has no
+/// body.
+pub fn seed<T: RowTable>(
+    table: &mut T,
+    alloc: Global,
+    mapping: &[EntityDef],
+    rows: &[(Key, Row)],
+) -> Result<(), Error>
+    requires few { length mapping.now ≤ 2 ^ 16 }
     requires range { All IsKeepableEntry rows.now }
     requires rest { IsAtRest (T.told table.old) }
-    ensures ok { OnOk result (T.told table.new ≡ made (λ t. start t rows.now) (T.told table.old)) }
+    ensures ok { OnOk result (T.told table.new ≡ made (λ t. start mapping.now t rows.now) (T.told table.old)) }
     ensures err { OnErr result (T.told table.new ≡ T.told table.old) }
 {
-    let seeded = seed_within(table, alloc, rows);
+    let seeded = seed_within(table, alloc, mapping, rows);
     if seeded.is_err() {
         table.rollback();
     }

@@ -14,7 +14,7 @@ pub fn key_fits(key: &Key) -> bool
 }
 
 /// Whether a key and a row have their numbers within SQL's ranges, and the row a body.
-fn entry_fits(key: Key, row: &Row) -> bool
+pub fn entry_fits(key: Key, row: &Row) -> bool
     ensures { IsTrue result ↔ IsInRange key row.now }
 {
     // A version that is read is known to be within its type.

@@ -11,11 +11,14 @@ ghost use Rattle.hib_keeper_sqlite.specs.Keeps.{told_in, tables_in, Counts};
 
 use crate::batch;
 use crate::fits::{batch_fits, key_fits, rows_fit};
-use hib_base::{Change, EntityNo, Key, Row, Rows};
+use hib_base::{Change, EntityNo, Key, Mapping, Row, Rows};
 use hib_outside::{Applied, KeepFault, Keeper};
 use hib_sqlite_rows::{MemoryTable, RowTable, StoreTable, list, read};
 use sqlite::{Alter, Connection, Error, ErrorCode};
 use std::alloc::Global;
+
+/// As many entities have numbers.
+const MOST_ENTITIES: usize = 65536;
 
 /// A keeper over a table of rows in SQL. Where the table couldn't be opened, each call fails.
 #[derive(Drop)]
@@ -116,8 +119,13 @@ impl<T: RowTable + Send> Keeper for SqlKeeper<T> {
 
     ghost ordered = { λ k. tables_in_order T.RowTable.tells T.RowTable.told T.RowTable.ordered k.table };
 
-    fn seed(&mut self, alloc: Global, rows: &[(Key, Row)]) -> Result<(), KeepFault>
-        ensures tables { tables_in T.RowTable.tells T.RowTable.told self.new.table ≡ tables_seeded result rows.now (tables_in T.RowTable.tells T.RowTable.told self.old.table) }
+    fn seed(
+        &mut self,
+        alloc: Global,
+        mapping: &Mapping,
+        rows: &[(Key, Row)],
+    ) -> Result<(), KeepFault>
+        ensures tables { tables_in T.RowTable.tells T.RowTable.told self.new.table ≡ tables_seeded result mapping.now rows.now (tables_in T.RowTable.tells T.RowTable.told self.old.table) }
         ensures asked { self.new.asked ≡ self.old.asked }
         ensures cause { FailsByCause self.old.faults self.new.faults result }
         ensures counts { Counts self.old.faults self.new.faults result }
@@ -126,10 +134,10 @@ impl<T: RowTable + Send> Keeper for SqlKeeper<T> {
         let Some(table) = &mut self.table else {
             return Err(failed(&mut self.faults));
         };
-        if !rows_fit(rows) {
+        if mapping.len() > MOST_ENTITIES || !rows_fit(rows) {
             return Err(failed(&mut self.faults));
         }
-        match batch::seed(table, alloc, rows) {
+        match batch::seed(table, alloc, mapping.as_slice(), rows) {
             Ok(()) => Ok(()),
             Err(error) => Err(cause(&mut self.faults, error)),
         }

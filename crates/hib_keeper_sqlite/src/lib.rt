@@ -5,6 +5,7 @@ mod batch;
 mod fits;
 mod keeper;
 mod open;
+mod widening;
 
 pub use hib_sqlite_rows::{pack, unpack};
 pub use keeper::{SqlKeeper, SqliteKeeper, SqliteTables};

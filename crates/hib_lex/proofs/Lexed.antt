@@ -1,9 +1,9 @@
 -- What the tokens of a text keep: words have their form, numbers are small, and texts are short and printable.
-use Rattle.std.proofs.Common.{◌≡◌, ℕ, zero, suc, ◌+◌, ◌^◌, Bool, true, false, cond, ◌&&◌, ◌||◌, ◌==◌, nat_lt, nat_le, List, [], ◌∷◌, ◌++◌, length, take, drop, Option, Some, None, Result, Ok, Err, pos, refl}
+use Rattle.std.proofs.Common.{◌≡◌, ℕ, zero, suc, ◌+◌, ◌^◌, ◌≤◌, Bool, true, false, cond, ◌&&◌, ◌||◌, ◌==◌, nat_lt, nat_le, List, [], ◌∷◌, ◌++◌, length, take, drop, Option, Some, None, Result, Ok, Err, pos, refl, arith}
 use Rattle.std.specs.Prelude.{ℤ, neg_ℤ, option_map, option_and_then, position}
 use Rattle.std.specs.List.{list_all}
-use Rattle.std.proofs.lemmas.Bool.{and_parts, and_from}
-use Rattle.hib_base.specs.Fits.{is_printable, is_text}
+use Rattle.std.proofs.lemmas.Bool.{and_parts, and_from, leb-true, lt-ltb}
+use Rattle.hib_base.specs.Fits.{is_printable, is_text, is_wide}
 use Rattle.hib_base.specs.Words.{is_word}
 use Rattle.hib_base.specs.declared.refusals.Kind.{Kind}
 use Rattle.hib_base.specs.declared.refusals.Refused.{Refused}
@@ -21,7 +21,7 @@ use Rattle.hib_lex.specs.declared.lines.Lines.{Lines}
 
 abbrev pub is_lexed : Token → Bool
 is_lexed (Token.Word w) = is_word w
-is_lexed (Token.Number (pos n)) = nat_lt n 9223372036854775808
+is_lexed (Token.Number n) = is_wide n
 is_lexed (Token.Quoted t) = is_text t
 is_lexed _ = true
 
@@ -29,9 +29,9 @@ abbrev pub are_lexed : List Token → Bool
 are_lexed ts = list_all (λ t. is_lexed t) ts
 
 -- ---- what stands without quotation marks
-neg_lexed : (n : ℕ) → is_lexed (Token.Number (neg_ℤ (pos n))) ≡ true
-neg_lexed zero = refl
-neg_lexed (suc n) = refl
+neg_lexed : (n : ℕ) → nat_le n (2 ^ 63) ≡ true → is_lexed (Token.Number (neg_ℤ (pos n))) ≡ true
+neg_lexed zero h = refl
+neg_lexed (suc n) h = let l : suc n ≤ 2 ^ 63 = leb-true (suc n) (2 ^ 63) h in lt-ltb n 9223372036854775808 (omega (arith, l))
 
 natural_lexed : (ds : List ℕ) → Then (natural_of ds) (λ n. is_lexed (Token.Number n) ≡ true)
 natural_lexed ds =
@@ -41,7 +41,8 @@ natural_lexed ds =
 
 negative_lexed : (ds : List ℕ) → Then (negative_of ds) (λ n. is_lexed (Token.Number n) ≡ true)
 negative_lexed ds =
-    then_cond (is_positive ds && nat_le (size_of ds) (2 ^ 63)) (Some (neg_ℤ (pos (size_of ds)))) None (λ n. is_lexed (Token.Number n) ≡ true) (λ _. neg_lexed (size_of ds)) (λ _. tt)
+    then_cond (is_positive ds && nat_le (size_of ds) (2 ^ 63)) (Some (neg_ℤ (pos (size_of ds)))) None (λ n. is_lexed (Token.Number n) ≡ true)
+    (λ h. neg_lexed (size_of ds) (and_parts (is_positive ds) (nat_le (size_of ds) (2 ^ 63)) h).1) (λ _. tt)
 
 number_lexed : (bs : List ℕ) → Then (number_of bs) (λ n. is_lexed (Token.Number n) ≡ true)
 number_lexed [] = tt

@@ -16,7 +16,7 @@ use Rattle.hib_make.specs.Entities.{book, customer, made_mapping}
 use Rattle.hib_make.specs.Rows.{numbered}
 use Rattle.hib_make.specs.Sessions.{Statements, one_found, stock_set, credit_set, order_placed, one_listed, full_set, step_by, step, ending, session, made_sessions, run, made_schedule}
 use Rattle.hib_make.proofs.Rules.{drawn_below, all_both, many_all, many_few, up_to, many_map, as_many}
-use Rattle.hib_make.proofs.RowRules.{identifier}
+use Rattle.hib_make.proofs.RowRules.{identifier, drawn_wide, more_wide}
 
 -- ---- statements
 abbrev is_fitting : Statement → Bool
@@ -36,6 +36,12 @@ twice a e = rw e refl
 paired : (a : Bool) → a ≡ true → (a && ((a && true) && true)) ≡ true
 paired a e = rw e refl
 
+numbered_pair : (a b : Bool) → a ≡ true → b ≡ true → (a && ((a && ((b && true) && true)) && true)) ≡ true
+numbered_pair a b e f = rw (e, f) refl
+
+with_three : (a b c d : Bool) → a ≡ true → b ≡ true → c ≡ true → d ≡ true → ((a && (b && (c && (d && true)))) && true) ≡ true
+with_three a b c d p q r s = rw (p, q, r, s) refl
+
 drawn_id : (n x : ℕ) → 0 < n → n < 1000 → is_identifier (1 + drawn n x) ≡ true
 drawn_id n x h m = identifier (1 + drawn n x) (omega arith) (omega (arith, drawn_below n x h))
 
@@ -46,16 +52,35 @@ customer_found : (x : ℕ) → Kept (one_found customer 30 x)
 customer_found x = record { few = omega arith; fit = once (is_identifier (1 + drawn 30 x)) (drawn_id 30 x (omega arith) (omega arith)) }
 
 stock_kept : (x : ℕ) → Kept (stock_set x)
-stock_kept x = record { few = omega arith; fit = paired (is_identifier (1 + drawn 60 x)) (drawn_id 60 x (omega arith) (omega arith)) }
+stock_kept x = record {
+  few = omega arith;
+  fit =
+      numbered_pair (is_identifier (1 + drawn 60 x)) (nat_lt (drawn 50 (after_draw x)) 9223372036854775808) (drawn_id 60 x (omega arith) (omega arith))
+      (drawn_wide 50 (after_draw x) (omega arith) (omega arith));
+}
 
 credit_kept : (x : ℕ) → Kept (credit_set x)
-credit_kept x = record { few = omega arith; fit = paired (is_identifier (1 + drawn 30 x)) (drawn_id 30 x (omega arith) (omega arith)) }
+credit_kept x = record {
+  few = omega arith;
+  fit =
+      numbered_pair (is_identifier (1 + drawn 30 x)) (nat_lt (1000 + drawn 1000 (after_draw x)) 9223372036854775808) (drawn_id 30 x (omega arith) (omega arith))
+      (more_wide 1000 1000 (after_draw x) (omega arith) (omega arith) (omega arith));
+}
 
 full_kept : (x : ℕ) → Kept (full_set x)
 full_kept x = record { few = omega arith; fit = paired (is_identifier (1 + drawn 12 x)) (drawn_id 12 x (omega arith) (omega arith)) }
 
 placed_kept : (i j x : ℕ) → i < 1000 → 1 ≤ j → j < 1000 → Kept (order_placed i j x)
-placed_kept i j x a b c = record { few = omega arith; fit = twice (is_identifier (1000 * i + j)) (identifier (1000 * i + j) (omega arith) (omega arith)) }
+placed_kept i j x a b c =
+    let y = after_draw x in
+    let z = after_draw y in
+    record {
+      few = omega arith;
+      fit =
+          with_three (is_identifier (1000 * i + j)) (nat_lt (1 + drawn 30 x) 9223372036854775808) (nat_lt (1 + drawn 60 y) 9223372036854775808) (nat_lt (1 + drawn 5 z) 9223372036854775808)
+          (identifier (1000 * i + j) (omega arith) (omega arith)) (more_wide 1 30 x (omega arith) (omega arith) (omega arith)) (more_wide 1 60 y (omega arith) (omega arith) (omega arith))
+          (more_wide 1 5 z (omega arith) (omega arith) (omega arith));
+    }
 
 listed_kept : (x : ℕ) → Kept (one_listed x)
 listed_kept x = record { few = omega arith; fit = twice (nat_lt (drawn 4 x) 4) (lt-ltb (drawn 4 x) 4 (drawn_below 4 x (omega arith))) }

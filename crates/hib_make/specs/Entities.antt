@@ -1,5 +1,5 @@
 -- The entities of a made script.
-use Rattle.std.specs.Prelude.{ℕ, Bool, true, false, List, [], ◌∷◌, codes}
+use Rattle.std.specs.Prelude.{ℕ, Bool, true, false, List, [], ◌∷◌, None, codes}
 use Rattle.hib_base.specs.declared.scripts.Strategy.{Strategy}
 use Rattle.hib_base.specs.declared.scripts.ColumnType.{ColumnType}
 use Rattle.hib_base.specs.declared.scripts.ColumnDef.{ColumnDef}
@@ -21,7 +21,7 @@ abbrev pub shelf : ℕ
 shelf = 4
 
 abbrev pub column : List ℕ → ColumnType → ColumnDef
-column name kind = record { name = name; kind = kind }
+column name kind = record { name = name; kind = kind; default = None }
 
 abbrev pub entity : List ℕ → Strategy → Bool → ℕ → List ColumnDef → EntityDef
 entity name strategy versioned capacity columns =

@@ -21,6 +21,7 @@ fn column(alloc: Global, name: &[u8], kind: ColumnType) -> Result<ColumnDef, All
     Ok(ColumnDef {
         name: Seq::from_vec(name.to_vec(alloc)?),
         kind,
+        default: None,
     })
 }
 

@@ -1,6 +1,6 @@
 -- The references of an entity's columns lead to the entities before it and to itself, and it has no more columns than it may.
-use Rattle.std.proofs.Common.{◌≡◌, ℕ, zero, suc, pos, ◌==◌, ◌+◌, ◌<◌, ◌≤◌, Bool, true, false, not, cond, ◌&&◌, nat_lt, nat_le, List, [], ◌∷◌, ◌++◌, length, map, Option, Some, None, codes, refl, sym, subst, arith, length-append}
-use Rattle.std.specs.Prelude.{unwrap_or, bytes_eq, is_some}
+use Rattle.std.proofs.Common.{◌≡◌, ◌≢◌, ◌⊎◌, inl, inr, ℕ, zero, suc, ℤ, pos, ◌==◌, ◌+◌, ◌<◌, ◌≤◌, Bool, true, false, not, cond, ◌&&◌, ◌||◌, nat_lt, nat_le, List, [], ◌∷◌, ◌++◌, length, map, take, Option, Some, None, codes, refl, sym, ◌∙◌, subst, arith, length-append}
+use Rattle.std.specs.Prelude.{unwrap_or, bytes_eq, is_some, option_and_then}
 use Rattle.std.specs.List.{list_all, list_any}
 use Rattle.std.proofs.lemmas.Bool.{and_parts, and_from, ltb-true, lt-ltb, le-leb, leb-true, true≢false, false≢true}
 use Rattle.std.proofs.lemmas.Bool.Decides.{nat_tests}
@@ -8,18 +8,22 @@ use Rattle.hib_base.specs.declared.refusals.Kind.{Kind}
 use Rattle.hib_base.specs.declared.scripts.ColumnDef.{ColumnDef}
 use Rattle.hib_base.specs.declared.scripts.ColumnType.{ColumnType}
 use Rattle.hib_base.specs.declared.scripts.EntityDef.{EntityDef}
+use Rattle.hib_base.specs.declared.rows.Cell.{Cell}
+use Rattle.hib_base.specs.Fits.{is_wide, is_of_type, has_default, is_default, are_defaults}
 use Rattle.hib_base.specs.Scripts.{is_type_below}
 use Rattle.hib_base.specs.Valid as rooms
 use Rattle.hib_base.specs.Valid.{are_columns, is_entity}
 use Rattle.hib_base.specs.declared.scripts.Strategy.{Strategy}
 use Rattle.hib_base.proofs.Gives.{Then}
-use Rattle.hib_base.proofs.Lists.{all_more, all_weaker, some_none}
+use Rattle.hib_base.proofs.Defaults.{defaults_more}
+use Rattle.hib_base.proofs.Lists.{all_at, all_more, all_weaker, some_none}
 use Rattle.hib_base.proofs.Names.{named_more}
 use Rattle.hib_base.specs.Words.{is_word, is_reserved, is_name, are_names}
 use Rattle.hib_lex.proofs.Lexed.{is_lexed, are_lexed}
 use Rattle.hib_lex.specs.Words.{is_the_word}
 use Rattle.hib_lex.specs.declared.lexer.Token.{Token}
-use Rattle.hib_mapping.specs.Declarations.{is_entity_line, is_versioning, is_capacity, strategy_of, strategy_kind, or_no_columns, entity_kind, is_column_line, entity_of, type_of, target_of, kind_unless, type_kind, column_kind, type_from, with_column}
+use Rattle.hib_mapping.specs.Cells.{cell_of, is_truth, is_quoted, is_cell_of}
+use Rattle.hib_mapping.specs.Declarations.{is_entity_line, is_versioning, is_capacity, strategy_of, strategy_kind, or_no_columns, entity_kind, is_described, is_column_line, entity_of, type_of, target_of, kind_unless, type_kind, type_in, default_in, type_from, default_unless, default_kind, or_kind, rest_kind, column_kind, column_of, with_column}
 use Rattle.hib_mapping.specs.Parts.{is_a_word, is_a_number, word_of, name_in, number_up_to, small, entity_at, column_at}
 use Rattle.hib_mapping.proofs.Places.{placed, unplaced}
 
@@ -33,7 +37,7 @@ type_more n m ColumnType.Int h = refl
 type_more n m ColumnType.Text h = refl
 type_more n m ColumnType.Bool h = refl
 
--- the three rules of columns
+-- the four rules of columns
 abbrev types_below : ℕ → List ColumnDef → Bool
 types_below n ds = list_all (λ d. is_type_below n d.kind) ds
 
@@ -44,16 +48,24 @@ pub record HasColumns (n : ℕ) (ds : List ColumnDef) : Type 0 where
   pub few : nat_le (length ds) 16 ≡ true
   pub below : types_below n ds ≡ true
   pub named : are_named ds ≡ true
+  pub defaults : are_defaults ds ≡ true
 
 pub columns_of : (n : ℕ) (e : EntityDef) → are_columns n e ≡ true → HasColumns n e.columns
 columns_of n e h =
-    let a : (nat_le (length e.columns) 16 ≡ true) × ((types_below n e.columns && are_named e.columns) ≡ true) = and_parts (nat_le (length e.columns) 16) (types_below n e.columns && are_named e.columns) h in
-    let b : (types_below n e.columns ≡ true) × (are_named e.columns ≡ true) = and_parts (types_below n e.columns) (are_named e.columns) a.1 in
-    record { few = a.0; below = b.0; named = b.1 }
+    let few = nat_le (length e.columns) 16 in
+    let below = types_below n e.columns in
+    let named = are_named e.columns in
+    let a : (few ≡ true) × ((below && (named && are_defaults e.columns)) ≡ true) = and_parts few (below && (named && are_defaults e.columns)) h in
+    let b : (below ≡ true) × ((named && are_defaults e.columns) ≡ true) = and_parts below (named && are_defaults e.columns) a.1 in
+    let c : (named ≡ true) × (are_defaults e.columns ≡ true) = and_parts named (are_defaults e.columns) b.1 in
+    record { few = a.0; below = b.0; named = c.0; defaults = c.1 }
 
 columns_from : (n : ℕ) (e : EntityDef) → HasColumns n e.columns → are_columns n e ≡ true
 columns_from n e c =
-    and_from (nat_le (length e.columns) 16) (types_below n e.columns && are_named e.columns) c.few (and_from (types_below n e.columns) (are_named e.columns) c.below c.named)
+    let below = types_below n e.columns in
+    let named = are_named e.columns in
+    and_from (nat_le (length e.columns) 16) (below && (named && are_defaults e.columns)) c.few
+    (and_from below (named && are_defaults e.columns) c.below (and_from named (are_defaults e.columns) c.named c.defaults))
 
 pub columns_more : (n m : ℕ) (e : EntityDef) → are_columns n e ≡ true → are_columns (n + m) e ≡ true
 columns_more n m e h =
@@ -62,6 +74,7 @@ columns_more n m e h =
       few = c.few;
       below = all_weaker (λ (d : ColumnDef). is_type_below n d.kind) (λ (d : ColumnDef). is_type_below (n + m) d.kind) e.columns (λ d w. type_more n m d.kind w) c.below;
       named = c.named;
+      defaults = c.defaults;
     })
 
 -- ---- a new entity has no columns
@@ -108,10 +121,28 @@ type_below m e [] h = refl
 type_below m e (a ∷ b ∷ c ∷ ts) h = refl
 
 -- what isn't wrong with a column's line
+record Fine (m : List EntityDef) (e : EntityDef) (w : List ℕ) (ts : List Token) : Type 0 where
+  room : nat_le 16 (length e.columns) ≡ false
+  fresh : is_some (column_at e.columns w) ≡ false
+  typed : type_kind m e (type_in ts) ≡ None
+  default : default_kind e.columns (type_from m e (type_in ts)) (default_in ts) ≡ None
+
+no_kinds : (a b : Option Kind) → or_kind a b ≡ None → (a ≡ None) × (b ≡ None)
+no_kinds (Some k) b h = absurd (some_none k h)
+no_kinds None b h = (refl, h)
+
 fine_by : (many taken : Bool) (k : Option Kind) → cond many (Some Kind.ManyColumns) (cond taken (Some Kind.ColumnTaken) k) ≡ None → (many ≡ false) × (taken ≡ false) × (k ≡ None)
 fine_by true taken k h = absurd (some_none Kind.ManyColumns h)
 fine_by false true k h = absurd (some_none Kind.ColumnTaken h)
 fine_by false false k h = (refl, refl, h)
+
+fine : (m : List EntityDef) (e : EntityDef) (a name : Token) (ts : List Token) → column_kind m e (a ∷ name ∷ ts) ≡ None → Fine m e (word_of name) ts
+fine m e a name ts h =
+    let parts : (nat_le 16 (length e.columns) ≡ false) × (is_some (column_at e.columns (word_of name)) ≡ false) × (rest_kind m e ts ≡ None) =
+    fine_by (nat_le 16 (length e.columns)) (is_some (column_at e.columns (word_of name))) (rest_kind m e ts) h in
+    let kinds : (type_kind m e (type_in ts) ≡ None) × (default_kind e.columns (type_from m e (type_in ts)) (default_in ts) ≡ None) =
+    no_kinds (type_kind m e (type_in ts)) (default_kind e.columns (type_from m e (type_in ts)) (default_in ts)) parts.2 in
+    record { room = parts.0; fresh = parts.1; typed = kinds.0; default = kinds.1 }
 
 room_below : (n : ℕ) → nat_le 16 n ≡ false → nat_le (n + 1) 16 ≡ true
 room_below n h = le-leb (n + 1) 16 (grind (arith, nat_tests))
@@ -120,21 +151,123 @@ none_there : (o : Option ℕ) → is_some o ≡ false → o ≡ None
 none_there None h = refl
 none_there (Some i) h = absurd (true≢false h)
 
-pub column_more : (m : List EntityDef) (e : EntityDef) (ts : List Token) → are_columns (length m + 1) e ≡ true → is_name (name_in ts) ≡ true → column_kind m e ts ≡ None →
+-- ---- defaults
+-- the tokens of a type, by how many stand behind a column's name
+pub type_of_three : (ts : List Token) → length ts ≡ 3 → type_in ts ≡ take 1 ts
+type_of_three (a ∷ b ∷ c ∷ []) h = refl
+type_of_three [] h = absurd (omega arith)
+type_of_three (a ∷ []) h = absurd (omega arith)
+type_of_three (a ∷ b ∷ []) h = absurd (omega arith)
+type_of_three (a ∷ b ∷ c ∷ d ∷ ts) h = absurd (omega arith)
+
+pub type_of_four : (ts : List Token) → length ts ≡ 4 → type_in ts ≡ take 2 ts
+type_of_four (a ∷ b ∷ c ∷ d ∷ []) h = refl
+type_of_four [] h = absurd (omega arith)
+type_of_four (a ∷ []) h = absurd (omega arith)
+type_of_four (a ∷ b ∷ []) h = absurd (omega arith)
+type_of_four (a ∷ b ∷ c ∷ []) h = absurd (omega arith)
+type_of_four (a ∷ b ∷ c ∷ d ∷ e ∷ ts) h = absurd (omega arith)
+
+pub type_of_others : (ts : List Token) → length ts ≢ 3 → length ts ≢ 4 → type_in ts ≡ ts
+type_of_others [] h g = refl
+type_of_others (a ∷ []) h g = refl
+type_of_others (a ∷ b ∷ []) h g = refl
+type_of_others (a ∷ b ∷ c ∷ []) h g = absurd (h refl)
+type_of_others (a ∷ b ∷ c ∷ d ∷ []) h g = absurd (g refl)
+type_of_others (a ∷ b ∷ c ∷ d ∷ e ∷ ts) h g = refl
+
+fine_default : (b : Bool) → default_unless b ≡ None → b ≡ true
+fine_default true h = refl
+fine_default false h = absurd (some_none Kind.Default h)
+
+not_any : (b : Bool) → not b ≡ true → b ≡ false
+not_any true h = absurd (false≢true h)
+not_any false h = refl
+
+truth_there : (a b : Bool) → (a || b) ≡ true → is_some (cond a (Some (Cell.Bool true)) (cond b (Some (Cell.Bool false)) None)) ≡ true
+truth_there true b h = refl
+truth_there false true h = refl
+truth_there false false h = absurd (false≢true h)
+
+truth_typed : (a b : Bool) → is_default ColumnType.Bool (cond a (Some (Cell.Bool true)) (cond b (Some (Cell.Bool false)) None)) ≡ true
+truth_typed true b = refl
+truth_typed false true = refl
+truth_typed false false = refl
+
+number_there : (t : Token) → is_a_number t ≡ true → is_some (cell_of t) ≡ true
+number_there (Token.Number n) h = refl
+number_there _ h = absurd (false≢true h)
+
+quoted_there : (t : Token) → is_quoted t ≡ true → is_some (cell_of t) ≡ true
+quoted_there (Token.Quoted s) h = refl
+quoted_there _ h = absurd (false≢true h)
+
+word_there : (t : Token) → is_truth t ≡ true → is_some (cell_of t) ≡ true
+word_there (Token.Word w) h = truth_there (is_the_word (codes "true") (Token.Word w)) (is_the_word (codes "false") (Token.Word w)) h
+word_there (Token.Number n) h = refl
+word_there (Token.Quoted s) h = refl
+word_there _ h = absurd (false≢true h)
+
+-- a token that is a cell of the type is one
+cell_there : (k : ColumnType) (t : Token) → is_cell_of k t ≡ true → is_some (cell_of t) ≡ true
+cell_there ColumnType.Int t h = number_there t h
+cell_there (ColumnType.Ref e) t h = number_there t h
+cell_there ColumnType.Text t h = quoted_there t h
+cell_there ColumnType.Bool t h = word_there t h
+
+number_typed : (t : Token) (k : ColumnType) → ((n : ℤ) → is_of_type k (Cell.Int n) ≡ is_wide n) → is_a_number t ≡ true → is_lexed t ≡ true → is_default k (cell_of t) ≡ true
+number_typed (Token.Number n) k same h l = same n ∙ l
+number_typed _ k same h l = absurd (false≢true h)
+
+quoted_typed : (t : Token) → is_quoted t ≡ true → is_lexed t ≡ true → is_default ColumnType.Text (cell_of t) ≡ true
+quoted_typed (Token.Quoted s) h l = l
+quoted_typed _ h l = absurd (false≢true h)
+
+word_typed : (t : Token) → is_truth t ≡ true → is_default ColumnType.Bool (cell_of t) ≡ true
+word_typed (Token.Word w) h = truth_typed (is_the_word (codes "true") (Token.Word w)) (is_the_word (codes "false") (Token.Word w))
+word_typed _ h = absurd (false≢true h)
+
+-- and of the type
+cell_typed : (k : ColumnType) (t : Token) → is_cell_of k t ≡ true → is_lexed t ≡ true → is_default k (cell_of t) ≡ true
+cell_typed ColumnType.Int t h l = number_typed t ColumnType.Int (λ n. refl) h l
+cell_typed (ColumnType.Ref e) t h l = number_typed t (ColumnType.Ref e) (λ n. refl) h l
+cell_typed ColumnType.Text t h l = quoted_typed t h l
+cell_typed ColumnType.Bool t h l = word_typed t h
+
+default_lexed : (ts : List Token) → are_lexed ts ≡ true → Then (default_in ts) (λ t. is_lexed t ≡ true)
+default_lexed [] h = tt
+default_lexed (a ∷ []) h = tt
+default_lexed (a ∷ b ∷ []) h = tt
+default_lexed (a ∷ b ∷ c ∷ []) h = all_at (λ (t : Token). is_lexed t) (a ∷ b ∷ c ∷ []) 2 c h refl
+default_lexed (a ∷ b ∷ c ∷ d ∷ []) h = all_at (λ (t : Token). is_lexed t) (a ∷ b ∷ c ∷ d ∷ []) 3 d h refl
+default_lexed (a ∷ b ∷ c ∷ d ∷ e ∷ ts) h = tt
+
+-- the default of a column's line is of its type
+default_typed : (ds : List ColumnDef) (k : ColumnType) (o : Option Token) → Then o (λ t. is_lexed t ≡ true) → default_kind ds k o ≡ None → is_default k (option_and_then cell_of o) ≡ true
+default_typed ds k None l h = refl
+default_typed ds k (Some t) l h = cell_typed k t (fine_default (is_cell_of k t) h) l
+
+-- and there, unless no column before it has one
+default_there : (ds : List ColumnDef) (k : ColumnType) (o : Option Token) → default_kind ds k o ≡ None → (is_some (option_and_then cell_of o) ≡ true) ⊎ (list_any has_default ds ≡ false)
+default_there ds k None h = inr (not_any (list_any has_default ds) (fine_default (not (list_any has_default ds)) h))
+default_there ds k (Some t) h = inl (cell_there k t (fine_default (is_cell_of k t) h))
+
+pub column_more : (m : List EntityDef) (e : EntityDef) (ts : List Token) → are_columns (length m + 1) e ≡ true → are_lexed ts ≡ true → is_name (name_in ts) ≡ true → column_kind m e ts ≡ None →
     are_columns (length m + 1) (with_column m e ts) ≡ true
-column_more m e [] h i k = h
-column_more m e (a ∷ []) h i k = h
-column_more m e (a ∷ name ∷ type) h i k =
+column_more m e [] h l i k = h
+column_more m e (a ∷ []) h l i k = h
+column_more m e (a ∷ name ∷ ts) h l i k =
     let w : List ℕ = word_of name in
-    let fine : (nat_le 16 (length e.columns) ≡ false) × (is_some (column_at e.columns w) ≡ false) × (type_kind m e type ≡ None) =
-    fine_by (nat_le 16 (length e.columns)) (is_some (column_at e.columns w)) (type_kind m e type) k in
+    let f : Fine m e w ts = fine m e a name ts k in
     let c : HasColumns (length m + 1) e.columns = columns_of (length m + 1) e h in
-    let d : ColumnDef = record { name = w; kind = type_from m e type } in
+    let d : ColumnDef = column_of m e name ts in
+    let rest : are_lexed ts ≡ true = (and_parts (is_lexed name) (are_lexed ts) (and_parts (is_lexed a) (are_lexed (name ∷ ts)) l).1).1 in
     columns_from (length m + 1) (record e { columns = e.columns ++ d ∷ [] }) (record {
-      few = subst (λ n. nat_le n 16 ≡ true) (sym (length-append e.columns (d ∷ []))) (room_below (length e.columns) fine.0);
-      below = all_more (λ (d : ColumnDef). is_type_below (length m + 1) d.kind) e.columns d c.below (type_below m e type fine.2);
+      few = subst (λ n. nat_le n 16 ≡ true) (sym (length-append e.columns (d ∷ []))) (room_below (length e.columns) f.room);
+      below = all_more (λ (d : ColumnDef). is_type_below (length m + 1) d.kind) e.columns d c.below (type_below m e (type_in ts) f.typed);
       named = named_more (λ (d : ColumnDef). d.name) e.columns d c.named i
-          (unplaced (λ (d : ColumnDef). bytes_eq d.name w) e.columns (let l : length e.columns ≤ 16 = leb-true (length e.columns) 16 c.few in omega (arith, l)) (none_there (column_at e.columns w) fine.1));
+          (unplaced (λ (d : ColumnDef). bytes_eq d.name w) e.columns (let l : length e.columns ≤ 16 = leb-true (length e.columns) 16 c.few in omega (arith, l)) (none_there (column_at e.columns w) f.fresh));
+      defaults = defaults_more e.columns d c.defaults (default_typed e.columns d.kind (default_in ts) (default_lexed ts rest) f.default) (default_there e.columns d.kind (default_in ts) f.default);
     })
 
 -- ---- the names of lines
@@ -155,11 +288,9 @@ entity_named (first ∷ name ∷ strategy ∷ versioning ∷ capacity ∷ []) h 
 entity_named _ h i f = absurd (false≢true h)
 
 pub column_named : (ts : List Token) → is_column_line ts ≡ true → are_lexed ts ≡ true → is_reserved (name_in ts) ≡ false → is_name (name_in ts) ≡ true
-column_named (first ∷ name ∷ kind ∷ []) h i f =
-    name_from name (and_parts (is_a_word name) (is_a_word kind && not (is_the_word (codes "ref") kind)) h).0 (second_lexed first name (kind ∷ []) i) f
-column_named (first ∷ name ∷ kind ∷ target ∷ []) h i f =
-    name_from name (and_parts (is_a_word name) (is_the_word (codes "ref") kind && is_a_word target) h).0 (second_lexed first name (kind ∷ target ∷ []) i) f
-column_named _ h i f = absurd (false≢true h)
+column_named (first ∷ name ∷ ts) h i f = name_from name (and_parts (is_a_word name) (is_described ts) h).0 (second_lexed first name ts i) f
+column_named [] h i f = absurd (false≢true h)
+column_named (a ∷ []) h i f = absurd (false≢true h)
 
 -- ---- a new entity's name is none of those before it
 fresh_by : (many taken : Bool) (k : Option Kind) → cond many (Some Kind.ManyEntities) (cond taken (Some Kind.EntityTaken) k) ≡ None → taken ≡ false

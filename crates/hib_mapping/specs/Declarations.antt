@@ -1,11 +1,15 @@
 -- The entity and column lines: their forms, the first thing that is wrong with one, and what it declares.
-use Rattle.std.specs.Prelude.{ℕ, Bool, false, cond, not, ◌&&◌, ◌||◌, nat_le, List, [], ◌∷◌, ◌++◌, length, Option, Some, None, is_some, unwrap_or, codes, bytes_eq}
+use Rattle.std.specs.Prelude.{ℕ, Bool, false, cond, not, ◌&&◌, ◌||◌, nat_le, List, [], ◌∷◌, ◌++◌, length, Option, Some, None, is_some, unwrap_or, option_and_then, codes, bytes_eq}
+use Rattle.std.specs.List.{list_any}
 use Rattle.hib_base.specs.declared.refusals.Kind.{Kind}
+use Rattle.hib_base.specs.declared.scripts.ColumnDef.{ColumnDef}
 use Rattle.hib_base.specs.declared.scripts.ColumnType.{ColumnType}
 use Rattle.hib_base.specs.declared.scripts.EntityDef.{EntityDef}
 use Rattle.hib_base.specs.declared.scripts.Strategy.{Strategy}
+use Rattle.hib_base.specs.Fits.{has_default}
 use Rattle.hib_lex.specs.Words.{is_the_word}
 use Rattle.hib_lex.specs.declared.lexer.Token.{Token}
+use Rattle.hib_mapping.specs.Cells.{cell_of, is_a_cell, is_cell_of}
 use Rattle.hib_mapping.specs.Parts.{is_a_word, is_a_number, word_of, is_within, number_up_to, small, entity_at, column_at}
 
 -- ---- entity NAME STRATEGY VERSIONING CAPACITY
@@ -63,11 +67,39 @@ entity_of (first ∷ name ∷ strategy ∷ versioning ∷ capacity ∷ []) =
     })
 entity_of _ = None
 
--- ---- column NAME TYPE, where TYPE is a word, or `ref` and an entity's name
+-- ---- column NAME TYPE, where TYPE is a word, or `ref` and an entity's name; behind it `default` and a cell, if it has a default
+abbrev pub is_plain : Token → Bool
+is_plain kind = is_a_word kind && not (is_the_word (codes "ref") kind)
+
+abbrev pub is_reference : Token → Token → Bool
+is_reference kind target = is_the_word (codes "ref") kind && is_a_word target
+
+abbrev pub is_default : Token → Token → Bool
+is_default word cell = is_the_word (codes "default") word && is_a_cell cell
+
+-- what stands behind the name
+abbrev pub is_described : List Token → Bool
+is_described (kind ∷ []) = is_plain kind
+is_described (kind ∷ target ∷ []) = is_reference kind target
+is_described (kind ∷ word ∷ cell ∷ []) = is_plain kind && is_default word cell
+is_described (kind ∷ target ∷ word ∷ cell ∷ []) = is_reference kind target && is_default word cell
+is_described _ = false
+
 abbrev pub is_column_line : List Token → Bool
-is_column_line (first ∷ name ∷ kind ∷ []) = is_a_word name && (is_a_word kind && not (is_the_word (codes "ref") kind))
-is_column_line (first ∷ name ∷ kind ∷ target ∷ []) = is_a_word name && (is_the_word (codes "ref") kind && is_a_word target)
+is_column_line (first ∷ name ∷ ts) = is_a_word name && is_described ts
 is_column_line _ = false
+
+-- of the tokens behind a column's name, those of its type
+abbrev pub type_in : List Token → List Token
+type_in (kind ∷ word ∷ cell ∷ []) = kind ∷ []
+type_in (kind ∷ target ∷ word ∷ cell ∷ []) = kind ∷ target ∷ []
+type_in ts = ts
+
+-- and the one that is its default, if it has one
+abbrev pub default_in : List Token → Option Token
+default_in (kind ∷ word ∷ cell ∷ []) = Some cell
+default_in (kind ∷ target ∷ word ∷ cell ∷ []) = Some cell
+default_in _ = None
 
 abbrev pub type_of : Token → Option ColumnType
 type_of t =
@@ -88,20 +120,39 @@ type_kind m e (kind ∷ []) = kind_unless Kind.ColumnType (type_of kind)
 type_kind m e (kind ∷ target ∷ []) = kind_unless Kind.RefUnknown (target_of m e target)
 type_kind m e _ = None
 
--- what is wrong with a column line of this form behind the entities m and the entity e, if anything
-abbrev pub column_kind : List EntityDef → EntityDef → List Token → Option Kind
-column_kind m e (first ∷ name ∷ type) =
-    cond (nat_le 16 (length e.columns)) (Some Kind.ManyColumns)
-    (cond (is_some (column_at e.columns (word_of name))) (Some Kind.ColumnTaken) (type_kind m e type))
-column_kind m e _ = None
-
 abbrev pub type_from : List EntityDef → EntityDef → List Token → ColumnType
 type_from m e (kind ∷ []) = unwrap_or (type_of kind) ColumnType.Int
 type_from m e (kind ∷ target ∷ []) = ColumnType.Ref (unwrap_or (target_of m e target) 0)
 type_from m e _ = ColumnType.Int
 
+abbrev pub default_unless : Bool → Option Kind
+default_unless fine = cond fine None (Some Kind.Default)
+
+-- a default is a cell of its column's type; a column without one stands behind none that has one
+abbrev pub default_kind : List ColumnDef → ColumnType → Option Token → Option Kind
+default_kind ds k None = default_unless (not (list_any has_default ds))
+default_kind ds k (Some t) = default_unless (is_cell_of k t)
+
+abbrev pub or_kind : Option Kind → Option Kind → Option Kind
+or_kind (Some k) other = Some k
+or_kind None other = other
+
+-- what is wrong with the type, or else with the default
+abbrev pub rest_kind : List EntityDef → EntityDef → List Token → Option Kind
+rest_kind m e ts = or_kind (type_kind m e (type_in ts)) (default_kind e.columns (type_from m e (type_in ts)) (default_in ts))
+
+-- what is wrong with a column line of this form behind the entities m and the entity e, if anything
+abbrev pub column_kind : List EntityDef → EntityDef → List Token → Option Kind
+column_kind m e (first ∷ name ∷ ts) =
+    cond (nat_le 16 (length e.columns)) (Some Kind.ManyColumns)
+    (cond (is_some (column_at e.columns (word_of name))) (Some Kind.ColumnTaken) (rest_kind m e ts))
+column_kind m e _ = None
+
+abbrev pub column_of : List EntityDef → EntityDef → Token → List Token → ColumnDef
+column_of m e name ts =
+    record { name = word_of name; kind = type_from m e (type_in ts); default = option_and_then cell_of (default_in ts) }
+
 -- the entity with the column of a line with which nothing is wrong
 abbrev pub with_column : List EntityDef → EntityDef → List Token → EntityDef
-with_column m e (first ∷ name ∷ type) =
-    record e { columns = e.columns ++ record { name = word_of name; kind = type_from m e type } ∷ [] }
+with_column m e (first ∷ name ∷ ts) = record e { columns = e.columns ++ column_of m e name ts ∷ [] }
 with_column m e _ = e

@@ -1,11 +1,15 @@
 // The entity and column lines: their forms, the first thing that is wrong with one, and what it declares.
 ghost use Rattle.hib_mapping.specs.Declarations as lines;
 ghost use Rattle.hib_mapping.specs.Parts.{word_of};
-ghost use Rattle.std.specs.Prelude.{◌≡◌, IfOk, bytes_eq};
+ghost use Rattle.hib_mapping.specs.Cells.{cell_of};
+ghost use Rattle.std.specs.Prelude.{◌≡◌, ◌&&◌, IfOk, bytes_eq, option_and_then, option_copied};
 
+use crate::cells::{cell, is_a_cell, is_cell_of};
 use crate::names::{column_place, entity_no, entity_number};
 use crate::tokens::{is_number, is_within, is_word, number_up_to, word, word_bytes};
-use hib_base::{ColumnDef, ColumnType, EntityDef, EntityNo, Kind, Seq, Strategy};
+use hib_base::{
+    Cell, ColumnDef, ColumnType, EntityDef, EntityNo, Kind, Seq, Strategy, has_defaults,
+};
 use hib_lex::{Token, is_the_word};
 use std::alloc::{AllocError, Global};
 
@@ -133,14 +137,79 @@ pub fn entity(alloc: Global, tokens: &[Token]) -> Result<Option<EntityDef>, Allo
     }))
 }
 
-/// Whether a line that begins with `column` is `column NAME TYPE` or `column NAME ref ENTITY`.
+/// Whether a line that begins with `column` is `column NAME TYPE`, where TYPE is a word, or `ref` and an entity's name, or has
+/// this and behind it `default` and a cell.
 pub fn is_column_line(tokens: &[Token]) -> bool
     ensures { result ≡ lines.is_column_line tokens.now }
 {
     match tokens {
-        [_, name, kind] => is_word(name) && is_word(kind) && !is_the_word(kind, b"ref"),
-        [_, name, kind, target] => is_word(name) && is_the_word(kind, b"ref") && is_word(target),
+        [_, name, rest @ ..] => is_word(name) && is_described(rest),
         _ => false,
+    }
+}
+
+fn is_described(tokens: &[Token]) -> bool
+    ensures { result ≡ lines.is_described tokens.now }
+{
+    match tokens {
+        [kind] => is_plain(kind),
+        [kind, target] => is_reference(kind, target),
+        [kind, word, cell] => is_plain_default(kind, word, cell),
+        [kind, target, word, cell] => is_reference_default(kind, target, word, cell),
+        _ => false,
+    }
+}
+
+fn is_plain_default(kind: &Token, word: &Token, cell: &Token) -> bool
+    ensures { result ≡ lines.is_plain kind.now && lines.is_default word.now cell.now }
+{
+    is_plain(kind) && is_default(word, cell)
+}
+
+fn is_reference_default(kind: &Token, target: &Token, word: &Token, cell: &Token) -> bool
+    ensures { result ≡ lines.is_reference kind.now target.now && lines.is_default word.now cell.now }
+{
+    is_reference(kind, target) && is_default(word, cell)
+}
+
+fn is_plain(kind: &Token) -> bool
+    ensures { result ≡ lines.is_plain kind.now }
+{
+    is_word(kind) && !is_the_word(kind, b"ref")
+}
+
+fn is_reference(kind: &Token, target: &Token) -> bool
+    ensures { result ≡ lines.is_reference kind.now target.now }
+{
+    is_the_word(kind, b"ref") && is_word(target)
+}
+
+fn is_default(word: &Token, cell: &Token) -> bool
+    ensures { result ≡ lines.is_default word.now cell.now }
+{
+    is_the_word(word, b"default") && is_a_cell(cell)
+}
+
+/// Of the tokens behind a column's name, those of its type.
+#[tactic(auto, using(crate::proofs::Columns::type_of_three, crate::proofs::Columns::type_of_four, crate::proofs::Columns::type_of_others))]
+fn type_tokens(tokens: &[Token]) -> &[Token]
+    ensures { result.now ≡ lines.type_in tokens.now }
+{
+    match tokens.len() {
+        3 => &tokens[..1],
+        4 => &tokens[..2],
+        _ => tokens,
+    }
+}
+
+/// Of the tokens behind a column's name, the one that is its default, if it has one.
+fn default_token(tokens: &[Token]) -> Option<&Token>
+    ensures { option_copied result ≡ lines.default_in tokens.now }
+{
+    match tokens {
+        [_, _, cell] => Some(cell),
+        [_, _, _, cell] => Some(cell),
+        _ => None,
     }
 }
 
@@ -203,22 +272,6 @@ fn kind_unless_target(found: Option<EntityNo>) -> Option<Kind>
     }
 }
 
-/// The first thing that is wrong with a column line of this form behind these entities, for the columns of this one.
-pub fn column_kind(mapping: &[EntityDef], entity: &EntityDef, tokens: &[Token]) -> Option<Kind>
-    ensures { result ≡ lines.column_kind mapping.now entity.now tokens.now }
-{
-    let [_, name, kind @ ..] = tokens else {
-        return None;
-    };
-    if entity.columns.len() >= MOST_COLUMNS {
-        return Some(Kind::ManyColumns);
-    }
-    if column_place(entity.columns.as_slice(), word_bytes(name)).is_some() {
-        return Some(Kind::ColumnTaken);
-    }
-    type_kind(mapping, entity, kind)
-}
-
 fn type_from(mapping: &[EntityDef], entity: &EntityDef, tokens: &[Token]) -> ColumnType
     ensures { result ≡ lines.type_from mapping.now entity.now tokens.now }
 {
@@ -227,6 +280,77 @@ fn type_from(mapping: &[EntityDef], entity: &EntityDef, tokens: &[Token]) -> Col
         [_, name] => ColumnType::Ref(target(mapping, entity, name).unwrap_or(EntityNo(0))),
         _ => ColumnType::Int,
     }
+}
+
+fn default_unless(fine: bool) -> Option<Kind>
+    ensures { result ≡ lines.default_unless fine }
+{
+    if fine { None } else { Some(Kind::Default) }
+}
+
+fn default_kind(columns: &[ColumnDef], kind: ColumnType, default: Option<&Token>) -> Option<Kind>
+    ensures { result ≡ lines.default_kind columns.now kind (option_copied default.entry) }
+{
+    match default {
+        Some(token) => default_unless(is_cell_of(kind, token)),
+        None => default_unless(!has_defaults(columns)),
+    }
+}
+
+/// The first thing that is wrong with a column line of this form behind these entities, for the columns of this one.
+pub fn column_kind(mapping: &[EntityDef], entity: &EntityDef, tokens: &[Token]) -> Option<Kind>
+    ensures { result ≡ lines.column_kind mapping.now entity.now tokens.now }
+{
+    let [_, name, rest @ ..] = tokens else {
+        return None;
+    };
+    if entity.columns.len() >= MOST_COLUMNS {
+        return Some(Kind::ManyColumns);
+    }
+    if column_place(entity.columns.as_slice(), word_bytes(name)).is_some() {
+        return Some(Kind::ColumnTaken);
+    }
+    rest_kind(mapping, entity, rest)
+}
+
+/// The first thing that is wrong with what stands behind a column's name.
+fn rest_kind(mapping: &[EntityDef], entity: &EntityDef, tokens: &[Token]) -> Option<Kind>
+    ensures { result ≡ lines.rest_kind mapping.now entity.now tokens.now }
+{
+    let kind = type_tokens(tokens);
+    match type_kind(mapping, entity, kind) {
+        Some(kind) => Some(kind),
+        None => default_kind(
+            entity.columns.as_slice(),
+            type_from(mapping, entity, kind),
+            default_token(tokens),
+        ),
+    }
+}
+
+fn default_cell(alloc: Global, token: Option<&Token>) -> Result<Option<Cell>, AllocError>
+    ensures { IfOk result (λ c. c ≡ option_and_then cell_of (option_copied token.entry)) }
+{
+    match token {
+        Some(token) => cell(alloc, token),
+        None => Ok(None),
+    }
+}
+
+fn column(
+    alloc: Global,
+    mapping: &[EntityDef],
+    entity: &EntityDef,
+    name: &Token,
+    rest: &[Token],
+) -> Result<ColumnDef, AllocError>
+    ensures { IfOk result (λ d. d ≡ lines.column_of mapping.now entity.now name.now rest.now) }
+{
+    Ok(ColumnDef {
+        name: word(alloc, name)?,
+        kind: type_from(mapping, entity, type_tokens(rest)),
+        default: default_cell(alloc, default_token(rest))?,
+    })
 }
 
 /// The entity with the column of a column line.
@@ -238,11 +362,10 @@ pub fn with_column(
 ) -> Result<EntityDef, AllocError>
     ensures { IfOk result (λ e. e ≡ lines.with_column mapping.now entity tokens.now) }
 {
-    let [_, name, kind @ ..] = tokens else {
+    let [_, name, rest @ ..] = tokens else {
         return Ok(entity);
     };
-    let kind = type_from(mapping, &entity, kind);
-    let name = word(alloc, name)?;
-    entity.columns.push(ColumnDef { name, kind })?;
+    let column = column(alloc, mapping, &entity, name, rest)?;
+    entity.columns.push(column)?;
     Ok(entity)
 }

@@ -27,6 +27,7 @@ pub fn is_reserved(word: &[u8]) -> bool
         || is(word, b"true")
         || is(word, b"false")
         || is(word, b"none")
+        || is(word, b"default")
 }
 
 /// The entity of this name, if there is one.

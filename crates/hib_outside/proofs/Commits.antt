@@ -4,7 +4,7 @@ use Rattle.std.proofs.lemmas.List.{take_more, drop_more}
 use Rattle.std.specs.Map.{lookup}
 use Rattle.hib_base.specs.Keys.{same_key}
 use Rattle.hib_base.proofs.Tables.{left_by, row_at_changes}
-use Rattle.hib_base.specs.Tables.{Tables, row_at, start, unless_there, last_on, or_change, after_change, after_changes, key_of, same_version, unless_expected, unless_absent, refusal, or_answer, commit_answer}
+use Rattle.hib_base.specs.Tables.{Tables, row_at, with_absent, unless_there, last_on, or_change, after_change, after_changes, key_of, same_version, unless_expected, unless_absent, refusal, or_answer, commit_answer}
 use Rattle.hib_outside.specs.Types.{Key, Row, Change, Commit}
 use Rattle.hib_outside.specs.Lasts.{change_at, HasLasts}
 use Rattle.hib_outside.specs.Verdicts.{unless_as_expected, unless_free, refused_at, or_verdict, verdict, commit_of}
@@ -62,9 +62,9 @@ pub after_changes_push : (cs : List Change) (c : Change) (t : Tables) → after_
 after_changes_push [] c t = refl
 after_changes_push (d ∷ cs) c t = after_changes_push cs c (after_change d t)
 
-pub start_push : (t es : Tables) (e : Key × Row) → start t (es ++ e ∷ []) ≡ unless_there (start t es) e.0 e.1 (row_at (start t es) e.0)
-start_push t [] e = refl
-start_push t (d ∷ es) e = start_push (unless_there t d.0 d.1 (row_at t d.0)) es e
+pub with_absent_push : (t es : Tables) (e : Key × Row) → with_absent t (es ++ e ∷ []) ≡ unless_there (with_absent t es) e.0 e.1 (row_at (with_absent t es) e.0)
+with_absent_push t [] e = refl
+with_absent_push t (d ∷ es) e = with_absent_push (unless_there t d.0 d.1 (row_at t d.0)) es e
 
 pub last_on_push : (k : Key) (cs : List Change) (c : Change) → last_on k (cs ++ c ∷ []) ≡ or_change (cond (same_key (key_of c) k) (Some c) None) (last_on k cs)
 last_on_push k [] c = by_key (cond (same_key (key_of c) k) (Some c) None)
@@ -104,7 +104,7 @@ pub row_after_last : (cs : List Change) (n : ℕ) (t : Tables) (k : Key) (ps : L
     → left_by (change_at cs (lookup (same_key k) ps)) (row_at t k) ≡ row_at (after_changes (take n cs) t) k
 row_after_last cs n t k ps h = ap (λ o. left_by o (row_at t k)) (h k) ∙ sym (row_at_changes (take n cs) t k)
 
-got_at : {A : Type 0} (xs : List A) (i : ℕ) (x : A) → i < length xs → x ≡ get_or xs i x → slice_get xs i ≡ Some x
+pub got_at : {A : Type 0} (xs : List A) (i : ℕ) (x : A) → i < length xs → x ≡ get_or xs i x → slice_get xs i ≡ Some x
 got_at [] i x l e = absurd (omega (arith, l))
 got_at (y ∷ ys) zero x l e = ap Some (sym e)
 got_at (y ∷ ys) (suc i) x l e = let m : i < length ys = omega (arith, l) in got_at ys i x m e

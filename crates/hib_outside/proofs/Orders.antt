@@ -2,8 +2,10 @@
 use Rattle.std.proofs.Common.{◌≡◌, ◌⊎◌, inl, inr, ◌<◌, true, false, ◌&&◌, ◌==◌, nat_lt, List, [], ◌∷◌, Some, None, Option, refl, sym, ◌∙◌, subst, eq-eqb, arith}
 use Rattle.std.proofs.lemmas.Bool.{eqb-true, ltb-true, lt-ltb, and_parts, and_from, or_cases, or_left, or_right, both_ways, cases_order}
 use Rattle.hib_base.specs.Keys.{same_key, is_before}
-use Rattle.hib_base.specs.Tables.{Tables, row_at, with_row, without_row, tables_with, unless_there, start, key_of, row_left, after_change, after_changes, is_first, in_order}
+use Rattle.hib_base.specs.Tables.{Tables, row_at, with_row, without_row, tables_with, unless_there, with_absent, key_of, row_left, after_change, after_changes, is_first, in_order}
 use Rattle.hib_base.proofs.Tables.{same_key_eq, Tested, tested}
+use Rattle.hib_base.specs.Start.{widened}
+use Rattle.hib_base.specs.declared.scripts.EntityDef.{EntityDef}
 use Rattle.hib_outside.specs.Types.{Key, Row, Change}
 
 -- what it says that a key comes before another
@@ -148,6 +150,17 @@ pub in_order_unless_there : (t : Tables) (k : Key) (r : Row) (o : Option Row) �
 in_order_unless_there t k r None h = in_order_with_row t k r h
 in_order_unless_there t k r (Some old) h = h
 
-pub in_order_start : (t es : Tables) → in_order t ≡ true → in_order (start t es) ≡ true
-in_order_start t [] h = h
-in_order_start t (e ∷ es) h = in_order_start (unless_there t e.0 e.1 (row_at t e.0)) es (in_order_unless_there t e.0 e.1 (row_at t e.0) h)
+pub in_order_with_absent : (t es : Tables) → in_order t ≡ true → in_order (with_absent t es) ≡ true
+in_order_with_absent t [] h = h
+in_order_with_absent t (e ∷ es) h = in_order_with_absent (unless_there t e.0 e.1 (row_at t e.0)) es (in_order_unless_there t e.0 e.1 (row_at t e.0) h)
+
+-- tables stay in order when their rows are widened
+is_first_widened : (m : List EntityDef) (k : Key) (t : Tables) → is_first k t ≡ true → is_first k (widened m t) ≡ true
+is_first_widened m k [] h = h
+is_first_widened m k (e ∷ es) h = h
+
+pub in_order_widened : (m : List EntityDef) (t : Tables) → in_order t ≡ true → in_order (widened m t) ≡ true
+in_order_widened m [] o = refl
+in_order_widened m (e ∷ es) o =
+    let p : (is_first e.0 es ≡ true) × (in_order es ≡ true) = rest_in_order e es o in
+    and_from (is_first e.0 (widened m es)) (in_order (widened m es)) (is_first_widened m e.0 es p.0) (in_order_widened m es p.1)

@@ -3,15 +3,17 @@ use Rattle.std.specs.Prelude.{ℕ, ⊤, Bool, cond, nat_eq, List, [], ◌∷◌,
 use Rattle.std.specs.List.{list_any}
 use Rattle.std.specs.Option.{option_map}
 use Rattle.hib_outside.specs.Types.{Change}
-use Rattle.hib_base.specs.Tables.{Tables, start}
+use Rattle.hib_base.specs.Start.{start}
+use Rattle.hib_base.specs.Tables.{Tables}
+use Rattle.hib_base.specs.declared.scripts.EntityDef.{EntityDef}
 use Rattle.hib_outside.specs.Verdicts.{after_applied}
 use Rattle.hib_outside.specs.declared.keeper.Applied.{Applied}
 use Rattle.hib_outside.specs.declared.keeper.KeepFault.{KeepFault}
 
--- after rows were placed where a key has none
-abbrev pub tables_seeded : Result ⊤ KeepFault → Tables → Option Tables → Option Tables
-tables_seeded (Ok a) rows told = option_map (λ m. start m rows) told
-tables_seeded (Err e) rows told = told
+-- after they became the start of a mapping and of rows
+abbrev pub tables_seeded : Result ⊤ KeepFault → List EntityDef → Tables → Option Tables → Option Tables
+tables_seeded (Ok a) mapping rows told = option_map (λ m. start mapping m rows) told
+tables_seeded (Err e) mapping rows told = told
 
 -- after a batch of changes
 abbrev pub tables_after : Result Applied KeepFault → List Change → Option Tables → Option Tables

@@ -7,7 +7,7 @@ ghost use Rattle.hib_outside.specs.Keeps.{tables_seeded, tables_after, rows_of};
 ghost use Rattle.hib_outside.specs.Causes.{FailsByCause};
 ghost use Rattle.hib_outside.specs.declared.keeper.KeepFault.TheVariants.{NoMemory};
 
-use hib_base::{Change, EntityNo, Key, Row, Rows};
+use hib_base::{Change, EntityNo, Key, Mapping, Row, Rows};
 use std::alloc::{AllocError, AllocFailed, Global};
 use thiserror::Error;
 
@@ -70,9 +70,16 @@ pub trait Keeper: Send {
     /// How often it was asked for rows.
     ghost asked: { Self → ℕ };
 
-    /// Adds in order each row whose key has none: all of them, or at an error none.
-    fn seed(&mut self, alloc: Global, rows: &[(Key, Row)]) -> Result<(), KeepFault>
-        ensures tables { tables self.new ≡ tables_seeded result rows.now (tables self.old) }
+    /// Gives each row that it keeps of an entity of this mapping, if the row lacks columns, the defaults of the columns that
+    /// it lacks, if each of these has one. Then it adds in order each of these rows whose key has none. It does all of this,
+    /// or at an error nothing.
+    fn seed(
+        &mut self,
+        alloc: Global,
+        mapping: &Mapping,
+        rows: &[(Key, Row)],
+    ) -> Result<(), KeepFault>
+        ensures tables { tables self.new ≡ tables_seeded result mapping.now rows.now (tables self.old) }
         ensures asked { asked self.new ≡ asked self.old }
         ensures cause { FailsByCause (faults self.old) (faults self.new) result };
 

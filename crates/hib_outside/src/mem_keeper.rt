@@ -9,7 +9,7 @@ ghost use Rattle.hib_outside.specs.Verdicts.{verdict, IsPlace};
 ghost use Rattle.hib_outside.specs.declared.keeper.KeepFault.{KeepFault};
 
 use crate::{Applied, Failing, KeepFault, Keeper, Numbers, shelf};
-use hib_base::{Change, EntityNo, Key, Row, Rows, Seq};
+use hib_base::{Change, EntityNo, Key, Mapping, Row, Rows, Seq};
 use std::alloc::Global;
 
 /// A keeper in memory. It tells its tables.
@@ -56,9 +56,14 @@ impl Keeper for MemKeeper {
 
     ghost ordered = { λ k. k.ordered };
 
-    #[tactic(auto, using(crate::proofs::Orders::in_order_start))]
-    fn seed(&mut self, alloc: Global, rows: &[(Key, Row)]) -> Result<(), KeepFault>
-        ensures tables { Some self.new.rows.items ≡ tables_seeded result rows.now (Some self.old.rows.items) }
+    #[tactic(auto, using(crate::proofs::Orders::in_order_with_absent, crate::proofs::Orders::in_order_widened))]
+    fn seed(
+        &mut self,
+        alloc: Global,
+        mapping: &Mapping,
+        rows: &[(Key, Row)],
+    ) -> Result<(), KeepFault>
+        ensures tables { Some self.new.rows.items ≡ tables_seeded result mapping.now rows.now (Some self.old.rows.items) }
         ensures asked { self.new.asked ≡ self.old.asked }
         ensures cause { FailsByCause (failed_calls self.old.failing.fail self.old.failing.calls) (failed_calls self.new.failing.fail self.new.failing.calls) result }
         ensures fails { (result ≡ Err KeepFault.Failed) ↔ (is_due self.old.failing.fail self.old.failing.calls ≡ true) }
@@ -68,9 +73,11 @@ impl Keeper for MemKeeper {
         if self.failing.comes() {
             return Err(KeepFault::Failed);
         }
+        let mut kept = shelf::widened(alloc, mapping.as_slice(), self.rows.as_slice())?;
         let more = shelf::copy_rows(alloc, rows)?;
-        self.rows.reserve(more.len())?;
-        shelf::add_all(&mut self.rows, more);
+        kept.reserve(more.len())?;
+        shelf::add_all(&mut kept, more);
+        self.rows = kept;
         Ok(())
     }
 

@@ -3,14 +3,15 @@ ghost use Rattle.std.specs.Map.{lookup};
 ghost use Rattle.std.specs.Prelude.{◌≡◌, ◌+◌, ◌≤◌, ◌<◌, ℕ, true, length, take, List, [], cond, Some, None, MatchResult, IfOk, IfSome, OnOk, vec_len, vec_capacity, option_copied};
 ghost use Rattle.hib_base.specs.Keys.{same_key, is_before};
 ghost use Rattle.hib_base.specs.declared.numbers.Key.{Key as KeyOf};
-ghost use Rattle.hib_base.specs.Tables.{in_order, row_at, with_row, without_row, row_left, same_version, after_change, after_changes, unless_there, start};
+ghost use Rattle.hib_base.specs.Tables.{in_order, row_at, with_row, without_row, row_left, same_version, after_change, after_changes, unless_there, with_absent};
+ghost use Rattle.hib_base.specs.Start.{widened_entry, widened};
 ghost use Rattle.hib_outside.specs.Places.{place_in};
 ghost use Rattle.hib_outside.specs.Keeps.{rows_of, is_listed};
 ghost use Rattle.hib_outside.specs.Verdicts.{refused_at, verdict, IsPlace};
 ghost use Rattle.hib_outside.specs.Lasts.{change_at, HasLasts};
 
 use crate::Applied;
-use hib_base::{Change, EntityNo, Key, Row, Rows, Seq};
+use hib_base::{Change, EntityDef, EntityNo, Key, Row, Rows, Seq, entity_columns};
 use indexmap::IndexMap;
 use std::alloc::{AllocError, Global};
 
@@ -212,6 +213,34 @@ pub fn copy_rows(alloc: Global, rows: &[(Key, Row)]) -> Result<Vec<(Key, Row)>, 
     Ok(copy)
 }
 
+/// A row with its key, widened to the columns of its entity.
+fn widened_entry(
+    alloc: Global,
+    mapping: &[EntityDef],
+    entry: &(Key, Row),
+) -> Result<(Key, Row), AllocError>
+    ensures { IfOk result (λ e. e ≡ widened_entry mapping.now entry.now) }
+{
+    let columns = entity_columns(mapping, entry.0.entity);
+    Ok((entry.0, entry.1.widened(alloc, columns)?))
+}
+
+/// Equal rows, except that a row of an entity of this mapping that lacks columns has their defaults at its end, if each of these
+/// columns has one.
+pub fn widened(
+    alloc: Global,
+    mapping: &[EntityDef],
+    rows: &[(Key, Row)],
+) -> Result<Vec<(Key, Row)>, AllocError>
+    ensures { IfOk result (λ c. c.items ≡ widened mapping.now rows.now) }
+{
+    let mut wide = Vec::with_capacity(alloc, rows.len())?;
+    for row in rows {
+        wide.push(widened_entry(alloc, mapping, row)?)?;
+    }
+    Ok(wide)
+}
+
 /// Copies of the rows of these entities.
 pub fn listed(
     alloc: Global,
@@ -287,11 +316,11 @@ fn add_one(rows: &mut Vec<(Key, Row)>, key: Key, row: Row)
 }
 
 /// Adds each row whose key has none, one after another. There is room for as many rows more.
-#[tactic(auto, using(crate::proofs::Commits::start_push, crate::proofs::Orders::in_order_unless_there))]
+#[tactic(auto, using(crate::proofs::Commits::with_absent_push, crate::proofs::Orders::in_order_unless_there))]
 pub fn add_all(rows: &mut Vec<(Key, Row)>, more: Vec<(Key, Row)>)
     requires ordered { in_order rows.old.items ≡ true }
     requires room { vec_len rows.old + vec_len more ≤ vec_capacity rows.old }
-    ensures { rows.new.items ≡ start rows.old.items more.items }
+    ensures { rows.new.items ≡ with_absent rows.old.items more.items }
 {
     for (key, row) in more {
         add_one(rows, key, row);
@@ -300,9 +329,9 @@ pub fn add_all(rows: &mut Vec<(Key, Row)>, more: Vec<(Key, Row)>)
 
 /// Rows with changes done to them one after another, in order of keys. The rows may come in any order; of those of one
 /// key the first counts. At an error the rows are dropped.
-#[tactic(auto, using(crate::proofs::Orders::in_order_start, crate::proofs::Orders::in_order_changes))]
+#[tactic(auto, using(crate::proofs::Orders::in_order_with_absent, crate::proofs::Orders::in_order_changes))]
 pub fn laid_over(alloc: Global, rows: Rows, changes: &[Change]) -> Result<Rows, AllocError>
-    ensures rows { IfOk result (λ r. r ≡ after_changes changes.now (start [] rows)) }
+    ensures rows { IfOk result (λ r. r ≡ after_changes changes.now (with_absent [] rows)) }
     ensures ordered { IfOk result (λ r. in_order r ≡ true) }
 {
     let rows = rows.into_vec();

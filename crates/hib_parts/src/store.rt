@@ -78,8 +78,8 @@ fn serve_store<K: Keeper, N: Name>(
 }
 
 impl<K: Keeper, N: Name> StorePart<K, N> {
-    /// The store over a keeper that is seeded with the script's rows, each of which it takes where its key has none. At an error the
-    /// keeper is handed back, with the rows that it had.
+    /// The store over a keeper whose rows are widened to the script's mapping, and which takes each of the script's rows where its key
+    /// has none. At an error the keeper is handed back, with the rows that it had.
     pub fn open(alloc: Global, script: &Script, keeper: K) -> Result<StorePart<K, N>, OpenFault<K>>
         requires script { script.now ≡ N.script }
         requires built { IsBuilt N.script }
@@ -92,7 +92,13 @@ impl<K: Keeper, N: Name> StorePart<K, N> {
         ensures fault { IfErr result (λ e. is_store_fault e ≡ true → Rose (K.faults keeper) (K.faults (handed_back e))) }
     {
         let entities = script.mapping.len() as u16;
-        let store = StoreEngine::open(alloc, keeper, script.rows.as_slice(), entities)?;
+        let store = StoreEngine::open(
+            alloc,
+            keeper,
+            &script.mapping,
+            script.rows.as_slice(),
+            entities,
+        )?;
         Ok(StorePart {
             store,
             last: Tick(0),

@@ -25,8 +25,8 @@ book = record {
   versioned = true;
   capacity = 5;
   columns =
-      record { name = codes "title"; kind = ColumnType.Text } ∷ record { name = codes "stock"; kind = ColumnType.Int } ∷ record { name = codes "lent"; kind = ColumnType.Bool }
-      ∷ record { name = codes "sequel"; kind = ColumnType.Ref 0 } ∷ [];
+      record { name = codes "title"; kind = ColumnType.Text; default = None } ∷ record { name = codes "stock"; kind = ColumnType.Int; default = Some (Cell.Int (negsuc 16)) }
+      ∷ record { name = codes "lent"; kind = ColumnType.Bool; default = Some (Cell.Bool false) } ∷ record { name = codes "sequel"; kind = ColumnType.Ref 0; default = Some (Cell.Int (pos 1)) } ∷ [];
 }
 
 abbrev stock_is : Op → Cell → Cond
@@ -73,7 +73,7 @@ worked condition = record {
 }
 
 script_text : (p q r : _) → printed (worked (Cond.And' p (stock_is Op.Ge (Cell.Int (negsuc 0))) q (Cond.Not' r among))) ≡
-    codes "hib 1\ntimeout 7\nresults 20\nentity Book read-write versioned 5\ncolumn title text\ncolumn stock int\ncolumn lent bool\ncolumn sequel ref Book\n"
+    codes "hib 1\ntimeout 7\nresults 20\nentity Book read-write versioned 5\ncolumn title text\ncolumn stock int default -17\ncolumn lent bool default false\ncolumn sequel ref Book default 1\n"
     ++ codes "row Book 1 v2 \"The \\\"end\\\" \\\\\" 3 true 1\n"
     ++ codes "query low cached from Book where (and (ge stock -1) (not (in sequel.title \"a\" \"b c\"))) order stock desc title offset 3 limit 7 select title\n"
     ++ codes "query all from Book offset 0 limit 200 select ids\n"

@@ -42,8 +42,19 @@ type_tokens script ColumnType.Text = Token.Word (codes "text") ∷ []
 type_tokens script ColumnType.Bool = Token.Word (codes "bool") ∷ []
 type_tokens script (ColumnType.Ref e) = Token.Word (codes "ref") ∷ Token.Word (entity_text script e) ∷ []
 
+-- a cell, as in the lines of rows
+abbrev pub cell_token : Cell → Token
+cell_token (Cell.Int n) = Token.Number n
+cell_token (Cell.Text t) = Token.Quoted t
+cell_token (Cell.Bool b) = Token.Word (bool_text b)
+
+abbrev pub default_tokens : Option Cell → List Token
+default_tokens None = []
+default_tokens (Some c) = Token.Word (codes "default") ∷ cell_token c ∷ []
+
 abbrev pub column_line : Script → ColumnDef → List Token
-column_line script d = Token.Word (codes "column") ∷ Token.Word d.name ∷ type_tokens script d.kind
+column_line script d =
+    Token.Word (codes "column") ∷ Token.Word d.name ∷ type_tokens script d.kind ++ default_tokens d.default
 
 abbrev pub entity_line : EntityDef → List Token
 entity_line e =
@@ -55,11 +66,6 @@ abbrev pub entity_lines : Script → EntityDef → List (List Token)
 entity_lines script e = entity_line e ∷ map (λ d. column_line script d) e.columns
 
 -- ---- rows
-abbrev pub cell_token : Cell → Token
-cell_token (Cell.Int n) = Token.Number n
-cell_token (Cell.Text t) = Token.Quoted t
-cell_token (Cell.Bool b) = Token.Word (bool_text b)
-
 abbrev pub cell_tokens : List Cell → List Token
 cell_tokens cells = map cell_token cells
 

@@ -1,11 +1,11 @@
 // The lines of entities and of rows.
 ghost use Rattle.std.specs.Prelude.{◌≡◌, ℕ, List, [], ◌∷◌, ◌++◌, map, flat_map, OnOk};
 ghost use Rattle.hib_lex.specs.declared.lexer.Token.{Token};
-ghost use Rattle.hib_print.specs.Lines.{strategy_text, versioning_text, type_tokens, column_line, entity_line, entity_lines, version_tokens, row_line};
+ghost use Rattle.hib_print.specs.Lines.{strategy_text, versioning_text, type_tokens, default_tokens, column_line, entity_line, entity_lines, version_tokens, row_line};
 ghost use Rattle.hib_print.specs.Steps.{Adds, AddsLines};
 
 use crate::printer::Printer;
-use hib_base::{ColumnDef, ColumnType, EntityDef, Key, Row, Script, Strategy};
+use hib_base::{Cell, ColumnDef, ColumnType, EntityDef, Key, Row, Script, Strategy};
 use hib_texts::entity_name;
 use std::alloc::{AllocError, Global};
 
@@ -50,7 +50,24 @@ fn print_type(printer: &mut Printer, script: &Script, kind: ColumnType) -> Resul
     }
 }
 
+fn print_default(
+    alloc: Global,
+    printer: &mut Printer,
+    default: &Option<Cell>,
+) -> Result<(), AllocError>
+    ensures { OnOk result (Adds printer.old printer.new (default_tokens default.now)) }
+{
+    match default {
+        None => Ok(()),
+        Some(cell) => {
+            printer.word(b"default")?;
+            printer.cell(alloc, cell)
+        }
+    }
+}
+
 fn print_column(
+    alloc: Global,
     printer: &mut Printer,
     script: &Script,
     column: &ColumnDef,
@@ -59,10 +76,12 @@ fn print_column(
 {
     printer.words(b"column", column.name.as_slice())?;
     print_type(printer, script, column.kind)?;
+    print_default(alloc, printer, &column.default)?;
     printer.end_line()
 }
 
 fn print_columns(
+    alloc: Global,
     printer: &mut Printer,
     script: &Script,
     columns: &[ColumnDef],
@@ -70,7 +89,7 @@ fn print_columns(
     ensures { OnOk result (AddsLines printer.old printer.new (map (λ d. column_line script.now d) columns.now)) }
 {
     for column in columns {
-        print_column(printer, script, column)?;
+        print_column(alloc, printer, script, column)?;
     }
     Ok(())
 }
@@ -85,7 +104,7 @@ pub fn print_mapping(
 {
     for entity in script.mapping.as_slice() {
         print_entity(alloc, printer, entity)?;
-        print_columns(printer, script, entity.columns.as_slice())?;
+        print_columns(alloc, printer, script, entity.columns.as_slice())?;
     }
     Ok(())
 }

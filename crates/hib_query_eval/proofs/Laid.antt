@@ -3,10 +3,10 @@ use Rattle.std.proofs.Common.{◌≡◌, ℕ, Bool, true, false, cond, ◌==◌,
 use Rattle.std.proofs.lemmas.Bool.{eqb-true, or_left, or_right, and_from, both_ways}
 use Rattle.std.specs.List.{filter}
 use Rattle.hib_base.specs.Keys.{same_key, is_before}
-use Rattle.hib_base.specs.Tables.{Tables, row_at, with_row, unless_there, start, last_on, after_changes, is_first, in_order}
+use Rattle.hib_base.specs.Tables.{Tables, row_at, with_row, unless_there, with_absent, last_on, after_changes, is_first, in_order}
 use Rattle.hib_base.proofs.Tables.{Tested, tested, same_key_eq, same_key_refl, left_by, row_at_changes, row_at_with_same, row_at_with_other}
 use Rattle.hib_outside.specs.Keeps.{is_listed, rows_of}
-use Rattle.hib_outside.proofs.Orders.{is_before_total, is_first_trans, rest_in_order, row_at_before, in_order_changes, in_order_start}
+use Rattle.hib_outside.proofs.Orders.{is_before_total, is_first_trans, rest_in_order, row_at_before, in_order_changes, in_order_with_absent}
 use Rattle.hib_journal.specs.Query.{reads, mentions_in, gives}
 use Rattle.hib_journal.specs.Room.{key}
 use Rattle.hib_query_eval.proofs.Untouched.{rows_in, gives_alike}
@@ -132,14 +132,14 @@ row_at_unless t k j r = at (row_at t k) refl (tested (same_key k j)) (row_at t j
     at (Some z) e (inr s) (Some y) f = rw (e, f) refl
 
 -- of the rows of a key the first one counts
-pub row_at_start : (t es : Tables) (k : Key) → row_at (start t es) k ≡ or_row (row_at t k) (row_at es k)
-row_at_start t [] k = at (row_at t k)
+pub row_at_with_absent : (t es : Tables) (k : Key) → row_at (with_absent t es) k ≡ or_row (row_at t k) (row_at es k)
+row_at_with_absent t [] k = at (row_at t k)
   where
     at : (o : Option Row) → o ≡ or_row o None
     at None = refl
     at (Some r) = refl
-row_at_start t (e ∷ es) k =
-    row_at_start (unless_there t e.0 e.1 (row_at t e.0)) es k
+row_at_with_absent t (e ∷ es) k =
+    row_at_with_absent (unless_there t e.0 e.1 (row_at t e.0)) es k
     ∙ ap (λ o. or_row o (row_at es k)) (row_at_unless t e.0 k e.1)
     ∙ at (row_at t k) (same_key e.0 k)
   where
@@ -150,18 +150,18 @@ row_at_start t (e ∷ es) k =
 
 -- the view of the tables that a query reads
 abbrev view : Query → List Change → Tables → Tables
-view q cs m = after_changes cs (start [] (read_by q m))
+view q cs m = after_changes cs (with_absent [] (read_by q m))
 
 row_at_view : (q : Query) (cs : List Change) (m : Tables) (k : Key) → reads q k.entity ≡ true → row_at (view q cs m) k ≡ row_at (after_changes cs m) k
 row_at_view q cs m k r =
-    let there : row_at (start [] (read_by q m)) k ≡ row_at m k =
-    row_at_start [] (read_by q m) k ∙ row_at_kept (reads q) m k ∙ ap (λ b. cond b (row_at m k) None) r in
-    row_at_changes cs (start [] (read_by q m)) k ∙ ap (left_by (last_on k cs)) there ∙ sym (row_at_changes cs m k)
+    let there : row_at (with_absent [] (read_by q m)) k ≡ row_at m k =
+    row_at_with_absent [] (read_by q m) k ∙ row_at_kept (reads q) m k ∙ ap (λ b. cond b (row_at m k) None) r in
+    row_at_changes cs (with_absent [] (read_by q m)) k ∙ ap (left_by (last_on k cs)) there ∙ sym (row_at_changes cs m k)
 
 rows_view : (q : Query) (cs : List Change) (m : Tables) → in_order m ≡ true → rows_in q.entity (view q cs m) ≡ rows_in q.entity (after_changes cs m)
 rows_view q cs m o =
     same_tables (kept own (view q cs m)) (kept own (after_changes cs m))
-    (in_order_kept own (view q cs m) (in_order_changes cs (start [] (read_by q m)) (in_order_start [] (read_by q m) refl)))
+    (in_order_kept own (view q cs m) (in_order_changes cs (with_absent [] (read_by q m)) (in_order_with_absent [] (read_by q m) refl)))
     (in_order_kept own (after_changes cs m) (in_order_changes cs m o))
     (λ k. row_at_kept own (view q cs m) k ∙ at k (tested (k.entity == q.entity)) ∙ sym (row_at_kept own (after_changes cs m) k))
   where
@@ -181,9 +181,9 @@ gives_view q cs m o =
     (λ n i e. row_at_view q cs m (key n i) (or_right (q.entity == n) (mentions_in n q.condition) e))
 
 -- what is given over the view of the rows that were read, as what is given over the session's view
-pub read_gives : (q : Query) (cs : List Change) (m rows v : Tables) → in_order m ≡ true → rows ≡ read_by q m → v ≡ after_changes cs (start [] rows)
+pub read_gives : (q : Query) (cs : List Change) (m rows v : Tables) → in_order m ≡ true → rows ≡ read_by q m → v ≡ after_changes cs (with_absent [] rows)
     → gives q v ≡ gives q (after_changes cs m)
-read_gives q cs m rows v o r e = ap (gives q) (e ∙ ap (λ xs. after_changes cs (start [] xs)) r) ∙ gives_view q cs m o
+read_gives q cs m rows v o r e = ap (gives q) (e ∙ ap (λ xs. after_changes cs (with_absent [] xs)) r) ∙ gives_view q cs m o
 
 -- and so of a keeper's rows, where it tells its tables
 pub listed_told : (es : List ℕ) (q : Query) (told : Option Tables) (rows : Tables) → ((n : ℕ) → is_listed n es ≡ reads q n)

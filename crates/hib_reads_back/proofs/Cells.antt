@@ -11,7 +11,7 @@ use Rattle.hib_base.specs.Fits.{is_of_type, are_of_types, is_identifier}
 use Rattle.hib_base.specs.Words.{are_names}
 use Rattle.hib_lex.specs.declared.lexer.Token.{Token}
 use Rattle.hib_mapping.specs.Parts.{small, entity_at, column_at}
-use Rattle.hib_columns.specs.Columns.{cell_of, has_type}
+use Rattle.hib_mapping.specs.Cells.{cell_of, is_a_cell, is_cell_of, has_type}
 use Rattle.hib_statements.specs.Parts.{key_in, key_of, cells_of, are_typed}
 use Rattle.hib_print.specs.Lines.{natural, cell_token, cell_tokens}
 use Rattle.hib_texts.specs.Texts.{entity_text}
@@ -41,6 +41,28 @@ type_back ColumnType.Bool (Cell.Bool b) h = refl
 type_back (ColumnType.Ref e) (Cell.Int n) h = refl
 type_back (ColumnType.Ref e) (Cell.Text t) h = h
 type_back (ColumnType.Ref e) (Cell.Bool b) h = h
+
+-- a default is a cell of the column's type
+pub cell_formed : (c : Cell) → is_a_cell (cell_token c) ≡ true
+cell_formed (Cell.Int n) = refl
+cell_formed (Cell.Text t) = refl
+cell_formed (Cell.Bool true) = refl
+cell_formed (Cell.Bool false) = refl
+
+pub default_back : (k : ColumnType) (c : Cell) → is_of_type k c ≡ true → is_cell_of k (cell_token c) ≡ true
+default_back ColumnType.Int (Cell.Int n) h = refl
+default_back ColumnType.Int (Cell.Text t) h = h
+default_back ColumnType.Int (Cell.Bool b) h = absurd (cc)
+default_back ColumnType.Text (Cell.Int n) h = h
+default_back ColumnType.Text (Cell.Text t) h = refl
+default_back ColumnType.Text (Cell.Bool b) h = absurd (cc)
+default_back ColumnType.Bool (Cell.Int n) h = h
+default_back ColumnType.Bool (Cell.Text t) h = h
+default_back ColumnType.Bool (Cell.Bool true) h = refl
+default_back ColumnType.Bool (Cell.Bool false) h = refl
+default_back (ColumnType.Ref e) (Cell.Int n) h = refl
+default_back (ColumnType.Ref e) (Cell.Text t) h = h
+default_back (ColumnType.Ref e) (Cell.Bool b) h = absurd (cc)
 
 pub types_back : (ds : List ColumnDef) (cs : List Cell) → are_of_types ds cs ≡ true → are_typed ds cs ≡ true
 types_back [] cs h = refl

@@ -19,6 +19,7 @@ use Rattle.hib_base.specs.Queries.{parts_of}
 use Rattle.hib_base.specs.Valid.{is_nested, is_short}
 use Rattle.hib_lex.specs.declared.lexer.Token.{Token}
 use Rattle.hib_columns.specs.Columns as columns
+use Rattle.hib_mapping.specs.Cells.{has_type}
 use Rattle.hib_columns.specs.declared.columns.Column.{Column}
 use Rattle.hib_criteria.specs.Form.{at, behind, subject, operand, form_from}
 use Rattle.hib_criteria.specs.declared.forms.Form.{Form}
@@ -141,7 +142,7 @@ subject_read script h ns fs test p k rest w t =
     (subject_path script h.entity p.column p.target)
     ∙ ap (λ c. form_from script.mapping (subject (form h ns) fs test c) rest) (path_back script h.entity p k w t)
 
-typed_as : (k : ColumnType) (c : Cell) → is_of_type k c ≡ true → columns.has_type k c ≡ true
+typed_as : (k : ColumnType) (c : Cell) → is_of_type k c ≡ true → has_type k c ≡ true
 typed_as k c h = type_back k c h
 
 closing_read : (m : List EntityDef) (h : Head) (ns : List Node) (fs : List Frame) (rest : List Token) →
@@ -154,7 +155,7 @@ operand_read : (m : List EntityDef) (h : Head) (ns : List Node) (fs : List Frame
 operand_read m h ns fs op p k x rest t c =
     ap (λ o. form_from m (operand (form h ns) fs op (Some (column_for p k)) o) rest) (cell_back x)
     ∙ ap (λ b. form_from m (at (record (form h (ns ++ Node.Test op p x ∷ [])) { mistyped = not b }) (Frame.Closing ∷ fs) Place.Condition) rest)
-    (and_from (columns.has_type k x) (is_comparable op (Some k)) (type_back k x t) c)
+    (and_from (has_type k x) (is_comparable op (Some k)) (type_back k x t) c)
 
 -- a test is read whole
 test_read : (script : Script) (h : Head) (ns : List Node) (fs : List Frame) (op : Op) (p : Path) (x : Cell) (k : ColumnType) (rest : List Token) → Mapped script.mapping →

@@ -8,8 +8,9 @@ use Rattle.hib_base.specs.declared.scripts.EntityDef.{EntityDef}
 use Rattle.hib_base.specs.declared.scripts.Script.{Script}
 use Rattle.hib_base.specs.declared.refusals.Kind.{Kind}
 use Rattle.hib_base.specs.Valid.{is_capacity, is_entity, are_columns}
-use Rattle.hib_base.specs.Scripts.{is_type_below}
+use Rattle.hib_base.specs.Fits.{are_defaults}
 use Rattle.hib_base.specs.Words.{is_reserved, are_names}
+use Rattle.hib_mapping.proofs.Columns.{HasColumns, columns_of}
 use Rattle.hib_lex.specs.declared.lexer.Token.{Token}
 use Rattle.hib_mapping.specs.Declarations as declarations
 use Rattle.hib_script.specs.Lines as reader
@@ -64,18 +65,18 @@ entities_follow Part.Sessions h = absurd (omega (arith, h))
 entities_follow Part.Schedule h = absurd (omega (arith, h))
 
 columns_go : (s : Script) (done : List EntityDef) (e : EntityDef) (rest : List EntityDef) (ds es : List ColumnDef) (b : Bool) → Among s done e rest → list_all (λ d. leads_back (length done) d.kind) es ≡ true →
-    length (ds ++ es) ≤ 16 → are_names (map (λ d. d.name) (ds ++ es)) ≡ true →
+    length (ds ++ es) ≤ 16 → are_names (map (λ d. d.name) (ds ++ es)) ≡ true → are_defaults (ds ++ es) ≡ true →
     Goes (among s done e ds) (map (λ d. lines.column_line s d) es) b (among s done e (ds ++ es))
-columns_go s done e rest ds [] b a h few names = ap (λ cs. among s done e cs) (sym (append-nil ds))
-columns_go s done e rest ds (d ∷ es) b a h few names =
+columns_go s done e rest ds [] b a h few names defaults = ap (λ cs. among s done e cs) (sym (append-nil ds))
+columns_go s done e rest ds (d ∷ es) b a h few names defaults =
     let parts : (leads_back (length done) d.kind ≡ true) × (list_all (λ x. leads_back (length done) x.kind) es ≡ true) = and_parts (leads_back (length done) d.kind) (list_all (λ x. leads_back (length done) x.kind) es) h in
     let together : ds ++ d ∷ es ≡ (ds ++ d ∷ []) ++ es = sym (append_assoc ds (d ∷ []) es) in
     let m : reader.Reader = among s done e (ds ++ d ∷ []) in
     let rest_go : Goes m (map (λ x. lines.column_line s x) es) b (among s done e ((ds ++ d ∷ []) ++ es)) =
-    columns_go s done e rest (ds ++ d ∷ []) es b a parts.1 (subst (λ cs. length cs ≤ 16) together few) (subst (λ cs. are_names (map (λ x. x.name) cs) ≡ true) together names) in (
+    columns_go s done e rest (ds ++ d ∷ []) es b a parts.1 (subst (λ cs. length cs ≤ 16) together few) (subst (λ cs. are_names (map (λ x. x.name) cs) ≡ true) together names) (subst (λ cs. are_defaults cs ≡ true) together defaults) in (
       m,
       (
-        ap (λ x. reader.with_columns (among s done e ds) x) (column_read s done e rest ds d es a parts.0 few names),
+        ap (λ x. reader.with_columns (among s done e ds) x) (column_read s done e rest ds d es a parts.0 few names defaults),
         subst (λ cs. Goes m (map (λ x. lines.column_line s x) es) b (among s done e cs)) (append_assoc ds (d ∷ []) es) rest_go,
       ),
     )
@@ -91,6 +92,7 @@ pub record EntityRules (e : EntityDef) (n : ℕ) : Type 0 where
   pub few : length e.columns ≤ 16
   pub names : are_names (map (λ d. d.name) e.columns) ≡ true
   pub leads : list_all (λ d. leads_back n d.kind) e.columns ≡ true
+  pub defaults : are_defaults e.columns ≡ true
 
 entity_begun : (r : reader.Reader) (ts : List Token) (w : List ℕ) (k : Option Kind) (e : EntityDef) → declarations.is_entity_line ts ≡ true → k ≡ None → is_reserved w ≡ false → declarations.entity_of ts ≡ Some e →
     cond (declarations.is_entity_line ts) (reader.new_entity r ts (reader.or_reserved w k)) (Err Kind.Words) ≡ Ok (reader.behind Part.Entities (record r { entity = Some e }))
@@ -106,7 +108,7 @@ entity_go s done e rest r b a rules g =
     let first : reader.after_line r true (lines.entity_line e) ≡ Ok m =
     part_read r m (early s done) 0 3 Part.Entities true (lines.entity_line e) g refl refl (entities_follow g.last g.low)
     (entity_begun here (lines.entity_line e) e.name (declarations.entity_kind done true (lines.entity_line e)) (bare e) (entity_formed e) (entity_ruled s done e rest a rules.capacity) free (entity_declared e rules.capacity)) in
-    (m, (ap (λ f. reader.after_line r f (lines.entity_line e)) (leads_columns s b e.columns rules.some) ∙ first, columns_go s done e rest [] e.columns b a rules.leads rules.few rules.names))
+    (m, (ap (λ f. reader.after_line r f (lines.entity_line e)) (leads_columns s b e.columns rules.some) ∙ first, columns_go s done e rest [] e.columns b a rules.leads rules.few rules.names rules.defaults))
 
 entities_on : (s : Script) (done : List EntityDef) (e : EntityDef) (ds : List ColumnDef) → Reached (among s done e e.columns) (early s (done ++ e ∷ [])) 0 3
 entities_on s done e ds = record { last = Part.Entities; place = refl; whole = refl; low = omega arith }
@@ -127,15 +129,15 @@ entities_go s done (e ∷ xs) r b rules g =
     let bounds : (is_entity e ≡ true) × (list_all is_entity xs ≡ true) = and_parts (is_entity e) (list_all is_entity xs) rules.bounded in
     let room : (is_capacity e.strategy e.capacity ≡ true) × (nat_le 1 (length e.columns) ≡ true) = and_parts (is_capacity e.strategy e.capacity) (nat_le 1 (length e.columns)) bounds.0 in
     let cols : (are_columns (length s.mapping) e ≡ true) × (list_all (λ x. are_columns (length s.mapping) x) xs ≡ true) = and_parts (are_columns (length s.mapping) e) (list_all (λ x. are_columns (length s.mapping) x) xs) rules.columns in
-    let size : (nat_le (length e.columns) 16 ≡ true) × ((list_all (λ d. is_type_below (length s.mapping) d.kind) e.columns && are_names (map (λ d. d.name) e.columns)) ≡ true) =
-    and_parts (nat_le (length e.columns) 16) (list_all (λ d. is_type_below (length s.mapping) d.kind) e.columns && are_names (map (λ d. d.name) e.columns)) cols.0 in
+    let c : HasColumns (length s.mapping) e.columns = columns_of (length s.mapping) e cols.0 in
     let leading : (list_all (λ d. leads_back (length done) d.kind) e.columns ≡ true) × (lead_back (length done + 1) xs ≡ true) = and_parts (list_all (λ d. leads_back (length done) d.kind) e.columns) (lead_back (length done + 1) xs) rules.leads in
     let one : EntityRules e (length done) = record {
       capacity = room.0;
       some = leb-true 1 (length e.columns) room.1;
-      few = leb-true (length e.columns) 16 size.0;
-      names = (and_parts (list_all (λ d. is_type_below (length s.mapping) d.kind) e.columns) (are_names (map (λ d. d.name) e.columns)) size.1).1;
+      few = leb-true (length e.columns) 16 c.few;
+      names = c.named;
       leads = leading.0;
+      defaults = c.defaults;
     } in
     let a : Among s done e xs = record { whole = rules.whole; few = rules.few; names = rules.names } in
     let m : reader.Reader = among s done e e.columns in

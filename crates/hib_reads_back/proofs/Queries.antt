@@ -45,7 +45,7 @@ behind_one b w r rs h = or_parts (bytes_eq w r) (list_any (λ v. bytes_eq w v) r
 
 free : (w : List ℕ) → is_reserved w ≡ false → Free w
 free w h =
-    let r1 = codes "count" ∷ codes "true" ∷ codes "false" ∷ codes "none" ∷ [] in
+    let r1 = codes "count" ∷ codes "true" ∷ codes "false" ∷ codes "none" ∷ codes "default" ∷ [] in
     let r2 = codes "ids" ∷ r1 in
     let r3 = codes "select" ∷ r2 in
     let r4 = codes "limit" ∷ r3 in
@@ -63,7 +63,7 @@ free w h =
     let s3 = behind_one true w (codes "limit") r3 s4.1 in
     let s2 = behind_one true w (codes "select") r2 s3.1 in
     let s1 = behind_one true w (codes "ids") r1 s2.1 in
-    let s0 = behind_one true w (codes "count") (codes "true" ∷ codes "false" ∷ codes "none" ∷ []) s1.1 in
+    let s0 = behind_one true w (codes "count") (codes "true" ∷ codes "false" ∷ codes "none" ∷ codes "default" ∷ []) s1.1 in
     record { no_desc = s5.0; no_offset = s4.0; no_limit = s3.0; no_select = s2.0; no_ids = s1.0; no_count = s0.0 }
 
 -- ---- the head of the line

@@ -12,7 +12,7 @@ use Rattle.hib_base.specs.declared.scripts.ColumnType.{ColumnType}
 use Rattle.hib_base.specs.declared.scripts.ColumnDef.{ColumnDef}
 use Rattle.hib_base.specs.declared.scripts.EntityDef.{EntityDef}
 use Rattle.hib_base.specs.declared.scripts.Script.{Script}
-use Rattle.hib_base.specs.Fits.{is_text, is_of_type, are_of_types, entity_columns, columns_in, kind_in, type_at}
+use Rattle.hib_base.specs.Fits.{is_text, is_of_type, is_default, are_of_types, entity_columns, columns_in, kind_in, type_at}
 use Rattle.hib_base.specs.Words.{is_digit, is_word_byte, is_word, is_name, are_names}
 use Rattle.hib_lex.specs.declared.lexer.Token.{Token}
 use Rattle.hib_print.specs.Lines as lines
@@ -147,11 +147,15 @@ versioning_word false = refl
 pub entity_worded : (e : EntityDef) → is_name e.name ≡ true → is_worded_line (lines.entity_line e) ≡ true
 entity_worded e h = rw (name_word e.name h, strategy_word e.strategy, versioning_word e.versioned) refl
 
-pub column_worded : (s : Script) (d : ColumnDef) → Mapped s.mapping → is_name d.name ≡ true → is_type_below (length s.mapping) d.kind ≡ true → is_worded_line (lines.column_line s d) ≡ true
-column_worded s d w h t = and_from (is_word d.name) (are_worded (lines.type_tokens s d.kind)) (name_word d.name h) (of_kind d.kind t)
+pub column_worded : (s : Script) (d : ColumnDef) → Mapped s.mapping → is_name d.name ≡ true → is_type_below (length s.mapping) d.kind ≡ true → is_default d.kind d.default ≡ true → is_worded_line (lines.column_line s d) ≡ true
+column_worded s d w h t p = and_from (is_word d.name) (are_worded (lines.type_tokens s d.kind ++ lines.default_tokens d.default)) (name_word d.name h) (of_kind d.kind d.default t p)
   where
-    of_kind : (k : ColumnType) → is_type_below (length s.mapping) k ≡ true → are_worded (lines.type_tokens s k) ≡ true
-    of_kind ColumnType.Int t = refl
-    of_kind ColumnType.Text t = refl
-    of_kind ColumnType.Bool t = refl
-    of_kind (ColumnType.Ref n) t = rw (entity_word s n w (ltb-true n (length s.mapping) t)) refl
+    of_default : (k : ColumnType) (o : Option Cell) → is_default k o ≡ true → are_worded (lines.default_tokens o) ≡ true
+    of_default k None p = refl
+    of_default k (Some c) p = rw (cell_worded k c p) refl
+
+    of_kind : (k : ColumnType) (o : Option Cell) → is_type_below (length s.mapping) k ≡ true → is_default k o ≡ true → are_worded (lines.type_tokens s k ++ lines.default_tokens o) ≡ true
+    of_kind ColumnType.Int o t p = of_default ColumnType.Int o p
+    of_kind ColumnType.Text o t p = of_default ColumnType.Text o p
+    of_kind ColumnType.Bool o t p = of_default ColumnType.Bool o p
+    of_kind (ColumnType.Ref n) o t p = rw (entity_word s n w (ltb-true n (length s.mapping) t)) (of_default (ColumnType.Ref n) o p)

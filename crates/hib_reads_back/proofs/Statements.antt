@@ -20,7 +20,8 @@ use Rattle.hib_base.specs.declared.refusals.Kind.{Kind}
 use Rattle.hib_lex.specs.declared.lexer.Token.{Token}
 use Rattle.hib_mapping.specs.Parts.{small, entity_at}
 use Rattle.std.specs.Prelude.{is_none}
-use Rattle.hib_columns.specs.Columns.{columns_in, columns_of, plain_column, at_place, found_at, cell_of, has_type}
+use Rattle.hib_columns.specs.Columns.{columns_in, columns_of, plain_column, at_place, found_at}
+use Rattle.hib_mapping.specs.Cells.{cell_of, has_type}
 use Rattle.hib_columns.specs.declared.columns.Found.{Found}
 use Rattle.hib_statements.specs.Parts.{key_of, cells_of, at, with_cell, pairs_from, pairs_of}
 use Rattle.hib_statements.specs.Statements.{found, removed, fitted, persisted, set_from, query_at, listed, statement_of}

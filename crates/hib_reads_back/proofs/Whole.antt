@@ -12,12 +12,13 @@ use Rattle.hib_base.specs.declared.scripts.Statement.{Statement}
 use Rattle.hib_base.specs.declared.scripts.SessionDef.{SessionDef}
 use Rattle.hib_base.specs.declared.scripts.Order.{Order}
 use Rattle.hib_base.specs.declared.scripts.Script.{Script}
-use Rattle.hib_base.specs.Fits.{fits, fits_entity, fits_statement, fits_query}
+use Rattle.hib_base.specs.Fits.{is_default, ends_in_defaults, fits, fits_entity, fits_statement, fits_query}
 use Rattle.hib_base.specs.Queries.{said}
 use Rattle.hib_base.specs.Scripts.{is_type_below, is_row_below, is_declared, are_targets_in, is_known, lists_known, evicts_cached, statement_count}
 use Rattle.hib_base.specs.Valid.{is_valid, is_given, are_columns, is_nested_in, is_short, is_cut, is_order_in}
 use Rattle.hib_base.specs.Words.{is_name, are_names, are_apart}
 use Rattle.hib_base.proofs.Lists.{all_at}
+use Rattle.hib_mapping.proofs.Columns.{HasColumns, columns_of}
 use Rattle.hib_base.proofs.Valid.{Rules, rules}
 use Rattle.hib_lex.specs.declared.lexer.Token.{Token}
 use Rattle.hib_script.specs.Outline.{outline_of, query_names}
@@ -59,14 +60,17 @@ record Columned (m : List EntityDef) (e : EntityDef) : Type 0 where
   few : length e.columns ≤ 16
   below : list_all (λ d. is_type_below (length m) d.kind) e.columns ≡ true
   names : are_names (map (λ d. d.name) e.columns) ≡ true
+  defaults : list_all (λ d. is_default d.kind d.default) e.columns ≡ true
 
 columned : (m : List EntityDef) (e : EntityDef) → are_columns (length m) e ≡ true → Columned m e
 columned m e h =
-    let parts : (nat_le (length e.columns) 16 ≡ true) × ((list_all (λ d. is_type_below (length m) d.kind) e.columns && are_names (map (λ d. d.name) e.columns)) ≡ true) =
-    and_parts (nat_le (length e.columns) 16) (list_all (λ d. is_type_below (length m) d.kind) e.columns && are_names (map (λ d. d.name) e.columns)) h in
-    let rest : (list_all (λ d. is_type_below (length m) d.kind) e.columns ≡ true) × (are_names (map (λ d. d.name) e.columns) ≡ true) =
-    and_parts (list_all (λ d. is_type_below (length m) d.kind) e.columns) (are_names (map (λ d. d.name) e.columns)) parts.1 in
-    record { few = leb-true (length e.columns) 16 parts.0; below = rest.0; names = rest.1 }
+    let c : HasColumns (length m) e.columns = columns_of (length m) e h in
+    record {
+      few = leb-true (length e.columns) 16 c.few;
+      below = c.below;
+      names = c.named;
+      defaults = (and_parts (list_all (λ d. is_default d.kind d.default) e.columns) (ends_in_defaults e.columns) c.defaults).0;
+    }
 
 mapped : (s : Script) → Rules s → Mapped s.mapping
 mapped s r = record {
@@ -121,13 +125,14 @@ abbrev are_lines : List (List Token) → Bool
 are_lines ls = list_all is_worded_line ls
 
 columns_worded : (s : Script) (ds : List ColumnDef) → Mapped s.mapping → list_all (λ d. is_name d.name) ds ≡ true → list_all (λ d. is_type_below (length s.mapping) d.kind) ds ≡ true →
-    are_lines (map (λ d. lines.column_line s d) ds) ≡ true
-columns_worded s [] w h g = refl
-columns_worded s (d ∷ ds) w h g =
+    list_all (λ d. is_default d.kind d.default) ds ≡ true → are_lines (map (λ d. lines.column_line s d) ds) ≡ true
+columns_worded s [] w h g t = refl
+columns_worded s (d ∷ ds) w h g t =
     let names : (is_name d.name ≡ true) × (list_all (λ x. is_name x.name) ds ≡ true) = and_parts (is_name d.name) (list_all (λ x. is_name x.name) ds) h in
     let below : (is_type_below (length s.mapping) d.kind ≡ true) × (list_all (λ x. is_type_below (length s.mapping) x.kind) ds ≡ true) =
     and_parts (is_type_below (length s.mapping) d.kind) (list_all (λ x. is_type_below (length s.mapping) x.kind) ds) g in
-    and_from (is_worded_line (lines.column_line s d)) (are_lines (map (λ x. lines.column_line s x) ds)) (column_worded s d w names.0 below.0) (columns_worded s ds w names.1 below.1)
+    let typed : (is_default d.kind d.default ≡ true) × (list_all (λ x. is_default x.kind x.default) ds ≡ true) = and_parts (is_default d.kind d.default) (list_all (λ x. is_default x.kind x.default) ds) t in
+    and_from (is_worded_line (lines.column_line s d)) (are_lines (map (λ x. lines.column_line s x) ds)) (column_worded s d w names.0 below.0 typed.0) (columns_worded s ds w names.1 below.1 typed.1)
 
 all_names : {A : Type 0} (f : A → List ℕ) (xs : List A) → are_names (map f xs) ≡ true → list_all (λ x. is_name (f x)) xs ≡ true
 all_names f xs h = all_mapped is_name f xs (and_parts (list_all (λ v. is_name v) (map f xs)) (are_apart (map f xs)) h).0
@@ -141,7 +146,7 @@ entities_worded s (e ∷ es) w h g =
     let c : Columned s.mapping e = columned s.mapping e cols.0 in
     all_joined is_worded_line (lines.entity_lines s e) (flat_map (λ x. lines.entity_lines s x) es)
     (and_from (is_worded_line (lines.entity_line e)) (are_lines (map (λ d. lines.column_line s d) e.columns)) (entity_worded e names.0)
-    (columns_worded s e.columns w (all_names (λ d. d.name) e.columns c.names) c.below)) (entities_worded s es w names.1 cols.1)
+    (columns_worded s e.columns w (all_names (λ d. d.name) e.columns c.names) c.below c.defaults)) (entities_worded s es w names.1 cols.1)
 
 rows_worded : (s : Script) (xs : List (Key × Row)) → Mapped s.mapping → list_all (λ x. is_row_below (length s.mapping) x) xs ≡ true → fits s.mapping xs ≡ true → list_all is_given xs ≡ true →
     are_lines (map (λ x. lines.row_line s x) xs) ≡ true

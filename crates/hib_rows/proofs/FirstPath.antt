@@ -17,7 +17,7 @@ abbrev pub first_path_script : Script
 first_path_script = record {
   timeout = 1000;
   results = 100;
-  mapping = record { name = (66 ∷ 111 ∷ 111 ∷ 107 ∷ []); strategy = Strategy.Uncached; versioned = true; capacity = 0; columns = record { name = (116 ∷ 105 ∷ 116 ∷ 108 ∷ 101 ∷ []); kind = ColumnType.Text } ∷ [] } ∷ [];
+  mapping = record { name = (66 ∷ 111 ∷ 111 ∷ 107 ∷ []); strategy = Strategy.Uncached; versioned = true; capacity = 0; columns = record { name = (116 ∷ 105 ∷ 116 ∷ 108 ∷ 101 ∷ []); kind = ColumnType.Text; default = None } ∷ [] } ∷ [];
   rows = [];
   queries = [];
   schedule = [];

@@ -214,15 +214,15 @@ entity_keeps r followed ts h l k =
 abbrev Widens : List EntityDef → EntityDef → EntityDef → Type 0
 Widens m d e = (are_columns (length m + 1) e ≡ true) × (e.name ≡ d.name) × (is_entity e ≡ true)
 
-columns_unless_keep : (m : List EntityDef) (d : EntityDef) (ts : List Token) (o : Option Kind) → are_columns (length m + 1) d ≡ true → is_capacity d.strategy d.capacity ≡ true → is_column_line ts ≡ true →
+columns_unless_keep : (m : List EntityDef) (d : EntityDef) (ts : List Token) (o : Option Kind) → are_lexed ts ≡ true → are_columns (length m + 1) d ≡ true → is_capacity d.strategy d.capacity ≡ true → is_column_line ts ≡ true →
     (o ≡ None → (column_kind m d ts ≡ None) × (is_name (name_in ts) ≡ true)) → Gives (lines.columns_unless m d ts o) (Widens m d)
-columns_unless_keep m d ts (Some x) h c i f = tt
-columns_unless_keep m d ts None h c i f = (column_more m d ts h (f refl).1 (f refl).0, same_name m d ts, columns.column_room m d ts c i)
+columns_unless_keep m d ts (Some x) l h c i f = tt
+columns_unless_keep m d ts None l h c i f = (column_more m d ts h l (f refl).1 (f refl).0, same_name m d ts, columns.column_room m d ts c i)
 
 more_columns_keep : (m : List EntityDef) (d : EntityDef) (ts : List Token) → are_lexed ts ≡ true → are_columns (length m + 1) d ≡ true → is_capacity d.strategy d.capacity ≡ true → Gives (lines.more_columns m d ts) (Widens m d)
 more_columns_keep m d ts l h c =
     gives_cond (is_column_line ts) (lines.columns_unless m d ts (lines.or_reserved (name_in ts) (column_kind m d ts))) (Err Kind.Words) (Widens m d)
-    (λ f. columns_unless_keep m d ts (lines.or_reserved (name_in ts) (column_kind m d ts)) h c f
+    (λ f. columns_unless_keep m d ts (lines.or_reserved (name_in ts) (column_kind m d ts)) l h c f
     (λ e. (no_kind (name_in ts) (column_kind m d ts) e, column_named ts f l (not_reserved (name_in ts) (column_kind m d ts) e)))) (λ _. tt)
 
 columns_keep : (r : Reader) (d : EntityDef) (e : Result EntityDef Kind) → Keeps r → HasEntities r.outline.mapping (Some d) → Gives e (Widens r.outline.mapping d) → Gives (lines.with_columns r e) Keeps

@@ -4,7 +4,7 @@ use Rattle.std.proofs.lemmas.List.{drop_all, append-nil, take_all, length-drop}
 use Rattle.hib_base.specs.declared.rows.Cell.{Cell}
 use Rattle.hib_base.specs.declared.scripts.ColumnDef.{ColumnDef}
 use Rattle.hib_lex.specs.declared.lexer.Token.{Token}
-use Rattle.hib_columns.specs.Columns.{cell_of, has_type}
+use Rattle.hib_mapping.specs.Cells.{cell_of, has_type}
 use Rattle.hib_statements.specs.declared.parts.Draft.{Draft}
 use Rattle.hib_base.specs.declared.scripts.EntityDef.{EntityDef}
 use Rattle.hib_statements.specs.Statements.{persist_of, persist_parts, set_of, set_parts}

@@ -14,8 +14,9 @@ use Rattle.hib_base.specs.declared.scripts.ColumnDef.{ColumnDef}
 use Rattle.hib_base.specs.declared.scripts.EntityDef.{EntityDef}
 use Rattle.hib_base.proofs.Gives.{Gives, gives_cond, Then}
 use Rattle.hib_base.proofs.Lists.{some_none}
-use Rattle.hib_columns.specs.Columns.{columns_in, cell_of, has_type}
-use Rattle.hib_columns.proofs.Cells.{is_cell, cell_sound, typed_one}
+use Rattle.hib_columns.specs.Columns.{columns_in}
+use Rattle.hib_mapping.specs.Cells.{cell_of, has_type}
+use Rattle.hib_mapping.proofs.TypedCells.{is_cell, cell_sound, typed_one}
 use Rattle.hib_lex.specs.declared.lexer.Token.{Token}
 use Rattle.hib_lex.proofs.Lexed.{is_lexed, are_lexed}
 use Rattle.hib_mapping.specs.Parts.{word_of, entity_at}

@@ -13,9 +13,10 @@ use Rattle.hib_base.specs.declared.scripts.ColumnType.{ColumnType}
 use Rattle.hib_base.proofs.Gives.{Then, then_cond}
 use Rattle.hib_base.proofs.Lists.{all_more, Found, position_found}
 use Rattle.hib_base.proofs.Names.{apart_by_more, differ}
-use Rattle.hib_columns.specs.Columns.{found_at, at_place, plain_column, place_or_first, cell_of}
+use Rattle.hib_columns.specs.Columns.{found_at, at_place, plain_column, place_or_first}
+use Rattle.hib_mapping.specs.Cells.{cell_of}
 use Rattle.hib_columns.specs.declared.columns.Found as found
-use Rattle.hib_columns.proofs.Cells.{is_cell, cell_sound, typed_one}
+use Rattle.hib_mapping.proofs.TypedCells.{is_cell, cell_sound, typed_one}
 use Rattle.hib_columns.proofs.Typed.{IsColumn, plain_typed}
 use Rattle.hib_lex.specs.declared.lexer.Token.{Token}
 use Rattle.hib_lex.proofs.Lexed.{is_lexed, are_lexed}

@@ -8,7 +8,8 @@ use Rattle.hib_base.specs.declared.scripts.ColumnDef.{ColumnDef}
 use Rattle.hib_base.specs.declared.scripts.EntityDef.{EntityDef}
 use Rattle.hib_lex.specs.declared.lexer.Token.{Token}
 use Rattle.hib_mapping.specs.Parts.{is_a_word, is_a_number, word_of, entity_at}
-use Rattle.hib_columns.specs.Columns.{plain_column, place_or_first, cell_of, has_type}
+use Rattle.hib_columns.specs.Columns.{plain_column, place_or_first}
+use Rattle.hib_mapping.specs.Cells.{cell_of, has_type}
 use Rattle.hib_columns.specs.declared.columns.Found.{Found}
 use Rattle.hib_statements.specs.declared.parts.Pairs.{Pairs}
 use Rattle.hib_statements.specs.declared.parts.Awaited.{Awaited}

@@ -4,9 +4,9 @@ ghost use Rattle.std.specs.Prelude.{◌≡◌, ◌++◌, IfOk, length, bytes_eq}
 ghost use Rattle.std.specs.List.{list_any};
 
 use hib_base::{Cell, Cells, ColumnDef, EntityDef, Key, Kind, Seq, Sets, Text};
-use hib_columns::{Found, cell, has_type, place_or_first, plain_column};
+use hib_columns::{Found, place_or_first, plain_column};
 use hib_lex::Token;
-use hib_mapping::{entity_number, is_number, is_word, word, word_bytes};
+use hib_mapping::{cell, entity_number, has_type, is_number, is_word, word, word_bytes};
 use std::alloc::{AllocError, Global};
 
 /// Whether tokens have the form of a key: an entity's name and a number.

@@ -2,14 +2,14 @@
 use Rattle.std.proofs.Common.{◌≡◌, ℕ, ◌+◌, ◌<◌, ◌≤◌, Bool, true, false, cond, ◌==◌, ◌||◌, List, [], ◌∷◌, ◌++◌, arith, Some, None, Option, IfSome, MatchOption, refl, sym, ap, ◌∙◌, subst, inl, inr}
 use Rattle.std.specs.Prelude.{nat_lt}
 use Rattle.std.proofs.lemmas.Bool.{true≢false, eqb-true, eq-eqb, or_left, or_right, lt-ltb, le-ltb, ltb-true, ltb-false}
-use Rattle.hib_base.specs.Tables.{Tables, row_at, start, last_on, after_changes, commit_answer, in_order}
+use Rattle.hib_base.specs.Tables.{Tables, row_at, with_absent, last_on, after_changes, commit_answer, in_order}
 use Rattle.hib_base.proofs.Tables.{Tested, tested, left_by, row_at_changes}
 use Rattle.hib_outside.specs.Keeps.{is_listed, rows_of}
 use Rattle.hib_outside.proofs.Orders.{in_order_changes}
 use Rattle.hib_journal.specs.Query.{reads, mentions_in, gives}
 use Rattle.hib_journal.specs.Room.{key}
 use Rattle.hib_query_eval.proofs.Untouched.{gives_alike}
-use Rattle.hib_query_eval.proofs.Laid.{kept, row_at_kept, in_order_kept, same_tables, row_at_start}
+use Rattle.hib_query_eval.proofs.Laid.{kept, row_at_kept, in_order_kept, same_tables, row_at_with_absent}
 use Rattle.hib_store.specs.Types.{Key, Change, Commit, Query}
 use Rattle.hib_store.specs.Stores.{AreOf, IsIndexed, IsListed, if_applied, index_left, tables_answered}
 use Rattle.hib_store.specs.declared.store.Listed.{Listed}
@@ -17,11 +17,11 @@ use Rattle.hib_journal.specs.Types.{Cell}
 
 -- what is asked of the keeper
 pub asked_rows : (n : ℕ) (es : List ℕ) (rows view : Tables) (told : Option Tables) → ((k : ℕ) → is_listed k es ≡ nat_lt k n) → IfSome told (λ m. rows ≡ rows_of es m)
-    → view ≡ after_changes [] (start [] rows) → IfSome told (λ m. AreOf n view m)
+    → view ≡ after_changes [] (with_absent [] rows) → IfSome told (λ m. AreOf n view m)
 asked_rows n es rows view None f h e = tt
 asked_rows n es rows view (Some m) f h e = λ k l.
     let t : is_listed k.entity es ≡ true = f k.entity ∙ lt-ltb k.entity n l in
-    ap (λ t. row_at t k) e ∙ row_at_start [] rows k ∙ ap (λ t. row_at t k) h ∙ row_at_kept (λ e. is_listed e es) m k ∙ ap (λ b. cond b (row_at m k) None) t
+    ap (λ t. row_at t k) e ∙ row_at_with_absent [] rows k ∙ ap (λ t. row_at t k) h ∙ row_at_kept (λ e. is_listed e es) m k ∙ ap (λ b. cond b (row_at m k) None) t
 
 -- after changes
 changed_rows : (n : ℕ) (cs : List Change) (rows m : Tables) → AreOf n rows m → AreOf n (after_changes cs rows) (after_changes cs m)

@@ -1,13 +1,14 @@
 // The store over a keeper.
 ghost use Rattle.std.specs.Prelude.{◌≡◌, ◌≢◌, ◌+◌, ◌≤◌, ℕ, [], ◌∷◌, ◌++◌, true, false, Ok, IfOk, IfErr, IfSome, OnOk, OnErr};
 ghost use Rattle.std.specs.Option.{option_map};
-ghost use Rattle.hib_base.specs.Tables.{Tables, start, row_at, row_left, last_on, after_changes, commit_answer, in_order};
+ghost use Rattle.hib_base.specs.Start.{start};
+ghost use Rattle.hib_base.specs.Tables.{Tables, row_at, row_left, last_on, after_changes, commit_answer, in_order};
 ghost use Rattle.hib_outside.specs.Causes.{Rose};
 
 use crate::asking::{self, Loaded};
 use crate::written::Written;
 use crate::{queries, views, written};
-use hib_base::{Change, Commit, Key, Listing, Query, Row, SessionNo};
+use hib_base::{Change, Commit, Key, Listing, Mapping, Query, Row, SessionNo};
 use hib_outside::{KeepFault, Keeper};
 use hib_query_eval::Index;
 use std::alloc::{AllocError, Global};
@@ -86,16 +87,18 @@ impl<K: Keeper> Store<K> {
         }
     }
 
-    /// The store over a keeper that is seeded by one call: each of these rows whose key has none is added. No session has
-    /// written. At an error the keeper is handed back, with the rows that it had. A list of the first entities, so many as
+    /// The store over a keeper that is seeded by one call: the rows that it keeps are widened to the columns of this mapping,
+    /// and each of these rows whose key has none is added. No session has written. At an error the keeper is handed back, with the
+    /// rows that it had. A list of the first entities, so many as
     /// are said here, is answered from an index.
     pub fn open(
         alloc: Global,
         mut keeper: K,
+        mapping: &Mapping,
         rows: &[(Key, Row)],
         entities: u16,
     ) -> Result<Store<K>, OpenFault<K>>
-        ensures tables { IfOk result (λ s. s.tables ≡ option_map (λ m. start m rows.now) (K.tables keeper)) }
+        ensures tables { IfOk result (λ s. s.tables ≡ option_map (λ m. start mapping.now m rows.now) (K.tables keeper)) }
         ensures faults { IfOk result (λ s. K.faults keeper ≤ s.faults) }
         ensures asked { IfOk result (λ s. s.asked ≡ K.asked keeper) }
         ensures written { IfOk result (λ s. s.written ≡ []) }
@@ -107,7 +110,7 @@ impl<K: Keeper> Store<K> {
         ensures back_asked { IfErr result (λ e. K.asked (handed_back e) ≡ K.asked keeper) }
         ensures fault { IfErr result (λ e. is_store_fault e ≡ true → Rose (K.faults keeper) (K.faults (handed_back e))) }
     {
-        match keeper.seed(alloc, rows) {
+        match keeper.seed(alloc, mapping, rows) {
             Ok(()) => Ok(Store::over(alloc, keeper, entities)),
             Err(KeepFault::NoMemory) => Err(OpenFault::NoMemory(keeper)),
             Err(KeepFault::Failed) => Err(OpenFault::StoreFault(keeper)),

@@ -51,6 +51,7 @@ Why a line of a script is refused, at status 3:
   capacity       the capacity is out of its range
   column-type    it names none of the four types
   ref-unknown    the entity that it refers to isn't declared yet
+  default        the default isn't of the column's type, or a column before it has one
   no-columns     no column comes after the entity
   reserved       the name that it declares is a reserved word
   taken          what it declares is there already

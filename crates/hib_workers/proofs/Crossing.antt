@@ -85,7 +85,7 @@ entry_send : IsSend EntryT.the_field.row
 entry_send = search (sendable, crosses, act_send, reply_send) depth 100 fits 100000
 
 column_send : IsSend ColumnT.the_field.row
-column_send = search (sendable, crosses) depth 100 fits 100000
+column_send = search (sendable, crosses, cell_send) depth 100 fits 100000
 
 entity_send : IsSend EntityT.the_field.row
 entity_send = search (sendable, crosses, column_send) depth 100 fits 100000

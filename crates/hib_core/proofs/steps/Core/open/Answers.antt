@@ -1,6 +1,7 @@
 use Rattle.std.proofs.Common.{◌<◌, ◌≤◌, ℕ, [], length, map, ap, ◌∙◌, subst}
 use Rattle.std.specs.Option.{option_map}
-use Rattle.hib_base.specs.Tables.{Tables, start}
+use Rattle.hib_base.specs.Start.{start}
+use Rattle.hib_base.specs.Tables.{Tables}
 use Rattle.hib_base.specs.declared.scripts.Script.{Script}
 use Rattle.hib_update_stamps.specs.Stamped.{unstamped}
 use Rattle.hib_query_cache.specs.Ranked.{Ranked}
@@ -18,7 +19,7 @@ invariant_of-result g c =
       q,
       standing_begins c.law.ensures.obeyed g.N.Name.script g.N.Name.from _ (subst IsBuilt q c.ready.ensures) c.open-4.ensures.past
           (parts_begin c.laws.ensures g.N.Name.script g.N.Name.from _
-          (c.in_ok-store.ensures.tables ∙ (ap (λ (rows : Tables). option_map (λ t. start t rows) kept) c.as_slice.ensures
+          (c.in_ok-store.ensures.tables ∙ (ap (λ (rows : Tables). option_map (λ t. start c.args.script.mapping t rows) kept) c.as_slice.ensures
           ∙ (ap (λ (s : Script). told_start s kept) q ∙ ap (λ (o : Origin). o.tables) from)))
           (subst (λ (n : ℕ). n ≤ c.in_ok-store.store.faults) (ap (λ (o : Origin). o.faults) from) c.in_ok-store.ensures.faults)
           c.in_ok-store.ensures.written c.new.ensures
