@@ -11,3 +11,4 @@ pub mod FromOutside
 pub mod Short
 pub mod Moved
 pub mod Hearing
+pub mod Evictions

@@ -4,7 +4,7 @@ use Rattle.std.specs.Prelude.{slice_get}
 use Rattle.std.specs.List.{list_all, list_any}
 use Rattle.std.proofs.lemmas.Bool.{and_parts, ltb-true, eqb-true, false≢true}
 use Rattle.hib_base.specs.Scripts.{is_known, lists_known, evicts_cached}
-use Rattle.hib_base.specs.Valid.{is_valid}
+use Rattle.hib_base.specs.Valid.{is_valid, is_order_in}
 use Rattle.hib_base.proofs.Lists.{all_at}
 use Rattle.hib_base.proofs.Valid.{Rules, rules}
 use Rattle.hib_journal.specs.Types.{Order, Statement, SessionDef, Script}
@@ -34,9 +34,9 @@ known_by n q s ds p a = by_slot (slice_get ds s) refl a
     by_slot None e w = absurd (false≢true w)
     by_slot (Some d) e w = known_in n q d.statements (all_at (λ d. lists_known n d) ds s d p e) w
 
-sound : (script : Script) (o : Order) → evicts_cached script.mapping o ≡ true → IsSound script o
-sound script (Order.Evict k) p = p
-sound script _ p = tt
+sound : (script : Script) (n : ℕ) (o : Order) → evicts_cached script.mapping o ≡ true → is_order_in n o ≡ true → IsSound script o
+sound script n (Order.Evict k) p i = (p, i)
+sound script n _ p i = tt
 
 pub ready : (script : Script) → is_valid script ≡ true → IsBuilt script
 ready script v =
@@ -44,7 +44,8 @@ ready script v =
     record {
       entities = omega (arith, r.entities);
       sessions = omega (arith, r.sessions);
-      orders = λ i o e. sound script o (all_at (λ o. evicts_cached script.mapping o) script.schedule i o r.cached e);
+      orders = λ i o e. sound script (length script.sessions) o (all_at (λ o. evicts_cached script.mapping o) script.schedule i o r.cached e)
+          (all_at (λ o. is_order_in (length script.sessions) o) script.schedule i o r.order_fit e);
       results = omega (arith, r.results_low);
       queries = λ s q a. known_by (length script.queries) q s script.sessions r.known a;
     }

@@ -1,5 +1,6 @@
 -- What a factory keeps: its journal is legal, and its parts and sessions stand for it.
 use Rattle.std.specs.Prelude.{◌≡◌, ℕ, ◌+◌, ◌<◌, ◌^◌, Bool, true, false, ◌||◌, List, ◌∷◌, length, slice_get, Some, Option, None}
+use Rattle.hib_base.specs.Fits.{is_identifier}
 use Rattle.hib_base.specs.Tables.{Tables}
 use Rattle.hib_journal.specs.Types.{Order, Script, Act, Reply, Entry}
 use Rattle.hib_journal.specs.Kept.{Kept, past}
@@ -43,13 +44,13 @@ pub record AreSessions (script : Script) (h : Journal) (sessions : List Session)
 abbrev pub HasQueries : Script → Type 0
 HasQueries script = (s q : ℕ) → is_asked script s q ≡ true → q < length script.queries
 
--- an order evicts rows of cached entities alone
+-- an order evicts rows of cached entities alone, and names them by an identifier
 abbrev pub IsSound : Script → Order → Type 0
-IsSound script (Order.Evict k) = is_cached script k.entity ≡ true
+IsSound script (Order.Evict k) = (is_cached script k.entity ≡ true) × (is_identifier k.id ≡ true)
 IsSound script _ = Unit {0}
 
 -- what a factory needs of its script, which every valid script keeps: its entities and sessions have numbers, there is room for a
--- result, the schedule evicts rows of cached entities alone, and the queries that are asked are there
+-- result, the schedule evicts rows of cached entities by identifiers alone, and the queries that are asked are there
 pub record IsBuilt (script : Script) : Type 0 where
   pub entities : length script.mapping < 2 ^ 16
   pub sessions : length script.sessions < 2 ^ 32

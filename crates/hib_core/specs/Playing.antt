@@ -1,8 +1,9 @@
 -- What is played of a run, and what is left to play.
-use Rattle.std.specs.Prelude.{◌≡◌, ℕ, suc, length, ◌++◌, reverse, Some, Option}
+use Rattle.std.specs.Prelude.{◌≡◌, ℕ, true, suc, length, ◌++◌, reverse, Some, Option}
 use Rattle.hib_journal.specs.Types.{Script}
 use Rattle.hib_journal.specs.Sessions.{Journal}
 use Rattle.std.specs.List.{range_with_len}
+use Rattle.hib_journal.specs.Runs.{name_identifiers}
 use Rattle.hib_journal.specs.Played.{Playing, bind, play_steps, play_orders, play_sessions}
 
 -- what plays, after a journal, the entries that come, the oldest first
@@ -31,3 +32,7 @@ pub record Leads (all left : Play) (old new : Journal) : Type 0 where
   pub added : Journal
   pub grown : new ≡ reverse added ++ old
   pub plays : (rest : Journal) → all old (added ++ rest) ≡ left new rest
+
+-- what was evicted from outside has an identifier still, if it had one before
+abbrev pub AreNamed : Journal → Journal → Type 0
+AreNamed old new = name_identifiers old ≡ true → name_identifiers new ≡ true

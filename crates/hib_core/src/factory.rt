@@ -16,7 +16,7 @@ ghost use Rattle.hib_outside.specs.Causes.{Rose};
 ghost use Rattle.hib_store.specs.Stores.{handed_back, is_store_fault};
 ghost use Rattle.hib_core.specs.Bound.{most_in, outside_count};
 ghost use Rattle.hib_core.specs.Factory.{AreSessions, Does, IsOver, IsAskedOnceMore, AreOver, IsSound, Hears};
-ghost use Rattle.hib_core.specs.Playing.{played, play_all, play_script, GoesOn, Leads};
+ghost use Rattle.hib_core.specs.Playing.{played, play_all, play_script, GoesOn, Leads, AreNamed};
 ghost use Rattle.hib_listeners.specs.Told.{Told, tells, AreTold};
 ghost use Rattle.hib_listeners.specs.Heard.{HaveHeard};
 
@@ -389,6 +389,7 @@ impl<K: Keeper, N: Name, L: Listener> Factory<K, N, L> {
         ensures law { Obeys N.script N.from.tables (past self.new.journal) }
         ensures going { OnOk result (self.new.refused ≡ self.old.refused) }
         ensures stands { OnErr result (GoesOn (past self.old.journal) (past self.new.journal)) }
+        ensures named { AreNamed (past self.old.journal) (past self.new.journal) }
         ensures asked { OnErr result (self.old.refused ≡ false → IsAskedOnceMore N.from (past self.new.journal) self.new.parts) }
         ensures refused { OnErr result (self.new.refused ≡ true) }
     {
@@ -408,6 +409,7 @@ impl<K: Keeper, N: Name, L: Listener> Factory<K, N, L> {
         ensures law { OnErr result (Obeys N.script N.from.tables (past self.new.journal)) }
         ensures going { OnOk result (self.new.refused ≡ self.old.refused) }
         ensures stands { OnErr result (GoesOn (past self.old.journal) (past self.new.journal)) }
+        ensures named { AreNamed (past self.old.journal) (past self.new.journal) }
         ensures asked { OnErr result (self.old.refused ≡ false → IsAskedOnceMore N.from (past self.new.journal) self.new.parts) }
         ensures refused { OnErr result (self.new.refused ≡ true) }
     {
@@ -420,7 +422,7 @@ impl<K: Keeper, N: Name, L: Listener> Factory<K, N, L> {
 
     /// Plays the script: the orders of its schedule, one after the other, and then each session to its end, the first one
     /// first. Where memory runs out it stops there, and the steps so far stand. If memory ran out in no call before, the keeper was
-    /// asked once more than the journal says at most.
+    /// asked once more than the journal says at most. What it evicts has an identifier.
     pub fn play(&mut self, alloc: Global) -> Result<(), AllocError>
         ensures played { OnOk result (past self.old.journal ≡ [] → is_played N.script (past self.new.journal) ≡ true) }
         ensures leads { OnOk result (Leads (play_script N.script) played (past self.old.journal) (past self.new.journal)) }
@@ -429,6 +431,7 @@ impl<K: Keeper, N: Name, L: Listener> Factory<K, N, L> {
         ensures law { Obeys N.script N.from.tables (past self.new.journal) }
         ensures going { OnOk result (self.new.refused ≡ self.old.refused) }
         ensures stands { OnErr result (GoesOn (past self.old.journal) (past self.new.journal)) }
+        ensures named { AreNamed (past self.old.journal) (past self.new.journal) }
         ensures asked { OnErr result (self.old.refused ≡ false → IsAskedOnceMore N.from (past self.new.journal) self.new.parts) }
         ensures refused { OnErr result (self.new.refused ≡ true) }
     {

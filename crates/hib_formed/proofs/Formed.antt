@@ -14,7 +14,7 @@ use Rattle.hib_base.proofs.Lists.{all_at}
 use Rattle.hib_base.proofs.Valid.{Rules, rules}
 use Rattle.hib_journal.specs.Types.{Cell, Change, ColumnDef, Statement, SessionDef, Script, Part, Act, Reply, Commit, Entry}
 use Rattle.hib_journal.specs.Sessions.{Journal, own, is_by, is_open, was_killed, changes}
-use Rattle.hib_journal.specs.Runs.{IsNumbered}
+use Rattle.hib_journal.specs.Runs.{IsNumbered, names_identifier, name_identifiers}
 use Rattle.hib_journal.specs.Plan.{Plan, left_of, first_act, after}
 use Rattle.hib_journal.specs.Next.{next, plan_of, statements, is_cached, is_in}
 use Rattle.hib_journal.specs.Legal
@@ -23,8 +23,8 @@ use Rattle.hib_journal.proofs.Steps.{next_act, next_is, steps_in_order}
 use Rattle.hib_entry_fields.specs.Known
 use Rattle.hib_entry_fields.specs.Known.{is_key, is_session, is_tick, is_cell, are_cells}
 use Rattle.hib_entry_texts.specs.WellFormed.{is_act, is_reply, part_of, is_actor, IsEntry, AreEntries}
-use Rattle.hib_formed.specs.Wide.{is_wide, are_wide_tables, is_wide_statement, is_wide_session, are_wide, AreFit}
-use Rattle.hib_formed.specs.Early.{AreEarly, names_identifier, name_identifiers}
+use Rattle.hib_formed.specs.Fitting.{AreFit}
+use Rattle.hib_formed.specs.Early.{AreEarly}
 use Rattle.hib_formed.proofs.Each.{none_some, each_onto}
 use Rattle.hib_formed.proofs.Goods.{IsGood, AllGood, early_tick, own_good, open_session, cached_entity}
 use Rattle.hib_formed.proofs.Rows.{typed_cell, typed_cells, rows_start}
@@ -34,64 +34,60 @@ use Rattle.hib_formed.proofs.Replies.{reply_good}
 -- ---- what statements say
 
 module _ (script : Script) where
-  set_said : (n : ℕ) (x : ℕ × Cell) → Fits.is_set (entity_columns script.mapping n) x ≡ true → is_wide x.1 ≡ true → Known.is_set script n x ≡ true
-  set_said n x h w = by (slice_get (entity_columns script.mapping n) x.0) refl h
+  set_said : (n : ℕ) (x : ℕ × Cell) → Fits.is_set (entity_columns script.mapping n) x ≡ true → Known.is_set script n x ≡ true
+  set_said n x h = by (slice_get (entity_columns script.mapping n) x.0) refl h
     where
       by : (o : Option ColumnDef) → slice_get (entity_columns script.mapping n) x.0 ≡ o → is_of_type_in (kind_in o) x.1 ≡ true → Known.is_set script n x ≡ true
       by None e f = absurd (false≢true f)
       by (Some d) e f =
           and_from (nat_lt x.0 (length (entity_columns script.mapping n))) (is_cell x.1)
-          (lt-ltb x.0 (length (entity_columns script.mapping n)) (slice_get_within (entity_columns script.mapping n) x.0 d e)) (typed_cell d.kind x.1 f w)
+          (lt-ltb x.0 (length (entity_columns script.mapping n)) (slice_get_within (entity_columns script.mapping n) x.0 d e)) (typed_cell d.kind x.1 f)
 
-  sets_said : (n : ℕ) (xs : List (ℕ × Cell)) → list_all (λ x. Fits.is_set (entity_columns script.mapping n) x) xs ≡ true → list_all (λ x. is_wide x.1) xs ≡ true →
-      list_all (λ x. Known.is_set script n x) xs ≡ true
-  sets_said n [] h w = refl
-  sets_said n (x ∷ xs) h w =
+  sets_said : (n : ℕ) (xs : List (ℕ × Cell)) → list_all (λ x. Fits.is_set (entity_columns script.mapping n) x) xs ≡ true → list_all (λ x. Known.is_set script n x) xs ≡ true
+  sets_said n [] h = refl
+  sets_said n (x ∷ xs) h =
       let p : (Fits.is_set (entity_columns script.mapping n) x ≡ true) × (list_all (λ x. Fits.is_set (entity_columns script.mapping n) x) xs ≡ true) =
       and_parts (Fits.is_set (entity_columns script.mapping n) x) (list_all (λ x. Fits.is_set (entity_columns script.mapping n) x) xs) h in
-      let q : (is_wide x.1 ≡ true) × (list_all (λ x. is_wide x.1) xs ≡ true) = and_parts (is_wide x.1) (list_all (λ x. is_wide x.1) xs) w in
-      and_from (Known.is_set script n x) (list_all (λ x. Known.is_set script n x) xs) (set_said n x p.0 q.0) (sets_said n xs p.1 q.1)
+      and_from (Known.is_set script n x) (list_all (λ x. Known.is_set script n x) xs) (set_said n x p.0) (sets_said n xs p.1)
 
-  said : (t : Statement) → fits_statement script.mapping t ≡ true → is_known (length script.queries) t ≡ true → is_wide_statement t ≡ true → IsSaid script t
-  said (Statement.Find k) f q w = f
-  said (Statement.Persist k cs) f q w =
+  said : (t : Statement) → fits_statement script.mapping t ≡ true → is_known (length script.queries) t ≡ true → IsSaid script t
+  said (Statement.Find k) f q = f
+  said (Statement.Persist k cs) f q =
       let p : (is_key script k ≡ true) × (are_of_types (entity_columns script.mapping k.entity) cs ≡ true) = and_parts (is_key script k) (are_of_types (entity_columns script.mapping k.entity) cs) f in
-      (p.0, typed_cells (entity_columns script.mapping k.entity) cs p.1 w)
-  said (Statement.Set k xs) f q w =
+      (p.0, typed_cells (entity_columns script.mapping k.entity) cs p.1)
+  said (Statement.Set k xs) f q =
       let p : (is_key script k ≡ true) × (Fits.are_sets (entity_columns script.mapping k.entity) xs ≡ true) = and_parts (is_key script k) (Fits.are_sets (entity_columns script.mapping k.entity) xs) f in
       let n : (nat_le 1 (length xs) ≡ true)
       × ((list_all (λ x. Fits.is_set (entity_columns script.mapping k.entity) x) xs && are_apart_by (λ c d. c == d) (map (λ x. x.0) xs)) ≡ true) =
       and_parts (nat_le 1 (length xs)) (list_all (λ x. Fits.is_set (entity_columns script.mapping k.entity) x) xs && are_apart_by (λ c d. c == d) (map (λ x. x.0) xs)) p.1 in
       let a : list_all (λ x. Fits.is_set (entity_columns script.mapping k.entity) x) xs ≡ true =
       (and_parts (list_all (λ x. Fits.is_set (entity_columns script.mapping k.entity) x) xs) (are_apart_by (λ c d. c == d) (map (λ x. x.0) xs)) n.1).0 in
-      (p.0, and_from (nat_le 1 (length xs)) (list_all (λ x. Known.is_set script k.entity x) xs) n.0 (sets_said k.entity xs a w))
-  said (Statement.Remove k) f q w = f
-  said (Statement.List n) f q w = q
-  said Statement.Flush f q w = tt
-  said Statement.Clear f q w = tt
-  said (Statement.Mode m) f q w = tt
-  said Statement.Commit f q w = tt
-  said Statement.Rollback f q w = tt
+      (p.0, and_from (nat_le 1 (length xs)) (list_all (λ x. Known.is_set script k.entity x) xs) n.0 (sets_said k.entity xs a))
+  said (Statement.Remove k) f q = f
+  said (Statement.List n) f q = q
+  said Statement.Flush f q = tt
+  said Statement.Clear f q = tt
+  said (Statement.Mode m) f q = tt
+  said Statement.Commit f q = tt
+  said Statement.Rollback f q = tt
 
   all_said : (ts : List Statement) → list_all (λ t. fits_statement script.mapping t) ts ≡ true → list_all (λ t. is_known (length script.queries) t) ts ≡ true →
-      list_all is_wide_statement ts ≡ true → AllByRecursion (IsSaid script) ts
-  all_said [] f q w = tt
-  all_said (t ∷ ts) f q w =
+      AllByRecursion (IsSaid script) ts
+  all_said [] f q = tt
+  all_said (t ∷ ts) f q =
       let a : (fits_statement script.mapping t ≡ true) × (list_all (λ t. fits_statement script.mapping t) ts ≡ true) = and_parts (fits_statement script.mapping t) (list_all (λ t. fits_statement script.mapping t) ts) f in
       let b : (is_known (length script.queries) t ≡ true) × (list_all (λ t. is_known (length script.queries) t) ts ≡ true) =
       and_parts (is_known (length script.queries) t) (list_all (λ t. is_known (length script.queries) t) ts) q in
-      let c : (is_wide_statement t ≡ true) × (list_all is_wide_statement ts ≡ true) = and_parts (is_wide_statement t) (list_all is_wide_statement ts) w in
-      (said t a.0 b.0 c.0, all_said ts a.1 b.1 c.1)
+      (said t a.0 b.0, all_said ts a.1 b.1)
 
-  session_said : (r : Rules script) (s : ℕ) → are_wide script ≡ true → AllByRecursion (IsSaid script) (statements (slice_get script.sessions s))
-  session_said r s w = by (slice_get script.sessions s) refl
+  session_said : (r : Rules script) (s : ℕ) → AllByRecursion (IsSaid script) (statements (slice_get script.sessions s))
+  session_said r s = by (slice_get script.sessions s) refl
     where
       by : (o : Option SessionDef) → slice_get script.sessions s ≡ o → AllByRecursion (IsSaid script) (statements o)
       by None e = tt
       by (Some d) e =
           all_said d.statements (all_at (λ d. list_all (λ t. fits_statement script.mapping t) d.statements) script.sessions s d r.statement_fit e)
           (all_at (λ d. lists_known (length script.queries) d) script.sessions s d r.known e)
-          (all_at is_wide_session script.sessions s d (and_parts (are_wide_tables script.rows) (list_all is_wide_session script.sessions) w).1 e)
 
 -- ---- who does it
 
@@ -115,7 +111,7 @@ same_part Act.Begin s = refl
 same_part _ s = refl
 
 -- what is done from outside
-outside_good : (script : Script) (h : Journal) (a : Act) (p : Part) → AllGood script h → names_identifier a ≡ true → may_come script h (cond (is_outside a) (Some a) None) ≡ Some a →
+outside_good : (script : Script) (h : Journal) (a : Act) (p : Part) → AllGood script h → names_identifier None a ≡ true → may_come script h (cond (is_outside a) (Some a) None) ≡ Some a →
     part_due (cond (is_outside a) (Some a) None) 0 ≡ Some p → (is_act script a ≡ true) × (part_of a None ≡ Some p)
 outside_good script h (Act.Kill n) p g i m d = (open_session script n h g (by (is_open n h) m), d)
   where
@@ -155,19 +151,19 @@ fault_good script cs Act.Commit r f = by (is_empty cs) f
         same y = cc
 fault_good script cs _ r f = none_some f
 
-module _ (script : Script) (start : Tables) (v : is_valid script ≡ true) (w : are_wide script ≡ true) (fit : AreFit script start) where
+module _ (script : Script) (start : Tables) (v : is_valid script ≡ true) (fit : AreFit script start) where
   record IsDone (e : Entry) : Type 0 where
     act : is_act script e.act ≡ true
     actor : is_actor script e.session ≡ true
     part : part_of e.act e.session ≡ Some e.part
 
-  done : (h : Journal) (e : Entry) → IsLegal script (Some start) h → IsStep script (Some start) h e → AllGood script h → names_identifier e.act ≡ true → IsDone e
+  done : (h : Journal) (e : Entry) → IsLegal script (Some start) h → IsStep script (Some start) h e → AllGood script h → names_identifier e.session e.act ≡ true → IsDone e
   done h e l t g i = by e.session refl
     where
       by : (o : Option ℕ) → e.session ≡ o → IsDone e
       by None p =
           let x : (is_act script e.act ≡ true) × (part_of e.act None ≡ Some e.part) =
-          outside_good script h e.act e.part g i (subst (λ o. may_come script h (due_by script h o e.act) ≡ Some e.act) p t.act)
+          outside_good script h e.act e.part g (subst (λ o. names_identifier o e.act ≡ true) p i) (subst (λ o. may_come script h (due_by script h o e.act) ≡ Some e.act) p t.act)
           (subst (λ o. part_due (due_by script h o e.act) (number o) ≡ Some e.part) p t.part) in
           record { act = x.0; actor = subst (λ o. is_actor script o ≡ true) (sym p) refl; part = subst (λ o. part_of e.act o ≡ Some e.part) (sym p) x.1 }
       by (Some s) p =
@@ -176,7 +172,7 @@ module _ (script : Script) (start : Tables) (v : is_valid script ≡ true) (w : 
           let d : part_due (due_by script h (Some s) e.act) s ≡ Some e.part = subst (λ o. part_due (due_by script h o e.act) (number o) ≡ Some e.part) p t.part in
           let f : Some (Legal.part_of e.act s) ≡ Some e.part = rw (n.0, n.1) at d in
           record {
-            act = next_good script s (own s h) e.act (session_said script (rules script v) s w) (own_good script s h g) (steps_in_order script (Some start) s h l) n.1;
+            act = next_good script s (own s h) e.act (session_said script (rules script v) s) (own_good script s h g) (steps_in_order script (Some start) s h l) n.1;
             actor = subst (λ o. is_actor script o ≡ true) (sym p) (has_session script s (own s h) e.act n.1);
             part = subst (λ o. part_of e.act o ≡ Some e.part) (sym p) (same_part e.act s ∙ f);
           }
@@ -200,17 +196,17 @@ module _ (script : Script) (start : Tables) (v : is_valid script ≡ true) (w : 
   all_formed : (h : Journal) → IsLegal script (Some start) h → length h ≤ 2 ^ 61 → AreEarly h → name_identifiers h ≡ true → AllGood script h × AllByRecursion (IsEntry script) h
   all_formed [] l few early named = (tt, tt)
   all_formed (e ∷ h) l few early named =
-      let n : (names_identifier e.act ≡ true) × (name_identifiers h ≡ true) = and_parts (names_identifier e.act) (name_identifiers h) named in
+      let n : (names_identifier e.session e.act ≡ true) × (name_identifiers h ≡ true) = and_parts (names_identifier e.session e.act) (name_identifiers h) named in
       let i : AllGood script h × AllByRecursion (IsEntry script) h = all_formed h l.0 (omega arith) early.0 n.1 in
       let d : IsDone e = done h e l.0 l.1 i.0 n.0 in
       let g : IsGood script e = good_step h e l.1 i.0 (omega arith) early.1 d in
       ((g, i.0), (entry_of e g d, i.1))
 
 -- each entry of a legal journal is well formed
-pub formed : (script : Script) (start : Tables) (h : Journal) → is_valid script ≡ true → are_wide script ≡ true → AreFit script start → length h ≤ 2 ^ 61 → AreEarly h →
+pub formed : (script : Script) (start : Tables) (h : Journal) → is_valid script ≡ true → AreFit script start → length h ≤ 2 ^ 61 → AreEarly h →
     name_identifiers h ≡ true → IsLegal script (Some start) h → AreEntries script (reverse h)
-formed script start h v w fit few early named l =
-    All-from_recursion (IsEntry script) (reverse h) (each_onto (IsEntry script) h [] (all_formed script start v w fit h l few early named).1 tt)
+formed script start h v fit few early named l =
+    All-from_recursion (IsEntry script) (reverse h) (each_onto (IsEntry script) h [] (all_formed script start v fit h l few early named).1 tt)
 
 pub numbered_early : (h : Journal) → IsNumbered h → length h ≤ 2 ^ 61 → AreEarly h
 numbered_early [] n f = tt

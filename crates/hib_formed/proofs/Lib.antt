@@ -8,4 +8,3 @@ mod Regions
 mod Lists
 mod Replies
 mod Formed
-mod Named

@@ -6,16 +6,17 @@ use Rattle.std.specs.List.{AllByRecursion, list_all}
 use Rattle.hib_base.specs.Fits
 use Rattle.hib_base.specs.Fits.{is_identifier, is_of_type, are_of_types, fits, fits_entity}
 use Rattle.hib_base.specs.Keys.{same_key, is_before}
-use Rattle.hib_base.specs.Tables.{Tables, row_at, with_row, without_row, unless_there, start, after_change, after_changes, same_version, unless_expected, unless_absent, refusal, or_answer, commit_answer, in_order}
+use Rattle.hib_base.specs.Start.{start, widened}
+use Rattle.hib_base.specs.Tables.{Tables, row_at, with_row, without_row, unless_there, with_absent, after_change, after_changes, same_version, unless_expected, unless_absent, refusal, or_answer, commit_answer, in_order}
 use Rattle.hib_base.proofs.Tables.{Tested, tested, same_key_eq}
 use Rattle.hib_base.proofs.Valid.{Rules, rules}
 use Rattle.hib_base.specs.Valid.{is_valid}
-use Rattle.hib_outside.proofs.Orders.{in_order_changes, in_order_start}
+use Rattle.hib_outside.proofs.Orders.{in_order_changes, in_order_with_absent}
 use Rattle.hib_journal.specs.Types.{Key, Row, Cell, ColumnType, ColumnDef, EntityDef, Change, Commit, Script}
 use Rattle.hib_journal.specs.Sessions.{Journal, own, changes, committer, committed_by, committed}
 use Rattle.hib_entry_fields.specs.Known.{is_key, is_entity, is_version, is_cell, are_cells, is_row}
 use Rattle.hib_entry_texts.specs.WellFormed.{is_change, is_read, is_commit}
-use Rattle.hib_formed.specs.Wide.{is_wide, are_wide_cells, are_wide_tables, is_wide_session, are_wide, AreFit}
+use Rattle.hib_formed.specs.Fitting.{AreFit}
 use Rattle.hib_formed.proofs.Each.{within_some}
 use Rattle.hib_formed.proofs.Goods.{AllGood, AreChanges, key_parts, own_good, changes_good}
 
@@ -112,21 +113,23 @@ module _ (script : Script) where
 
 -- ---- the rows at the start
 
-pub typed_cell : (k : ColumnType) (c : Cell) → is_of_type k c ≡ true → is_wide c ≡ true → is_cell c ≡ true
-typed_cell k (Cell.Int (pos n)) h w = w
-typed_cell k (Cell.Int (negsuc n)) h w = w
-typed_cell ColumnType.Text (Cell.Text t) h w = h
-typed_cell k (Cell.Text t) h w = absurd (false≢true h)
-typed_cell k (Cell.Bool b) h w = refl
+pub typed_cell : (k : ColumnType) (c : Cell) → is_of_type k c ≡ true → is_cell c ≡ true
+typed_cell ColumnType.Int (Cell.Int (pos n)) h = h
+typed_cell ColumnType.Int (Cell.Int (negsuc n)) h = h
+typed_cell (ColumnType.Ref e) (Cell.Int (pos n)) h = h
+typed_cell (ColumnType.Ref e) (Cell.Int (negsuc n)) h = h
+typed_cell k (Cell.Int n) h = absurd (false≢true h)
+typed_cell ColumnType.Text (Cell.Text t) h = h
+typed_cell k (Cell.Text t) h = absurd (false≢true h)
+typed_cell k (Cell.Bool b) h = refl
 
-pub typed_cells : (ds : List ColumnDef) (cs : List Cell) → are_of_types ds cs ≡ true → are_wide_cells cs ≡ true → are_cells cs ≡ true
-typed_cells [] [] h w = refl
-typed_cells (d ∷ ds) [] h w = refl
-typed_cells [] (c ∷ cs) h w = absurd (false≢true h)
-typed_cells (d ∷ ds) (c ∷ cs) h w =
+pub typed_cells : (ds : List ColumnDef) (cs : List Cell) → are_of_types ds cs ≡ true → are_cells cs ≡ true
+typed_cells [] [] h = refl
+typed_cells (d ∷ ds) [] h = refl
+typed_cells [] (c ∷ cs) h = absurd (false≢true h)
+typed_cells (d ∷ ds) (c ∷ cs) h =
     let p : (is_of_type d.kind c ≡ true) × (are_of_types ds cs ≡ true) = and_parts (is_of_type d.kind c) (are_of_types ds cs) h in
-    let q : (is_wide c ≡ true) × (are_wide_cells cs ≡ true) = and_parts (is_wide c) (are_wide_cells cs) w in
-    and_from (is_cell c) (are_cells cs) (typed_cell d.kind c p.0 q.0) (typed_cells ds cs p.1 q.1)
+    and_from (is_cell c) (are_cells cs) (typed_cell d.kind c p.0) (typed_cells ds cs p.1)
 
 given_version : (b : Bool) (v : Option ℕ) → Fits.is_version b v ≡ true → is_version v ≡ true
 given_version true (Some v) h = let p : v < 4000000000 = ltb-true v 4000000000 h in lt-ltb v (2 ^ 32) (omega arith)
@@ -134,26 +137,25 @@ given_version true None h = refl
 given_version false None h = refl
 given_version false (Some v) h = absurd (false≢true h)
 
-start_placed : (script : Script) (t : Tables) → fits script.mapping t ≡ true → are_wide_tables t ≡ true → AllByRecursion (IsPlaced script) t
-start_placed script [] h w = tt
-start_placed script (e ∷ es) h w =
+start_placed : (script : Script) (t : Tables) → fits script.mapping t ≡ true → AllByRecursion (IsPlaced script) t
+start_placed script [] h = tt
+start_placed script (e ∷ es) h =
     let p : (fits_entity (slice_get script.mapping e.0.entity) e.0 e.1 ≡ true) × (fits script.mapping es ≡ true) =
     and_parts (fits_entity (slice_get script.mapping e.0.entity) e.0 e.1) (fits script.mapping es) h in
-    let q : (are_wide_cells e.1.cells ≡ true) × (are_wide_tables es ≡ true) = and_parts (are_wide_cells e.1.cells) (are_wide_tables es) w in
-    (λ d. by (slice_get script.mapping e.0.entity) refl d p.0 q.0, start_placed script es p.1 q.1)
+    (λ d. by (slice_get script.mapping e.0.entity) refl d p.0, start_placed script es p.1)
   where
-    by : (o : Option EntityDef) → slice_get script.mapping e.0.entity ≡ o → is_entity script e.0.entity ≡ true → fits_entity o e.0 e.1 ≡ true → are_wide_cells e.1.cells ≡ true →
+    by : (o : Option EntityDef) → slice_get script.mapping e.0.entity ≡ o → is_entity script e.0.entity ≡ true → fits_entity o e.0 e.1 ≡ true →
         (is_identifier e.0.id ≡ true) × (is_row e.1 ≡ true)
-    by None n d f x = absurd (within_some script.mapping e.0.entity (ltb-true e.0.entity (length script.mapping) d) n)
-    by (Some d) n y f x =
+    by None n d f = absurd (within_some script.mapping e.0.entity (ltb-true e.0.entity (length script.mapping) d) n)
+    by (Some d) n y f =
         let p : (is_identifier e.0.id ≡ true) × ((Fits.is_version d.versioned e.1.version && are_of_types d.columns e.1.cells) ≡ true) =
         and_parts (is_identifier e.0.id) (Fits.is_version d.versioned e.1.version && are_of_types d.columns e.1.cells) f in
         let q : (Fits.is_version d.versioned e.1.version ≡ true) × (are_of_types d.columns e.1.cells ≡ true) =
         and_parts (Fits.is_version d.versioned e.1.version) (are_of_types d.columns e.1.cells) p.1 in
-        (p.0, and_from (is_version e.1.version) (are_cells e.1.cells) (given_version d.versioned e.1.version q.0) (typed_cells d.columns e.1.cells q.1 x))
+        (p.0, and_from (is_version e.1.version) (are_cells e.1.cells) (given_version d.versioned e.1.version q.0) (typed_cells d.columns e.1.cells q.1))
 
 pub rows_start : (script : Script) (t : Tables) → AreFit script t → AreRows script t
-rows_start script t f = record { placed = start_placed script t f.fit f.wide; ordered = f.ordered }
+rows_start script t f = record { placed = start_placed script t f.fit; ordered = f.ordered }
 
 -- the script's rows beside those that were kept
 module _ (p : Key × Row → Bool) where
@@ -173,17 +175,16 @@ module _ (p : Key × Row → Bool) where
   all_unless t k r None h g = all_with t k r h g
   all_unless t k r (Some old) h g = h
 
-  all_start : (t es : Tables) → list_all p t ≡ true → list_all p es ≡ true → list_all p (start t es) ≡ true
-  all_start t [] h g = h
-  all_start t (e ∷ es) h g =
+  all_absent : (t es : Tables) → list_all p t ≡ true → list_all p es ≡ true → list_all p (with_absent t es) ≡ true
+  all_absent t [] h g = h
+  all_absent t (e ∷ es) h g =
       let q : (p e ≡ true) × (list_all p es ≡ true) = and_parts (p e) (list_all p es) g in
-      all_start (unless_there t e.0 e.1 (row_at t e.0)) es (all_unless t e.0 e.1 (row_at t e.0) h q.0) q.1
+      all_absent (unless_there t e.0 e.1 (row_at t e.0)) es (all_unless t e.0 e.1 (row_at t e.0) h q.0) q.1
 
-pub start_fits : (script : Script) (kept : Tables) → is_valid script ≡ true → are_wide script ≡ true → AreFit script kept → AreFit script (start kept script.rows)
-start_fits script kept v w f =
+pub start_fits : (script : Script) (kept : Tables) → is_valid script ≡ true → AreFit script (widened script.mapping kept) → AreFit script (start script.mapping kept script.rows)
+start_fits script kept v f =
     let r : Rules script = rules script v in
     record {
-      fit = all_start (λ e. fits_entity (slice_get script.mapping e.0.entity) e.0 e.1) kept script.rows f.fit r.fit;
-      wide = all_start (λ e. are_wide_cells e.1.cells) kept script.rows f.wide (and_parts (are_wide_tables script.rows) (list_all is_wide_session script.sessions) w).0;
-      ordered = in_order_start kept script.rows f.ordered;
+      fit = all_absent (λ e. fits_entity (slice_get script.mapping e.0.entity) e.0 e.1) (widened script.mapping kept) script.rows f.fit r.fit;
+      ordered = in_order_with_absent (widened script.mapping kept) script.rows f.ordered;
     }

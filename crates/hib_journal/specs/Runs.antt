@@ -1,7 +1,10 @@
--- What is said of a whole run: its ticks, its committed rows, how often its store may have asked the keeper, and how often that failed.
-use Rattle.std.specs.Prelude.{◌≡◌, ℕ, ◌+◌, Bool, true, false, not, [], ◌∷◌, List, length, Option}
+-- What is said of a whole run: its ticks, its committed rows, how often its store may have asked the keeper, and how often that failed; and
+-- what was evicted.
+use Rattle.std.specs.Prelude.{◌≡◌, ℕ, ◌+◌, Bool, true, false, not, [], ◌∷◌, List, length, Some, None, Option}
+use Rattle.std.specs.List.{list_all}
 use Rattle.std.specs.Option.{option_map}
-use Rattle.hib_journal.specs.Types.{Change, Commit, Act, Reply}
+use Rattle.hib_base.specs.Fits.{is_identifier}
+use Rattle.hib_journal.specs.Types.{Change, Commit, Act, Reply, Entry}
 use Rattle.hib_base.specs.Tables.{Tables}
 use Rattle.hib_journal.specs.Sessions.{Journal, changes, committed}
 use Rattle.hib_journal.specs.Next.{is_in}
@@ -41,3 +44,11 @@ is_fault _ = false
 abbrev pub fault_count : Journal → ℕ
 fault_count [] = 0
 fault_count (e ∷ h) = fault_count h + one_if (is_fault e.reply)
+
+-- an eviction from outside names an identifier; no session evicts
+abbrev pub names_identifier : Option ℕ → Act → Bool
+names_identifier None (Act.Evict k) = is_identifier k.id
+names_identifier by _ = true
+
+abbrev pub name_identifiers : Journal → Bool
+name_identifiers h = list_all (λ (e : Entry). names_identifier e.session e.act) h

@@ -27,7 +27,7 @@ not_said Status.WriteFault a after other = tt
 not_said Status.NoMemory a after other = tt
 not_said _ a after other = absurd after
 
-pub judged_all : (answer : Status) (left after : Option (List ℕ)) (text : List ℕ) (count : ℕ) (a : Audit) (taken written : Option (List ℕ)) → HasText left after text → HasJudged text count a → IsSaid answer a →
+pub judged_all : (answer : Status) (left after : Option (List ℕ)) (text : List ℕ) (count : ℕ) (a : Audit) (taken written : Option (List ℕ)) → HasText 67108864 left after text → HasJudged text count a → IsSaid answer a →
     IsWritten answer (verdict_text count a) taken written → Judges answer left after taken written
 judged_all Status.Done left after text count a taken written r j s w = record { text = text; read = r; count = count; audit = a; judged = j; said = s; written_text = w }
 judged_all (Status.Illegal entry kind) left after text count a taken written r j s w = record { text = text; read = r; count = count; audit = a; judged = j; said = s; written_text = w }
@@ -35,8 +35,8 @@ judged_all Status.WriteFault left after text count a taken written r j s w = rec
 judged_all Status.NoMemory left after text count a taken written r j s w = inr (record { text = text; read = r; count = count; audit = a; judged = j; said = s; written_text = w })
 judged_all _ left after text count a taken written r j s w = absurd s
 
-pub no_input : (answer : Status) (left after : Option (List ℕ)) (text : List ℕ) (taken : Option (List ℕ)) → HasText left after text → HasNoInput text answer → Judges answer left after taken taken
-no_input (Status.Refused r) left after text taken h bad = record { text = text; read = h; bad = bad; silent = refl }
+pub no_input : (answer : Status) (left after : Option (List ℕ)) (text : List ℕ) (taken : Option (List ℕ)) → HasText 67108864 left after text → HasNoInput text answer → Judges answer left after taken taken
+no_input (Status.Refused r) left after text taken h bad = ((text, h, bad), refl)
 no_input Status.NoMemory left after text taken h bad = inl refl
 no_input _ left after text taken h bad = absurd bad
 
@@ -49,7 +49,7 @@ said_completes Status.WriteFault a write s w n = absurd (n (w refl))
 said_completes _ a write s w n = absurd s
 
 pub whole_text : (left : Option (List ℕ)) (text : List ℕ) → IfSome left (λ bytes. bytes ≡ text) → HasJournal left → IsWholeInput text
-whole_text left text same j = let e : j.text ≡ text = subst (λ o. IfSome o (λ bytes. bytes ≡ text)) j.told same in subst IsWholeInput e j.whole
+whole_text left text same j = let e : j.text ≡ text = subst (λ o. IfSome o (λ bytes. bytes ≡ text)) j.told same in subst IsWholeInput e j.is
 
 pub memory_completes : (answer : Status) → answer ≡ Status.NoMemory → IsCompleted answer
 memory_completes answer e = subst IsCompleted (sym e) tt

@@ -20,16 +20,16 @@ played turns telling Status.Done left after text script kept rows journal taken 
 played turns telling Status.WriteFault left after text script kept rows journal taken written r x = record { text = text; script = script; read = r; run = x }
 played turns telling Status.NoMemory left after text script kept rows journal taken written r (inl x) = inl x
 played turns telling Status.NoMemory left after text script kept rows journal taken written r (inr x) = inr (record { text = text; script = script; read = r; run = x })
-played turns telling Status.StoreFault left after text script kept rows journal taken written r x = record { text = text; said = outline_of script; read = r; idle = x }
+played turns telling Status.StoreFault left after text script kept rows journal taken written r x = ((text, outline_of script, r), x)
 played turns telling _ left after text script kept rows journal taken written r x = absurd x
 
 -- and so it is where none was read
 pub unread : (turns : Turns) (telling : Telling) (answer : Status) (left after : Option (List ℕ)) (kept rows : Option Tables) (journal : Kept) (taken : Option (List ℕ)) →
     HasNoScript left after answer → past journal ≡ [] → rows ≡ kept → Plays turns telling answer left after kept rows journal taken taken
-unread turns telling (Status.Refused q) left after kept rows journal taken (text, read) e s = record { text = text; read = read; idle = record { empty = e; same = s; silent = refl } }
-unread turns telling Status.ReadFault left after kept rows journal taken n e s = record { empty = e; same = s; silent = refl }
-unread turns telling Status.TooLong left after kept rows journal taken n e s = record { empty = e; same = s; silent = refl }
-unread turns telling Status.NoMemory left after kept rows journal taken n e s = inl (record { empty = e; same = s; silent = refl })
+unread turns telling (Status.Refused q) left after kept rows journal taken read e s = (read, record { empty = e; same = s }, refl)
+unread turns telling Status.ReadFault left after kept rows journal taken n e s = (record { empty = e; same = s }, refl)
+unread turns telling Status.TooLong left after kept rows journal taken n e s = (record { empty = e; same = s }, refl)
+unread turns telling Status.NoMemory left after kept rows journal taken n e s = inl (record { empty = e; same = s }, refl)
 unread turns telling _ left after kept rows journal taken n e s = absurd n
 
 pub no_usage : (left after : Option (List ℕ)) (answer : Status) → HasNoScript left after answer → answer ≡ Status.Usage → ⊥
@@ -49,7 +49,7 @@ completes turns telling Status.Done left after kept rows journal taken written r
 completes turns telling Status.NoMemory left after kept rows journal taken written read write p u r w l y nr nw = tt
 completes turns telling Status.Usage left after kept rows journal taken written read write p u r w l y nr nw = absurd (u refl)
 completes turns telling (Status.Refused q) left after kept rows journal taken written read write p u r w l y nr nw =
-    absurd (other y.said q (sym p.read.is ∙ (ap script_of (sym (told_is left y.text (λ bytes. bytes ≡ p.text) y.told p.read.whole)) ∙ y.is)))
+    absurd (other y.is.0 q (sym p.0.1.1 ∙ (ap script_of (sym (told_is left y.text (λ bytes. bytes ≡ p.0.0) y.told p.0.1.0.whole)) ∙ y.is.1)))
 completes turns telling (Status.Illegal n k) left after kept rows journal taken written read write p u r w l y nr nw = tt
 completes turns telling Status.ReadFault left after kept rows journal taken written read write p u r w l y nr nw = absurd (nr (r refl))
 completes turns telling Status.WriteFault left after kept rows journal taken written read write p u r w l y nr nw = absurd (nw (w refl))
@@ -72,9 +72,9 @@ no_usage_made turns telling answer script kept rows journal taken written p q = 
 
 pub prints : (answer : Status) (text : List ℕ) (kept : Option Tables) (journal : Kept) (taken written : Option (List ℕ)) →
     IsAfterRun answer → past journal ≡ [] → IsWritten answer text taken written → Prints answer text kept kept journal taken written
-prints Status.Done text kept journal taken written a e w = record { empty = e; same = refl; written_text = w }
-prints Status.WriteFault text kept journal taken written a e w = record { empty = e; same = refl; written_text = w }
-prints Status.NoMemory text kept journal taken written a e w = record { empty = e; same = refl; written_text = w }
+prints Status.Done text kept journal taken written a e w = (record { empty = e; same = refl }, w)
+prints Status.WriteFault text kept journal taken written a e w = (record { empty = e; same = refl }, w)
+prints Status.NoMemory text kept journal taken written a e w = (record { empty = e; same = refl }, w)
 prints _ text kept journal taken written a e w = absurd a
 
 pub completes_printed : (answer : Status) (write : Type 0) → IsAfterRun answer → (answer ≡ Status.WriteFault → write) → (write → ⊥) → IsCompleted answer
@@ -98,11 +98,11 @@ not_long turns telling answer script kept rows journal taken written p q = subst
 -- ---- memory ran out before anything was done
 idle_by : (w : Option Way) (left kept : Option Tables) (bytes : Option (List ℕ)) (journal : Kept) (taken : Option (List ℕ)) → past journal ≡ [] → kept ≡ left → ComesOf w Status.NoMemory bytes bytes left kept journal taken taken
 unfolding ComesOf
-idle_by None left kept bytes journal taken e s = record { empty = e; same = s; silent = refl }
-idle_by (Some (Way.Run turns telling)) left kept bytes journal taken e s = inl (record { empty = e; same = s; silent = refl })
-idle_by (Some Way.Audited) left kept bytes journal taken e s = record { empty = e; same = s; judges = inl refl }
-idle_by (Some (Way.Made n)) left kept bytes journal taken e s = inl (record { empty = e; same = s; silent = refl })
-idle_by (Some (Way.Printed n)) left kept bytes journal taken e s = record { empty = e; same = s; written_text = none_taken taken _ }
+idle_by None left kept bytes journal taken e s = (record { empty = e; same = s }, refl)
+idle_by (Some (Way.Run turns telling)) left kept bytes journal taken e s = inl (record { empty = e; same = s }, refl)
+idle_by (Some Way.Audited) left kept bytes journal taken e s = (record { empty = e; same = s }, inl refl)
+idle_by (Some (Way.Made n)) left kept bytes journal taken e s = inl (record { empty = e; same = s }, refl)
+idle_by (Some (Way.Printed n)) left kept bytes journal taken e s = (record { empty = e; same = s }, none_taken taken _)
 
 pub idle_comes : (w : Option Way) (answer : Status) (start rows : Option Tables) (bytes : Option (List ℕ)) (journal : Kept) (taken : Option (List ℕ)) →
     answer ≡ Status.NoMemory → past journal ≡ [] → rows ≡ start → ComesOf w answer bytes bytes start rows journal taken taken
@@ -117,4 +117,4 @@ some_comes w way answer left after kept rows journal taken written e c = subst (
 pub none_comes : (w : Option Way) (answer : Status) (bytes : Option (List ℕ)) (kept rows : Option Tables) (journal : Kept) (taken : Option (List ℕ)) →
     None ≡ w → past journal ≡ [] → rows ≡ kept → ComesOf w answer bytes bytes kept rows journal taken taken
 unfolding ComesOf
-none_comes w answer bytes kept rows journal taken e empty same = subst (λ o. ComesOf o answer bytes bytes kept rows journal taken taken) e (record { empty = empty; same = same; silent = refl })
+none_comes w answer bytes kept rows journal taken e empty same = subst (λ o. ComesOf o answer bytes bytes kept rows journal taken taken) e (record { empty = empty; same = same }, refl)

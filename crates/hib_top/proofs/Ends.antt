@@ -77,13 +77,13 @@ pub runs_unopened : (turns : Turns) (telling : Telling) (e : End) (script : Scri
     CameTo turns e script kept (told_start script kept) rows (past journal) → Runs turns telling Status.NoMemory script kept rows journal taken taken
 runs_unopened turns telling e script kept rows journal taken p c =
     let k : CameTo turns End.Unopened script kept (told_start script kept) rows (past journal) = subst (λ z. CameTo turns z script kept (told_start script kept) rows (past journal)) p c in
-    inl (record { empty = k.0; same = k.1; silent = refl })
+    inl (record { empty = k.0; same = k.1 }, refl)
 
 pub runs_unseeded : (turns : Turns) (telling : Telling) (e : End) (script : Script) (kept rows : Option Tables) (journal : Kept) (taken : Option (List ℕ)) → e ≡ End.Unseeded →
     CameTo turns e script kept (told_start script kept) rows (past journal) → Runs turns telling Status.StoreFault script kept rows journal taken taken
 runs_unseeded turns telling e script kept rows journal taken p c =
     let k : CameTo turns End.Unseeded script kept (told_start script kept) rows (past journal) = subst (λ z. CameTo turns z script kept (told_start script kept) rows (past journal)) p c in
-    record { empty = k.0; same = k.1; silent = refl }
+    (record { empty = k.0; same = k.1 }, refl)
 
 -- ---- what a status says of the run before it
 pub unseeded : (e : End) (answer : Status) → IsAfter e answer → answer ≡ Status.StoreFault → e ≡ End.Unseeded

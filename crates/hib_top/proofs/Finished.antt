@@ -1,10 +1,9 @@
 -- A run in which every session that there is has ended is finished.
-use Rattle.std.proofs.Common.{◌≡◌, ℕ, zero, suc, ◌<◌, true, List, [], ◌∷◌, length, Some, None, arith}
+use Rattle.std.proofs.Common.{◌≡◌, ℕ, zero, suc, ◌<◌, List, [], ◌∷◌, length, Some, None, arith}
 use Rattle.std.specs.Prelude.{slice_get}
 use Rattle.hib_journal.specs.Types.{Script}
 use Rattle.hib_journal.specs.Sessions.{Journal}
 use Rattle.hib_core.specs.Factory.{AreOver}
-use Rattle.hib_formed.specs.Early.{name_identifiers}
 use Rattle.hib_top.specs.declared.ways.Turns.{Turns}
 use Rattle.hib_top.specs.Play.{IsOrdered, IsFinished}
 
@@ -16,5 +15,5 @@ below [] n x e = absurd (no e)
 below (y ∷ xs) zero x e = omega arith
 below (y ∷ xs) (suc n) x e = let l : n < length xs = below xs n x e in omega (arith, l)
 
-pub all_ended : (turns : Turns) (script : Script) (h : Journal) → AreOver script h → IsOrdered turns script h → name_identifiers h ≡ true → IsFinished turns script h
-all_ended turns script h over ordered named = record { ended = λ s d e. over s (below script.sessions s d e); ordered = ordered; named = named }
+pub all_ended : (turns : Turns) (script : Script) (h : Journal) → AreOver script h → IsOrdered turns script h → IsFinished turns script h
+all_ended turns script h over ordered = record { ended = λ s d e. over s (below script.sessions s d e); ordered = ordered }

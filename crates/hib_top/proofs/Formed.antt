@@ -1,5 +1,5 @@
 -- The entries of a run are few, with early ticks; so they are well formed where the rows at the start fit.
-use Rattle.std.proofs.Common.{◌≡◌, ℕ, suc, zero, ◌+◌, ◌≤◌, ◌^◌, Bool, true, List, [], ◌∷◌, length, reverse, slice_get, is_some, Some, None, Option, IfSome, refl, ap, arith}
+use Rattle.std.proofs.Common.{◌≡◌, ℕ, suc, zero, ◌+◌, ◌≤◌, ◌^◌, Bool, true, List, [], ◌∷◌, length, reverse, slice_get, Some, None, Option, IfSome, refl, ap, arith}
 use Rattle.std.proofs.lemmas.List.Sums.{sum_by-cons}
 use Rattle.hib_base.specs.Scripts.{statement_count}
 use Rattle.hib_base.specs.Tables.{Tables}
@@ -7,11 +7,12 @@ use Rattle.hib_base.specs.Valid.{is_valid}
 use Rattle.hib_base.proofs.Valid.{Rules, rules}
 use Rattle.hib_journal.specs.Types.{Script, SessionDef, Entry}
 use Rattle.hib_journal.specs.Legal.{IsLegal}
+use Rattle.hib_journal.specs.Runs.{name_identifiers}
 use Rattle.hib_journal.specs.Sessions.{Journal}
-use Rattle.hib_core.specs.Bound.{most_in, one_if_none, outside_count}
+use Rattle.hib_core.specs.Bound.{most_in}
 use Rattle.hib_journal_json.specs.Entries.{AreEntries}
-use Rattle.hib_formed.specs.Early.{AreEarly, AreSessions, name_identifiers}
-use Rattle.hib_formed.specs.Wide.{AreFit, are_wide}
+use Rattle.hib_formed.specs.Early.{AreEarly}
+use Rattle.hib_formed.specs.Fitting.{AreFit}
 
 -- ---- laws that are called
 
@@ -22,7 +23,7 @@ Limit =
 
 abbrev pub Formed : Type 0
 Formed =
-    (script : Script) (start : Tables) (h : Journal) → is_valid script ≡ true → are_wide script ≡ true → AreFit script start → length h ≤ 2 ^ 61 → AreEarly h →
+    (script : Script) (start : Tables) (h : Journal) → is_valid script ≡ true → AreFit script start → length h ≤ 2 ^ 61 → AreEarly h →
     name_identifiers h ≡ true → IsLegal script (Some start) h → AreEntries script (reverse h)
 
 -- ---- a run is short
@@ -54,16 +55,7 @@ few_entries limit script h v few =
 
 -- ---- its entries
 
-pub start_formed : Formed → (script : Script) (start : Option Tables) (h : Journal) → is_valid script ≡ true → are_wide script ≡ true → length h ≤ 2 ^ 61 → AreEarly h → IsLegal script start h →
-    IfSome start (λ told. AreFit script told → name_identifiers h ≡ true → AreEntries script (reverse h))
-start_formed f script None h v w few early l = tt
-start_formed f script (Some t) h v w few early l = λ fit named. f script t h v w fit few early named l
-
--- of sessions alone
-pub inside_sessions : (h : Journal) → outside_count h ≡ 0 → AreSessions h
-inside_sessions [] p = tt
-inside_sessions (e ∷ h) p = (inside_sessions h (omega arith), by e.session (omega arith))
-  where
-    by : (o : Option ℕ) → one_if_none o ≡ 0 → is_some o ≡ true
-    by None q = absurd (omega arith)
-    by (Some s) q = refl
+pub start_formed : Formed → (script : Script) (start : Option Tables) (h : Journal) → is_valid script ≡ true → length h ≤ 2 ^ 61 → AreEarly h → name_identifiers h ≡ true → IsLegal script start h →
+    IfSome start (λ told. AreFit script told → AreEntries script (reverse h))
+start_formed f script None h v few early named l = tt
+start_formed f script (Some t) h v few early named l = λ fit. f script t h v fit few early named l

@@ -11,7 +11,7 @@ use Rattle.hib_journal.specs.Kept.{Kept, past}
 use Rattle.hib_journal.specs.Sessions.{Journal}
 use Rattle.hib_journal.specs.Played.{has_next, is_played}
 use Rattle.hib_journal.specs.Legal.{IsLegal}
-use Rattle.hib_journal.specs.Runs.{IsNumbered, told_committed}
+use Rattle.hib_journal.specs.Runs.{IsNumbered, told_committed, name_identifiers}
 use Rattle.hib_law.specs.Hits.{AreListsGiven}
 use Rattle.hib_law.specs.Law.{Obeys}
 use Rattle.hib_core.specs.Bound.{most_in, outside_count}
@@ -21,8 +21,7 @@ use Rattle.hib_make.specs.Made.{made}
 use Rattle.hib_print.specs.Printed.{printed}
 use Rattle.hib_report.specs.Report.{report, summary}
 use Rattle.hib_json_lines.specs.Line.{json_lines}
-use Rattle.hib_formed.specs.Early.{name_identifiers}
-use Rattle.hib_formed.specs.Wide.{AreFit, are_wide}
+use Rattle.hib_formed.specs.Fitting.{AreFit}
 use Rattle.hib_journal_json.specs.Entries.{AreEntries}
 use Rattle.hib_script.specs.Outline.{Outline, outline_of}
 use Rattle.hib_script.specs.Script.{script_of}
@@ -51,11 +50,10 @@ told_by Telling.Report script es = report script es
 told_by Telling.JsonLines script es = json_lines script es
 told_by (Telling.Summary n) script es = codes "seed " ++ decimal n ++ codes "\n" ++ summary script es
 
--- each session is at its end, where it has no next act, or was killed; and what was evicted has an identifier
+-- each session is at its end, where it has no next act, or was killed
 pub record IsFinished (turns : Turns) (script : Script) (h : Journal) : Type 0 where
   pub ended : (s : ℕ) (d : SessionDef) → slice_get script.sessions s ≡ Some d → has_next script h s ≡ false
   pub ordered : IsOrdered turns script h
-  pub named : name_identifiers h ≡ true
 
 -- the journal is legal for the script from the rows at the start, with its ticks in turn, and so obeys the law; the keeper has
 -- the rows that its commits gave
@@ -67,10 +65,10 @@ pub record IsPlayed (script : Script) (start rows : Option Tables) (h : Journal)
   pub numbered : IsNumbered h
   -- it is short: the sessions have few entries, and each order of the schedule adds one of another kind at most
   pub few : length h ≤ most_in script.sessions + length script.schedule
-  -- the script's numbers have 64 bits, so that its rows fit beside those that the keeper kept
-  pub wide : are_wide script ≡ true
-  -- where the rows at the start fit the mapping, each entry is well formed, if what was evicted has an identifier
-  pub formed : IfSome start (λ told. AreFit script told → name_identifiers h ≡ true → AreEntries script (reverse h))
+  -- what was evicted from outside has an identifier
+  pub named : name_identifiers h ≡ true
+  -- where the rows at the start fit the mapping, each entry is well formed
+  pub formed : IfSome start (λ told. AreFit script told → AreEntries script (reverse h))
   pub committed : rows ≡ told_committed start h
 
 -- what a run came to, from what the keeper kept: start is that with the script's rows
@@ -131,11 +129,14 @@ pub record IsRunOf (turns : Turns) (telling : Telling) (answer : Status) (script
   pub report : IsWritten answer (told_by telling script journal.list) taken written
   pub read_back : AreReadBack telling answer script journal.list
 
--- nothing was run, nothing written, and no table changed
-pub record IsIdle (start rows : Option Tables) (journal : Kept) (taken written : Option (List ℕ)) : Type 0 where
+-- nothing was run, and no table changed
+pub record IsUnrun (start rows : Option Tables) (journal : Kept) : Type 0 where
   pub empty : past journal ≡ []
   pub same : rows ≡ start
-  pub silent : written ≡ taken
+
+-- and nothing was written
+abbrev pub IsIdle : Option Tables → Option Tables → Kept → Option (List ℕ) → Option (List ℕ) → Type 0
+IsIdle start rows journal taken written = IsUnrun start rows journal × (written ≡ taken)
 
 -- what stands after the run of a script, by the status
 abbrev pub Runs : Turns → Telling → Status → Script → Option Tables → Option Tables → Kept → Option (List ℕ) → Option (List ℕ) → Type 0
@@ -146,12 +147,22 @@ Runs turns telling Status.NoMemory script kept rows journal taken written =
 Runs turns telling Status.StoreFault script kept rows journal taken written = IsIdle kept rows journal taken written
 Runs turns telling _ script kept rows journal taken written = ⊥
 
--- a text within the limit was read to the source's end: it is all that the source had left, where it tells. This is what the text is
-pub record Reads (left after : Option (List ℕ)) (text : List ℕ) (reading : Result Outline Refused) : Type 0 where
+-- a text of so many bytes at most was read to the source's end: it is all that the source had left, where it tells
+pub record HasText (most : ℕ) (left after : Option (List ℕ)) (text : List ℕ) : Type 0 where
   pub whole : IfSome left (λ bytes. bytes ≡ text)
   pub end : IsAtEnd after
-  pub few : length text ≤ 1048576
-  pub is : script_of text ≡ reading
+  pub few : length text ≤ most
+
+-- it was read, and this is what it is as a script
+abbrev pub Reads : Option (List ℕ) → Option (List ℕ) → List ℕ → Result Outline Refused → Type 0
+Reads left after text reading = HasText 1048576 left after text × (script_of text ≡ reading)
+
+-- what a source has left is told, no more than so many bytes, and is of this kind
+pub record HasTold (most : ℕ) (left : Option (List ℕ)) (IsIt : List ℕ → Type 0) : Type 0 where
+  pub text : List ℕ
+  pub told : left ≡ Some text
+  pub few : length text ≤ most
+  pub is : IsIt text
 
 -- a script was read
 pub record HasRead (left after : Option (List ℕ)) (script : Script) : Type 0 where
@@ -197,12 +208,6 @@ IsSaid Status.WriteFault a = ⊤
 IsSaid Status.NoMemory a = ⊤
 IsSaid _ a = ⊥
 
--- all that the source had left, within the limit, was read
-pub record HasText (left after : Option (List ℕ)) (text : List ℕ) : Type 0 where
-  pub whole : IfSome left (λ bytes. bytes ≡ text)
-  pub end : IsAtEnd after
-  pub few : length text ≤ 67108864
-
 -- how a call ends on a text that hasn't the form
 abbrev pub HasNoInput : List ℕ → Status → Type 0
 HasNoInput text (Status.Refused r) = IsBadInput text r
@@ -212,42 +217,31 @@ HasNoInput text _ = ⊥
 -- a text was read, and what is said of it was written
 pub record IsAudited (answer : Status) (left after : Option (List ℕ)) (taken written : Option (List ℕ)) : Type 0 where
   pub text : List ℕ
-  pub read : HasText left after text
+  pub read : HasText 67108864 left after text
   pub count : ℕ
   pub audit : Audit
   pub judged : HasJudged text count audit
   pub said : IsSaid answer audit
   pub written_text : IsWritten answer (verdict_text count audit) taken written
 
--- a text was read that hasn't the form, with its first bad line, and nothing was written
-pub record RefusesInput (r : Refused) (left after : Option (List ℕ)) (taken written : Option (List ℕ)) : Type 0 where
-  pub text : List ℕ
-  pub read : HasText left after text
-  pub bad : IsBadInput text r
-  pub silent : written ≡ taken
-
+-- a text that is refused hasn't the form, with its first bad line
 abbrev pub Judges : Status → Option (List ℕ) → Option (List ℕ) → Option (List ℕ) → Option (List ℕ) → Type 0
 Judges Status.Done left after taken written = IsAudited Status.Done left after taken written
 Judges (Status.Illegal n k) left after taken written = IsAudited (Status.Illegal n k) left after taken written
 Judges Status.WriteFault left after taken written = IsAudited Status.WriteFault left after taken written
 Judges Status.NoMemory left after taken written = (written ≡ taken) ⊎ IsAudited Status.NoMemory left after taken written
-Judges (Status.Refused r) left after taken written = RefusesInput r left after taken written
+Judges (Status.Refused r) left after taken written = ((text : List ℕ) × HasText 67108864 left after text × IsBadInput text r) × (written ≡ taken)
 Judges Status.ReadFault left after taken written = written ≡ taken
 Judges Status.TooLong left after taken written = written ≡ taken
 Judges _ left after taken written = ⊥
 
 -- nothing is run in an audit, and no table changes
-pub record Audits (answer : Status) (left after : Option (List ℕ)) (kept rows : Option Tables) (journal : Kept) (taken written : Option (List ℕ)) : Type 0 where
-  pub empty : past journal ≡ []
-  pub same : rows ≡ kept
-  pub judges : Judges answer left after taken written
+abbrev pub Audits : Status → Option (List ℕ) → Option (List ℕ) → Option Tables → Option Tables → Kept → Option (List ℕ) → Option (List ℕ) → Type 0
+Audits answer left after kept rows journal taken written = IsUnrun kept rows journal × Judges answer left after taken written
 
--- what a source has left is told, and is a script and a journal within the limit
-pub record HasJournal (left : Option (List ℕ)) : Type 0 where
-  pub text : List ℕ
-  pub told : left ≡ Some text
-  pub few : length text ≤ 67108864
-  pub whole : IsWholeInput text
+-- a script and a journal
+abbrev pub HasJournal : Option (List ℕ) → Type 0
+HasJournal left = HasTold 67108864 left IsWholeInput
 
 -- ---- a script that is read
 -- a script was read and run, from the keeper's rows and its own
@@ -257,42 +251,26 @@ pub record PlaysScript (turns : Turns) (telling : Telling) (answer : Status) (le
   pub read : Reads left after text (Ok (outline_of script))
   pub run : IsRunOf turns telling answer script (told_start script kept) rows journal taken written
 
--- a script was read, and not run
-pub record Leaves (left after : Option (List ℕ)) (kept rows : Option Tables) (journal : Kept) (taken written : Option (List ℕ)) : Type 0 where
-  pub text : List ℕ
-  pub said : Outline
-  pub read : Reads left after text (Ok said)
-  pub idle : IsIdle kept rows journal taken written
-
--- a text was read that is no script, with its first bad line, and nothing was run
-pub record Refuses (r : Refused) (left after : Option (List ℕ)) (kept rows : Option Tables) (journal : Kept) (taken written : Option (List ℕ)) : Type 0 where
-  pub text : List ℕ
-  pub read : Reads left after text (Err r)
-  pub idle : IsIdle kept rows journal taken written
-
 -- what stands after a call, by its status: left and after are what the source had to read before and behind it, kept the keeper's
--- tables as they were handed in
+-- tables as they were handed in. A text that is no script is refused with its first bad line; where the keeper failed, a script was
+-- read and not run
 abbrev pub Plays : Turns → Telling → Status → Option (List ℕ) → Option (List ℕ) → Option Tables → Option Tables → Kept → Option (List ℕ) → Option (List ℕ) → Type 0
 Plays turns telling Status.Done left after kept rows journal taken written = PlaysScript turns telling Status.Done left after kept rows journal taken written
 Plays turns telling Status.WriteFault left after kept rows journal taken written = PlaysScript turns telling Status.WriteFault left after kept rows journal taken written
 Plays turns telling Status.NoMemory left after kept rows journal taken written =
     IsIdle kept rows journal taken written ⊎ PlaysScript turns telling Status.NoMemory left after kept rows journal taken written
-Plays turns telling (Status.Refused r) left after kept rows journal taken written = Refuses r left after kept rows journal taken written
-Plays turns telling Status.StoreFault left after kept rows journal taken written = Leaves left after kept rows journal taken written
+Plays turns telling (Status.Refused r) left after kept rows journal taken written =
+    ((text : List ℕ) × Reads left after text (Err r)) × IsIdle kept rows journal taken written
+Plays turns telling Status.StoreFault left after kept rows journal taken written =
+    ((text : List ℕ) × (said : Outline) × Reads left after text (Ok said)) × IsIdle kept rows journal taken written
 Plays turns telling (Status.Illegal n k) left after kept rows journal taken written = ⊥
 Plays turns telling _ left after kept rows journal taken written = IsIdle kept rows journal taken written
 
--- a text was written, and nothing was run
-pub record IsPrinted (answer : Status) (text : List ℕ) (start rows : Option Tables) (journal : Kept) (taken written : Option (List ℕ)) : Type 0 where
-  pub empty : past journal ≡ []
-  pub same : rows ≡ start
-  pub written_text : IsWritten answer text taken written
-
--- the statuses after which a text was written, or a front of it
+-- a text was written, or a front of it, and nothing was run
 abbrev pub Prints : Status → List ℕ → Option Tables → Option Tables → Kept → Option (List ℕ) → Option (List ℕ) → Type 0
-Prints Status.Done text kept rows journal taken written = IsPrinted Status.Done text kept rows journal taken written
-Prints Status.WriteFault text kept rows journal taken written = IsPrinted Status.WriteFault text kept rows journal taken written
-Prints Status.NoMemory text kept rows journal taken written = IsPrinted Status.NoMemory text kept rows journal taken written
+Prints Status.Done text kept rows journal taken written = IsUnrun kept rows journal × IsWritten Status.Done text taken written
+Prints Status.WriteFault text kept rows journal taken written = IsUnrun kept rows journal × IsWritten Status.WriteFault text taken written
+Prints Status.NoMemory text kept rows journal taken written = IsUnrun kept rows journal × IsWritten Status.NoMemory text taken written
 Prints _ text kept rows journal taken written = ⊥
 
 -- what stands after a call, by what it does with a script, and by its status. A script that is made isn't read
@@ -321,13 +299,9 @@ IsAfter End.Stopped answer = answer ≡ Status.NoMemory
 IsAfter End.Unopened answer = answer ≡ Status.NoMemory
 IsAfter End.Unseeded answer = answer ≡ Status.StoreFault
 
--- what a source has left is told, and is a script within the limit
-pub record HasScript (left : Option (List ℕ)) : Type 0 where
-  pub text : List ℕ
-  pub told : left ≡ Some text
-  pub few : length text ≤ 1048576
-  pub said : Outline
-  pub is : script_of text ≡ Ok said
+-- a script
+abbrev pub HasScript : Option (List ℕ) → Type 0
+HasScript left = HasTold 1048576 left (λ text. (said : Outline) × (script_of text ≡ Ok said))
 
 -- a call has what it works on: words with a form, and a script within the limit from a source that doesn't fail, or one that is made
 abbrev pub HasInput : Option Way → Option (List ℕ) → Type 0 → Type 0

@@ -12,7 +12,7 @@ ghost use Rattle.hib_top.specs.Play.{CameTo, AreHandedBack, is_stopped, unopened
 
 use hib_base::Script;
 use hib_core::{Factory, Name, OpenRefused, runs_are_short};
-use hib_formed::{entries_are_formed, played_evictions_have_identifiers, ticks_are_early, wide};
+use hib_formed::{entries_are_formed, ticks_are_early};
 use hib_journal::Journal;
 use hib_law::lists_are_given;
 use hib_listeners::nothing_was_told;
@@ -106,8 +106,6 @@ fn named<N: Name, K: Keeper, L: Listener>(
     entries_are_formed();
     ticks_are_early();
     runs_are_short();
-    played_evictions_have_identifiers();
-    wide(&script);
     let mut factory: Factory<K, N, L> = match Factory::open(alloc, script, keeper, listeners) {
         Ok(factory) => factory,
         Err(OpenRefused { fault, listeners }) => return unopened(alloc, fault, listeners),

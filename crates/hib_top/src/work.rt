@@ -17,7 +17,7 @@ use crate::streams::LIMIT;
 use crate::ways::Telling;
 use hib_base::Script;
 use hib_core::{Factory, Name, OpenRefused, runs_are_short};
-use hib_formed::{entries_are_formed, sessions_evict_nothing, ticks_are_early, wide};
+use hib_formed::{entries_are_formed, ticks_are_early};
 use hib_law::lists_are_given;
 use hib_outside::{Gate, Keeper, Listener, Sink, Source};
 use hib_workers::Worked;
@@ -52,8 +52,6 @@ fn named<N: Name + Send + Sync, R: Threads + Wait + Sync, K: Keeper, L: Listener
     entries_are_formed();
     ticks_are_early();
     runs_are_short();
-    sessions_evict_nothing();
-    wide(&script);
     let factory: Factory<K, N, L> = match Factory::open(alloc, script, keeper, listeners) {
         Ok(factory) => factory,
         Err(OpenRefused { fault, listeners }) => return unopened(alloc, fault, listeners),

@@ -1,14 +1,14 @@
 use Rattle.std.proofs.Common.{◌≡◌, ◌≤◌, ◌+◌, ◌^◌, true, length, sym, ap, subst, arith, ◌∙◌}
 use Rattle.hib_journal.specs.Kept.{Kept, past}
-use Rattle.hib_journal.specs.Types.{Script}
-use Rattle.hib_formed.specs.Wide.{are_wide}
+use Rattle.hib_journal.specs.Runs.{name_identifiers}
 use Rattle.hib_core.specs.Bound.{most_in, outside_count}
 use Rattle.hib_core.specs.Factory.{AreOver}
+use Rattle.hib_core.proofs.Evictions.{all_named}
 use Rattle.hib_top.specs.declared.ways.Turns.{Turns}
 use Rattle.hib_top.specs.Play.{IsPlayed}
 use Rattle.hib_top.proofs.Ends.{over, stopped}
 use Rattle.hib_top.proofs.Finished.{all_ended}
-use Rattle.hib_top.proofs.Formed.{few_entries, inside_sessions, start_formed}
+use Rattle.hib_top.proofs.Formed.{few_entries, start_formed}
 use Rattle.hib_top.proofs.work.named.Goals as goal
 use Rattle.hib_top.proofs.work.named.Goals.{then-out_of_memory, else-out_of_memory}
 
@@ -19,7 +19,7 @@ returns-clause-came g c =
     let inside : outside_count h ≡ 0 = ap (λ (k : Kept). outside_count (past k)) c.close-keeper.ensures.journal ∙ c.work-factory.ensures.worked.inside in
     let few : length h ≤ most_in g.N.Name.script.sessions + length g.N.Name.script.schedule = omega (arith, c.close-keeper.ensures.short, inside) in
     let small : length h ≤ 2 ^ 61 = few_entries c.runs_are_short.ensures.limit g.N.Name.script h c.requires.valid few in
-    let wide : are_wide g.N.Name.script ≡ true = subst (λ (s : Script). are_wide s ≡ true) c.requires.script c.wide.ensures in
+    let named : name_identifiers h ≡ true = all_named h inside in
     let played : IsPlayed g.N.Name.script g.N.Name.from.tables (g.K.Keeper.tables c.close-keeper.result.0) h =
     record {
       legal = c.close-keeper.ensures.legal;
@@ -27,14 +27,13 @@ returns-clause-came g c =
       given = c.lists_are_given.ensures.lists g.N.Name.script g.N.Name.from.tables h c.requires.valid c.close-keeper.ensures.legal;
       numbered = c.close-keeper.ensures.numbered;
       few = few;
-      wide = wide;
-      formed = start_formed c.entries_are_formed.ensures.formed g.N.Name.script g.N.Name.from.tables h c.requires.valid wide small
-          (c.ticks_are_early.ensures.early h c.close-keeper.ensures.numbered small) c.close-keeper.ensures.legal;
+      named = named;
+      formed = start_formed c.entries_are_formed.ensures.formed g.N.Name.script g.N.Name.from.tables h c.requires.valid small
+          (c.ticks_are_early.ensures.early h c.close-keeper.ensures.numbered small) named c.close-keeper.ensures.legal;
       committed = c.close-keeper.ensures.rows;
     } in
     elim c.if-out_of_memory.branch [
       | then-out_of_memory w ↦ stopped turns _ g.N.Name.script _ _ _ h w.end-is played
       | else-out_of_memory w ↦ over turns _ _ g.N.Name.script _ _ _ h w.end-is c.close-keeper.ensures.script played
-          (all_ended turns g.N.Name.script h (subst (λ (k : Kept). AreOver g.N.Name.script (past k)) (sym c.close-keeper.ensures.journal) (c.work-factory.ensures.over w.if-out_of_memory.false)) inside
-          (c.sessions_evict_nothing.ensures.named g.N.Name.script g.N.Name.from.tables h c.close-keeper.ensures.legal (inside_sessions h inside)))
+          (all_ended turns g.N.Name.script h (subst (λ (k : Kept). AreOver g.N.Name.script (past k)) (sym c.close-keeper.ensures.journal) (c.work-factory.ensures.over w.if-out_of_memory.false)) inside)
     ]

@@ -15,6 +15,7 @@ loop-at-preserved g c =
           c.order-order.ensures.order c.loop-at.invariant.played c.in_ok-obey.ensures.played;
       going = c.in_ok-obey.ensures.going ∙ c.loop-at.invariant.going;
       outside = let i = c.in_ok-obey.ensures.outside in let j = c.loop-at.invariant.outside in omega (arith, i, j);
+      named = λ n. c.in_ok-obey.ensures.named (c.loop-at.invariant.named n);
     }
 
 pub returns-clause-played : goal.returns-clause-played
@@ -45,3 +46,6 @@ pub returns-clause-outside : goal.returns-clause-outside
 returns-clause-outside g c =
     let j = c.loop-at.invariant.outside in
     omega (arith, j, c.loop-at.auto.at-end, c.orders-at-end.ensures.count)
+
+pub returns-in_err-obey-clause-named : goal.returns-in_err-obey-clause-named
+returns-in_err-obey-clause-named g c = λ n. c.in_err-obey.ensures.named (c.loop-at.invariant.named n)

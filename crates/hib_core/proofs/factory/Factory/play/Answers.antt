@@ -1,9 +1,11 @@
-use Rattle.std.proofs.Common.{subst, ◌∙◌, arith}
+use Rattle.std.proofs.Common.{subst, ◌∙◌, arith, length}
+use Rattle.std.specs.List.{range_with_len}
 use Rattle.hib_journal.specs.Kept.{past}
 use Rattle.hib_journal.specs.Sessions.{Journal}
-use Rattle.hib_journal.specs.Played.{play_orders}
-use Rattle.hib_core.specs.Playing.{played, Leads}
+use Rattle.hib_journal.specs.Played.{play_orders, play_sessions}
+use Rattle.hib_core.specs.Playing.{Play, played, Leads}
 use Rattle.hib_engines.proofs.Outcomes.{map_ok, map_err, map_on}
+use Rattle.hib_core.proofs.Evictions.{steps_named}
 use Rattle.hib_core.proofs.Playing.{is_all_played, script_leads, goes_by, goes_then}
 use Rattle.hib_core.proofs.factory.Factory.play.Goals as goal
 
@@ -35,3 +37,9 @@ returns-clause-outside g c =
     let i = c.in_ok-follow_schedule.ensures.outside in
     let j = c.finish.ensures.inside in
     omega (arith, i, j)
+
+pub returns-clause-named : goal.returns-clause-named
+returns-clause-named g c =
+    let sessions : Play = play_sessions g.N.Name.script (range_with_len 0 (length g.N.Name.script.sessions)) in
+    λ n. steps_named sessions (past c.follow_schedule.new.self.journal) (past c.finish.new.self.journal) c.finish.result c.finish.ensures.played c.finish.ensures.stands c.finish.ensures.inside
+        (c.in_ok-follow_schedule.ensures.named n)
