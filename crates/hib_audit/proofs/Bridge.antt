@@ -1,11 +1,12 @@
 -- What the store defers and stores is what the sessions write and commit, after one more entry.
+use Rattle.std.specs.Option.{option_map_or}
 use Rattle.std.proofs.Common.{◌≡◌, ℕ, ◌==◌, inl, inr, Bool, true, false, cond, ◌||◌, List, [], ◌∷◌, Some, None, Option, refl, sym, ap, ◌∙◌, subst, arith}
 use Rattle.std.proofs.lemmas.Bool.{true≢false, false≢true, eqb-true}
 use Rattle.std.proofs.lemmas.Bool.Decides.{nat_tests}
 use Rattle.hib_base.specs.Tables.{Tables, after_changes}
 use Rattle.hib_base.proofs.Tables.{Tested, tested}
 use Rattle.hib_journal.specs.Types.{Key, Change, Commit, Script, Act, Reply, Entry}
-use Rattle.hib_journal.specs.Sessions.{Journal, own, is_session, is_open, open_after, was_killed, killed_by, committed, committed_by, committer, changes, deferred, deferred_after}
+use Rattle.hib_journal.specs.Sessions.{Journal, own, is_session, is_open, open_after, was_killed, killed_by, committed, committer, changes, deferred, deferred_after}
 use Rattle.hib_journal.specs.Held.{is_begin}
 use Rattle.hib_journal.specs.Legal.{is_outside}
 use Rattle.hib_journal.specs.Lists.{entry_at, stops, unsaved, unsaved_after, stored, stored_by}
@@ -53,7 +54,7 @@ pub deferred_of : (h : Journal) (s : ℕ) → IsBridged h → was_killed s h ≡
 deferred_of h s b live = b.changes s ∙ ap (λ k. cond k [] (deferred (own s h))) live
 
 rows_by : (h : Journal) (s : ℕ) (a : Act) (r : Reply) (start : Tables) → IsBridged h → was_killed s h ≡ false → AreStored (own s h) a →
-    stored_by (committer a r (Some s)) h (stored start h) ≡ committed_by (committer a r (Some s)) h (committed start h)
+    stored_by (committer a r (Some s)) h (stored start h) ≡ option_map_or (λ x. after_changes (changes x h) (committed start h)) (committer a r (Some s)) (committed start h)
 rows_by h s Act.Commit (Reply.Commit Commit.Committed) start b live d =
     ap (λ cs. after_changes cs (stored start h)) (deferred_of h s b live ∙ d) ∙ ap (λ t. after_changes (changes s h) t) (b.rows start)
 rows_by h s Act.Commit _ start b live d = b.rows start

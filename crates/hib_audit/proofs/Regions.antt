@@ -5,10 +5,11 @@ use Rattle.std.proofs.lemmas.Bool.Decides.{nat_tests}
 use Rattle.std.proofs.lemmas.List.{get_or-set_same, get_or-set_other, length-set}
 use Rattle.std.proofs.lemmas.Option.{unwrap_or-slice_get, slice_get_past, slice_get-get_or}
 use Rattle.std.specs.Prelude.{slice_get, slice_set, unwrap_or}
+use Rattle.std.specs.Option.{option_map_or}
 use Rattle.hib_base.proofs.Tables.{Tested, tested}
 use Rattle.hib_journal.specs.Types.{EntityDef, Strategy, Script, Part, Act}
 use Rattle.hib_journal.specs.Sessions.{Journal, same_part}
-use Rattle.hib_journal.specs.Next.{strategy, strategy_in, capacity_in}
+use Rattle.hib_journal.specs.Next.{strategy, strategy_in}
 use Rattle.hib_journal.specs.Slot.{key_in}
 use Rattle.hib_journal.specs.Legal.{part_of}
 use Rattle.hib_engines.specs.declared.region.Region.{Region}
@@ -121,7 +122,7 @@ regions_at script g n xs ys w here there m = by_test (tested (n == m))
 -- ---- at the start
 
 region_in : (timeout : ℕ) (ds : List EntityDef) (n : ℕ) →
-    region_of (map (λ d. empty d.strategy d.capacity timeout) ds) n ≡ empty (strategy_in (slice_get ds n)) (capacity_in (slice_get ds n)) timeout
+    region_of (map (λ d. empty d.strategy d.capacity timeout) ds) n ≡ empty (strategy_in (slice_get ds n)) (option_map_or (λ d. d.capacity) (slice_get ds n) 0) timeout
 region_in timeout [] n = refl
 region_in timeout (d ∷ ds) zero = refl
 region_in timeout (d ∷ ds) (suc n) = region_in timeout ds n

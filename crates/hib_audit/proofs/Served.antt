@@ -1,13 +1,14 @@
 -- The engines stand for the journal with one more entry of a session.
+use Rattle.std.specs.Prelude.{is_some}
 use Rattle.std.proofs.Common.{◌≡◌, ℕ, ◌==◌, Bool, true, false, not, cond, ◌||◌, List, ◌∷◌, length, Some, None, Option, refl, sym, ap, ◌∙◌, subst}
 use Rattle.std.proofs.lemmas.Bool.{true≢false, false≢true}
 use Rattle.hib_base.specs.Tables.{Tables}
 use Rattle.hib_journal.specs.Types.{Strategy, Script, Part, Act, Reply}
 use Rattle.hib_journal.specs.Sessions.{Journal, own, changes, changes_in, is_restart, same_part}
 use Rattle.hib_journal.specs.Held.{held}
-use Rattle.hib_journal.specs.Next.{strategy, is_in, is_held}
+use Rattle.hib_journal.specs.Next.{strategy, is_in}
 use Rattle.hib_journal.specs.Slot.{key_in}
-use Rattle.hib_journal.specs.Legal.{part_of, is_outside, fault_of, persisted, set_unless, is_there, row_of}
+use Rattle.hib_journal.specs.Legal.{part_of, is_outside, fault_of, set_unless, row_of}
 use Rattle.hib_journal.specs.Lists.{entry_at, IsLate}
 use Rattle.hib_journal.specs.Runs.{is_fault}
 use Rattle.hib_session.specs.Session.{own_reply}
@@ -199,7 +200,7 @@ abbrev is_calm : Option Reply → Bool
 is_calm None = true
 is_calm (Some r) = not (is_fault r)
 
-calm_persist : (b : Bool) → is_calm (Some (persisted b)) ≡ true
+calm_persist : (b : Bool) → is_calm (Some (cond b Reply.Known Reply.New)) ≡ true
 calm_persist true = refl
 calm_persist false = refl
 
@@ -213,9 +214,9 @@ calm_remove true = refl
 calm_remove false = refl
 
 own_calm : (script : Script) (mine : Journal) (a : Act) → is_calm (own_reply script mine a) ≡ true
-own_calm script mine (Act.Persist k r) = calm_persist (is_held (held mine k) || is_in k (changes_in mine))
-own_calm script mine (Act.Set k cells) = calm_set (is_there (row_of (held mine k))) (strategy script k.entity)
-own_calm script mine (Act.Remove k) = calm_remove (is_there (row_of (held mine k)))
+own_calm script mine (Act.Persist k r) = calm_persist (is_some (held mine k) || is_in k (changes_in mine))
+own_calm script mine (Act.Set k cells) = calm_set (is_some (row_of (held mine k))) (strategy script k.entity)
+own_calm script mine (Act.Remove k) = calm_remove (is_some (row_of (held mine k)))
 own_calm script mine _ = refl
 
 is_false : (b : Bool) → not b ≡ true → b ≡ false
@@ -350,7 +351,7 @@ failed_still l script start h s now a r x k f n = let p : is_failing a ≡ true 
     stored_standing l script start h s now a r x x k (failing_store a s p) (failed_stored start h s now a r x p k.standing.store) refl refl refl refl
 
 -- a commit that failed leaves what a kill does
-commit_fault : (b : Bool) (f r : Reply) → Rattle.hib_journal.specs.Legal.fault_unless b f ≡ Some r → r ≡ f
+commit_fault : (b : Bool) (f r : Reply) → cond b None (Some f) ≡ Some r → r ≡ f
 commit_fault true f r p = absurd (none_some r p)
 commit_fault false f r p = same p
   where

@@ -1,11 +1,12 @@
 -- An entry is judged, and taken.
+use Rattle.std.specs.Prelude.{unwrap_or, option_map}
 use Rattle.std.proofs.Common.{◌≡◌, ℕ, ◌<◌, ◌==◌, Bool, true, false, cond, List, ◌∷◌, length, IsSome, Some, None, Option, refl, sym, ap, ◌∙◌, subst, inl, inr}
 use Rattle.std.proofs.lemmas.Bool.{true≢false}
 use Rattle.hib_base.specs.Tables.{Tables}
 use Rattle.hib_journal.specs.Types.{Key, Script, Part, Act, Reply, Entry}
 use Rattle.hib_journal.specs.Sessions.{Journal, own, changes, is_open, killed_by}
 use Rattle.hib_journal.specs.Next.{is_cached}
-use Rattle.hib_journal.specs.Legal.{IsReply, IsStep, due_by, part_due, may_come, part_of, number, is_outside, reply_of, fault_of}
+use Rattle.hib_journal.specs.Legal.{IsReply, IsStep, due_by, may_come, part_of, is_outside, reply_of, fault_of}
 use Rattle.hib_journal.specs.Lists.{entry_at, IsLate}
 use Rattle.hib_journal.specs.Runs.{is_fault}
 use Rattle.hib_session.specs.declared.session.Session.{Session}
@@ -28,13 +29,13 @@ judged_true script start h by now a r q y w e = subst (λ z. IsAnswered script s
 
 -- the engine's reply is the one that is due, unless it is a fault
 due_reply : (script : Script) (start : Tables) (h : Journal) (by : Option ℕ) (now : ℕ) (a : Act) (r : Reply) → IsReply script (Some start) h (entry_at now by a r) → is_fault r ≡ false →
-    r ≡ reply_of script start h (number by) now a
+    r ≡ reply_of script start h (unwrap_or by 0) now a
 due_reply script start h by now a r (inl e) f = e
-due_reply script start h by now a r (inr e) f = absurd (true≢false (sym (fault_is (changes (number by) h) a r e) ∙ f))
+due_reply script start h by now a r (inr e) f = absurd (true≢false (sym (fault_is (changes (unwrap_or by 0) h) a r e) ∙ f))
 
 -- and then another reply may not be, unless the act may fail with it
 pub judged_false : (script : Script) (start : Tables) (h : Journal) (by : Option ℕ) (now : ℕ) (a : Act) (r q : Reply) → IsReply script (Some start) h (entry_at now by a r) → is_fault r ≡ false → (r ≡ q → ⊥) →
-    (fault_of (changes (number by) h) a ≡ Some q → ⊥) → IsReply script (Some start) h (entry_at now by a q) → ⊥
+    (fault_of (changes (unwrap_or by 0) h) a ≡ Some q → ⊥) → IsReply script (Some start) h (entry_at now by a q) → ⊥
 judged_false script start h by now a r q w f d n (inl e) = d (due_reply script start h by now a r w f ∙ sym e)
 judged_false script start h by now a r q w f d n (inr e) = n e
 
@@ -45,14 +46,14 @@ judged false script start h by now a q y f g = g refl
 
 -- by a test of the two replies
 pub reply_judged : (b : Bool) (script : Script) (start : Tables) (h : Journal) (by : Option ℕ) (now : ℕ) (a : Act) (r q : Reply) (y : EnginesState) → (b ≡ true → r ≡ q) → (r ≡ q → b ≡ true) →
-    IsAnswered script start h by now a r y → (y.store.faults ≡ 0 → is_fault r ≡ false) → (fault_of (changes (number by) h) a ≡ Some q → ⊥) → IsJudged b script start h by now a q y
+    IsAnswered script start h by now a r y → (y.store.faults ≡ 0 → is_fault r ≡ false) → (fault_of (changes (unwrap_or by 0) h) a ≡ Some q → ⊥) → IsJudged b script start h by now a q y
 reply_judged b script start h by now a r q y f g v s n = judged b script start h by now a q y (λ e. judged_true script start h by now a r q y v (f e))
     (λ e z. judged_false script start h by now a r q v.reply (s z) (λ d. true≢false (sym (g d) ∙ e)) n)
 
 -- ---- an entry that comes
 
-pub entry_is : (e : Entry) (by : Option ℕ) → e.session ≡ by → part_of e.act (number e.session) ≡ e.part → entry_at e.tick by e.act e.reply ≡ e
-entry_is e by p q = λ i. record { tick = e.tick; session = sym p i; part = (ap (λ (s : Option ℕ). part_of e.act (number s)) (sym p) ∙ q) i; act = e.act; reply = e.reply }
+pub entry_is : (e : Entry) (by : Option ℕ) → e.session ≡ by → part_of e.act (unwrap_or e.session 0) ≡ e.part → entry_at e.tick by e.act e.reply ≡ e
+entry_is e by p q = λ i. record { tick = e.tick; session = sym p i; part = (ap (λ (s : Option ℕ). part_of e.act (unwrap_or s 0)) (sym p) ∙ q) i; act = e.act; reply = e.reply }
 
 due_at : (script : Script) (h : Journal) (e : Entry) (s : ℕ) → IsComing script h e → e.session ≡ Some s → due_by script h (Some s) e.act ≡ Some e.act
 due_at script h e s c p = subst (λ by. due_by script h by e.act ≡ Some e.act) p c.due
@@ -60,7 +61,7 @@ due_at script h e s c p = subst (λ by. due_by script h by e.act ≡ Some e.act)
 allowed_at : (script : Script) (h : Journal) (e : Entry) (s : ℕ) → IsComing script h e → e.session ≡ Some s → Rattle.hib_journal.specs.Due.IsAllowed script s (own s h) e.act
 allowed_at script h e s c p = subst (λ by. Rattle.hib_audit.specs.Standing.IsAllowedFor script h by e.act) p c.allowed
 
-pub late_of : (script : Script) (h : Journal) (e : Entry) → IsComing script h e → IsLate (part_of e.act (number e.session)) e.tick h
+pub late_of : (script : Script) (h : Journal) (e : Entry) → IsComing script h e → IsLate (part_of e.act (unwrap_or e.session 0)) e.tick h
 late_of script h e c = subst (λ p. IsLate p e.tick h) (sym c.part) c.tick.in_part
 
 pub ready_of : (script : Script) (start : Tables) (h : Journal) (s : ℕ) (e : Entry) (x : AuditorState) → Knows script start h x → IsComing script h e → e.session ≡ Some s →
@@ -68,7 +69,7 @@ pub ready_of : (script : Script) (start : Tables) (h : Journal) (s : ℕ) (e : E
 ready_of script start h s e x k c p = record {
   standing = k.engines;
   live = (due_lives script h s e.act e.act (due_at script h e s c p)).0;
-  late = subst (λ by. IsLate (part_of e.act (number by)) e.tick h) p (late_of script h e c);
+  late = subst (λ by. IsLate (part_of e.act (unwrap_or by 0)) e.tick h) p (late_of script h e c);
   due = is_due script s (own s h) e.act k.built.queries (allowed_at script h e s c p);
 }
 
@@ -128,7 +129,7 @@ step_of : (script : Script) (start : Tables) (h : Journal) (e : Entry) → IsCom
 step_of script start h e c r = record {
   tick = c.tick;
   session = subst (λ (o : Option Act). IsSome o) (sym c.due) refl;
-  part = ap (λ (o : Option Act). part_due o (number e.session)) c.due ∙ ap (λ (p : Part). Some p) c.part;
+  part = ap (λ (o : Option Act). option_map (λ a. part_of a (unwrap_or e.session 0)) o) c.due ∙ ap (λ (p : Part). Some p) c.part;
   act = ap (λ (o : Option Act). may_come script h o) c.due ∙ c.comes;
   reply = r;
 }
@@ -152,7 +153,7 @@ knows_more script start h by e x y k c p v ss ws q part session = record {
 pub knows_session : (script : Script) (start : Tables) (h : Journal) (s : ℕ) (e : Entry) (x y : AuditorState) → Knows script start h x → IsComing script h e → e.session ≡ Some s →
     IsAnswered script start h (Some s) e.tick e.act e.reply y.engines → AreSessions script (e ∷ h) y.sessions → AreWritten script (e ∷ h) y.written → y.ticks ≡ noted e x.ticks → Knows script start (e ∷ h) y
 knows_session script start h s e x y k c p v ss ws q = knows_more script start h (Some s) e x y k c p v ss ws q
-    (subst (λ (z : Part). IsPartOf script z) (subst (λ by. part_of e.act (number by) ≡ e.part) p c.part) (part_within script e.act s within (λ r. entity_within script e.act r ready.due.suits))) within
+    (subst (λ (z : Part). IsPartOf script z) (subst (λ by. part_of e.act (unwrap_or by 0) ≡ e.part) p c.part) (part_within script e.act s within (λ r. entity_within script e.act r ready.due.suits))) within
   where
     within : s < length script.sessions
     within = session_within script h s e c p
@@ -173,7 +174,7 @@ knows_outside : (script : Script) (start : Tables) (h : Journal) (e : Entry) (x 
 knows_outside script start h e x y k c p v ss ws q part = knows_more script start h None e x y k c p v
     (subst (λ (d : Entry). AreSessions script (d ∷ h) y.sessions) (entry_is e None p c.part) (sessions_outside script h e.tick e.act e.reply x.sessions y.sessions k.sessions ss))
     (subst (λ xs. AreWritten script (e ∷ h) xs) (sym ws) (written_outside script h e x.written p k.written)) q
-    (subst (λ (z : Part). IsPartOf script z) (subst (λ by. part_of e.act (number by) ≡ e.part) p c.part) part) tt
+    (subst (λ (z : Part). IsPartOf script z) (subst (λ by. part_of e.act (unwrap_or by 0) ≡ e.part) p c.part) part) tt
 
 done_answered : (script : Script) (start : Tables) (h : Journal) (now : ℕ) (a : Act) (y : EnginesState) → ((r : Tables) → Reply.Done ≡ reply_of script r h 0 now a) →
     AreStanding script start (entry_at now None a Reply.Done ∷ h) y → IsAnswered script start h None now a Reply.Done y
@@ -188,7 +189,7 @@ knows_kill script start h n e x y k c p a r f ss ws q = knows_outside script sta
     (subst (λ (o : Act). AreKilled (λ s. killed_by s o (is_open s h)) x.sessions y.sessions) (sym a) ss) ws q (subst (λ (o : Act). IsPartOf script (part_of o 0)) (sym a) tt)
   where
     late : IsLate Part.Registry e.tick h
-    late = subst (λ (o : Act). IsLate (part_of o (number e.session)) e.tick h) a (late_of script h e c)
+    late = subst (λ (o : Act). IsLate (part_of o (unwrap_or e.session 0)) e.tick h) a (late_of script h e c)
 
 pub knows_restart : (script : Script) (start : Tables) (h : Journal) (e : Entry) (x y : AuditorState) → Knows script start h x → IsComing script h e → e.session ≡ None → e.act ≡ Act.Restart → e.reply ≡ Reply.Done →
     (AreStanding script start h x.engines → IsLate Part.Registry e.tick h → AreStanding script start (entry_at e.tick None Act.Restart Reply.Done ∷ h) y.engines) →
@@ -199,7 +200,7 @@ knows_restart script start h e x y k c p a r f ss ws q = knows_outside script st
     (subst (λ (o : Act). AreKilled (λ s. killed_by s o (is_open s h)) x.sessions y.sessions) (sym a) ss) ws q (subst (λ (o : Act). IsPartOf script (part_of o 0)) (sym a) tt)
   where
     late : IsLate Part.Registry e.tick h
-    late = subst (λ (o : Act). IsLate (part_of o (number e.session)) e.tick h) a (late_of script h e c)
+    late = subst (λ (o : Act). IsLate (part_of o (unwrap_or e.session 0)) e.tick h) a (late_of script h e c)
 
 pub evict_cached : (script : Script) (h : Journal) (k : Key) (a : Act) → a ≡ Act.Evict k → may_come script h (Some a) ≡ Some a → is_cached script k.entity ≡ true
 evict_cached script h k a e m = by_test (is_cached script k.entity) refl (subst (λ (o : Act). may_come script h (Some o) ≡ Some o) e m)
@@ -212,7 +213,7 @@ evict_cached script h k a e m = by_test (is_cached script k.entity) refl (subst 
     by_test false q z = absurd (none_some z)
 
 pub evict_late : (script : Script) (h : Journal) (k : Key) (e : Entry) → IsComing script h e → e.act ≡ Act.Evict k → IsLate (Part.Region k.entity) e.tick h
-evict_late script h k e c a = subst (λ (o : Act). IsLate (part_of o (number e.session)) e.tick h) a (late_of script h e c)
+evict_late script h k e c a = subst (λ (o : Act). IsLate (part_of o (unwrap_or e.session 0)) e.tick h) a (late_of script h e c)
 
 none_dead : (xs : List Session) → AreKilled (λ s. false) xs xs
 none_dead xs = Rattle.hib_session.proofs.Killed.none_killed xs
@@ -230,7 +231,7 @@ evict_sure cs k a q e f = none (subst (λ (o : Act). fault_of cs o ≡ Some q) e
     none z = cc
 
 -- a kill and a restart are answered Done
-pub done_due : (script : Script) (start : Tables) (h : Journal) (by : Option ℕ) (now : ℕ) (a b : Act) (q : Reply) → a ≡ b → reply_of script start h (number by) now b ≡ Reply.Done → ((cs : List Rattle.hib_journal.specs.Types.Change) → fault_of cs b ≡ None) →
+pub done_due : (script : Script) (start : Tables) (h : Journal) (by : Option ℕ) (now : ℕ) (a b : Act) (q : Reply) → a ≡ b → reply_of script start h (unwrap_or by 0) now b ≡ Reply.Done → ((cs : List Rattle.hib_journal.specs.Types.Change) → fault_of cs b ≡ None) →
     (q ≡ Reply.Done → ⊥) → IsReply script (Some start) h (entry_at now by a q) → ⊥
 done_due script start h by now a b q e d f n w = by_cases (subst (λ (o : Act). IsReply script (Some start) h (entry_at now by o q)) e w)
   where
@@ -239,4 +240,4 @@ done_due script start h by now a b q e d f n w = by_cases (subst (λ (o : Act). 
 
     by_cases : IsReply script (Some start) h (entry_at now by b q) → ⊥
     by_cases (inl z) = n (z ∙ d)
-    by_cases (inr z) = some_none (sym (f (changes (number by) h)) ∙ z)
+    by_cases (inr z) = some_none (sym (f (changes (unwrap_or by 0) h)) ∙ z)

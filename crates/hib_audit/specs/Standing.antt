@@ -1,5 +1,5 @@
 -- What the audit keeps while it goes over a journal: its engines and sessions stand for the entries so far.
-use Rattle.std.specs.Prelude.{◌≡◌, ℕ, ◌<◌, ◌^◌, ◌==◌, ◌||◌, ◌&&◌, nat_le, nat_lt, slice_set, Bool, false, true, cond, not, List, [], ◌∷◌, length, slice_get, slice_index, replicate, Some, None, Option}
+use Rattle.std.specs.Prelude.{◌≡◌, ℕ, ◌<◌, ◌^◌, ◌==◌, ◌||◌, ◌&&◌, nat_le, nat_lt, slice_set, Bool, false, true, cond, not, List, [], ◌∷◌, length, slice_get, slice_index, replicate, Some, None, Option, unwrap_or}
 use Rattle.std.specs.List.{list_any}
 use Rattle.hib_base.specs.Keys.{same_key}
 use Rattle.hib_base.specs.Tables.{Tables}
@@ -7,7 +7,7 @@ use Rattle.hib_journal.specs.Types.{Key, Change, Script, Part, Act, Reply, Entry
 use Rattle.hib_journal.specs.Sessions.{Journal, own, is_open, is_begun, was_killed, changes, changes_in, deferred, committed, same_part, same_session, last_tick, IsTimely}
 use Rattle.hib_journal.specs.Held.{is_begin}
 use Rattle.hib_journal.specs.Next.{strategy, is_in}
-use Rattle.hib_journal.specs.Legal.{IsLegal, IsReply, is_outside, is_empty, due, may_come, part_of, number}
+use Rattle.hib_journal.specs.Legal.{IsLegal, IsReply, is_outside, due, may_come, part_of}
 use Rattle.hib_journal.specs.Lists.{entry_at, unsaved, stored, IsLate}
 use Rattle.hib_journal.specs.Due.{IsAllowed, is_asked}
 use Rattle.hib_store.specs.Stores.{StoreState}
@@ -196,7 +196,7 @@ has_key k ks = list_any (λ j. same_key k j) ks
 
 pub record HasWritten (cs : List Change) (x : WrittenState) : Type 0 where
   pub keys : (k : Key) → has_key k x.keys ≡ is_in k cs
-  pub any : x.any ≡ not (is_empty cs)
+  pub any : x.any ≡ not (length cs == 0)
 
 -- each session of a script has written its changes
 pub record AreWritten (script : Script) (h : Journal) (xs : List WrittenState) : Type 0 where
@@ -236,16 +236,16 @@ IsAllowedFor script h (Some s) a = IsAllowed script s (own s h) a
 
 -- what an entry names beside the act that is due: its part and its act, or the first of the two that is another
 abbrev pub Differs : Script → Journal → Act → Entry → Option AuditKind → Type 0
-Differs script h a e None = (part_of a (number e.session) ≡ e.part) × (may_come script h (Some a) ≡ Some e.act)
-Differs script h a e (Some AuditKind.Part) = ¬ (part_of a (number e.session) ≡ e.part)
-Differs script h a e (Some AuditKind.Act) = (part_of a (number e.session) ≡ e.part) × (¬ (may_come script h (Some a) ≡ Some e.act))
+Differs script h a e None = (part_of a (unwrap_or e.session 0) ≡ e.part) × (may_come script h (Some a) ≡ Some e.act)
+Differs script h a e (Some AuditKind.Part) = ¬ (part_of a (unwrap_or e.session 0) ≡ e.part)
+Differs script h a e (Some AuditKind.Act) = (part_of a (unwrap_or e.session 0) ≡ e.part) × (¬ (may_come script h (Some a) ≡ Some e.act))
 Differs script h a e (Some _) = ⊥
 
 -- an entry whose tick, session, part and act are as they have to be
 pub record IsComing (script : Script) (h : Journal) (e : Entry) : Type 0 where
   pub tick : IsTimely e h
   pub due : due script h e ≡ Some e.act
-  pub part : part_of e.act (number e.session) ≡ e.part
+  pub part : part_of e.act (unwrap_or e.session 0) ≡ e.part
   pub comes : may_come script h (Some e.act) ≡ Some e.act
   pub allowed : IsAllowedFor script h e.session e.act
 

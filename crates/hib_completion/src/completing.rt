@@ -1,6 +1,7 @@
 // The acts that complete a transaction.
-ghost use Rattle.std.specs.Prelude.{◌≡◌, ◌∷◌, [], IfOk, option_copied};
-ghost use Rattle.hib_journal.specs.Next.{puts_back, complete_by, complete_insert, complete_update, release_of, keys_of};
+ghost use Rattle.std.specs.Prelude.{◌≡◌, ◌∷◌, [], IfOk, option_copied, option_and_then, cond, None};
+ghost use Rattle.hib_journal.specs.Next.{complete_by, complete_insert, complete_update, release_of, keys_of};
+ghost use Rattle.hib_base.specs.Tables.{row_left};
 ghost use Rattle.hib_completion.specs.Completed.{acts_of, key_acts, keys_acts, completes};
 ghost use Rattle.hib_completion.specs.Touched.{StandsFor};
 
@@ -12,7 +13,7 @@ use std::alloc::{AllocError, Global};
 
 /// The row that may be put back after a key's last change.
 fn put_back(done: bool, last: Option<&Change>) -> Option<&Row>
-    ensures { option_copied result ≡ puts_back done (option_copied last.entry) }
+    ensures { option_copied result ≡ cond done (option_and_then row_left (option_copied last.entry)) None }
 {
     if !done {
         return None;

@@ -2,10 +2,10 @@
 use Rattle.std.proofs.Common.{◌≡◌, ◌⊎◌, ℕ, zero, suc, ◌+◌, ◌<◌, ◌≤◌, false, List, [], ◌∷◌, ◌++◌, length, map, Some, None, Option, refl, sym, ap, ◌∙◌, subst, arith, inl, inr}
 use Rattle.std.proofs.lemmas.List.{length-map, length-append, length-replicate}
 use Rattle.std.specs.Prelude.{slice_get}
-use Rattle.std.specs.Option.{option_map}
+use Rattle.std.specs.Option.{option_map, option_map_or}
 use Rattle.hib_base.specs.Tables.{Tables}
 use Rattle.hib_journal.specs.Types.{EntityDef, Script}
-use Rattle.hib_journal.specs.Next.{strategy, strategy_in, capacity_in}
+use Rattle.hib_journal.specs.Next.{strategy, strategy_in}
 use Rattle.hib_journal.specs.Lists.{stored}
 use Rattle.hib_update_stamps.specs.Stamped.{unstamped}
 use Rattle.hib_query_cache.specs.Standing.{IsResults}
@@ -30,7 +30,7 @@ pub record AreOpened (n : ℕ) (script : Script) (sessions : List Session) : Typ
 -- the regions
 
 region_in : (timeout : ℕ) (ds : List EntityDef) (n : ℕ) →
-    region_of (map (λ d. empty d.strategy d.capacity timeout) ds) n ≡ empty (strategy_in (slice_get ds n)) (capacity_in (slice_get ds n)) timeout
+    region_of (map (λ d. empty d.strategy d.capacity timeout) ds) n ≡ empty (strategy_in (slice_get ds n)) (option_map_or (λ d. d.capacity) (slice_get ds n) 0) timeout
 region_in timeout [] n = refl
 region_in timeout (d ∷ ds) zero = refl
 region_in timeout (d ∷ ds) (suc n) = region_in timeout ds n

@@ -6,8 +6,8 @@ use Rattle.hib_base.specs.Fits.{is_identifier}
 use Rattle.hib_base.proofs.Tables.{Tested, tested, same_key_eq}
 use Rattle.hib_journal.specs.Types.{Key, Order, Script, Act, Entry}
 use Rattle.hib_journal.specs.Kept.{past}
-use Rattle.hib_journal.specs.Sessions.{Journal, is_open}
-use Rattle.hib_journal.specs.Played.{Playing, play_one, is_kill, is_evict, is_restart_act, play_order}
+use Rattle.hib_journal.specs.Sessions.{Journal, is_open, is_restart}
+use Rattle.hib_journal.specs.Played.{Playing, play_one, is_kill, is_evict, play_order}
 use Rattle.hib_journal.specs.Runs.{names_identifier, name_identifiers}
 use Rattle.hib_core.specs.Bound.{one_if_none, outside_count}
 use Rattle.hib_core.specs.Factory.{FactoryState}
@@ -61,7 +61,7 @@ evict_names k (Some n) a i p = refl
 evict_names k None (Act.Evict j) i p = subst (λ (z : Key). is_identifier z.id ≡ true) (sym (same_key_eq j k p)) i
 evict_names k None _ i p = refl
 
-restart_names : (o : Option ℕ) (a : Act) → is_restart_act a ≡ true → names_identifier o a ≡ true
+restart_names : (o : Option ℕ) (a : Act) → is_restart a ≡ true → names_identifier o a ≡ true
 restart_names (Some n) a p = refl
 restart_names None (Act.Evict k) p = absurd (false≢true p)
 restart_names None _ p = refl
@@ -100,7 +100,7 @@ order_named script o old new n w = by o n (w.plays [])
         on true x = one_named (λ e. is_kill s e.act) old (w.added ++ []) new (λ e t. kill_names s e.session e.act t) x
         on false x = same_named old new (w.added ++ []) x
     by (Order.Evict k) n q = one_named (λ e. is_evict k e.act) old (w.added ++ []) new (λ e t. evict_names k e.session e.act n t) q
-    by Order.Restart n q = one_named (λ e. is_restart_act e.act) old (w.added ++ []) new (λ e t. restart_names e.session e.act t) q
+    by Order.Restart n q = one_named (λ e. is_restart e.act) old (w.added ++ []) new (λ e t. restart_names e.session e.act t) q
 
 -- by what a call of the factory says of itself
 pub outside_named : (script : Script) (o : Order) (old new : FactoryState) (r : Result ⊤ AllocError) → Names o → OnOk r (Leads (play_order script o) played (past old.journal) (past new.journal)) →

@@ -4,7 +4,7 @@ use Rattle.std.proofs.lemmas.Bool.{true≢false, false≢true, eqb-true}
 use Rattle.std.proofs.lemmas.Bool.Decides.{nat_tests}
 use Rattle.std.proofs.lemmas.List.{get_or-set_same, get_or-set_other, length-set}
 use Rattle.std.proofs.lemmas.Option.{slice_get_within, get_or_from_slice_get, slice_get-get_or}
-use Rattle.std.specs.Prelude.{slice_get, slice_set}
+use Rattle.std.specs.Prelude.{slice_get, slice_set, option_map}
 use Rattle.hib_base.proofs.Tables.{Tested, tested, same_key_refl}
 use Rattle.hib_journal.specs.Types.{Key, Change, Order, Script, Part, Act, Reply}
 use Rattle.hib_journal.specs.Sessions.{Journal, own, is_open, was_killed, killed_by, changes}
@@ -117,7 +117,7 @@ goes_outside w script from h a r x y run o m v p l = record {
       record {
         tick = timely h None 0 a r run.numbered l;
         session = some_is (due script h (outside_entry h a r)) a is_due;
-        part = ap (λ z. Rattle.hib_journal.specs.Legal.part_due z 0) is_due;
+        part = ap (λ z. option_map (λ a. part_of a 0) z) is_due;
         act = ap (λ z. may_come script h z) is_due ∙ m;
         reply = v;
       },
@@ -130,7 +130,7 @@ asks_nothing cs (Act.Evict k) o = refl
 asks_nothing cs _ o = absurd (false≢true o)
 
 pub asked_outside : (from : Origin) (h : Journal) (a : Act) (r : Reply) (x y : PartsState) → is_outside a ≡ true → y.store.asked ≡ x.store.asked → IsAsked from h x → IsAsked from (outside_entry h a r ∷ h) y
-asked_outside from h a r x y o e g = subst (λ n. RoseWithin from.asked (ask_count h + n) y.store.asked) (sym (ap Rattle.hib_journal.specs.Runs.one_if (asks_nothing (changes 0 h) a o))) (record {
+asked_outside from h a r x y o e g = subst (λ n. RoseWithin from.asked (ask_count h + n) y.store.asked) (sym (ap cond (asks_nothing (changes 0 h) a o) 1 0)) (record {
   later = omega (arith, g.later, e);
   few = omega (arith, g.few, e);
 })

@@ -3,14 +3,14 @@ use Rattle.std.proofs.Common.{◌≡◌, ℕ, ◌+◌, ◌<◌, ◌^◌, ◌==�
 use Rattle.std.proofs.lemmas.Bool.{true≢false, eqb-true}
 use Rattle.std.proofs.lemmas.List.{get_or-set_same, get_or-set_other, length-set}
 use Rattle.std.proofs.lemmas.Option.{slice_get_within, get_or_from_slice_get, slice_get-get_or}
-use Rattle.std.specs.Prelude.{slice_get, slice_set}
+use Rattle.std.specs.Prelude.{slice_get, slice_set, option_map}
 use Rattle.std.specs.declared.alloc.AllocError.{AllocError}
 use Rattle.hib_base.proofs.Tables.{Tested, tested}
 use Rattle.hib_journal.specs.Types.{Part, Script, Act, Reply, Entry}
 use Rattle.hib_journal.specs.Sessions.{Journal, own, is_open, was_killed, killed_by, IsTimely}
 use Rattle.hib_journal.specs.Next.{next}
 use Rattle.hib_journal.specs.Played.{has_next}
-use Rattle.hib_journal.specs.Legal.{IsLegal, part_of, part_due, due, may_come, is_outside}
+use Rattle.hib_journal.specs.Legal.{IsLegal, part_of, due, may_come, is_outside}
 use Rattle.hib_journal.specs.Runs.{IsNumbered}
 use Rattle.hib_session.specs.declared.session.Session.{Session}
 use Rattle.hib_session.specs.Session.{Follows, IsTaken, number_of, is_killed}
@@ -67,7 +67,7 @@ goes_on w script from h s a r x y run live p inside v l = record {
       record {
         tick = timely h (Some s) s a r run.numbered l;
         session = some_is (due script h (entry_of h s a r)) a is_due;
-        part = ap (λ z. part_due z s) is_due;
+        part = ap (λ z. option_map (λ a. part_of a s) z) is_due;
         act = ap (λ z. may_come script h z) is_due ∙ stays script h a inside;
         reply = v.reply;
       },

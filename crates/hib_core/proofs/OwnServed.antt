@@ -1,13 +1,14 @@
 -- Acts that a session answers itself: the reply is due, and the parts stand for the journal with the entry.
+use Rattle.std.specs.Prelude.{is_some}
 use Rattle.std.proofs.Common.{◌≡◌, ℕ, ◌+◌, ap, Bool, true, false, cond, not, ◌||◌, List, ◌∷◌, length, Some, None, Option, refl, sym, ◌∙◌, subst, arith}
 use Rattle.std.proofs.lemmas.Bool.{false≢true}
 use Rattle.hib_journal.specs.Types.{Change, Strategy, Script, Part, Act, Reply}
 use Rattle.hib_journal.specs.Sessions.{Journal, own, changes_in}
 use Rattle.hib_journal.specs.Held.{held}
-use Rattle.hib_journal.specs.Next.{is_in, is_held, strategy}
-use Rattle.hib_journal.specs.Legal.{persisted, set_unless, is_there, row_of}
+use Rattle.hib_journal.specs.Next.{is_in, strategy}
+use Rattle.hib_journal.specs.Legal.{set_unless, row_of}
 use Rattle.hib_journal.specs.Lists.{entry_at, IsLate}
-use Rattle.hib_journal.specs.Runs.{is_fault, one_if, asks}
+use Rattle.hib_journal.specs.Runs.{is_fault, asks}
 use Rattle.hib_session.specs.Session.{own_reply}
 use Rattle.hib_engines.specs.Registry.{Opened, without, IsRegistry}
 use Rattle.hib_engines.specs.Region.{is_regional}
@@ -27,7 +28,7 @@ abbrev is_calm : Option Reply → Bool
 is_calm None = true
 is_calm (Some r) = not (is_fault r)
 
-calm_persist : (b : Bool) → is_calm (Some (persisted b)) ≡ true
+calm_persist : (b : Bool) → is_calm (Some (cond b Reply.Known Reply.New)) ≡ true
 calm_persist true = refl
 calm_persist false = refl
 
@@ -41,9 +42,9 @@ calm_remove true = refl
 calm_remove false = refl
 
 own_calm : (script : Script) (mine : Journal) (a : Act) → is_calm (own_reply script mine a) ≡ true
-own_calm script mine (Act.Persist k r) = calm_persist (is_held (held mine k) || is_in k (changes_in mine))
-own_calm script mine (Act.Set k cells) = calm_set (is_there (row_of (held mine k))) (strategy script k.entity)
-own_calm script mine (Act.Remove k) = calm_remove (is_there (row_of (held mine k)))
+own_calm script mine (Act.Persist k r) = calm_persist (is_some (held mine k) || is_in k (changes_in mine))
+own_calm script mine (Act.Set k cells) = calm_set (is_some (row_of (held mine k))) (strategy script k.entity)
+own_calm script mine (Act.Remove k) = calm_remove (is_some (row_of (held mine k)))
 own_calm script mine _ = refl
 
 is_false : (b : Bool) → not b ≡ true → b ≡ false
@@ -123,7 +124,7 @@ own_told l script from h s a r x y k p q = record {
         (λ n. v.regions n (λ t. absurd (w.region t))) k.parts.entities (v.results w.results);
   });
   mine = λ t e. same_some r t (p ∙ e);
-  asked = subst (λ b. RoseWithin x.store.asked (one_if b) y.store.asked) (sym (own_silent a (changes_in (own s h)) o))
+  asked = subst (λ b. RoseWithin x.store.asked (cond b 1 0) y.store.asked) (sym (own_silent a (changes_in (own s h)) o))
       (subst (λ v. RoseWithin x.store.asked 0 v.store.asked) (sym q) (record { later = omega arith; few = omega arith }));
   fault = λ f. absurd (false≢true (sym (own_no_fault script (own s h) a r (sym p)) ∙ f));
 }

@@ -1,6 +1,7 @@
 -- A valid script is one that a factory takes.
 use Rattle.std.proofs.Common.{◌≡◌, ℕ, ◌<◌, Bool, true, false, ◌||◌, List, [], ◌∷◌, length, Some, None, Option, refl, subst, arith}
 use Rattle.std.specs.Prelude.{slice_get}
+use Rattle.std.specs.Option.{option_map_or}
 use Rattle.std.specs.List.{list_all, list_any}
 use Rattle.std.proofs.lemmas.Bool.{and_parts, ltb-true, eqb-true, false≢true}
 use Rattle.hib_base.specs.Scripts.{is_known, lists_known, evicts_cached}
@@ -8,7 +9,6 @@ use Rattle.hib_base.specs.Valid.{is_valid, is_order_in}
 use Rattle.hib_base.proofs.Lists.{all_at}
 use Rattle.hib_base.proofs.Valid.{Rules, rules}
 use Rattle.hib_journal.specs.Types.{Order, Statement, SessionDef, Script}
-use Rattle.hib_journal.specs.Next.{statements}
 use Rattle.hib_journal.specs.Due.{asks}
 use Rattle.hib_core.specs.Factory.{IsSound, IsBuilt}
 
@@ -27,10 +27,10 @@ known_in n q (t ∷ ts) p a =
     by_test false e w k f = f w
 
 -- the queries that a session asks are there
-known_by : (n q s : ℕ) (ds : List SessionDef) → list_all (λ d. lists_known n d) ds ≡ true → list_any (λ t. asks q t) (statements (slice_get ds s)) ≡ true → q < n
+known_by : (n q s : ℕ) (ds : List SessionDef) → list_all (λ d. lists_known n d) ds ≡ true → list_any (λ t. asks q t) (option_map_or (λ d. d.statements) (slice_get ds s) []) ≡ true → q < n
 known_by n q s ds p a = by_slot (slice_get ds s) refl a
   where
-    by_slot : (o : Option SessionDef) → slice_get ds s ≡ o → list_any (λ t. asks q t) (statements o) ≡ true → q < n
+    by_slot : (o : Option SessionDef) → slice_get ds s ≡ o → list_any (λ t. asks q t) (option_map_or (λ d. d.statements) o []) ≡ true → q < n
     by_slot None e w = absurd (false≢true w)
     by_slot (Some d) e w = known_in n q d.statements (all_at (λ d. lists_known n d) ds s d p e) w
 

@@ -3,7 +3,7 @@ use Rattle.std.proofs.Common.{◌≡◌, ◌≢◌, ℕ, suc, ◌+◌, ◌≤◌
 use Rattle.std.proofs.lemmas.Bool.{true≢false, false≢true, eqb-true}
 use Rattle.std.proofs.lemmas.List.{get_or-set_same, get_or-set_other, length-set}
 use Rattle.std.proofs.lemmas.Option.{unwrap_or-slice_get, slice_get_past, slice_get-get_or}
-use Rattle.std.specs.Prelude.{slice_get, slice_set, unwrap_or}
+use Rattle.std.specs.Prelude.{slice_get, slice_set, unwrap_or, cond}
 use Rattle.hib_base.proofs.Tables.{Tested, tested}
 use Rattle.hib_journal.specs.Types.{Strategy, Script, Part, Act, Reply, Entry}
 use Rattle.hib_journal.specs.Sessions.{Journal, own, is_restart, last_tick, same_part}
@@ -11,7 +11,7 @@ use Rattle.hib_journal.specs.Next.{strategy}
 use Rattle.hib_journal.specs.Slot.{key_in}
 use Rattle.hib_journal.specs.Legal.{part_of, is_outside}
 use Rattle.hib_journal.specs.Lists.{IsLate}
-use Rattle.hib_journal.specs.Runs.{IsNumbered, one_if, asks, is_fault, fault_count}
+use Rattle.hib_journal.specs.Runs.{IsNumbered, asks, is_fault, fault_count}
 use Rattle.hib_store.specs.Stores.{changes_of}
 use Rattle.hib_session.specs.Session.{own_reply}
 use Rattle.hib_engines.specs.declared.region.Region.{Region}
@@ -138,7 +138,7 @@ pub kept : Laws → (script : Script) (from : Origin) (h : Journal) (s : ℕ) (a
 kept l script from h s a r x k = record {
   store = λ p f. store_of from (entry_of h s a r ∷ h) x.store (store_stays from.tables h (Some s) (length h + 1) a r x.store k.parts.store.stands p (inside_stops a k.due.inside))
       (bridged_own script h s a r k.parts.store.bridged k.live k.due)
-      (rose_more from.faults (fault_count h) x.store.faults (one_if (is_fault r)) x.store.faults k.parts.store.faults (rw f (omega arith)));
+      (rose_more from.faults (fault_count h) x.store.faults (cond (is_fault r) 1 0) x.store.faults k.parts.store.faults (rw f (omega arith)));
   registry = λ p. registry_kept h (Some s) (length h + 1) a r x.registry k.parts.registry p;
   stamps = λ p. stamps_stay l script h (Some s) (length h + 1) a r x.stamps (stamps_in script from h x k.parts) p (not_outside a k.due.inside);
   regions = λ n d. region_kept l script h n (Some s) (length h + 1) a r (region_of x.regions n) (k.parts.regions n) d (not_outside a k.due.inside);
@@ -173,7 +173,7 @@ store_answered l script from h s now a r x y m k p v later fault b c d e = recor
   reply = reply_stored script from.tables h s (length h + 1) a r k.parts.store.bridged k.live k.due.stored (ap (same_part Part.Store) p) v.reply;
   parts = parts_of script from (entry_of h s a r ∷ h) y
       (store_of from (entry_of h s a r ∷ h) y.store v.stands (bridged_own script h s a r k.parts.store.bridged k.live k.due)
-      (rose_more from.faults (fault_count h) x.store.faults (one_if (is_fault r)) y.store.faults k.parts.store.faults (rose_if r x.store.faults y.store.faults later fault)))
+      (rose_more from.faults (fault_count h) x.store.faults (cond (is_fault r) 1 0) y.store.faults k.parts.store.faults (rose_if r x.store.faults y.store.faults later fault)))
       (subst (λ z. IsRegistry z (entry_of h s a r ∷ h)) (sym b) (w.registry (ap (same_part Part.Registry) p)))
       (subst (λ z. AreStamps script (entry_of h s a r ∷ h) z) (sym c) (w.stamps (ap (same_part Part.Stamps) p)))
       (regions_kept l script from h s a r x y.regions w (no_region a s Part.Store p (λ n. refl)) d) (ap length d ∙ k.parts.entities)
@@ -318,8 +318,8 @@ own_is_none script mine _ s n p o = false≢true (ap (same_part (Part.Own n)) p 
 -- ---- the keeper, and want of memory
 
 pub store_asked : (script : Script) (from : Origin) (h : Journal) (s : ℕ) (a : Act) (x y : PartsState) → IsReady script from h s a x →
-    RoseWithin x.store.asked (one_if (asks (changes_of x.store s) a)) y.store.asked → IsAskedFor h s a x y
-store_asked script from h s a x y k w = subst (λ b. RoseWithin x.store.asked (one_if b) y.store.asked)
+    RoseWithin x.store.asked (cond (asks (changes_of x.store s) a) 1 0) y.store.asked → IsAskedFor h s a x y
+store_asked script from h s a x y k w = subst (λ b. RoseWithin x.store.asked (cond b 1 0) y.store.asked)
     (asks_same h s a (changes_of x.store s) (k.parts.store.stands.changes s ∙ deferred_of h s k.parts.store.bridged k.live) k.due.stored) w
 
 pub none_asked : (h : Journal) (s : ℕ) (a : Act) (x y : PartsState) → y.store ≡ x.store → IsAskedFor h s a x y

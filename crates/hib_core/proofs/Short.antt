@@ -1,4 +1,5 @@
 -- A run is short: its sessions have few entries.
+use Rattle.std.specs.Option.{option_map_or}
 use Rattle.std.proofs.Common.{◌≡◌, ℕ, suc, ◌+◌, ◌*◌, ◌≤◌, ◌<◌, ◌==◌, Bool, true, false, cond, List, [], ◌∷◌, length, slice_get, IsSome, Some, None, Option, refl, sym, ap, ◌∙◌, subst, arith, inl, inr}
 use Rattle.std.proofs.lemmas.Bool.{false≢true, eqb-true, eqb-false}
 use Rattle.std.proofs.lemmas.Nat.{mul-le}
@@ -7,7 +8,7 @@ use Rattle.hib_base.proofs.Tables.{Tested, tested}
 use Rattle.hib_journal.specs.Types.{SessionDef, Script, Act, Reply, Entry}
 use Rattle.hib_journal.specs.Sessions.{Journal, own, is_by, was_killed}
 use Rattle.hib_journal.specs.Plan.{InOrder}
-use Rattle.hib_journal.specs.Next.{plan_of, statements, next}
+use Rattle.hib_journal.specs.Next.{plan_of, next}
 use Rattle.hib_journal.specs.Legal.{IsLegal, due, due_by}
 use Rattle.hib_session.specs.Bound.{most_entries}
 use Rattle.hib_core.specs.Bound.{outside_count, most_in, one_if_none}
@@ -19,7 +20,7 @@ abbrev Ordered : Type 0
 Ordered = (script : Script) (told : Option Tables) (s : ℕ) (h : Journal) → IsLegal script told h → InOrder (plan_of script s) (own s h)
 
 abbrev Few : Type 0
-Few = (script : Script) (s : ℕ) (mine : Journal) → InOrder (plan_of script s) mine → length mine ≤ most_entries (length (statements (slice_get script.sessions s)))
+Few = (script : Script) (s : ℕ) (mine : Journal) → InOrder (plan_of script s) mine → length mine ≤ most_entries (length (option_map_or (λ d. d.statements) (slice_get script.sessions s) []))
 
 -- the entries of the sessions from k on
 abbrev total : ℕ → List SessionDef → Journal → ℕ
@@ -79,7 +80,7 @@ most_total : Ordered → Few → (script : Script) (told : Option Tables) (h : J
 most_total o f script told h k [] l g = omega arith
 most_total o f script told h k (d ∷ ds) l g =
     let here : slice_get script.sessions k ≡ Some d = subst (λ n. slice_get script.sessions n ≡ Some d) (let e : k + 0 ≡ k = omega arith in e) (g 0) in
-    let i : length (own k h) ≤ most_entries (length d.statements) = subst (λ x. length (own k h) ≤ most_entries (length (statements x))) here (f script k (own k h) (o script told k h l)) in
+    let i : length (own k h) ≤ most_entries (length d.statements) = subst (λ x. length (own k h) ≤ most_entries (length (option_map_or (λ d. d.statements) x []))) here (f script k (own k h) (o script told k h l)) in
     let j : total (suc k) ds h ≤ most_in ds = most_total o f script told h (suc k) ds l
     (λ n. subst (λ m. slice_get script.sessions m ≡ slice_get ds n) (let e : k + suc n ≡ suc k + n = omega arith in e) (g (suc n))) in
     omega (arith, i, j)

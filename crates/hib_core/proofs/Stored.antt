@@ -1,16 +1,17 @@
 -- The store of a factory: its reply is the one that a legal journal has, and it stands for the journal with the entry.
+use Rattle.std.specs.Prelude.{unwrap_or}
 use Rattle.std.proofs.Common.{◌≡◌, ℕ, ◌+◌, ◌≤◌, ◌==◌, inl, inr, Bool, true, false, cond, ◌||◌, List, [], ◌∷◌, Some, None, Option, refl, sym, ap, ◌∙◌, subst, arith}
 use Rattle.std.proofs.lemmas.Bool.{true≢false, false≢true, eqb-true}
 use Rattle.std.proofs.lemmas.Bool.Decides.{nat_tests}
-use Rattle.std.specs.Option.{option_map}
+use Rattle.std.specs.Option.{option_map, option_map_or}
 use Rattle.hib_base.specs.Tables.{Tables, after_changes}
 use Rattle.hib_base.proofs.Tables.{Tested, tested}
 use Rattle.hib_journal.specs.Types.{Key, Change, Commit, Script, Part, Act, Reply, Entry}
-use Rattle.hib_journal.specs.Sessions.{Journal, own, is_session, is_open, open_after, was_killed, killed_by, committed, committed_by, committer, changes, changes_in, deferred, deferred_after}
+use Rattle.hib_journal.specs.Sessions.{Journal, own, is_session, is_open, open_after, was_killed, killed_by, committed, committer, changes, changes_in, deferred, deferred_after}
 use Rattle.hib_journal.specs.Held.{is_begin}
-use Rattle.hib_journal.specs.Legal.{IsReply, IsReplyBy, reply_by, reply_of, is_of_store, is_outside, number}
+use Rattle.hib_journal.specs.Legal.{IsReply, IsReplyBy, reply_by, reply_of, is_of_store, is_outside}
 use Rattle.hib_journal.specs.Lists.{entry_at, stops, unsaved, unsaved_after, stored, stored_by, IsReplyOf, IsStoreReply}
-use Rattle.hib_journal.specs.Runs.{told_committed, one_if, asks, is_fault, fault_count}
+use Rattle.hib_journal.specs.Runs.{told_committed, asks, is_fault, fault_count}
 use Rattle.hib_journal.proofs.Open.{begun_open}
 use Rattle.hib_store.specs.Stores.{StoreState, changes_of}
 use Rattle.hib_session.specs.Session.{own_reply}
@@ -68,7 +69,7 @@ pub deferred_of : (h : Journal) (s : ℕ) → IsBridged h → was_killed s h ≡
 deferred_of h s b live = b.changes s ∙ ap (λ k. cond k [] (deferred (own s h))) live
 
 rows_by : (h : Journal) (s : ℕ) (a : Act) (r : Reply) (start : Tables) → IsBridged h → was_killed s h ≡ false → AreStored (own s h) a →
-    stored_by (committer a r (Some s)) h (stored start h) ≡ committed_by (committer a r (Some s)) h (committed start h)
+    stored_by (committer a r (Some s)) h (stored start h) ≡ option_map_or (λ x. after_changes (changes x h) (committed start h)) (committer a r (Some s)) (committed start h)
 rows_by h s Act.Commit (Reply.Commit Commit.Committed) start b live d =
     ap (λ cs. after_changes cs (stored start h)) (deferred_of h s b live ∙ d) ∙ ap (λ t. after_changes (changes s h) t) (b.rows start)
 rows_by h s Act.Commit _ start b live d = b.rows start
@@ -184,10 +185,10 @@ store_of from h store k b f = record {
 }
 
 -- an answer that is a fault only where the count rose
-pub rose_if : (r : Reply) (o w : ℕ) → o ≤ w → (is_fault r ≡ true → RoseBy o 1 w) → RoseBy o (one_if (is_fault r)) w
+pub rose_if : (r : Reply) (o w : ℕ) → o ≤ w → (is_fault r ≡ true → RoseBy o 1 w) → RoseBy o (cond (is_fault r) 1 0) w
 rose_if r o w l f = by_test (tested (is_fault r))
   where
-    by_test : Tested (is_fault r) → RoseBy o (one_if (is_fault r)) w
+    by_test : Tested (is_fault r) → RoseBy o (cond (is_fault r) 1 0) w
     by_test (inl p) = rw p (f p)
     by_test (inr p) = rw p (omega (arith, l))
 
@@ -206,9 +207,9 @@ other_kind (Act.List q) r s p = absurd (true≢false p)
 other_kind Act.Commit r s p = absurd (true≢false p)
 other_kind _ r s p = refl
 
-pub reply_any : (script : Script) (told : Option Tables) (h : Journal) (by : Option ℕ) (now : ℕ) (a : Act) (r : Reply) → IsReplyOf script h by now a r → is_for Part.Store a (number by) ≡ false →
+pub reply_any : (script : Script) (told : Option Tables) (h : Journal) (by : Option ℕ) (now : ℕ) (a : Act) (r : Reply) → IsReplyOf script h by now a r → is_for Part.Store a (unwrap_or by 0) ≡ false →
     IsReply script told h (entry_at now by a r)
-reply_any script None h by now a r f p = (other_kind a r (number by) p, λ q. inl (f []))
+reply_any script None h by now a r f p = (other_kind a r (unwrap_or by 0) p, λ q. inl (f []))
 reply_any script (Some start) h by now a r f p = inl (f start)
 
 bridge_rows : (script : Script) (told : Option Tables) (h : Journal) (cs : List Change) (s now : ℕ) (a : Act) (r : Reply) → IsBridged h →

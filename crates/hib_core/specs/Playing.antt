@@ -1,10 +1,10 @@
 -- What is played of a run, and what is left to play.
-use Rattle.std.specs.Prelude.{◌≡◌, ℕ, true, suc, length, ◌++◌, reverse, Some, Option}
+use Rattle.std.specs.Prelude.{◌≡◌, ℕ, true, suc, length, ◌++◌, reverse, Some, Option, option_and_then}
 use Rattle.hib_journal.specs.Types.{Script}
 use Rattle.hib_journal.specs.Sessions.{Journal}
 use Rattle.std.specs.List.{range_with_len}
 use Rattle.hib_journal.specs.Runs.{name_identifiers}
-use Rattle.hib_journal.specs.Played.{Playing, bind, play_steps, play_orders, play_sessions}
+use Rattle.hib_journal.specs.Played.{Playing, play_steps, play_orders, play_sessions}
 
 -- what plays, after a journal, the entries that come, the oldest first
 abbrev pub Play : Type 0
@@ -21,7 +21,7 @@ play_all script s past rest = play_steps script s (suc (length rest)) past rest
 -- the orders of the schedule, one after the other, and then each session to its end
 abbrev pub play_script : Script → Play
 play_script script past rest =
-    bind (play_orders script script.schedule past rest) (λ p r. play_sessions script (range_with_len 0 (length script.sessions)) p r)
+    option_and_then (λ x. (λ p r. play_sessions script (range_with_len 0 (length script.sessions)) p r) x.0 x.1) (play_orders script script.schedule past rest)
 
 -- a journal has gone on from another, or is still that
 abbrev pub GoesOn : Journal → Journal → Type 0

@@ -9,7 +9,7 @@ use Rattle.hib_journal.specs.Held.{is_begin}
 use Rattle.hib_journal.specs.Next.{strategy}
 use Rattle.hib_journal.specs.Legal.{IsReply, is_outside}
 use Rattle.hib_journal.specs.Lists.{entry_at, unsaved, stored}
-use Rattle.hib_journal.specs.Runs.{IsNumbered, told_committed, one_if, asks, fault_count}
+use Rattle.hib_journal.specs.Runs.{IsNumbered, told_committed, asks, fault_count}
 use Rattle.hib_store.specs.Stores.{StoreState, changes_of}
 use Rattle.hib_update_stamps.specs.Standing.{IsStamps}
 use Rattle.hib_query_cache.specs.Ranked.{Ranked}
@@ -129,7 +129,7 @@ pub record IsAnswered (script : Script) (from : Origin) (h : Journal) (s : ℕ) 
 
 -- the keeper was asked once at most for an act of s, and only where the act asks
 abbrev pub IsAskedFor : Journal → ℕ → Act → PartsState → PartsState → Type 0
-IsAskedFor h s a x y = RoseWithin x.store.asked (one_if (asks (changes_in (own s h)) a)) y.store.asked
+IsAskedFor h s a x y = RoseWithin x.store.asked (cond (asks (changes_in (own s h)) a) 1 0) y.store.asked
 
 -- over a journal that the parts stand for, in which s lives and the act is due
 pub record IsReady (script : Script) (from : Origin) (h : Journal) (s : ℕ) (a : Act) (x : PartsState) : Type 0 where

@@ -1,9 +1,11 @@
 -- An answer of a part that isn't the store says nothing of a failure.
+use Rattle.std.specs.Prelude.{is_some}
+use Rattle.std.specs.Option.{option_map_or}
 use Rattle.std.proofs.Common.{◌≡◌, ℕ, Bool, true, false, cond, ◌&&◌, Some, None, Option, refl}
 use Rattle.hib_journal.specs.Types.{Row, Act, Reply, Miss}
 use Rattle.hib_journal.specs.Slot.{Slot}
 use Rattle.hib_journal.specs.Regions as Regions
-use Rattle.hib_journal.specs.Results.{Result, found}
+use Rattle.hib_journal.specs.Results.{Result}
 use Rattle.hib_journal.specs.Runs.{is_fault}
 use Rattle.hib_other_regions.specs.Items as Items
 use Rattle.hib_engines.specs.declared.region.Region.{Region}
@@ -29,7 +31,7 @@ got_calm x t = by_test (Regions.readable x t)
     by_test true = row_calm x
     by_test false = refl
 
-remove_calm : (o : Option (Row × ℕ)) → is_fault (Regions.remove_item o) ≡ false
+remove_calm : (o : Option (Row × ℕ)) → is_fault (cond (is_some o) Reply.Dropped Reply.Absent) ≡ false
 remove_calm None = refl
 remove_calm (Some p) = refl
 
@@ -45,6 +47,6 @@ answer_calm (Region.ReadWrite y) now (Act.RegionRemove k) = refl
 answer_calm x now _ = refl
 
 -- of a look
-pub found_calm : (o : Option Result) → is_fault (found o) ≡ false
+pub found_calm : (o : Option Result) → is_fault (option_map_or (λ r. Reply.Found r.0 r.1) o Reply.Absent) ≡ false
 found_calm None = refl
 found_calm (Some r) = refl

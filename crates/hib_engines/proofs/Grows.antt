@@ -1,10 +1,10 @@
 -- After an entry each region stands for the journal with it.
+use Rattle.std.specs.Prelude.{is_some}
 use Rattle.std.proofs.Common.{◌≡◌, ◌⊎◌, ℕ, ◌<◌, Bool, true, false, cond, ◌==◌, List, [], ◌∷◌, refl, sym, ap, ◌∙◌, subst, inl, inr}
 use Rattle.std.proofs.lemmas.Bool.{true≢false, false≢true, eq-eqb, ne_eqb}
 use Rattle.hib_journal.specs.Types.{Key, Row, Strategy, Script, Part, Act, Reply, Entry, Put, Unlocked, Inserted, Updated}
 use Rattle.hib_journal.specs.Sessions.{Journal, last_tick, same_part, is_restart}
 use Rattle.hib_journal.specs.Slot.{key_in}
-use Rattle.hib_journal.specs.Room.{is_item}
 use Rattle.hib_journal.specs.Regions as Regions
 use Rattle.hib_journal.specs.Next.{strategy, capacity}
 use Rattle.hib_journal.specs.Legal.{part_of}
@@ -23,7 +23,7 @@ use Rattle.hib_engines.proofs.Regions.{apart, is_read_write, is_read_only, is_no
 -- capacities and timeouts stay
 
 put_capacity : (id : ℕ) (row : Row) (now : ℕ) (y : ItemsState) → (Items.after_put id row now y).capacity ≡ y.capacity
-put_capacity id row now y = by_test (is_item (item_in y id))
+put_capacity id row now y = by_test (is_some (item_in y id))
   where
     by_test : (b : Bool) → (cond b y (Items.with_new id row now y)).capacity ≡ y.capacity
     by_test true = refl

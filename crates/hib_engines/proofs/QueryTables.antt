@@ -1,12 +1,13 @@
 -- The tables of a query, and a query that was looked up.
+use Rattle.std.specs.Option.{option_map_or}
 use Rattle.std.proofs.Common.{◌≡◌, ℕ, zero, suc, ◌+◌, ◌≤◌, ◌<◌, Bool, true, false, ◌-◌, cond, List, [], ◌∷◌, ◌++◌, length, append_assoc, append-nil, get_or, slice_get, Some, None, Option, refl, sym, ap, ◌∙◌, subst, arith, inl, inr}
 use Rattle.std.proofs.lemmas.Option.{slice_get-get_or}
 use Rattle.std.proofs.lemmas.List.Elements.{All-nil, All-cons}
 use Rattle.std.specs.List.{All, filter, range_with_len}
 use Rattle.hib_base.proofs.Tables.{Tested, tested}
 use Rattle.hib_journal.specs.Types.{Query, Script}
-use Rattle.hib_journal.specs.Query.{reads}
-use Rattle.hib_journal.specs.Next.{tables_by, tables_of}
+use Rattle.hib_journal.specs.Query.{reads, tables}
+use Rattle.hib_journal.specs.Next.{tables_of}
 
 -- the tables of a query are of the mapping
 
@@ -18,7 +19,7 @@ all_in p a (suc n) m l = by_test (tested (p a)) (all_in p (a + 1) n m (omega (ar
     by_test (inl q) w = rw q (All-cons (λ t. t < m) a (filter p (range_with_len (a + 1) n)) (omega (arith, l)) w)
     by_test (inr q) w = rw q w
 
-all_by : (script : Script) (o : Option Query) → All (λ t. t < length script.mapping) (tables_by script o)
+all_by : (script : Script) (o : Option Query) → All (λ t. t < length script.mapping) (option_map_or (tables (length script.mapping)) o [])
 all_by script None = All-nil (λ t. t < length script.mapping)
 all_by script (Some d) = all_in (λ n. reads d n) 0 (length script.mapping) (length script.mapping) (omega arith)
 
@@ -63,7 +64,7 @@ pub tables_done : (script : Script) (q : ℕ) (d : Query) (p : ℕ → Bool) (i 
     slice_get script.queries q ≡ Some d → done ≡ tables_of script q
 tables_done script q d p i done l h f e =
     let z : length script.mapping - i ≡ 0 = omega (arith, l) in
-    sym (append-nil done) ∙ (ap (λ m. done ++ filter p (range_with_len i m)) (sym z) ∙ (h ∙ (filter_as p (λ n. reads d n) (range_with_len 0 (length script.mapping)) f ∙ ap (tables_by script) (sym e))))
+    sym (append-nil done) ∙ (ap (λ m. done ++ filter p (range_with_len i m)) (sym z) ∙ (h ∙ (filter_as p (λ n. reads d n) (range_with_len 0 (length script.mapping)) f ∙ ap (λ x. option_map_or (tables (length script.mapping)) x []) (sym e))))
 
 -- a query that was looked up
 pub looked_up : (xs ys : List Query) (i j : ℕ) (d : Query) → i < length xs → d ≡ get_or xs i d → xs ≡ ys → i ≡ j → slice_get ys j ≡ Some d

@@ -1,11 +1,11 @@
 -- What a region answers is due, and afterwards it stands for the list with the entry.
+use Rattle.std.specs.Prelude.{unwrap_or}
 use Rattle.std.proofs.Common.{◌≡◌, ℕ, true, ◌∷◌, Some, None, Option, refl, sym, ◌∙◌, subst}
 use Rattle.std.specs.Option.{option_map}
 use Rattle.hib_journal.specs.Types.{Key, Part, Script, Act, Reply}
 use Rattle.hib_journal.specs.Sessions.{Journal}
 use Rattle.hib_journal.specs.Slot.{key_in}
 use Rattle.hib_journal.specs.Next.{strategy}
-use Rattle.hib_journal.specs.Legal.{number}
 use Rattle.hib_journal.specs.Lists.{entry_at, IsLate}
 use Rattle.hib_engines.specs.declared.region.Region.{Region}
 use Rattle.hib_engines.specs.Region.{answer_in, region_after, emptied, is_of_key, is_regional, entity_of, entity_in, acts_on, IsPlaced, Suits}
@@ -28,9 +28,9 @@ at_region : Laws → (script : Script) (l : Journal) (by : Option ℕ) (now : �
     IsLate (Part.Region (acts_on a)) now l → Suits (strategy script (acts_on a)) a → r ≡ answer_in x now a → y ≡ region_after x now a →
     IsServed (λ m. IsPlaced script (acts_on a) m y) script l by now a r
 at_region w script l by now a r x y t k late u p q = record {
-  reply = λ start. p ∙ answers w script start l (number by) now x a t k u;
+  reply = λ start. p ∙ answers w script start l (unwrap_or by 0) now x a t k u;
   stands = subst (λ z. IsPlaced script (acts_on a) (entry_at now by a r ∷ l) z) (sym q)
-      (grows w script l (entry_at now by a r) x a t k u (record { act = refl; part = regional_part a (number by) t; later = late; reply = p }));
+      (grows w script l (entry_at now by a r) x a t k u (record { act = refl; part = regional_part a (unwrap_or by 0) t; later = late; reply = p }));
 }
 
 pub region_served : Laws → (script : Script) (l : Journal) (n : ℕ) (by : Option ℕ) (now : ℕ) (a : Act) (r : Reply) (x y : Region) → IsPlaced script n l x →

@@ -1,11 +1,12 @@
 -- What the results answer is due, and afterwards they stand for the list with the entry.
+use Rattle.std.specs.Prelude.{unwrap_or}
+use Rattle.std.specs.Option.{option_map_or}
 use Rattle.std.proofs.Common.{◌≡◌, ℕ, ◌<◌, false, List, [], ◌∷◌, length, None, Option, refl, sym, ap, ◌∙◌, subst}
 use Rattle.std.proofs.lemmas.Bool.{true≢false}
 use Rattle.hib_journal.specs.Types.{Cell, Part, Script, Act, Reply}
 use Rattle.hib_journal.specs.Sessions.{Journal, is_restart}
-use Rattle.hib_journal.specs.Legal.{number}
 use Rattle.hib_journal.specs.Lists.{entry_at}
-use Rattle.hib_journal.specs.Results.{found, dropped}
+use Rattle.hib_journal.specs.Results.{dropped}
 use Rattle.hib_journal.specs.Results as Kept
 use Rattle.hib_query_cache.specs.Ranked.{Ranked, result_of, used, with_result, dropped_for}
 use Rattle.hib_query_cache.specs.Standing.{IsResults, results_after, IsAnswered}
@@ -27,9 +28,9 @@ follows w script l by now a r x y k v q = record {
 }
 
 pub look_served : Laws → (script : Script) (l : Journal) (by : Option ℕ) (now q : ℕ) (r : Reply) (x y : Ranked) → AreResults script l x →
-    r ≡ found (result_of q x.kept) → y ≡ record x { kept = used q x.kept } → IsServed (λ m. AreResults script m y) script l by now (Act.Look q) r
+    r ≡ option_map_or (λ r. Reply.Found r.0 r.1) (result_of q x.kept) Reply.Absent → y ≡ record x { kept = used q x.kept } → IsServed (λ m. AreResults script m y) script l by now (Act.Look q) r
 look_served w script l by now q r x y k p e = record {
-  reply = λ start. p ∙ (ap found (w.results_answer (length script.queries) x l k.stands q) ∙ ap (λ c. found (Kept.result c q l)) k.capacity);
+  reply = λ start. p ∙ (ap option_map_or (λ r. Reply.Found r.0 r.1) (w.results_answer (length script.queries) x l k.stands q) Reply.Absent ∙ ap (λ c. option_map_or (λ r. Reply.Found r.0 r.1) (Kept.result c q l) Reply.Absent) k.capacity);
   stands = follows w script l by now (Act.Look q) r x y k p e;
 }
 
@@ -52,9 +53,9 @@ untouched Act.Restart s r x p e = absurd (true≢false e)
 untouched _ s r x p e = refl
 
 -- an entry of another part, but for a restart, leaves them
-pub results_stay : Laws → (script : Script) (l : Journal) (by : Option ℕ) (now : ℕ) (a : Act) (r : Reply) (x : Ranked) → AreResults script l x → is_for Part.Results a (number by) ≡ false →
+pub results_stay : Laws → (script : Script) (l : Journal) (by : Option ℕ) (now : ℕ) (a : Act) (r : Reply) (x : Ranked) → AreResults script l x → is_for Part.Results a (unwrap_or by 0) ≡ false →
     is_restart a ≡ false → AreResults script (entry_at now by a r ∷ l) x
-results_stay w script l by now a r x k p q = follows w script l by now a r x x k (unasked (length script.queries) x a (number by) r p) (sym (untouched a (number by) r x p q))
+results_stay w script l by now a r x k p q = follows w script l by now a r x x k (unasked (length script.queries) x a (unwrap_or by 0) r p) (sym (untouched a (unwrap_or by 0) r x p q))
 
 pub restart_results : Laws → (script : Script) (l : Journal) (now : ℕ) (x y : Ranked) → AreResults script l x → y ≡ record x { kept = [] } → AreResults script (entry_at now None Act.Restart Reply.Done ∷ l) y
 restart_results w script l now x y k q = follows w script l None now Act.Restart Reply.Done x y k tt q

@@ -2,11 +2,10 @@
 use Rattle.std.proofs.Common.{◌≡◌, ℕ, ◌+◌, ◌<◌, false, List, [], ◌∷◌, length, None, Option, refl, sym, ap, ◌∙◌, subst}
 use Rattle.std.proofs.lemmas.List.{length-set, length-replicate}
 use Rattle.std.proofs.lemmas.Bool.{true≢false}
-use Rattle.std.specs.Prelude.{slice_set, Some}
+use Rattle.std.specs.Prelude.{slice_set, Some, unwrap_or}
 use Rattle.std.specs.List.{All}
 use Rattle.hib_journal.specs.Types.{Part, Script, Act, Reply}
 use Rattle.hib_journal.specs.Sessions.{Journal, is_restart}
-use Rattle.hib_journal.specs.Legal.{number}
 use Rattle.hib_journal.specs.Lists.{entry_at}
 use Rattle.hib_journal.specs.Next.{tables_of}
 use Rattle.hib_update_stamps.specs.Stamped.{Stamped, stamped, unstamped, checked}
@@ -56,9 +55,9 @@ untouched Act.Restart s timeout now x p q = absurd (true≢false q)
 untouched _ s timeout now x p q = refl
 
 -- an entry of another part, but for a restart, leaves them
-pub stamps_stay : Laws → (script : Script) (l : Journal) (by : Option ℕ) (now : ℕ) (a : Act) (r : Reply) (x : Stamped) → AreStamps script l x → is_for Part.Stamps a (number by) ≡ false →
+pub stamps_stay : Laws → (script : Script) (l : Journal) (by : Option ℕ) (now : ℕ) (a : Act) (r : Reply) (x : Stamped) → AreStamps script l x → is_for Part.Stamps a (unwrap_or by 0) ≡ false →
     is_restart a ≡ false → AreStamps script (entry_at now by a r ∷ l) x
-stamps_stay w script l by now a r x k p q = follows w script l by now a r x x k (sym (untouched a (number by) script.timeout now x p q)) refl
+stamps_stay w script l by now a r x k p q = follows w script l by now a r x x k (sym (untouched a (unwrap_or by 0) script.timeout now x p q)) refl
 
 pub restart_stamps : Laws → (script : Script) (l : Journal) (now : ℕ) (x y : Stamped) → AreStamps script l x → y ≡ unstamped (length x) → AreStamps script (entry_at now None Act.Restart Reply.Done ∷ l) y
 restart_stamps w script l now x y k q = follows w script l None now Act.Restart Reply.Done x y k q (ap length q ∙ length-replicate (length x) None)

@@ -1,14 +1,15 @@
 -- What the store answers is due, and afterwards it stands for the list with the entry.
+use Rattle.std.specs.Prelude.{length, unwrap_or}
 use Rattle.std.proofs.Common.{◌≡◌, ◌≢◌, ◌⊎◌, inl, inr, ℕ, ◌+◌, ◌≤◌, ◌==◌, Bool, true, false, cond, not, List, [], ◌∷◌, ◌++◌, Some, None, Option, IfSome, refl, sym, ap, ◌∙◌, subst, slice_get, eq-eqb, arith}
 use Rattle.std.proofs.lemmas.Bool.{true≢false, false≢true, eqb-true}
-use Rattle.std.specs.Option.{option_map}
+use Rattle.std.specs.Option.{option_map, option_map_or}
 use Rattle.hib_base.specs.Tables.{Tables, row_at, after_changes, commit_answer}
 use Rattle.hib_base.proofs.Tables.{Tested, tested}
 use Rattle.hib_journal.specs.Types.{Key, Row, Change, Commit, Query, Part, Act, Reply, Script}
 use Rattle.hib_journal.specs.Sessions.{Journal, is_session, deferred_after, committer}
-use Rattle.hib_journal.specs.Legal.{is_empty, fault_unless, list_reply, number}
 use Rattle.hib_journal.specs.Lists.{entry_at, stops, unsaved, unsaved_after, stored, stored_by, IsStoreReply}
-use Rattle.hib_journal.specs.Runs.{is_fault, one_if, asks}
+use Rattle.hib_journal.specs.Runs.{is_fault, asks}
+use Rattle.hib_journal.specs.Query.{gives}
 use Rattle.hib_store.specs.Stores.{StoreState, changes_of, is_in, IsView, IsListed, tables_answered}
 use Rattle.hib_store.specs.declared.asking.Loaded.{Loaded}
 use Rattle.hib_store.specs.declared.store.Listed.{Listed}
@@ -63,7 +64,7 @@ not_true : (b : Bool) → (b ≡ true → ⊥) → b ≡ false
 not_true true f = absurd (f refl)
 not_true false f = refl
 
-fault_if : (b : Bool) (r : Reply) → b ≡ false → fault_unless b r ≡ Some r
+fault_if : (b : Bool) (r : Reply) → b ≡ false → cond b None (Some r) ≡ Some r
 fault_if true r p = absurd (true≢false p)
 fault_if false r p = refl
 
@@ -103,10 +104,10 @@ load_faults Loaded.Fault p = refl
 
 -- the keeper is asked once at most, and not at all of a key that the session has changed
 pub load_asks : (s : ℕ) (k : Key) (old new : StoreState) → (is_in k (changes_of old s) ≡ true → new.asked ≡ old.asked) → old.asked ≤ new.asked → new.asked ≤ old.asked + 1 →
-    RoseWithin old.asked (one_if (asks (changes_of old s) (Act.Load k))) new.asked
+    RoseWithin old.asked (cond (asks (changes_of old s) (Act.Load k)) 1 0) new.asked
 load_asks s k old new quiet later few = by_test (is_in k (changes_of old s)) quiet
   where
-    by_test : (b : Bool) → (b ≡ true → new.asked ≡ old.asked) → RoseWithin old.asked (one_if (not b)) new.asked
+    by_test : (b : Bool) → (b ≡ true → new.asked ≡ old.asked) → RoseWithin old.asked (cond (not b) 1 0) new.asked
     by_test true q = record { later = later; few = omega (arith, q refl) }
     by_test false q = record { later = later; few = few }
 
@@ -121,7 +122,7 @@ list_reply_due script told l now s q d listed store kept there view = by_told to
     by_told None (Listed.List cells) rows v = (refl, λ p. absurd (true≢false p))
     by_told None Listed.Fault rows v = (refl, λ p. absurd (true≢false p))
     by_told (Some start) (Listed.List cells) rows v = inl (ap (λ c. Reply.Listed c) (subst (λ t. IsListed t (unsaved s l) d (Listed.List cells)) rows v)
-        ∙ sym (ap (λ o. list_reply o (after_changes (unsaved s l) (stored start l))) there))
+        ∙ sym (ap (λ o. option_map_or (λ d. Reply.Listed (gives d (after_changes (unsaved s l) (stored start l)))) o Reply.Fault) there))
     by_told (Some start) Listed.Fault rows v = inr refl
 
 pub list_served : (script : Script) (told : Option Tables) (l : Journal) (now s q : ℕ) (d : Query) (listed : Listed) (x y : StoreState) → IsStored told l x →
@@ -163,7 +164,7 @@ rollback_served script told l now s x y kept w o t = record {
 
 -- ---- a commit
 
-empty_nil : (cs : List Change) → is_empty cs ≡ true → cs ≡ []
+empty_nil : (cs : List Change) → (length cs == 0) ≡ true → cs ≡ []
 empty_nil [] p = refl
 empty_nil (c ∷ cs) p = absurd (false≢true p)
 
@@ -195,14 +196,14 @@ commit_reply script told l now s c store kept answer none = by_told told kept.ro
         (unsaved s l ≡ [] → c ≡ Commit.Committed) → IsStoreReply script told l (entry_at now (Some s) Act.Commit (Reply.Commit c))
     by_told None rows a n = (
       refl,
-      λ q. let e : unsaved s l ≡ [] = empty_nil (unsaved s l) (not_false (is_empty (unsaved s l)) q) in
+      λ q. let e : unsaved s l ≡ [] = empty_nil (unsaved s l) (not_false (length (unsaved s l) == 0) q) in
           inl (ap (λ x. Reply.Commit x) (n e ∙ ap (λ cs. commit_answer cs (stored [] l)) (sym e))),
     )
     by_told (Some start) rows a n = by_answer (fault_or c)
       where
         by_answer : (c ≡ Commit.Fault) ⊎ (c ≢ Commit.Fault) → IsStoreReply script (Some start) l (entry_at now (Some s) Act.Commit (Reply.Commit c))
         by_answer (inr f) = inl (ap (λ x. Reply.Commit x) (subst (λ t. IfSome t (λ m. c ≡ commit_answer (unsaved s l) m)) rows (a f)))
-        by_answer (inl p) = inr (fault_if (is_empty (unsaved s l)) (Reply.Commit Commit.Fault) (not_true (is_empty (unsaved s l)) (λ q. committed_fault (sym (n (empty_nil (unsaved s l) q)) ∙ p)))
+        by_answer (inl p) = inr (fault_if (length (unsaved s l) == 0) (Reply.Commit Commit.Fault) (not_true (length (unsaved s l) == 0) (λ q. committed_fault (sym (n (empty_nil (unsaved s l) q)) ∙ p)))
             ∙ ap (λ x. Some (Reply.Commit x)) (sym p))
 
 commit_keeps : (told : Option Tables) (l : Journal) (now s : ℕ) (c : Commit) (old new : StoreState) → IsStored told l old →
@@ -265,10 +266,10 @@ if_same true cs = refl
 if_same false cs = refl
 
 -- an entry of another part that is neither
-pub store_stays : (told : Option Tables) (l : Journal) (by : Option ℕ) (now : ℕ) (a : Act) (r : Reply) (x : StoreState) → IsStored told l x → is_for Part.Store a (number by) ≡ false →
+pub store_stays : (told : Option Tables) (l : Journal) (by : Option ℕ) (now : ℕ) (a : Act) (r : Reply) (x : StoreState) → IsStored told l x → is_for Part.Store a (unwrap_or by 0) ≡ false →
     stops a ≡ false → IsStored told (entry_at now by a r ∷ l) x
 store_stays told l by now a r x k p i =
-    let u : (committer a r by ≡ None) × ((cs : List Change) → deferred_after a cs ≡ cs) = untouched a r by (number by) p in
+    let u : (committer a r by ≡ None) × ((cs : List Change) → deferred_after a cs ≡ cs) = untouched a r by (unwrap_or by 0) p in
     record {
       rows = k.rows ∙ rows_same told l now by a r u.0;
       changes = λ n. k.changes n ∙ sym (unsaved_own n by a (unsaved n l) i ∙ (ap (λ cs. cond (is_session n by) cs (unsaved n l)) (u.1 (unsaved n l)) ∙ if_same (is_session n by) (unsaved n l)));

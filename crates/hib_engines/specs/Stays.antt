@@ -1,9 +1,8 @@
 -- What an entry of another part leaves: each engine goes on standing.
-use Rattle.std.specs.Prelude.{◌≡◌, ◌==◌, ℕ, true, false, ◌∷◌, Option}
+use Rattle.std.specs.Prelude.{◌≡◌, ◌==◌, ℕ, true, false, ◌∷◌, Option, unwrap_or}
 use Rattle.hib_base.specs.Tables.{Tables}
 use Rattle.hib_journal.specs.Types.{Script, Part, Act, Reply}
 use Rattle.hib_journal.specs.Sessions.{Journal, is_restart}
-use Rattle.hib_journal.specs.Legal.{number}
 use Rattle.hib_journal.specs.Lists.{entry_at, stops}
 use Rattle.hib_store.specs.Stores.{StoreState}
 use Rattle.hib_update_stamps.specs.Stamped.{Stamped}
@@ -18,20 +17,20 @@ use Rattle.hib_engines.specs.Store.{IsStored}
 
 abbrev pub RegistryStays : Type 0
 RegistryStays = (l : Journal) (by : Option ℕ) (now : ℕ) (a : Act) (r : Reply) (x : Opened) → IsRegistry x l
-    → is_for Part.Registry a (number by) ≡ false → IsRegistry x (entry_at now by a r ∷ l)
+    → is_for Part.Registry a (unwrap_or by 0) ≡ false → IsRegistry x (entry_at now by a r ∷ l)
 
 -- a kill and a restart the store hears of
 abbrev pub StoreStays : Type 0
 StoreStays = (told : Option Tables) (l : Journal) (by : Option ℕ) (now : ℕ) (a : Act) (r : Reply) (x : StoreState) → IsStored told l x
-    → is_for Part.Store a (number by) ≡ false → stops a ≡ false → IsStored told (entry_at now by a r ∷ l) x
+    → is_for Part.Store a (unwrap_or by 0) ≡ false → stops a ≡ false → IsStored told (entry_at now by a r ∷ l) x
 
 abbrev pub StampsStay : Type 0
 StampsStay = (script : Script) (l : Journal) (by : Option ℕ) (now : ℕ) (a : Act) (r : Reply) (x : Stamped) → AreStamps script l x
-    → is_for Part.Stamps a (number by) ≡ false → is_restart a ≡ false → AreStamps script (entry_at now by a r ∷ l) x
+    → is_for Part.Stamps a (unwrap_or by 0) ≡ false → is_restart a ≡ false → AreStamps script (entry_at now by a r ∷ l) x
 
 abbrev pub ResultsStay : Type 0
 ResultsStay = (script : Script) (l : Journal) (by : Option ℕ) (now : ℕ) (a : Act) (r : Reply) (x : Ranked) → AreResults script l x
-    → is_for Part.Results a (number by) ≡ false → is_restart a ≡ false → AreResults script (entry_at now by a r ∷ l) x
+    → is_for Part.Results a (unwrap_or by 0) ≡ false → is_restart a ≡ false → AreResults script (entry_at now by a r ∷ l) x
 
 abbrev pub RegionStays : Type 0
 RegionStays = (script : Script) (l : Journal) (n : ℕ) (by : Option ℕ) (now : ℕ) (a : Act) (r : Reply) (x : Region) → IsPlaced script n l x

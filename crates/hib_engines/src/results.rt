@@ -1,13 +1,12 @@
 // The engine of the results of queries.
-ghost use Rattle.std.specs.Prelude.{◌≡◌, ◌<◌, ◌∷◌, ℕ, [], Option, None, length, false, true, IfOk, OnOk, OnErr};
+ghost use Rattle.std.specs.Prelude.{◌≡◌, ◌<◌, ◌∷◌, ℕ, [], Option, None, length, false, true, IfOk, OnOk, OnErr, unwrap_or};
+ghost use Rattle.std.specs.Option.{option_map_or};
 ghost use Rattle.hib_base.specs.declared.entries.Act.{Act};
 ghost use Rattle.hib_base.specs.declared.replies.Reply.{Reply};
 ghost use Rattle.hib_base.specs.declared.scripts.Script.{Script as Said};
 ghost use Rattle.hib_journal.specs.Types.{Part};
 ghost use Rattle.hib_journal.specs.Sessions.{Journal};
-ghost use Rattle.hib_journal.specs.Legal.{number};
 ghost use Rattle.hib_journal.specs.Lists.{entry_at};
-ghost use Rattle.hib_journal.specs.Results.{found};
 ghost use Rattle.hib_journal.specs.Runs.{is_fault};
 ghost use Rattle.hib_query_cache.specs.Ranked.{result_of, used, with_result, dropped_for};
 ghost use Rattle.hib_engines.specs.Served.{is_for, IsServed, HasQuery};
@@ -52,7 +51,7 @@ impl ResultsEngine {
 
     /// What is kept of a query.
     fn look(&mut self, alloc: Global, query: QueryNo) -> Result<Reply, AllocError>
-        ensures reply { IfOk result (λ r. r ≡ found (result_of query self.old.kept)) }
+        ensures reply { IfOk result (λ r. r ≡ option_map_or (λ k. Reply.Found k.0 k.1) (result_of query self.old.kept) Reply.Absent) }
         ensures state { OnOk result (self.new ≡ record self.old { kept = used query self.old.kept }) }
         ensures err { OnErr result (self.new ≡ self.old) }
     {
@@ -86,7 +85,7 @@ impl ResultsEngine {
 
     /// Answers an act that is asked of the results. At an error nothing has changed.
     pub fn serve(&mut self, alloc: Global, act: &Act) -> Result<Reply, AllocError>
-        ensures answered { IfOk result (λ r. (script : Said) (l : Journal) (by : Option ℕ) (now : ℕ) → AreResults script l self.old → is_for Part.Results act.now (number by) ≡ true
+        ensures answered { IfOk result (λ r. (script : Said) (l : Journal) (by : Option ℕ) (now : ℕ) → AreResults script l self.old → is_for Part.Results act.now (unwrap_or by 0) ≡ true
             → HasQuery script act.now → IsServed (λ m. AreResults script m self.new) script l by now act.now r) }
         ensures calm { IfOk result (λ r. is_fault r ≡ false) }
         ensures err { OnErr result (self.new ≡ self.old) }

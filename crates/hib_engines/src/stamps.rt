@@ -1,12 +1,11 @@
 // The engine of the stamps of tables.
-ghost use Rattle.std.specs.Prelude.{◌≡◌, ◌<◌, ◌≤◌, ◌^◌, ◌+◌, ◌∷◌, ℕ, Option, None, length, false, true, IfOk, OnErr};
+ghost use Rattle.std.specs.Prelude.{◌≡◌, ◌<◌, ◌≤◌, ◌^◌, ◌+◌, ◌∷◌, ℕ, Option, None, length, false, true, IfOk, OnErr, unwrap_or};
 ghost use Rattle.std.specs.List.{All};
 ghost use Rattle.hib_base.specs.declared.entries.Act.{Act};
 ghost use Rattle.hib_base.specs.declared.replies.Reply.{Reply};
 ghost use Rattle.hib_base.specs.declared.scripts.Script.{Script as Said};
 ghost use Rattle.hib_journal.specs.Types.{Part};
 ghost use Rattle.hib_journal.specs.Sessions.{Journal};
-ghost use Rattle.hib_journal.specs.Legal.{number};
 ghost use Rattle.hib_journal.specs.Lists.{entry_at};
 ghost use Rattle.hib_journal.specs.Next.{tables_of as tables_in};
 ghost use Rattle.hib_journal.specs.Runs.{is_fault};
@@ -94,7 +93,7 @@ impl StampsEngine {
         requires tables { AreWithin (length self.old) act.now }
         requires entities { length self.old ≡ length script.now.mapping }
         requires mapping { length script.now.mapping < 2 ^ 16 }
-        ensures answered { IfOk result (λ r. (l : Journal) (by : Option ℕ) → AreStamps script.now l self.old → is_for Part.Stamps act.now (number by) ≡ true
+        ensures answered { IfOk result (λ r. (l : Journal) (by : Option ℕ) → AreStamps script.now l self.old → is_for Part.Stamps act.now (unwrap_or by 0) ≡ true
             → IsServed (λ m. AreStamps script.now m self.new) script.now l by now act.now r) }
         ensures calm { IfOk result (λ r. is_fault r ≡ false) }
         ensures length { length self.new ≡ length self.old }

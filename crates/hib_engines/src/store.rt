@@ -1,5 +1,5 @@
 // The engine of the store.
-ghost use Rattle.std.specs.Prelude.{◌≡◌, ◌≢◌, ◌≤◌, ◌∷◌, ℕ, [], Option, None, length, false, true, IfOk, IfErr, IfSome, OnOk, OnErr};
+ghost use Rattle.std.specs.Prelude.{◌≡◌, ◌≢◌, ◌≤◌, ◌∷◌, ℕ, [], Option, None, length, false, true, IfOk, IfErr, IfSome, OnOk, OnErr, cond};
 ghost use Rattle.std.specs.Option.{option_map};
 ghost use Rattle.hib_base.specs.Start.{start};
 ghost use Rattle.hib_base.specs.Tables.{Tables, in_order};
@@ -9,7 +9,7 @@ ghost use Rattle.hib_base.specs.declared.scripts.Script.{Script as Said};
 ghost use Rattle.hib_journal.specs.Types.{Part};
 ghost use Rattle.hib_journal.specs.Sessions.{Journal};
 ghost use Rattle.hib_journal.specs.Lists.{entry_at};
-ghost use Rattle.hib_journal.specs.Runs.{is_fault, one_if, asks};
+ghost use Rattle.hib_journal.specs.Runs.{is_fault, asks};
 ghost use Rattle.hib_outside.specs.Causes.{Rose};
 ghost use Rattle.hib_store.specs.Stores.{changes_of, handed_back, is_store_fault};
 ghost use Rattle.hib_engines.specs.Counts.{RoseWithin};
@@ -94,7 +94,7 @@ impl<K: Keeper> StoreEngine<K> {
     fn load(&mut self, alloc: Global, session: SessionNo, key: Key) -> Result<Reply, AllocError>
         ensures answered { IfOk result (λ r. (script : Said) (told : Option Tables) (l : Journal) (now : ℕ) → IsStored told l self.old
             → IsStoreServed script told l now session (Act.Load key) r self.new) }
-        ensures asked { IfOk result (λ _. RoseWithin self.old.asked (one_if (asks (changes_of self.old session) (Act.Load key))) self.new.asked) }
+        ensures asked { IfOk result (λ _. RoseWithin self.old.asked (cond (asks (changes_of self.old session) (Act.Load key)) 1 0) self.new.asked) }
         ensures fault { IfOk result (λ r. is_fault r ≡ true → Rose self.old.faults self.new.faults) }
         ensures faults { self.old.faults ≤ self.new.faults }
         ensures still { IsCounted self.old self.new }
@@ -113,7 +113,7 @@ impl<K: Keeper> StoreEngine<K> {
     ) -> Result<Reply, AllocError>
         ensures answered { IfOk result (λ r. (told : Option Tables) (l : Journal) (now : ℕ) → IsStored told l self.old → HasQuery script.now (Act.List query)
             → IsStoreServed script.now told l now session (Act.List query) r self.new) }
-        ensures asked { IfOk result (λ _. RoseWithin self.old.asked (one_if (asks (changes_of self.old session) (Act.List query))) self.new.asked) }
+        ensures asked { IfOk result (λ _. RoseWithin self.old.asked (cond (asks (changes_of self.old session) (Act.List query)) 1 0) self.new.asked) }
         ensures fault { IfOk result (λ r. is_fault r ≡ true → Rose self.old.faults self.new.faults) }
         ensures faults { self.old.faults ≤ self.new.faults }
         ensures still { IsCounted self.old self.new }
@@ -181,7 +181,7 @@ impl<K: Keeper> StoreEngine<K> {
     ) -> Result<Reply, AllocError>
         ensures answered { IfOk result (λ r. (told : Option Tables) (l : Journal) (now : ℕ) → IsStored told l self.old → is_for Part.Store act.now session ≡ true
             → HasQuery script.now act.now → IsStoreServed script.now told l now session act.now r self.new) }
-        ensures asked { IfOk result (λ _. RoseWithin self.old.asked (one_if (asks (changes_of self.old session) act.now)) self.new.asked) }
+        ensures asked { IfOk result (λ _. RoseWithin self.old.asked (cond (asks (changes_of self.old session) act.now) 1 0) self.new.asked) }
         ensures fault { IfOk result (λ r. is_fault r ≡ true → Rose self.old.faults self.new.faults) }
         ensures faults { self.old.faults ≤ self.new.faults }
         // A load and a list change nothing but the keeper's counts.

@@ -1,4 +1,6 @@
 -- Each entry of a legal journal is well formed, over rows that fit.
+use Rattle.std.specs.Prelude.{option_map, unwrap_or}
+use Rattle.std.specs.Option.{option_map_or}
 use Rattle.std.proofs.Common.{◌≡◌, ◌⊎◌, inl, inr, ℕ, ◌+◌, ◌≤◌, ◌^◌, Bool, true, false, cond, ◌&&◌, ◌==◌, List, [], ◌∷◌, length, map, nat_lt, nat_le, reverse, slice_get, Some, None, Option, refl, sym, ap, ◌∙◌, subst, eq-eqb, arith}
 use Rattle.std.proofs.lemmas.Bool.{false≢true, and_parts, and_from, lt-ltb}
 use Rattle.std.proofs.lemmas.Option.{slice_get_within}
@@ -16,9 +18,9 @@ use Rattle.hib_journal.specs.Types.{Cell, Change, ColumnDef, Statement, SessionD
 use Rattle.hib_journal.specs.Sessions.{Journal, own, is_by, is_open, was_killed, changes}
 use Rattle.hib_journal.specs.Runs.{IsNumbered, names_identifier, name_identifiers}
 use Rattle.hib_journal.specs.Plan.{Plan, left_of, first_act, after}
-use Rattle.hib_journal.specs.Next.{next, plan_of, statements, is_cached, is_in}
+use Rattle.hib_journal.specs.Next.{next, plan_of, is_cached, is_in}
 use Rattle.hib_journal.specs.Legal
-use Rattle.hib_journal.specs.Legal.{IsLegal, IsStep, due_by, part_due, may_come, is_outside, number, reply_of, fault_of, fault_unless, is_empty}
+use Rattle.hib_journal.specs.Legal.{IsLegal, IsStep, due_by, may_come, is_outside, reply_of, fault_of}
 use Rattle.hib_journal.proofs.Steps.{next_act, next_is, steps_in_order}
 use Rattle.hib_entry_fields.specs.Known
 use Rattle.hib_entry_fields.specs.Known.{is_key, is_session, is_tick, is_cell, are_cells}
@@ -80,10 +82,10 @@ module _ (script : Script) where
       and_parts (is_known (length script.queries) t) (list_all (λ t. is_known (length script.queries) t) ts) q in
       (said t a.0 b.0, all_said ts a.1 b.1)
 
-  session_said : (r : Rules script) (s : ℕ) → AllByRecursion (IsSaid script) (statements (slice_get script.sessions s))
+  session_said : (r : Rules script) (s : ℕ) → AllByRecursion (IsSaid script) (option_map_or (λ d. d.statements) (slice_get script.sessions s) [])
   session_said r s = by (slice_get script.sessions s) refl
     where
-      by : (o : Option SessionDef) → slice_get script.sessions s ≡ o → AllByRecursion (IsSaid script) (statements o)
+      by : (o : Option SessionDef) → slice_get script.sessions s ≡ o → AllByRecursion (IsSaid script) (option_map_or (λ d. d.statements) o [])
       by None e = tt
       by (Some d) e =
           all_said d.statements (all_at (λ d. list_all (λ t. fits_statement script.mapping t) d.statements) script.sessions s d r.statement_fit e)
@@ -112,7 +114,7 @@ same_part _ s = refl
 
 -- what is done from outside
 outside_good : (script : Script) (h : Journal) (a : Act) (p : Part) → AllGood script h → names_identifier None a ≡ true → may_come script h (cond (is_outside a) (Some a) None) ≡ Some a →
-    part_due (cond (is_outside a) (Some a) None) 0 ≡ Some p → (is_act script a ≡ true) × (part_of a None ≡ Some p)
+    option_map (λ x. Legal.part_of x 0) (cond (is_outside a) (Some a) None) ≡ Some p → (is_act script a ≡ true) × (part_of a None ≡ Some p)
 outside_good script h (Act.Kill n) p g i m d = (open_session script n h g (by (is_open n h) m), d)
   where
     by : (b : Bool) → cond b (Some (Act.Kill n)) None ≡ Some (Act.Kill n) → b ≡ true
@@ -131,7 +133,7 @@ outside_good script h _ p g i m d = none_some m
 fault_good : (script : Script) (cs : List Change) (a : Act) (r : Reply) → fault_of cs a ≡ Some r → is_reply script a r ≡ true
 fault_good script cs (Act.Load k) r f = by (is_in k cs) f
   where
-    by : (b : Bool) → fault_unless b Reply.Fault ≡ Some r → is_reply script (Act.Load k) r ≡ true
+    by : (b : Bool) → cond b None (Some Reply.Fault) ≡ Some r → is_reply script (Act.Load k) r ≡ true
     by true x = none_some x
     by false x = subst (λ y. is_reply script (Act.Load k) y ≡ true) (same x) refl
       where
@@ -141,9 +143,9 @@ fault_good script cs (Act.List q) r f = subst (λ y. is_reply script (Act.List q
   where
     same : Some Reply.Fault ≡ Some r → Reply.Fault ≡ r
     same y = cc
-fault_good script cs Act.Commit r f = by (is_empty cs) f
+fault_good script cs Act.Commit r f = by (length cs == 0) f
   where
-    by : (b : Bool) → fault_unless b (Reply.Commit Commit.Fault) ≡ Some r → is_reply script Act.Commit r ≡ true
+    by : (b : Bool) → cond b None (Some (Reply.Commit Commit.Fault)) ≡ Some r → is_reply script Act.Commit r ≡ true
     by true x = none_some x
     by false x = subst (λ y. is_reply script Act.Commit y ≡ true) (same x) refl
       where
@@ -164,12 +166,12 @@ module _ (script : Script) (start : Tables) (v : is_valid script ≡ true) (fit 
       by None p =
           let x : (is_act script e.act ≡ true) × (part_of e.act None ≡ Some e.part) =
           outside_good script h e.act e.part g (subst (λ o. names_identifier o e.act ≡ true) p i) (subst (λ o. may_come script h (due_by script h o e.act) ≡ Some e.act) p t.act)
-          (subst (λ o. part_due (due_by script h o e.act) (number o) ≡ Some e.part) p t.part) in
+          (subst (λ o. option_map (λ a. Legal.part_of a (unwrap_or o 0)) (due_by script h o e.act) ≡ Some e.part) p t.part) in
           record { act = x.0; actor = subst (λ o. is_actor script o ≡ true) (sym p) refl; part = subst (λ o. part_of e.act o ≡ Some e.part) (sym p) x.1 }
       by (Some s) p =
           let b : is_by s e ≡ true = rw p (eq-eqb s s refl) in
           let n : (was_killed s h ≡ false) × (next script s (own s h) ≡ Some e.act) = next_act script (Some start) h e s t b in
-          let d : part_due (due_by script h (Some s) e.act) s ≡ Some e.part = subst (λ o. part_due (due_by script h o e.act) (number o) ≡ Some e.part) p t.part in
+          let d : option_map (λ a. Legal.part_of a s) (due_by script h (Some s) e.act) ≡ Some e.part = subst (λ o. option_map (λ a. Legal.part_of a (unwrap_or o 0)) (due_by script h o e.act) ≡ Some e.part) p t.part in
           let f : Some (Legal.part_of e.act s) ≡ Some e.part = rw (n.0, n.1) at d in
           record {
             act = next_good script s (own s h) e.act (session_said script (rules script v) s) (own_good script s h g) (steps_in_order script (Some start) s h l) n.1;
@@ -180,10 +182,10 @@ module _ (script : Script) (start : Tables) (v : is_valid script ≡ true) (fit 
   good_step : (h : Journal) (e : Entry) → IsStep script (Some start) h e → AllGood script h → length h ≤ 2 ^ 61 → e.tick ≤ 2 ^ 61 → IsDone e → IsGood script e
   good_step h e t g few small d = record { act = d.act; reply = by t.reply; actor = d.actor; tick = small }
     where
-      by : (e.reply ≡ reply_of script start h (number e.session) e.tick e.act) ⊎ (fault_of (changes (number e.session) h) e.act ≡ Some e.reply) → is_reply script e.act e.reply ≡ true
+      by : (e.reply ≡ reply_of script start h (unwrap_or e.session 0) e.tick e.act) ⊎ (fault_of (changes (unwrap_or e.session 0) h) e.act ≡ Some e.reply) → is_reply script e.act e.reply ≡ true
       by (inl q) = subst (λ r. is_reply script e.act r ≡ true) (sym q)
-          (reply_good script (rules script v) h g few start (rows_start script start fit) (number e.session) e.tick e.act small d.act)
-      by (inr q) = fault_good script (changes (number e.session) h) e.act e.reply q
+          (reply_good script (rules script v) h g few start (rows_start script start fit) (unwrap_or e.session 0) e.tick e.act small d.act)
+      by (inr q) = fault_good script (changes (unwrap_or e.session 0) h) e.act e.reply q
 
   entry_of : (e : Entry) → IsGood script e → IsDone e → IsEntry script e
   entry_of e g d = record {

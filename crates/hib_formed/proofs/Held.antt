@@ -1,4 +1,6 @@
 -- What a session holds is well formed, and so is what a flush would write.
+use Rattle.std.specs.Prelude.{option_and_then, unwrap_or}
+use Rattle.std.specs.Option.{option_map_or, option_or}
 use Rattle.std.proofs.Common.{◌≡◌, ℕ, ◌+◌, ◌<◌, ◌^◌, Bool, true, false, cond, not, ◌&&◌, ◌==◌, List, [], ◌∷◌, ◌++◌, nat_lt, nat_le, length, set, Some, None, Option, IfSome, refl, inl, inr, arith}
 use Rattle.std.proofs.lemmas.Bool.{and_parts, and_from, ltb-true, lt-ltb}
 use Rattle.std.proofs.lemmas.Bool.Decides.{nat_tests}
@@ -9,8 +11,9 @@ use Rattle.hib_base.proofs.Tables.{Tested, tested}
 use Rattle.hib_journal.specs.Types.{Key, Row, Cell, Change, State, Script, Act, Reply, Entry}
 use Rattle.hib_journal.specs.Sessions.{Journal}
 use Rattle.hib_journal.specs.Held
-use Rattle.hib_journal.specs.Held.{Arrival, arrival, arrived_key, arrived_row, is_break, Stay, longer, stay_after, stay, row_written, has_left, or_row, last_written, base_of, with_cells, cells_after, cells_set, state_of, is_removed, Instance, instance_of, held_by, held, without_key, key_arrived, arrived, key_removed, removed, same_cells, next_version, insert_by, insert_of, update_by, update_of, delete_by, delete_of, pending}
+use Rattle.hib_journal.specs.Held.{Arrival, arrival, arrived_key, arrived_row, is_break, Stay, longer, stay_after, stay, row_written, has_left, last_written, base_of, with_cells, cells_after, cells_set, state_of, is_removed, Instance, instance_of, held, without_key, arrived, key_removed, removed, same_cells, next_version, insert_by, update_by, delete_by, pending}
 use Rattle.hib_journal.specs.Legal.{row_of, unless_removed}
+use Rattle.hib_journal.proofs.Shapes.{insert_of, update_of, delete_of}
 use Rattle.hib_entry_fields.specs.Known.{is_key, is_version, is_tick, is_cell, are_cells, is_row, is_set, are_sets}
 use Rattle.hib_entry_texts.specs.WellFormed.{is_act, is_reply, is_change, is_read}
 use Rattle.hib_formed.proofs.Each.{each_filter, each_append, each_push, each_filter_map, each_test, test_set}
@@ -66,7 +69,7 @@ module _ (script : Script) where
       if_row (same_key j k) r (and_parts (is_version v) (is_row r) (and_parts (is_key script j) (is_version v && is_row r) h).1).1
   written_good k _ h = refl
 
-  or_good : (x y : Option Row) → is_read x ≡ true → is_read y ≡ true → is_read (or_row x y) ≡ true
+  or_good : (x y : Option Row) → is_read x ≡ true → is_read y ≡ true → is_read (option_or x y) ≡ true
   or_good None y h g = g
   or_good (Some r) y h g = h
 
@@ -102,7 +105,7 @@ module _ (script : Script) where
   row_parts : (r : Row) → is_row r ≡ true → (is_version r.version ≡ true) × (are_cells r.cells ≡ true)
   row_parts r h = and_parts (is_version r.version) (are_cells r.cells) h
 
-  base_version : (o : Option Row) (r : Row) → is_read o ≡ true → is_row r ≡ true → is_version (Held.version_of o r) ≡ true
+  base_version : (o : Option Row) (r : Row) → is_read o ≡ true → is_row r ≡ true → is_version ((unwrap_or o r).version) ≡ true
   base_version None r h g = (row_parts r g).0
   base_version (Some b) r h g = (row_parts b h).0
 
@@ -119,7 +122,7 @@ module _ (script : Script) where
       record {
         key = h;
         base = b;
-        row = and_from (is_version (Held.version_of (base_of k s) (arrived_row s.0))) (are_cells (cells_set k s.1 (arrived_row s.0).cells))
+        row = and_from (is_version ((unwrap_or (base_of k s) (arrived_row s.0)).version)) (are_cells (cells_set k s.1 (arrived_row s.0).cells))
             (base_version (base_of k s) (arrived_row s.0) b g.arrival.row)
             (cells_good k s.1 (arrived_row s.0).cells g.later (row_parts (arrived_row s.0) g.arrival.row).1);
       }
@@ -132,7 +135,7 @@ module _ (script : Script) where
       by_left s true x = tt
       by_left s false x = instance_good k s h x
 
-      by : (o : Option Stay) → IfSome o IsStay → IfSome (held_by k o) IsHeld
+      by : (o : Option Stay) → IfSome o IsStay → IfSome (option_and_then (λ s. cond (has_left k s) None (Some (instance_of k s))) o) IsHeld
       by None x = tt
       by (Some s) x = by_left s (has_left k s) x
 
@@ -158,7 +161,7 @@ module _ (script : Script) where
   arrived_good [] g = tt
   arrived_good (e ∷ m) g = by (arrival e.act e.reply) (arrival_good e.act e.reply g.0.act g.0.reply) (arrived_good m g.1)
     where
-      by : (o : Option Arrival) → IfSome o IsArrival → AreKeys (arrived m) → AreKeys (key_arrived o (arrived m))
+      by : (o : Option Arrival) → IfSome o IsArrival → AreKeys (arrived m) → AreKeys (option_map_or (λ a. without_key (arrived_key a) (arrived m) ++ arrived_key a ∷ []) o (arrived m))
       by None x i = i
       by (Some a) x i = moved_good (arrived_key a) (arrived m) x.key i
 

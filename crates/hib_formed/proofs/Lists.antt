@@ -1,6 +1,7 @@
 -- What queries give and what is kept of them is well formed; and so are stamps.
 use Rattle.std.proofs.Common.{◌≡◌, ◌⊎◌, inl, inr, ℕ, ◌+◌, ◌<◌, ◌≤◌, ◌^◌, Bool, true, false, cond, not, ◌&&◌, ◌==◌, List, [], ◌∷◌, length, take, drop, nat_lt, nat_le, slice_get, Some, None, Option, IfSome, refl, sym, subst, arith}
-use Rattle.std.specs.Prelude.{pos}
+use Rattle.std.specs.Prelude.{pos, is_some, unwrap_or}
+use Rattle.std.specs.Option.{option_map_or}
 use Rattle.std.proofs.lemmas.Bool.{and_parts, and_from, lt-ltb, ltb-true, leb-true, eqb-true}
 use Rattle.std.proofs.ByRecursion.{All-take, All-drop, All-weaker}
 use Rattle.std.specs.List.{AllByRecursion, filter, find, range_with_len}
@@ -8,12 +9,12 @@ use Rattle.hib_base.specs.Fits.{is_identifier}
 use Rattle.hib_base.specs.Tables.{Tables, is_first, in_order}
 use Rattle.hib_base.proofs.Tables.{Tested, tested}
 use Rattle.hib_outside.proofs.Orders.{Precedes, precedes, is_first_trans, rest_in_order}
-use Rattle.hib_journal.specs.Types.{Key, Row, Cell, Sort, Select, Query, Checked, Script, Act}
+use Rattle.hib_journal.specs.Types.{Key, Row, Cell, Sort, Select, Query, Checked, Script, Act, Reply}
 use Rattle.hib_journal.specs.Sessions.{Journal}
-use Rattle.hib_journal.specs.Query.{comes_before, placed, sorted, meets, listed, or_false, selected, gives, reads}
+use Rattle.hib_journal.specs.Query.{comes_before, placed, sorted, listed, selected, gives, reads, holds, tables}
 use Rattle.hib_journal.specs.Stamps.{names, stamp_after, stamp, check_one, check}
-use Rattle.hib_journal.specs.Results.{Result, kept_after, last_kept, others, result, found, has, stays, dropped}
-use Rattle.hib_journal.specs.Next.{tables_by, tables_of}
+use Rattle.hib_journal.specs.Results.{Result, kept_after, last_kept, others, result, stays, dropped}
+use Rattle.hib_journal.specs.Next.{tables_of}
 use Rattle.hib_entry_fields.specs.Known.{is_entity, is_query, is_tick, is_version, is_cell, are_cells, is_row}
 use Rattle.hib_entry_texts.specs.WellFormed.{is_act, is_check, is_looked, is_dropped_query}
 use Rattle.hib_formed.proofs.Each.{each_filter, each_find, each_at, each_test, test_map, range_below}
@@ -113,10 +114,10 @@ cut_whole q t h = All-take IsWhole q.limit (drop q.offset (sorted q.order t)) (A
 id_cell : (x : Key × Row) → IsWhole x → is_cell (Cell.Int (pos x.0.id)) ≡ true
 id_cell x w = (and_parts (nat_le 1 x.0.id) (nat_lt x.0.id 9223372036854775808) w.0).1
 
-column_cell : (c : ℕ) (x : Key × Row) → IsWhole x → is_cell (or_false (slice_get x.1.cells c)) ≡ true
+column_cell : (c : ℕ) (x : Key × Row) → IsWhole x → is_cell (unwrap_or (slice_get x.1.cells c) (Cell.Bool false)) ≡ true
 column_cell c x w = by (slice_get x.1.cells c) refl
   where
-    by : (o : Option Cell) → slice_get x.1.cells c ≡ o → is_cell (or_false o) ≡ true
+    by : (o : Option Cell) → slice_get x.1.cells c ≡ o → is_cell (unwrap_or o (Cell.Bool false)) ≡ true
     by None e = refl
     by (Some y) e = each_at (λ y. is_cell y ≡ true) x.1.cells c y (each_test is_cell x.1.cells (and_parts (is_version x.1.version) (are_cells x.1.cells) w.1).1) e
 
@@ -124,13 +125,13 @@ selected_good : (q : Query) (t : Tables) (s : Select) → AllByRecursion IsWhole
 selected_good q t Select.Count h f = and_from (nat_lt (length t) 9223372036854775808) true (lt-ltb (length t) 9223372036854775808 f) refl
 selected_good q t Select.Ids h f = test_map is_cell (λ a. Cell.Int (pos a.0.id)) IsWhole id_cell (take q.limit (drop q.offset (sorted q.order t))) (cut_whole q t h)
 selected_good q t (Select.Column c) h f =
-    test_map is_cell (λ a. or_false (slice_get a.1.cells c)) IsWhole (column_cell c) (take q.limit (drop q.offset (sorted q.order t))) (cut_whole q t h)
+    test_map is_cell (λ a. unwrap_or (slice_get a.1.cells c) (Cell.Bool false)) IsWhole (column_cell c) (take q.limit (drop q.offset (sorted q.order t))) (cut_whole q t h)
 
 pub gives_good : (script : Script) (q : Query) (t : Tables) → is_entity script q.entity ≡ true → AreRows script t → are_cells (gives q t) ≡ true
 unfolding gives
 gives_good script q t d r =
     let h : AllByRecursion (IsOf q.entity) t = of_entity script q.entity t d r.placed in
-    selected_good q (listed q t) q.select (whole_chosen q.entity (λ a. meets t a.1 q.condition) t h) (few_chosen q.entity (λ a. meets t a.1 q.condition) t r.ordered h)
+    selected_good q (listed q t) q.select (whole_chosen q.entity (λ a. option_map_or (holds t a.1) q.condition true) t h) (few_chosen q.entity (λ a. option_map_or (holds t a.1) q.condition true) t r.ordered h)
 
 -- ---- stamps
 
@@ -168,7 +169,7 @@ module _ (script : Script) (timeout : ℕ) (low : timeout ≤ 1000000) where
 pub query_tables : (script : Script) (q : ℕ) → AllByRecursion (λ t. is_entity script t ≡ true) (tables_of script q)
 query_tables script q = by (slice_get script.queries q)
   where
-    by : (o : Option Query) → AllByRecursion (λ t. is_entity script t ≡ true) (tables_by script o)
+    by : (o : Option Query) → AllByRecursion (λ t. is_entity script t ≡ true) (option_map_or (tables (length script.mapping)) o [])
     by None = tt
     by (Some d) =
         each_filter (λ t. is_entity script t ≡ true) (λ n. reads d n) (range_with_len 0 (length script.mapping))
@@ -192,11 +193,11 @@ kept_good : (script : Script) (q : ℕ) (h : Journal) → AllGood script h → I
 kept_good script q [] g = tt
 kept_good script q (e ∷ h) g = kept_step script q e.act (last_kept q h) g.0.act (kept_good script q h g.1)
 
-pub found_good : (script : Script) (capacity q : ℕ) (h : Journal) → AllGood script h → is_looked (found (result capacity q h)) ≡ true
+pub found_good : (script : Script) (capacity q : ℕ) (h : Journal) → AllGood script h → is_looked (option_map_or (λ r. Reply.Found r.0 r.1) (result capacity q h) Reply.Absent) ≡ true
 unfolding result
 found_good script capacity q h g = by (nat_lt (length (others q h)) capacity) (last_kept q h) (kept_good script q h g)
   where
-    by : (b : Bool) (o : Option Result) → IfSome o IsResult → is_looked (found (cond b o None)) ≡ true
+    by : (b : Bool) (o : Option Result) → IfSome o IsResult → is_looked (option_map_or (λ r. Reply.Found r.0 r.1) (cond b o None) Reply.Absent) ≡ true
     by true None i = refl
     by true (Some r) i = and_from (is_tick r.0) (are_cells r.1) i.0 i.1
     by false o i = refl
@@ -204,8 +205,8 @@ found_good script capacity q h g = by (nat_lt (length (others q h)) capacity) (l
 pub dropped_good : (script : Script) (capacity q : ℕ) (h : Journal) → is_dropped_query script (dropped capacity (length script.queries) q h) ≡ true
 unfolding dropped
 dropped_good script capacity q h =
-    by (find (λ p. has (result capacity p h) && not (stays capacity q p h)) (range_with_len 0 (length script.queries)))
-    (each_find (λ p. is_query script p ≡ true) (λ p. has (result capacity p h) && not (stays capacity q p h)) (range_with_len 0 (length script.queries))
+    by (find (λ p. is_some (result capacity p h) && not (stays capacity q p h)) (range_with_len 0 (length script.queries)))
+    (each_find (λ p. is_query script p ≡ true) (λ p. is_some (result capacity p h) && not (stays capacity q p h)) (range_with_len 0 (length script.queries))
     (range_below (length script.queries) 0 (length script.queries) (omega arith)))
   where
     by : (o : Option ℕ) → IfSome o (λ p. is_query script p ≡ true) → is_dropped_query script o ≡ true

@@ -1,7 +1,9 @@
 -- What a region answers is well formed, by its slot or its item.
+use Rattle.std.specs.Prelude.{is_some}
+use Rattle.std.specs.Option.{option_flatten}
 use Rattle.std.proofs.Common.{◌≡◌, ℕ, zero, suc, ◌+◌, ◌<◌, ◌≤◌, ◌^◌, Bool, true, false, cond, ◌&&◌, ◌||◌, ◌==◌, nat_lt, nat_le, Some, None, Option, IfSome, refl, arith}
 use Rattle.std.proofs.lemmas.Bool.{and_parts, and_from, lt-ltb}
-use Rattle.hib_journal.specs.Types.{Row, Reply, Put, Unlocked, Updated, Miss}
+use Rattle.hib_journal.specs.Types.{Row, Reply, Put, Unlocked, Updated, Miss, Inserted}
 use Rattle.hib_journal.specs.Slot.{LockState, Slot, is_positive}
 use Rattle.hib_journal.specs.Regions
 use Rattle.hib_journal.specs.Regions.{is_below, readable}
@@ -89,12 +91,12 @@ module _ (n : ℕ) (few : n < 2 ^ 64) where
   locked : (id until : ℕ) (v : Option ℕ) → id ≤ 2 ^ 61 → until ≤ 2 ^ 62 → is_evicted_id v ≡ true → is_lock (record { id = id; until = until; evicted = v }) ≡ true
   locked id until v h g r = and_from (is_tick id) (is_tick until && is_evicted_id v) (tick_of id h) (and_from (is_tick until) (is_evicted_id v) (early_tick until g) r)
 
-  evicted_good : (o : Option (Option ℕ)) → IsRoom o → is_evicted_id (Regions.evicted_by o) ≡ true
+  evicted_good : (o : Option (Option ℕ)) → IsRoom o → is_evicted_id (option_flatten o) ≡ true
   evicted_good None r = refl
   evicted_good (Some v) r = r
 
   pub locked_good : (timeout : ℕ) (s : Slot) (o : Option (Option ℕ)) (now : ℕ) → timeout ≤ 1000000 → now ≤ 2 ^ 61 → IsSlot n s → IsRoom o → is_lock (Regions.lock timeout s o now) ≡ true
-  locked_good timeout Slot.Vacant o now t e h r = locked now (now + timeout) (Regions.evicted_by o) e (omega arith) (evicted_good o r)
+  locked_good timeout Slot.Vacant o now t e h r = locked now (now + timeout) (option_flatten o) e (omega arith) (evicted_good o r)
   locked_good timeout (Slot.Item x y) o now t e h r = locked now (now + timeout) None e (omega arith) refl
   locked_good timeout (Slot.Lock l) o now t e h r = locked l.id (now + timeout) None h.id (omega arith) refl
 
@@ -145,10 +147,10 @@ pub put_item_good : (v : Option ℕ) (o : Option (Row × ℕ)) → is_evicted_id
 put_item_good v None r h = r
 put_item_good v (Some p) r h = row_version p.0 h.0
 
-pub insert_item_good : (v : Option ℕ) (o : Option (Row × ℕ)) → is_evicted_id v ≡ true → is_insert (Regions.insert_item v o) ≡ true
+pub insert_item_good : (v : Option ℕ) (o : Option (Row × ℕ)) → is_evicted_id v ≡ true → is_insert (cond (is_some o) Inserted.Present (Inserted.Stored v)) ≡ true
 insert_item_good v None r = r
 insert_item_good v (Some p) r = refl
 
-pub remove_item_good : (o : Option (Row × ℕ)) → is_dropped (Regions.remove_item o) ≡ true
+pub remove_item_good : (o : Option (Row × ℕ)) → is_dropped (cond (is_some o) Reply.Dropped Reply.Absent) ≡ true
 remove_item_good None = refl
 remove_item_good (Some p) = refl

@@ -1,18 +1,21 @@
 -- The reply to a well-formed act is well formed, where the entries before it are good.
+use Rattle.std.specs.Prelude.{is_some}
+use Rattle.std.specs.Option.{option_map_or}
 use Rattle.std.proofs.Common.{◌≡◌, ℕ, ◌+◌, ◌<◌, ◌≤◌, ◌^◌, Bool, true, false, cond, ◌||◌, length, slice_get, Some, None, Option, refl, arith}
 use Rattle.std.proofs.lemmas.Bool.{and_parts}
 use Rattle.hib_base.specs.Tables.{Tables, after_changes}
 use Rattle.hib_base.specs.Scripts.{is_declared, are_targets_in}
 use Rattle.hib_base.proofs.Lists.{all_at}
 use Rattle.hib_base.proofs.Valid.{Rules}
-use Rattle.hib_journal.specs.Types.{Key, Row, Strategy, Query, Script, Act, Reply}
+use Rattle.hib_journal.specs.Types.{Key, Row, Strategy, Query, Script, Act, Reply, Inserted}
 use Rattle.hib_journal.specs.Sessions.{Journal, own, changes, committed, floor}
 use Rattle.hib_journal.specs.Slot.{history, slot}
 use Rattle.hib_journal.specs.Room.{item, oldest}
 use Rattle.hib_journal.specs.Held.{held}
-use Rattle.hib_journal.specs.Next.{strategy, capacity, tables_of, is_held, is_in}
-use Rattle.hib_journal.specs.Legal.{is_there, row_of, persisted, set_unless, get_reply, put_reply, insert_reply, evict_reply, list_reply, room_for, reply_of}
+use Rattle.hib_journal.specs.Next.{strategy, capacity, tables_of, is_in}
+use Rattle.hib_journal.specs.Legal.{row_of, set_unless, get_reply, put_reply, insert_reply, evict_reply, room_for, reply_of}
 use Rattle.hib_journal.specs.Regions
+use Rattle.hib_journal.specs.Query.{gives}
 use Rattle.hib_entry_fields.specs.Known.{is_entity}
 use Rattle.hib_entry_texts.specs.WellFormed.{is_act, is_reply, is_persisted, is_changed, is_removed, is_listed, is_got, is_stored, is_inserted, is_evicted}
 use Rattle.hib_formed.proofs.Goods.{AllGood, AreChanges, early_tick, key_parts, own_good, changes_good, floor_le}
@@ -22,7 +25,7 @@ use Rattle.hib_formed.proofs.Slots.{IsSlot, history_good, slot_good, item_good, 
 use Rattle.hib_formed.proofs.Regions.{IsItem, IsRoom, got_good, put_good, locked_good, unlock_good, update_good, insert_good, got_item_good, put_item_good, insert_item_good, remove_item_good}
 use Rattle.hib_formed.proofs.Lists.{gives_good, check_good, query_tables, found_good, dropped_good}
 
-persisted_good : (b : Bool) → is_persisted (persisted b) ≡ true
+persisted_good : (b : Bool) → is_persisted (cond b Reply.Known Reply.New) ≡ true
 persisted_good true = refl
 persisted_good false = refl
 
@@ -68,7 +71,7 @@ module _ (script : Script) (r : Rules script) (h : Journal) (g : AllGood script 
   stored_good Strategy.Nonstrict k y t f = stored_item k
   stored_good Strategy.Uncached k y t f = stored_item k
 
-  inserted_item : (k : Key) → is_inserted (Reply.Inserted (Regions.insert_item (oldest (capacity script k.entity) k.entity h) (item (history k h)))) ≡ true
+  inserted_item : (k : Key) → is_inserted (Reply.Inserted (cond (is_some (item (history k h))) Inserted.Present (Inserted.Stored (oldest (capacity script k.entity) k.entity h)))) ≡ true
   inserted_item k = insert_item_good (oldest (capacity script k.entity) k.entity h) (item (history k h)) (oldest_good script (capacity script k.entity) k.entity h g)
 
   inserted_good : (x : Strategy) (k : Key) (f : ℕ) → is_inserted (insert_reply x script h k f) ≡ true
@@ -83,10 +86,10 @@ module _ (script : Script) (r : Rules script) (h : Journal) (g : AllGood script 
   evicted_good Strategy.Nonstrict k = refl
   evicted_good Strategy.Uncached k = refl
 
-  listed_good : (q : ℕ) (t : Tables) → AreRows script t → is_listed (list_reply (slice_get script.queries q) t) ≡ true
+  listed_good : (q : ℕ) (t : Tables) → AreRows script t → is_listed (option_map_or (λ d. Reply.Listed (gives d t)) (slice_get script.queries q) Reply.Fault) ≡ true
   listed_good q t w = by (slice_get script.queries q) refl
     where
-      by : (o : Option Query) → slice_get script.queries q ≡ o → is_listed (list_reply o t) ≡ true
+      by : (o : Option Query) → slice_get script.queries q ≡ o → is_listed (option_map_or (λ d. Reply.Listed (gives d t)) o Reply.Fault) ≡ true
       by None e = refl
       by (Some d) e =
           let p : is_declared script d ≡ true = all_at (λ d. is_declared script d) script.queries q d r.declared e in
@@ -109,9 +112,9 @@ module _ (script : Script) (r : Rules script) (h : Journal) (g : AllGood script 
     reply_good now (Act.Kill n) e p = refl
     reply_good now Act.Restart e p = refl
     reply_good now (Act.Find k) e p = find_good script (held (own s h) k) (held_good script (own s h) k (own_good script s h g) p)
-    reply_good now (Act.Persist k y) e p = persisted_good (is_held (held (own s h) k) || is_in k (changes s h))
-    reply_good now (Act.Set k xs) e p = set_good (is_there (row_of (held (own s h) k))) (strategy script k.entity)
-    reply_good now (Act.Remove k) e p = removed_good (is_there (row_of (held (own s h) k)))
+    reply_good now (Act.Persist k y) e p = persisted_good (is_some (held (own s h) k) || is_in k (changes s h))
+    reply_good now (Act.Set k xs) e p = set_good (is_some (row_of (held (own s h) k))) (strategy script k.entity)
+    reply_good now (Act.Remove k) e p = removed_good (is_some (row_of (held (own s h) k)))
     reply_good now Act.Clear e p = refl
     reply_good now (Act.Load k) e p = row_found script (after_changes (changes s h) (committed start h)) k seen_rows.placed (key_parts script k p).0
     reply_good now (Act.List q) e p = listed_good q (after_changes (changes s h) (committed start h)) seen_rows

@@ -1,5 +1,6 @@
 -- Rows of entities of the mapping are well formed, at the start and after each commit.
 use Rattle.std.specs.Prelude.{pos, negsuc}
+use Rattle.std.specs.Option.{option_map_or}
 use Rattle.std.proofs.Common.{◌≡◌, ℕ, ◌<◌, ◌^◌, Bool, true, false, cond, ◌&&◌, List, [], ◌∷◌, length, slice_get, Some, None, Option, IfSome, refl, sym, subst, inl, inr, arith}
 use Rattle.std.proofs.lemmas.Bool.{false≢true, and_parts, and_from, ltb-true, lt-ltb}
 use Rattle.std.specs.List.{AllByRecursion, list_all}
@@ -13,7 +14,7 @@ use Rattle.hib_base.proofs.Valid.{Rules, rules}
 use Rattle.hib_base.specs.Valid.{is_valid}
 use Rattle.hib_outside.proofs.Orders.{in_order_changes, in_order_with_absent}
 use Rattle.hib_journal.specs.Types.{Key, Row, Cell, ColumnType, ColumnDef, EntityDef, Change, Commit, Script}
-use Rattle.hib_journal.specs.Sessions.{Journal, own, changes, committer, committed_by, committed}
+use Rattle.hib_journal.specs.Sessions.{Journal, own, changes, committer, committed}
 use Rattle.hib_entry_fields.specs.Known.{is_key, is_entity, is_version, is_cell, are_cells, is_row}
 use Rattle.hib_entry_texts.specs.WellFormed.{is_change, is_read, is_commit}
 use Rattle.hib_formed.specs.Fitting.{AreFit}
@@ -76,7 +77,7 @@ module _ (script : Script) where
   rows_committed start [] r g = r
   rows_committed start (e ∷ h) r g = by (committer e.act e.reply e.session) (rows_committed start h r g.1)
     where
-      by : (o : Option ℕ) → AreRows script (committed start h) → AreRows script (committed_by o h (committed start h))
+      by : (o : Option ℕ) → AreRows script (committed start h) → AreRows script (option_map_or (λ s. after_changes (changes s h) (committed start h)) o (committed start h))
       by None i = i
       by (Some s) i = rows_changed (changes s h) (committed start h) (changes_good script (own s h) (own_good script s h g.1)) i
 

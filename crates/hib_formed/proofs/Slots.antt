@@ -1,4 +1,6 @@
 -- What regions answer is well formed, where the entries before it are good.
+use Rattle.std.specs.Prelude.{is_some, option_map, option_and_then}
+use Rattle.std.specs.Option.{option_map_or}
 use Rattle.std.proofs.Common.{◌≡◌, ℕ, zero, suc, ◌≤◌, ◌^◌, Bool, true, false, cond, ◌&&◌, ◌==◌, List, [], ◌∷◌, length, nat_lt, Some, None, Option, IfSome, refl, arith}
 use Rattle.std.proofs.lemmas.Bool.{and_parts}
 use Rattle.std.specs.List.{AllByRecursion, filter, list_any}
@@ -6,8 +8,8 @@ use Rattle.hib_base.specs.Fits.{is_identifier}
 use Rattle.hib_base.specs.Keys.{same_key}
 use Rattle.hib_journal.specs.Types.{Key, Script, Act, Reply, Entry, Put, Unlocked, Inserted, Updated, Evicted}
 use Rattle.hib_journal.specs.Sessions.{Journal, is_restart}
-use Rattle.hib_journal.specs.Slot.{Touch, touch_here, key_in, evicted_in, is_victim, touch_of, touch, History, with_touch, history, Base, base, stretch, locks, first_of, first_lock, last_free, LockState, Slot, bar_end, slot_of, slot_from, slot}
-use Rattle.hib_journal.specs.Room.{key, add_once, add_key, named, place, may_leave, kept, is_earlier, earlier_of, first_placed, victim, room_by, room, item, is_item, stamp_in, items, oldest}
+use Rattle.hib_journal.specs.Slot.{Touch, touch_here, key_in, evicted_in, touch, History, history, Base, base, stretch, locks, first_of, first_lock, last_free, LockState, Slot, bar_end, slot_of, slot_from, slot, touch_at}
+use Rattle.hib_journal.specs.Room.{key, add_once, add_key, named, place, may_leave, kept, is_earlier, earlier_of, first_placed, victim, room, item, items, oldest}
 use Rattle.hib_entry_fields.specs.Known.{is_key, is_tick, is_version, are_cells, is_row}
 use Rattle.hib_entry_texts.specs.WellFormed.{is_act, is_evicted_id}
 use Rattle.hib_formed.proofs.Each.{each_filter}
@@ -49,15 +51,15 @@ module _ (script : Script) where
       by_victim true = tt
       by_victim false = tt
 
-      by_test : (here : Key) (b : Bool) → IfSome (cond b (touch_here e.act e.reply) (cond ((here.entity == k.entity) && is_victim k.id (evicted_in e.reply)) (Some Touch.Leaves) None)) IsTouch
+      by_test : (here : Key) (b : Bool) → IfSome (cond b (touch_here e.act e.reply) (cond ((here.entity == k.entity) && option_map_or (λ v. v == k.id) (evicted_in e.reply) false) (Some Touch.Leaves) None)) IsTouch
       by_test here true = here_good e.act e.reply g.act
-      by_test here false = by_victim ((here.entity == k.entity) && is_victim k.id (evicted_in e.reply))
+      by_test here false = by_victim ((here.entity == k.entity) && option_map_or (λ v. v == k.id) (evicted_in e.reply) false)
 
-      by_key : (o : Option Key) → IfSome (touch_of k o e.act e.reply) IsTouch
+      by_key : (o : Option Key) → IfSome (option_and_then (λ j. touch_at k j e.act e.reply) o) IsTouch
       by_key None = tt
       by_key (Some here) = by_test here (same_key here k)
 
-  with_mark : (o : Option Touch) (now : ℕ) (s : History) → IfSome o IsTouch → now ≤ 2 ^ 61 → AreMarks s → AreMarks (with_touch o now s)
+  with_mark : (o : Option Touch) (now : ℕ) (s : History) → IfSome o IsTouch → now ≤ 2 ^ 61 → AreMarks s → AreMarks (option_map_or (λ t. (t, now) ∷ s) o s)
   with_mark None now s h t m = m
   with_mark (Some x) now s h t m = (record { touch = h; tick = t }, m)
 
@@ -65,11 +67,11 @@ module _ (script : Script) where
   history_good k [] g = tt
   history_good k (e ∷ h) g = by (is_restart e.act) (history_good k h g.1)
     where
-      by : (b : Bool) → AreMarks (history k h) → AreMarks (cond b [] (with_touch (touch k e) e.tick (history k h)))
+      by : (b : Bool) → AreMarks (history k h) → AreMarks (cond b [] (option_map_or (λ t. (t, e.tick) ∷ (history k h)) (touch k e) (history k h)))
       by true m = tt
       by false m = with_mark (touch k e) e.tick (history k h) (touch_good k e g.0) g.0.tick m
 
-with_length : (o : Option Touch) (now : ℕ) (s : History) → length (with_touch o now s) ≤ suc (length s)
+with_length : (o : Option Touch) (now : ℕ) (s : History) → length (option_map_or (λ t. (t, now) ∷ s) o s) ≤ suc (length s)
 with_length None now s = omega arith
 with_length (Some x) now s = omega arith
 
@@ -77,7 +79,7 @@ history_length : (k : Key) (h : Journal) → length (history k h) ≤ length h
 history_length k [] = omega arith
 history_length k (e ∷ h) = by (is_restart e.act) (history_length k h)
   where
-    by : (b : Bool) → length (history k h) ≤ length h → length (cond b [] (with_touch (touch k e) e.tick (history k h))) ≤ suc (length h)
+    by : (b : Bool) → length (history k h) ≤ length h → length (cond b [] (option_map_or (λ t. (t, e.tick) ∷ (history k h)) (touch k e) (history k h))) ≤ suc (length h)
     by true i = omega arith
     by false i = omega (arith, with_length (touch k e) e.tick (history k h))
 
@@ -236,7 +238,7 @@ module _ (script : Script) where
       (placed_good (λ i. place (history (key n i) h)) (filter (λ i. may_leave floor (slot timeout (key n i) h)) (named n h))
       (each_filter (λ i. is_identifier i ≡ true) (λ i. may_leave floor (slot timeout (key n i) h)) (named n h) (named_good n h g)))
     where
-      by : (b : Bool) (v : Option ℕ) → is_evicted_id v ≡ true → IfSome (room_by b v) (λ v. is_evicted_id v ≡ true)
+      by : (b : Bool) (v : Option ℕ) → is_evicted_id v ≡ true → IfSome (cond b (Some None) (option_map (λ i. Some i) v)) (λ v. is_evicted_id v ≡ true)
       by true v p = refl
       by false None p = tt
       by false (Some i) p = p
@@ -245,7 +247,7 @@ module _ (script : Script) where
   unfolding oldest
   oldest_good capacity n h g = by (nat_lt (length (items n h)) capacity)
     where
-      by : (b : Bool) → is_evicted_id (cond b None (first_placed (λ i. stamp_in (item (history (key n i) h))) (items n h))) ≡ true
+      by : (b : Bool) → is_evicted_id (cond b None (first_placed (λ i. option_map (λ p. p.1) (item (history (key n i) h))) (items n h))) ≡ true
       by true = refl
-      by false = placed_good (λ i. stamp_in (item (history (key n i) h))) (items n h)
-          (each_filter (λ i. is_identifier i ≡ true) (λ i. is_item (item (history (key n i) h))) (named n h) (named_good n h g))
+      by false = placed_good (λ i. option_map (λ p. p.1) (item (history (key n i) h))) (items n h)
+          (each_filter (λ i. is_identifier i ≡ true) (λ i. is_some (item (history (key n i) h))) (named n h) (named_good n h g))

@@ -1,16 +1,18 @@
 -- Each act that is due is well formed, where a session's entries so far are good.
+use Rattle.std.specs.Prelude.{is_some, option_and_then}
+use Rattle.std.specs.Option.{option_map_or}
 use Rattle.std.proofs.Common.{◌≡◌, ℕ, zero, suc, ◌+◌, ◌<◌, ◌≤◌, Bool, true, false, cond, not, ◌&&◌, ◌==◌, List, [], ◌∷◌, ◌++◌, length, nat_le, slice_get, Some, None, Option, IfSome, refl, sym, ap, ◌∙◌, subst, inl, inr, arith}
 use Rattle.std.proofs.lemmas.Bool.{false≢true, and_parts, and_from, or_left, ltb-true, eq-eqb, le-leb}
 use Rattle.std.specs.List.{AllByRecursion, filter, flat_map, list_all, list_any, range_with_len}
 use Rattle.hib_base.specs.Keys.{same_key}
-use Rattle.hib_base.specs.Tables.{key_of, first_on, last_on, or_change}
+use Rattle.hib_base.specs.Tables.{key_of, first_on, last_on, or_change, row_left}
 use Rattle.hib_base.proofs.Tables.{Tested, tested}
 use Rattle.hib_journal.specs.Types.{Key, Row, Cell, Change, Strategy, Mode, Statement, Script, Act, Reply, Checked, Entry}
 use Rattle.hib_journal.specs.Sessions.{Journal, time_in, floor_in, changes_in}
 use Rattle.hib_journal.specs.Held.{held, pending, is_fresh}
 use Rattle.hib_journal.specs.Plan.{Block, one, each, left_of, InOrder}
 use Rattle.hib_journal.specs.Next
-use Rattle.hib_journal.specs.Next.{strategy, plan_of, next, statements, mode_after, ends, tables_of, tables_in, lock_id, is_in, is_in_tables}
+use Rattle.hib_journal.specs.Next.{strategy, plan_of, next, mode_after, ends, tables_of, tables_in, lock_id, is_in, is_in_tables}
 use Rattle.hib_journal.proofs.Plans.{Good, Runs, Allows, runs_each, runs_if, AllRight, good_left, allowed_first}
 use Rattle.hib_entry_fields.specs.Known.{is_key, is_entity, is_query, is_tick, is_version, are_cells, is_row, are_tables, are_sets}
 use Rattle.hib_entry_texts.specs.WellFormed.{is_act, is_reply, is_change, is_read, is_evicted_id}
@@ -91,7 +93,7 @@ module _ (script : Script) where
     )
 
     goes_find : Goes (Next.find script mode k)
-    goes_find = goes_if (λ d. Next.is_held (held d k)) (one (Act.Find k)) (Next.find_away script mode k) (λ m w. goes_act (Act.Find k) m named w)
+    goes_find = goes_if (λ d. is_some (held d k)) (one (Act.Find k)) (Next.find_away script mode k) (λ m w. goes_act (Act.Find k) m named w)
         (goes_if (λ d. Next.may_read script mode k d) (Next.get script mode k) (Next.load script mode k) goes_get goes_load)
 
   -- ---- list
@@ -177,7 +179,7 @@ module _ (script : Script) where
   cached_acts Strategy.ReadOnly k v f h x t = (h, tt)
   cached_acts Strategy.Nonstrict k v f h x t = (h, tt)
 
-  fresh_good : (b : Bool) (v : Option ℕ) → is_version v ≡ true → is_version (Next.fresh_version b v) ≡ true
+  fresh_good : (b : Bool) (v : Option ℕ) → is_version v ≡ true → is_version (cond b v None) ≡ true
   fresh_good true v h = h
   fresh_good false v h = refl
 
@@ -185,9 +187,9 @@ module _ (script : Script) where
     key_acts : (k : Key) (v : Option ℕ) → is_key script k ≡ true → is_version v ≡ true → AreActs (Next.before_key script d k v)
     key_acts k v h x = by (is_in k (changes_in d))
       where
-        by : (b : Bool) → AreActs (cond b [] (Next.before_cached (strategy script k.entity) k (Next.fresh_version (is_fresh k d) v) (floor_in d)))
+        by : (b : Bool) → AreActs (cond b [] (Next.before_cached (strategy script k.entity) k (cond (is_fresh k d) v None) (floor_in d)))
         by true = tt
-        by false = cached_acts (strategy script k.entity) k (Next.fresh_version (is_fresh k d) v) (floor_in d) h (fresh_good (is_fresh k d) v x) (floor_tick script d w)
+        by false = cached_acts (strategy script k.entity) k (cond (is_fresh k d) v None) (floor_in d) h (fresh_good (is_fresh k d) v x) (floor_tick script d w)
 
     before_acts : (c : Change) → is_change script c ≡ true → AreActs (Next.before_write script d c)
     before_acts (Change.Insert k r) h = tt
@@ -232,7 +234,7 @@ module _ (script : Script) where
       by None true i = h.0
       by None false i = tt
 
-  back_row : (b : Bool) (o : Option Change) → IfSome o (λ c. is_change script c ≡ true) → is_read (Next.puts_back b o) ≡ true
+  back_row : (b : Bool) (o : Option Change) → IfSome o (λ c. is_change script c ≡ true) → is_read (cond b (option_and_then row_left o) None) ≡ true
   back_row false o h = refl
   back_row true None h = refl
   back_row true (Some (Change.Insert k r)) h = (and_parts (is_key script k) (is_row r) h).1
@@ -284,7 +286,7 @@ module _ (script : Script) where
       (each_append (λ a. is_act script a ≡ true) (flat_map (λ k. Next.complete script mode m x (changes_in m) k) (Next.keys_of (changes_in m))) (Next.stamps_of (tables_in script (changes_in m)))
       (each_flat (λ a. is_act script a ≡ true) (λ k. is_key script k ≡ true) (λ k. Next.complete script mode m x (changes_in m) k)
       (λ k h. complete_acts k (lock_id k m) (floor_in m) h (lock_tick k m w) (floor_tick script m w) (first_on k (changes_in m)) (strategy script k.entity)
-      (Next.puts_back (x && Next.mode_puts mode) (last_on k (changes_in m)))
+      (cond (x && Next.mode_puts mode) (option_and_then row_left (last_on k (changes_in m))) None)
       (back_row (x && Next.mode_puts mode) (last_on k (changes_in m)) (last_change k (changes_in m) cs)))
       (Next.keys_of (changes_in m)) (keys_good (changes_in m) cs))
       (stamp_acts (tables_in script (changes_in m)) (declared_tables (changes_in m)))) (refl, tt)
@@ -301,7 +303,7 @@ module _ (script : Script) where
   -- ---- statements
 
   versioned : (n : ℕ) → is_version (Next.first_version script n) ≡ true
-  versioned n = by (Next.is_versioned_in (slice_get script.mapping n))
+  versioned n = by (option_map_or (λ d. d.versioned) (slice_get script.mapping n) false)
     where
       by : (b : Bool) → is_version (cond b (Some 0) None) ≡ true
       by true = refl
@@ -341,9 +343,9 @@ module _ (script : Script) where
   all_right (e ∷ m) w = (all_right m w.1, w.0)
 
   -- the act that is due is well formed
-  pub next_good : (s : ℕ) (m : Journal) (a : Act) → AllByRecursion (IsSaid script) (statements (slice_get script.sessions s)) → W m → InOrder (plan_of script s) m →
+  pub next_good : (s : ℕ) (m : Journal) (a : Act) → AllByRecursion (IsSaid script) (option_map_or (λ d. d.statements) (slice_get script.sessions s) []) → W m → InOrder (plan_of script s) m →
       next script s m ≡ Some a → is_act script a ≡ true
   unfolding next
   next_good s m a h w o p =
       allowed_first Ok Rt (left_of (plan_of script s) m) m a
-      (good_left Ok Rt (plan_of script s) m (good_blocks Mode.Normal true (statements (slice_get script.sessions s)) [] h tt) o (all_right m w)) p
+      (good_left Ok Rt (plan_of script s) m (good_blocks Mode.Normal true (option_map_or (λ d. d.statements) (slice_get script.sessions s) []) [] h tt) o (all_right m w)) p

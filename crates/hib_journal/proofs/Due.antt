@@ -1,15 +1,17 @@
 -- What is known of each act that is due: one pass over the blocks of a session.
+use Rattle.std.specs.Prelude.{is_some, option_and_then}
+use Rattle.std.specs.Option.{option_map_or}
 use Rattle.std.proofs.Common.{◌≡◌, ℕ, zero, suc, ◌+◌, ◌≤◌, Bool, true, false, cond, not, ◌&&◌, ◌||◌, ◌==◌, List, [], ◌∷◌, ◌++◌, length, nat_lt, slice_get, Some, None, Option, refl, sym, ap, ◌∙◌, subst, arith}
 use Rattle.std.proofs.lemmas.Bool.{false≢true, true≢false, and_parts}
 use Rattle.std.proofs.lemmas.Bool.Decides.{nat_tests}
 use Rattle.std.specs.List.{filter, flat_map, list_all, list_any, range_with_len}
-use Rattle.hib_base.specs.Tables.{key_of, first_on, last_on}
+use Rattle.hib_base.specs.Tables.{key_of, first_on, last_on, row_left}
 use Rattle.hib_journal.specs.Types.{Key, Row, Change, Strategy, Mode, Statement, Script, Act, Reply, Checked, Entry}
 use Rattle.hib_journal.specs.Sessions.{Journal, time_in, floor_in, floor_after, changes_in, changes_after, deferred, deferred_after, is_begun, begun_after}
 use Rattle.hib_journal.specs.Held.{held, pending, is_fresh, is_begin}
 use Rattle.hib_journal.specs.Plan.{Plan, Block, one, each, after, left_of, first_act, InOrder}
 use Rattle.hib_journal.specs.Next
-use Rattle.hib_journal.specs.Next.{strategy, is_cached, is_cached_by, plan_of, next, statements, tables_in, ends}
+use Rattle.hib_journal.specs.Next.{strategy, is_cached, is_cached_by, plan_of, next, tables_in, ends}
 use Rattle.hib_journal.specs.Legal.{is_outside}
 use Rattle.hib_journal.specs.Due.{asks_store, found_by, is_removing, is_inserting, asks, is_asked, time_found, Suits, IsAllowed, closes, is_closed}
 
@@ -198,7 +200,7 @@ module _ (script : Script) (s : ℕ) where
     )
 
     goes_find : (k : Key) → Goes Working Working (Next.find script mode k)
-    goes_find k m w = runs_test Ok Final (Next.is_held (held m k)) (one (Act.Find k)) (Next.find_away script mode k) m Working (λ t. goes_act (Act.Find k) refl refl refl m tt w)
+    goes_find k m w = runs_test Ok Final (is_some (held m k)) (one (Act.Find k)) (Next.find_away script mode k) m Working (λ t. goes_act (Act.Find k) refl refl refl m tt w)
         (λ t. runs_test Ok Final (Next.may_read script mode k m) (Next.get script mode k) (Next.load script mode k) m Working (λ y. goes_get k m y w) (λ y. goes_load k m w))
 
     module _ (q : ℕ) (asked : is_asked script s q ≡ true) where
@@ -270,9 +272,9 @@ module _ (script : Script) (s : ℕ) where
   allow_key : (d : Journal) (k : Key) (v : Option ℕ) (m : Journal) → Flushing d m → Allows Ok Final (Next.before_key script d k v) m (Flushing d)
   allow_key d k v m f = by (Next.is_in k (changes_in d))
     where
-      by : (b : Bool) → Allows Ok Final (cond b [] (Next.before_cached (strategy script k.entity) k (Next.fresh_version (is_fresh k d) v) (floor_in d))) m (Flushing d)
+      by : (b : Bool) → Allows Ok Final (cond b [] (Next.before_cached (strategy script k.entity) k (cond (is_fresh k d) v None) (floor_in d))) m (Flushing d)
       by true = f
-      by false = allow_cached d k (Next.fresh_version (is_fresh k d) v) m f
+      by false = allow_cached d k (cond (is_fresh k d) v None) m f
 
   allow_change : (d : Journal) (c : Change) (m : Journal) → Flushing d m → Allows Ok Final (Next.before_write script d c ++ Act.Write c ∷ []) m (Flushing d)
   allow_change d c m f = allows_join Ok Final (Next.before_write script d c) (Act.Write c ∷ []) m (Flushing d) (Flushing d) (by c)
@@ -309,7 +311,7 @@ module _ (script : Script) (s : ℕ) where
   complete_one d a q b o n m u f = (ending a m b o n u f.ending, λ e p. completing_more d a b m e p (ending_more a q m e p f.ending) f)
 
   allow_complete : (mode : Mode) (d : Journal) (x : Bool) (cs : List Change) (k : Key) (m : Journal) → Completing d m → Allows Ok Final (Next.complete script mode d x cs k) m (Completing d)
-  allow_complete mode d x cs k m f = by_first (first_on k cs) (strategy script k.entity) refl (Next.puts_back (x && Next.mode_puts mode) (last_on k cs))
+  allow_complete mode d x cs k m f = by_first (first_on k cs) (strategy script k.entity) refl (cond (x && Next.mode_puts mode) (option_and_then row_left (last_on k cs)) None)
     where
       by_update : (g : Strategy) → strategy script k.entity ≡ g → (r : Option Row) → Allows Ok Final (Next.complete_update g k (Next.lock_id k d) r) m (Completing d)
       by_update Strategy.ReadWrite p (Some r) = complete_one d (Act.AfterUpdate k (Next.lock_id k d) r) refl refl refl refl m p f
@@ -413,7 +415,7 @@ module _ (script : Script) (s : ℕ) where
 
   good_plan : (m : Journal) → InOrder (plan_of script s) m → Good Ok Final (left_of (plan_of script s) m) m
   good_plan m o = good_left Ok Final (plan_of script s) m
-      (good_blocks Mode.Normal true (statements (slice_get script.sessions s)) [] (λ q y. y) refl (record { begun = refl; none = refl })) o
+      (good_blocks Mode.Normal true (option_map_or (λ d. d.statements) (slice_get script.sessions s) []) [] (λ q y. y) refl (record { begun = refl; none = refl })) o
 
   -- the act that is due is allowed
   pub allowed_due : (m : Journal) (a : Act) → InOrder (plan_of script s) m → next script s m ≡ Some a → IsAllowed script s m a

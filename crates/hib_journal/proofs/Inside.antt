@@ -1,13 +1,15 @@
 -- No session does an outside act.
+use Rattle.std.specs.Prelude.{is_some, option_and_then}
+use Rattle.std.specs.Option.{option_map_or}
 use Rattle.std.proofs.Common.{◌≡◌, ℕ, Bool, true, false, cond, List, [], ◌∷◌, ◌++◌, Some, None, Option, refl, slice_get, ◌&&◌}
 use Rattle.std.specs.List.{flat_map}
 use Rattle.hib_journal.specs.Types.{Key, Row, Change, Strategy, Mode, Statement, Script, Act, Reply, Checked, Entry}
 use Rattle.hib_journal.specs.Sessions.{Journal, changes_in, floor_in, time_in}
-use Rattle.hib_base.specs.Tables.{first_on, last_on}
+use Rattle.hib_base.specs.Tables.{first_on, last_on, row_left}
 use Rattle.hib_journal.specs.Held.{held, pending, is_fresh}
 use Rattle.hib_journal.specs.Plan.{Block, one, left_of, InOrder}
 use Rattle.hib_journal.specs.Next
-use Rattle.hib_journal.specs.Next.{strategy, plan_of, next, statements}
+use Rattle.hib_journal.specs.Next.{strategy, plan_of, next}
 use Rattle.hib_journal.specs.Legal.{is_outside}
 use Rattle.hib_journal.proofs.Plans.{Good, Runs, Allows, runs_each, runs_if, allows_join, AllRight, good_left, allowed_first}
 
@@ -57,7 +59,7 @@ module _ (script : Script) (mode : Mode) where
   goes_unless_hit k _ = goes_load k
 
   goes_find : (k : Key) → Goes (Next.find script mode k)
-  goes_find k = goes_if (λ d. Next.is_held (held d k)) (one (Act.Find k)) (Next.find_away script mode k) (goes_one (Act.Find k) refl)
+  goes_find k = goes_if (λ d. is_some (held d k)) (one (Act.Find k)) (Next.find_away script mode k) (goes_one (Act.Find k) refl)
       (goes_if (λ d. Next.may_read script mode k d) (Next.get script mode k) (Next.load script mode k)
       (λ m next g. (refl, λ e p r. goes_unless_hit k e.reply (e ∷ m) next g)) (goes_load k))
 
@@ -76,8 +78,8 @@ module _ (script : Script) (mode : Mode) where
 
       by_change : (c : Change) → Allows Ok Any (Next.before_write script d c) m Yes
       by_change (Change.Insert k r) = tt
-      by_change (Change.Update k v r) = by_test (Next.is_in k (changes_in d)) k (Next.fresh_version (is_fresh k d) v) m
-      by_change (Change.Delete k v) = by_test (Next.is_in k (changes_in d)) k (Next.fresh_version (is_fresh k d) v) m
+      by_change (Change.Update k v r) = by_test (Next.is_in k (changes_in d)) k (cond (is_fresh k d) v None) m
+      by_change (Change.Delete k v) = by_test (Next.is_in k (changes_in d)) k (cond (is_fresh k d) v None) m
 
   goes_flush : Goes (Next.flush script)
   goes_flush m = runs_each Ok Any (Next.flush_of script m (pending m)) m Yes (by_pending (pending m))
@@ -110,7 +112,7 @@ module _ (script : Script) (mode : Mode) where
       (λ n next g. (refl, λ e p r. goes_found q e.reply (e ∷ n) next g)) (goes_store q) n next g)
 
   allow_complete : (d : Journal) (x : Bool) (cs : List Change) (k : Key) → Allow (Next.complete script mode d x cs k)
-  allow_complete d x cs k = by_first (first_on k cs) (strategy script k.entity) (Next.puts_back (x && Next.mode_puts mode) (last_on k cs))
+  allow_complete d x cs k = by_first (first_on k cs) (strategy script k.entity) (cond (x && Next.mode_puts mode) (option_and_then row_left (last_on k cs)) None)
     where
       by_update : (g : Strategy) (r : Option Row) → Allow (Next.complete_update g k (Next.lock_id k d) r)
       by_update Strategy.ReadWrite (Some r) = allow_one (Act.AfterUpdate k (Next.lock_id k d) r) refl
@@ -180,4 +182,4 @@ all_right (e ∷ m) = (all_right m, tt)
 pub inside : (script : Script) (s : ℕ) (m : Journal) (a : Act) → InOrder (plan_of script s) m → next script s m ≡ Some a → is_outside a ≡ false
 unfolding next
 inside script s m a o p = allowed_first Ok Any (left_of (plan_of script s) m) m a
-    (good_left Ok Any (plan_of script s) m (good_blocks script Mode.Normal true (statements (slice_get script.sessions s)) []) o (all_right m)) p
+    (good_left Ok Any (plan_of script s) m (good_blocks script Mode.Normal true (option_map_or (λ d. d.statements) (slice_get script.sessions s) []) []) o (all_right m)) p

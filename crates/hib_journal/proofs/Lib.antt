@@ -5,3 +5,4 @@ pub mod Inside
 pub mod Open
 pub mod Slots
 pub mod Due
+pub mod Shapes

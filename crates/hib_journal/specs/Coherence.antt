@@ -1,6 +1,7 @@
 -- What the claims speak of besides the definitions: who holds a lock, who has committed, and what a session has seen.
-use Rattle.std.specs.Prelude.{◌≡◌, ℕ, ◌⊎◌, Bool, true, false, cond, ◌&&◌, ◌==◌, List, [], ◌∷◌, Some, None, Option}
-use Rattle.hib_journal.specs.Types.{Key, Row, Change, Commit, Act, Reply}
+use Rattle.std.specs.Prelude.{◌≡◌, ℕ, ◌⊎◌, Bool, true, false, cond, ◌&&◌, ◌==◌, List, [], ◌∷◌, Some, Option, option_and_then, option_to_list, ◌++◌}
+use Rattle.std.specs.Option.{option_map_or}
+use Rattle.hib_journal.specs.Types.{Key, Row, Commit, Act, Reply}
 use Rattle.hib_base.specs.Keys.{same_key}
 use Rattle.hib_base.specs.Tables.{Tables, row_at, row_left, last_on}
 use Rattle.hib_journal.specs.Sessions.{Journal, own, changes, committed, is_restart, is_by}
@@ -15,26 +16,18 @@ gives_back k (Act.Unlock j i) = same_key j k
 gives_back k (Act.AfterUpdate j i r) = same_key j k
 gives_back k _ = false
 
-abbrev pub with_one : Option ℕ → List ℕ → List ℕ
-with_one None xs = xs
-with_one (Some s) xs = s ∷ xs
-
 -- without the first s
 abbrev pub remove : ℕ → List ℕ → List ℕ
 remove s [] = []
 remove s (x ∷ xs) = cond (x == s) xs (x ∷ remove s xs)
-
-abbrev pub without_one : Option ℕ → List ℕ → List ℕ
-without_one None xs = xs
-without_one (Some s) xs = remove s xs
 
 -- the sessions that have locked k since the restart and have not given the lock back, killed ones included
 abbrev pub holders : Key → Journal → List ℕ
 holders k [] = []
 holders k (e ∷ h) =
     cond (is_restart e.act) []
-    (cond (takes k e.act) (with_one e.session (holders k h))
-    (cond (gives_back k e.act) (without_one e.session (holders k h)) (holders k h)))
+    (cond (takes k e.act) (option_to_list e.session ++ holders k h)
+    (cond (gives_back k e.act) (option_map_or (λ s. remove s (holders k h)) e.session (holders k h)) (holders k h)))
 
 abbrev pub done_after : Act → Reply → Bool → Bool
 done_after Act.Begin r d = false
@@ -49,13 +42,9 @@ done_in (e ∷ m) = done_after e.act e.reply (done_in m)
 abbrev pub is_done : ℕ → Journal → Bool
 is_done s h = done_in (own s h)
 
-abbrev pub row_by : Option Change → Option Row
-row_by None = None
-row_by (Some c) = row_left c
-
 -- the row that the last change of s on k leaves
 abbrev pub last_row : Key → ℕ → Journal → Option Row
-last_row k s h = row_by (last_on k (changes s h))
+last_row k s h = option_and_then row_left (last_on k (changes s h))
 
 abbrev pub Unless : Bool → Type 0 → Type 0
 Unless true P = ⊥

@@ -1,5 +1,6 @@
 -- What a session holds of a key, by its own entries alone. They are the newest first, as in a journal.
-use Rattle.std.specs.Prelude.{ℕ, ◌+◌, Bool, true, false, cond, not, ◌&&◌, ◌||◌, ◌==◌, List, [], ◌∷◌, ◌++◌, set, Some, None, Option}
+use Rattle.std.specs.Prelude.{ℕ, ◌+◌, Bool, true, false, cond, not, ◌&&◌, ◌||◌, ◌==◌, List, [], ◌∷◌, ◌++◌, set, Some, None, Option, unwrap_or, option_map, option_and_then}
+use Rattle.std.specs.Option.{option_map_or, option_or}
 use Rattle.std.specs.List.{filter, list_any, filter_map}
 use Rattle.hib_journal.specs.Types.{Key, Row, Cell, Change, Commit, State, Act, Reply, Entry}
 use Rattle.hib_base.specs.Keys.{same_key}
@@ -38,8 +39,7 @@ abbrev pub Stay : Type 0
 Stay = Arrival × Journal
 
 abbrev pub longer : Entry → Option Stay → Option Stay
-longer e None = None
-longer e (Some s) = Some (s.0, e ∷ s.1)
+longer e o = option_map (λ s. (s.0, e ∷ s.1)) o
 
 abbrev pub stay_after : Key → Entry → Option Arrival → Option Stay → Option Stay
 stay_after k e None s = longer e s
@@ -82,16 +82,12 @@ abbrev pub has_left : Key → Stay → Bool
 has_left k (Arrival.Read j r, m) = list_any (λ e. deletes k e.act) m
 has_left k (Arrival.Made j r, m) = list_any (λ e. deletes k e.act) m || is_undone k m
 
-abbrev pub or_row : Option Row → Option Row → Option Row
-or_row None r = r
-or_row (Some x) r = Some x
-
 abbrev pub last_written : Key → Journal → Option Row
 last_written k [] = None
-last_written k (e ∷ m) = or_row (row_written k e.act) (last_written k m)
+last_written k (e ∷ m) = option_or (row_written k e.act) (last_written k m)
 
 abbrev pub base_of : Key → Stay → Option Row
-base_of k (Arrival.Read j r, m) = or_row (last_written k m) (Some r)
+base_of k (Arrival.Read j r, m) = option_or (last_written k m) (Some r)
 base_of k (Arrival.Made j r, m) = last_written k m
 
 abbrev pub with_cells : List (ℕ × Cell) → List Cell → List Cell
@@ -106,10 +102,6 @@ cells_after k _ _ cs = cs
 abbrev pub cells_set : Key → Journal → List Cell → List Cell
 cells_set k [] cs = cs
 cells_set k (e ∷ m) cs = cells_after k e.act e.reply (cells_set k m cs)
-
-abbrev pub version_of : Option Row → Row → Option ℕ
-version_of None made = made.version
-version_of (Some base) made = base.version
 
 abbrev pub state_of : Option Row → Bool → State
 state_of None removed = State.New
@@ -128,28 +120,20 @@ instance_of k s = record {
   key = k;
   state = state_of (base_of k s) (is_removed k s.1);
   base = base_of k s;
-  row = record { version = version_of (base_of k s) (arrived_row s.0); cells = cells_set k s.1 (arrived_row s.0).cells };
+  row = record { version = (unwrap_or (base_of k s) (arrived_row s.0)).version; cells = cells_set k s.1 (arrived_row s.0).cells };
 }
-
-abbrev pub held_by : Key → Option Stay → Option Instance
-held_by k None = None
-held_by k (Some s) = cond (has_left k s) None (Some (instance_of k s))
 
 -- what the session holds of k, or none
 unfoldable pub held : Journal → Key → Option Instance
-held m k = held_by k (stay k m)
+held m k = option_and_then (λ s. cond (has_left k s) None (Some (instance_of k s))) (stay k m)
 
 abbrev pub without_key : Key → List Key → List Key
 without_key k ks = filter (λ j. not (same_key j k)) ks
 
-abbrev pub key_arrived : Option Arrival → List Key → List Key
-key_arrived None ks = ks
-key_arrived (Some a) ks = without_key (arrived_key a) ks ++ arrived_key a ∷ []
-
 -- the keys that arrived, in order of their last arrival
 abbrev pub arrived : Journal → List Key
 arrived [] = []
-arrived (e ∷ m) = key_arrived (arrival e.act e.reply) (arrived m)
+arrived (e ∷ m) = option_map_or (λ a. without_key (arrived_key a) (arrived m) ++ arrived_key a ∷ []) (arrival e.act e.reply) (arrived m)
 
 abbrev pub key_removed : Act → Reply → List Key → List Key
 key_removed (Act.Remove k) Reply.Removed ks = without_key k ks ++ k ∷ []
@@ -168,16 +152,11 @@ same_cells (x ∷ xs) (y ∷ ys) = same_cell x y && same_cells xs ys
 
 -- the version after one more update
 abbrev pub next_version : Option ℕ → Option ℕ
-next_version None = None
-next_version (Some v) = Some (cond (v == 4294967295) v (v + 1))
+next_version version = option_map (λ v. cond (v == 4294967295) v (v + 1)) version
 
 abbrev pub insert_by : State → Key → Row → Option Change
 insert_by State.New k r = Some (Change.Insert k r)
 insert_by _ k r = None
-
-abbrev pub insert_of : Option Instance → Option Change
-insert_of None = None
-insert_of (Some i) = insert_by i.state i.key i.row
 
 abbrev pub update_by : State → Key → Row → Option Row → Option Change
 update_by State.Managed k r (Some b) =
@@ -185,23 +164,16 @@ update_by State.Managed k r (Some b) =
     (Some (Change.Update k b.version (record { version = next_version b.version; cells = r.cells })))
 update_by _ k r b = None
 
-abbrev pub update_of : Option Instance → Option Change
-update_of None = None
-update_of (Some i) = update_by i.state i.key i.row i.base
-
 abbrev pub delete_by : State → Key → Option Row → Option Change
 delete_by State.Removed k (Some b) = Some (Change.Delete k b.version)
 delete_by _ k b = None
 
-abbrev pub delete_of : Option Instance → Option Change
-delete_of None = None
-delete_of (Some i) = delete_by i.state i.key i.base
-
 -- the changes that a flush would write: inserts, then updates in order of arrival, then deletes in order of removal
 unfoldable pub pending : Journal → List Change
 pending m =
-    filter_map (λ k. insert_of (held m k)) (arrived m) ++ filter_map (λ k. update_of (held m k)) (arrived m)
-    ++ filter_map (λ k. delete_of (held m k)) (removed m)
+    filter_map (λ k. option_and_then (λ i. insert_by i.state i.key i.row) (held m k)) (arrived m)
+    ++ filter_map (λ k. option_and_then (λ i. update_by i.state i.key i.row i.base) (held m k)) (arrived m)
+    ++ filter_map (λ k. option_and_then (λ i. delete_by i.state i.key i.base) (held m k)) (removed m)
 
 -- the entry that gave the base is later than the last Begin
 abbrev pub is_begin : Act → Bool

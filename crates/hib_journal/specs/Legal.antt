@@ -1,16 +1,17 @@
 -- Legal journals: each entry is the next act of its session, in its part, with the reply that the parts give.
-use Rattle.std.specs.Prelude.{◌≡◌, ℕ, ◌+◌, ◌⊎◌, Bool, true, false, cond, not, ◌||◌, List, [], ◌∷◌, length, slice_get, IsSome, Some, None, Option}
-use Rattle.hib_journal.specs.Types.{Key, Row, Change, Commit, State, Outcome, Strategy, Query, Script, Part, Act, Reply, Entry}
+use Rattle.std.specs.Prelude.{◌≡◌, ℕ, ◌+◌, ◌⊎◌, Bool, true, false, cond, not, ◌||◌, List, [], ◌∷◌, length, slice_get, IsSome, Some, None, Option, is_some, unwrap_or, option_map, option_and_then, ◌==◌}
+use Rattle.std.specs.Option.{option_map_or}
+use Rattle.hib_journal.specs.Types.{Key, Row, Change, Commit, State, Outcome, Strategy, Script, Part, Act, Reply, Inserted, Evicted, Entry}
 use Rattle.hib_base.specs.Tables.{Tables, row_at, after_changes, commit_answer}
 use Rattle.hib_journal.specs.Sessions.{Journal, own, floor, changes, is_open, was_killed, committed, IsTimely}
-use Rattle.hib_journal.specs.Slot.{slot, history}
+use Rattle.hib_journal.specs.Slot.{slot, history, key_in}
 use Rattle.hib_journal.specs.Room.{room, item, oldest}
 use Rattle.hib_journal.specs.Regions
 use Rattle.hib_journal.specs.Stamps.{check}
-use Rattle.hib_journal.specs.Results.{result, found, dropped}
+use Rattle.hib_journal.specs.Results.{result, dropped}
 use Rattle.hib_journal.specs.Query.{gives}
 use Rattle.hib_journal.specs.Held.{Instance, held}
-use Rattle.hib_journal.specs.Next.{next, strategy, is_cached, capacity, is_in, is_held, tables_of}
+use Rattle.hib_journal.specs.Next.{next, strategy, is_cached, capacity, is_in, tables_of}
 
 -- own acts
 
@@ -19,16 +20,7 @@ unless_removed State.Removed r = None
 unless_removed _ r = Some r
 
 abbrev pub row_of : Option Instance → Option Row
-row_of None = None
-row_of (Some i) = unless_removed i.state i.row
-
-abbrev pub is_there : Option Row → Bool
-is_there None = false
-is_there (Some r) = true
-
-abbrev pub persisted : Bool → Reply
-persisted true = Reply.Known
-persisted false = Reply.New
+row_of held = option_and_then (λ i. unless_removed i.state i.row) held
 
 abbrev pub set_unless : Strategy → Reply
 set_unless Strategy.ReadOnly = Reply.ReadOnly
@@ -65,15 +57,12 @@ put_reply _ script h k r t f = Reply.Put (Regions.put_item (oldest (capacity scr
 abbrev pub insert_reply : Strategy → Script → Journal → Key → ℕ → Reply
 insert_reply Strategy.ReadWrite script h k f =
     Reply.Inserted (Regions.after_insert (slot script.timeout k h) (room_for script h k f))
-insert_reply _ script h k f = Reply.Inserted (Regions.insert_item (oldest (capacity script k.entity) k.entity h) (item (history k h)))
+insert_reply _ script h k f =
+    Reply.Inserted (cond (is_some (item (history k h))) Inserted.Present (Inserted.Stored (oldest (capacity script k.entity) k.entity h)))
 
 abbrev pub evict_reply : Strategy → Script → Journal → Key → Reply
 evict_reply Strategy.ReadWrite script h k = Reply.Evicted (Regions.evict (slot script.timeout k h))
-evict_reply _ script h k = Reply.Evicted (Regions.evict_item (item (history k h)))
-
-abbrev pub list_reply : Option Query → Tables → Reply
-list_reply None t = Reply.Fault
-list_reply (Some q) t = Reply.Listed (gives q t)
+evict_reply _ script h k = Reply.Evicted (cond (is_some (item (history k h))) Evicted.Gone Evicted.Absent)
 
 -- the reply to an act of session s at a tick, over its changes, the committed rows and the journal before it
 abbrev pub reply_by : Script → List Change → Tables → Journal → ℕ → ℕ → Act → Reply
@@ -82,20 +71,21 @@ reply_by script cs rows h s now Act.End = Reply.Ended (outcome (own s h))
 reply_by script cs rows h s now (Act.Kill n) = Reply.Done
 reply_by script cs rows h s now Act.Restart = Reply.Done
 reply_by script cs rows h s now (Act.Find k) = Reply.Row (row_of (held (own s h) k))
-reply_by script cs rows h s now (Act.Persist k r) = persisted (is_held (held (own s h) k) || is_in k cs)
+reply_by script cs rows h s now (Act.Persist k r) = cond (is_some (held (own s h) k) || is_in k cs) Reply.Known Reply.New
 reply_by script cs rows h s now (Act.Set k cells) =
-    cond (is_there (row_of (held (own s h) k))) (set_unless (strategy script k.entity)) Reply.Unknown
-reply_by script cs rows h s now (Act.Remove k) = cond (is_there (row_of (held (own s h) k))) Reply.Removed Reply.Unknown
+    cond (is_some (row_of (held (own s h) k))) (set_unless (strategy script k.entity)) Reply.Unknown
+reply_by script cs rows h s now (Act.Remove k) = cond (is_some (row_of (held (own s h) k))) Reply.Removed Reply.Unknown
 reply_by script cs rows h s now Act.Clear = Reply.Cleared
 reply_by script cs rows h s now (Act.Load k) = Reply.Row (row_at (after_changes cs rows) k)
-reply_by script cs rows h s now (Act.List q) = list_reply (slice_get script.queries q) (after_changes cs rows)
+reply_by script cs rows h s now (Act.List q) =
+    option_map_or (λ d. Reply.Listed (gives d (after_changes cs rows))) (slice_get script.queries q) Reply.Fault
 reply_by script cs rows h s now (Act.Write c) = Reply.Written
 reply_by script cs rows h s now Act.Commit = Reply.Commit (commit_answer cs rows)
 reply_by script cs rows h s now Act.Rollback = Reply.Done
 reply_by script cs rows h s now (Act.Pre ts) = Reply.Stamped (now + script.timeout)
 reply_by script cs rows h s now (Act.Stamp ts) = Reply.Stamped now
 reply_by script cs rows h s now (Act.Check q t) = Reply.Check (check script.timeout t (tables_of script q) h)
-reply_by script cs rows h s now (Act.Look q) = found (result script.results q h)
+reply_by script cs rows h s now (Act.Look q) = option_map_or (λ r. Reply.Found r.0 r.1) (result script.results q h) Reply.Absent
 reply_by script cs rows h s now (Act.Keep q t l) = Reply.Kept (dropped script.results (length script.queries) q h)
 reply_by script cs rows h s now (Act.Get k t) = get_reply (strategy script k.entity) script h k t
 reply_by script cs rows h s now (Act.Put k r t f) = put_reply (strategy script k.entity) script h k r t f
@@ -103,36 +93,24 @@ reply_by script cs rows h s now (Act.Lock k v f) = Reply.Locked (Regions.lock sc
 reply_by script cs rows h s now (Act.Unlock k i) = Reply.Unlocked (Regions.unlock (slot script.timeout k h) i)
 reply_by script cs rows h s now (Act.AfterInsert k r f) = insert_reply (strategy script k.entity) script h k f
 reply_by script cs rows h s now (Act.AfterUpdate k i r) = Reply.Updated (Regions.after_update (slot script.timeout k h) i)
-reply_by script cs rows h s now (Act.RegionRemove k) = Regions.remove_item (item (history k h))
+reply_by script cs rows h s now (Act.RegionRemove k) = cond (is_some (item (history k h))) Reply.Dropped Reply.Absent
 reply_by script cs rows h s now (Act.Evict k) = evict_reply (strategy script k.entity) script h k
 
 abbrev pub reply_of : Script → Tables → Journal → ℕ → ℕ → Act → Reply
 reply_of script start h s now a = reply_by script (changes s h) (committed start h) h s now a
 
-abbrev pub fault_unless : Bool → Reply → Option Reply
-fault_unless true r = None
-fault_unless false r = Some r
-
-abbrev pub is_empty : List Change → Bool
-is_empty [] = true
-is_empty _ = false
-
 -- the fault that may be answered: to a Load of a key that the session has not changed, a List, a Commit of some changes
 abbrev pub fault_of : List Change → Act → Option Reply
-fault_of cs (Act.Load k) = fault_unless (is_in k cs) Reply.Fault
+fault_of cs (Act.Load k) = cond (is_in k cs) None (Some Reply.Fault)
 fault_of cs (Act.List q) = Some Reply.Fault
-fault_of cs Act.Commit = fault_unless (is_empty cs) (Reply.Commit Commit.Fault)
+fault_of cs Act.Commit = cond (length cs == 0) None (Some (Reply.Commit Commit.Fault))
 fault_of cs _ = None
-
-abbrev pub number : Option ℕ → ℕ
-number None = 0
-number (Some s) = s
 
 -- the replies that hang on the committed rows, by the session's changes
 abbrev pub is_told : List Change → Act → Bool
 is_told cs (Act.Load k) = not (is_in k cs)
 is_told cs (Act.List q) = true
-is_told cs Act.Commit = not (is_empty cs)
+is_told cs Act.Commit = not (length cs == 0)
 is_told cs _ = false
 
 -- a reply of the kind that the store gives
@@ -157,19 +135,15 @@ IsReplyBy (Some start) cs reply e = IsAnswerBy cs (reply start) e
 IsReplyBy None cs reply e = (is_of_store e.act e.reply ≡ true) × (is_told cs e.act ≡ false → IsAnswerBy cs (reply []) e)
 
 abbrev pub IsAnswer : Script → Tables → Journal → Entry → Type 0
-IsAnswer script start h e = IsAnswerBy (changes (number e.session) h) (reply_of script start h (number e.session) e.tick e.act) e
+IsAnswer script start h e = IsAnswerBy (changes (unwrap_or e.session 0) h) (reply_of script start h (unwrap_or e.session 0) e.tick e.act) e
 
 -- the reply that is due
 abbrev pub IsReply : Script → Option Tables → Journal → Entry → Type 0
 IsReply script told h e =
-    IsReplyBy told (changes (number e.session) h) (λ start. reply_of script start h (number e.session) e.tick e.act) e
+    IsReplyBy told (changes (unwrap_or e.session 0) h) (λ start. reply_of script start h (unwrap_or e.session 0) e.tick e.act) e
 
--- the part of an act
+-- the part of an act of session s: what names a key of a region goes to that region, and what is left to the registry
 abbrev pub part_of : Act → ℕ → Part
-part_of Act.Begin s = Part.Registry
-part_of Act.End s = Part.Registry
-part_of (Act.Kill n) s = Part.Registry
-part_of Act.Restart s = Part.Registry
 part_of (Act.Find k) s = Part.Own s
 part_of (Act.Persist k r) s = Part.Own s
 part_of (Act.Set k cells) s = Part.Own s
@@ -185,14 +159,7 @@ part_of (Act.Stamp ts) s = Part.Stamps
 part_of (Act.Check q t) s = Part.Stamps
 part_of (Act.Look q) s = Part.Results
 part_of (Act.Keep q t l) s = Part.Results
-part_of (Act.Get k t) s = Part.Region k.entity
-part_of (Act.Put k r t f) s = Part.Region k.entity
-part_of (Act.Lock k v f) s = Part.Region k.entity
-part_of (Act.Unlock k i) s = Part.Region k.entity
-part_of (Act.AfterInsert k r f) s = Part.Region k.entity
-part_of (Act.AfterUpdate k i r) s = Part.Region k.entity
-part_of (Act.RegionRemove k) s = Part.Region k.entity
-part_of (Act.Evict k) s = Part.Region k.entity
+part_of a s = option_map_or (λ k. Part.Region k.entity) (key_in a) Part.Registry
 
 -- the acts that no session does
 abbrev pub is_outside : Act → Bool
@@ -209,10 +176,6 @@ due_by script h None a = cond (is_outside a) (Some a) None
 abbrev pub due : Script → Journal → Entry → Option Act
 due script h e = due_by script h e.session e.act
 
-abbrev pub part_due : Option Act → ℕ → Option Part
-part_due None s = None
-part_due (Some a) s = Some (part_of a s)
-
 -- a kill names an open session, an evict a cached entity
 abbrev pub may_come : Script → Journal → Option Act → Option Act
 may_come script h (Some (Act.Kill n)) = cond (is_open n h) (Some (Act.Kill n)) None
@@ -223,7 +186,7 @@ may_come script h a = a
 pub record IsStep (script : Script) (told : Option Tables) (h : Journal) (e : Entry) : Type 0 where
   pub tick : IsTimely e h
   pub session : IsSome (due script h e)
-  pub part : part_due (due script h e) (number e.session) ≡ Some e.part
+  pub part : option_map (λ a. part_of a (unwrap_or e.session 0)) (due script h e) ≡ Some e.part
   pub act : may_come script h (due script h e) ≡ Some e.act
   pub reply : IsReply script told h e
 

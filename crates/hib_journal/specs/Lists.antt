@@ -1,9 +1,9 @@
 -- Lists of entries read by one part: the whole journal, or the part's own entries. The entries of other parts are skipped.
-use Rattle.std.specs.Prelude.{◌≡◌, ◌<◌, ◌||◌, ℕ, Bool, true, false, cond, ◌==◌, List, [], ◌∷◌, Some, None, Option}
+use Rattle.std.specs.Prelude.{◌≡◌, ◌<◌, ◌||◌, ℕ, Bool, true, false, cond, ◌==◌, List, [], ◌∷◌, Some, None, Option, unwrap_or}
 use Rattle.hib_journal.specs.Types.{Change, Script, Act, Reply, Part, Entry}
 use Rattle.hib_base.specs.Tables.{Tables, after_changes}
 use Rattle.hib_journal.specs.Sessions.{Journal, is_session, deferred_after, committer, same_part, last_tick}
-use Rattle.hib_journal.specs.Legal.{IsReplyBy, reply_by, reply_of, part_of, number}
+use Rattle.hib_journal.specs.Legal.{IsReplyBy, reply_by, reply_of, part_of}
 
 -- the entries of a part
 abbrev pub of_part : Part → Journal → Journal
@@ -27,11 +27,11 @@ IsLate p now l = last_tick (λ d. same_part p d.part) l < now
 
 -- the entry of an act that was answered at a tick, of a session or from outside
 abbrev pub entry_at : ℕ → Option ℕ → Act → Reply → Entry
-entry_at now by a r = record { tick = now; session = by; part = part_of a (number by); act = a; reply = r }
+entry_at now by a r = record { tick = now; session = by; part = part_of a (unwrap_or by 0); act = a; reply = r }
 
 -- the reply that the definitions give over a list, whatever rows were committed
 abbrev pub IsReplyOf : Script → Journal → Option ℕ → ℕ → Act → Reply → Type 0
-IsReplyOf script l by now a r = (start : Tables) → r ≡ reply_of script start l (number by) now a
+IsReplyOf script l by now a r = (start : Tables) → r ≡ reply_of script start l (unwrap_or by 0) now a
 
 abbrev pub unsaved_after : ℕ → Option ℕ → Act → List Change → List Change
 unsaved_after s by (Act.Kill n) cs = cond (n == s) [] cs
@@ -55,5 +55,5 @@ stored start (e ∷ l) = stored_by (committer e.act e.reply e.session) l (stored
 -- the reply that is due, by what the store deferred and stored
 abbrev pub IsStoreReply : Script → Option Tables → Journal → Entry → Type 0
 IsStoreReply script told l e =
-    IsReplyBy told (unsaved (number e.session) l)
-    (λ start. reply_by script (unsaved (number e.session) l) (stored start l) l (number e.session) e.tick e.act) e
+    IsReplyBy told (unsaved (unwrap_or e.session 0) l)
+    (λ start. reply_by script (unsaved (unwrap_or e.session 0) l) (stored start l) l (unwrap_or e.session 0) e.tick e.act) e

@@ -1,13 +1,14 @@
 -- The acts of a session: Begin, and then a block for each statement.
-use Rattle.std.specs.Prelude.{ℕ, Bool, true, false, cond, not, ◌&&◌, ◌==◌, List, [], ◌∷◌, ◌++◌, length, slice_get, Some, None, Option}
+use Rattle.std.specs.Prelude.{ℕ, Bool, true, false, cond, not, ◌&&◌, ◌==◌, List, [], ◌∷◌, ◌++◌, length, slice_get, Some, None, Option, is_some, option_and_then}
+use Rattle.std.specs.Option.{option_map_or}
 use Rattle.std.specs.List.{filter, flat_map, list_any, range_with_len}
-use Rattle.hib_journal.specs.Types.{Key, Row, Change, Commit, Strategy, EntityDef, Mode, Query, Statement, SessionDef, Script, Act, Reply, Checked}
+use Rattle.hib_journal.specs.Types.{Key, Row, Change, Commit, Strategy, Mode, Statement, Script, Act, Reply, Checked}
 use Rattle.hib_base.specs.Keys.{same_key}
 pub use Rattle.hib_base.specs.Scripts.{strategy_in, is_cached_by, mode_reads, mode_puts, ends}
 use Rattle.hib_base.specs.Tables.{key_of, row_left, last_on, first_on}
 use Rattle.hib_journal.specs.Sessions.{Journal, time_in, floor_in, changes_in}
 use Rattle.hib_journal.specs.Query.{tables}
-use Rattle.hib_journal.specs.Held.{Instance, held, pending, is_fresh}
+use Rattle.hib_journal.specs.Held.{held, pending, is_fresh}
 use Rattle.hib_journal.specs.Plan.{Plan, Block, one, each, left_of, first_act}
 
 -- what the mapping says of an entity
@@ -17,19 +18,11 @@ strategy script n = strategy_in (slice_get script.mapping n)
 abbrev pub is_cached : Script → ℕ → Bool
 is_cached script n = is_cached_by (strategy script n)
 
-abbrev pub is_versioned_in : Option EntityDef → Bool
-is_versioned_in None = false
-is_versioned_in (Some d) = d.versioned
-
-abbrev pub capacity_in : Option EntityDef → ℕ
-capacity_in None = 0
-capacity_in (Some d) = d.capacity
-
 abbrev pub capacity : Script → ℕ → ℕ
-capacity script n = capacity_in (slice_get script.mapping n)
+capacity script n = option_map_or (λ d. d.capacity) (slice_get script.mapping n) 0
 
 abbrev pub first_version : Script → ℕ → Option ℕ
-first_version script n = cond (is_versioned_in (slice_get script.mapping n)) (Some 0) None
+first_version script n = cond (option_map_or (λ d. d.versioned) (slice_get script.mapping n) false) (Some 0) None
 
 abbrev pub is_in : Key → List Change → Bool
 is_in k cs = list_any (λ c. same_key (key_of c) k) cs
@@ -40,10 +33,6 @@ is_in_tables ts cs = list_any (λ c. list_any (λ t. (key_of c).entity == t) ts)
 -- the entities of a list of changes, in the mapping's order
 abbrev pub tables_in : Script → List Change → List ℕ
 tables_in script cs = filter (λ n. list_any (λ c. (key_of c).entity == n) cs) (range_with_len 0 (length script.mapping))
-
-abbrev pub is_held : Option Instance → Bool
-is_held None = false
-is_held (Some i) = true
 
 -- find
 
@@ -73,7 +62,7 @@ abbrev pub find_away : Script → Mode → Key → Block
 find_away script m k done go = cond (may_read script m k done) (get script m k done go) (load script m k done go)
 
 abbrev pub find : Script → Mode → Key → Block
-find script m k done go = cond (is_held (held done k)) (one (Act.Find k) done go) (find_away script m k done go)
+find script m k done go = cond (is_some (held done k)) (one (Act.Find k) done go) (find_away script m k done go)
 
 -- flush
 
@@ -82,14 +71,10 @@ before_cached Strategy.ReadWrite k v floor = Act.Lock k v floor ∷ []
 before_cached Strategy.Uncached k v floor = []
 before_cached _ k v floor = Act.RegionRemove k ∷ []
 
-abbrev pub fresh_version : Bool → Option ℕ → Option ℕ
-fresh_version true v = v
-fresh_version false v = None
-
 abbrev pub before_key : Script → Journal → Key → Option ℕ → List Act
 before_key script past k v =
     cond (is_in k (changes_in past)) []
-    (before_cached (strategy script k.entity) k (fresh_version (is_fresh k past) v) (floor_in past))
+    (before_cached (strategy script k.entity) k (cond (is_fresh k past) v None) (floor_in past))
 
 -- what comes before the write of a change: a lock, or the removal of an item
 abbrev pub before_write : Script → Journal → Change → List Act
@@ -109,21 +94,14 @@ flush script done go = each (flush_of script done (pending done)) done go
 
 -- list
 
-abbrev pub tables_by : Script → Option Query → List ℕ
-tables_by script None = []
-tables_by script (Some d) = tables (length script.mapping) d
-
 -- the tables of a query, in the mapping's order
 abbrev pub tables_of : Script → ℕ → List ℕ
-tables_of script q = tables_by script (slice_get script.queries q)
-
-abbrev pub is_cached_query : Option Query → Bool
-is_cached_query None = false
-is_cached_query (Some d) = d.cached
+tables_of script q = option_map_or (tables (length script.mapping)) (slice_get script.queries q) []
 
 abbrev pub is_free : Script → ℕ → Bool → Journal → Bool
 is_free script q by_mode done =
-    is_cached_query (slice_get script.queries q) && (by_mode && not (is_in_tables (tables_of script q) (changes_in done)))
+    option_map_or (λ d. d.cached) (slice_get script.queries q) false
+    && (by_mode && not (is_in_tables (tables_of script q) (changes_in done)))
 
 abbrev pub keep_listed : Script → Mode → ℕ → Reply → Block
 keep_listed script m q (Reply.Listed l) done go =
@@ -171,11 +149,6 @@ abbrev pub is_committed_reply : Reply → Bool
 is_committed_reply (Reply.Commit Commit.Committed) = true
 is_committed_reply _ = false
 
-abbrev pub puts_back : Bool → Option Change → Option Row
-puts_back false c = None
-puts_back true None = None
-puts_back true (Some c) = row_left c
-
 abbrev pub complete_insert : Strategy → Key → Option Row → ℕ → List Act
 complete_insert Strategy.ReadOnly k (Some r) floor = Act.AfterInsert k r floor ∷ []
 complete_insert Strategy.ReadWrite k (Some r) floor = Act.AfterInsert k r floor ∷ []
@@ -199,7 +172,7 @@ complete_by (Some c) g k i floor r = complete_update g k i r
 abbrev pub complete : Script → Mode → Journal → Bool → List Change → Key → List Act
 complete script m past done cs k =
     complete_by (first_on k cs) (strategy script k.entity) k (lock_id k past) (floor_in past)
-    (puts_back (done && mode_puts m) (last_on k cs))
+    (cond (done && mode_puts m) (option_and_then row_left (last_on k cs)) None)
 
 abbrev pub add_key : Key → List Key → List Key
 add_key k ks = k ∷ filter (λ j. not (same_key j k)) ks
@@ -253,12 +226,8 @@ blocks script m due [] done = Plan.Over
 blocks script m due (st ∷ sts) done =
     begin_if due done (λ d. block script m st d (λ x. blocks script (mode_after st m) (ends st) sts x))
 
-abbrev pub statements : Option SessionDef → List Statement
-statements None = []
-statements (Some d) = d.statements
-
 abbrev pub plan_of : Script → ℕ → Plan
-plan_of script s = blocks script Mode.Normal true (statements (slice_get script.sessions s)) []
+plan_of script s = blocks script Mode.Normal true (option_map_or (λ d. d.statements) (slice_get script.sessions s) []) []
 
 -- the next act of session s, by its own entries, the newest first
 unfoldable pub next : Script → ℕ → Journal → Option Act

@@ -1,5 +1,6 @@
 -- What a query gives over tables.
-use Rattle.std.specs.Prelude.{ℕ, Bool, true, false, cond, not, ◌&&◌, ◌||◌, ◌==◌, nat_lt, List, [], ◌∷◌, length, map, take, drop, pos, int_lt, int_le, slice_get, Some, None, Option}
+use Rattle.std.specs.Prelude.{ℕ, Bool, true, false, cond, not, ◌&&◌, ◌||◌, ◌==◌, nat_lt, List, [], ◌∷◌, length, map, take, drop, pos, int_lt, int_le, slice_get, Some, None, Option, unwrap_or, option_and_then}
+use Rattle.std.specs.Option.{option_map_or}
 use Rattle.std.specs.List.{filter, list_any, range_with_len}
 use Rattle.std.specs.Str.{bytes_eq}
 use Rattle.hib_journal.specs.Types.{Key, Row, Cell, Op, Path, Target, Cond, Sort, Select, Query}
@@ -39,32 +40,20 @@ abbrev pub row_of_ref : Tables → ℕ → Option Cell → Option Row
 row_of_ref t n (Some (Cell.Int (pos i))) = row_at t (key n i)
 row_of_ref t n _ = None
 
-abbrev pub cell_in : ℕ → Option Row → Option Cell
-cell_in c None = None
-cell_in c (Some r) = slice_get r.cells c
-
 abbrev pub cell_by : Tables → Row → ℕ → Option Target → Option Cell
 cell_by t r c None = slice_get r.cells c
-cell_by t r c (Some g) = cell_in g.column (row_of_ref t g.entity (slice_get r.cells c))
+cell_by t r c (Some g) = option_and_then (λ x. slice_get x.cells g.column) (row_of_ref t g.entity (slice_get r.cells c))
 
 -- the cell at a path, or none where the row to which it steps is missing
 abbrev pub cell_at : Tables → Row → Path → Option Cell
 cell_at t r p = cell_by t r p.column p.target
 
-abbrev pub if_cell : (Cell → Bool) → Option Cell → Bool
-if_cell p None = false
-if_cell p (Some c) = p c
-
 abbrev pub holds : Tables → Row → Cond → Bool
 holds t r (Cond.And' p a q b) = holds t r a && holds t r b
 holds t r (Cond.Or' p a q b) = holds t r a || holds t r b
 holds t r (Cond.Not' p a) = not (holds t r a)
-holds t r (Cond.Test op p c) = if_cell (λ d. passes op d c) (cell_at t r p)
-holds t r (Cond.Among p cs) = if_cell (λ d. list_any (λ c. same_cell d c) cs) (cell_at t r p)
-
-abbrev pub meets : Tables → Row → Option Cond → Bool
-meets t r None = true
-meets t r (Some c) = holds t r c
+holds t r (Cond.Test op p c) = option_map_or (λ d. passes op d c) (cell_at t r p) false
+holds t r (Cond.Among p cs) = option_map_or (λ d. list_any (λ c. same_cell d c) cs) (cell_at t r p) false
 
 abbrev pub is_below_at : Option Cell → Option Cell → Bool
 is_below_at (Some a) (Some b) = is_below_cell a b
@@ -88,40 +77,28 @@ sorted os (a ∷ bs) = placed os a (sorted os bs)
 
 -- the rows that the condition lists
 abbrev pub listed : Query → Tables → Tables
-listed q t = filter (λ a. (a.0.entity == q.entity) && meets t a.1 q.condition) t
-
-abbrev pub or_false : Option Cell → Cell
-or_false None = Cell.Bool false
-or_false (Some c) = c
+listed q t = filter (λ a. (a.0.entity == q.entity) && option_map_or (holds t a.1) q.condition true) t
 
 abbrev pub selected : Query → Tables → Select → List Cell
 selected q rows Select.Count = Cell.Int (pos (length rows)) ∷ []
 selected q rows Select.Ids = map (λ a. Cell.Int (pos a.0.id)) (take q.limit (drop q.offset (sorted q.order rows)))
 selected q rows (Select.Column c) =
-    map (λ a. or_false (slice_get a.1.cells c)) (take q.limit (drop q.offset (sorted q.order rows)))
+    map (λ a. unwrap_or (slice_get a.1.cells c) (Cell.Bool false)) (take q.limit (drop q.offset (sorted q.order rows)))
 
 -- what a query gives over tables
 unfoldable pub gives : Query → Tables → List Cell
 gives q t = selected q (listed q t) q.select
 
-abbrev pub steps_to : ℕ → Option Target → Bool
-steps_to n None = false
-steps_to n (Some g) = g.entity == n
-
 abbrev pub mentions : ℕ → Cond → Bool
 mentions n (Cond.And' p a q b) = mentions n a || mentions n b
 mentions n (Cond.Or' p a q b) = mentions n a || mentions n b
 mentions n (Cond.Not' p a) = mentions n a
-mentions n (Cond.Test op p c) = steps_to n p.target
-mentions n (Cond.Among p cs) = steps_to n p.target
-
-abbrev pub mentions_in : ℕ → Option Cond → Bool
-mentions_in n None = false
-mentions_in n (Some c) = mentions n c
+mentions n (Cond.Test op p c) = option_map_or (λ g. g.entity == n) p.target false
+mentions n (Cond.Among p cs) = option_map_or (λ g. g.entity == n) p.target false
 
 -- whether a query reads table n: its entity, or the target of a step
 abbrev pub reads : Query → ℕ → Bool
-reads q n = (q.entity == n) || mentions_in n q.condition
+reads q n = (q.entity == n) || option_map_or (mentions n) q.condition false
 
 -- its tables, in the mapping's order
 abbrev pub tables : ℕ → Query → List ℕ

@@ -1,6 +1,6 @@
 -- What is said of a whole run: its ticks, its committed rows, how often its store may have asked the keeper, and how often that failed; and
 -- what was evicted.
-use Rattle.std.specs.Prelude.{◌≡◌, ℕ, ◌+◌, Bool, true, false, not, [], ◌∷◌, List, length, Some, None, Option}
+use Rattle.std.specs.Prelude.{◌≡◌, ℕ, ◌+◌, Bool, true, false, not, [], ◌∷◌, List, length, Some, None, Option, unwrap_or, cond}
 use Rattle.std.specs.List.{list_all}
 use Rattle.std.specs.Option.{option_map}
 use Rattle.hib_base.specs.Fits.{is_identifier}
@@ -8,7 +8,6 @@ use Rattle.hib_journal.specs.Types.{Change, Commit, Act, Reply, Entry}
 use Rattle.hib_base.specs.Tables.{Tables}
 use Rattle.hib_journal.specs.Sessions.{Journal, changes, committed}
 use Rattle.hib_journal.specs.Next.{is_in}
-use Rattle.hib_journal.specs.Legal.{number}
 
 -- the k-th entry has tick k
 abbrev pub IsNumbered : Journal → Type 0
@@ -19,10 +18,6 @@ IsNumbered (e ∷ h) = (e.tick ≡ length h + 1) × IsNumbered h
 abbrev pub told_committed : Option Tables → Journal → Option Tables
 told_committed told h = option_map (λ start. committed start h) told
 
-abbrev pub one_if : Bool → ℕ
-one_if true = 1
-one_if false = 0
-
 -- an act for which the store may ask the keeper: a Load of a key that the session's changes have not, or a List
 abbrev pub asks : List Change → Act → Bool
 asks cs (Act.Load k) = not (is_in k cs)
@@ -32,7 +27,7 @@ asks cs _ = false
 -- the entries at which the store may have asked the keeper
 abbrev pub ask_count : Journal → ℕ
 ask_count [] = 0
-ask_count (e ∷ h) = ask_count h + one_if (asks (changes (number e.session) h) e.act)
+ask_count (e ∷ h) = ask_count h + cond (asks (changes (unwrap_or e.session 0) h) e.act) 1 0
 
 -- a reply that says that the keeper failed
 abbrev pub is_fault : Reply → Bool
@@ -43,7 +38,7 @@ is_fault _ = false
 -- the entries with such a reply
 abbrev pub fault_count : Journal → ℕ
 fault_count [] = 0
-fault_count (e ∷ h) = fault_count h + one_if (is_fault e.reply)
+fault_count (e ∷ h) = fault_count h + cond (is_fault e.reply) 1 0
 
 -- an eviction from outside names an identifier; no session evicts
 abbrev pub names_identifier : Option ℕ → Act → Bool

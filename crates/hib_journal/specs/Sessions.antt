@@ -1,5 +1,6 @@
 -- Sessions over a journal. A journal is a list of entries, the newest first: what stands behind an entry is the journal before it.
 use Rattle.std.specs.Prelude.{ℕ, ◌≤◌, ◌<◌, ◌^◌, min, Bool, true, false, cond, ◌&&◌, ◌||◌, ◌==◌, List, [], ◌∷◌, ◌++◌, Some, None, Option}
+use Rattle.std.specs.Option.{option_map_or}
 use Rattle.hib_journal.specs.Types.{Key, Row, Change, Commit, Act, Reply, Part, Entry}
 use Rattle.hib_base.specs.Tables.{Tables, after_changes, row_at}
 
@@ -7,8 +8,7 @@ abbrev pub Journal : Type 0
 Journal = List Entry
 
 abbrev pub is_session : ℕ → Option ℕ → Bool
-is_session s None = false
-is_session s (Some n) = n == s
+is_session s by = option_map_or (λ n. n == s) by false
 
 abbrev pub is_by : ℕ → Entry → Bool
 is_by s e = is_session s e.session
@@ -123,14 +123,11 @@ abbrev pub committer : Act → Reply → Option ℕ → Option ℕ
 committer Act.Commit (Reply.Commit Commit.Committed) by = by
 committer _ _ by = None
 
-abbrev pub committed_by : Option ℕ → Journal → Tables → Tables
-committed_by None h t = t
-committed_by (Some s) h t = after_changes (changes s h) t
-
 -- the tables after each Committed entry
 abbrev pub committed : Tables → Journal → Tables
 committed start [] = start
-committed start (e ∷ h) = committed_by (committer e.act e.reply e.session) h (committed start h)
+committed start (e ∷ h) =
+    option_map_or (λ s. after_changes (changes s h) (committed start h)) (committer e.act e.reply e.session) (committed start h)
 
 -- the rows as s sees them: its own changes on top of the committed rows
 abbrev pub views : Tables → Journal → ℕ → Tables
@@ -149,8 +146,7 @@ same_part (Part.Own n) (Part.Own m) = n == m
 same_part _ _ = false
 
 abbrev pub same_session : Option ℕ → Option ℕ → Bool
-same_session (Some n) by = is_session n by
-same_session None by = false
+same_session one by = option_map_or (λ s. is_session s by) one false
 
 -- the tick of the last entry that passes, or 0
 abbrev pub last_tick : (Entry → Bool) → Journal → ℕ

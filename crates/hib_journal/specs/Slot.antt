@@ -1,5 +1,6 @@
 -- A key of a read-write region, by counting entries.
-use Rattle.std.specs.Prelude.{ℕ, zero, suc, ◌+◌, ◌-◌, Bool, true, false, cond, ◌&&◌, ◌==◌, List, [], ◌∷◌, Some, None, Option}
+use Rattle.std.specs.Prelude.{ℕ, zero, suc, ◌+◌, ◌-◌, Bool, true, false, cond, ◌&&◌, ◌==◌, List, [], ◌∷◌, Some, None, Option, option_and_then}
+use Rattle.std.specs.Option.{option_map_or}
 use Rattle.hib_journal.specs.Types.{Key, Row, Act, Reply, Entry, Put, Unlocked, Inserted, Updated, Evicted}
 use Rattle.hib_base.specs.Keys.{same_key}
 use Rattle.hib_journal.specs.Sessions.{Journal, is_restart}
@@ -52,34 +53,22 @@ evicted_in (Reply.Inserted (Inserted.Stored v)) = v
 evicted_in (Reply.Locked l) = l.evicted
 evicted_in _ = None
 
-abbrev pub is_victim : ℕ → Option ℕ → Bool
-is_victim i None = false
-is_victim i (Some v) = v == i
-
 abbrev pub touch_at : Key → Key → Act → Reply → Option Touch
 touch_at k here a r =
     cond (same_key here k) (touch_here a r)
-    (cond ((here.entity == k.entity) && is_victim k.id (evicted_in r)) (Some Leaves) None)
-
-abbrev pub touch_of : Key → Option Key → Act → Reply → Option Touch
-touch_of k (Some here) a r = touch_at k here a r
-touch_of k None a r = None
+    (cond ((here.entity == k.entity) && option_map_or (λ i. i == k.id) (evicted_in r) false) (Some Leaves) None)
 
 -- what an entry does to k, or none where it leaves k as it is
 abbrev pub touch : Key → Entry → Option Touch
-touch k e = touch_of k (key_in e.act) e.act e.reply
+touch k e = option_and_then (λ here. touch_at k here e.act e.reply) (key_in e.act)
 
 abbrev pub History : Type 0
 History = List (Touch × ℕ)
 
-abbrev pub with_touch : Option Touch → ℕ → History → History
-with_touch None now s = s
-with_touch (Some t) now s = (t, now) ∷ s
-
 -- what was done to k since the restart, each with its tick, the newest first
 abbrev pub history : Key → Journal → History
 history k [] = []
-history k (e ∷ h) = cond (is_restart e.act) [] (with_touch (touch k e) e.tick (history k h))
+history k (e ∷ h) = cond (is_restart e.act) [] (option_map_or (λ t. (t, e.tick) ∷ history k h) (touch k e) (history k h))
 
 -- where a key stands before the locks of its stretch: nothing, a stored row, or a lock without holder
 pub data Base : Type 0 where
@@ -158,6 +147,17 @@ is_positive (suc n) = true
 abbrev pub bar_end : Bool → ℕ → ℕ → ℕ
 bar_end expired timeout since = cond expired (since + timeout) since
 
+-- a lock that was taken n times and once more, by its id and version, whether it is shared, and the unlock time that its base gives it
+abbrev pub lock_of : ℕ → ℕ → History → ℕ → Option ℕ → Bool → ℕ → Slot
+lock_of timeout n s id version shared other = Lock (record {
+  id = id;
+  version = version;
+  timeout = last_lock s + timeout;
+  holders = suc n - releases s;
+  shared = shared;
+  unlock = last_free s other;
+})
+
 -- the slot, by the base, the number of locks since then, and the touches since then
 abbrev pub slot_of : ℕ → Base → ℕ → History → Slot
 slot_of timeout Nothing zero s = Vacant
@@ -170,30 +170,9 @@ slot_of timeout (Barred t x) zero s = Lock (record {
   shared = false;
   unlock = bar_end x timeout t;
 })
-slot_of timeout Nothing (suc n) s = Lock (record {
-  id = (first_lock s).0;
-  version = (first_lock s).1;
-  timeout = last_lock s + timeout;
-  holders = suc n - releases s;
-  shared = is_positive n;
-  unlock = last_free s 0;
-})
-slot_of timeout (Stored r t) (suc n) s = Lock (record {
-  id = (first_lock s).0;
-  version = r.version;
-  timeout = last_lock s + timeout;
-  holders = suc n - releases s;
-  shared = is_positive n;
-  unlock = last_free s 0;
-})
-slot_of timeout (Barred t x) (suc n) s = Lock (record {
-  id = t;
-  version = None;
-  timeout = last_lock s + timeout;
-  holders = suc n - releases s;
-  shared = true;
-  unlock = last_free s (bar_end x timeout t);
-})
+slot_of timeout Nothing (suc n) s = lock_of timeout n s (first_lock s).0 (first_lock s).1 (is_positive n) 0
+slot_of timeout (Stored r t) (suc n) s = lock_of timeout n s (first_lock s).0 r.version (is_positive n) 0
+slot_of timeout (Barred t x) (suc n) s = lock_of timeout n s t None true (bar_end x timeout t)
 
 unfoldable pub slot_from : ℕ → History → Slot
 slot_from timeout s = slot_of timeout (base s) (locks (stretch s)) (stretch s)

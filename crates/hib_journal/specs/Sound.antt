@@ -1,21 +1,18 @@
 -- Which keys the claims speak of, and what they say of queries.
-use Rattle.std.specs.Prelude.{ℕ, Bool, true, false, cond, not, ◌&&◌, ◌||◌, ◌==◌, List, [], ◌∷◌, Some, None, Option}
-use Rattle.std.specs.List.{list_any, filter}
+use Rattle.std.specs.Prelude.{ℕ, Bool, true, false, cond, not, ◌&&◌, ◌||◌, ◌==◌, List, [], ◌∷◌, Some, Option, option_and_then, drop, slice_get}
+use Rattle.std.specs.Option.{option_map_or}
+use Rattle.std.specs.List.{list_any, filter, list_all}
 use Rattle.hib_journal.specs.Types.{Key, Change, Act, Entry}
 use Rattle.hib_base.specs.Keys.{same_key}
-use Rattle.hib_journal.specs.Sessions.{Journal, changes, committer, is_restart, is_by}
-use Rattle.hib_journal.specs.Slot.{Touch, History, history}
+use Rattle.hib_journal.specs.Sessions.{Journal, changes, committer, is_restart, is_by, same_session}
+use Rattle.hib_journal.specs.Slot.{Touch, history}
 use Rattle.hib_journal.specs.Next.{is_in_tables}
 
+-- an answer is neither Expired, nor Stored with the late mark
 abbrev pub is_calm : Touch → Bool
 is_calm (Touch.Stores r late) = not late
 is_calm Touch.Expires = false
 is_calm _ = true
-
--- no entry on the key answered Expired, or Stored with the late mark
-abbrev pub all_calm : History → Bool
-all_calm [] = true
-all_calm (t ∷ s) = is_calm t.0 && all_calm s
 
 abbrev pub deletes_key : Key → Change → Bool
 deletes_key k (Change.Delete j v) = same_key j k
@@ -25,13 +22,9 @@ abbrev pub inserts_key : Key → Change → Bool
 inserts_key k (Change.Insert j r) = same_key j k
 inserts_key k _ = false
 
-abbrev pub with_change : (Change → Bool) → Journal → Option ℕ → Bool
-with_change p h None = false
-with_change p h (Some s) = list_any p (changes s h)
-
 -- whether an entry is a Committed one with such a change
 abbrev pub commits : (Change → Bool) → Journal → Entry → Bool
-commits p h e = with_change p h (committer e.act e.reply e.session)
+commits p h e = option_map_or (λ s. list_any p (changes s h)) (committer e.act e.reply e.session) false
 
 -- a commit since the restart deleted k
 abbrev pub was_deleted : Key → Journal → Bool
@@ -45,7 +38,7 @@ was_reused k (e ∷ h) = cond (is_restart e.act) false ((commits (inserts_key k)
 
 -- the keys of which the claims speak: neither expired nor reused since the restart
 unfoldable pub is_sound : Key → Journal → Bool
-is_sound k h = all_calm (history k h) && not (was_reused k h)
+is_sound k h = list_all (λ t. is_calm t.0) (history k h) && not (was_reused k h)
 
 abbrev pub stamped_by : Act → Option ℕ → List (ℕ × ℕ) → List (ℕ × ℕ)
 stamped_by (Act.Stamp ts) (Some s) us = filter (λ u. not (u.0 == s)) us
@@ -66,28 +59,13 @@ abbrev pub up_to : (Entry → Bool) → Journal → Journal
 up_to p [] = []
 up_to p (e ∷ h) = cond (p e) (e ∷ h) (up_to p h)
 
-abbrev pub before : Journal → Journal
-before [] = []
-before (e ∷ h) = h
-
 abbrev pub keeps_by : ℕ → Act → Bool
 keeps_by q (Act.Keep p t l) = p == q
 keeps_by q _ = false
-
-abbrev pub keeps : ℕ → Entry → Bool
-keeps q e = keeps_by q e.act
-
-abbrev pub same_one : Option ℕ → Entry → Bool
-same_one None e = false
-same_one (Some s) e = is_by s e
-
-abbrev pub session_at : Journal → Option ℕ
-session_at [] = None
-session_at (e ∷ h) = e.session
 
 -- the moment of a hit by session s of query q: the journal up to the List whose list was kept by the Keep that the
 -- session's Look found
 abbrev pub moment : ℕ → ℕ → Journal → Journal
 moment s q h =
-    let kept = up_to (keeps q) (before (up_to (is_by s) h)) in
-    up_to (same_one (session_at kept)) (before kept)
+    let kept = up_to (λ e. keeps_by q e.act) (drop 1 (up_to (is_by s) h)) in
+    up_to (λ e. same_session (option_and_then (λ d. d.session) (slice_get kept 0)) e.session) (drop 1 kept)

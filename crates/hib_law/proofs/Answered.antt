@@ -1,17 +1,19 @@
 -- The claims on cached rows and on finds.
+use Rattle.std.specs.Prelude.{unwrap_or}
+use Rattle.std.specs.Option.{option_map_or}
 use Rattle.std.proofs.Common.{◌≡◌, ℕ, ◌<◌, inl, inr, Bool, true, false, cond, ◌&&◌, nat_le, [], ◌∷◌, Some, None, Option, refl, ap, sym, ◌∙◌, subst, eq-eqb}
 use Rattle.hib_journal.specs.Types.{Key, Row, Change, Strategy, Miss, Script, Act, Reply, Entry}
-use Rattle.hib_base.specs.Tables.{Tables, row_at, last_on}
+use Rattle.hib_base.specs.Tables.{Tables, row_at, last_on, row_left}
 use Rattle.hib_journal.specs.Sessions.{Journal, own, changes, committed}
 use Rattle.hib_journal.specs.Slot.{Slot, slot, history}
 use Rattle.hib_journal.specs.Room.{item}
 use Rattle.hib_journal.specs.Regions
 use Rattle.hib_journal.specs.Held.{held}
 use Rattle.hib_journal.specs.Next.{strategy}
-use Rattle.hib_journal.specs.Legal.{IsLegal, IsStep, IsReply, reply_of, fault_of, number, row_of, get_reply}
+use Rattle.hib_journal.specs.Legal.{IsLegal, IsStep, IsReply, reply_of, fault_of, row_of, get_reply}
 use Rattle.hib_journal.specs.Sound.{is_sound}
 use Rattle.hib_law.specs.Prefixes.{AtEachPrefix, AtEachEntry}
-use Rattle.hib_law.specs.Rows.{IsItemCommitted, IsHitCommitted, own_or, WasCommitted, IsFindAnswered, IsKeyCoherent}
+use Rattle.hib_law.specs.Rows.{IsItemCommitted, IsHitCommitted, WasCommitted, IsFindAnswered, IsKeyCoherent}
 use Rattle.hib_law.specs.Items.{IsItemOld}
 use Rattle.hib_base.proofs.Tables.{left_by, row_at_changes, same_key_refl}
 use Rattle.hib_law.proofs.Protocol.{IsRowOf}
@@ -21,7 +23,7 @@ use Rattle.hib_law.proofs.Whole.{coherent, got_by, loaded_by, hit_item}
 use Rattle.hib_law.proofs.Basics.{none_some, replied}
 use Rattle.hib_law.proofs.Stored.{is_item_old}
 
-own_same : (c : Option Change) (r : Option Row) → left_by c r ≡ own_or c r
+own_same : (c : Option Change) (r : Option Row) → left_by c r ≡ option_map_or row_left c r
 own_same None r = refl
 own_same (Some c) r = refl
 
@@ -30,10 +32,10 @@ find_by : (script : Script) (start : Tables) (k : Key) (h : Journal) (e : Entry)
     e.session ≡ Some s → e.act ≡ Act.Find k → e.reply ≡ Reply.Row o → o ≡ row_of (held (own s h) k)
 find_by script start k h e s o r w p d = elim r [
   | inl q ↦
-      let g : e.reply ≡ Reply.Row (row_of (held (own (number e.session) h) k)) = subst (λ a. e.reply ≡ reply_of script start h (number e.session) e.tick a) p q in
-      let f : Reply.Row o ≡ Reply.Row (row_of (held (own s h) k)) = sym d ∙ (g ∙ ap (λ x. Reply.Row (row_of (held (own (number x) h) k))) w) in cc
+      let g : e.reply ≡ Reply.Row (row_of (held (own (unwrap_or e.session 0) h) k)) = subst (λ a. e.reply ≡ reply_of script start h (unwrap_or e.session 0) e.tick a) p q in
+      let f : Reply.Row o ≡ Reply.Row (row_of (held (own s h) k)) = sym d ∙ (g ∙ ap (λ x. Reply.Row (row_of (held (own (unwrap_or x 0) h) k))) w) in cc
   | inr f ↦
-      let g : fault_of (changes (number e.session) h) (Act.Find k) ≡ Some e.reply = subst (λ a. fault_of (changes (number e.session) h) a ≡ Some e.reply) p f in
+      let g : fault_of (changes (unwrap_or e.session 0) h) (Act.Find k) ≡ Some e.reply = subst (λ a. fault_of (changes (unwrap_or e.session 0) h) a ≡ Some e.reply) p f in
       none_some g
 ]
 

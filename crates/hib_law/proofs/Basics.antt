@@ -1,9 +1,10 @@
 -- Small facts that many files use: what is one constructor is not another, and the reply that is due where no fault may be.
+use Rattle.std.specs.Prelude.{unwrap_or}
 use Rattle.std.proofs.Common.{◌≡◌, inl, inr, List, Some, None, Option, sym, ◌∙◌, subst}
 use Rattle.hib_journal.specs.Types.{Change, Script, Act, Entry}
 use Rattle.hib_base.specs.Tables.{Tables}
 use Rattle.hib_journal.specs.Sessions.{Journal, changes}
-use Rattle.hib_journal.specs.Legal.{IsReply, reply_of, fault_of, number}
+use Rattle.hib_journal.specs.Legal.{IsReply, reply_of, fault_of}
 
 pub some_same : {A : Type 0} {a b : A} → Some a ≡ Some b → a ≡ b
 some_same e = cc
@@ -16,8 +17,8 @@ none_some e = absurd (no e)
 
 -- the reply to an act to which no fault may be answered
 pub replied : (script : Script) (start : Tables) (h : Journal) (e : Entry) (a : Act) → IsReply script (Some start) h e → e.act ≡ a →
-    ((cs : List Change) → fault_of cs a ≡ None) → e.reply ≡ reply_of script start h (number e.session) e.tick a
+    ((cs : List Change) → fault_of cs a ≡ None) → e.reply ≡ reply_of script start h (unwrap_or e.session 0) e.tick a
 replied script start h e a r p n = elim r [
-  | inl q ↦ subst (λ x. e.reply ≡ reply_of script start h (number e.session) e.tick x) p q
-  | inr f ↦ none_some (sym (n (changes (number e.session) h)) ∙ subst (λ x. fault_of (changes (number e.session) h) x ≡ Some e.reply) p f)
+  | inl q ↦ subst (λ x. e.reply ≡ reply_of script start h (unwrap_or e.session 0) e.tick x) p q
+  | inr f ↦ none_some (sym (n (changes (unwrap_or e.session 0) h)) ∙ subst (λ x. fault_of (changes (unwrap_or e.session 0) h) x ≡ Some e.reply) p f)
 ]

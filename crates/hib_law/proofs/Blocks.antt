@@ -1,4 +1,5 @@
 -- A session within its transactions, as one read-write key sees it: in a legal journal each act of a session is allowed by what it did before.
+use Rattle.std.specs.Prelude.{cond, unwrap_or, is_some}
 use Rattle.std.proofs.Common.{◌≡◌, ℕ, inl, inr, Bool, true, false, ◌||◌, ◌∷◌, Some, None, refl, ap, sym, ◌∙◌, subst}
 use Rattle.std.proofs.lemmas.Bool.{false≢true, or_parts}
 use Rattle.hib_journal.specs.Types.{Key, Row, Strategy, Script, Act, Reply, Entry}
@@ -6,8 +7,8 @@ use Rattle.hib_base.specs.Keys.{same_key}
 use Rattle.hib_base.specs.Tables.{Tables}
 use Rattle.hib_journal.specs.Sessions.{Journal, own, is_by, changes, changes_in}
 use Rattle.hib_journal.specs.Held.{Arrival, arrival, held}
-use Rattle.hib_journal.specs.Next.{is_in, is_held, strategy}
-use Rattle.hib_journal.specs.Legal.{IsLegal, IsStep, reply_of, fault_of, persisted, number}
+use Rattle.hib_journal.specs.Next.{is_in, strategy}
+use Rattle.hib_journal.specs.Legal.{IsLegal, IsStep, reply_of, fault_of}
 use Rattle.hib_base.proofs.Tables.{same_key_eq}
 use Rattle.hib_journal.proofs.Sessions.{is_some_session}
 use Rattle.hib_law.proofs.Walks
@@ -62,7 +63,7 @@ made_by (Act.Load i) (Reply.Row (Some y)) j x e = let g : Arrival.Read i y ≡ A
 made_by (Act.Load i) (Reply.Row None) j x e = none_some e
 made_by _ _ j x e = none_some e
 
-persist_new : (b : Bool) → Reply.New ≡ persisted b → b ≡ false
+persist_new : (b : Bool) → Reply.New ≡ cond b Reply.Known Reply.New → b ≡ false
 persist_new true e = absurd (cc)
 persist_new false e = refl
 
@@ -73,18 +74,18 @@ module _ (script : Script) (start : Tables) (k : Key) (s : ℕ) where
       by_s : e.session ≡ Some s
       by_s = is_some_session s e.session p
 
-      no_fault : (a : Act) → e.act ≡ a → fault_of (changes (number e.session) h) a ≡ None → fault_of (changes (number e.session) h) e.act ≡ Some e.reply → ⊥
-      no_fault a q n f = none_some (sym n ∙ (ap (λ z. fault_of (changes (number e.session) h) z) (sym q) ∙ f))
+      no_fault : (a : Act) → e.act ≡ a → fault_of (changes (unwrap_or e.session 0) h) a ≡ None → fault_of (changes (unwrap_or e.session 0) h) e.act ≡ Some e.reply → ⊥
+      no_fault a q n f = none_some (sym n ∙ (ap (λ z. fault_of (changes (unwrap_or e.session 0) h) z) (sym q) ∙ f))
 
       new_here : (j : Key) (x : Row) → IsMade e.act e.reply j x → same_key j k ≡ true → is_in k (changes_in (own s h)) ≡ false
       new_here j x d m = elim t.reply [
-        | inl q ↦ let g : e.reply ≡ reply_of script start h (number (Some s)) e.tick (Act.Persist j x) =
-            subst (λ a. e.reply ≡ reply_of script start h (number (Some s)) e.tick a) d.act
-            (subst (λ b. e.reply ≡ reply_of script start h (number b) e.tick e.act) by_s q) in
-            let b : (is_held (held (own s h) j) || is_in j (changes s h)) ≡ false =
-            persist_new (is_held (held (own s h) j) || is_in j (changes s h)) (sym d.reply ∙ g) in
+        | inl q ↦ let g : e.reply ≡ reply_of script start h (unwrap_or (Some s) 0) e.tick (Act.Persist j x) =
+            subst (λ a. e.reply ≡ reply_of script start h (unwrap_or (Some s) 0) e.tick a) d.act
+            (subst (λ b. e.reply ≡ reply_of script start h (unwrap_or b 0) e.tick e.act) by_s q) in
+            let b : (is_some (held (own s h) j) || is_in j (changes s h)) ≡ false =
+            persist_new (is_some (held (own s h) j) || is_in j (changes s h)) (sym d.reply ∙ g) in
             subst (λ z. is_in z (changes_in (own s h)) ≡ false) (same_key_eq j k m)
-            (or_parts (is_held (held (own s h) j)) (is_in j (changes s h)) b).1
+            (or_parts (is_some (held (own s h) j)) (is_in j (changes s h)) b).1
         | inr f ↦ absurd (no_fault (Act.Persist j x) d.act refl f)
       ]
 

@@ -1,18 +1,20 @@
 -- A sound read-write key that is coherent stays so by an entry of a legal journal whose session keeps to its rules.
+use Rattle.std.specs.Prelude.{option_and_then, length, unwrap_or}
+use Rattle.std.specs.Option.{option_map_or}
 use Rattle.std.proofs.Common.{◌≡◌, ℕ, ◌⊎◌, inl, inr, Bool, true, false, cond, not, ◌&&◌, ◌||◌, ◌==◌, List, [], ◌∷◌, Some, None, Option, refl, sym, ◌∙◌, subst}
 use Rattle.std.proofs.lemmas.Bool.{true≢false, false≢true, and_parts, or_parts, or_right, not-true, ne_eqb}
 use Rattle.std.proofs.Common.{eq-eqb}
-use Rattle.std.specs.List.{list_any}
+use Rattle.std.specs.List.{list_any, list_all}
 use Rattle.hib_journal.specs.Types.{Key, Row, Change, Commit, Strategy, Script, Act, Reply, Entry}
 use Rattle.hib_base.specs.Keys.{same_key}
 use Rattle.hib_base.specs.Tables.{Tables, row_at, key_of, row_left, first_on, last_on, after_changes, commit_answer}
 use Rattle.hib_journal.specs.Sessions.{Journal, is_by, is_session, changes, is_open, open_after, is_restart, time, committed, committer}
-use Rattle.hib_journal.specs.Slot.{Touch, Slot, slot, slot_from, history, with_touch, touch, touch_of, key_in}
+use Rattle.hib_journal.specs.Slot.{Touch, Slot, slot, slot_from, history, touch, key_in, touch_at}
 use Rattle.hib_journal.specs.Held.{is_begin}
 use Rattle.hib_journal.specs.Next.{strategy}
-use Rattle.hib_journal.specs.Legal.{IsLegal, IsReply, reply_of, fault_of, fault_unless, is_empty, number}
-use Rattle.hib_journal.specs.Sound.{is_sound, is_calm, all_calm, was_deleted, was_reused, commits, inserts_key, deletes_key}
-use Rattle.hib_journal.specs.Coherence.{holders, takes, gives_back, last_row, row_by, Seen}
+use Rattle.hib_journal.specs.Legal.{IsLegal, IsReply, reply_of, fault_of}
+use Rattle.hib_journal.specs.Sound.{is_sound, is_calm, was_deleted, was_reused, commits, inserts_key, deletes_key}
+use Rattle.hib_journal.specs.Coherence.{holders, takes, gives_back, last_row, Seen}
 use Rattle.hib_base.proofs.Tables.{Tested, tested, row_at_changes, left_by}
 use Rattle.hib_journal.proofs.Slots.{IsKept}
 use Rattle.hib_journal.proofs.Sessions.{IsOrdered, time_same, seen_before}
@@ -59,21 +61,21 @@ pub record WasSound (k : Key) (h : Journal) (e : Entry) : Type 0 where
 pub was_sound : (k : Key) (h : Journal) (e : Entry) → is_restart e.act ≡ false → is_sound k (e ∷ h) ≡ true → WasSound k h e
 unfolding is_sound
 was_sound k h e n s =
-    let p : (all_calm (history k (e ∷ h)) ≡ true) × (not (was_reused k (e ∷ h)) ≡ true) = and_parts (all_calm (history k (e ∷ h))) (not (was_reused k (e ∷ h))) s in
+    let p : (list_all (λ t. is_calm t.0) (history k (e ∷ h)) ≡ true) × (not (was_reused k (e ∷ h)) ≡ true) = and_parts (list_all (λ t. is_calm t.0) (history k (e ∷ h))) (not (was_reused k (e ∷ h))) s in
     let q : not ((commits (inserts_key k) h e && was_deleted k h) || was_reused k h) ≡ true = rw n at p.1 in
     let r : ((commits (inserts_key k) h e && was_deleted k h) ≡ false) × (was_reused k h ≡ false) =
     or_false (commits (inserts_key k) h e && was_deleted k h) (was_reused k h) q in
-    let c : all_calm (history k (e ∷ h)) ≡ true = p.0 in
-    let d : (all_calm (history k h) ≡ true) × ((x : Touch) → touch k e ≡ Some x → is_calm x ≡ true) =
+    let c : list_all (λ t. is_calm t.0) (history k (e ∷ h)) ≡ true = p.0 in
+    let d : (list_all (λ t. is_calm t.0) (history k h) ≡ true) × ((x : Touch) → touch k e ≡ Some x → is_calm x ≡ true) =
     by_touch (touch k e) refl (rw (history_step k e h n) at c) in
     record { before = rw (d.0, r.1); calm = d.1; once = r.0 }
   where
-    by_touch : (t : Option Touch) → touch k e ≡ t → all_calm (with_touch (touch k e) e.tick (history k h)) ≡ true →
-        (all_calm (history k h) ≡ true) × ((x : Touch) → touch k e ≡ Some x → is_calm x ≡ true)
+    by_touch : (t : Option Touch) → touch k e ≡ t → list_all (λ x. is_calm x.0) (option_map_or (λ t. (t, e.tick) ∷ (history k h)) (touch k e) (history k h)) ≡ true →
+        (list_all (λ t. is_calm t.0) (history k h) ≡ true) × ((x : Touch) → touch k e ≡ Some x → is_calm x ≡ true)
     by_touch None p c = (rw p at c, λ x q. none_some (sym p ∙ q))
     by_touch (Some y) p c =
-        let g : (is_calm y && all_calm (history k h)) ≡ true = rw p at c in
-        let w : (is_calm y ≡ true) × (all_calm (history k h) ≡ true) = and_parts (is_calm y) (all_calm (history k h)) g in
+        let g : (is_calm y && list_all (λ t. is_calm t.0) (history k h)) ≡ true = rw p at c in
+        let w : (is_calm y ≡ true) × (list_all (λ t. is_calm t.0) (history k h) ≡ true) = and_parts (is_calm y) (list_all (λ t. is_calm t.0) (history k h)) g in
         (w.1, λ x q. subst (λ z. is_calm z ≡ true) (some_same (sym p ∙ q)) w.0)
 
 -- lists of changes
@@ -115,7 +117,7 @@ first_inserts k (c ∷ cs) j r e = by_key (tested (same_key (key_of c) k)) e (fi
 
 -- what an entry's reply is
 
-no_fault : (k : Key) (a : Act) (r d : Reply) (cs : List Change) (x : Touch) {P : Type 0} → touch_of k (key_in a) a r ≡ Some x → fault_of cs a ≡ Some d → P
+no_fault : (k : Key) (a : Act) (r d : Reply) (cs : List Change) (x : Touch) {P : Type 0} → option_and_then (λ j. touch_at k j a r) (key_in a) ≡ Some x → fault_of cs a ≡ Some d → P
 no_fault k (Act.Load j) r d cs x t f = none_some t
 no_fault k (Act.List q) r d cs x t f = none_some t
 no_fault k Act.Commit r d cs x t f = none_some t
@@ -140,15 +142,15 @@ module _ (script : Script) (start : Tables) (k : Key) (h : Journal) (e : Entry) 
     (n : is_restart e.act ≡ false) (reply : IsReply script (Some start) h e) (removes : (x : Touch) → touch k e ≡ Some x → is_remove e.act ≡ false) where
   pub effect_of : (x : Touch) → touch k e ≡ Some x → Effect script.timeout k h e.act x
   effect_of x t = elim reply [
-    | inl q ↦ effect script start k h rw_k (number e.session) e.tick e.act x (removes x t)
-        (subst (λ z. touch_of k (key_in e.act) e.act z ≡ Some x) q t)
-    | inr f ↦ no_fault k e.act e.reply e.reply (changes (number e.session) h) x t f
+    | inl q ↦ effect script start k h rw_k (unwrap_or e.session 0) e.tick e.act x (removes x t)
+        (subst (λ z. option_and_then (λ j. touch_at k j e.act z) (key_in e.act) ≡ Some x) q t)
+    | inr f ↦ no_fault k e.act e.reply e.reply (changes (unwrap_or e.session 0) h) x t f
   ]
 
   pub rest_of : touch k e ≡ None → (takes k e.act ≡ false) × (gives_back k e.act ≡ false)
   rest_of t = elim reply [
-    | inl q ↦ untouched script start k h (number e.session) e.tick e.act (subst (λ z. touch_of k (key_in e.act) e.act z ≡ None) q t)
-    | inr f ↦ fault_quiet k e.act e.reply (changes (number e.session) h) f
+    | inl q ↦ untouched script start k h (unwrap_or e.session 0) e.tick e.act (subst (λ z. option_and_then (λ j. touch_at k j e.act z) (key_in e.act) ≡ None) q t)
+    | inr f ↦ fault_quiet k e.act e.reply (changes (unwrap_or e.session 0) h) f
   ]
 
   pub kept_of : (t : Option Touch) → touch k e ≡ t → IsKept script.timeout (history k h) → IsKept script.timeout (history k (e ∷ h))
@@ -199,21 +201,21 @@ module _ (script : Script) (start : Tables) (k : Key) (h : Journal) (e : Entry) 
     no_touch : touch k e ≡ None
     no_touch = rw said.act refl
 
-    not_free : (b : Bool) → fault_unless b (Reply.Commit Commit.Fault) ≡ Some (Reply.Commit Commit.Committed) → ⊥
+    not_free : (b : Bool) → cond b None (Some (Reply.Commit Commit.Fault)) ≡ Some (Reply.Commit Commit.Committed) → ⊥
     not_free true f = none_some f
     not_free false f = let g : Reply.Commit Commit.Fault ≡ Reply.Commit Commit.Committed = some_same f in absurd (cc)
 
     applied : commit_answer (changes s h) (committed start h) ≡ Commit.Committed
     applied = elim reply [
-      | inl q ↦ let g : Reply.Commit Commit.Committed ≡ reply_of script start h (number (Some s)) e.tick Act.Commit =
-          subst (λ r. r ≡ reply_of script start h (number (Some s)) e.tick Act.Commit) said.reply
-          (subst (λ a. e.reply ≡ reply_of script start h (number (Some s)) e.tick a) said.act
-          (subst (λ b. e.reply ≡ reply_of script start h (number b) e.tick e.act) said.session q)) in
+      | inl q ↦ let g : Reply.Commit Commit.Committed ≡ reply_of script start h (unwrap_or (Some s) 0) e.tick Act.Commit =
+          subst (λ r. r ≡ reply_of script start h (unwrap_or (Some s) 0) e.tick Act.Commit) said.reply
+          (subst (λ a. e.reply ≡ reply_of script start h (unwrap_or (Some s) 0) e.tick a) said.act
+          (subst (λ b. e.reply ≡ reply_of script start h (unwrap_or b 0) e.tick e.act) said.session q)) in
           same_commit g
-      | inr f ↦ let g : fault_of (changes (number e.session) h) Act.Commit ≡ Some (Reply.Commit Commit.Committed) =
-          subst (λ r. fault_of (changes (number e.session) h) Act.Commit ≡ Some r) said.reply
-          (subst (λ a. fault_of (changes (number e.session) h) a ≡ Some e.reply) said.act f) in
-          absurd (not_free (is_empty (changes (number e.session) h)) g)
+      | inr f ↦ let g : fault_of (changes (unwrap_or e.session 0) h) Act.Commit ≡ Some (Reply.Commit Commit.Committed) =
+          subst (λ r. fault_of (changes (unwrap_or e.session 0) h) Act.Commit ≡ Some r) said.reply
+          (subst (λ a. fault_of (changes (unwrap_or e.session 0) h) a ≡ Some e.reply) said.act f) in
+          absurd (not_free (length (changes (unwrap_or e.session 0) h) == 0) g)
     ]
       where
         same_commit : {x : Commit} → Reply.Commit Commit.Committed ≡ Reply.Commit x → x ≡ Commit.Committed
@@ -222,7 +224,7 @@ module _ (script : Script) (start : Tables) (k : Key) (h : Journal) (e : Entry) 
     row_is : row_at (committed start (e ∷ h)) k ≡ left_by (last_on k (changes s h)) (row_at (committed start h) k)
     row_is = rw c (row_at_changes (changes s h) (committed start h) k)
 
-    last_is : last_row k s (e ∷ h) ≡ row_by (last_on k (changes s h))
+    last_is : last_row k s (e ∷ h) ≡ option_and_then row_left (last_on k (changes s h))
     last_is = rw (by_s, said.act) refl
 
     left_same : (z : Change) → last_on k (changes s h) ≡ Some z → row_at (committed start (e ∷ h)) k ≡ last_row k s (e ∷ h)

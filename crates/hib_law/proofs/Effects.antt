@@ -1,11 +1,12 @@
 -- What a legal entry that touches a read-write key does to it.
+use Rattle.std.specs.Prelude.{option_and_then}
 use Rattle.std.proofs.Common.{◌≡◌, ℕ, suc, ◌⊎◌, inl, inr, Bool, true, false, cond, ◌&&◌, nat_le, Some, None, Option, refl, sym, ◌∙◌, subst}
 use Rattle.std.proofs.lemmas.Bool.{true≢false}
 use Rattle.hib_journal.specs.Types.{Key, Row, Strategy, Script, Act, Reply, Put, Locked, Unlocked, Inserted, Updated, Evicted, Miss}
 use Rattle.hib_base.specs.Keys.{same_key}
 use Rattle.hib_base.specs.Tables.{Tables}
 use Rattle.hib_journal.specs.Sessions.{Journal}
-use Rattle.hib_journal.specs.Slot.{Touch, LockState, Slot, slot, history, touch_here, touch_at, touch_of, key_in, evicted_in}
+use Rattle.hib_journal.specs.Slot.{Touch, LockState, Slot, slot, history, touch_here, touch_at, key_in, evicted_in}
 use Rattle.hib_journal.specs.Room.{may_leave, room, item}
 use Rattle.hib_journal.specs.Regions
 use Rattle.hib_journal.specs.Next.{strategy, capacity}
@@ -203,7 +204,7 @@ module _ (script : Script) (start : Tables) (k : Key) (h : Journal) (rw_k : stra
 
   -- an act that touches k, other than the removal of an item, has its effect
   pub effect : (s now : ℕ) (a : Act) (x : Touch) → is_remove a ≡ false →
-      touch_of k (key_in a) a (reply_of script start h s now a) ≡ Some x → Effect script.timeout k h a x
+      option_and_then (λ j. touch_at k j a (reply_of script start h s now a)) (key_in a) ≡ Some x → Effect script.timeout k h a x
   effect s now (Act.Put j r t f) x n e = effect_put s now j r t f x e
   effect s now (Act.AfterInsert j r f) x n e = effect_insert s now j r f x e
   effect s now (Act.Evict j) x n e = effect_evict s now j x e

@@ -1,13 +1,14 @@
 -- The end of a transaction, as one read-write key sees it.
+use Rattle.std.specs.Prelude.{option_and_then, cond}
 use Rattle.std.proofs.Common.{◌≡◌, ℕ, inl, inr, Bool, true, false, not, ◌&&◌, List, [], ◌∷◌, ◌++◌, Some, None, Option, refl, ap, sym, ◌∙◌, subst}
 use Rattle.std.proofs.lemmas.Bool.{true≢false, or_parts, or_right}
 use Rattle.std.specs.List.{list_any, flat_map, filter}
 use Rattle.hib_journal.specs.Types.{Key, Row, Change, Commit, Strategy, Mode, Script, Act, Reply, Entry}
 use Rattle.hib_base.specs.Keys.{same_key}
-use Rattle.hib_base.specs.Tables.{key_of, first_on, last_on}
+use Rattle.hib_base.specs.Tables.{key_of, first_on, last_on, row_left}
 use Rattle.hib_journal.specs.Sessions.{Journal, floor_in, changes_in, is_begun, begun_after}
-use Rattle.hib_journal.specs.Next.{strategy, mode_puts, puts_back, complete_insert, complete_update, complete_by, complete, release_of, lock_id, keys_of, is_committed_reply, stamps_of, tables_in, completion, commit, rollback}
-use Rattle.hib_journal.specs.Coherence.{done_in, done_after, row_by}
+use Rattle.hib_journal.specs.Next.{strategy, mode_puts, complete_insert, complete_update, complete_by, complete, release_of, lock_id, keys_of, is_committed_reply, stamps_of, tables_in, completion, commit, rollback}
+use Rattle.hib_journal.specs.Coherence.{done_in, done_after}
 use Rattle.hib_base.proofs.Tables.{Tested, tested, same_key_eq}
 use Rattle.hib_journal.proofs.Plans.{Allows, allows_join, runs_each}
 use Rattle.hib_law.proofs.Pending.{IsFair}
@@ -41,7 +42,7 @@ held_same k m n (Some (Change.Insert j x)) p r = p ∙ r
 held_same k m n (Some (Change.Update j v x)) p r = p ∙ r
 held_same k m n (Some (Change.Delete j v)) p r = p ∙ r
 
-pub put_back : (d x : Bool) (c : Option Change) (r : Row) → puts_back (d && x) c ≡ Some r → (d ≡ true) × (row_by c ≡ Some r)
+pub put_back : (d x : Bool) (c : Option Change) (r : Row) → cond (d && x) (option_and_then row_left c) None ≡ Some r → (d ≡ true) × (option_and_then row_left c ≡ Some r)
 put_back true true None r e = none_some e
 put_back true true (Some c) r e = (refl, e)
 put_back true false c r e = none_some e
@@ -64,7 +65,7 @@ module _ (script : Script) (k : Key) (rw_k : strategy script k.entity ≡ Strate
   allow_one a j m w x f = (x, f)
 
   allow_insert : (j : Key) (g : Strategy) (r : Option Row) (m : Journal) → Ending m → (same_key j k ≡ true → holds k m ≡ false) →
-      puts_back (d && mode_puts mode) (last_on j cs) ≡ r → Allow (complete_insert g j r (floor_in start)) m (After j m)
+      cond (d && mode_puts mode) (option_and_then row_left (last_on j cs)) None ≡ r → Allow (complete_insert g j r (floor_in start)) m (After j m)
   allow_insert j g None m w z p = allow_nothing g
     where
       allow_nothing : (g : Strategy) → Allow (complete_insert g j None (floor_in start)) m (After j m)
@@ -74,12 +75,12 @@ module _ (script : Script) (k : Key) (rw_k : strategy script k.entity ≡ Strate
       allow_nothing Strategy.Uncached = (w, λ x. refl, z)
   allow_insert j g (Some r) m w z p = by_strategy g
     where
-      back : (d ≡ true) × (row_by (last_on j cs) ≡ Some r)
+      back : (d ≡ true) × (option_and_then row_left (last_on j cs) ≡ Some r)
       back = put_back d (mode_puts mode) (last_on j cs) r p
 
       act : Allow (Act.AfterInsert j r (floor_in start) ∷ []) m (After j m)
       act = allow_one (Act.AfterInsert j r (floor_in start)) j m w
-          (λ s. (w.done ∙ back.0, rw w.same (subst (λ y. row_by (last_on y cs) ≡ Some r) (same_key_eq j k s) back.1), sym w.floor, w.begun))
+          (λ s. (w.done ∙ back.0, rw w.same (subst (λ y. option_and_then row_left (last_on y cs) ≡ Some r) (same_key_eq j k s) back.1), sym w.floor, w.begun))
           (λ e q t. (record { begun = rw q (w.begun); fair = (t, w.fair); same = rw q (w.same); done = rw q (w.done); floor = rw q (w.floor); id = rw q (w.id) }, λ s. rw q refl, λ s. rw q (z s)))
 
       by_strategy : (g : Strategy) → Allow (complete_insert g j (Some r) (floor_in start)) m (After j m)
@@ -92,21 +93,21 @@ module _ (script : Script) (k : Key) (rw_k : strategy script k.entity ≡ Strate
   id_now : (j : Key) (i : ℕ) (m : Journal) → Ending m → i ≡ lock_id j start → same_key j k ≡ true → i ≡ lock_id k m
   id_now j i m w p s = subst (λ y. i ≡ lock_id y start) (same_key_eq j k s) p ∙ sym w.id
 
-  allow_release : (j : Key) (i : ℕ) (r : Option Row) (m : Journal) → Ending m → i ≡ lock_id j start → puts_back (d && mode_puts mode) (last_on j cs) ≡ r →
+  allow_release : (j : Key) (i : ℕ) (r : Option Row) (m : Journal) → Ending m → i ≡ lock_id j start → cond (d && mode_puts mode) (option_and_then row_left (last_on j cs)) None ≡ r →
       (same_key j k ≡ true → holds k m ≡ true) → Allow (release_of j i r) m (After j m)
   allow_release j i None m w n p h = allow_one (Act.Unlock j i) j m w (λ s. (h s, w.begun, id_now j i m w n s))
       (λ e q t. (record { begun = rw q (w.begun); fair = (t, w.fair); same = rw q (w.same); done = rw q (w.done); floor = rw q (w.floor); id = rw q (w.id) }, λ s. rw (q, s) refl, λ s. rw (q, s) refl))
   allow_release j i (Some r) m w n p h =
-      let back : (d ≡ true) × (row_by (last_on j cs) ≡ Some r) = put_back d (mode_puts mode) (last_on j cs) r p in
+      let back : (d ≡ true) × (option_and_then row_left (last_on j cs) ≡ Some r) = put_back d (mode_puts mode) (last_on j cs) r p in
       allow_one (Act.AfterUpdate j i r) j m w
-      (λ s. (h s, w.done ∙ back.0, rw w.same (subst (λ y. row_by (last_on y cs) ≡ Some r) (same_key_eq j k s) back.1), w.begun, id_now j i m w n s))
+      (λ s. (h s, w.done ∙ back.0, rw w.same (subst (λ y. option_and_then row_left (last_on y cs) ≡ Some r) (same_key_eq j k s) back.1), w.begun, id_now j i m w n s))
       (λ e q t. (record { begun = rw q (w.begun); fair = (t, w.fair); same = rw q (w.same); done = rw q (w.done); floor = rw q (w.floor); id = rw q (w.id) }, λ s. rw (q, s) refl, λ s. rw (q, s) refl))
 
   not_k : (j : Key) (g : Strategy) → strategy script j.entity ≡ g → (Strategy.ReadWrite ≡ g → ⊥) → same_key j k ≡ true → ⊥
   not_k j g p f s = f (sym rw_k ∙ (ap (λ y. strategy script y.entity) (sym (same_key_eq j k s)) ∙ p))
 
   allow_update : (j : Key) (i : ℕ) (g : Strategy) (r : Option Row) (m : Journal) → strategy script j.entity ≡ g → Ending m → i ≡ lock_id j start →
-      puts_back (d && mode_puts mode) (last_on j cs) ≡ r → (same_key j k ≡ true → holds k m ≡ true) → Allow (complete_update g j i r) m (After j m)
+      cond (d && mode_puts mode) (option_and_then row_left (last_on j cs)) None ≡ r → (same_key j k ≡ true → holds k m ≡ true) → Allow (complete_update g j i r) m (After j m)
   allow_update j i Strategy.ReadWrite r m e w n p h = allow_release j i r m w n p h
   allow_update j i Strategy.Uncached r m e w n p h = (w, λ x. refl, λ x. absurd (not_k j Strategy.Uncached e (λ y. cc) x))
   allow_update j i Strategy.ReadOnly r m e w n p h = allow_one (Act.RegionRemove j) j m w (λ x. let y : Strategy.ReadWrite ≡ Strategy.ReadOnly = sym x ∙ e in absurd (cc))
@@ -118,14 +119,14 @@ module _ (script : Script) (k : Key) (rw_k : strategy script k.entity ≡ Strate
   at_k j m o p h s = subst (λ x. IsHeldFor k m x) (subst (λ y. first_on y cs ≡ o) (same_key_eq j k s) p) (h s)
 
   allow_key : (j : Key) (o : Option Change) (m : Journal) → first_on j cs ≡ o → Ending m → (same_key j k ≡ true → IsHeldFor k m (first_on k cs)) →
-      Allow (complete_by o (strategy script j.entity) j (lock_id j start) (floor_in start) (puts_back (d && mode_puts mode) (last_on j cs))) m (After j m)
+      Allow (complete_by o (strategy script j.entity) j (lock_id j start) (floor_in start) (cond (d && mode_puts mode) (option_and_then row_left (last_on j cs)) None)) m (After j m)
   allow_key j None m p w h = (w, λ x. refl, at_k j m None p h)
   allow_key j (Some (Change.Insert i x)) m p w h =
-      allow_insert j (strategy script j.entity) (puts_back (d && mode_puts mode) (last_on j cs)) m w (at_k j m (Some (Change.Insert i x)) p h) refl
+      allow_insert j (strategy script j.entity) (cond (d && mode_puts mode) (option_and_then row_left (last_on j cs)) None) m w (at_k j m (Some (Change.Insert i x)) p h) refl
   allow_key j (Some (Change.Update i v x)) m p w h =
-      allow_update j (lock_id j start) (strategy script j.entity) (puts_back (d && mode_puts mode) (last_on j cs)) m refl w refl refl (at_k j m (Some (Change.Update i v x)) p h)
+      allow_update j (lock_id j start) (strategy script j.entity) (cond (d && mode_puts mode) (option_and_then row_left (last_on j cs)) None) m refl w refl refl (at_k j m (Some (Change.Update i v x)) p h)
   allow_key j (Some (Change.Delete i v)) m p w h =
-      allow_update j (lock_id j start) (strategy script j.entity) (puts_back (d && mode_puts mode) (last_on j cs)) m refl w refl refl (at_k j m (Some (Change.Delete i v)) p h)
+      allow_update j (lock_id j start) (strategy script j.entity) (cond (d && mode_puts mode) (option_and_then row_left (last_on j cs)) None) m refl w refl refl (at_k j m (Some (Change.Delete i v)) p h)
 
 -- whether a commit is answered Committed
 pub done_reply : (r : Reply) → done_after Act.Commit r false ≡ is_committed_reply r

@@ -1,11 +1,12 @@
 -- The floor of an open session is no later than the time of any open session.
+use Rattle.std.specs.Prelude.{unwrap_or}
 use Rattle.std.proofs.Common.{◌≡◌, ℕ, ◌≤◌, min, inl, inr, Bool, true, false, cond, ◌&&◌, ◌||◌, ◌==◌, [], ◌∷◌, Some, None, Option, refl, sym, ◌∙◌, subst, arith, eq-eqb}
 use Rattle.std.proofs.lemmas.Bool.{true≢false, false≢true, and_parts}
 use Rattle.hib_journal.specs.Types.{Script, Act, Reply, Entry}
 use Rattle.hib_base.specs.Tables.{Tables}
 use Rattle.hib_journal.specs.Sessions.{Journal, is_by, is_session, own, time, floor, floor_in, floor_after, least_live, is_live, is_open, open_after, last_tick}
 use Rattle.hib_journal.specs.Held.{is_begin}
-use Rattle.hib_journal.specs.Legal.{IsLegal, IsReply, reply_of, fault_of, number}
+use Rattle.hib_journal.specs.Legal.{IsLegal, IsReply, reply_of, fault_of}
 use Rattle.hib_journal.specs.Sessions.{changes}
 use Rattle.hib_base.proofs.Tables.{Tested, tested}
 use Rattle.hib_law.proofs.Coherent.{open_before, ordered}
@@ -98,8 +99,8 @@ floor_same s e h p = by_session (tested (is_by s e)) p
 begin_reply : (script : Script) (start : Tables) (h : Journal) (e : Entry) → IsReply script (Some start) h e → e.act ≡ Act.Begin →
     e.reply ≡ Reply.Began (floor h e.tick)
 begin_reply script start h e r a = elim r [
-  | inl q ↦ subst (λ z. e.reply ≡ reply_of script start h (number e.session) e.tick z) a q
-  | inr f ↦ let g : ◌≡◌ {A = Option Reply} None (Some e.reply) = subst (λ z. fault_of (changes (number e.session) h) z ≡ Some e.reply) a f in absurd (no g)
+  | inl q ↦ subst (λ z. e.reply ≡ reply_of script start h (unwrap_or e.session 0) e.tick z) a q
+  | inr f ↦ let g : ◌≡◌ {A = Option Reply} None (Some e.reply) = subst (λ z. fault_of (changes (unwrap_or e.session 0) h) z ≡ Some e.reply) a f in absurd (no g)
 ]
   where
     no : ◌≡◌ {A = Option Reply} None (Some e.reply) → ⊥

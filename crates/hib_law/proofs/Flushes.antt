@@ -1,4 +1,6 @@
 -- A flush, as one read-write key sees it.
+use Rattle.std.specs.Prelude.{option_and_then}
+use Rattle.std.specs.Option.{option_map_or}
 use Rattle.std.proofs.Common.{◌≡◌, ℕ, suc, ◌+◌, ◌≤◌, ◌⊎◌, inl, inr, Bool, true, false, cond, List, [], ◌∷◌, ◌++◌, Some, None, Option, refl, ap, sym, ◌∙◌, subst, arith}
 use Rattle.std.proofs.lemmas.Bool.{true≢false, false≢true, or_parts, or_right}
 use Rattle.std.specs.List.{list_any, filter_map, cons_option}
@@ -6,8 +8,9 @@ use Rattle.hib_journal.specs.Types.{State, Key, Row, Change, Strategy, Script, A
 use Rattle.hib_base.specs.Keys.{same_key}
 use Rattle.hib_base.specs.Tables.{key_of, first_on}
 use Rattle.hib_journal.specs.Sessions.{Journal, floor_in, changes_in}
-use Rattle.hib_journal.specs.Held.{Arrival, arrival, arrived_key, key_arrived, key_removed, without_key, is_begin, held, held_by, stay, Stay, base_of, has_left, instance_of, is_removed, state_of, Instance, is_fresh, next_version, same_cells, pending, arrived, removed, insert_of, insert_by, update_of, update_by, delete_of, delete_by}
-use Rattle.hib_journal.specs.Next.{strategy, is_in, before_cached, before_key, before_write, fresh_version, writes, flush_of, flush, tables_in}
+use Rattle.hib_journal.specs.Held.{Arrival, arrival, arrived_key, key_removed, without_key, is_begin, held, stay, Stay, base_of, has_left, instance_of, is_removed, state_of, Instance, is_fresh, next_version, same_cells, pending, arrived, removed, insert_by, update_by, delete_by}
+use Rattle.hib_journal.specs.Next.{strategy, is_in, before_cached, before_key, before_write, writes, flush_of, flush, tables_in}
+use Rattle.hib_journal.proofs.Shapes.{insert_of, update_of, delete_of}
 use Rattle.hib_base.proofs.Tables.{Tested, tested, same_key_eq}
 use Rattle.hib_law.proofs.Commits.{AreSteps, IsStep}
 use Rattle.hib_journal.proofs.Plans.{Allows, allows_join, runs_each}
@@ -289,7 +292,7 @@ held_stay k m z e = by_stay (stay k m) refl e
         let g : instance_of k (a, l) ≡ z = some_same e in
         (q, ap (λ i. i.base) g, subst (λ i. i.state ≡ State.New → i.base ≡ None) g (new_base (base_of k (a, l)) (is_removed k l)))
 
-    by_stay : (s : Option Stay) → stay k m ≡ s → held_by k (stay k m) ≡ Some z →
+    by_stay : (s : Option Stay) → stay k m ≡ s → option_and_then (λ s. cond (has_left k s) None (Some (instance_of k s))) (stay k m) ≡ Some z →
         (a : Arrival) × (l : Journal) × (stay k m ≡ Some (a, l)) × (has_left k (a, l) ≡ false) × (base_of k (a, l) ≡ z.base) × (z.state ≡ State.New → z.base ≡ None)
     by_stay None p e = let g : ◌≡◌ {A = Option Instance} None (Some z) = rw p at e in none_some g
     by_stay (Some (a, l)) p e =
@@ -339,7 +342,7 @@ module _ (script : Script) (k : Key) (rw_k : strategy script k.entity ≡ Strate
   -- the version that a lock names is that of a row that was read, or none
   names_read : (j : Key) (v : Option ℕ) (m : Journal) (z : Instance) (b : Row) → IsFlushing k start m → same_key j k ≡ true → is_in j (changes_in start) ≡ false →
       held start j ≡ Some z → z.base ≡ Some b → b.version ≡ v → (x : Bool) → is_fresh j start ≡ x →
-      (fresh_version x v ≡ None) ⊎ ((d : Row) × HasRead k d m × (d.version ≡ fresh_version x v))
+      (cond x v None ≡ None) ⊎ ((d : Row) × HasRead k d m × (d.version ≡ cond x v None))
   names_read j v m z b f s n h p q false u = inl refl
   names_read j v m z b f s n h p q true u =
       let t : j ≡ k = same_key_eq j k s in
@@ -352,14 +355,14 @@ module _ (script : Script) (k : Key) (rw_k : strategy script k.entity ≡ Strate
 
   allow_lock : (j : Key) (v : Option ℕ) (m : Journal) (z : Instance) (b : Row) → IsFlushing k start m → (same_key j k ≡ true → IsNew m) →
       is_in j (changes_in start) ≡ false → held start j ≡ Some z → z.base ≡ Some b → b.version ≡ v →
-      Allow (Act.Lock j (fresh_version (is_fresh j start) v) (floor_in start) ∷ []) m (IsSet j m)
+      Allow (Act.Lock j (cond (is_fresh j start) v None) (floor_in start) ∷ []) m (IsSet j m)
   allow_lock j v m z b f g n h p q = (
     λ s. (f.working.undone, sym f.floor, f.working.begun, names_read j v m z b f s n h p q (is_fresh j start) refl, (g s).0, (g s).1),
     λ e w r. (
-      flushing_on k start m e f (rw w refl) (rw w refl) (rw w refl) (working_lock k m e j (fresh_version (is_fresh j start) v) (floor_in start) f.working w r),
+      flushing_on k start m e f (rw w refl) (rw w refl) (rw w refl) (working_lock k m e j (cond (is_fresh j start) v None) (floor_in start) f.working w r),
       λ s g. rw (w, s) refl,
       rw w refl,
-      λ x. kept_lock j (fresh_version (is_fresh j start) v) (floor_in start) m e w n x (tested (same_key j k)),
+      λ x. kept_lock j (cond (is_fresh j start) v None) (floor_in start) m e w n x (tested (same_key j k)),
     ),
   )
 
@@ -384,14 +387,14 @@ module _ (script : Script) (k : Key) (rw_k : strategy script k.entity ≡ Strate
   allow_before j v m z b f w h p q = by_changes (is_in j (changes_in start)) refl
     where
       by_strategy : (g : Strategy) → strategy script j.entity ≡ g → is_in j (changes_in start) ≡ false →
-          Allow (before_cached g j (fresh_version (is_fresh j start) v) (floor_in start)) m (IsSet j m)
+          Allow (before_cached g j (cond (is_fresh j start) v None) (floor_in start)) m (IsSet j m)
       by_strategy Strategy.ReadWrite e n = allow_lock j v m z b f (λ s. w s n) n h p q
       by_strategy Strategy.Uncached e n = (f, λ s u. absurd (not_cached j Strategy.Uncached e (λ x. cc) s), refl, λ x. refl)
       by_strategy Strategy.ReadOnly e n = allow_remove j Strategy.ReadOnly m e (λ x. cc) f
       by_strategy Strategy.Nonstrict e n = allow_remove j Strategy.Nonstrict m e (λ x. cc) f
 
       by_changes : (x : Bool) → is_in j (changes_in start) ≡ x →
-          Allow (cond x [] (before_cached (strategy script j.entity) j (fresh_version (is_fresh j start) v) (floor_in start))) m (IsSet j m)
+          Allow (cond x [] (before_cached (strategy script j.entity) j (cond (is_fresh j start) v None) (floor_in start))) m (IsSet j m)
       by_changes true n = (f, λ s u. absurd (f.was (subst (λ y. is_in y (changes_in start) ≡ true) (same_key_eq j k s) n) u), refl, λ x. refl)
       by_changes false n = by_strategy (strategy script j.entity) refl n
 
@@ -461,7 +464,7 @@ held_key m j z e = by_stay (stay j m) e
     by_left s true e = none_some e
     by_left s false e = sym (ap (λ i. i.key) (some_same e))
 
-    by_stay : (s : Option Stay) → held_by j s ≡ Some z → z.key ≡ j
+    by_stay : (s : Option Stay) → option_and_then (λ x. cond (has_left j x) None (Some (instance_of j x))) s ≡ Some z → z.key ≡ j
     by_stay None e = none_some e
     by_stay (Some s) e = by_left s (has_left j s) e
 
@@ -602,7 +605,7 @@ arrived_once : (k : Key) (m : Journal) → times_in k (arrived m) ≤ 1
 arrived_once k [] = omega arith
 arrived_once k (e ∷ m) = by_arrival (arrival e.act e.reply) (arrived_once k m)
   where
-    by_arrival : (o : Option Arrival) → times_in k (arrived m) ≤ 1 → times_in k (key_arrived o (arrived m)) ≤ 1
+    by_arrival : (o : Option Arrival) → times_in k (arrived m) ≤ 1 → times_in k (option_map_or (λ a. without_key (arrived_key a) (arrived m) ++ arrived_key a ∷ []) o (arrived m)) ≤ 1
     by_arrival None l = l
     by_arrival (Some a) l = moved_times k (arrived_key a) (arrived m) l
 

@@ -1,14 +1,16 @@
 -- What a query gives depends on its tables alone.
 use Rattle.std.proofs.Common.{◌≡◌, ℕ, zero, suc, ◌+◌, ◌<◌, ◌≤◌, inl, inr, Bool, true, false, cond, not, ◌&&◌, ◌||◌, ◌==◌, nat_lt, List, [], ◌∷◌, length, slice_get, Some, None, Option, refl, ap, sym, ◌∙◌, subst, arith, eq-eqb}
 use Rattle.std.proofs.lemmas.Bool.{true≢false, false≢true, or_parts, or_left, or_right, eqb-true, ltb-true, and_parts}
-use Rattle.std.specs.Prelude.{pos, negsuc}
+use Rattle.std.specs.Prelude.{pos, negsuc, option_and_then}
+use Rattle.std.specs.Option.{option_map_or}
 use Rattle.std.specs.List.{list_any, filter, range_with_len}
 use Rattle.hib_journal.specs.Types.{Key, Row, Cell, Change, Target, Cond, Query, Script}
 use Rattle.hib_base.specs.Keys.{same_key, is_before}
 use Rattle.hib_base.specs.Tables.{Tables, row_at, with_row, without_row, tables_with, key_of, row_left, after_change, after_changes}
 use Rattle.hib_journal.specs.Room.{key}
 use Rattle.hib_journal.specs.Query
-use Rattle.hib_journal.specs.Next.{is_in_tables, tables_by, tables_in}
+use Rattle.hib_journal.specs.Next.{is_in_tables, tables_in}
+use Rattle.hib_journal.specs.Query.{holds, tables, mentions}
 use Rattle.hib_base.specs.Scripts.{is_target_below, are_targets_below, are_targets_in, is_declared}
 use Rattle.hib_base.proofs.Tables.{Tested, tested, same_key_eq, row_at_other_change}
 use Rattle.hib_law.proofs.Protocol.{In}
@@ -165,10 +167,10 @@ module _ (t u : Tables) where
   ref_same n (Some (Cell.Bool b)) f = refl
   ref_same n None f = refl
 
-  cell_same : (r : Row) (c : ℕ) (g : Option Target) → Agree (λ n. Query.steps_to n g) → Query.cell_by t r c g ≡ Query.cell_by u r c g
+  cell_same : (r : Row) (c : ℕ) (g : Option Target) → Agree (λ n. option_map_or (λ x. x.entity == n) g false) → Query.cell_by t r c g ≡ Query.cell_by u r c g
   cell_same r c None f = refl
   cell_same r c (Some g) f =
-      ap (λ o. Query.cell_in g.column o) (ref_same g.entity (slice_get r.cells c) (λ i. f g.entity i (eq-eqb g.entity g.entity refl)))
+      ap (λ o. option_and_then (λ x. slice_get x.cells g.column) o) (ref_same g.entity (slice_get r.cells c) (λ i. f g.entity i (eq-eqb g.entity g.entity refl)))
 
   holds_same : (r : Row) (c : Cond) → Agree (λ n. Query.mentions n c) → Query.holds t r c ≡ Query.holds u r c
   holds_same r (Cond.And' p a q b) f =
@@ -180,10 +182,10 @@ module _ (t u : Tables) where
       let y : Query.holds t r b ≡ Query.holds u r b = holds_same r b (λ n i e. f n i (or_right (Query.mentions n a) (Query.mentions n b) e)) in
       rw (x, y) refl
   holds_same r (Cond.Not' p a) f = ap not (holds_same r a f)
-  holds_same r (Cond.Test op p c) f = ap (λ o. Query.if_cell (λ d. Query.passes op d c) o) (cell_same r p.column p.target f)
-  holds_same r (Cond.Among p cs) f = ap (λ o. Query.if_cell (λ d. list_any (λ c. Query.same_cell d c) cs) o) (cell_same r p.column p.target f)
+  holds_same r (Cond.Test op p c) f = ap (λ o. option_map_or (λ d. Query.passes op d c) o false) (cell_same r p.column p.target f)
+  holds_same r (Cond.Among p cs) f = ap (λ o. option_map_or (λ d. list_any (λ c. Query.same_cell d c) cs) o false) (cell_same r p.column p.target f)
 
-  meets_same : (r : Row) (c : Option Cond) → Agree (λ n. Query.mentions_in n c) → Query.meets t r c ≡ Query.meets u r c
+  meets_same : (r : Row) (c : Option Cond) → Agree (λ n. option_map_or (mentions n) c false) → option_map_or (holds t r) c true ≡ option_map_or (holds u r) c true
   meets_same r None f = refl
   meets_same r (Some c) f = holds_same r c f
 
@@ -201,31 +203,31 @@ pub gives_same : (d : Query) (cs : List Change) (t : Tables) → ((n : ℕ) → 
 unfolding Query.gives
 gives_same d cs t f = ap (λ rows. Query.selected d rows d.select) listed_same
   where
-    agree : Agree (after_changes cs t) t (λ n. Query.mentions_in n d.condition)
-    agree n i e = row_same (key n i) cs t (f n (or_right (d.entity == n) (Query.mentions_in n d.condition) e))
+    agree : Agree (after_changes cs t) t (λ n. option_map_or (mentions n) d.condition false)
+    agree n i e = row_same (key n i) cs t (f n (or_right (d.entity == n) (option_map_or (mentions n) d.condition false) e))
 
-    meets : (a : Key × Row) → Query.meets (after_changes cs t) a.1 d.condition ≡ Query.meets t a.1 d.condition
+    meets : (a : Key × Row) → option_map_or (holds (after_changes cs t) a.1) d.condition true ≡ option_map_or (holds t a.1) d.condition true
     meets a = meets_same (after_changes cs t) t a.1 d.condition agree
 
-    swap : ◌≡◌ {A = Key × Row → Bool} (λ a. Query.meets (after_changes cs t) a.1 d.condition) (λ a. Query.meets t a.1 d.condition)
+    swap : ◌≡◌ {A = Key × Row → Bool} (λ a. option_map_or (holds (after_changes cs t) a.1) d.condition true) (λ a. option_map_or (holds t a.1) d.condition true)
     swap = λ i a. meets a i
 
     ours : rows_in d.entity (after_changes cs t) ≡ rows_in d.entity t
-    ours = rows_same d.entity cs t (f d.entity (or_left (d.entity == d.entity) (Query.mentions_in d.entity d.condition) (eq-eqb d.entity d.entity refl)))
+    ours = rows_same d.entity cs t (f d.entity (or_left (d.entity == d.entity) (option_map_or (mentions d.entity) d.condition false) (eq-eqb d.entity d.entity refl)))
 
     listed_same : Query.listed d (after_changes cs t) ≡ Query.listed d t
     listed_same =
-        filter_both (λ a. a.0.entity == d.entity) (λ a. Query.meets (after_changes cs t) a.1 d.condition) (after_changes cs t)
+        filter_both (λ a. a.0.entity == d.entity) (λ a. option_map_or (holds (after_changes cs t) a.1) d.condition true) (after_changes cs t)
         ∙ (ap (λ p. filter p (rows_in d.entity (after_changes cs t))) swap
-        ∙ (ap (λ rows. filter (λ a. Query.meets t a.1 d.condition) rows) ours
-        ∙ sym (filter_both (λ a. a.0.entity == d.entity) (λ a. Query.meets t a.1 d.condition) t)))
+        ∙ (ap (λ rows. filter (λ a. option_map_or (holds t a.1) d.condition true) rows) ours
+        ∙ sym (filter_both (λ a. a.0.entity == d.entity) (λ a. option_map_or (holds t a.1) d.condition true) t)))
 
 -- a table of a query that is declared
 pub in_tables : (n entities : ℕ) (d : Query) → Query.reads d n ≡ true → n < entities → In n (Query.tables entities d)
 in_tables n entities d r l = in_filter (λ n. Query.reads d n) n (range_with_len 0 entities) (in_range 0 entities n (omega arith) (omega arith)) r
 
 -- a table of a query that changes touch is among the tables of the changes
-pub in_changed : (script : Script) (n : ℕ) (o : Option Query) (cs : List Change) → In n (tables_by script o) → touches n cs ≡ true → In n (tables_in script cs)
+pub in_changed : (script : Script) (n : ℕ) (o : Option Query) (cs : List Change) → In n (option_map_or (tables (length script.mapping)) o []) → touches n cs ≡ true → In n (tables_in script cs)
 in_changed script n None cs i e = absurd i
 in_changed script n (Some d) cs i e =
     in_filter (λ n. list_any (λ c. (key_of c).entity == n) cs) n (range_with_len 0 (length script.mapping))
@@ -237,7 +239,7 @@ either : {P : Type 0} (a b : Bool) → (a || b) ≡ true → (a ≡ true → P) 
 either true b e f g = f refl
 either false b e f g = g e
 
-target_below : (n k : ℕ) (g : Option Target) → is_target_below k g ≡ true → Query.steps_to n g ≡ true → n < k
+target_below : (n k : ℕ) (g : Option Target) → is_target_below k g ≡ true → option_map_or (λ x. x.entity == n) g false ≡ true → n < k
 target_below n k None t e = absurd (false≢true e)
 target_below n k (Some g) t e = subst (λ x. x < k) (eqb-true g.entity n e) (ltb-true g.entity k t)
 
@@ -256,10 +258,10 @@ pub declared_reads : (script : Script) (d : Query) (n : ℕ) → is_declared scr
 declared_reads script d n t e =
     let s : (nat_lt d.entity (length script.mapping) ≡ true) × (are_targets_in (length script.mapping) d.condition ≡ true) =
     and_parts (nat_lt d.entity (length script.mapping)) (are_targets_in (length script.mapping) d.condition) t in
-    either (d.entity == n) (Query.mentions_in n d.condition) e
+    either (d.entity == n) (option_map_or (mentions n) d.condition false) e
     (λ x. subst (λ y. y < length script.mapping) (eqb-true d.entity n x) (ltb-true d.entity (length script.mapping) s.0))
     (λ x. by_condition d.condition s.1 x)
   where
-    by_condition : (c : Option Cond) → are_targets_in (length script.mapping) c ≡ true → Query.mentions_in n c ≡ true → n < length script.mapping
+    by_condition : (c : Option Cond) → are_targets_in (length script.mapping) c ≡ true → option_map_or (mentions n) c false ≡ true → n < length script.mapping
     by_condition None t e = absurd (false≢true e)
     by_condition (Some c) t e = mentions_below n (length script.mapping) c t e

@@ -1,4 +1,6 @@
 -- A hit of a query lists what the query gave at its moment, and each commit since then on its tables is unstamped.
+use Rattle.std.specs.Prelude.{unwrap_or}
+use Rattle.std.specs.Option.{option_map_or}
 use Rattle.std.proofs.Common.{◌≡◌, ℕ, ◌<◌, ◌≤◌, ◌⊎◌, inl, inr, Bool, true, false, cond, not, ◌&&◌, ◌==◌, nat_lt, List, [], ◌∷◌, length, slice_get, Some, None, Option, refl, ap, sym, ◌∙◌, subst, arith, eq-eqb}
 use Rattle.std.proofs.lemmas.Bool.{true≢false, false≢true, and_parts, or_right, eqb-true, ltb-true}
 use Rattle.std.specs.List.{list_any, filter}
@@ -6,12 +8,13 @@ use Rattle.hib_journal.specs.Types.{Cell, Change, Commit, Query, Checked, Script
 use Rattle.hib_base.specs.Tables.{Tables}
 use Rattle.hib_journal.specs.Sessions.{Journal, IsTimely, is_by, is_session, same_session, own, changes, changes_in, is_open, is_restart, is_begun, was_killed, committed, committer, views, time, time_in, last_tick}
 use Rattle.hib_journal.specs.Stamps.{stamp, names, check, check_one}
-use Rattle.hib_journal.specs.Results.{Result, others, result, found, last_kept, kept_after}
+use Rattle.hib_journal.specs.Results.{Result, others, result, last_kept, kept_after}
 use Rattle.hib_journal.specs.Query
 use Rattle.hib_journal.specs.Next.{tables_in, tables_of, is_in_tables}
 use Rattle.hib_law.specs.Prefixes.{last_reply}
-use Rattle.hib_journal.specs.Legal.{IsLegal, IsStep, IsReply, reply_of, fault_of, number, list_reply, is_outside}
-use Rattle.hib_journal.specs.Sound.{commits, with_change, unstamped, with_commit, stamped_by, up_to, keeps, moment}
+use Rattle.hib_journal.specs.Legal.{IsLegal, IsStep, IsReply, reply_of, fault_of, is_outside}
+use Rattle.hib_journal.specs.Sound.{commits, unstamped, with_commit, stamped_by, up_to, moment, keeps_by}
+use Rattle.hib_journal.specs.Query.{gives}
 use Rattle.hib_law.specs.Prefixes.{AtEachEntry}
 use Rattle.hib_base.specs.Scripts.{is_declared}
 use Rattle.hib_law.specs.Hits.{is_listed, IsHitTrue, AreHitsTrue}
@@ -117,17 +120,17 @@ up_own s w m (d ∷ h) o e = by_session (tested (is_by s d)) (up_own s w m h)
 
 -- the last Keep of a query
 pub up_keep : (q t : ℕ) (l : List Cell) (h : Journal) → last_kept q h ≡ Some (t, l) →
-    (d : Entry) × (g : Journal) × (up_to (keeps q) h ≡ d ∷ g) × (d.act ≡ Act.Keep q t l) × IsPast (d ∷ g) h
+    (d : Entry) × (g : Journal) × (up_to (λ x. keeps_by q x.act) h ≡ d ∷ g) × (d.act ≡ Act.Keep q t l) × IsPast (d ∷ g) h
 up_keep q t l [] e = none_some e
 up_keep q t l (d ∷ h) e = by_act d.act refl e (up_keep q t l h)
   where
-    on : is_restart d.act ≡ false → keeps q d ≡ false → ((c : Entry) × (g : Journal) × (up_to (keeps q) h ≡ c ∷ g) × (c.act ≡ Act.Keep q t l) × IsPast (c ∷ g) h) →
-        (c : Entry) × (g : Journal) × (up_to (keeps q) (d ∷ h) ≡ c ∷ g) × (c.act ≡ Act.Keep q t l) × IsPast (c ∷ g) (d ∷ h)
+    on : is_restart d.act ≡ false → keeps_by q d.act ≡ false → ((c : Entry) × (g : Journal) × (up_to (λ x. keeps_by q x.act) h ≡ c ∷ g) × (c.act ≡ Act.Keep q t l) × IsPast (c ∷ g) h) →
+        (c : Entry) × (g : Journal) × (up_to (λ x. keeps_by q x.act) (d ∷ h) ≡ c ∷ g) × (c.act ≡ Act.Keep q t l) × IsPast (c ∷ g) (d ∷ h)
     on n k i = (i.0, i.1, rw k (i.2), i.3, inr (n, i.4))
 
     keep_is : (p : ℕ) (u : ℕ) (x : List Cell) → d.act ≡ Act.Keep p u x → Tested (p == q) → cond (p == q) (Some (u, x)) (last_kept q h) ≡ Some (t, l) →
-        (last_kept q h ≡ Some (t, l) → (c : Entry) × (g : Journal) × (up_to (keeps q) h ≡ c ∷ g) × (c.act ≡ Act.Keep q t l) × IsPast (c ∷ g) h) →
-        (c : Entry) × (g : Journal) × (up_to (keeps q) (d ∷ h) ≡ c ∷ g) × (c.act ≡ Act.Keep q t l) × IsPast (c ∷ g) (d ∷ h)
+        (last_kept q h ≡ Some (t, l) → (c : Entry) × (g : Journal) × (up_to (λ x. keeps_by q x.act) h ≡ c ∷ g) × (c.act ≡ Act.Keep q t l) × IsPast (c ∷ g) h) →
+        (c : Entry) × (g : Journal) × (up_to (λ x. keeps_by q x.act) (d ∷ h) ≡ c ∷ g) × (c.act ≡ Act.Keep q t l) × IsPast (c ∷ g) (d ∷ h)
     keep_is p u x y (inl z) e i =
         let g : Some (u, x) ≡ Some (t, l) = rw z at e in
         let f : (u, x) ≡ (t, l) = some_same g in
@@ -138,8 +141,8 @@ up_keep q t l (d ∷ h) e = by_act d.act refl e (up_keep q t l h)
     keep_is p u x y (inr z) e i = let g : last_kept q h ≡ Some (t, l) = rw z at e in on (rw y refl) (rw (y, z) refl) (i g)
 
     by_act : (a : Act) → d.act ≡ a → kept_after q a (last_kept q h) ≡ Some (t, l) →
-        (last_kept q h ≡ Some (t, l) → (c : Entry) × (g : Journal) × (up_to (keeps q) h ≡ c ∷ g) × (c.act ≡ Act.Keep q t l) × IsPast (c ∷ g) h) →
-        (c : Entry) × (g : Journal) × (up_to (keeps q) (d ∷ h) ≡ c ∷ g) × (c.act ≡ Act.Keep q t l) × IsPast (c ∷ g) (d ∷ h)
+        (last_kept q h ≡ Some (t, l) → (c : Entry) × (g : Journal) × (up_to (λ x. keeps_by q x.act) h ≡ c ∷ g) × (c.act ≡ Act.Keep q t l) × IsPast (c ∷ g) h) →
+        (c : Entry) × (g : Journal) × (up_to (λ x. keeps_by q x.act) (d ∷ h) ≡ c ∷ g) × (c.act ≡ Act.Keep q t l) × IsPast (c ∷ g) (d ∷ h)
     by_act (Act.Keep p u x) y e i = keep_is p u x y (tested (p == q)) e i
     by_act Act.Restart y e i = none_some e
     by_act _ y e i = on (rw y refl) (rw y refl) (i e)
@@ -303,7 +306,7 @@ module _ (script : Script) (start : Tables) where
       ts : List ℕ
       ts = tables_of script q
 
-      by_committer : (o : Option ℕ) → committer c.act c.reply c.session ≡ o → with_change (λ x. is_in_tables (tables_of script q) (x ∷ [])) g o ≡ true →
+      by_committer : (o : Option ℕ) → committer c.act c.reply c.session ≡ o → option_map_or (λ s. list_any (λ x. is_in_tables (tables_of script q) (x ∷ [])) (changes s g)) o false ≡ true →
           is_listed c (unstamped (tables_of script q) h) ≡ true
       by_committer None e m = absurd (false≢true m)
       by_committer (Some u) e m =
@@ -316,7 +319,7 @@ module _ (script : Script) (start : Tables) where
           by_state u t.0 t.1 (along script start (tables_of script q) c g u t.0 b.2 (inl (x, o)) h l p)
         where
           first : (u : ℕ) → committer c.act c.reply c.session ≡ Some u → c.session ≡ Some u →
-              with_change (λ x. is_in_tables (tables_of script q) (x ∷ [])) g (Some u) ≡ true →
+              option_map_or (λ s. list_any (λ x. is_in_tables (tables_of script q) (x ∷ [])) (changes s g)) (Some u) false ≡ true →
               list_any (λ x. is_session x.0 c.session && (x.1 == c.tick)) (unstamped (tables_of script q) (c ∷ g)) ≡ true
           first u e s m =
               let d : commits (λ x. is_in_tables (tables_of script q) (x ∷ [])) g c ≡ true = rw e (m) in
@@ -336,18 +339,18 @@ module _ (script : Script) (start : Tables) where
   unfolding result
   look_says h e q t l r p d = elim r [
     | inl x ↦
-        let g : e.reply ≡ found (result script.results q h) = subst (λ a. e.reply ≡ reply_of script start h (number e.session) e.tick a) p x in
+        let g : e.reply ≡ option_map_or (λ r. Reply.Found r.0 r.1) (result script.results q h) Reply.Absent = subst (λ a. e.reply ≡ reply_of script start h (unwrap_or e.session 0) e.tick a) p x in
         kept_by (nat_lt (length (others q h)) script.results) (last_kept q h) (sym g ∙ d)
     | inr f ↦
-        let g : fault_of (changes (number e.session) h) (Act.Look q) ≡ Some e.reply = subst (λ a. fault_of (changes (number e.session) h) a ≡ Some e.reply) p f in
+        let g : fault_of (changes (unwrap_or e.session 0) h) (Act.Look q) ≡ Some e.reply = subst (λ a. fault_of (changes (unwrap_or e.session 0) h) a ≡ Some e.reply) p f in
         none_some g
   ]
     where
-      by_result : (o : Option Result) → found o ≡ Reply.Found t l → o ≡ Some (t, l)
+      by_result : (o : Option Result) → option_map_or (λ r. Reply.Found r.0 r.1) o Reply.Absent ≡ Reply.Found t l → o ≡ Some (t, l)
       by_result None e = absurd (cc)
       by_result (Some x) e = let a : x.0 ≡ t = cc in let b : x.1 ≡ l = cc in ap Some (λ i. (a i, b i))
 
-      kept_by : (b : Bool) (o : Option Result) → found (cond b o None) ≡ Reply.Found t l → o ≡ Some (t, l)
+      kept_by : (b : Bool) (o : Option Result) → option_map_or (λ r. Reply.Found r.0 r.1) (cond b o None) Reply.Absent ≡ Reply.Found t l → o ≡ Some (t, l)
       kept_by true o e = by_result o e
       kept_by false o e = absurd (cc)
 
@@ -355,11 +358,11 @@ module _ (script : Script) (start : Tables) where
       slice_get script.queries q ≡ Some d → l ≡ Query.gives d (views start h s)
   list_says h e q s l d r w p x y = elim r [
     | inl z ↦
-        let g : e.reply ≡ list_reply (slice_get script.queries q) (views start h (number e.session)) = subst (λ a. e.reply ≡ reply_of script start h (number e.session) e.tick a) p z in
+        let g : e.reply ≡ option_map_or (λ d. Reply.Listed (gives d (views start h (unwrap_or e.session 0)))) (slice_get script.queries q) Reply.Fault = subst (λ a. e.reply ≡ reply_of script start h (unwrap_or e.session 0) e.tick a) p z in
         let f : Reply.Listed l ≡ Reply.Listed (Query.gives d (views start h s)) =
-        sym x ∙ (g ∙ (ap (λ o. list_reply o (views start h (number e.session))) y ∙ ap (λ o. Reply.Listed (Query.gives d (views start h (number o)))) w)) in cc
+        sym x ∙ (g ∙ (ap (λ o. option_map_or (λ d. Reply.Listed (gives d (views start h (unwrap_or e.session 0)))) o Reply.Fault) y ∙ ap (λ o. Reply.Listed (Query.gives d (views start h (unwrap_or o 0)))) w)) in cc
     | inr f ↦
-        let g : Some Reply.Fault ≡ Some e.reply = subst (λ a. fault_of (changes (number e.session) h) a ≡ Some e.reply) p f in
+        let g : Some Reply.Fault ≡ Some e.reply = subst (λ a. fault_of (changes (unwrap_or e.session 0) h) a ≡ Some e.reply) p f in
         let k : Reply.Fault ≡ Reply.Listed l = some_same g ∙ x in absurd (cc)
   ]
 
@@ -367,10 +370,10 @@ module _ (script : Script) (start : Tables) where
       check script.timeout t (tables_of script q) h ≡ Checked.Fresh
   check_says h e q t r p d = elim r [
     | inl x ↦
-        let g : e.reply ≡ Reply.Check (check script.timeout t (tables_of script q) h) = subst (λ a. e.reply ≡ reply_of script start h (number e.session) e.tick a) p x in
+        let g : e.reply ≡ Reply.Check (check script.timeout t (tables_of script q) h) = subst (λ a. e.reply ≡ reply_of script start h (unwrap_or e.session 0) e.tick a) p x in
         same (sym g ∙ d)
     | inr f ↦
-        let g : fault_of (changes (number e.session) h) (Act.Check q t) ≡ Some e.reply = subst (λ a. fault_of (changes (number e.session) h) a ≡ Some e.reply) p f in
+        let g : fault_of (changes (unwrap_or e.session 0) h) (Act.Check q t) ≡ Some e.reply = subst (λ a. fault_of (changes (unwrap_or e.session 0) h) a ≡ Some e.reply) p f in
         none_some g
   ]
     where
@@ -437,7 +440,7 @@ module _ (script : Script) (start : Tables) where
       not_restart d x p n = rw p n
 
       from_keep : (w : Entry) (g1 : Journal) (x : List Cell) → last_reply (own s h) ≡ Reply.Found t x → up_to (is_by s) h ≡ w ∷ g1 → IsPast g1 h →
-          (d : Entry) (g2 : Journal) → up_to (keeps q) g1 ≡ d ∷ g2 → d.act ≡ Act.Keep q t x → IsPast (d ∷ g2) g1 → IsKeptFrom d g2 q t x → IsHitTrue script start s q t h
+          (d : Entry) (g2 : Journal) → up_to (λ x. keeps_by q x.act) g1 ≡ d ∷ g2 → d.act ≡ Act.Keep q t x → IsPast (d ∷ g2) g1 → IsKeptFrom d g2 q t x → IsHitTrue script start s q t h
       from_keep w g1 x fo u1 p1 d g2 u2 k p2 f =
           let lv : IsLegal script (Some start) (f.entry ∷ f.journal) = legal_past script start (f.entry ∷ f.journal) h whole l in
           record {
@@ -489,7 +492,7 @@ module _ (script : Script) (start : Tables) where
           let u : (f : Journal) × (up_to (is_by s) h ≡ w ∷ f) × (own s f ≡ m) × IsPast (w ∷ f) h × (is_by s w ≡ true) = up_own s w m h z o in
           let lw : IsLegal script (Some start) (w ∷ u.0) = legal_past script start (w ∷ u.0) h u.3 l in
           let kept : last_kept q u.0 ≡ Some (t, x.1.0) = look_says u.0 w q t x.1.0 lw.1.reply x.0 x.1.1 in
-          let v : (d : Entry) × (f : Journal) × (up_to (keeps q) u.0 ≡ d ∷ f) × (d.act ≡ Act.Keep q t x.1.0) × IsPast (d ∷ f) u.0 = up_keep q t x.1.0 u.0 kept in
+          let v : (d : Entry) × (f : Journal) × (up_to (λ x. keeps_by q x.act) u.0 ≡ d ∷ f) × (d.act ≡ Act.Keep q t x.1.0) × IsPast (d ∷ f) u.0 = up_keep q t x.1.0 u.0 kept in
           let ld : IsLegal script (Some start) (v.0 ∷ v.1) = legal_past script start (v.0 ∷ v.1) u.0 v.4 lw.0 in
           from_keep w u.0 x.1.0 (rw o (x.1.1)) u.1 (past_step w u.0 h (not_restart w (Act.Look q) x.0 refl) u.3) v.0 v.1 v.2 v.3 v.4
           (keep_from v.1 v.0 q t x.1.0 ld.0 ld.1 v.3)

@@ -1,4 +1,6 @@
 -- Who holds the lock of a read-write key: an open session exactly where its own entries say so, and once.
+use Rattle.std.specs.Prelude.{option_to_list, ◌++◌}
+use Rattle.std.specs.Option.{option_map_or}
 use Rattle.std.proofs.Common.{◌≡◌, ℕ, suc, ◌≤◌, inl, inr, Bool, true, false, cond, ◌&&◌, ◌==◌, List, [], ◌∷◌, Some, None, Option, refl, ap, sym, ◌∙◌, subst, arith, eq-eqb}
 use Rattle.std.proofs.lemmas.Bool.{true≢false, false≢true, eqb-true}
 use Rattle.hib_journal.specs.Types.{Key, Strategy, Script, Act}
@@ -7,7 +9,7 @@ use Rattle.hib_journal.specs.Sessions.{Journal, is_by, is_session, own, is_open,
 use Rattle.hib_journal.specs.Held.{is_begin}
 use Rattle.hib_journal.specs.Next.{strategy}
 use Rattle.hib_journal.specs.Legal.{IsLegal}
-use Rattle.hib_journal.specs.Coherence.{holders, takes, gives_back, with_one, without_one, remove}
+use Rattle.hib_journal.specs.Coherence.{holders, takes, gives_back, remove}
 use Rattle.hib_base.proofs.Tables.{Tested, tested}
 use Rattle.hib_journal.proofs.Sessions.{is_some_session}
 use Rattle.hib_law.proofs.Protocol.{In}
@@ -54,11 +56,11 @@ count_other s t (x ∷ xs) d = by_test (tested (x == s)) (count_other s t xs d)
     by_test (inl p) i = let q : (x == t) ≡ false = subst (λ y. (y == t) ≡ false) (sym (eqb-true x s p)) d in rw (p, q) refl
     by_test (inr p) i = rw p (ap (λ n. cond (x == t) (suc n) n) i)
 
-with_other : (t : ℕ) (o : Option ℕ) (xs : List ℕ) → is_session t o ≡ false → count t (with_one o xs) ≡ count t xs
+with_other : (t : ℕ) (o : Option ℕ) (xs : List ℕ) → is_session t o ≡ false → count t (option_to_list o ++ xs) ≡ count t xs
 with_other t None xs d = refl
 with_other t (Some s) xs d = rw d refl
 
-without_other : (t : ℕ) (o : Option ℕ) (xs : List ℕ) → is_session t o ≡ false → count t (without_one o xs) ≡ count t xs
+without_other : (t : ℕ) (o : Option ℕ) (xs : List ℕ) → is_session t o ≡ false → count t (option_map_or (λ s. remove s xs) o xs) ≡ count t xs
 without_other t None xs d = refl
 without_other t (Some s) xs d = count_other s t xs d
 
@@ -81,13 +83,13 @@ module _ (script : Script) (start : Tables) (k : Key) (rw_k : strategy script k.
       IH = count t (holders k h) ≤ cond (holds k (own t h)) 1 0
 
       others : is_by t e ≡ false → Tested (takes k e.act) → Tested (gives_back k e.act) →
-          count t (cond (takes k e.act) (with_one e.session (holders k h)) (cond (gives_back k e.act) (without_one e.session (holders k h)) (holders k h))) ≡ count t (holders k h)
+          count t (cond (takes k e.act) (option_to_list e.session ++ (holders k h)) (cond (gives_back k e.act) (option_map_or (λ s. remove s (holders k h)) e.session (holders k h)) (holders k h))) ≡ count t (holders k h)
       others p (inl a) b = rw a (with_other t e.session (holders k h) p)
       others p (inr a) (inl b) = rw (a, b) (without_other t e.session (holders k h) p)
       others p (inr a) (inr b) = rw (a, b) refl
 
       mine : is_by t e ≡ true → e.session ≡ Some t → Allowed script k (own t h) e.act → Tested (takes k e.act) → Tested (gives_back k e.act) → IH →
-          count t (cond (takes k e.act) (with_one e.session (holders k h)) (cond (gives_back k e.act) (without_one e.session (holders k h)) (holders k h)))
+          count t (cond (takes k e.act) (option_to_list e.session ++ (holders k h)) (cond (gives_back k e.act) (option_map_or (λ s. remove s (holders k h)) e.session (holders k h)) (holders k h)))
           ≤ cond (holds_after k e.act (holds k (own t h))) 1 0
       mine p s w (inl a) b i =
           let z : holds k (own t h) ≡ false = lock_says script k (own t h) e.act a w in
@@ -132,7 +134,7 @@ module _ (script : Script) (start : Tables) (k : Key) (rw_k : strategy script k.
           IH = is_open t h ≡ true → holds k (own t h) ≡ true → 1 ≤ count t (holders k h)
 
           others : is_by t e ≡ false → Tested (takes k e.act) → Tested (gives_back k e.act) →
-              count t (cond (takes k e.act) (with_one e.session (holders k h)) (cond (gives_back k e.act) (without_one e.session (holders k h)) (holders k h))) ≡ count t (holders k h)
+              count t (cond (takes k e.act) (option_to_list e.session ++ (holders k h)) (cond (gives_back k e.act) (option_map_or (λ s. remove s (holders k h)) e.session (holders k h)) (holders k h))) ≡ count t (holders k h)
           others p (inl a) b = rw a (with_other t e.session (holders k h) p)
           others p (inr a) (inl b) = rw (a, b) (without_other t e.session (holders k h) p)
           others p (inr a) (inr b) = rw (a, b) refl
@@ -142,7 +144,7 @@ module _ (script : Script) (start : Tables) (k : Key) (rw_k : strategy script k.
 
           mine : is_by t e ≡ true → e.session ≡ Some t → Allowed script k (own t h) e.act → Tested (takes k e.act) → Tested (gives_back k e.act) → Tested (is_begin e.act) → IH →
               holds_after k e.act (holds k (own t h)) ≡ true →
-              1 ≤ count t (cond (takes k e.act) (with_one e.session (holders k h)) (cond (gives_back k e.act) (without_one e.session (holders k h)) (holders k h)))
+              1 ≤ count t (cond (takes k e.act) (option_to_list e.session ++ (holders k h)) (cond (gives_back k e.act) (option_map_or (λ s. remove s (holders k h)) e.session (holders k h)) (holders k h)))
           mine p s w (inl a) b c i x = rw (a, s, eq-eqb t t refl) (omega arith)
           mine p s w (inr a) (inl b) c i x = let g : false ≡ true = rw (a, b) at x in absurd (false≢true g)
           mine p s w (inr a) (inr b) (inl c) i x =

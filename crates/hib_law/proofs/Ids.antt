@@ -1,17 +1,19 @@
 -- A holder of a sound key has the id of the lock that is there; so giving it back is answered as it should be.
+use Rattle.std.specs.Prelude.{option_and_then, option_to_list, ◌++◌}
+use Rattle.std.specs.Option.{option_map_or}
 use Rattle.std.proofs.Common.{◌≡◌, ℕ, zero, suc, ◌⊎◌, inl, inr, Bool, true, false, ◌||◌, ◌==◌, List, [], ◌∷◌, length, Some, None, Option, refl, ap, sym, ◌∙◌, subst, eq-eqb}
 use Rattle.std.proofs.lemmas.Bool.{true≢false, false≢true, eqb-true}
 use Rattle.std.specs.List.{list_any}
 use Rattle.hib_journal.specs.Types.{Key, Row, Strategy, Locked, Unlocked, Updated, Script, Act, Reply, Entry}
 use Rattle.hib_base.specs.Keys.{same_key}
-use Rattle.hib_base.specs.Tables.{Tables, last_on}
+use Rattle.hib_base.specs.Tables.{Tables, last_on, row_left}
 use Rattle.hib_journal.specs.Sessions.{Journal, is_by, is_session, own, changes, is_restart, was_killed}
 use Rattle.hib_journal.specs.Slot.{Touch, LockState, Slot, slot, touch}
 use Rattle.hib_journal.specs.Regions
 use Rattle.hib_journal.specs.Next.{strategy, lock_id, lock_in}
 use Rattle.hib_journal.specs.Legal.{IsLegal, IsStep, room_for}
 use Rattle.hib_journal.specs.Sound.{is_sound, is_calm}
-use Rattle.hib_journal.specs.Coherence.{holders, takes, gives_back, with_one, without_one, done_in, row_by}
+use Rattle.hib_journal.specs.Coherence.{holders, takes, gives_back, done_in, remove}
 use Rattle.hib_law.specs.Prefixes.{AtEachPrefix, AtEachEntry}
 use Rattle.hib_law.specs.Locks.{is_holder, IsLockHeld, IsGivenBack, AreLocksKept}
 use Rattle.hib_base.proofs.Tables.{Tested, tested, same_key_refl}
@@ -69,12 +71,12 @@ id_same k t e h p = by_session (tested (is_by t e))
 id_other : (k : Key) (t : ℕ) (e : Entry) (h : Journal) → is_by t e ≡ false → lock_id k (own t (e ∷ h)) ≡ lock_id k (own t h)
 id_other k t e h b = rw b refl
 
-in_with : (t : ℕ) (o : Option ℕ) (xs : List ℕ) → In t (with_one o xs) → (is_session t o ≡ true) ⊎ In t xs
+in_with : (t : ℕ) (o : Option ℕ) (xs : List ℕ) → In t (option_to_list o ++ xs) → (is_session t o ≡ true) ⊎ In t xs
 in_with t None xs i = inr i
 in_with t (Some s) xs (inl p) = inl (eq-eqb s t p)
 in_with t (Some s) xs (inr i) = inr i
 
-in_without : (t : ℕ) (o : Option ℕ) (xs : List ℕ) → In t (without_one o xs) → In t xs
+in_without : (t : ℕ) (o : Option ℕ) (xs : List ℕ) → In t (option_map_or (λ s. remove s xs) o xs) → In t xs
 in_without t None xs i = i
 in_without t (Some s) xs i = in_remove s t xs i
 
@@ -82,7 +84,7 @@ holders_fewer : (k : Key) (t : ℕ) (e : Entry) (h : Journal) → is_restart e.a
 holders_fewer k t e h n p i = by_back (tested (gives_back k e.act))
   where
     by_back : Tested (gives_back k e.act) → In t (holders k h)
-    by_back (inl b) = let g : In t (without_one e.session (holders k h)) = rw (n, p, b) at i in in_without t e.session (holders k h) g
+    by_back (inl b) = let g : In t (option_map_or (λ s. remove s (holders k h)) e.session (holders k h)) = rw (n, p, b) at i in in_without t e.session (holders k h) g
     by_back (inr b) = let g : In t (holders k h) = rw (n, p, b) at i in g
 
 -- what a lock answers is the id of the slot after it
@@ -148,7 +150,7 @@ module _ (script : Script) (start : Tables) (k : Key) (rw_k : strategy script k.
           by_session : Tested (is_by t e) → lock_id k (own t (e ∷ h)) ≡ id_of (slot script.timeout k (e ∷ h))
           by_session (inl b) = mine b
           by_session (inr b) =
-              let g : In t (with_one e.session (holders k h)) = rw (n, p, same_key_refl k) at i in others b (in_with t e.session (holders k h) g)
+              let g : In t (option_to_list e.session ++ (holders k h)) = rw (n, p, same_key_refl k) at i in others b (in_with t e.session (holders k h) g)
 
       some : (x : Touch) → touch k e ≡ Some x → is_calm x ≡ true → Effect script.timeout k h e.act x →
           slot script.timeout k (e ∷ h) ≡ touched script.timeout x e.tick (slot script.timeout k h) → lock_id k (own t (e ∷ h)) ≡ id_of (slot script.timeout k (e ∷ h))
@@ -243,10 +245,10 @@ module _ (script : Script) (start : Tables) (k : Key) (rw_k : strategy script k.
           × ((e.reply ≡ Reply.Updated Updated.Stored) ⊎ ((n : ℕ) × (suc n ≡ length (holders k h)) × (e.reply ≡ Reply.Updated (Updated.Shared n))))
       update s i r c p =
           let a : (was_killed s h ≡ false) × (same_key k k ≡ true → (holds k (own s h) ≡ true) × (done_in (own s h) ≡ true)
-          × (row_by (last_on k (changes s h)) ≡ Some r) × (is_begun (own s h) ≡ true) × (i ≡ lock_id k (own s h))) =
+          × (option_and_then row_left (last_on k (changes s h)) ≡ Some r) × (is_begun (own s h) ≡ true) × (i ≡ lock_id k (own s h))) =
           allowed s (Act.AfterUpdate k i r) c p in
           let b : (holds k (own s h) ≡ true) × (done_in (own s h) ≡ true)
-          × (row_by (last_on k (changes s h)) ≡ Some r) × (is_begun (own s h) ≡ true) × (i ≡ lock_id k (own s h)) =
+          × (option_and_then row_left (last_on k (changes s h)) ≡ Some r) × (is_begun (own s h) ≡ true) × (i ≡ lock_id k (own s h)) =
           a.1 (same_key_refl k) in
           let m : In s (holders k h) = holder s a.0 b.3 b.0 in
           let v : e.reply ≡ Reply.Updated (Regions.after_update (slot script.timeout k h) i) = replied script start h e (Act.AfterUpdate k i r) st.reply p (λ cs. refl) in (

@@ -1,4 +1,6 @@
 -- Each refusal has its cause.
+use Rattle.std.specs.Prelude.{is_some}
+use Rattle.std.specs.Option.{option_map_or}
 use Rattle.std.proofs.Common.{◌≡◌, ℕ, zero, suc, ◌≤◌, ◌⊎◌, inl, inr, Bool, true, false, cond, ◌&&◌, nat_lt, nat_le, List, [], ◌∷◌, ◌++◌, length, Some, None, Option, refl, ap, sym, ◌∙◌, subst, arith}
 use Rattle.std.proofs.lemmas.Bool.{and_parts, ltb-false, leb-true}
 use Rattle.hib_journal.specs.Types.{Key, Row, Strategy, Checked, Miss, Put, Inserted, Script, Act, Reply, Entry}
@@ -9,7 +11,7 @@ use Rattle.hib_journal.specs.Room.{item, oldest}
 use Rattle.hib_journal.specs.Regions
 use Rattle.hib_journal.specs.Regions.{is_below}
 use Rattle.hib_journal.specs.Stamps.{stamp, check, check_one}
-use Rattle.hib_journal.specs.Results.{Result, last_kept, others, result, found}
+use Rattle.hib_journal.specs.Results.{Result, last_kept, others, result}
 use Rattle.hib_journal.specs.Next.{strategy, capacity, tables_of}
 use Rattle.hib_journal.specs.Legal.{IsLegal, IsStep, get_reply, put_reply, insert_reply, room_for}
 use Rattle.hib_law.specs.Prefixes.{AtEachEntry}
@@ -106,16 +108,16 @@ is_stale script h q t n v e =
     same : {c d : Checked} → Reply.Check c ≡ Reply.Check d → c ≡ d
     same e = cc
 
-is_gone : (script : Script) (h : Journal) (q : ℕ) → found (result script.results q h) ≡ Reply.Absent → IsGone script h q
+is_gone : (script : Script) (h : Journal) (q : ℕ) → option_map_or (λ r. Reply.Found r.0 r.1) (result script.results q h) Reply.Absent ≡ Reply.Absent → IsGone script h q
 unfolding result
 is_gone script h q e = by_room (tested (nat_lt (length (others q h)) script.results)) e
   where
-    by_kept : (o : Option Result) → last_kept q h ≡ o → found o ≡ Reply.Absent → IsGone script h q
+    by_kept : (o : Option Result) → last_kept q h ≡ o → option_map_or (λ r. Reply.Found r.0 r.1) o Reply.Absent ≡ Reply.Absent → IsGone script h q
     by_kept None p e = inl p
     by_kept (Some r) p e = absurd (cc)
 
-    by_room : Tested (nat_lt (length (others q h)) script.results) → found (cond (nat_lt (length (others q h)) script.results) (last_kept q h) None) ≡ Reply.Absent → IsGone script h q
-    by_room (inl p) e = let g : found (last_kept q h) ≡ Reply.Absent = rw p at e in by_kept (last_kept q h) refl g
+    by_room : Tested (nat_lt (length (others q h)) script.results) → option_map_or (λ r. Reply.Found r.0 r.1) (cond (nat_lt (length (others q h)) script.results) (last_kept q h) None) Reply.Absent ≡ Reply.Absent → IsGone script h q
+    by_room (inl p) e = let g : option_map_or (λ r. Reply.Found r.0 r.1) (last_kept q h) Reply.Absent ≡ Reply.Absent = rw p at e in by_kept (last_kept q h) refl g
     by_room (inr p) e = inr (ltb-false (length (others q h)) script.results p)
 
 -- a row that is not taken
@@ -186,7 +188,7 @@ module _ (script : Script) (h : Journal) (k : Key) (f : ℕ) where
   slot_insert (Slot.Lock l) p room q = rw p refl
 
   weak_insert : (g : Strategy) (i : Option (Row × ℕ)) → item (history k h) ≡ i → (v : Option ℕ) → (g ≡ Strategy.ReadWrite → ⊥) →
-      RefusesInsert g script h k f (Regions.insert_item v i)
+      RefusesInsert g script h k f (cond (is_some i) Inserted.Present (Inserted.Stored v))
   weak_insert g None p v n = tt
   weak_insert Strategy.ReadWrite (Some i) p v n = absurd (n refl)
   weak_insert Strategy.ReadOnly (Some i) p v n = rw p refl

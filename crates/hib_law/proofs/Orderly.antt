@@ -1,14 +1,15 @@
 -- In a legal journal each entry keeps to the rules of its session; so a sound read-write key is coherent at every entry.
+use Rattle.std.specs.Prelude.{option_and_then}
 use Rattle.std.proofs.Common.{◌≡◌, ℕ, ◌≤◌, ◌⊎◌, inl, inr, Bool, true, false, cond, ◌&&◌, List, [], ◌∷◌, Some, None, Option, refl, ap, sym, ◌∙◌, subst, eq-eqb}
 use Rattle.std.proofs.lemmas.Bool.{true≢false, false≢true}
 use Rattle.hib_journal.specs.Types.{Key, Row, Change, Commit, Strategy, Script, Act, Reply, Entry}
-use Rattle.hib_base.specs.Tables.{Tables, row_at, first_on, last_on}
+use Rattle.hib_base.specs.Tables.{Tables, row_at, first_on, last_on, row_left}
 use Rattle.hib_journal.specs.Sessions.{Journal, is_by, own, changes, changes_in, changes_after, is_open, was_killed, time, time_in, floor_in, committed, committer}
-use Rattle.hib_journal.specs.Slot.{Touch, touch, touch_of, key_in}
+use Rattle.hib_journal.specs.Slot.{Touch, touch, key_in, touch_at}
 use Rattle.hib_journal.specs.Held.{is_begin}
 use Rattle.hib_journal.specs.Next.{strategy, is_in, lock_id}
 use Rattle.hib_journal.specs.Legal.{IsLegal, IsStep, due_by, may_come, is_outside}
-use Rattle.hib_journal.specs.Coherence.{holders, is_done, done_in, done_after, last_row, row_by, Seen}
+use Rattle.hib_journal.specs.Coherence.{holders, is_done, done_in, done_after, last_row, Seen}
 use Rattle.hib_base.proofs.Tables.{Tested, tested, same_key_refl, left_by, row_at_changes}
 use Rattle.hib_journal.proofs.Sessions.{is_some_session}
 use Rattle.hib_law.proofs.Floors.{floors_le}
@@ -78,7 +79,7 @@ module _ (script : Script) (start : Tables) (k : Key) (rw_k : strategy script k.
       IH : Type 0
       IH = is_done s h ≡ true → last_row k s h ≡ Some r → Seen start k s r h
 
-      left_some : (o : Option Change) (x : Option Row) → row_by o ≡ Some r → left_by o x ≡ Some r
+      left_some : (o : Option Change) (x : Option Row) → option_and_then row_left o ≡ Some r → left_by o x ≡ Some r
       left_some None x p = none_some p
       left_some (Some c) x p = p
 
@@ -89,7 +90,7 @@ module _ (script : Script) (start : Tables) (k : Key) (rw_k : strategy script k.
           let f : is_done s h ≡ false = subst (λ y. Allowed script k (own s h) y) x a in
           absurd (true≢false (sym g ∙ f))
       mine p w a (Kind.Commits x y) i =
-          let g : row_by (last_on k (changes s h)) ≡ Some r = rw (p, x) at q in
+          let g : option_and_then row_left (last_on k (changes s h)) ≡ Some r = rw (p, x) at q in
           let c : row_at (committed start (e ∷ h)) k ≡ left_by (last_on k (changes s h)) (row_at (committed start h) k) =
           rw (x, y, w) (row_at_changes (changes s h) (committed start h) k) in
           seen_now start k s r e h p (rw x refl) (c ∙ left_some (last_on k (changes s h)) (row_at (committed start h) k) g)
@@ -104,9 +105,9 @@ module _ (script : Script) (start : Tables) (k : Key) (rw_k : strategy script k.
               begin_not _ r d p = absurd (false≢true p)
           by_begin (inr b) =
               let g : done_after e.act e.reply (done_in (own s h)) ≡ true = rw p at d in
-              let f : row_by (last_on k (changes_after e.act (changes_in (own s h)))) ≡ Some r = rw p at q in
+              let f : option_and_then row_left (last_on k (changes_after e.act (changes_in (own s h)))) ≡ Some r = rw p at q in
               let g2 : is_done s h ≡ true = sym (x (done_in (own s h))) ∙ g in
-              let f2 : last_row k s h ≡ Some r = sym (ap (λ cs. row_by (last_on k cs)) (y (changes_in (own s h)))) ∙ f in
+              let f2 : last_row k s h ≡ Some r = sym (ap (λ cs. option_and_then row_left (last_on k cs)) (y (changes_in (own s h)))) ∙ f in
               seen_on start k s r e h (rw (p, b) refl) (i g2 f2)
 
       by_session : Tested (is_by s e) → IH → Seen start k s r (e ∷ h)
@@ -125,9 +126,9 @@ module _ (script : Script) (start : Tables) (k : Key) (rw_k : strategy script k.
       outside_not (Act.RegionRemove j) p = absurd (false≢true p)
       outside_not _ p = refl
 
-      not_here : (a : Act) (j : Key) (m : Journal) → touch_of k (key_in a) a e.reply ≡ Some x → Allowed script k m a → a ≡ Act.RegionRemove j → ⊥
+      not_here : (a : Act) (j : Key) (m : Journal) → option_and_then (λ j. touch_at k j a e.reply) (key_in a) ≡ Some x → Allowed script k m a → a ≡ Act.RegionRemove j → ⊥
       not_here a j m t w p =
-          let u : touch_of k (Some j) (Act.RegionRemove j) e.reply ≡ Some x = subst (λ z. touch_of k (key_in z) z e.reply ≡ Some x) p t in
+          let u : option_and_then (λ x. touch_at k x (Act.RegionRemove j) e.reply) (Some j) ≡ Some x = subst (λ z. option_and_then (λ j. touch_at k j z e.reply) (key_in z) ≡ Some x) p t in
           let v : strategy script j.entity ≡ Strategy.ReadWrite → ⊥ = subst (λ z. Allowed script k m z) p w in
           elim (here_or_victim k j (Act.RegionRemove j) e.reply x u) [
             | inl y ↦ v (subst (λ z. strategy script z.entity ≡ Strategy.ReadWrite) (sym y.0) rw_k)
@@ -135,7 +136,7 @@ module _ (script : Script) (start : Tables) (k : Key) (rw_k : strategy script k.
           ]
 
       session_not : (a : Act) → e.act ≡ a → (m : Journal) → Allowed script k m a → is_remove a ≡ false
-      session_not (Act.RegionRemove j) p m w = absurd (not_here (Act.RegionRemove j) j m (subst (λ z. touch_of k (key_in z) z e.reply ≡ Some x) p t) w refl)
+      session_not (Act.RegionRemove j) p m w = absurd (not_here (Act.RegionRemove j) j m (subst (λ z. option_and_then (λ j. touch_at k j z e.reply) (key_in z) ≡ Some x) p t) w refl)
       session_not _ p m w = refl
 
       by_doer : Doer script h e → is_remove e.act ≡ false
@@ -173,7 +174,7 @@ module _ (script : Script) (start : Tables) (k : Key) (rw_k : strategy script k.
         by_doer : Doer script h e → (s : ℕ) × (is_open s h ≡ true) × Seen start k s r h
         by_doer (Doer.Outside c q) = outside_none (Act.AfterInsert k r f) p refl q
         by_doer (Doer.Session s c b w) =
-            let a : (done_in (own s h) ≡ true) × (row_by (last_on k (changes_in (own s h))) ≡ Some r) × (f ≡ floor_in (own s h)) × (is_begun (own s h) ≡ true) =
+            let a : (done_in (own s h) ≡ true) × (option_and_then row_left (last_on k (changes_in (own s h))) ≡ Some r) × (f ≡ floor_in (own s h)) × (is_begun (own s h) ≡ true) =
             allowed s (Act.AfterInsert k r f) b p (same_key_refl k) in
             (s, open_now s w a.3, done_seen s r h l a.0 a.1)
 
@@ -184,7 +185,7 @@ module _ (script : Script) (start : Tables) (k : Key) (rw_k : strategy script k.
         by_doer : Doer script h e → (s : ℕ) × (e.session ≡ Some s) × In s (holders k h) × (is_done s h ≡ true) × (last_row k s h ≡ Some r)
         by_doer (Doer.Outside c q) = outside_none (Act.AfterUpdate k i r) p refl q
         by_doer (Doer.Session s c b w) =
-            let a : (holds k (own s h) ≡ true) × (done_in (own s h) ≡ true) × (row_by (last_on k (changes_in (own s h))) ≡ Some r) × (is_begun (own s h) ≡ true) × (i ≡ lock_id k (own s h)) =
+            let a : (holds k (own s h) ≡ true) × (done_in (own s h) ≡ true) × (option_and_then row_left (last_on k (changes_in (own s h))) ≡ Some r) × (is_begun (own s h) ≡ true) × (i ≡ lock_id k (own s h)) =
             allowed s (Act.AfterUpdate k i r) b p (same_key_refl k) in
             (s, c, holds_holder script start k rw_k s h l (open_now s w a.3) a.0, a.1, a.2)
 
@@ -221,7 +222,7 @@ module _ (script : Script) (start : Tables) (k : Key) (rw_k : strategy script k.
         × (is_in j (changes_in m) ≡ false) × (holds j m ≡ false) = w (rw (some_same p) (same_key_refl j)) in
         (sym (some_same q) ∙ a.1, a.2)
     floor_own j f m (Act.AfterInsert i r g) p q w =
-        let a : (done_in m ≡ true) × (row_by (last_on j (changes_in m)) ≡ Some r) × (g ≡ floor_in m) × (is_begun m ≡ true) = w (rw (some_same p) (same_key_refl j)) in
+        let a : (done_in m ≡ true) × (option_and_then row_left (last_on j (changes_in m)) ≡ Some r) × (g ≡ floor_in m) × (is_begun m ≡ true) = w (rw (some_same p) (same_key_refl j)) in
         (sym (some_same q) ∙ a.2, a.3)
     floor_own j f m _ p q w = none_some q
 
@@ -252,7 +253,7 @@ module _ (script : Script) (start : Tables) (k : Key) (rw_k : strategy script k.
         mine p (Kind.Writes d x) = (rw (p, x) refl, λ y. absurd (true≢false (sym y ∙ allowed u (Act.Write d) p x)))
         mine p (Kind.Commits x y) =
             let g : ◌≡◌ {A = Option ℕ} (Some u) None = rw (x, y, is_some_session u e.session p) at c in none_some (sym g)
-        mine p (Kind.Other x y z) = (rw p (x (is_done u h)), λ w. rw p (ap (λ cs. row_by (last_on k cs)) (y (changes u h))))
+        mine p (Kind.Other x y z) = (rw p (x (is_done u h)), λ w. rw p (ap (λ cs. option_and_then row_left (last_on k cs)) (y (changes u h))))
 
         by_session : Tested (is_by u e) → (is_done u (e ∷ h) ≡ is_done u h) × (is_done u h ≡ true → last_row k u (e ∷ h) ≡ last_row k u h)
         by_session (inr p) = (rw p refl, λ y. rw p refl)

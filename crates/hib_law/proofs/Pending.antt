@@ -1,4 +1,5 @@
 -- What a flush would write of one key: it goes by what is held of the key.
+use Rattle.std.specs.Option.{option_or}
 use Rattle.std.proofs.Common.{◌≡◌, inl, inr, Bool, true, false, cond, not, ◌&&◌, ◌||◌, List, [], ◌∷◌, Some, None, Option, refl, ap, sym, ◌∙◌, subst}
 use Rattle.std.proofs.lemmas.Bool.{or_parts}
 use Rattle.std.specs.List.{list_any}
@@ -6,8 +7,9 @@ use Rattle.hib_journal.specs.Types.{State, Key, Row, Change, Act, Reply}
 use Rattle.hib_base.specs.Keys.{same_key}
 use Rattle.hib_base.specs.Tables.{key_of}
 use Rattle.hib_journal.specs.Sessions.{Journal, changes_in, changes_after}
-use Rattle.hib_journal.specs.Held.{Arrival, arrival, arrived_key, Stay, stay, stay_after, is_break, or_row, row_written, last_written, base_of, has_left, deletes, removes, is_inserted, is_undone, Instance, insert_of, insert_by, update_of, update_by, delete_of, delete_by, next_version, same_cells}
+use Rattle.hib_journal.specs.Held.{Arrival, arrival, arrived_key, Stay, stay, stay_after, is_break, row_written, last_written, base_of, has_left, deletes, removes, is_inserted, is_undone, Instance, insert_by, update_by, delete_by, next_version, same_cells}
 use Rattle.hib_journal.specs.Next.{is_in}
+use Rattle.hib_journal.proofs.Shapes.{insert_of, update_of, delete_of}
 use Rattle.hib_base.proofs.Tables.{Tested, tested}
 use Rattle.hib_law.proofs.HeldRows.{Brings, brings, no_arrival, longer_some, any_append}
 use Rattle.hib_law.proofs.Basics.{none_some, some_same}
@@ -37,7 +39,7 @@ not_in_after k (Act.Write c) cs n p d = any_append (λ d. same_key (key_of d) k)
     other (Change.Delete j v) p d = d
 not_in_after k _ cs n p d = n
 
-or_row_none : (x y : Option Row) → or_row x y ≡ None → (x ≡ None) × (y ≡ None)
+or_row_none : (x y : Option Row) → option_or x y ≡ None → (x ≡ None) × (y ≡ None)
 or_row_none None y p = (refl, p)
 or_row_none (Some r) y p = none_some (sym p)
 
@@ -58,7 +60,7 @@ new_unwritten k (e ∷ m) a l f p q b = by_break (tested (is_break e.act e.reply
         (y.0, rw (y.1, z.1) refl)
 
     base_rest : (a : Arrival) (d : Journal) → base_of k (a, e ∷ d) ≡ None → (row_written k e.act ≡ None) × (base_of k (a, d) ≡ None)
-    base_rest (Arrival.Read j r) d b = none_some (sym (or_row_none (or_row (row_written k e.act) (last_written k d)) (Some r) b).1)
+    base_rest (Arrival.Read j r) d b = none_some (sym (or_row_none (option_or (row_written k e.act) (last_written k d)) (Some r) b).1)
     base_rest (Arrival.Made j r) d b = or_row_none (row_written k e.act) (last_written k d) b
 
     by_break : Tested (is_break e.act e.reply) → ((a : Arrival) (l : Journal) → IsFair k m → stay k m ≡ Some (a, l) → has_left k (a, l) ≡ false →

@@ -1,4 +1,5 @@
 -- What a session's own entries allow it to do with stamps and results.
+use Rattle.std.specs.Option.{option_map_or}
 use Rattle.std.proofs.Common.{◌≡◌, ℕ, ◌⊎◌, inl, inr, Bool, true, false, List, [], ◌∷◌, ◌++◌, slice_get, Some, refl, ◌∙◌, subst}
 use Rattle.std.proofs.lemmas.Bool.{false≢true}
 use Rattle.std.specs.List.{flat_map}
@@ -7,7 +8,7 @@ use Rattle.hib_base.specs.Tables.{Tables}
 use Rattle.hib_journal.specs.Sessions.{Journal, own, is_by, changes_in, time_in, is_begun, begun_after}
 use Rattle.hib_journal.specs.Plan.{one}
 use Rattle.hib_journal.specs.Next
-use Rattle.hib_journal.specs.Next.{tables_in, tables_of, is_in_tables, is_cached_query, is_committed_reply, mode_reads, mode_puts, keys_of, complete, stamps_of, completion}
+use Rattle.hib_journal.specs.Next.{tables_in, tables_of, is_in_tables, is_committed_reply, mode_reads, mode_puts, keys_of, complete, stamps_of, completion}
 use Rattle.hib_journal.specs.Legal.{IsLegal, IsStep}
 use Rattle.hib_journal.proofs.Plans.{Runs, Allows, allows_join, runs_each, runs_if}
 use Rattle.hib_law.proofs.Walks
@@ -171,7 +172,7 @@ module _ (script : Script) where
         may : Next.is_free script q (mode_puts mode) (e ∷ m) ≡ true → MayKeep script (e ∷ m) q (time_in (e ∷ m)) l
         may t =
             let n : is_in_tables (tables_of script q) (changes_in (e ∷ m)) ≡ false =
-            not_in_test (is_cached_query (slice_get script.queries q)) (mode_puts mode) (is_in_tables (tables_of script q) (changes_in (e ∷ m))) t in
+            not_in_test (option_map_or (λ d. d.cached) (slice_get script.queries q) false) (mode_puts mode) (is_in_tables (tables_of script q) (changes_in (e ∷ m))) t in
             let c : is_in_tables (tables_of script q) (changes_in m) ≡ false = rw p at n in
             let b : is_begun m ≡ true = rw p at w.0 in
             (p, x, rw p refl, c, b)

@@ -1,4 +1,5 @@
 -- The item of a key of a read-only region is the row that the start tables or a committed insert gave to it.
+use Rattle.std.specs.Prelude.{IsSomeAnd}
 use Rattle.std.proofs.Common.{◌≡◌, ℕ, ◌⊎◌, inl, inr, true, false, List, [], ◌∷◌, ◌++◌, Some, None, Option, refl, ap, sym, ◌∙◌}
 use Rattle.std.proofs.lemmas.Bool.{true≢false}
 use Rattle.hib_journal.specs.Types.{Key, Row, Change, Strategy, Script, Act}
@@ -9,7 +10,7 @@ use Rattle.hib_journal.specs.Next.{strategy}
 use Rattle.hib_journal.specs.Legal.{IsLegal}
 use Rattle.hib_law.specs.Prefixes.{AtEachPrefix}
 use Rattle.hib_law.specs.Rows.{WasCommitted}
-use Rattle.hib_law.specs.Items.{Inserts, InsertsBy, WasGiven, IsItemGiven}
+use Rattle.hib_law.specs.Items.{Inserts, WasGiven, IsItemGiven}
 use Rattle.hib_base.proofs.Tables.{Tested, tested, same_key_eq, left_by, row_at_changes}
 use Rattle.hib_law.proofs.ReadOnlyRules.{AllowedOnly, allowed_only}
 use Rattle.hib_law.proofs.Stored.{is_item_old}
@@ -68,7 +69,7 @@ module _ (script : Script) (start : Tables) (k : Key) (only : strategy script k.
   committed_given r (e ∷ h) l p = by_committer (committer e.act e.reply e.session) refl (committed_given r h l.0)
     where
       by_last : (s : ℕ) (o : Option Change) → last_on k (changes s h) ≡ o → left_by o (row_at (committed start h) k) ≡ Some r →
-          (row_at (committed start h) k ≡ Some r → WasGiven start k r h) → InsertsBy k r h (Some s) ⊎ WasGiven start k r h
+          (row_at (committed start h) k ≡ Some r → WasGiven start k r h) → IsSomeAnd (Some s) (λ x. Inserts k r (changes x h)) ⊎ WasGiven start k r h
       by_last s None q f i = inr (i f)
       by_last s (Some z) q f i = inl (last_inserts k (changes s h) z r (no_updates s h l.0) q f)
 

@@ -1,7 +1,8 @@
 -- A session changes no row of a read-only entity: what it holds of such a key is as it arrived, so it writes no update of it.
 use Rattle.std.proofs.Common.{◌≡◌, ℕ, ◌⊎◌, inl, inr, Bool, true, false, cond, List, [], ◌∷◌, ◌++◌, Some, None, Option, refl, ap, sym, ◌∙◌, subst, arith}
 use Rattle.std.proofs.lemmas.Bool.{true≢false, false≢true, and_from, le-leb}
-use Rattle.std.specs.Prelude.{ℤ, pos, negsuc, int_le}
+use Rattle.std.specs.Prelude.{ℤ, pos, negsuc, int_le, option_and_then, unwrap_or, is_some}
+use Rattle.std.specs.Option.{option_or}
 use Rattle.std.specs.List.{flat_map, filter_map, cons_option}
 use Rattle.hib_journal.specs.Types.{State, Key, Row, Cell, Change, Strategy, Mode, Script, Act, Reply, Entry}
 use Rattle.hib_base.specs.Keys.{same_key}
@@ -10,10 +11,11 @@ use Rattle.hib_journal.specs.Sessions.{Journal, own, is_by, changes, changes_in,
 use Rattle.std.specs.Str.{bytes_eq}
 use Rattle.std.proofs.lemmas.Slice.Eq.{bytes_eq-Decides}
 use Rattle.hib_journal.specs.Query.{same_cell}
-use Rattle.hib_journal.specs.Held.{Arrival, arrival, arrived_row, Stay, stay, stay_after, is_break, row_written, last_written, or_row, base_of, has_left, cells_set, cells_after, with_cells, instance_of, Instance, held, held_by, same_cells, next_version, pending, arrived, removed, insert_of, insert_by, update_of, update_by, delete_of, delete_by, is_fresh}
+use Rattle.hib_journal.specs.Held.{Arrival, arrival, arrived_row, Stay, stay, stay_after, is_break, row_written, last_written, base_of, has_left, cells_set, cells_after, with_cells, instance_of, Instance, held, same_cells, next_version, pending, arrived, removed, insert_by, update_by, delete_by, is_fresh}
 use Rattle.hib_journal.specs.Next
-use Rattle.hib_journal.specs.Next.{tables_in, tables_of, is_in, is_in_tables, is_cached_query, mode_reads, mode_puts, strategy}
-use Rattle.hib_journal.specs.Legal.{IsLegal, IsStep, reply_of, fault_of, number, set_unless, is_there, row_of}
+use Rattle.hib_journal.specs.Next.{tables_in, tables_of, is_in, is_in_tables, mode_reads, mode_puts, strategy}
+use Rattle.hib_journal.specs.Legal.{IsLegal, IsStep, reply_of, fault_of, set_unless, row_of}
+use Rattle.hib_journal.proofs.Shapes.{insert_of, update_of, delete_of}
 use Rattle.hib_base.proofs.Tables.{Tested, tested, same_key_eq}
 use Rattle.hib_law.proofs.HeldRows.{Brings, brings, no_arrival, longer_some}
 use Rattle.hib_journal.proofs.Plans.{Allows, allows_join, runs_each}
@@ -75,7 +77,7 @@ arrived_on k m e w f g a l p = by_break (tested (is_break e.act e.reply))
     later : (d : Journal) → stay k m ≡ Some (a, d) → l ≡ e ∷ d → IsTrue k a l
     later d q u = subst (λ z. IsTrue k a z) (sym u) (set_none k m e (cells_set k d (arrived_row a).cells) f ∙ (w a d q).0, written (row_written k e.act) refl)
       where
-        written : (o : Option Row) → row_written k e.act ≡ o → (b : Row) → or_row (row_written k e.act) (last_written k d) ≡ Some b → b.cells ≡ (arrived_row a).cells
+        written : (o : Option Row) → row_written k e.act ≡ o → (b : Row) → option_or (row_written k e.act) (last_written k d) ≡ Some b → b.cells ≡ (arrived_row a).cells
         written None x b y = let z : last_written k d ≡ Some b = rw x at y in (w a d q).1 b z
         written (Some r) x b y = let z : Some r ≡ Some b = rw x at y in ap (λ i. i.cells) (sym (some_same z)) ∙ g a d r q x
 
@@ -185,7 +187,7 @@ held_as k m z w e = by_stay (stay k m) refl e
     base_cells : (a : Arrival) (l : Journal) → IsTrue k a l → (b : Row) → base_of k (a, l) ≡ Some b → b.cells ≡ (arrived_row a).cells
     base_cells (Arrival.Read j r) l t b q = by_written (last_written k l) refl q
       where
-        by_written : (o : Option Row) → last_written k l ≡ o → or_row o (Some r) ≡ Some b → b.cells ≡ r.cells
+        by_written : (o : Option Row) → last_written k l ≡ o → option_or o (Some r) ≡ Some b → b.cells ≡ r.cells
         by_written None x y = ap (λ i. i.cells) (sym (some_same y))
         by_written (Some d) x y = t.1 b (x ∙ y)
     base_cells (Arrival.Made j r) l t b q = t.1 b q
@@ -203,7 +205,7 @@ held_as k m z w e = by_stay (stay k m) refl e
           base = λ b q. base_cells a l t b (ap (λ i. i.base) g ∙ q);
         }
 
-    by_stay : (s : Option Stay) → stay k m ≡ s → held_by k s ≡ Some z → IsHeldAs k m z
+    by_stay : (s : Option Stay) → stay k m ≡ s → option_and_then (λ x. cond (has_left k x) None (Some (instance_of k x))) s ≡ Some z → IsHeldAs k m z
     by_stay None p e = none_some e
     by_stay (Some s) p e = by_left s.0 s.1 p (has_left k s) e
 
@@ -346,9 +348,9 @@ module _ (k : Key) where
       allow_key : (j : Key) (v : Option ℕ) (m : Journal) → Flushing m → Allow (Next.before_key script start j v) m Flushing
       allow_key j v m w = by_in (is_in j (changes_in start))
         where
-          by_in : (x : Bool) → Allow (cond x [] (Next.before_cached (strategy script j.entity) j (Next.fresh_version (is_fresh j start) v) (floor_in start))) m Flushing
+          by_in : (x : Bool) → Allow (cond x [] (Next.before_cached (strategy script j.entity) j (cond (is_fresh j start) v None) (floor_in start))) m Flushing
           by_in true = w
-          by_in false = allow_cached (strategy script j.entity) j (Next.fresh_version (is_fresh j start) v) (floor_in start) m w
+          by_in false = allow_cached (strategy script j.entity) j (cond (is_fresh j start) v None) (floor_in start) m w
 
       allow_before : (c : Change) (m : Journal) → Flushing m → Allow (Next.before_write script start c) m Flushing
       allow_before (Change.Insert j r) m w = w
@@ -416,13 +418,13 @@ module _ (k : Key) where
       refuses : (m h : Journal) (e : Entry) → IsStep script (Some start) h e → Refuses k m e
       refuses m h e t ps p q = elim t.reply [
         | inl r ↦
-            let g : e.reply ≡ cond (is_there (row_of (held (own (number e.session) h) k))) (set_unless (strategy script k.entity)) Reply.Unknown =
-            subst (λ a. e.reply ≡ reply_of script start h (number e.session) e.tick a) p r in
-            let f : Reply.Set ≡ cond (is_there (row_of (held (own (number e.session) h) k))) Reply.ReadOnly Reply.Unknown =
-            sym q ∙ (g ∙ ap (λ x. cond (is_there (row_of (held (own (number e.session) h) k))) (set_unless x) Reply.Unknown) only) in
-            not_set (is_there (row_of (held (own (number e.session) h) k))) f
+            let g : e.reply ≡ cond (is_some (row_of (held (own (unwrap_or e.session 0) h) k))) (set_unless (strategy script k.entity)) Reply.Unknown =
+            subst (λ a. e.reply ≡ reply_of script start h (unwrap_or e.session 0) e.tick a) p r in
+            let f : Reply.Set ≡ cond (is_some (row_of (held (own (unwrap_or e.session 0) h) k))) Reply.ReadOnly Reply.Unknown =
+            sym q ∙ (g ∙ ap (λ x. cond (is_some (row_of (held (own (unwrap_or e.session 0) h) k))) (set_unless x) Reply.Unknown) only) in
+            not_set (is_some (row_of (held (own (unwrap_or e.session 0) h) k))) f
         | inr f ↦
-            let g : fault_of (changes (number e.session) h) (Act.Set k ps) ≡ Some e.reply = subst (λ a. fault_of (changes (number e.session) h) a ≡ Some e.reply) p f in
+            let g : fault_of (changes (unwrap_or e.session 0) h) (Act.Set k ps) ≡ Some e.reply = subst (λ a. fault_of (changes (unwrap_or e.session 0) h) a ≡ Some e.reply) p f in
             none_some g
       ]
         where

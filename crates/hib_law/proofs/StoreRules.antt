@@ -1,16 +1,17 @@
 -- What a session's own entries allow it to store, of any key and whatever the strategy.
+use Rattle.std.specs.Prelude.{option_and_then, is_some, cond}
 use Rattle.std.proofs.Common.{◌≡◌, ℕ, Bool, true, false, ◌&&◌, List, [], ◌∷◌, ◌++◌, Some, None, Option, refl, ◌∙◌}
 use Rattle.std.proofs.lemmas.Bool.{false≢true}
 use Rattle.std.specs.List.{flat_map}
 use Rattle.hib_journal.specs.Types.{Key, Row, Change, Strategy, Mode, Script, Act, Reply, Entry}
-use Rattle.hib_base.specs.Tables.{Tables, first_on, last_on}
+use Rattle.hib_base.specs.Tables.{Tables, first_on, last_on, row_left}
 use Rattle.hib_journal.specs.Sessions.{Journal, own, is_by, changes_in, changes_after, time_in, floor_in, is_begun, begun_after}
 use Rattle.hib_journal.specs.Held.{held}
 use Rattle.hib_journal.specs.Plan.{one}
 use Rattle.hib_journal.specs.Next
 use Rattle.hib_journal.specs.Next.{tables_in, is_in, mode_puts, strategy, is_committed_reply, keys_of, complete, stamps_of, completion}
 use Rattle.hib_journal.specs.Legal.{IsLegal, IsStep}
-use Rattle.hib_journal.specs.Coherence.{done_in, done_after, row_by}
+use Rattle.hib_journal.specs.Coherence.{done_in, done_after}
 use Rattle.hib_journal.proofs.Plans.{Runs, Allows, allows_join, runs_each, runs_if}
 use Rattle.hib_law.proofs.Walks
 use Rattle.hib_law.proofs.Walks.{AreGood, runs_test, goes_act, not_in_test, is_list_act, is_flush_act, is_own_act}
@@ -23,7 +24,7 @@ MayPut (e ∷ m) k r = (e.act ≡ Act.Load k) × (e.reply ≡ Reply.Row (Some r)
 
 -- after a commit a row is stored that the last change on its key left
 abbrev pub MayStore : Journal → Key → Row → Type 0
-MayStore m k r = (is_begun m ≡ true) × (done_in m ≡ true) × (row_by (last_on k (changes_in m)) ≡ Some r)
+MayStore m k r = (is_begun m ≡ true) × (done_in m ≡ true) × (option_and_then row_left (last_on k (changes_in m)) ≡ Some r)
 
 abbrev pub AllowedStore : Journal → Act → Type 0
 AllowedStore m (Act.Put k r t f) = MayPut m k r
@@ -135,14 +136,14 @@ module _ (script : Script) where
 
   allow_complete : (mode : Mode) (past : Journal) (d : Bool) (cs : List Change) (k : Key) (m : Journal) → Ending cs d m →
       Allow (complete script mode past d cs k) m (Ending cs d)
-  allow_complete mode past d cs k m w = by_first (first_on k cs) (strategy script k.entity) (Next.puts_back (d && mode_puts mode) (last_on k cs)) refl
+  allow_complete mode past d cs k m w = by_first (first_on k cs) (strategy script k.entity) (cond (d && mode_puts mode) (option_and_then row_left (last_on k cs)) None) refl
     where
-      store : (r : Row) → Next.puts_back (d && mode_puts mode) (last_on k cs) ≡ Some r → MayStore m k r
+      store : (r : Row) → cond (d && mode_puts mode) (option_and_then row_left (last_on k cs)) None ≡ Some r → MayStore m k r
       store r p =
-          let b : (d ≡ true) × (row_by (last_on k cs) ≡ Some r) = put_back d (mode_puts mode) (last_on k cs) r p in
+          let b : (d ≡ true) × (option_and_then row_left (last_on k cs) ≡ Some r) = put_back d (mode_puts mode) (last_on k cs) r p in
           (w.0, w.2 ∙ b.0, rw (w.1) (b.1))
 
-      by_insert : (g : Strategy) (o : Option Row) → Next.puts_back (d && mode_puts mode) (last_on k cs) ≡ o → Allow (Next.complete_insert g k o (floor_in past)) m (Ending cs d)
+      by_insert : (g : Strategy) (o : Option Row) → cond (d && mode_puts mode) (option_and_then row_left (last_on k cs)) None ≡ o → Allow (Next.complete_insert g k o (floor_in past)) m (Ending cs d)
       by_insert Strategy.ReadOnly (Some r) p = allow_end cs d (Act.AfterInsert k r (floor_in past)) m w refl (store r p)
       by_insert Strategy.ReadWrite (Some r) p = allow_end cs d (Act.AfterInsert k r (floor_in past)) m w refl (store r p)
       by_insert Strategy.Nonstrict (Some r) p = w
@@ -152,17 +153,17 @@ module _ (script : Script) where
       by_insert Strategy.Nonstrict None p = w
       by_insert Strategy.Uncached None p = w
 
-      by_release : (i : ℕ) (o : Option Row) → Next.puts_back (d && mode_puts mode) (last_on k cs) ≡ o → Allow (Next.release_of k i o) m (Ending cs d)
+      by_release : (i : ℕ) (o : Option Row) → cond (d && mode_puts mode) (option_and_then row_left (last_on k cs)) None ≡ o → Allow (Next.release_of k i o) m (Ending cs d)
       by_release i (Some r) p = allow_end cs d (Act.AfterUpdate k i r) m w refl (store r p)
       by_release i None p = allow_end cs d (Act.Unlock k i) m w refl tt
 
-      by_update : (g : Strategy) (i : ℕ) (o : Option Row) → Next.puts_back (d && mode_puts mode) (last_on k cs) ≡ o → Allow (Next.complete_update g k i o) m (Ending cs d)
+      by_update : (g : Strategy) (i : ℕ) (o : Option Row) → cond (d && mode_puts mode) (option_and_then row_left (last_on k cs)) None ≡ o → Allow (Next.complete_update g k i o) m (Ending cs d)
       by_update Strategy.ReadWrite i o p = by_release i o p
       by_update Strategy.Uncached i o p = w
       by_update Strategy.ReadOnly i o p = allow_end cs d (Act.RegionRemove k) m w refl tt
       by_update Strategy.Nonstrict i o p = allow_end cs d (Act.RegionRemove k) m w refl tt
 
-      by_first : (c : Option Change) (g : Strategy) (o : Option Row) → Next.puts_back (d && mode_puts mode) (last_on k cs) ≡ o →
+      by_first : (c : Option Change) (g : Strategy) (o : Option Row) → cond (d && mode_puts mode) (option_and_then row_left (last_on k cs)) None ≡ o →
           Allow (Next.complete_by c g k (Next.lock_id k past) (floor_in past) o) m (Ending cs d)
       by_first None g o p = w
       by_first (Some (Change.Insert j x)) g o p = by_insert g o p
@@ -216,7 +217,7 @@ module _ (script : Script) where
 
     goes_find : Walks.Goes AllowedStore Anyhow (Next.find script mode k) IsBusy IsBusy
     goes_find m w =
-        runs_if AllowedStore Anyhow (Next.is_held (held m k)) (one (Act.Find k)) (Next.find_away script mode k) m IsBusy
+        runs_if AllowedStore Anyhow (is_some (held m k)) (one (Act.Find k)) (Next.find_away script mode k) m IsBusy
         (goes_act AllowedStore Anyhow IsBusy (Act.Find k) (keeps_work (Act.Find k) refl) m w)
         (runs_if AllowedStore Anyhow (Next.may_read script mode k m) (Next.get script mode k) (Next.load script mode k) m IsBusy
         (λ go g. (tt, λ e p r. goes_unless_hit e.reply (e ∷ m) (busy_on m e w (rw p refl)) go g)) (goes_load m w))

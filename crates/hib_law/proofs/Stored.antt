@@ -1,16 +1,18 @@
 -- Whatever the strategy, and of unsound keys too: a row that is stored was committed since the restart.
+use Rattle.std.specs.Prelude.{option_and_then}
+use Rattle.std.specs.Option.{option_map_or}
 use Rattle.std.proofs.Common.{◌≡◌, ℕ, zero, suc, inl, inr, Bool, true, false, [], ◌∷◌, Some, None, Option, refl, ap, sym, ◌∙◌, subst}
 use Rattle.std.proofs.lemmas.Bool.{true≢false, false≢true}
 use Rattle.hib_journal.specs.Types.{Key, Row, Change, Put, Unlocked, Inserted, Updated, Evicted, Script, Act, Reply, Entry}
-use Rattle.hib_base.specs.Tables.{Tables, row_at, last_on}
+use Rattle.hib_base.specs.Tables.{Tables, row_at, last_on, row_left}
 use Rattle.hib_journal.specs.Sessions.{Journal, is_by, own, changes, changes_in, changes_after, is_open, is_restart, committed, view}
-use Rattle.hib_journal.specs.Slot.{Touch, Base, History, Slot, slot_from, slot_of, base, locks, stretch, history, with_touch, touch, touch_here, touch_of, key_in}
+use Rattle.hib_journal.specs.Slot.{Touch, Base, History, Slot, slot_from, slot_of, base, locks, stretch, history, touch, touch_here, key_in, touch_at}
 use Rattle.hib_journal.specs.Room.{item}
 use Rattle.hib_journal.specs.Held.{is_begin}
 use Rattle.hib_journal.specs.Next.{is_in}
 use Rattle.hib_journal.specs.Legal.{IsLegal, IsStep, is_outside}
 use Rattle.hib_journal.specs.Sound.{up_to}
-use Rattle.hib_journal.specs.Coherence.{is_done, done_in, done_after, last_row, row_by}
+use Rattle.hib_journal.specs.Coherence.{is_done, done_in, done_after, last_row}
 use Rattle.hib_law.specs.Prefixes.{AtEachPrefix}
 use Rattle.hib_law.specs.Rows.{WasCommitted}
 use Rattle.hib_law.specs.Items.{IsItemOld}
@@ -54,7 +56,7 @@ pub data StoredBy (k : Key) (r : Row) (a : Act) : Type 0 where
   ByInsert : (f : ℕ) → a ≡ Act.AfterInsert k r f → StoredBy k r a
   ByUpdate : (i : ℕ) → a ≡ Act.AfterUpdate k i r → StoredBy k r a
 
-stored_by : (k : Key) (r : Row) (late : Bool) (a : Act) (d : Reply) → touch_of k (key_in a) a d ≡ Some (Touch.Stores r late) → StoredBy k r a
+stored_by : (k : Key) (r : Row) (late : Bool) (a : Act) (d : Reply) → option_and_then (λ j. touch_at k j a d) (key_in a) ≡ Some (Touch.Stores r late) → StoredBy k r a
 stored_by k r late a d e = by_key (key_in a) refl e
   where
     named : (j : Key) → key_in a ≡ Some j → j ≡ k → Gives r a → StoredBy k r a
@@ -68,7 +70,7 @@ stored_by k r late a d e = by_key (key_in a) refl e
     not_leaves : Touch.Stores r late ≡ Touch.Leaves → ⊥
     not_leaves x = cc
 
-    by_key : (o : Option Key) → key_in a ≡ o → touch_of k o a d ≡ Some (Touch.Stores r late) → StoredBy k r a
+    by_key : (o : Option Key) → key_in a ≡ o → option_and_then (λ j. touch_at k j a d) o ≡ Some (Touch.Stores r late) → StoredBy k r a
     by_key None p e = none_some e
     by_key (Some j) p e = elim (here_or_victim k j a d (Touch.Stores r late) e) [
       | inl x ↦ named j p x.0 (stores_here r late a d x.1)
@@ -96,7 +98,7 @@ module _ (script : Script) (start : Tables) (k : Key) where
       IH : Type 0
       IH = is_open s h ≡ true → is_done s h ≡ true → last_row k s h ≡ Some r → WasCommitted start k r h
 
-      left_some : (o : Option Change) (x : Option Row) → row_by o ≡ Some r → left_by o x ≡ Some r
+      left_some : (o : Option Change) (x : Option Row) → option_and_then row_left o ≡ Some r → left_by o x ≡ Some r
       left_some None x p = none_some p
       left_some (Some c) x p = p
 
@@ -111,7 +113,7 @@ module _ (script : Script) (start : Tables) (k : Key) where
           let f : is_done s h ≡ false = subst (λ y. AllowedStore (own s h) y) x a in
           absurd (true≢false (sym g ∙ f))
       mine n p w a (Kind.Commits x y) i =
-          let g : row_by (last_on k (changes s h)) ≡ Some r = rw (p, x) at q in
+          let g : option_and_then row_left (last_on k (changes s h)) ≡ Some r = rw (p, x) at q in
           let c : row_at (committed start (e ∷ h)) k ≡ left_by (last_on k (changes s h)) (row_at (committed start h) k) =
           rw (x, y, w) (row_at_changes (changes s h) (committed start h) k) in
           inl (c ∙ left_some (last_on k (changes s h)) (row_at (committed start h) k) g)
@@ -123,9 +125,9 @@ module _ (script : Script) (start : Tables) (k : Key) where
               absurd (false≢true (sym (begin_not e.act e.reply (done_in (own s h)) b) ∙ g))
           by_begin (inr b) =
               let g : done_after e.act e.reply (done_in (own s h)) ≡ true = rw p at d in
-              let f : row_by (last_on k (changes_after e.act (changes_in (own s h)))) ≡ Some r = rw p at q in
+              let f : option_and_then row_left (last_on k (changes_after e.act (changes_in (own s h)))) ≡ Some r = rw p at q in
               let g2 : is_done s h ≡ true = sym (x (done_in (own s h))) ∙ g in
-              let f2 : last_row k s h ≡ Some r = sym (ap (λ cs. row_by (last_on k cs)) (y (changes_in (own s h)))) ∙ f in
+              let f2 : last_row k s h ≡ Some r = sym (ap (λ cs. option_and_then row_left (last_on k cs)) (y (changes_in (own s h)))) ∙ f in
               inr (n, i (open_before s e.session e.act (is_open s h) (rw (p, b) refl) o) g2 f2)
 
       by_session : is_restart e.act ≡ false → Tested (is_by s e) → IH → WasCommitted start k r (e ∷ h)
@@ -193,7 +195,7 @@ module _ (script : Script) (start : Tables) (k : Key) where
   all_old [] l = tt
   all_old (e ∷ h) l = by_restart (tested (is_restart e.act)) (all_old h l.0)
     where
-      with_one : is_restart e.act ≡ false → (o : Option Touch) → touch k e ≡ o → AllOld h (history k h) → AllOld (e ∷ h) (with_touch o e.tick (history k h))
+      with_one : is_restart e.act ≡ false → (o : Option Touch) → touch k e ≡ o → AllOld h (history k h) → AllOld (e ∷ h) (option_map_or (λ t. (t, e.tick) ∷ (history k h)) o (history k h))
       with_one n None p a = old_on h e (history k h) n a
       with_one n (Some (Touch.Stores r late)) p a = (inr (n, stored_old h e r late l.0 l.1 p), old_on h e (history k h) n a)
       with_one n (Some (Touch.Locks v)) p a = old_on h e (history k h) n a

@@ -1,12 +1,14 @@
 -- What an answer of a region says of the slot that it touches.
+use Rattle.std.specs.Prelude.{option_map}
+use Rattle.std.specs.Option.{option_flatten, option_map_or}
 use Rattle.std.proofs.Common.{◌≡◌, ℕ, zero, suc, ◌⊎◌, inl, inr, Bool, true, false, cond, ◌&&◌, ◌||◌, ◌==◌, nat_lt, nat_le, List, [], ◌∷◌, Some, None, Option, refl, ap, sym, ◌∙◌}
 use Rattle.std.proofs.lemmas.Bool.{eqb-true, and_parts, false≢true}
 use Rattle.std.specs.List.{filter}
 use Rattle.hib_journal.specs.Types.{Key, Act, Reply, Put, Unlocked, Inserted, Updated, Evicted}
 use Rattle.hib_base.specs.Keys.{same_key}
 use Rattle.hib_journal.specs.Sessions.{Journal}
-use Rattle.hib_journal.specs.Slot.{Touch, LockState, Slot, slot, history, touch_here, touch_at, evicted_in, is_victim, is_positive}
-use Rattle.hib_journal.specs.Room.{key, named, place, may_leave, victim, room, room_by, first_placed, earlier_of, is_earlier}
+use Rattle.hib_journal.specs.Slot.{Touch, LockState, Slot, slot, history, touch_here, touch_at, evicted_in, is_positive}
+use Rattle.hib_journal.specs.Room.{key, named, place, may_leave, victim, room, first_placed, earlier_of, is_earlier}
 use Rattle.hib_journal.specs.Regions
 use Rattle.hib_base.proofs.Tables.{Tested, tested, same_key_eq}
 use Rattle.hib_law.specs.Locks.{holder_count}
@@ -39,7 +41,7 @@ unfolding victim
 victim_leaves timeout n floor h i e =
     first_is (λ j. place (history (key n j) h)) (λ j. may_leave floor (slot timeout (key n j) h)) (named n h) i e
 
-room_by_victim : (b : Bool) (v : Option ℕ) (i : ℕ) → room_by b v ≡ Some (Some i) → v ≡ Some i
+room_by_victim : (b : Bool) (v : Option ℕ) (i : ℕ) → cond b (Some None) (option_map (λ i. Some i) v) ≡ Some (Some i) → v ≡ Some i
 room_by_victim true v i e = none_some (some_same e)
 room_by_victim false None i e = none_some e
 room_by_victim false (Some j) i e = some_same e
@@ -54,15 +56,15 @@ pub here_or_victim : (k j : Key) (a : Act) (r : Reply) (t : Touch) → touch_at 
     ((j ≡ k) × (touch_here a r ≡ Some t)) ⊎ ((j.entity ≡ k.entity) × (evicted_in r ≡ Some k.id) × (t ≡ Touch.Leaves) × (same_key j k ≡ false))
 here_or_victim k j a r t e = by_key (tested (same_key j k)) e
   where
-    by_victim : (v : Option ℕ) → (j.entity ≡ k.entity) → is_victim k.id v ≡ true → v ≡ Some k.id
+    by_victim : (v : Option ℕ) → (j.entity ≡ k.entity) → option_map_or (λ x. x == k.id) v false ≡ true → v ≡ Some k.id
     by_victim None x y = absurd (false≢true y)
     by_victim (Some i) x y = ap Some (eqb-true i k.id y)
 
-    by_other : Tested ((j.entity == k.entity) && is_victim k.id (evicted_in r)) →
-        cond ((j.entity == k.entity) && is_victim k.id (evicted_in r)) (Some Touch.Leaves) None ≡ Some t →
+    by_other : Tested ((j.entity == k.entity) && option_map_or (λ v. v == k.id) (evicted_in r) false) →
+        cond ((j.entity == k.entity) && option_map_or (λ v. v == k.id) (evicted_in r) false) (Some Touch.Leaves) None ≡ Some t →
         (j.entity ≡ k.entity) × (evicted_in r ≡ Some k.id) × (t ≡ Touch.Leaves)
     by_other (inl x) e =
-        let p : ((j.entity == k.entity) ≡ true) × (is_victim k.id (evicted_in r) ≡ true) = and_parts (j.entity == k.entity) (is_victim k.id (evicted_in r)) x in
+        let p : ((j.entity == k.entity) ≡ true) × (option_map_or (λ v. v == k.id) (evicted_in r) false ≡ true) = and_parts (j.entity == k.entity) (option_map_or (λ v. v == k.id) (evicted_in r) false) x in
         let q : j.entity ≡ k.entity = eqb-true j.entity k.entity p.0 in
         let g : Some Touch.Leaves ≡ Some t = rw x at e in
         (q, by_victim (evicted_in r) q p.1, sym (some_same g))
@@ -72,9 +74,9 @@ here_or_victim k j a r t e = by_key (tested (same_key j k)) e
         ((j ≡ k) × (touch_here a r ≡ Some t)) ⊎ ((j.entity ≡ k.entity) × (evicted_in r ≡ Some k.id) × (t ≡ Touch.Leaves) × (same_key j k ≡ false))
     by_key (inl x) e = let g : touch_here a r ≡ Some t = rw x at e in inl (same_key_eq j k x, g)
     by_key (inr x) e =
-        let g : cond ((j.entity == k.entity) && is_victim k.id (evicted_in r)) (Some Touch.Leaves) None ≡ Some t = rw x at e in
+        let g : cond ((j.entity == k.entity) && option_map_or (λ v. v == k.id) (evicted_in r) false) (Some Touch.Leaves) None ≡ Some t = rw x at e in
         let o : (j.entity ≡ k.entity) × (evicted_in r ≡ Some k.id) × (t ≡ Touch.Leaves) =
-        by_other (tested ((j.entity == k.entity) && is_victim k.id (evicted_in r))) g in
+        by_other (tested ((j.entity == k.entity) && option_map_or (λ v. v == k.id) (evicted_in r) false)) g in
         inr (o.0, o.1, o.2, x)
 
 -- which answers name a victim
@@ -108,7 +110,7 @@ insert_victim Slot.Vacant (Some v) i e = ap Some e
 insert_victim (Slot.Item x u) r i e = none_some e
 insert_victim (Slot.Lock l) r i e = none_some e
 
-lock_by : (r : Option (Option ℕ)) (i : ℕ) → Regions.evicted_by r ≡ Some i → r ≡ Some (Some i)
+lock_by : (r : Option (Option ℕ)) (i : ℕ) → option_flatten r ≡ Some i → r ≡ Some (Some i)
 lock_by None i e = none_some e
 lock_by (Some v) i e = ap Some e
 

@@ -1,11 +1,13 @@
 -- A legal journal as seen from one read-write key: each entry is a move of the key's protocol.
+use Rattle.std.specs.Prelude.{option_and_then}
+use Rattle.std.specs.Option.{option_map_or}
 use Rattle.std.proofs.Common.{◌≡◌, ℕ, suc, ◌≤◌, ◌⊎◌, inl, inr, Bool, true, false, ◌∷◌, Some, None, Option, refl, ap, ◌∙◌, arith}
 use Rattle.std.proofs.lemmas.Bool.{false≢true}
 use Rattle.hib_journal.specs.Types.{Key, Row, Change, Script, Act, Reply, Unlocked, Updated, Entry}
 use Rattle.hib_base.specs.Tables.{Tables, row_at, first_on}
 use Rattle.hib_law.proofs.Commits.{AreSteps}
 use Rattle.hib_journal.specs.Sessions.{Journal, is_open, is_restart, time, changes, committed, committer}
-use Rattle.hib_journal.specs.Slot.{Touch, Slot, slot, history, touch, touch_here, touch_of, key_in, with_touch}
+use Rattle.hib_journal.specs.Slot.{Touch, Slot, slot, history, touch, touch_here, key_in, touch_at}
 use Rattle.hib_journal.specs.Regions
 use Rattle.hib_journal.specs.Legal.{reply_of}
 use Rattle.hib_journal.specs.Sound.{is_calm, was_deleted}
@@ -59,7 +61,7 @@ pub record IsOrderly (start : Tables) (k : Key) (h : Journal) (e : Entry) : Type
   -- a session commits once, a holder of the key unless its first change inserts it
   pub commits : (s : ℕ) → committer e.act e.reply e.session ≡ Some s → (is_done s h ≡ false) × IsReady k h s (first_on k (changes s h))
 
-pub history_step : (k : Key) (e : Entry) (h : Journal) → is_restart e.act ≡ false → history k (e ∷ h) ≡ with_touch (touch k e) e.tick (history k h)
+pub history_step : (k : Key) (e : Entry) (h : Journal) → is_restart e.act ≡ false → history k (e ∷ h) ≡ option_map_or (λ t. (t, e.tick) ∷ (history k h)) (touch k e) (history k h)
 history_step k e h n = rw n
 
 pub slot_touched : (script : Script) (k : Key) (e : Entry) (h : Journal) (x : Touch) → is_restart e.act ≡ false → touch k e ≡ Some x →
@@ -101,7 +103,7 @@ module _ (script : Script) (start : Tables) (k : Key) (h : Journal) where
       no : {x : Touch} → ◌≡◌ {A = Option Touch} (Some x) None → ⊥
       no e = cc
 
-  lock_none : (s now : ℕ) (j : Key) (v : Option ℕ) (f : ℕ) → touch_of k (Some j) (Act.Lock j v f) (reply_of script start h s now (Act.Lock j v f)) ≡ None →
+  lock_none : (s now : ℕ) (j : Key) (v : Option ℕ) (f : ℕ) → option_and_then (λ x. touch_at k x (Act.Lock j v f) (reply_of script start h s now (Act.Lock j v f))) (Some j) ≡ None →
       Tested (same_key j k) → same_key j k ≡ false
   lock_none s now j v f e (inr x) = x
   lock_none s now j v f e (inl x) = let g : Some (Touch.Locks v) ≡ None = rw x at e in some_none g
@@ -115,21 +117,21 @@ module _ (script : Script) (start : Tables) (k : Key) (h : Journal) where
   update_some (Updated.Shared m) j i r e = some_none e
   update_some Updated.Expired j i r e = some_none e
 
-  unlock_none : (s now : ℕ) (j : Key) (i : ℕ) → touch_of k (Some j) (Act.Unlock j i) (reply_of script start h s now (Act.Unlock j i)) ≡ None →
+  unlock_none : (s now : ℕ) (j : Key) (i : ℕ) → option_and_then (λ x. touch_at k x (Act.Unlock j i) (reply_of script start h s now (Act.Unlock j i))) (Some j) ≡ None →
       Tested (same_key j k) → same_key j k ≡ false
   unlock_none s now j i e (inr x) = x
   unlock_none s now j i e (inl x) =
       let g : touch_here (Act.Unlock j i) (Reply.Unlocked (Regions.unlock (slot script.timeout j h) i)) ≡ None = rw x at e in
       absurd (unlock_some (Regions.unlock (slot script.timeout j h) i) j i g)
 
-  update_none : (s now : ℕ) (j : Key) (i : ℕ) (r : Row) → touch_of k (Some j) (Act.AfterUpdate j i r) (reply_of script start h s now (Act.AfterUpdate j i r)) ≡ None →
+  update_none : (s now : ℕ) (j : Key) (i : ℕ) (r : Row) → option_and_then (λ x. touch_at k x (Act.AfterUpdate j i r) (reply_of script start h s now (Act.AfterUpdate j i r))) (Some j) ≡ None →
       Tested (same_key j k) → same_key j k ≡ false
   update_none s now j i r e (inr x) = x
   update_none s now j i r e (inl x) =
       let g : touch_here (Act.AfterUpdate j i r) (Reply.Updated (Regions.after_update (slot script.timeout j h) i)) ≡ None = rw x at e in
       absurd (update_some (Regions.after_update (slot script.timeout j h) i) j i r g)
 
-  pub untouched : (s now : ℕ) (a : Act) → touch_of k (key_in a) a (reply_of script start h s now a) ≡ None →
+  pub untouched : (s now : ℕ) (a : Act) → option_and_then (λ j. touch_at k j a (reply_of script start h s now a)) (key_in a) ≡ None →
       (takes k a ≡ false) × (gives_back k a ≡ false)
   untouched s now (Act.Lock j v f) e = (lock_none s now j v f e (tested (same_key j k)), refl)
   untouched s now (Act.Unlock j i) e = (refl, unlock_none s now j i e (tested (same_key j k)))

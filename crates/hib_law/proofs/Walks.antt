@@ -1,14 +1,16 @@
 -- A session made of good blocks: what holds of each act that it does. And blocks of acts that all keep one condition.
+use Rattle.std.specs.Prelude.{is_some, option_and_then}
+use Rattle.std.specs.Option.{option_map_or}
 use Rattle.std.proofs.Common.{◌≡◌, ℕ, inl, inr, Bool, true, false, cond, not, ◌&&◌, List, [], ◌∷◌, ◌++◌, slice_get, Some, None, Option, refl}
 use Rattle.std.proofs.lemmas.Bool.{false≢true, and_parts}
 use Rattle.std.specs.List.{flat_map}
 use Rattle.hib_journal.specs.Types.{Key, Row, Change, Strategy, Mode, Statement, Script, Act, Reply, Checked, Entry}
-use Rattle.hib_base.specs.Tables.{Tables, first_on, last_on}
+use Rattle.hib_base.specs.Tables.{Tables, first_on, last_on, row_left}
 use Rattle.hib_journal.specs.Sessions.{Journal, own, is_by, changes_in, time_in, floor_in}
 use Rattle.hib_journal.specs.Held.{held, pending, is_fresh}
 use Rattle.hib_journal.specs.Plan.{Block, one, left_of}
 use Rattle.hib_journal.specs.Next
-use Rattle.hib_journal.specs.Next.{strategy, plan_of, statements, mode_after, ends, tables_of, tables_in, is_in, is_in_tables, mode_puts, mode_reads}
+use Rattle.hib_journal.specs.Next.{strategy, plan_of, mode_after, ends, tables_of, tables_in, is_in, is_in_tables, mode_puts, mode_reads}
 use Rattle.hib_journal.specs.Legal.{IsLegal, IsStep}
 use Rattle.hib_base.proofs.Tables.{Tested, tested}
 use Rattle.hib_journal.proofs.Plans.{Good, Runs, Allows, allows_join, runs_each, runs_if, AllRight, good_left, allowed_first}
@@ -114,7 +116,7 @@ module _ (Allowed : Journal → Act → Type 0) (Right : Journal → Entry → T
 
         -- a find, where each of its acts keeps W
         pub goes_find : (k : Key) → Goes (Next.find script mode k) W W
-        goes_find k m w = runs_if Allowed Right (Next.is_held (held m k)) (one (Act.Find k)) (Next.find_away script mode k) m W
+        goes_find k m w = runs_if Allowed Right (is_some (held m k)) (one (Act.Find k)) (Next.find_away script mode k) m W
             (goes_act (Act.Find k) (keep (Act.Find k) refl) m w)
             (runs_if Allowed Right (Next.may_read script mode k m) (Next.get script mode k) (Next.load script mode k) m W (goes_get k m w) (goes_load k m w))
 
@@ -147,7 +149,7 @@ module _ (Allowed : Journal → Act → Type 0) (Right : Journal → Entry → T
 
       module _ (keep : AllKeep W is_end_act) where
         allow_complete : (d : Journal) (x : Bool) (cs : List Change) (k : Key) (m : Journal) → W m → Allows Allowed Right (Next.complete script mode d x cs k) m W
-        allow_complete d x cs k m w = by_first (first_on k cs) (strategy script k.entity) (Next.puts_back (x && mode_puts mode) (last_on k cs))
+        allow_complete d x cs k m w = by_first (first_on k cs) (strategy script k.entity) (cond (x && mode_puts mode) (option_and_then row_left (last_on k cs)) None)
           where
             act : (a : Act) → is_end_act a ≡ true → Allows Allowed Right (a ∷ []) m W
             act a p = keep a p m w
@@ -199,8 +201,8 @@ module _ (Allowed : Journal → Act → Type 0) (Right : Journal → Entry → T
 
           by_change : (c : Change) → Allows Allowed Right (Next.before_write script d c) m W
           by_change (Change.Insert k r) = w
-          by_change (Change.Update k v r) = by_test (is_in k (changes_in d)) k (Next.fresh_version (is_fresh k d) v)
-          by_change (Change.Delete k v) = by_test (is_in k (changes_in d)) k (Next.fresh_version (is_fresh k d) v)
+          by_change (Change.Update k v r) = by_test (is_in k (changes_in d)) k (cond (is_fresh k d) v None)
+          by_change (Change.Delete k v) = by_test (is_in k (changes_in d)) k (cond (is_fresh k d) v None)
 
       -- a flush, where each of its acts keeps W
       pub goes_flush : Goes (Next.flush script) W W
@@ -270,6 +272,6 @@ module _ (Allowed : Journal → Act → Type 0) (Right : Journal → Entry → T
       pub allowed : Over [] → (h : Journal) (e : Entry) → IsLegal script told h → IsStep script told h e → is_by s e ≡ true → Allowed (own s h) e.act
       allowed o h e l t p =
           allowed_first Allowed Right (left_of (plan_of script s) (own s h)) (own s h) e.act
-          (good_left Allowed Right (plan_of script s) (own s h) (good_blocks Mode.Normal true (statements (slice_get script.sessions s)) [] o)
+          (good_left Allowed Right (plan_of script s) (own s h) (good_blocks Mode.Normal true (option_map_or (λ d. d.statements) (slice_get script.sessions s) []) [] o)
           (steps_in_order script told s h l) (all_right h l))
           (next_is script s (own s h) e.act (next_act script told h e s t p).1)

@@ -1,4 +1,5 @@
 -- A sound read-write key is coherent at every entry of every legal journal; and what its sessions read, they have seen.
+use Rattle.std.specs.Prelude.{unwrap_or, cond}
 use Rattle.std.proofs.Common.{◌≡◌, ℕ, ◌<◌, ◌⊎◌, inl, inr, Bool, true, false, List, [], ◌∷◌, Some, None, Option, refl, ap, sym, ◌∙◌, subst}
 use Rattle.std.proofs.lemmas.Bool.{true≢false, false≢true, ltb-true}
 use Rattle.hib_journal.specs.Types.{Key, Row, Change, Strategy, Miss, Script, Act, Reply, Entry}
@@ -9,7 +10,7 @@ use Rattle.hib_journal.specs.Slot.{Slot, slot, history}
 use Rattle.hib_journal.specs.Regions
 use Rattle.hib_journal.specs.Held.{Arrival, arrival, is_begin}
 use Rattle.hib_journal.specs.Next.{strategy, is_in}
-use Rattle.hib_journal.specs.Legal.{IsLegal, IsReply, reply_of, fault_of, fault_unless, number, get_reply}
+use Rattle.hib_journal.specs.Legal.{IsLegal, IsReply, reply_of, fault_of, get_reply}
 use Rattle.hib_journal.specs.Sound.{is_sound}
 use Rattle.hib_journal.specs.Coherence.{Seen}
 use Rattle.hib_base.proofs.Tables.{Tested, tested, left_by, row_at_changes}
@@ -70,7 +71,7 @@ module _ (script : Script) (start : Tables) (k : Key) where
   get_fault : (cs : List Change) (t : ℕ) (r : Reply) → fault_of cs (Act.Get k t) ≡ Some r → ⊥
   get_fault cs t r e = none_some e
 
-  load_fault : (b : Bool) (x : Option Row) → fault_unless b Reply.Fault ≡ Some (Reply.Row x) → ⊥
+  load_fault : (b : Bool) (x : Option Row) → cond b None (Some Reply.Fault) ≡ Some (Reply.Row x) → ⊥
   load_fault true x e = none_some e
   load_fault false x e = let g : Reply.Fault ≡ Reply.Row x = some_same e in absurd (cc)
 
@@ -80,9 +81,9 @@ module _ (script : Script) (start : Tables) (k : Key) where
   got_by h e t rw_k r p = elim r [
     | inl q ↦
         let g : e.reply ≡ get_reply (strategy script k.entity) script h k t =
-        subst (λ a. e.reply ≡ reply_of script start h (number e.session) e.tick a) p q in
+        subst (λ a. e.reply ≡ reply_of script start h (unwrap_or e.session 0) e.tick a) p q in
         g ∙ ap (λ x. get_reply x script h k t) rw_k
-    | inr f ↦ absurd (get_fault (changes (number e.session) h) t e.reply (subst (λ a. fault_of (changes (number e.session) h) a ≡ Some e.reply) p f))
+    | inr f ↦ absurd (get_fault (changes (unwrap_or e.session 0) h) t e.reply (subst (λ a. fault_of (changes (unwrap_or e.session 0) h) a ≡ Some e.reply) p f))
   ]
 
   -- what a Load answers
@@ -90,12 +91,12 @@ module _ (script : Script) (start : Tables) (k : Key) where
       x ≡ view start h s k
   loaded_by h e s x r w p d = elim r [
     | inl q ↦
-        let g : e.reply ≡ Reply.Row (view start h (number e.session) k) = subst (λ a. e.reply ≡ reply_of script start h (number e.session) e.tick a) p q in
-        let f : Reply.Row x ≡ Reply.Row (view start h s k) = sym d ∙ (g ∙ ap (λ o. Reply.Row (view start h (number o) k)) w) in cc
+        let g : e.reply ≡ Reply.Row (view start h (unwrap_or e.session 0) k) = subst (λ a. e.reply ≡ reply_of script start h (unwrap_or e.session 0) e.tick a) p q in
+        let f : Reply.Row x ≡ Reply.Row (view start h s k) = sym d ∙ (g ∙ ap (λ o. Reply.Row (view start h (unwrap_or o 0) k)) w) in cc
     | inr f ↦
-        let g : fault_of (changes (number e.session) h) (Act.Load k) ≡ Some (Reply.Row x) =
-        subst (λ z. fault_of (changes (number e.session) h) (Act.Load k) ≡ Some z) d (subst (λ a. fault_of (changes (number e.session) h) a ≡ Some e.reply) p f) in
-        absurd (load_fault (is_in k (changes (number e.session) h)) x g)
+        let g : fault_of (changes (unwrap_or e.session 0) h) (Act.Load k) ≡ Some (Reply.Row x) =
+        subst (λ z. fault_of (changes (unwrap_or e.session 0) h) (Act.Load k) ≡ Some z) d (subst (λ a. fault_of (changes (unwrap_or e.session 0) h) a ≡ Some e.reply) p f) in
+        absurd (load_fault (is_in k (changes (unwrap_or e.session 0) h)) x g)
   ]
 
 module _ (script : Script) (start : Tables) (k : Key) (rw_k : strategy script k.entity ≡ Strategy.ReadWrite) where

@@ -1,14 +1,15 @@
 -- What a session's own entries allow it to do with one read-write key, block by block.
+use Rattle.std.specs.Prelude.{option_and_then, is_some}
 use Rattle.std.proofs.Common.{◌≡◌, ◌⊎◌, inl, Bool, true, false, cond, List, [], ◌∷◌, Some, None, Option, refl, ap, sym, ◌∙◌, subst}
 use Rattle.std.proofs.lemmas.Bool.{false≢true}
 use Rattle.hib_journal.specs.Types.{Key, Row, Change, Strategy, Mode, Script, Act, Reply, Entry}
 use Rattle.hib_base.specs.Keys.{same_key}
-use Rattle.hib_base.specs.Tables.{first_on, last_on}
+use Rattle.hib_base.specs.Tables.{first_on, last_on, row_left}
 use Rattle.hib_journal.specs.Sessions.{Journal, time_in, floor_in, changes_in, changes_after, is_begun, begun_after}
 use Rattle.hib_journal.specs.Held.{Arrival, arrival, held}
 use Rattle.hib_journal.specs.Plan.{Block, one}
-use Rattle.hib_journal.specs.Next.{strategy, is_cached, mode_reads, mode_puts, is_in, is_held, may_read, may_put, put_loaded, load, load_unless_hit, get, find_away, find, lock_id}
-use Rattle.hib_journal.specs.Coherence.{takes, gives_back, done_in, done_after, row_by}
+use Rattle.hib_journal.specs.Next.{strategy, is_cached, mode_reads, mode_puts, is_in, may_read, may_put, put_loaded, load, load_unless_hit, get, find_away, find, lock_id}
+use Rattle.hib_journal.specs.Coherence.{takes, gives_back, done_in, done_after}
 use Rattle.hib_base.proofs.Tables.{same_key_eq}
 use Rattle.hib_law.proofs.Commits.{AreSteps}
 use Rattle.hib_journal.proofs.Plans.{Runs, runs_if}
@@ -47,9 +48,9 @@ Allowed script k m (Act.Lock j v f) = same_key j k ≡ true →
     × (is_in k (changes_in m) ≡ false) × (holds k m ≡ false)
 Allowed script k m (Act.Unlock j i) = same_key j k ≡ true → (holds k m ≡ true) × (is_begun m ≡ true) × (i ≡ lock_id k m)
 Allowed script k m (Act.AfterUpdate j i r) = same_key j k ≡ true →
-    (holds k m ≡ true) × (done_in m ≡ true) × (row_by (last_on k (changes_in m)) ≡ Some r) × (is_begun m ≡ true) × (i ≡ lock_id k m)
+    (holds k m ≡ true) × (done_in m ≡ true) × (option_and_then row_left (last_on k (changes_in m)) ≡ Some r) × (is_begun m ≡ true) × (i ≡ lock_id k m)
 Allowed script k m (Act.AfterInsert j r f) = same_key j k ≡ true →
-    (done_in m ≡ true) × (row_by (last_on k (changes_in m)) ≡ Some r) × (f ≡ floor_in m) × (is_begun m ≡ true)
+    (done_in m ≡ true) × (option_and_then row_left (last_on k (changes_in m)) ≡ Some r) × (f ≡ floor_in m) × (is_begun m ≡ true)
 Allowed script k m Act.Commit = (done_in m ≡ false) × IsReadyIn k m (first_on k (changes_in m)) × (is_begun m ≡ true)
 Allowed script k m (Act.Write c) = done_in m ≡ false
 Allowed script k m Act.Begin = holds k m ≡ false
@@ -172,7 +173,7 @@ module _ (script : Script) (k : Key) where
     -- a find is allowed all through
     pub goes_find : Goes (find script mode j) (IsSettled k) (IsSettled k)
     goes_find m w =
-        runs_if (Allowed script k) (Right k) (is_held (held m j)) (one (Act.Find j)) (find_away script mode j) m (IsSettled k)
+        runs_if (Allowed script k) (Right k) (is_some (held m j)) (one (Act.Find j)) (find_away script mode j) m (IsSettled k)
         (goes_act (Allowed script k) (Right k) (IsSettled k) (Act.Find j) (keeps_plain (Act.Find j) refl (λ n v. tt)) m w)
         (runs_test (Allowed script k) (Right k) (may_read script mode j m) (get script mode j) (load script mode j) m (IsSettled k)
         (λ t go g. (λ s. free t s, λ e p r. goes_unless_hit e.reply (e ∷ m) (settled_plain k m e w (rw p refl) r) go g))

@@ -1,5 +1,5 @@
 -- What is claimed of the items of keys that need not be sound, and of the weaker regions.
-use Rattle.std.specs.Prelude.{◌≡◌, ℕ, ◌⊎◌, List, [], ◌∷◌, Some, None, Option}
+use Rattle.std.specs.Prelude.{◌≡◌, ℕ, ◌⊎◌, List, [], ◌∷◌, Some, IsSomeAnd}
 use Rattle.hib_journal.specs.Types.{Key, Row, Change, Script}
 use Rattle.hib_base.specs.Tables.{Tables, row_at}
 use Rattle.hib_journal.specs.Sessions.{Journal, changes, committer}
@@ -17,14 +17,10 @@ abbrev pub Inserts : Key → Row → List Change → Type 0
 Inserts k r [] = ⊥
 Inserts k r (c ∷ cs) = (c ≡ Change.Insert k r) ⊎ Inserts k r cs
 
-abbrev pub InsertsBy : Key → Row → Journal → Option ℕ → Type 0
-InsertsBy k r h None = ⊥
-InsertsBy k r h (Some s) = Inserts k r (changes s h)
-
 -- the rows at the start or a Committed Insert gave row r to k
 abbrev pub WasGiven : Tables → Key → Row → Journal → Type 0
 WasGiven start k r [] = row_at start k ≡ Some r
-WasGiven start k r (e ∷ h) = InsertsBy k r h (committer e.act e.reply e.session) ⊎ WasGiven start k r h
+WasGiven start k r (e ∷ h) = IsSomeAnd (committer e.act e.reply e.session) (λ s. Inserts k r (changes s h)) ⊎ WasGiven start k r h
 
 -- the item of a key of a read-only region is the row that it was given
 abbrev pub IsItemGiven : Tables → Key → Journal → Type 0

@@ -14,9 +14,8 @@ is_holder s k h = list_any (λ t. t == s) (holders k h)
 
 -- how many hold the lock in a slot
 abbrev pub holder_count : Slot → ℕ
-holder_count Slot.Vacant = 0
-holder_count (Slot.Item r t) = 0
 holder_count (Slot.Lock l) = l.holders
+holder_count _ = 0
 
 -- the slot counts the sessions that have locked k and not given the lock back, and each of them was told the id that the lock has
 pub record IsLockHeld (script : Script) (k : Key) (h : Journal) : Type 0 where

@@ -1,9 +1,9 @@
 -- Why the cache does not answer, or does not take a row: each refusal has its cause in the journal before it, with its number.
-use Rattle.std.specs.Prelude.{◌≡◌, ℕ, ◌≤◌, ◌⊎◌, Bool, true, false, List, ◌∷◌, ◌++◌, length, Some, None, Option}
+use Rattle.std.specs.Prelude.{◌≡◌, ℕ, ◌≤◌, ◌⊎◌, Bool, true, false, List, ◌∷◌, ◌++◌, length, IsSome, Some, None, Option}
 use Rattle.hib_journal.specs.Types.{Key, Row, Strategy, Checked, Miss, Put, Inserted, Script, Act, Reply, Entry}
 use Rattle.hib_journal.specs.Sessions.{Journal}
 use Rattle.hib_journal.specs.Slot.{LockState, Slot, slot, history}
-use Rattle.hib_journal.specs.Room.{item, is_item, has_entry}
+use Rattle.hib_journal.specs.Room.{item, has_entry}
 use Rattle.hib_journal.specs.Regions.{is_below}
 use Rattle.hib_journal.specs.Stamps.{stamp, check}
 use Rattle.hib_journal.specs.Results.{last_kept, others}
@@ -64,7 +64,7 @@ abbrev pub RefusesInsert : Strategy → Script → Journal → Key → ℕ → I
 RefusesInsert g script h k f (Inserted.Stored v) = Unit {0}
 RefusesInsert Strategy.ReadWrite script h k f Inserted.Present = has_entry (slot script.timeout k h) ≡ true
 RefusesInsert Strategy.ReadWrite script h k f Inserted.Crowded = (slot script.timeout k h ≡ Slot.Vacant) × (room_for script h k f ≡ None)
-RefusesInsert _ script h k f Inserted.Present = is_item (item (history k h)) ≡ true
+RefusesInsert _ script h k f Inserted.Present = IsSome (item (history k h))
 RefusesInsert _ script h k f Inserted.Crowded = ⊥
 
 -- the cause of each kind of refusal, over the journal before it

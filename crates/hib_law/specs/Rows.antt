@@ -1,6 +1,7 @@
 -- What is claimed of cached rows, and of the answers to finds.
-use Rattle.std.specs.Prelude.{◌≡◌, ℕ, ◌⊎◌, true, false, [], ◌∷◌, Some, None, Option}
-use Rattle.hib_journal.specs.Types.{Key, Row, Change, Script, Act, Reply, Entry}
+use Rattle.std.specs.Prelude.{◌≡◌, ℕ, ◌⊎◌, true, false, [], ◌∷◌, Some, Option}
+use Rattle.std.specs.Option.{option_map_or}
+use Rattle.hib_journal.specs.Types.{Key, Row, Script, Act, Reply, Entry}
 use Rattle.hib_base.specs.Tables.{Tables, row_at, row_left, last_on}
 use Rattle.hib_journal.specs.Sessions.{Journal, is_restart, own, changes, committed}
 use Rattle.hib_journal.specs.Slot.{Slot, slot}
@@ -24,11 +25,6 @@ pub record IsKeyCoherent (script : Script) (start : Tables) (k : Key) (h : Journ
   pub item : AtEachPrefix (λ g. is_sound k g ≡ true → IsItemCommitted script start k g) h
   pub hit : AtEachEntry (λ g e. is_sound k g ≡ true → IsHitCommitted start k g e) h
 
--- a session's own change, or else the committed row
-abbrev pub own_or : Option Change → Option Row → Option Row
-own_or None r = r
-own_or (Some c) r = row_left c
-
 -- r was the committed row of k at some entry since the restart, at this one or before it
 abbrev pub WasCommitted : Tables → Key → Row → Journal → Type 0
 WasCommitted start k r [] = row_at start k ≡ Some r
@@ -40,5 +36,5 @@ WasCommitted start k r (e ∷ h) =
 pub record IsFindAnswered (start : Tables) (h : Journal) (e : Entry) : Type 0 where
   pub hit : (k : Key) (t : ℕ) (r : Row) → e.act ≡ Act.Get k t → e.reply ≡ Reply.Hit r → WasCommitted start k r h
   pub load : (s : ℕ) (k : Key) (o : Option Row) → e.session ≡ Some s → e.act ≡ Act.Load k → e.reply ≡ Reply.Row o →
-      o ≡ own_or (last_on k (changes s h)) (row_at (committed start h) k)
+      o ≡ option_map_or row_left (last_on k (changes s h)) (row_at (committed start h) k)
   pub own : (s : ℕ) (k : Key) (o : Option Row) → e.session ≡ Some s → e.act ≡ Act.Find k → e.reply ≡ Reply.Row o → o ≡ row_of (held (own s h) k)

@@ -1,4 +1,5 @@
 -- Sessions' lists that are the entries in a merged list agree with it, and what is torn is not whole.
+use Rattle.std.specs.Prelude.{unwrap_or}
 use Rattle.std.proofs.Common.{◌≡◌, ◌<◌, ◌≤◌, ◌==◌, ◌↔◌, inl, inr, ℕ, zero, suc, Bool, true, false, cond, nat_lt, List, [], ◌∷◌, map, reverse, take, length, slice_get, Some, None, Option, refl, sym, ap, ◌∙◌, subst, arith}
 use Rattle.std.specs.List.{list_all}
 use Rattle.std.specs.Option.{MatchOption, IsNone}
@@ -11,7 +12,6 @@ use Rattle.hib_base.proofs.Tables.{Tested, tested}
 use Rattle.hib_journal.specs.Types.{Entry}
 use Rattle.hib_journal.specs.Sessions.{Journal, own, is_by, is_session}
 use Rattle.hib_journal.specs.Kept.{Kept, past}
-use Rattle.hib_journal.specs.Legal.{number}
 use Rattle.hib_split_law.specs.Apart.{HaveSessions}
 use Rattle.hib_split_law.specs.Merged.{list_of, Agrees, AreDue, due_tick}
 use Rattle.hib_merge.specs.declared.tearing.Torn.{Torn}
@@ -20,7 +20,7 @@ use Rattle.hib_merge.proofs.Reversed.{own_reverse}
 
 -- entries of the first sessions alone
 
-first_session : (n : ℕ) (o : Option ℕ) → is_of_first n o ≡ true → o ≡ Some (number o)
+first_session : (n : ℕ) (o : Option ℕ) → is_of_first n o ≡ true → o ≡ Some (unwrap_or o 0)
 first_session n None k = absurd (false≢true k)
 first_session n (Some s) k = refl
 
@@ -69,9 +69,9 @@ unfolding past
 agreed_lists mine merged a s =
     sym (reverse-reverse (list_at s mine)) ∙ (ap reverse (sym (list_back s mine) ∙ (sym (a.lists s) ∙ own_reverse s merged.list)) ∙ reverse-reverse (own s merged.list))
 
-session_there : (l : List Entry) (acc : Journal) (k : ℕ) (e : Entry) → HaveSessions (reverse_aux l acc) → slice_get l k ≡ Some e → e.session ≡ Some (number e.session)
+session_there : (l : List Entry) (acc : Journal) (k : ℕ) (e : Entry) → HaveSessions (reverse_aux l acc) → slice_get l k ≡ Some e → e.session ≡ Some (unwrap_or e.session 0)
 session_there [] acc k e h t = absurd (cc)
-session_there (x ∷ l) acc zero e h t = subst (λ (y : Entry). y.session ≡ Some (number y.session)) (same_Some x e t) (behind l (x ∷ acc) h).1
+session_there (x ∷ l) acc zero e h t = subst (λ (y : Entry). y.session ≡ Some (unwrap_or y.session 0)) (same_Some x e t) (behind l (x ∷ acc) h).1
   where
     behind : (l : List Entry) (acc : Journal) → HaveSessions (reverse_aux l acc) → HaveSessions acc
     behind [] acc h = h
@@ -93,7 +93,7 @@ own_there s (x ∷ l) (suc k) e t b n = own_there s l k e t b (rest (is_by s x) 
 
 all_known : (mine : List Kept) (merged : Kept) → Agrees (map past mine) (past merged) → (k : ℕ) (e : Entry) → slice_get merged.list k ≡ Some e → is_known (length mine) e ≡ true
 unfolding past
-all_known mine merged a k e t = by (number e.session) (session_there merged.list [] k e a.sessions t) (tested (nat_lt (number e.session) (length mine)))
+all_known mine merged a k e t = by (unwrap_or e.session 0) (session_there merged.list [] k e a.sessions t) (tested (nat_lt (unwrap_or e.session 0) (length mine)))
   where
     by : (s : ℕ) → e.session ≡ Some s → Tested (nat_lt s (length mine)) → is_known (length mine) e ≡ true
     by s q (inl p) = ap (is_of_first (length mine)) q ∙ p

@@ -1,10 +1,11 @@
 -- What a region of items answers is the reply that is due.
+use Rattle.std.specs.Prelude.{option_map}
 use Rattle.std.proofs.Common.{◌≡◌, ℕ, false, nat_eq, length, Some, None, Option, is_some, refl, sym, ap, ◌∙◌}
 use Rattle.std.specs.Map.{lookup}
 use Rattle.hib_journal.specs.Types.{Row, Strategy}
 use Rattle.hib_journal.specs.Sessions.{Journal}
 use Rattle.hib_journal.specs.Slot.{history}
-use Rattle.hib_journal.specs.Room.{key, named, item, is_item, stamp_in, items, oldest, first_placed}
+use Rattle.hib_journal.specs.Room.{key, named, item, items, oldest, first_placed}
 use Rattle.hib_journal.specs.Regions.{got_item}
 use Rattle.hib_journal.specs.Next.{capacity}
 use Rattle.hib_room_laws.specs.Order.{first_key}
@@ -16,22 +17,22 @@ use Rattle.hib_other_regions.specs.Stands.{IsItems, stamp_of}
 use Rattle.hib_other_regions.specs.Laws.{ReadOnlyGets, NonstrictGets, Puts, Inserts, Removes, Evicts}
 
 module _ (state : ItemsState) (n : ℕ) (h : Journal) (stands : IsItems state n h) where
-  there : (p : Option (Row × ℕ)) → is_item p ≡ is_some p
+  there : (p : Option (Row × ℕ)) → is_some p ≡ is_some p
   there None = refl
   there (Some p) = refl
 
   same_keys : HaveSame (items n h) state.items
   same_keys i =
-      among_filter n i (λ j. is_item (item (history (key n j) h))) h (λ l. ap is_item (left_item (history (key n i) h) l))
-      ∙ ap is_item (sym (stands.same i)) ∙ there (lookup (nat_eq i) state.items)
+      among_filter n i (λ j. is_some (item (history (key n j) h))) h (λ l. ap is_some (left_item (history (key n i) h) l))
+      ∙ ap is_some (sym (stands.same i)) ∙ there (lookup (nat_eq i) state.items)
 
   pub as_many : length (items n h) ≡ length state.items
   as_many = same_length (stamp_of state) (items n h) state.items
-      (filter_distinct (λ j. is_item (item (history (key n j) h))) (named n h) (named_distinct n h)) stands.order same_keys
+      (filter_distinct (λ j. is_some (item (history (key n j) h))) (named n h) (named_distinct n h)) stands.order same_keys
 
-  pub first_of_all : first_placed (λ i. stamp_in (item (history (key n i) h))) (items n h) ≡ first_key state.items
-  first_of_all = first_in_order (λ i. stamp_in (item (history (key n i) h))) (items n h) state.items
-      (order_same (stamp_of state) (λ i. stamp_in (item (history (key n i) h))) (λ i. ap stamp_in (sym (stands.same i))) state.items stands.order) same_keys
+  pub first_of_all : first_placed (λ i. option_map (λ p. p.1) (item (history (key n i) h))) (items n h) ≡ first_key state.items
+  first_of_all = first_in_order (λ i. option_map (λ p. p.1) (item (history (key n i) h))) (items n h) state.items
+      (order_same (stamp_of state) (λ i. option_map (λ p. p.1) (item (history (key n i) h))) (λ i. ap option_map (λ p. p.1) (sym (stands.same i))) state.items stands.order) same_keys
 
   pub oldest_is : (c : ℕ) → state.capacity ≡ c → oldest_in state ≡ oldest c n h
   unfolding oldest

@@ -1,13 +1,15 @@
 -- After each call the region stands for the journal with that entry.
+use Rattle.std.specs.Prelude.{is_some, ◌==◌}
+use Rattle.std.specs.Option.{option_map_or}
 use Rattle.std.proofs.Common.{◌≡◌, ◌<◌, ℕ, inl, inr, Bool, true, false, cond, ◌&&◌, nat_eq, nat_le, [], ◌∷◌, ◌++◌, Some, None, Option, refl, sym, ap, ◌∙◌, subst, arith, eq-eqb}
 use Rattle.std.specs.Map.{lookup, remove_entry}
 use Rattle.std.proofs.lemmas.Bool.{eqb-true}
 use Rattle.hib_base.proofs.Tables.{Tested, tested}
 use Rattle.hib_journal.specs.Types.{Key, Row, Part, Act, Reply, Entry, Miss, Put, Inserted, Evicted}
 use Rattle.hib_journal.specs.Sessions.{Journal, last_tick, same_part, is_restart}
-use Rattle.hib_journal.specs.Slot.{Touch, History, history, touch_here, with_touch, key_in, evicted_in, is_victim}
-use Rattle.hib_journal.specs.Room.{key, item, is_item}
-use Rattle.hib_journal.specs.Regions.{got_item, put_item, insert_item, remove_item, evict_item}
+use Rattle.hib_journal.specs.Slot.{Touch, History, history, touch_here, key_in, evicted_in}
+use Rattle.hib_journal.specs.Room.{key, item}
+use Rattle.hib_journal.specs.Regions.{got_item, put_item}
 use Rattle.hib_room_laws.specs.Order.{IsUpTo}
 use Rattle.hib_room_laws.specs.Elsewhere.{last_of}
 use Rattle.hib_room_laws.proofs.Touched.{touch_by, touched_by, quiet, elsewhere}
@@ -24,7 +26,7 @@ after_touch (Some Touch.Leaves) now p = None
 after_touch (Some Touch.Evicts) now p = None
 after_touch (Some _) now p = p
 
-item_after : (o : Option Touch) (now : ℕ) (s : History) → item (with_touch o now s) ≡ after_touch o now (item s)
+item_after : (o : Option Touch) (now : ℕ) (s : History) → item (option_map_or (λ t. (t, now) ∷ s) o s) ≡ after_touch o now (item s)
 item_after None now s = refl
 item_after (Some (Touch.Stores r late)) now s = refl
 item_after (Some Touch.Leaves) now s = refl
@@ -73,7 +75,7 @@ module _ (state : ItemsState) (k : Key) (h : Journal) (e : Entry) (a : Act) (r :
       (λ i. lookup_gone state.items (last_of k.entity h) rise k.id i ∙ sym (is i))
 
   -- an answer that stores a row in a new key, and names one that leaves
-  lookup_left : (v : Option ℕ) (i : ℕ) → lookup (nat_eq i) (without v state.items) ≡ cond (is_victim i v) None (item_in state i)
+  lookup_left : (v : Option ℕ) (i : ℕ) → lookup (nat_eq i) (without v state.items) ≡ cond (option_map_or (λ x. x == i) v false) None (item_in state i)
   lookup_left None i = refl
   lookup_left (Some v) i = lookup_gone state.items (last_of k.entity h) rise v i
 
@@ -89,11 +91,11 @@ module _ (state : ItemsState) (k : Key) (h : Journal) (e : Entry) (a : Act) (r :
       → IsItems (with_new k.id row e.tick state) k.entity (e ∷ h)
   stands_new row absent here left =
       let v = oldest_in state in
-      let gone : lookup (nat_eq k.id) (without v state.items) ≡ None = lookup_left v k.id ∙ ap (λ p. cond (is_victim k.id v) None p) absent ∙ none_left (is_victim k.id v) in
+      let gone : lookup (nat_eq k.id) (without v state.items) ≡ None = lookup_left v k.id ∙ ap (λ p. cond (option_map_or (λ x. x == k.id) v false) None p) absent ∙ none_left (option_map_or (λ x. x == k.id) v false) in
       stands_by (without v state.items ++ (k.id, (row, e.tick)) ∷ [])
       (rising_push (without v state.items) (last_of k.entity h) (rise_left v) k.id e.tick row gone last_before)
       (λ i. lookup_come (without v state.items) (last_of k.entity h) (rise_left v) k.id e.tick row gone last_before i ∙ ap (λ p. cond (nat_eq k.id i) (Some (row, e.tick)) p) (lookup_left v i)
-      ∙ rw (here, left) (by (nat_eq k.id i) (is_victim i v) (item_in state i)))
+      ∙ rw (here, left) (by (nat_eq k.id i) (option_map_or (λ x. x == i) v false) (item_in state i)))
     where
       by : (b c : Bool) (p : Option (Row × ℕ)) → cond b (Some (row, e.tick)) (cond c None p) ≡ after_touch (cond b (Some (Touch.Stores row false)) (cond c (Some Touch.Leaves) None)) e.tick p
       by true c p = refl
@@ -128,12 +130,12 @@ put_grows h e state k row time floor next = by (item_in state k.id) refl
     by None is =
         let r = Reply.Put (Put.Stored (oldest_in state) false) in
         let now : IsNext state k h e (Act.Put k row time floor) r = subst (λ p. IsNext state k h e (Act.Put k row time floor) (Reply.Put (put_item (oldest_in state) p))) is next in
-        subst (λ p. IsItems (cond (is_item p) state (with_new k.id row e.tick state)) k.entity (e ∷ h)) (sym is)
+        subst (λ p. IsItems (cond (is_some p) state (with_new k.id row e.tick state)) k.entity (e ∷ h)) (sym is)
         (stands_new state k h e (Act.Put k row time floor) r now refl refl row is refl refl)
     by (Some p) is =
         let r = Reply.Put (Put.Present p.0.version) in
         let now : IsNext state k h e (Act.Put k row time floor) r = subst (λ p. IsNext state k h e (Act.Put k row time floor) (Reply.Put (put_item (oldest_in state) p))) is next in
-        subst (λ p. IsItems (cond (is_item p) state (with_new k.id row e.tick state)) k.entity (e ∷ h)) (sym is)
+        subst (λ p. IsItems (cond (is_some p) state (with_new k.id row e.tick state)) k.entity (e ∷ h)) (sym is)
         (stands_same state k h e (Act.Put k row time floor) r now refl refl (λ i. quiet k.id i (Act.Put k row time floor) r refl refl))
 
 pub insert_grows : InsertGrows
@@ -142,13 +144,13 @@ insert_grows h e state k row floor next = by (item_in state k.id) refl
     by : (p : Option (Row × ℕ)) → item_in state k.id ≡ p → IsItems (after_put k.id row e.tick state) k.entity (e ∷ h)
     by None is =
         let r = Reply.Inserted (Inserted.Stored (oldest_in state)) in
-        let now : IsNext state k h e (Act.AfterInsert k row floor) r = subst (λ p. IsNext state k h e (Act.AfterInsert k row floor) (Reply.Inserted (insert_item (oldest_in state) p))) is next in
-        subst (λ p. IsItems (cond (is_item p) state (with_new k.id row e.tick state)) k.entity (e ∷ h)) (sym is)
+        let now : IsNext state k h e (Act.AfterInsert k row floor) r = subst (λ p. IsNext state k h e (Act.AfterInsert k row floor) (Reply.Inserted (cond (is_some p) Inserted.Present (Inserted.Stored (oldest_in state))))) is next in
+        subst (λ p. IsItems (cond (is_some p) state (with_new k.id row e.tick state)) k.entity (e ∷ h)) (sym is)
         (stands_new state k h e (Act.AfterInsert k row floor) r now refl refl row is refl refl)
     by (Some p) is =
         let r = Reply.Inserted Inserted.Present in
-        let now : IsNext state k h e (Act.AfterInsert k row floor) r = subst (λ p. IsNext state k h e (Act.AfterInsert k row floor) (Reply.Inserted (insert_item (oldest_in state) p))) is next in
-        subst (λ p. IsItems (cond (is_item p) state (with_new k.id row e.tick state)) k.entity (e ∷ h)) (sym is)
+        let now : IsNext state k h e (Act.AfterInsert k row floor) r = subst (λ p. IsNext state k h e (Act.AfterInsert k row floor) (Reply.Inserted (cond (is_some p) Inserted.Present (Inserted.Stored (oldest_in state))))) is next in
+        subst (λ p. IsItems (cond (is_some p) state (with_new k.id row e.tick state)) k.entity (e ∷ h)) (sym is)
         (stands_same state k h e (Act.AfterInsert k row floor) r now refl refl (λ i. quiet k.id i (Act.AfterInsert k row floor) r refl refl))
 
 leaves : (b : Bool) (t : Touch) (now : ℕ) (p : Option (Row × ℕ)) → after_touch (Some t) now p ≡ None → after_touch (cond b (Some t) None) now p ≡ cond b None p
@@ -160,10 +162,10 @@ remove_grows h e state k next = by (item_in state k.id) refl
   where
     by : (p : Option (Row × ℕ)) → item_in state k.id ≡ p → IsItems (after_remove k.id state) k.entity (e ∷ h)
     by None is =
-        stands_gone state k h e (Act.RegionRemove k) Reply.Absent (subst (λ p. IsNext state k h e (Act.RegionRemove k) (remove_item p)) is next) refl refl
+        stands_gone state k h e (Act.RegionRemove k) Reply.Absent (subst (λ p. IsNext state k h e (Act.RegionRemove k) (cond (is_some p) Reply.Dropped Reply.Absent)) is next) refl refl
         (λ i. ap (λ o. after_touch o e.tick (item_in state i)) (quiet k.id i (Act.RegionRemove k) Reply.Absent refl refl) ∙ gone_already state k.id i is)
     by (Some p) is =
-        stands_gone state k h e (Act.RegionRemove k) Reply.Dropped (subst (λ p. IsNext state k h e (Act.RegionRemove k) (remove_item p)) is next) refl refl
+        stands_gone state k h e (Act.RegionRemove k) Reply.Dropped (subst (λ p. IsNext state k h e (Act.RegionRemove k) (cond (is_some p) Reply.Dropped Reply.Absent)) is next) refl refl
         (λ i. leaves (nat_eq k.id i) Touch.Leaves e.tick (item_in state i) refl)
 
 pub evict_grows : EvictGrows
@@ -172,11 +174,11 @@ evict_grows h e state k next = by (item_in state k.id) refl
     by : (p : Option (Row × ℕ)) → item_in state k.id ≡ p → IsItems (after_remove k.id state) k.entity (e ∷ h)
     by None is =
         let r = Reply.Evicted Evicted.Absent in
-        stands_gone state k h e (Act.Evict k) r (subst (λ p. IsNext state k h e (Act.Evict k) (Reply.Evicted (evict_item p))) is next) refl refl
+        stands_gone state k h e (Act.Evict k) r (subst (λ p. IsNext state k h e (Act.Evict k) (Reply.Evicted (cond (is_some p) Evicted.Gone Evicted.Absent))) is next) refl refl
         (λ i. ap (λ o. after_touch o e.tick (item_in state i)) (quiet k.id i (Act.Evict k) r refl refl) ∙ gone_already state k.id i is)
     by (Some p) is =
         let r = Reply.Evicted Evicted.Gone in
-        stands_gone state k h e (Act.Evict k) r (subst (λ p. IsNext state k h e (Act.Evict k) (Reply.Evicted (evict_item p))) is next) refl refl
+        stands_gone state k h e (Act.Evict k) r (subst (λ p. IsNext state k h e (Act.Evict k) (Reply.Evicted (cond (is_some p) Evicted.Gone Evicted.Absent))) is next) refl refl
         (λ i. leaves (nat_eq k.id i) Touch.Evicts e.tick (item_in state i) refl)
 
 pub stays : Stays

@@ -1,8 +1,7 @@
 -- A region of items: what contracts see of it, and what each call leaves.
-use Rattle.std.specs.Prelude.{ℕ, cond, nat_eq, nat_lt, List, [], ◌∷◌, ◌++◌, length, Some, None, Option}
+use Rattle.std.specs.Prelude.{ℕ, cond, nat_eq, nat_lt, List, [], ◌∷◌, ◌++◌, length, Some, None, Option, is_some}
 use Rattle.std.specs.Map.{lookup, remove_entry}
 use Rattle.hib_journal.specs.Types.{Row}
-use Rattle.hib_journal.specs.Room.{is_item}
 use Rattle.hib_room_laws.specs.Order.{first_key}
 
 -- how many items there may be, and the items with their stamps by identifier, in order of insertion
@@ -30,7 +29,7 @@ with_new id row now state = record state { items = without (oldest_in state) sta
 
 -- what storing a row leaves: an item that is there stays
 abbrev pub after_put : ℕ → Row → ℕ → ItemsState → ItemsState
-after_put id row now state = cond (is_item (item_in state id)) state (with_new id row now state)
+after_put id row now state = cond (is_some (item_in state id)) state (with_new id row now state)
 
 abbrev pub after_remove : ℕ → ItemsState → ItemsState
 after_remove id state = record state { items = remove_entry (nat_eq id) state.items }

@@ -1,6 +1,7 @@
 // Regions that may answer a stale row now and then.
-ghost use Rattle.std.specs.Prelude.{◌≡◌, IfOk, OnOk, OnErr, false};
-ghost use Rattle.hib_journal.specs.Regions.{got_item, put_item, remove_item, evict_item};
+ghost use Rattle.std.specs.Prelude.{◌≡◌, IfOk, OnOk, OnErr, false, is_some, cond};
+ghost use Rattle.hib_journal.specs.Regions.{got_item, put_item};
+ghost use Rattle.hib_journal.specs.Types.{Reply, Evicted};
 ghost use Rattle.hib_other_regions.specs.Items.{empty, item_in, oldest_in, after_put, after_remove, after_clear};
 ghost use Rattle.hib_room_laws.specs.Answers.{got_reply, removed_reply};
 
@@ -65,7 +66,7 @@ impl NonstrictRegion {
 
     /// Removes an identifier, and answers whether it was there. It takes no memory.
     pub fn remove(&mut self, id: u64) -> bool
-        ensures answer { removed_reply result ≡ remove_item (item_in self.old id) }
+        ensures answer { removed_reply result ≡ cond (is_some (item_in self.old id)) Reply.Dropped Reply.Absent }
         ensures state { self.new ≡ after_remove id self.old }
     {
         self.items.remove(id)
@@ -73,7 +74,7 @@ impl NonstrictRegion {
 
     /// Removes an identifier at the wish of somebody outside. It takes no memory.
     pub fn evict(&mut self, id: u64) -> Evicted
-        ensures answer { result ≡ evict_item (item_in self.old id) }
+        ensures answer { result ≡ cond (is_some (item_in self.old id)) Evicted.Gone Evicted.Absent }
         ensures state { self.new ≡ after_remove id self.old }
     {
         if self.items.remove(id) {

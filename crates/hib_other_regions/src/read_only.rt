@@ -1,6 +1,7 @@
 // Regions of rows that never change.
-ghost use Rattle.std.specs.Prelude.{◌≡◌, IfOk, OnOk, OnErr, true};
-ghost use Rattle.hib_journal.specs.Regions.{got_item, put_item, insert_item, remove_item, evict_item};
+ghost use Rattle.std.specs.Prelude.{◌≡◌, IfOk, OnOk, OnErr, true, is_some, cond};
+ghost use Rattle.hib_journal.specs.Regions.{got_item, put_item};
+ghost use Rattle.hib_journal.specs.Types.{Inserted, Reply, Evicted};
 ghost use Rattle.hib_other_regions.specs.Items.{empty, item_in, oldest_in, after_put, after_remove, after_clear};
 ghost use Rattle.hib_room_laws.specs.Answers.{got_reply, removed_reply};
 
@@ -67,7 +68,7 @@ impl ReadOnlyRegion {
     /// Stores a row whose insert was committed, with the stamp `now`, unless there is one. The oldest item leaves a
     /// full region. At an error nothing has changed.
     pub fn after_insert(&mut self, id: u64, row: Row, now: Tick) -> Result<Inserted, AllocError>
-        ensures answer { IfOk result (λ put. put ≡ insert_item (oldest_in self.old) (item_in self.old id)) }
+        ensures answer { IfOk result (λ put. put ≡ cond (is_some (item_in self.old id)) Inserted.Present (Inserted.Stored (oldest_in self.old))) }
         ensures state { OnOk result (self.new ≡ after_put id row now self.old) }
         ensures err { OnErr result (self.new ≡ self.old) }
     {
@@ -80,7 +81,7 @@ impl ReadOnlyRegion {
 
     /// Removes an identifier, and answers whether it was there. It takes no memory.
     pub fn remove(&mut self, id: u64) -> bool
-        ensures answer { removed_reply result ≡ remove_item (item_in self.old id) }
+        ensures answer { removed_reply result ≡ cond (is_some (item_in self.old id)) Reply.Dropped Reply.Absent }
         ensures state { self.new ≡ after_remove id self.old }
     {
         self.items.remove(id)
@@ -88,7 +89,7 @@ impl ReadOnlyRegion {
 
     /// Removes an identifier at the wish of somebody outside. It takes no memory.
     pub fn evict(&mut self, id: u64) -> Evicted
-        ensures answer { result ≡ evict_item (item_in self.old id) }
+        ensures answer { result ≡ cond (is_some (item_in self.old id)) Evicted.Gone Evicted.Absent }
         ensures state { self.new ≡ after_remove id self.old }
     {
         if self.items.remove(id) {

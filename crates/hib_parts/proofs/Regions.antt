@@ -4,9 +4,10 @@ use Rattle.std.proofs.lemmas.List.{map-append}
 use Rattle.std.proofs.lemmas.List.Elements.{All-nil, All-cons, All-append}
 use Rattle.std.specs.List.{All, filter, range_with_len}
 use Rattle.std.specs.Prelude.{slice_get}
+use Rattle.std.specs.Option.{option_map_or}
 use Rattle.hib_journal.specs.Types.{EntityDef, Script}
 use Rattle.hib_journal.specs.Sessions.{Journal}
-use Rattle.hib_journal.specs.Next.{strategy, strategy_in, capacity, capacity_in}
+use Rattle.hib_journal.specs.Next.{strategy, strategy_in, capacity}
 use Rattle.hib_engines.specs.declared.region.Region.{Region}
 use Rattle.hib_engines.specs.Laws.{Laws}
 use Rattle.hib_engines.specs.Region.{empty, IsPlaced}
@@ -36,8 +37,8 @@ pub region_begins : Laws → (said script : Script) (n i : ℕ) (d : EntityDef) 
 region_begins laws said script n i d l x q e v p h = subst (λ j. IsPlaced script n j x) (sym e) (subst (λ z. IsPlaced script n [] z) (sym same) (begins laws script n (strategy script n) refl))
   where
     same : x ≡ empty (strategy script n) (capacity script n) script.timeout
-    same = h ∙ (sym (ap (λ o. empty (strategy_in o) (capacity_in o) said.timeout) p) ∙ (ap (λ m. empty (strategy_in (slice_get said.mapping m)) (capacity_in (slice_get said.mapping m)) said.timeout) v
-        ∙ ap (λ (s : Script). empty (strategy_in (slice_get s.mapping n)) (capacity_in (slice_get s.mapping n)) s.timeout) q))
+    same = h ∙ (sym (ap (λ o. empty (strategy_in o) (option_map_or (λ d. d.capacity) o 0) said.timeout) p) ∙ (ap (λ m. empty (strategy_in (slice_get said.mapping m)) (option_map_or (λ d. d.capacity) (slice_get said.mapping m) 0) said.timeout) v
+        ∙ ap (λ (s : Script). empty (strategy_in (slice_get s.mapping n)) (option_map_or (λ d. d.capacity) (slice_get s.mapping n) 0) s.timeout) q))
 
 pub regions_skip : (p : ℕ → Bool) (i n : ℕ) (xs ys : List RegionState) (whole : List ℕ) → i < n → entities xs ++ filter p (range_with_len i (n - i)) ≡ whole → p i ≡ false → ys ≡ xs → entities ys ++ filter p (range_with_len (i + 1) (n - (i + 1))) ≡ whole
 regions_skip p i n xs ys whole l h q e = subst (λ zs. entities zs ++ filter p (range_with_len (i + 1) (n - (i + 1))) ≡ whole) (sym e) (tables_skip p i n (entities xs) whole l h q)

@@ -1,11 +1,11 @@
 -- The reply that a part gives over its list is the one that is due in the list, and which replies own no memory.
+use Rattle.std.specs.Prelude.{is_some, cond}
 use Rattle.std.proofs.Common.{◌≡◌, ℕ, Bool, true, false, [], Some, None, Option, refl, ap, ◌∙◌, inl}
 use Rattle.std.proofs.lemmas.Bool.{true≢false, false≢true}
 use Rattle.hib_base.specs.Tables.{Tables}
 use Rattle.hib_journal.specs.Types.{Key, Row, Strategy, Script, Act, Reply, Part}
 use Rattle.hib_journal.specs.Sessions.{Journal}
 use Rattle.hib_journal.specs.Legal.{part_of, is_outside, reply_of, put_reply, insert_reply}
-use Rattle.hib_journal.specs.Regions.{remove_item}
 use Rattle.hib_journal.specs.Lists.{entry_at, IsReplyOf, IsStoreReply}
 use Rattle.hib_split_law.specs.Apart.{is_of_session}
 use Rattle.hib_session.specs.Memory.{brings}
@@ -78,7 +78,7 @@ insert_small : (g : Strategy) (script : Script) (l : Journal) (k : Key) (f : ℕ
 insert_small Strategy.ReadWrite script l k f = refl
 insert_small _ script l k f = refl
 
-remove_small : (i : Option (Row × ℕ)) → is_small (remove_item i) ≡ true
+remove_small : (i : Option (Row × ℕ)) → is_small (cond (is_some i) Reply.Dropped Reply.Absent) ≡ true
 remove_small None = refl
 remove_small (Some i) = refl
 

@@ -1,10 +1,11 @@
 -- The part of the results goes on.
+use Rattle.std.specs.Prelude.{unwrap_or}
 use Rattle.std.proofs.Common.{◌≡◌, ℕ, true, false, ◌∷◌, Some, Option, refl, sym, ap, subst}
 use Rattle.std.proofs.lemmas.Bool.{false≢true}
 use Rattle.hib_base.specs.Tables.{Tables}
 use Rattle.hib_journal.specs.Types.{Script, Act, Reply, Part}
 use Rattle.hib_journal.specs.Sessions.{Journal}
-use Rattle.hib_journal.specs.Legal.{part_of, number}
+use Rattle.hib_journal.specs.Legal.{part_of}
 use Rattle.hib_journal.specs.Lists.{entry_at}
 use Rattle.hib_session.specs.Memory.{brings}
 use Rattle.hib_query_cache.specs.Ranked.{Ranked}
@@ -27,7 +28,7 @@ pub record ResultsStep (script : Script) (told : Option Tables) (l : Journal) (y
 
 pub results_on : (script : Script) (told : Option Tables) (l view : Journal) (last : ℕ) (x y : Ranked) (w : WorkerState) (a : Act) (now : ℕ) (r : Reply) → l ≡ view → IsBuilt script → IsPartList script told Part.Results l last → AreResults script l x →
     IsDueOn script Part.Results w → IsDueAct script w a → IsLater now view w.list →
-    ((given : Script) (j : Journal) (by : Option ℕ) (t : ℕ) → AreResults given j x → is_for Part.Results a (number by) ≡ true → HasQuery given a → IsServed (λ m. AreResults given m y) given j by t a r) → ResultsStep script told l y w a now r
+    ((given : Script) (j : Journal) (by : Option ℕ) (t : ℕ) → AreResults given j x → is_for Part.Results a (unwrap_or by 0) ≡ true → HasQuery given a → IsServed (λ m. AreResults given m y) given j by t a r) → ResultsStep script told l y w a now r
 results_on script told l view last x y w a now r e b k stands on d t f =
     let q : part_of a w.number ≡ Part.Results = part_on script Part.Results w a on d in
     let here : is_for Part.Results a w.number ≡ true = for_part Part.Results a w.number q in

@@ -1,11 +1,12 @@
 -- The entry of an act that a shared part has answered fits the part's list and that of its session.
+use Rattle.std.specs.Prelude.{unwrap_or}
 use Rattle.std.proofs.Common.{◌≡◌, ◌<◌, ◌≤◌, ◌^◌, ℕ, true, false, ◌∷◌, Some, None, Option, refl, sym, ap, ◌∙◌, subst, arith, inl, inr}
 use Rattle.hib_base.specs.Tables.{Tables}
 use Rattle.hib_base.proofs.Tables.{Tested, tested}
 use Rattle.hib_journal.specs.Types.{Script, Act, Reply, Part, Entry}
 use Rattle.hib_journal.specs.Sessions.{Journal, same_part}
 use Rattle.hib_journal.specs.Next.{next, strategy}
-use Rattle.hib_journal.specs.Legal.{part_of, number}
+use Rattle.hib_journal.specs.Legal.{part_of}
 use Rattle.hib_journal.specs.Lists.{entry_at, IsLate, IsStoreReply}
 use Rattle.hib_session.specs.Memory.{brings}
 use Rattle.hib_session.specs.Session.{own_reply}
@@ -75,7 +76,7 @@ not_store p a s e h = ap (same_part Part.Store) e ∙ h
 
 pub stamps_step : (script : Script) (told : Option Tables) (l : Journal) (last : ℕ) (x y : Stamped) (w : WorkerState) (a : Act) (now : ℕ) (r : Reply) → IsPartList script told Part.Stamps l last → AreStamps script l x →
     IsDueOn script Part.Stamps w → IsDueAct script w a → IsLater now l w.list →
-    ((j : Journal) (by : Option ℕ) → AreStamps script j x → is_for Part.Stamps a (number by) ≡ true → IsServed (λ m. AreStamps script m y) script j by now a r) → StampsStep script told l y w a now r
+    ((j : Journal) (by : Option ℕ) → AreStamps script j x → is_for Part.Stamps a (unwrap_or by 0) ≡ true → IsServed (λ m. AreStamps script m y) script j by now a r) → StampsStep script told l y w a now r
 stamps_step script told l last x y w a now r k stands on d t f =
     let q : part_of a w.number ≡ Part.Stamps = part_on script Part.Stamps w a on d in
     let here : is_for Part.Stamps a w.number ≡ true = for_part Part.Stamps a w.number q in
@@ -129,9 +130,9 @@ entry_here w v l mid new a now r k m e = e ∙ (ap (λ n. entry_at now (Some n) 
 
 pub stamps_on : (said script : Script) (told : Option Tables) (l view : Journal) (last : ℕ) (x y : Stamped) (w : WorkerState) (a : Act) (now : ℕ) (r : Reply) → said ≡ script → l ≡ view → IsPartList script told Part.Stamps l last → AreStamps script l x →
     IsDueOn script Part.Stamps w → IsDueAct script w a → IsLater now view w.list →
-    ((j : Journal) (by : Option ℕ) → AreStamps said j x → is_for Part.Stamps a (number by) ≡ true → IsServed (λ m. AreStamps said m y) said j by now a r) → StampsStep script told l y w a now r
+    ((j : Journal) (by : Option ℕ) → AreStamps said j x → is_for Part.Stamps a (unwrap_or by 0) ≡ true → IsServed (λ m. AreStamps said m y) said j by now a r) → StampsStep script told l y w a now r
 stamps_on said script told l view last x y w a now r q e k stands on d t f = stamps_step script told l last x y w a now r k stands on d (subst (λ j. IsLater now j w.list) (sym e) t)
-    (subst (λ (s : Script). (j : Journal) (by : Option ℕ) → AreStamps s j x → is_for Part.Stamps a (number by) ≡ true → IsServed (λ m. AreStamps s m y) s j by now a r) q f)
+    (subst (λ (s : Script). (j : Journal) (by : Option ℕ) → AreStamps s j x → is_for Part.Stamps a (unwrap_or by 0) ≡ true → IsServed (λ m. AreStamps s m y) s j by now a r) q f)
 
 pub stamps_after : (script : Script) (told : Option Tables) (l new : Journal) (y : Stamped) (w : WorkerState) (a : Act) (now : ℕ) (r : Reply) → IsBuilt script → StampsStep script told l y w a now r → new ≡ entry_at now (Some w.number) a r ∷ l →
     IsBuilt script × IsPartList script told Part.Stamps new now × AreStamps script new y

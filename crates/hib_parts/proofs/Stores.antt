@@ -1,13 +1,14 @@
 -- The part of the store goes on: it stands for its list with one entry more, and its keeper's counts rise as the list says.
+use Rattle.std.specs.Prelude.{cond, unwrap_or, length, ◌==◌}
 use Rattle.std.proofs.Common.{◌≡◌, ◌⊎◌, ◌<◌, ◌≤◌, ◌+◌, ◌^◌, ℕ, Bool, true, false, [], ◌∷◌, Some, None, Option, refl, sym, ap, ◌∙◌, subst, arith, inl, inr}
 use Rattle.std.proofs.lemmas.Bool.{true≢false, false≢true}
 use Rattle.hib_base.specs.Tables.{Tables}
 use Rattle.hib_base.proofs.Tables.{Tested, tested}
 use Rattle.hib_journal.specs.Types.{Commit, Script, Act, Reply, Part}
 use Rattle.hib_journal.specs.Sessions.{Journal}
-use Rattle.hib_journal.specs.Legal.{part_of, number, is_empty, fault_unless, is_of_store}
+use Rattle.hib_journal.specs.Legal.{part_of, is_of_store}
 use Rattle.hib_journal.specs.Lists.{entry_at, unsaved, IsStoreReply}
-use Rattle.hib_journal.specs.Runs.{one_if, asks, is_fault, fault_count}
+use Rattle.hib_journal.specs.Runs.{asks, is_fault, fault_count}
 use Rattle.hib_outside.specs.Causes.{Rose}
 use Rattle.hib_session.specs.Memory.{brings}
 use Rattle.hib_store.specs.Stores.{StoreState, changes_of}
@@ -42,7 +43,7 @@ answer_small q r (Some x) (inr e) p h = ap is_small (sym (same e)) ∙ h
     same : Some x ≡ Some r → x ≡ r
     same z = cc
 
-fault_small : (b : Bool) → SmallIf (fault_unless b (Reply.Commit Commit.Fault))
+fault_small : (b : Bool) → SmallIf (cond b None (Some (Reply.Commit Commit.Fault)))
 fault_small true = tt
 fault_small false = refl
 
@@ -56,7 +57,7 @@ store_small script told l s now (Act.List q) r v p b = absurd (true≢false b)
 store_small script None l s now (Act.Write c) r v p b = answer_small Reply.Written r None (v.1 refl) refl tt
 store_small script (Some start) l s now (Act.Write c) r v p b = answer_small Reply.Written r None v refl tt
 store_small script None l s now Act.Commit r v p b = commit_small r v.0
-store_small script (Some start) l s now Act.Commit r v p b = answer_small _ r _ v refl (fault_small (is_empty (unsaved s l)))
+store_small script (Some start) l s now Act.Commit r v p b = answer_small _ r _ v refl (fault_small (length (unsaved s l) == 0))
 store_small script None l s now Act.Rollback r v p b = answer_small Reply.Done r None (v.1 refl) refl tt
 store_small script (Some start) l s now Act.Rollback r v p b = answer_small Reply.Done r None v refl tt
 store_small script told l s now _ r v p b = absurd (false≢true p)
@@ -67,12 +68,12 @@ pub record StoreStep (script : Script) (told : Option Tables) (l : Journal) (x y
   pub reply : IsStoreReply script told l (entry_at now (Some w.number) a r)
   pub stands : IsStored told (entry_at now (Some w.number) a r ∷ l) y
   pub small : brings a ≡ false → is_small r ≡ true
-  pub asked : RoseWithin x.asked (one_if (asks (unsaved w.number l) a)) y.asked
+  pub asked : RoseWithin x.asked (cond (asks (unsaved w.number l) a) 1 0) y.asked
 
 pub store_step : (script : Script) (told : Option Tables) (l : Journal) (x y : StoreState) (w : WorkerState) (a : Act) (now : ℕ) (r : Reply) → IsBuilt script → IsStored told l x →
     IsDueOn script Part.Store w → IsDueAct script w a → IsLater now l w.list →
     ((given : Option Tables) (j : Journal) (t : ℕ) → IsStored given j x → is_for Part.Store a w.number ≡ true → HasQuery script a → IsStoreServed script given j t w.number a r y) →
-    RoseWithin x.asked (one_if (asks (changes_of x w.number) a)) y.asked → StoreStep script told l x y w a now r
+    RoseWithin x.asked (cond (asks (changes_of x w.number) a) 1 0) y.asked → StoreStep script told l x y w a now r
 store_step script told l x y w a now r b stands on d t f g =
     let q : part_of a w.number ≡ Part.Store = part_on script Part.Store w a on d in
     let here : is_for Part.Store a w.number ≡ true = for_part Part.Store a w.number q in
@@ -83,7 +84,7 @@ store_step script told l x y w a now r b stands on d t f g =
       reply = v.reply;
       stands = v.stands;
       small = λ p. store_small script told l w.number now a r v.reply here p;
-      asked = subst (λ cs. RoseWithin x.asked (one_if (asks cs a)) y.asked) (stands.changes w.number) g;
+      asked = subst (λ cs. RoseWithin x.asked (cond (asks cs a) 1 0) y.asked) (stands.changes w.number) g;
     }
 
 -- ---- the part
@@ -95,9 +96,9 @@ pub keeping_more : (script : Script) (from : Origin) (now : ℕ) (l k : Journal)
 keeping_more script from now l k x y w v refused h m = record {
   stands = m.stands;
   faults = subst (λ j. RoseBy from.faults (fault_count j) y.faults) (sym m.list)
-      (rose_more from.faults (fault_count l) x.faults (one_if (is_fault m.entry.reply)) y.faults h.faults (rose_if m.entry.reply x.faults y.faults m.faults m.fault));
+      (rose_more from.faults (fault_count l) x.faults (cond (is_fault m.entry.reply) 1 0) y.faults h.faults (rose_if m.entry.reply x.faults y.faults m.faults m.fault));
   asked = λ u. subst (λ j. RoseWithin from.asked (store_ask_count j) y.asked) (sym m.list)
-      (within_more from.asked (store_ask_count l) x.asked (one_if (asks (unsaved (number m.entry.session) l) m.entry.act)) y.asked (h.asked u) m.asked);
+      (within_more from.asked (store_ask_count l) x.asked (cond (asks (unsaved (unwrap_or m.entry.session 0) l) m.entry.act) 1 0) y.asked (h.asked u) m.asked);
 }
 
 pub list_more : (script : Script) (told : Option Tables) (now : ℕ) (l k : Journal) (x y : StoreState) (w v : WorkerState) (last : ℕ) → IsPartList script told Part.Store l last → IsLater now l w.list → IsStoreEntered script told now l k x y w v →
@@ -128,13 +129,13 @@ keeping_begins from l x e t f w a = subst (λ j. IsKeeping from j x false) (sym 
 pub store_on : (said script : Script) (told : Option Tables) (l : Journal) (n : ℕ) (x y : StoreState) (w v : WorkerState) (a : Act) (now : ℕ) (r : Reply) → said ≡ script → IsKept w v → n ≡ v.number → IsBuilt script →
     IsStored told l x → IsDueOn script Part.Store w → IsDueAct script w a → IsLater now l w.list →
     ((given : Option Tables) (j : Journal) (t : ℕ) → IsStored given j x → is_for Part.Store a n ≡ true → HasQuery said a → IsStoreServed said given j t n a r y) →
-    RoseWithin x.asked (one_if (asks (changes_of x n) a)) y.asked → StoreStep script told l x y w a now r
+    RoseWithin x.asked (cond (asks (changes_of x n) a) 1 0) y.asked → StoreStep script told l x y w a now r
 store_on said script told l n x y w v a now r q k e b stands on d t f g =
     let same : n ≡ w.number = e ∙ k.number in
     store_step script told l x y w a now r b stands on d t
     (subst (λ m. (given : Option Tables) (j : Journal) (u : ℕ) → IsStored given j x → is_for Part.Store a m ≡ true → HasQuery script a → IsStoreServed script given j u m a r y) same
     (subst (λ (s : Script). (given : Option Tables) (j : Journal) (u : ℕ) → IsStored given j x → is_for Part.Store a n ≡ true → HasQuery s a → IsStoreServed s given j u n a r y) q f))
-    (subst (λ m. RoseWithin x.asked (one_if (asks (changes_of x m) a)) y.asked) same g)
+    (subst (λ m. RoseWithin x.asked (cond (asks (changes_of x m) a) 1 0) y.asked) same g)
 
 pub store_entered : (script : Script) (told : Option Tables) (l new : Journal) (x y : StoreState) (w v : WorkerState) (a : Act) (now : ℕ) (r : Reply) → StoreStep script told l x y w a now r →
     new ≡ entry_at now (Some w.number) a r ∷ l → v.list ≡ entry_at now (Some w.number) a r ∷ w.list → v.left < w.left → x.faults ≤ y.faults → (is_fault r ≡ true → Rose x.faults y.faults) → IsStoreEntered script told now l new x y w v

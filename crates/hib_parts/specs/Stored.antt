@@ -1,11 +1,10 @@
 -- What the part of the store keeps.
-use Rattle.std.specs.Prelude.{◌≡◌, ◌<◌, ◌≤◌, ℕ, Bool, true, false, ◌∷◌, Option}
+use Rattle.std.specs.Prelude.{◌≡◌, ◌<◌, ◌≤◌, ℕ, Bool, true, false, ◌∷◌, Option, unwrap_or, cond}
 use Rattle.hib_base.specs.Tables.{Tables}
 use Rattle.hib_journal.specs.Types.{Script, Part, Entry}
 use Rattle.hib_journal.specs.Sessions.{Journal}
-use Rattle.hib_journal.specs.Legal.{number}
 use Rattle.hib_journal.specs.Lists.{unsaved, IsStoreReply}
-use Rattle.hib_journal.specs.Runs.{one_if, asks, is_fault, fault_count}
+use Rattle.hib_journal.specs.Runs.{asks, is_fault, fault_count}
 use Rattle.hib_outside.specs.Causes.{Rose}
 use Rattle.hib_store.specs.Stores.{StoreState}
 use Rattle.hib_engines.specs.Counts.{RoseBy, RoseWithin}
@@ -39,6 +38,6 @@ pub record IsStoreEntered (script : Script) (told : Option Tables) (now : ℕ) (
   pub less : v.left < w.left
   pub reply : IsStoreReply script told l entry
   pub stands : IsStored told k y
-  pub asked : RoseWithin x.asked (one_if (asks (unsaved (number entry.session) l) entry.act)) y.asked
+  pub asked : RoseWithin x.asked (cond (asks (unsaved (unwrap_or entry.session 0) l) entry.act) 1 0) y.asked
   pub faults : x.faults ≤ y.faults
   pub fault : is_fault entry.reply ≡ true → Rose x.faults y.faults

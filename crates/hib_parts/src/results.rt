@@ -1,11 +1,10 @@
 // The results of queries, with the list of their entries.
-ghost use Rattle.std.specs.Prelude.{◌≡◌, ◌≤◌, ◌^◌, ℕ, Option, [], true, IfOk, OnOk, OnErr};
+ghost use Rattle.std.specs.Prelude.{◌≡◌, ◌≤◌, ◌^◌, ℕ, Option, [], true, IfOk, OnOk, OnErr, unwrap_or};
+ghost use Rattle.std.specs.Option.{option_map_or};
 ghost use Rattle.hib_base.specs.declared.entries.Part.{Part};
 ghost use Rattle.hib_base.specs.declared.replies.Reply.{Reply};
 ghost use Rattle.hib_base.specs.declared.scripts.Script.{Script as Said};
 ghost use Rattle.hib_journal.specs.Kept.{past};
-ghost use Rattle.hib_journal.specs.Legal.{number};
-ghost use Rattle.hib_journal.specs.Results.{found};
 ghost use Rattle.hib_journal.specs.Sessions.{Journal as Entries};
 ghost use Rattle.hib_query_cache.specs.Ranked.{result_of, used, with_result, dropped_for};
 ghost use Rattle.hib_engines.specs.Results.{AreResults};
@@ -51,7 +50,7 @@ impl<N: Name> Model for ResultsPart<N> {
 
 /// What a look is answered.
 fn found_reply(alloc: Global, results: &Results, query: QueryNo) -> Result<Reply, AllocError>
-    ensures { IfOk result (λ r. r ≡ found (result_of query results.now.kept)) }
+    ensures { IfOk result (λ r. r ≡ option_map_or (λ k. Reply.Found k.0 k.1) (result_of query results.now.kept) Reply.Absent) }
 {
     match results.peek(query) {
         Some((time, list)) => Ok(Reply::Found {
@@ -75,7 +74,7 @@ fn look_twice(
     results: &mut Results,
     query: QueryNo,
 ) -> Result<(Reply, Reply), AllocError>
-    ensures reply { IfOk result (λ r. r.0 ≡ found (result_of query results.old.kept)) }
+    ensures reply { IfOk result (λ r. r.0 ≡ option_map_or (λ k. Reply.Found k.0 k.1) (result_of query results.old.kept) Reply.Absent) }
     ensures twin { IfOk result (λ r. r.1 ≡ r.0) }
     ensures state { OnOk result (results.new ≡ record results.old { kept = used query results.old.kept }) }
     ensures err { OnErr result (results.new ≡ results.old) }
@@ -117,7 +116,7 @@ fn answer_twice(
     results: &mut Results,
     act: &Act,
 ) -> Result<(Reply, Reply), AllocError>
-    ensures answered { IfOk result (λ r. (script : Said) (l : Entries) (by : Option ℕ) (now : ℕ) → AreResults script l results.old → is_for Part.Results act.now (number by) ≡ true
+    ensures answered { IfOk result (λ r. (script : Said) (l : Entries) (by : Option ℕ) (now : ℕ) → AreResults script l results.old → is_for Part.Results act.now (unwrap_or by 0) ≡ true
         → HasQuery script act.now → IsServed (λ m. AreResults script m results.new) script l by now act.now r.0) }
     ensures twin { IfOk result (λ r. r.1 ≡ r.0) }
     ensures err { OnErr result (results.new ≡ results.old) }

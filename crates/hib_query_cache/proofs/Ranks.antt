@@ -1,6 +1,7 @@
 -- Results follow a journal.
 use Rattle.std.proofs.Common.{◌≡◌, ◌≢◌, ℕ, zero, suc, ◌+◌, ◌-◌, ◌<◌, ◌≤◌, inl, inr, ◌⊎◌, Bool, true, false, cond, not, ◌&&◌, ◌||◌, ◌==◌, List, [], ◌∷◌, length, take, slice_get, Some, None, Option, refl, ap, sym, ◌∙◌, subst, arith}
-use Rattle.std.specs.Prelude.{nat_eq, nat_lt}
+use Rattle.std.specs.Prelude.{nat_eq, nat_lt, is_some}
+use Rattle.std.specs.Option.{option_map_or}
 use Rattle.std.specs.List.{find, range_with_len}
 use Rattle.std.proofs.lemmas.Bool.{eqb-true, ne_eqb, true≢false, lt-ltb, le-ltb}
 use Rattle.std.proofs.lemmas.List.{length-take, take_all}
@@ -10,7 +11,7 @@ use Rattle.hib_journal.specs.Sessions.{Journal, is_restart}
 use Rattle.hib_journal.specs.Room.{add_once}
 use Rattle.hib_journal.specs.Stamps.{names}
 use Rattle.hib_journal.specs.Results as told
-use Rattle.hib_journal.specs.Results.{Result, others, others_after, last_kept, kept_after, found, has, dropped, stays}
+use Rattle.hib_journal.specs.Results.{Result, others, others_after, last_kept, kept_after, dropped, stays}
 use Rattle.hib_query_cache.specs.Ranked.{Kept, Ranked, result_of, used, with_result, dropped_for}
 use Rattle.hib_query_cache.specs.Standing.{place, is_ahead, AreRanked, IsResults, results_after, IsAnswered}
 use Rattle.hib_query_cache.proofs.Places as places
@@ -174,14 +175,14 @@ follow n r oth lst stands (Act.Keep q t l) reply below =
 follow n r oth lst stands (Act.Look q) reply answered =
     by_result (result_of q r.kept) refl reply answered
   where
-    by_result : (o : Option Result) → result_of q r.kept ≡ o → (reply : Reply) → reply ≡ found (result_of q r.kept)
+    by_result : (o : Option Result) → result_of q r.kept ≡ o → (reply : Reply) → reply ≡ option_map_or (λ x. Reply.Found x.0 x.1) (result_of q r.kept) Reply.Absent
         → AreRanked n (record r { kept = used q r.kept }) (λ y. others_after y (told.used (Act.Look q) reply) (oth y)) lst
     by_result None k reply e =
-        let is : Reply.Absent ≡ reply = sym (e ∙ ap found k) in
+        let is : Reply.Absent ≡ reply = sym (e ∙ ap option_map_or (λ r. Reply.Found r.0 r.1) k Reply.Absent) in
         subst (λ rep. AreRanked n (record r { kept = used q r.kept }) (λ y. others_after y (told.used (Act.Look q) rep) (oth y)) lst) is
         (subst (λ es. AreRanked n (record r { kept = es }) oth lst) (sym (used_absent q r k)) stands)
     by_result (Some x) k reply e =
-        let is : Reply.Found x.0 x.1 ≡ reply = sym (e ∙ ap found k) in
+        let is : Reply.Found x.0 x.1 ≡ reply = sym (e ∙ ap option_map_or (λ r. Reply.Found r.0 r.1) k Reply.Absent) in
         subst (λ rep. AreRanked n (record r { kept = used q r.kept }) (λ y. others_after y (told.used (Act.Look q) rep) (oth y)) lst) is
         (subst (λ es. AreRanked n (record r { kept = es }) (λ y. others_after y (Some q) (oth y)) lst) (sym (used_first q x r stands.bounded k))
         (subst (λ f. AreRanked n (record r { kept = first q x r }) (λ y. others_after y (Some q) (oth y)) f) (λ i y. same y i)
@@ -221,7 +222,7 @@ find_one p a (suc m) y l u t others = at (tested (a == y)) (λ w. find_one p (a 
 module _ (n : ℕ) (r : Ranked) (oth : ℕ → List ℕ) (lst : ℕ → Option Result) (stands : AreRanked n r oth lst) (q : ℕ) where
   -- whether the result of p goes for one of q
   abbrev goes : ℕ → Bool
-  goes p = has (cond (nat_lt (length (oth p)) r.capacity) (lst p) None) && not (nat_lt (length (others_after p (Some q) (oth p))) r.capacity)
+  goes p = is_some (cond (nat_lt (length (oth p)) r.capacity) (lst p) None) && not (nat_lt (length (others_after p (Some q) (oth p))) r.capacity)
 
   absent_stays : (p : ℕ) → result_of p r.kept ≡ None → goes p ≡ false
   absent_stays p k = rw (sym (answer n r oth lst stands p) ∙ k) refl
@@ -231,10 +232,10 @@ module _ (n : ℕ) (r : Ranked) (oth : ℕ → List ℕ) (lst : ℕ → Option R
   and_false false = refl
 
   itself_stays : (p : ℕ) → nat_eq p q ≡ true → goes p ≡ false
-  itself_stays p t = rw (flip p q true t, lt-ltb 0 r.capacity stands.positive) (and_false (has (cond (nat_lt (length (oth p)) r.capacity) (lst p) None)))
+  itself_stays p t = rw (flip p q true t, lt-ltb 0 r.capacity stands.positive) (and_false (is_some (cond (nat_lt (length (oth p)) r.capacity) (lst p) None)))
 
   early_stays : (p : ℕ) → nat_eq p q ≡ false → length (add_once q (oth p)) < r.capacity → goes p ≡ false
-  early_stays p t l = rw (flip p q false t, lt-ltb (length (add_once q (oth p))) r.capacity l) (and_false (has (cond (nat_lt (length (oth p)) r.capacity) (lst p) None)))
+  early_stays p t l = rw (flip p q false t, lt-ltb (length (add_once q (oth p))) r.capacity l) (and_false (is_some (cond (nat_lt (length (oth p)) r.capacity) (lst p) None)))
 
   -- where q is kept, nothing goes
   none_goes : (w : Result) → result_of q r.kept ≡ Some w → (p : ℕ) → goes p ≡ false

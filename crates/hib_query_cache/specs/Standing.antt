@@ -1,9 +1,10 @@
 -- Results that stand for a journal: each query has the result that the journal tells.
 use Rattle.std.specs.Prelude.{◌≡◌, ℕ, ◌+◌, ◌<◌, ◌≤◌, ◌⊎◌, Bool, false, cond, ◌||◌, nat_eq, List, [], ◌∷◌, length, Some, None, Option}
+use Rattle.std.specs.Option.{option_map_or}
 use Rattle.hib_journal.specs.Types.{Act, Reply}
 use Rattle.hib_journal.specs.Sessions.{Journal}
 use Rattle.hib_journal.specs.Stamps.{names}
-use Rattle.hib_journal.specs.Results.{Result, others, last_kept, found}
+use Rattle.hib_journal.specs.Results.{Result, others, last_kept}
 use Rattle.hib_query_cache.specs.Ranked.{Kept, Ranked, result_of, used, with_result}
 
 -- how many results are before that of q
@@ -44,6 +45,6 @@ results_after _ reply r = r
 
 -- the reply to a look is that of the results, and what is kept is of a query below the number
 abbrev pub IsAnswered : ℕ → Ranked → Act → Reply → Type 0
-IsAnswered queries r (Act.Look q) reply = reply ≡ found (result_of q r.kept)
+IsAnswered queries r (Act.Look q) reply = reply ≡ option_map_or (λ x. Reply.Found x.0 x.1) (result_of q r.kept) Reply.Absent
 IsAnswered queries r (Act.Keep q t l) reply = q < queries
 IsAnswered queries r _ reply = Unit {0}

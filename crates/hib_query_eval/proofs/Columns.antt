@@ -1,13 +1,14 @@
 -- The cells of a row, column by column.
 use Rattle.std.proofs.Common.{◌≡◌, ℕ, ◌+◌, ◌<◌, ◌≤◌, Bool, true, false, not, ◌&&◌, ◌||◌, ◌==◌, length, slice_get, Some, refl, ap, sym, ◌∙◌, inl, inr, arith}
 use Rattle.std.specs.Prelude.{nat_lt}
+use Rattle.std.specs.Option.{option_map_or}
 use Rattle.std.proofs.lemmas.Option.{slice_get_past}
 use Rattle.std.proofs.lemmas.Bool.{true≢false, lt-ltb, le-ltb, ltb-true, ltb-false, eqb-true, eq-eqb}
 use Rattle.hib_base.proofs.Tables.{Tested, tested}
 use Rattle.hib_journal.specs.Types.{Key, Row, Cell}
 use Rattle.hib_base.specs.Keys.{same_key}
 use Rattle.hib_journal.specs.Room.{key}
-use Rattle.hib_journal.specs.Query.{same_cell, if_cell}
+use Rattle.hib_journal.specs.Query.{same_cell}
 use Rattle.hib_query_eval.specs.declared.places.Place.{Place}
 use Rattle.hib_query_eval.specs.Places.{cell_in, is_place, has_cell}
 
@@ -39,7 +40,7 @@ module _ (k : Key) (r : Row) (e c i : ℕ) (d : Cell) where
     where
       spelled : is_place e c i d p ≡ ((k.entity == e) && ((c == n) && (same_cell d x && (k.id == i))))
       spelled =
-          (λ j. (e == en j) && ((c == co j) && (if_cell (same_cell d) (ce j) && (i == id j))))
+          (λ j. (e == en j) && ((c == co j) && (option_map_or (same_cell d) (ce j) false && (i == id j))))
           ∙ (λ j. eq_sym e k.entity j && ((c == n) && (same_cell d x && eq_sym i k.id j)))
 
       here : (a b s : Bool) → ((a && b) && (true && s)) ≡ ((a && (true && (s && b))) || ((a && b) && (false && s)))
@@ -58,7 +59,7 @@ module _ (k : Key) (r : Row) (e c i : ℕ) (d : Cell) where
           let m : c ≡ n = eqb-true c n t in
           let u : nat_lt c (n + 1) ≡ true = lt-ltb c (n + 1) (omega arith) in
           let v : nat_lt c n ≡ false = le-ltb c n (omega arith) in
-          let w : has_cell (Some r) c d ≡ same_cell d x = ap (λ j. if_cell (same_cell d) (slice_get r.cells j)) m ∙ ap (if_cell (same_cell d)) s in
+          let w : has_cell (Some r) c d ≡ same_cell d x = ap (λ j. option_map_or (same_cell d) (slice_get r.cells j) false) m ∙ ap (λ x. option_map_or (same_cell d) x false) s in
           (λ j. same_key k (key e i) && (u j && w j)) ∙ here (k.entity == e) (k.id == i) (same_cell d x)
           ∙ sym (λ j. ((k.entity == e) && (t j && (same_cell d x && (k.id == i)))) || (same_key k (key e i) && (v j && w j)))
       at (inr t) =
@@ -80,7 +81,7 @@ module _ (k : Key) (r : Row) (e c i : ℕ) (d : Cell) where
       at (inl l) = λ j. same_key k (key e i) && (l j && has_cell (Some r) c d)
       at (inr l) =
           let m : length r.cells ≤ c = ltb-false c (length r.cells) l in
-          let n : has_cell (Some r) c d ≡ false = ap (if_cell (same_cell d)) (slice_get_past r.cells c m) in
+          let n : has_cell (Some r) c d ≡ false = ap (λ x. option_map_or (same_cell d) x false) (slice_get_past r.cells c m) in
           (λ j. same_key k (key e i) && (l j && has_cell (Some r) c d)) ∙ sym (λ j. same_key k (key e i) && n j)
 
   pub add_column : (n : ℕ) (x : Cell) (p : Place) (old mid new : Bool) → slice_get r.cells n ≡ Some x → p.entity ≡ k.entity → p.column ≡ n → cell_in p.value ≡ Some x → p.id ≡ k.id

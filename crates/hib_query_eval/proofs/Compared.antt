@@ -1,6 +1,7 @@
 -- Places of cells: how they compare, and what adding and dropping one does.
 use Rattle.std.proofs.Common.{◌≡◌, ℕ, ◌≤◌, Bool, true, false, cond, not, ◌&&◌, ◌||◌, ◌==◌, List, [], ◌∷◌, Some, None, Option, refl, ap, sym, ◌∙◌, subst, inl, inr, arith}
 use Rattle.std.specs.Prelude.{int_le, ℤ, pos, negsuc}
+use Rattle.std.specs.Option.{option_map_or}
 use Rattle.std.specs.List.{list_any}
 use Rattle.std.proofs.lemmas.Bool.{true≢false, and_parts, and_from, le-leb, leb-true, eqb-true, eq-eqb}
 use Rattle.std.specs.Cmp.{signed_Decides, unsigned_tied}
@@ -11,7 +12,7 @@ use Rattle.std.specs.declared.cmp.Ordering.{Ordering}
 use Rattle.std.specs.declared.cmp.Ordering.TheVariants.{Less, Equal, Greater}
 use Rattle.hib_base.proofs.Tables.{Tested, tested}
 use Rattle.hib_journal.specs.Types.{Cell}
-use Rattle.hib_journal.specs.Query.{same_cell, if_cell}
+use Rattle.hib_journal.specs.Query.{same_cell}
 use Rattle.hib_query_eval.specs.declared.places.Place.{Place}
 use Rattle.hib_query_eval.specs.declared.places.Value.{Value}
 use Rattle.hib_query_eval.specs.Places.{cell_in, is_place, has_place}
@@ -57,10 +58,10 @@ same_cell_eq (Cell.Bool false) (Cell.Bool true) h = absurd (true≢false (sym h)
 same_cell_eq (Cell.Bool false) (Cell.Bool false) h = refl
 
 -- the cell of a value that is a given cell
-pub value_is : (d : Cell) (v : Value) → if_cell (same_cell d) (cell_in v) ≡ true → cell_in v ≡ Some d
+pub value_is : (d : Cell) (v : Value) → option_map_or (same_cell d) (cell_in v) false ≡ true → cell_in v ≡ Some d
 value_is d v h = at (cell_in v) h
   where
-    at : (o : Option Cell) → if_cell (same_cell d) o ≡ true → o ≡ Some d
+    at : (o : Option Cell) → option_map_or (same_cell d) o false ≡ true → o ≡ Some d
     at None g = absurd (true≢false (sym g))
     at (Some x) g = ap Some (sym (same_cell_eq d x g))
 
@@ -148,19 +149,19 @@ module _ (e c i : ℕ) (d : Cell) where
       (value_tied a.value b.value r.0) (nat_tied a.id b.id r.1)
     where
       alike : (e' f c' g : ℕ) (v w : Option Cell) (i' j : ℕ) → e' ≡ f → c' ≡ g → v ≡ w → i' ≡ j
-          → ((e == e') && ((c == c') && (if_cell (same_cell d) v && (i == i')))) ≡ ((e == f) && ((c == g) && (if_cell (same_cell d) w && (i == j))))
-      alike e' f c' g v w i' j p q r s = λ x. (e == p x) && ((c == q x) && (if_cell (same_cell d) (r x) && (i == s x)))
+          → ((e == e') && ((c == c') && (option_map_or (same_cell d) v false && (i == i')))) ≡ ((e == f) && ((c == g) && (option_map_or (same_cell d) w false && (i == j))))
+      alike e' f c' g v w i' j p q r s = λ x. (e == p x) && ((c == q x) && (option_map_or (same_cell d) (r x) false && (i == s x)))
 
   abbrev pub Parts : Place → Type 0
   Parts p = (e ≡ p.entity) × (c ≡ p.column) × (cell_in p.value ≡ Some d) × (i ≡ p.id)
 
   pub place_parts : (p : Place) → is_place e c i d p ≡ true → Parts p
   place_parts p h =
-      let x : ((e == p.entity) ≡ true) × (((c == p.column) && (if_cell (same_cell d) (cell_in p.value) && (i == p.id))) ≡ true) =
-      and_parts (e == p.entity) ((c == p.column) && (if_cell (same_cell d) (cell_in p.value) && (i == p.id))) h in
-      let y : ((c == p.column) ≡ true) × ((if_cell (same_cell d) (cell_in p.value) && (i == p.id)) ≡ true) =
-      and_parts (c == p.column) (if_cell (same_cell d) (cell_in p.value) && (i == p.id)) x.1 in
-      let z : (if_cell (same_cell d) (cell_in p.value) ≡ true) × ((i == p.id) ≡ true) = and_parts (if_cell (same_cell d) (cell_in p.value)) (i == p.id) y.1 in
+      let x : ((e == p.entity) ≡ true) × (((c == p.column) && (option_map_or (same_cell d) (cell_in p.value) false && (i == p.id))) ≡ true) =
+      and_parts (e == p.entity) ((c == p.column) && (option_map_or (same_cell d) (cell_in p.value) false && (i == p.id))) h in
+      let y : ((c == p.column) ≡ true) × ((option_map_or (same_cell d) (cell_in p.value) false && (i == p.id)) ≡ true) =
+      and_parts (c == p.column) (option_map_or (same_cell d) (cell_in p.value) false && (i == p.id)) x.1 in
+      let z : (option_map_or (same_cell d) (cell_in p.value) false ≡ true) × ((i == p.id) ≡ true) = and_parts (option_map_or (same_cell d) (cell_in p.value) false) (i == p.id) y.1 in
       (eqb-true e p.entity x.0, eqb-true c p.column y.0, value_is d p.value z.0, eqb-true i p.id z.1)
 
   place_ties : (a b : Place) → is_place e c i d a ≡ true → is_place e c i d b ≡ true → is_eq (place_cmp a b) ≡ true

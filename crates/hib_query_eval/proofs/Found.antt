@@ -1,6 +1,7 @@
 -- The rows of identifiers that rise, and the rows that a query lists.
 use Rattle.std.proofs.Common.{◌≡◌, ℕ, zero, suc, ◌+◌, ◌<◌, ◌≤◌, Bool, true, false, cond, ◌&&◌, ◌||◌, ◌==◌, List, [], ◌∷◌, ◌++◌, length, map, take, filter, get_or, slice_get, Some, None, Option, Ok, Err, Result, refl, ap, sym, ◌∙◌, subst, inl, inr, ◌⊎◌, option_to_list, eqb, add-one, arith}
 use Rattle.std.specs.Prelude.{nat_lt}
+use Rattle.std.specs.Option.{option_map_or}
 use Rattle.std.specs.List.Sorted.{IsStrictlyIncreasing, IsSorted, IsPermutation}
 use Rattle.std.specs.List.{dedup, Contains, Any}
 use Rattle.std.specs.Ordering.{nat_cmp}
@@ -17,7 +18,7 @@ use Rattle.hib_outside.specs.Places.{one_further, place_in}
 use Rattle.hib_outside.proofs.Orders.{precedes, is_first_trans, rest_in_order, row_at_before, before_differs}
 use Rattle.hib_journal.specs.Types.{Key, Row, Query}
 use Rattle.hib_journal.specs.Room.{key}
-use Rattle.hib_journal.specs.Query.{meets, listed}
+use Rattle.hib_journal.specs.Query.{listed, holds}
 use Rattle.hib_query_eval.specs.Places.{has_id}
 use Rattle.hib_query_eval.specs.Found.{row_in, if_met}
 
@@ -207,14 +208,14 @@ agree Q R (x ∷ xs) o f =
 
 -- among identifiers that hold all rows that meet a condition
 pub all_found : (q : Query) (t : Tables) (ids : List ℕ) → in_order t ≡ true
-    → ((r : Row) (i : ℕ) → row_at t (key q.entity i) ≡ Some r → meets t r q.condition ≡ true → has_id i ids ≡ true)
-    → kept q.entity (λ a. meets t a.1 q.condition) (λ m. has_id m ids) t ≡ listed q t
+    → ((r : Row) (i : ℕ) → row_at t (key q.entity i) ≡ Some r → option_map_or (holds t r) q.condition true ≡ true → has_id i ids ≡ true)
+    → kept q.entity (λ a. option_map_or (holds t a.1) q.condition true) (λ m. has_id m ids) t ≡ listed q t
 all_found q t ids o f =
-    agree (λ a. (a.0.entity == q.entity) && (meets t a.1 q.condition && has_id a.0.id ids)) (λ a. (a.0.entity == q.entity) && meets t a.1 q.condition) t o
-    (λ k r h. at k r h (tested (k.entity == q.entity)) (tested (meets t r q.condition)))
+    agree (λ a. (a.0.entity == q.entity) && (option_map_or (holds t a.1) q.condition true && has_id a.0.id ids)) (λ a. (a.0.entity == q.entity) && option_map_or (holds t a.1) q.condition true) t o
+    (λ k r h. at k r h (tested (k.entity == q.entity)) (tested (option_map_or (holds t r) q.condition true)))
   where
-    at : (k : Key) (r : Row) → row_at t k ≡ Some r → Tested (k.entity == q.entity) → Tested (meets t r q.condition)
-        → ((k.entity == q.entity) && (meets t r q.condition && has_id k.id ids)) ≡ ((k.entity == q.entity) && meets t r q.condition)
+    at : (k : Key) (r : Row) → row_at t k ≡ Some r → Tested (k.entity == q.entity) → Tested (option_map_or (holds t r) q.condition true)
+        → ((k.entity == q.entity) && (option_map_or (holds t r) q.condition true && has_id k.id ids)) ≡ ((k.entity == q.entity) && option_map_or (holds t r) q.condition true)
     at k r h (inr e) m = rw e refl
     at k r h (inl e) (inr m) = rw (e, m) refl
     at k r h (inl e) (inl m) =
@@ -241,18 +242,18 @@ below_next ids (suc i) m s l h =
 -- one identifier more, in a loop
 module _ (q : Query) (t : Tables) (ids : List ℕ) (o : in_order t ≡ true) (s : IsStrictlyIncreasing ids) where
   abbrev pub met_of : ℕ → Tables
-  met_of i = kept q.entity (λ a. meets t a.1 q.condition) (λ m. has_id m (take i ids)) t
+  met_of i = kept q.entity (λ a. option_map_or (holds t a.1) q.condition true) (λ m. has_id m (take i ids)) t
 
-  pub one_id : (i x : ℕ) → i < length ids → x ≡ get_or ids i x → met_of (i + 1) ≡ met_of i ++ one q.entity (λ a. meets t a.1 q.condition) (row_in t (key q.entity x))
+  pub one_id : (i x : ℕ) → i < length ids → x ≡ get_or ids i x → met_of (i + 1) ≡ met_of i ++ one q.entity (λ a. option_map_or (holds t a.1) q.condition true) (row_in t (key q.entity x))
   one_id i x l e =
       let y : get_or ids i 0 ≡ x = get_or_default ids i 0 x l ∙ sym e in
-      ap (λ S. kept q.entity (λ a. meets t a.1 q.condition) S t) (λ j m. list_any_more (λ n. n == m) ids i 0 l j)
-      ∙ one_more q.entity (λ a. meets t a.1 q.condition) (λ m. has_id m (take i ids)) (get_or ids i 0) t o (λ m h. below_next ids i m s l h)
-      ∙ ap (λ n. met_of i ++ one q.entity (λ a. meets t a.1 q.condition) (row_in t (key q.entity n))) y
+      ap (λ S. kept q.entity (λ a. option_map_or (holds t a.1) q.condition true) S t) (λ j m. list_any_more (λ n. n == m) ids i 0 l j)
+      ∙ one_more q.entity (λ a. option_map_or (holds t a.1) q.condition true) (λ m. has_id m (take i ids)) (get_or ids i 0) t o (λ m h. below_next ids i m s l h)
+      ∙ ap (λ n. met_of i ++ one q.entity (λ a. option_map_or (holds t a.1) q.condition true) (row_in t (key q.entity n))) y
 
-  is_one : (a : Option (Key × Row)) (b : Option (Key × Row)) → b ≡ if_met q t a → one q.entity (λ a. meets t a.1 q.condition) a ≡ option_to_list b
+  is_one : (a : Option (Key × Row)) (b : Option (Key × Row)) → b ≡ if_met q t a → one q.entity (λ a. option_map_or (holds t a.1) q.condition true) a ≡ option_to_list b
   is_one None b e = sym (ap option_to_list e)
-  is_one (Some a) b e = at (meets t a.1 q.condition) ∙ sym (ap option_to_list e)
+  is_one (Some a) b e = at (option_map_or (holds t a.1) q.condition true) ∙ sym (ap option_to_list e)
     where
       at : (c : Bool) → cond c (a ∷ []) [] ≡ option_to_list (cond c (Some a) None)
       at true = refl
@@ -274,10 +275,10 @@ none_yet n P (x ∷ xs) = none_yet n P xs ∙ sym (ap (λ b. cond b (x ∷ kept 
     at false b = refl
 
 pub at_end : (q : Query) (t : Tables) (ids : List ℕ) (i : ℕ) (rows : Tables) → in_order t ≡ true
-    → ((r : Row) (i : ℕ) → row_at t (key q.entity i) ≡ Some r → meets t r q.condition ≡ true → has_id i ids ≡ true) → length ids ≤ i
-    → rows ≡ kept q.entity (λ a. meets t a.1 q.condition) (λ m. has_id m (take i ids)) t → rows ≡ listed q t
+    → ((r : Row) (i : ℕ) → row_at t (key q.entity i) ≡ Some r → option_map_or (holds t r) q.condition true ≡ true → has_id i ids ≡ true) → length ids ≤ i
+    → rows ≡ kept q.entity (λ a. option_map_or (holds t a.1) q.condition true) (λ m. has_id m (take i ids)) t → rows ≡ listed q t
 at_end q t ids i rows o f l h =
-    h ∙ ap (λ xs. kept q.entity (λ a. meets t a.1 q.condition) (λ m. has_id m xs) t) (take_all i ids l) ∙ all_found q t ids o f
+    h ∙ ap (λ xs. kept q.entity (λ a. option_map_or (holds t a.1) q.condition true) (λ m. has_id m xs) t) (take_all i ids l) ∙ all_found q t ids o f
 
 -- identifiers in order, each once
 pub rise : (xs ys : List ℕ) → IsSorted nat_cmp xs → ys ≡ dedup eqb xs → IsStrictlyIncreasing ys

@@ -1,4 +1,5 @@
 -- The rows that a query reads, with a session's changes laid over them, give what the session's view gives.
+use Rattle.std.specs.Option.{option_map_or}
 use Rattle.std.proofs.Common.{◌≡◌, ℕ, Bool, true, false, cond, ◌==◌, List, [], ◌∷◌, Some, None, Option, IfSome, refl, sym, ap, ◌∙◌, subst, inl, inr, eq-eqb}
 use Rattle.std.proofs.lemmas.Bool.{eqb-true, or_left, or_right, and_from, both_ways}
 use Rattle.std.specs.List.{filter}
@@ -7,7 +8,7 @@ use Rattle.hib_base.specs.Tables.{Tables, row_at, with_row, unless_there, with_a
 use Rattle.hib_base.proofs.Tables.{Tested, tested, same_key_eq, same_key_refl, left_by, row_at_changes, row_at_with_same, row_at_with_other}
 use Rattle.hib_outside.specs.Keeps.{is_listed, rows_of}
 use Rattle.hib_outside.proofs.Orders.{is_before_total, is_first_trans, rest_in_order, row_at_before, in_order_changes, in_order_with_absent}
-use Rattle.hib_journal.specs.Query.{reads, mentions_in, gives}
+use Rattle.hib_journal.specs.Query.{reads, gives, mentions}
 use Rattle.hib_journal.specs.Room.{key}
 use Rattle.hib_query_eval.proofs.Untouched.{rows_in, gives_alike}
 use Rattle.hib_journal.specs.Types.{Key, Row, Change, Query}
@@ -171,14 +172,14 @@ rows_view q cs m o =
     at : (k : Key) → Tested (k.entity == q.entity) → cond (k.entity == q.entity) (row_at (view q cs m) k) None ≡ cond (k.entity == q.entity) (row_at (after_changes cs m) k) None
     at k (inl s) =
         let e : q.entity ≡ k.entity = sym (eqb-true k.entity q.entity s) in
-        ap (λ o. cond (k.entity == q.entity) o None) (row_at_view q cs m k (or_left (q.entity == k.entity) (mentions_in k.entity q.condition) (eq-eqb q.entity k.entity e)))
+        ap (λ o. cond (k.entity == q.entity) o None) (row_at_view q cs m k (or_left (q.entity == k.entity) (option_map_or (mentions k.entity) q.condition false) (eq-eqb q.entity k.entity e)))
     at k (inr s) = rw s refl
 
 -- a query gives the same over the rows that it reads
 gives_view : (q : Query) (cs : List Change) (m : Tables) → in_order m ≡ true → gives q (view q cs m) ≡ gives q (after_changes cs m)
 gives_view q cs m o =
     gives_alike q (view q cs m) (after_changes cs m) (rows_view q cs m o)
-    (λ n i e. row_at_view q cs m (key n i) (or_right (q.entity == n) (mentions_in n q.condition) e))
+    (λ n i e. row_at_view q cs m (key n i) (or_right (q.entity == n) (option_map_or (mentions n) q.condition false) e))
 
 -- what is given over the view of the rows that were read, as what is given over the session's view
 pub read_gives : (q : Query) (cs : List Change) (m rows v : Tables) → in_order m ≡ true → rows ≡ read_by q m → v ≡ after_changes cs (with_absent [] rows)

@@ -1,4 +1,5 @@
 -- Identifiers among which those of all rows are that meet a condition after changes.
+use Rattle.std.specs.Option.{option_map_or}
 use Rattle.std.proofs.Common.{◌≡◌, ℕ, zero, suc, ◌+◌, ◌<◌, true, false, cond, ◌&&◌, ◌||◌, ◌==◌, List, [], ◌∷◌, ◌++◌, length, take, get_or, Some, None, refl, ap, sym, ◌∙◌, subst, inl, inr, arith, add-one}
 use Rattle.std.specs.List.{list_any}
 use Rattle.std.proofs.lemmas.Bool.{true≢false, or_parts, and_parts, eqb-true, eq-eqb, ne_eqb}
@@ -6,7 +7,7 @@ use Rattle.hib_base.specs.Keys.{same_key}
 use Rattle.hib_base.specs.Tables.{Tables, row_at, key_of, after_changes}
 use Rattle.hib_base.proofs.Tables.{Tested, tested}
 use Rattle.hib_journal.specs.Types.{Key, Row, Change, Cond, Query}
-use Rattle.hib_journal.specs.Query.{holds, meets, mentions}
+use Rattle.hib_journal.specs.Query.{holds, mentions}
 use Rattle.hib_journal.specs.Room.{key}
 use Rattle.hib_query_eval.specs.declared.places.Place.{Place}
 use Rattle.hib_query_eval.specs.Covers.{Covers, HasAll, HasMet}
@@ -77,7 +78,7 @@ covers_changed ps cs q c old new e s f g h t x r i at m = by (tested (is_changed
   where
     met : holds t r c ≡ true
     met =
-        sym (holds_same (after_changes cs t) t r c (λ n j v. row_same (key n j) cs t (not_stepped c cs s n v))) ∙ ap (meets (after_changes cs t) r) (sym e) ∙ m
+        sym (holds_same (after_changes cs t) t r c (λ n j v. row_same (key n j) cs t (not_stepped c cs s n v))) ∙ ap (λ x. option_map_or (holds (after_changes cs t) r) x true) (sym e) ∙ m
 
     by : Tested (is_changed (key q.entity i) cs) → has_id i new ≡ true
     by (inl v) = h i v

@@ -1,6 +1,7 @@
 -- Which places a search between two values finds.
 use Rattle.std.proofs.Common.{◌≡◌, ℕ, ◌-◌, ◌^◌, ◌<◌, ◌≤◌, Bool, true, false, cond, not, ◌&&◌, ◌||◌, ◌==◌, ◌+◌, List, [], ◌∷◌, ◌++◌, length, map, filter, take, get_or, slice_get, ◌⊎◌, IfSome, MatchOption, Some, None, Option, refl, ap, sym, ◌∙◌, subst, inl, inr, arith}
-use Rattle.std.specs.Prelude.{nat_lt, int_lt, ℤ, pos, negsuc}
+use Rattle.std.specs.Prelude.{nat_lt, int_lt, ℤ, pos, negsuc, option_and_then}
+use Rattle.std.specs.Option.{option_map_or}
 use Rattle.std.specs.Ordering.{ordering_then, nat_cmp, int_cmp, is_eq, is_le, is_lt, is_gt}
 use Rattle.std.specs.Cmp.Lexicographic.{slice_cmp}
 use Rattle.std.specs.declared.cmp.Ordering.{Ordering}
@@ -11,7 +12,7 @@ use Rattle.hib_base.proofs.Tables.{Tested, tested}
 use Rattle.hib_journal.specs.Types.{Cell, Op, Row, Path, Target, Cond}
 use Rattle.hib_base.specs.Tables.{Tables, row_at}
 use Rattle.hib_journal.specs.Room.{key}
-use Rattle.hib_journal.specs.Query.{is_below_text, is_below_cell, is_below_at, passes, same_cell, if_cell, row_of_ref, cell_at, cell_by, holds}
+use Rattle.hib_journal.specs.Query.{is_below_text, is_below_cell, is_below_at, passes, same_cell, row_of_ref, cell_at, cell_by, holds}
 use Rattle.hib_journal.specs.Query as told
 use Rattle.hib_query_eval.specs.declared.places.Place.{Place}
 use Rattle.hib_query_eval.specs.declared.places.Value.{Value}
@@ -392,21 +393,21 @@ behind_texts b (Value.Bool a) l k = absurd (omega arith)
 -- the rows whose cell in a column passes a test
 pub cell_covers : (ps : List Place) (e c : ℕ) (test : Cell → Bool) (ids : List ℕ)
     → ((i : ℕ) (d : Cell) → i < 2 ^ 64 → has_place ps e c i d ≡ true → test d ≡ true → has_id i ids ≡ true)
-    → (t : Tables) → IsIndexOf ps t → (r : Row) (i : ℕ) → row_at t (key e i) ≡ Some r → if_cell test (slice_get r.cells c) ≡ true → has_id i ids ≡ true
+    → (t : Tables) → IsIndexOf ps t → (r : Row) (i : ℕ) → row_at t (key e i) ≡ Some r → option_map_or test (slice_get r.cells c) false ≡ true → has_id i ids ≡ true
 cell_covers ps e c test ids f t x r i at h = by (slice_get r.cells c) refl h
   where
-    by : (o : Option Cell) → slice_get r.cells c ≡ o → if_cell test o ≡ true → has_id i ids ≡ true
+    by : (o : Option Cell) → slice_get r.cells c ≡ o → option_map_or test o false ≡ true → has_id i ids ≡ true
     by None q g = absurd (true≢false (sym g))
     by (Some d) q g =
-        let there : has_place ps e c i d ≡ true = x.cells e c i d ∙ ap (λ o. has_cell o c d) at ∙ ap (if_cell (same_cell d)) q ∙ same_cell_refl d in
+        let there : has_place ps e c i d ≡ true = x.cells e c i d ∙ ap (λ o. has_cell o c d) at ∙ ap (λ x. option_map_or (same_cell d) x false) q ∙ same_cell_refl d in
         f i d (x.fit e c i d there) there g
 
 -- a comparison at a column of the entity itself
 pub no_target_covers : (ps : List Place) (e c : ℕ) (p : Path) (test : Cell → Bool) (ids : List ℕ) → p.target ≡ None → c ≡ p.column
     → ((i : ℕ) (d : Cell) → i < 2 ^ 64 → has_place ps e c i d ≡ true → test d ≡ true → has_id i ids ≡ true)
-    → (t : Tables) → IsIndexOf ps t → (r : Row) (i : ℕ) → row_at t (key e i) ≡ Some r → if_cell test (cell_at t r p) ≡ true → has_id i ids ≡ true
+    → (t : Tables) → IsIndexOf ps t → (r : Row) (i : ℕ) → row_at t (key e i) ≡ Some r → option_map_or test (cell_at t r p) false ≡ true → has_id i ids ≡ true
 no_target_covers ps e c p test ids n m f t y r i at h =
-    cell_covers ps e c test ids f t y r i at (ap (λ k. if_cell test (slice_get r.cells k)) m ∙ sym (ap (λ g. if_cell test (cell_by t r p.column g)) n) ∙ h)
+    cell_covers ps e c test ids f t y r i at (ap (λ k. option_map_or test (slice_get r.cells k) false) m ∙ sym (ap (λ g. option_map_or test (cell_by t r p.column g) false) n) ∙ h)
 
 -- a comparison at a column of the row to which a cell refers
 module _ (ps : List Place) (e c : ℕ) (g : Target) (test : Cell → Bool) (targets ids : List ℕ)
@@ -414,35 +415,35 @@ module _ (ps : List Place) (e c : ℕ) (g : Target) (test : Cell → Bool) (targ
     (refers : Refer ps e c targets ids) (t : Tables) (x : IsIndexOf ps t) where
   -- a row has the place of its cell
   placed : (n k i : ℕ) (r : Row) (d : Cell) → row_at t (key n i) ≡ Some r → slice_get r.cells k ≡ Some d → has_place ps n k i d ≡ true
-  placed n k i r d at q = x.cells n k i d ∙ ap (λ o. has_cell o k d) at ∙ ap (if_cell (same_cell d)) q ∙ same_cell_refl d
+  placed n k i r d at q = x.cells n k i d ∙ ap (λ o. has_cell o k d) at ∙ ap (λ x. option_map_or (same_cell d) x false) q ∙ same_cell_refl d
 
   referred : (r : Row) (i j : ℕ) → row_at t (key e i) ≡ Some r → slice_get r.cells c ≡ Some (Cell.Int (pos j))
-      → (o : Option Row) → row_at t (key g.entity j) ≡ o → if_cell test (told.cell_in g.column o) ≡ true → has_id i ids ≡ true
+      → (o : Option Row) → row_at t (key g.entity j) ≡ o → option_map_or test (option_and_then (λ x. slice_get x.cells g.column) o) false ≡ true → has_id i ids ≡ true
   referred r i j at q None b h = absurd (true≢false (sym h))
   referred r i j at q (Some s) b h = by (slice_get s.cells g.column) refl h
     where
-      by : (o : Option Cell) → slice_get s.cells g.column ≡ o → if_cell test o ≡ true → has_id i ids ≡ true
+      by : (o : Option Cell) → slice_get s.cells g.column ≡ o → option_map_or test o false ≡ true → has_id i ids ≡ true
       by None v h = absurd (true≢false (sym h))
       by (Some d) v h =
           let there : has_place ps g.entity g.column j d ≡ true = placed g.entity g.column j s d b v in
           let here : has_place ps e c i (Cell.Int (pos j)) ≡ true = placed e c i r (Cell.Int (pos j)) at q in
           refers i j (x.fit e c i (Cell.Int (pos j)) here) (finds j d (x.fit g.entity g.column j d there) there h) here
 
-  pub step_covers : (p : Path) → p.target ≡ Some g → c ≡ p.column → (r : Row) (i : ℕ) → row_at t (key e i) ≡ Some r → if_cell test (cell_at t r p) ≡ true → has_id i ids ≡ true
+  pub step_covers : (p : Path) → p.target ≡ Some g → c ≡ p.column → (r : Row) (i : ℕ) → row_at t (key e i) ≡ Some r → option_map_or test (cell_at t r p) false ≡ true → has_id i ids ≡ true
   step_covers p n m r i at h =
-      by (slice_get r.cells c) refl ((λ k. if_cell test (cell_by t r (m k) (sym n k))) ∙ h)
+      by (slice_get r.cells c) refl ((λ k. option_map_or test (cell_by t r (m k) (sym n k)) false) ∙ h)
     where
-      by : (o : Option Cell) → slice_get r.cells c ≡ o → if_cell test (told.cell_in g.column (row_of_ref t g.entity (slice_get r.cells c))) ≡ true → has_id i ids ≡ true
-      by None q h = absurd (true≢false (sym h ∙ ap (λ o. if_cell test (told.cell_in g.column (row_of_ref t g.entity o))) q))
+      by : (o : Option Cell) → slice_get r.cells c ≡ o → option_map_or test (option_and_then (λ x. slice_get x.cells g.column) (row_of_ref t g.entity (slice_get r.cells c))) false ≡ true → has_id i ids ≡ true
+      by None q h = absurd (true≢false (sym h ∙ ap (λ o. option_map_or test (option_and_then (λ x. slice_get x.cells g.column) (row_of_ref t g.entity o)) false) q))
       by (Some (Cell.Int (pos j))) q h =
-          referred r i j at q (row_at t (key g.entity j)) refl (sym (ap (λ o. if_cell test (told.cell_in g.column (row_of_ref t g.entity o))) q) ∙ h)
-      by (Some (Cell.Int (negsuc j))) q h = absurd (true≢false (sym h ∙ ap (λ o. if_cell test (told.cell_in g.column (row_of_ref t g.entity o))) q))
-      by (Some (Cell.Text s)) q h = absurd (true≢false (sym h ∙ ap (λ o. if_cell test (told.cell_in g.column (row_of_ref t g.entity o))) q))
-      by (Some (Cell.Bool b)) q h = absurd (true≢false (sym h ∙ ap (λ o. if_cell test (told.cell_in g.column (row_of_ref t g.entity o))) q))
+          referred r i j at q (row_at t (key g.entity j)) refl (sym (ap (λ o. option_map_or test (option_and_then (λ x. slice_get x.cells g.column) (row_of_ref t g.entity o)) false) q) ∙ h)
+      by (Some (Cell.Int (negsuc j))) q h = absurd (true≢false (sym h ∙ ap (λ o. option_map_or test (option_and_then (λ x. slice_get x.cells g.column) (row_of_ref t g.entity o)) false) q))
+      by (Some (Cell.Text s)) q h = absurd (true≢false (sym h ∙ ap (λ o. option_map_or test (option_and_then (λ x. slice_get x.cells g.column) (row_of_ref t g.entity o)) false) q))
+      by (Some (Cell.Bool b)) q h = absurd (true≢false (sym h ∙ ap (λ o. option_map_or test (option_and_then (λ x. slice_get x.cells g.column) (row_of_ref t g.entity o)) false) q))
 
 pub steps_cover : (ps : List Place) (e c k : ℕ) (g : Target) (p : Path) (test : Cell → Bool) (found targets ids : List ℕ) → p.target ≡ Some g → c ≡ p.column → k ≡ g.column → targets ≡ found
     → ((i : ℕ) (d : Cell) → i < 2 ^ 64 → has_place ps g.entity k i d ≡ true → test d ≡ true → has_id i found ≡ true) → Refer ps e c targets ids
-    → (t : Tables) → IsIndexOf ps t → (r : Row) (i : ℕ) → row_at t (key e i) ≡ Some r → if_cell test (cell_at t r p) ≡ true → has_id i ids ≡ true
+    → (t : Tables) → IsIndexOf ps t → (r : Row) (i : ℕ) → row_at t (key e i) ≡ Some r → option_map_or test (cell_at t r p) false ≡ true → has_id i ids ≡ true
 steps_cover ps e c k g p test found targets ids n m l s f h t x =
     step_covers ps e c g test found ids (λ i d b v. f i d b (subst (λ w. has_place ps g.entity w i d ≡ true) (sym l) v))
     (subst (λ xs. Refer ps e c xs ids) s h) t x p n m

@@ -1,7 +1,8 @@
 -- What a query gives depends on its tables alone.
 use Rattle.std.proofs.Common.{◌≡◌, ℕ, Bool, true, false, cond, not, ◌&&◌, ◌==◌, List, [], ◌∷◌, slice_get, Some, None, Option, refl, ap, sym, ◌∙◌, subst, inl, inr}
 use Rattle.std.proofs.lemmas.Bool.{true≢false, or_parts, or_left, or_right, eq-eqb, ne_eqb}
-use Rattle.std.specs.Prelude.{pos, negsuc}
+use Rattle.std.specs.Prelude.{pos, negsuc, option_and_then}
+use Rattle.std.specs.Option.{option_map_or}
 use Rattle.std.specs.List.{list_any, filter}
 use Rattle.hib_journal.specs.Types.{Key, Row, Cell, Change, Target, Cond, Query}
 use Rattle.hib_base.specs.Keys.{same_key, is_before}
@@ -9,6 +10,7 @@ use Rattle.hib_base.specs.Tables.{Tables, row_at, with_row, without_row, tables_
 use Rattle.hib_base.proofs.Tables.{Tested, tested, same_key_eq, row_at_other_change}
 use Rattle.hib_journal.specs.Room.{key}
 use Rattle.hib_journal.specs.Query as told
+use Rattle.hib_journal.specs.Query.{holds, mentions}
 
 abbrev pub touches : ℕ → List Change → Bool
 touches n cs = list_any (λ c. (key_of c).entity == n) cs
@@ -74,10 +76,10 @@ module _ (t u : Tables) where
   ref_same n (Some (Cell.Bool b)) f = refl
   ref_same n None f = refl
 
-  cell_same : (r : Row) (c : ℕ) (g : Option Target) → Agree (λ n. told.steps_to n g) → told.cell_by t r c g ≡ told.cell_by u r c g
+  cell_same : (r : Row) (c : ℕ) (g : Option Target) → Agree (λ n. option_map_or (λ x. x.entity == n) g false) → told.cell_by t r c g ≡ told.cell_by u r c g
   cell_same r c None f = refl
   cell_same r c (Some g) f =
-      ap (λ o. told.cell_in g.column o) (ref_same g.entity (slice_get r.cells c) (λ i. f g.entity i (eq-eqb g.entity g.entity refl)))
+      ap (λ o. option_and_then (λ x. slice_get x.cells g.column) o) (ref_same g.entity (slice_get r.cells c) (λ i. f g.entity i (eq-eqb g.entity g.entity refl)))
 
   pub holds_same : (r : Row) (c : Cond) → Agree (λ n. told.mentions n c) → told.holds t r c ≡ told.holds u r c
   holds_same r (Cond.And' p a q b) f =
@@ -89,10 +91,10 @@ module _ (t u : Tables) where
       let y : told.holds t r b ≡ told.holds u r b = holds_same r b (λ n i e. f n i (or_right (told.mentions n a) (told.mentions n b) e)) in
       rw (x, y) refl
   holds_same r (Cond.Not' p a) f = ap not (holds_same r a f)
-  holds_same r (Cond.Test op p c) f = ap (λ o. told.if_cell (λ d. told.passes op d c) o) (cell_same r p.column p.target f)
-  holds_same r (Cond.Among p cs) f = ap (λ o. told.if_cell (λ d. list_any (λ c. told.same_cell d c) cs) o) (cell_same r p.column p.target f)
+  holds_same r (Cond.Test op p c) f = ap (λ o. option_map_or (λ d. told.passes op d c) o false) (cell_same r p.column p.target f)
+  holds_same r (Cond.Among p cs) f = ap (λ o. option_map_or (λ d. list_any (λ c. told.same_cell d c) cs) o false) (cell_same r p.column p.target f)
 
-  meets_same : (r : Row) (c : Option Cond) → Agree (λ n. told.mentions_in n c) → told.meets t r c ≡ told.meets u r c
+  meets_same : (r : Row) (c : Option Cond) → Agree (λ n. option_map_or (mentions n) c false) → option_map_or (holds t r) c true ≡ option_map_or (holds u r) c true
   meets_same r None f = refl
   meets_same r (Some c) f = holds_same r c f
 
@@ -106,30 +108,30 @@ filter_both p q (a ∷ t) = by_test (tested (p a)) (filter_both p q t)
 
 -- a query gives the same over tables in which its entity has the same rows, and in which each row to which it steps is the same
 pub gives_alike : (d : Query) (t u : Tables) → rows_in d.entity t ≡ rows_in d.entity u
-    → ((n i : ℕ) → told.mentions_in n d.condition ≡ true → row_at t (key n i) ≡ row_at u (key n i)) → told.gives d t ≡ told.gives d u
+    → ((n i : ℕ) → option_map_or (mentions n) d.condition false ≡ true → row_at t (key n i) ≡ row_at u (key n i)) → told.gives d t ≡ told.gives d u
 unfolding told.gives
 gives_alike d t u ours agree = ap (λ rows. told.selected d rows d.select) listed_same
   where
-    meets : (a : Key × Row) → told.meets t a.1 d.condition ≡ told.meets u a.1 d.condition
+    meets : (a : Key × Row) → option_map_or (holds t a.1) d.condition true ≡ option_map_or (holds u a.1) d.condition true
     meets a = meets_same t u a.1 d.condition agree
 
-    swap : ◌≡◌ {A = Key × Row → Bool} (λ a. told.meets t a.1 d.condition) (λ a. told.meets u a.1 d.condition)
+    swap : ◌≡◌ {A = Key × Row → Bool} (λ a. option_map_or (holds t a.1) d.condition true) (λ a. option_map_or (holds u a.1) d.condition true)
     swap = λ i a. meets a i
 
     listed_same : told.listed d t ≡ told.listed d u
     listed_same =
-        filter_both (λ a. a.0.entity == d.entity) (λ a. told.meets t a.1 d.condition) t
+        filter_both (λ a. a.0.entity == d.entity) (λ a. option_map_or (holds t a.1) d.condition true) t
         ∙ (ap (λ p. filter p (rows_in d.entity t)) swap
-        ∙ (ap (λ rows. filter (λ a. told.meets u a.1 d.condition) rows) ours
-        ∙ sym (filter_both (λ a. a.0.entity == d.entity) (λ a. told.meets u a.1 d.condition) u)))
+        ∙ (ap (λ rows. filter (λ a. option_map_or (holds u a.1) d.condition true) rows) ours
+        ∙ sym (filter_both (λ a. a.0.entity == d.entity) (λ a. option_map_or (holds u a.1) d.condition true) u)))
 
 -- a query gives the same over tables that changes of none of its tables lead to
 pub gives_same : (d : Query) (cs : List Change) (t : Tables) → ((n : ℕ) → told.reads d n ≡ true → touches n cs ≡ false) →
     told.gives d (after_changes cs t) ≡ told.gives d t
 gives_same d cs t f =
     gives_alike d (after_changes cs t) t
-    (rows_same d.entity cs t (f d.entity (or_left (d.entity == d.entity) (told.mentions_in d.entity d.condition) (eq-eqb d.entity d.entity refl))))
-    (λ n i e. row_same (key n i) cs t (f n (or_right (d.entity == n) (told.mentions_in n d.condition) e)))
+    (rows_same d.entity cs t (f d.entity (or_left (d.entity == d.entity) (option_map_or (mentions d.entity) d.condition false) (eq-eqb d.entity d.entity refl))))
+    (λ n i e. row_same (key n i) cs t (f n (or_right (d.entity == n) (option_map_or (mentions n) d.condition false) e)))
 
 -- a table that a query reads is none that changes outside of its tables touch
 untouched : (d : Query) (cs : List Change) → list_any (λ c. told.reads d (key_of c).entity) cs ≡ false → (n : ℕ) → told.reads d n ≡ true → touches n cs ≡ false

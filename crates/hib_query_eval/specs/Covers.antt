@@ -1,9 +1,10 @@
 -- Identifiers among which all rows are that meet a condition.
 use Rattle.std.specs.Prelude.{◌≡◌, ℕ, ◌<◌, ◌^◌, true, pos, List, Some}
+use Rattle.std.specs.Option.{option_map_or}
 use Rattle.hib_journal.specs.Types.{Row, Cell, Cond, Query}
 use Rattle.hib_base.specs.Tables.{Tables, row_at}
 use Rattle.hib_journal.specs.Room.{key}
-use Rattle.hib_journal.specs.Query.{holds, meets}
+use Rattle.hib_journal.specs.Query.{holds}
 use Rattle.hib_query_eval.specs.declared.places.Place.{Place}
 use Rattle.hib_query_eval.specs.Places.{IsIndexOf, has_id, has_place}
 
@@ -19,7 +20,7 @@ Refer ps entity column targets ids =
 
 -- the rows of tables that meet a query's condition
 abbrev pub HasMet : Query → Tables → List ℕ → Type 0
-HasMet q t ids = (r : Row) (i : ℕ) → row_at t (key q.entity i) ≡ Some r → meets t r q.condition ≡ true → has_id i ids ≡ true
+HasMet q t ids = (r : Row) (i : ℕ) → row_at t (key q.entity i) ≡ Some r → option_map_or (holds t r) q.condition true ≡ true → has_id i ids ≡ true
 
 -- all rows of an entity
 abbrev pub HasAll : ℕ → Tables → List ℕ → Type 0

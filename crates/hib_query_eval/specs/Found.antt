@@ -1,7 +1,8 @@
 -- A key with its row.
-use Rattle.std.specs.Prelude.{cond, [], ◌∷◌, Some, None, Option}
-use Rattle.hib_journal.specs.Query.{meets}
+use Rattle.std.specs.Prelude.{cond, [], ◌∷◌, Some, None, Option, true}
+use Rattle.std.specs.Option.{option_map_or}
 use Rattle.hib_journal.specs.Types.{Key, Row, Query}
+use Rattle.hib_journal.specs.Query.{holds}
 use Rattle.hib_base.specs.Keys.{same_key}
 use Rattle.hib_base.specs.Tables.{Tables}
 
@@ -12,4 +13,4 @@ row_in (e ∷ es) k = cond (same_key e.0 k) (Some e) (row_in es k)
 -- an entry whose row meets a query's condition
 abbrev pub if_met : Query → Tables → Option (Key × Row) → Option (Key × Row)
 if_met q t None = None
-if_met q t (Some a) = cond (meets t a.1 q.condition) (Some a) None
+if_met q t (Some a) = cond (option_map_or (holds t a.1) q.condition true) (Some a) None

@@ -1,10 +1,11 @@
 -- Where the cells of rows stand in an index.
 use Rattle.std.specs.Prelude.{◌≡◌, ℕ, ◌<◌, ◌^◌, Bool, true, false, ◌&&◌, ◌==◌, List, Some, None, Option, slice_get}
+use Rattle.std.specs.Option.{option_map_or}
 use Rattle.std.specs.List.{list_any}
 use Rattle.hib_journal.specs.Types.{Row, Cell}
 use Rattle.hib_base.specs.Tables.{Tables, row_at}
 use Rattle.hib_journal.specs.Room.{key}
-use Rattle.hib_journal.specs.Query.{same_cell, if_cell}
+use Rattle.hib_journal.specs.Query.{same_cell}
 use Rattle.hib_query_eval.specs.declared.places.Place.{Place}
 use Rattle.hib_query_eval.specs.declared.places.Value.{Value}
 
@@ -19,7 +20,7 @@ cell_in Value.Greatest = None
 -- the place of a cell in a column of a row
 abbrev pub is_place : ℕ → ℕ → ℕ → Cell → Place → Bool
 is_place entity column id cell p =
-    (entity == p.entity) && ((column == p.column) && (if_cell (same_cell cell) (cell_in p.value) && (id == p.id)))
+    (entity == p.entity) && ((column == p.column) && (option_map_or (same_cell cell) (cell_in p.value) false && (id == p.id)))
 
 abbrev pub has_place : List Place → ℕ → ℕ → ℕ → Cell → Bool
 has_place ps entity column id cell = list_any (is_place entity column id cell) ps
@@ -27,7 +28,7 @@ has_place ps entity column id cell = list_any (is_place entity column id cell) p
 -- whether a row has a cell in a column
 abbrev pub has_cell : Option Row → ℕ → Cell → Bool
 has_cell None column cell = false
-has_cell (Some r) column cell = if_cell (same_cell cell) (slice_get r.cells column)
+has_cell (Some r) column cell = option_map_or (same_cell cell) (slice_get r.cells column) false
 
 -- the places are those of the rows' cells, and no others; identifiers have 64 bits
 pub record IsIndexOf (ps : List Place) (t : Tables) : Type 0 where

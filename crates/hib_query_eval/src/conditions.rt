@@ -1,7 +1,8 @@
 // Whether a row meets a condition.
-ghost use Rattle.std.specs.Prelude.{◌≡◌, option_copied};
+ghost use Rattle.std.specs.Prelude.{◌≡◌, option_copied, true};
+ghost use Rattle.std.specs.Option.{option_map_or};
 ghost use Rattle.std.specs.List.{list_any};
-ghost use Rattle.hib_journal.specs.Query.{same_cell, row_of_ref, cell_at, holds, meets};
+ghost use Rattle.hib_journal.specs.Query.{same_cell, row_of_ref, cell_at, holds};
 
 use crate::cells;
 use crate::view::View;
@@ -67,7 +68,7 @@ fn holds<'a>(view: &'a View<'_>, row: &'a Row, cond: &Cond) -> bool
 
 /// Whether a row meets a query's condition, if it has one.
 pub fn meets<'a>(view: &'a View<'_>, row: &'a Row, cond: &Option<Cond>) -> bool
-    ensures { result ≡ meets view.now row.now cond.now }
+    ensures { result ≡ option_map_or (holds view.now row.now) cond.now true }
 {
     match cond {
         None => true,

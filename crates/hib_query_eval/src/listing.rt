@@ -1,7 +1,8 @@
 // What a query gives.
-ghost use Rattle.std.specs.Prelude.{◌≡◌, ◌∷◌, pos, take, drop, map, length, true, slice_get, ◌<◌, ◌^◌, [], IfOk};
+ghost use Rattle.std.specs.Prelude.{◌≡◌, ◌∷◌, pos, take, drop, map, length, true, slice_get, ◌<◌, ◌^◌, [], IfOk, unwrap_or, false};
 ghost use Rattle.hib_base.specs.Tables.{in_order};
-ghost use Rattle.hib_journal.specs.Query.{listed, sorted, or_false, selected, gives};
+ghost use Rattle.hib_journal.specs.Query.{listed, sorted, selected, gives};
+ghost use Rattle.hib_journal.specs.Types.{Cell};
 
 use crate::view::View;
 use crate::{conditions, orders};
@@ -92,7 +93,7 @@ fn identifiers(alloc: Global, rows: &[&(Key, Row)]) -> Result<Listing, AllocErro
 
 /// The cells of a column.
 fn cells_of(alloc: Global, column: u16, rows: &[&(Key, Row)]) -> Result<Listing, AllocError>
-    ensures { IfOk result (λ l. l ≡ map (λ a. or_false (slice_get a.now.1.cells column)) rows.now) }
+    ensures { IfOk result (λ l. l ≡ map (λ a. unwrap_or (slice_get a.now.1.cells column) (Cell.Bool false)) rows.now) }
 {
     let mut list = Seq::new(alloc);
     for row in rows {
@@ -103,7 +104,7 @@ fn cells_of(alloc: Global, column: u16, rows: &[&(Key, Row)]) -> Result<Listing,
 
 /// A row's cell of a column; false stands for one that is missing.
 fn cell_of(alloc: Global, column: u16, row: &Row) -> Result<Cell, AllocError>
-    ensures { IfOk result (λ c. c ≡ or_false (slice_get row.now.cells column)) }
+    ensures { IfOk result (λ c. c ≡ unwrap_or (slice_get row.now.cells column) (Cell.Bool false)) }
 {
     match row.cells.as_slice().get(usize::from(column)) {
         Some(cell) => cell.copy(alloc),

@@ -1,13 +1,14 @@
 // Which tables a query reads.
-ghost use Rattle.std.specs.Prelude.{◌≡◌, ◌||◌};
+ghost use Rattle.std.specs.Prelude.{◌≡◌, ◌||◌, ◌==◌, false};
+ghost use Rattle.std.specs.Option.{option_map_or};
 ghost use Rattle.std.specs.List.{list_any};
 ghost use Rattle.hib_base.specs.Tables.{Tables, key_of, after_changes};
-ghost use Rattle.hib_journal.specs.Query.{steps_to, mentions, reads, gives};
+ghost use Rattle.hib_journal.specs.Query.{mentions, reads, gives};
 
 use hib_base::{Change, Cond, EntityNo, Query, Target};
 
 fn steps_to(entity: EntityNo, target: Option<Target>) -> bool
-    ensures { result ≡ steps_to entity target }
+    ensures { result ≡ option_map_or (λ g. g.entity == entity) target false }
 {
     match target {
         Some(target) => target.entity == entity,

@@ -4,7 +4,7 @@ ghost use Rattle.std.specs.List.Sorted.{IsStrictlyIncreasing};
 ghost use Rattle.hib_base.specs.Tables.{Tables, in_order, row_at, after_changes};
 ghost use Rattle.hib_journal.specs.Types.{Row as RowSpec};
 ghost use Rattle.hib_journal.specs.Room.{key as key_at};
-ghost use Rattle.hib_journal.specs.Query.{meets, listed};
+ghost use Rattle.hib_journal.specs.Query.{listed};
 ghost use Rattle.hib_query_eval.specs.Covers.{HasAll, HasMet};
 ghost use Rattle.hib_query_eval.specs.Found.{row_in, if_met};
 ghost use Rattle.hib_query_eval.specs.Places.{IsIndexOf, has_id};

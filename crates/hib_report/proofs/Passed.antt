@@ -1,13 +1,14 @@
 -- Loops over a journal from its oldest entry on: what they know is what the definitions say of the entries behind them.
+use Rattle.std.specs.Option.{option_map_or}
 use Rattle.std.proofs.Common.{◌≡◌, refl, ℕ, ◌+◌, ◌<◌, Bool, true, false, not, cond, ◌&&◌, ◌||◌, Some, None, Option, List, [], ◌∷◌, reverse, take, length, get_or, ◌∙◌, ap}
-use Rattle.std.specs.List.{list_any}
+use Rattle.std.specs.List.{list_any, list_all}
 use Rattle.std.proofs.Math.Bool.{or_comm, or-false}
 use Rattle.std.proofs.lemmas.List.{take_more, reverse-append}
 use Rattle.std.proofs.lemmas.List.Folds.{list_any-append}
 use Rattle.hib_journal.specs.Types.{Key, Change, Act, Reply, Put, Unlocked, Inserted, Updated, Evicted, Entry}
 use Rattle.hib_journal.specs.Sessions.{Journal, is_by, own, changes_after, changes_in, changes, is_restart}
-use Rattle.hib_journal.specs.Slot.{Touch, History, touch_here, touch, with_touch, history}
-use Rattle.hib_journal.specs.Sound.{all_calm}
+use Rattle.hib_journal.specs.Slot.{Touch, History, touch_here, touch, history}
+use Rattle.hib_journal.specs.Sound.{is_calm}
 use Rattle.hib_report.specs.Unsound.{leaves_calm, is_upset}
 
 -- one more entry stands at the head of the past
@@ -29,7 +30,7 @@ calm_here (Act.RegionRemove k) Reply.Dropped = refl
 calm_here _ _ = refl
 
 abbrev calm_touched : (restarted : Bool) (o : Option Touch) (now : ℕ) (s : History) → Type 0
-calm_touched restarted o now s = all_calm (cond restarted [] (with_touch o now s)) ≡ cond restarted true (leaves_calm o && all_calm s)
+calm_touched restarted o now s = list_all (λ x. is_calm x.0) (cond restarted [] (option_map_or (λ t. (t, now) ∷ s) o s)) ≡ cond restarted true (leaves_calm o && list_all (λ t. is_calm t.0) s)
 
 calm_by : (restarted : Bool) (o : Option Touch) (now : ℕ) (s : History) → calm_touched restarted o now s
 calm_by true o now s = refl
@@ -37,7 +38,7 @@ calm_by false None now s = refl
 calm_by false (Some t) now s = refl
 
 -- a key is calm behind one more entry
-pub calm_more : (k : Key) (e : Entry) (h : Journal) → all_calm (history k (e ∷ h)) ≡ cond (is_restart e.act) true (leaves_calm (touch k e) && all_calm (history k h))
+pub calm_more : (k : Key) (e : Entry) (h : Journal) → list_all (λ t. is_calm t.0) (history k (e ∷ h)) ≡ cond (is_restart e.act) true (leaves_calm (touch k e) && list_all (λ t. is_calm t.0) (history k h))
 calm_more k e h = calm_by (is_restart e.act) (touch k e) e.tick (history k h)
 
 -- what a session wrote, behind one more entry of any session

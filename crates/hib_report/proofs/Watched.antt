@@ -1,4 +1,5 @@
 -- The pass over a journal: what it knows of keys and of sessions, behind one more key or one more entry.
+use Rattle.std.specs.Option.{option_map_or}
 use Rattle.std.proofs.Common.{Result, Ok, Err, OnOk, ◌≡◌, ℕ, ◌+◌, ◌<◌, inl, inr, Bool, true, false, cond, ◌&&◌, ◌||◌, List, [], ◌∷◌, ◌++◌, take, length, get_or, Some, None, Option, refl, sym, ap, ◌∙◌}
 use Rattle.std.specs.List.{list_any}
 use Rattle.std.proofs.Math.Bool.{or_comm, or-false}
@@ -10,7 +11,7 @@ use Rattle.hib_base.proofs.Tables.{Tested, tested, same_key_eq}
 use Rattle.hib_journal.specs.Types.{Key, Change, Act, Reply, Entry}
 use Rattle.hib_journal.specs.Sessions.{Journal, is_by, is_restart, committer, changes}
 use Rattle.hib_journal.specs.Slot.{touch}
-use Rattle.hib_journal.specs.Sound.{with_change, was_deleted, was_reused, inserts_key, deletes_key}
+use Rattle.hib_journal.specs.Sound.{was_deleted, was_reused, inserts_key, deletes_key}
 use Rattle.hib_report.specs.declared.watch.Course.{Course}
 use Rattle.hib_report.specs.declared.watch.Written.{Written}
 use Rattle.hib_report.specs.Unsound.{leaves_calm}
@@ -73,13 +74,13 @@ no_commit _ r s e = absurd (false≢true e)
 
 module _ (courses : Courses) (written : Writers) (h : Journal) (w : Watches courses written h) (k : Key) where
   deleted_by : (r : Bool) (o : Option ℕ) (c : Course) → (r ≡ true → o ≡ None) → c.deleted ≡ cond r false (was_deleted k h) →
-      (committed_by o written k c).deleted ≡ cond r false (with_change (deletes_key k) h o || was_deleted k h)
+      (committed_by o written k c).deleted ≡ cond r false (option_map_or (λ s. list_any (deletes_key k) (changes s h)) o false || was_deleted k h)
   deleted_by true o c n e = rw (n refl) e
   deleted_by false None c n e = e
   deleted_by false (Some s) c n e = ap (λ b. b || c.deleted) (w.deletes s k) ∙ ap (λ b. list_any (deletes_key k) (changes s h) || b) e
 
   reused_by : (r : Bool) (o : Option ℕ) (c : Course) → (r ≡ true → o ≡ None) → c.deleted ≡ cond r false (was_deleted k h) → c.reused ≡ cond r false (was_reused k h) →
-      (committed_by o written k c).reused ≡ cond r false ((with_change (inserts_key k) h o && was_deleted k h) || was_reused k h)
+      (committed_by o written k c).reused ≡ cond r false ((option_map_or (λ s. list_any (inserts_key k) (changes s h)) o false && was_deleted k h) || was_reused k h)
   reused_by true o c n d e = rw (n refl) e
   reused_by false None c n d e = e
   reused_by false (Some s) c n d e =

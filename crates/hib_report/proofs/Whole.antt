@@ -1,6 +1,8 @@
 -- The unsound keys of a report are all that there are: each read-write key that is not sound is among them.
+use Rattle.std.specs.Prelude.{option_and_then}
+use Rattle.std.specs.Option.{option_map_or}
 use Rattle.std.proofs.Common.{◌≡◌, refl, inl, inr, ℕ, Bool, true, false, not, cond, ◌&&◌, ◌||◌, ◌==◌, Some, None, Option, List, [], ◌∷◌}
-use Rattle.std.specs.List.{list_any}
+use Rattle.std.specs.List.{list_any, list_all}
 use Rattle.std.proofs.lemmas.Bool.{or_parts}
 use Rattle.std.proofs.lemmas.Map.Views.{any-filter_same}
 use Rattle.hib_base.specs.Keys.{same_key, is_before}
@@ -8,9 +10,9 @@ use Rattle.hib_base.specs.Tables.{key_of}
 use Rattle.hib_base.proofs.Tables.{Tested, tested, same_key_eq, same_key_refl}
 use Rattle.hib_journal.specs.Types.{Key, Change, Act, Reply, Script}
 use Rattle.hib_journal.specs.Sessions.{Journal, is_by, changes, committer, is_restart}
-use Rattle.hib_journal.specs.Slot.{Touch, key_in, is_victim, evicted_in, touch_of, history}
+use Rattle.hib_journal.specs.Slot.{Touch, key_in, evicted_in, history, touch_at}
 use Rattle.hib_journal.specs.Next.{strategy}
-use Rattle.hib_journal.specs.Sound.{all_calm, deletes_key, inserts_key, with_change, commits, was_deleted, was_reused, is_sound}
+use Rattle.hib_journal.specs.Sound.{deletes_key, inserts_key, commits, was_deleted, was_reused, is_sound, is_calm}
 use Rattle.hib_report.specs.Unsound.{named, is_read_write, with_key, with_named, keys_in, unsound, leaves_calm}
 use Rattle.hib_report.proofs.Passed.{calm_more, wrote_by, wrote_more}
 
@@ -82,15 +84,15 @@ left_alone : (b : Bool) → leaves_calm (cond b (Some Touch.Leaves) None) ≡ tr
 left_alone true = refl
 left_alone false = refl
 
-calm_elsewhere : (k : Key) (o : Option Key) (a : Act) (r : Reply) → names k o ≡ false → leaves_calm (touch_of k o a r) ≡ true
+calm_elsewhere : (k : Key) (o : Option Key) (a : Act) (r : Reply) → names k o ≡ false → leaves_calm (option_and_then (λ j. touch_at k j a r) o) ≡ true
 calm_elsewhere k None a r h = refl
-calm_elsewhere k (Some j) a r h = rw h (left_alone ((j.entity == k.entity) && is_victim k.id (evicted_in r)))
+calm_elsewhere k (Some j) a r h = rw h (left_alone ((j.entity == k.entity) && option_map_or (λ v. v == k.id) (evicted_in r) false))
 
 unnamed_here : (k : Key) (a : Act) → names k (named a) ≡ false → names k (key_in a) ≡ false
 unnamed_here k (Act.Write c) h = refl
 unnamed_here k _ h = h
 
-calm_unnamed : (k : Key) (past : Journal) → is_named k past ≡ false → all_calm (history k past) ≡ true
+calm_unnamed : (k : Key) (past : Journal) → is_named k past ≡ false → list_all (λ t. is_calm t.0) (history k past) ≡ true
 calm_unnamed k [] h = refl
 calm_unnamed k (e ∷ past) h =
     let p : (names k (named e.act) ≡ false) × (is_named k past ≡ false) = or_parts (names k (named e.act)) (is_named k past) h in
@@ -114,7 +116,7 @@ undeleted k s (e ∷ past) h =
     let p : (names k (named e.act) ≡ false) × (is_named k past ≡ false) = or_parts (names k (named e.act)) (is_named k past) h in
     rw (wrote_more (deletes_key k) s e past, undeleted k s past p.1, spared_by k e.act p.0) (cond_same (is_by s e) false false refl)
 
-no_commit : (k : Key) (past : Journal) (o : Option ℕ) → is_named k past ≡ false → with_change (deletes_key k) past o ≡ false
+no_commit : (k : Key) (past : Journal) (o : Option ℕ) → is_named k past ≡ false → option_map_or (λ s. list_any (deletes_key k) (changes s past)) o false ≡ false
 no_commit k past None h = refl
 no_commit k past (Some s) h = undeleted k s past h
 

@@ -1,12 +1,12 @@
 -- What the pass over a journal knows of keys and of sessions, as the definitions give it.
 use Rattle.std.specs.Prelude.{◌≡◌, ℕ, Bool, true, false, not, ◌&&◌, ◌||◌, List, [], ◌∷◌, ◌++◌, nat_eq, Some, None, Option}
-use Rattle.std.specs.List.{list_any}
+use Rattle.std.specs.List.{list_any, list_all}
 use Rattle.std.specs.Map.{lookup}
 use Rattle.hib_base.specs.Keys.{same_key}
 use Rattle.hib_journal.specs.Types.{Key, Change, Act}
 use Rattle.hib_journal.specs.Sessions.{Journal, changes}
 use Rattle.hib_journal.specs.Slot.{history}
-use Rattle.hib_journal.specs.Sound.{all_calm, was_deleted, was_reused, inserts_key, deletes_key}
+use Rattle.hib_journal.specs.Sound.{was_deleted, was_reused, inserts_key, deletes_key, is_calm}
 use Rattle.hib_report.specs.declared.watch.Course.{Course}
 use Rattle.hib_report.specs.declared.watch.Written.{Written}
 
@@ -74,7 +74,7 @@ committed_by (Some s) ws k c = deleted_if (names_key k (written_at ws s).deleted
 
 -- it stands for these entries, the newest first
 pub record Watches (courses : Courses) (written : Writers) (past : Journal) : Type 0 where
-  pub calm : (k : Key) → (course_at courses k).calm ≡ all_calm (history k past)
+  pub calm : (k : Key) → (course_at courses k).calm ≡ list_all (λ t. is_calm t.0) (history k past)
   pub deleted : (k : Key) → (course_at courses k).deleted ≡ was_deleted k past
   pub reused : (k : Key) → (course_at courses k).reused ≡ was_reused k past
   pub inserts : (s : ℕ) (k : Key) → names_key k (written_at written s).inserted ≡ list_any (inserts_key k) (changes s past)

@@ -1,4 +1,6 @@
 -- The identifiers that a region's acts name: each once, and all that have an entry.
+use Rattle.std.specs.Prelude.{option_and_then}
+use Rattle.std.specs.Option.{option_map_or}
 use Rattle.std.proofs.Common.{◌≡◌, ℕ, inl, inr, Bool, true, false, cond, ◌&&◌, ◌==◌, nat_eq, List, [], ◌∷◌, Option, Some, None, refl, sym, ap, ◌∙◌, subst, true≢false, eq-eqb}
 use Rattle.std.specs.List.{IsDistinct, AllByRecursion, filter}
 use Rattle.std.specs.Cmp.{nat_eq_equiv}
@@ -9,7 +11,7 @@ use Rattle.hib_base.specs.Keys.{same_key}
 use Rattle.hib_base.proofs.Tables.{Tested, tested}
 use Rattle.hib_journal.specs.Types.{Key, Act, Reply}
 use Rattle.hib_journal.specs.Sessions.{Journal, is_restart}
-use Rattle.hib_journal.specs.Slot.{Touch, History, history, touch, touch_of, touch_at, with_touch, key_in, is_victim, evicted_in, Slot, slot_from}
+use Rattle.hib_journal.specs.Slot.{Touch, History, history, touch, touch_at, key_in, evicted_in, Slot, slot_from}
 use Rattle.hib_journal.specs.Room.{key, add_once, add_key, named, item}
 use Rattle.hib_room_laws.proofs.First.{is_among}
 
@@ -94,11 +96,11 @@ LeavesAtMost None = Unit {0}
 LeavesAtMost (Some Touch.Leaves) = Unit {0}
 LeavesAtMost (Some _) = ⊥
 
-unnamed_touch : (n i : ℕ) (o : Option Key) (ids : List ℕ) (a : Act) (r : Reply) → is_among i (add_key n o ids) ≡ false → LeavesAtMost (touch_of (key n i) o a r)
+unnamed_touch : (n i : ℕ) (o : Option Key) (ids : List ℕ) (a : Act) (r : Reply) → is_among i (add_key n o ids) ≡ false → LeavesAtMost (option_and_then (λ j. touch_at (key n i) j a r) o)
 unnamed_touch n i None ids a r h = tt
-unnamed_touch n i (Some k) ids a r h = by (tested (same_key k (key n i))) (tested ((k.entity == n) && is_victim i (evicted_in r)))
+unnamed_touch n i (Some k) ids a r h = by (tested (same_key k (key n i))) (tested ((k.entity == n) && option_map_or (λ v. v == i) (evicted_in r) false))
   where
-    by : Tested (same_key k (key n i)) → Tested ((k.entity == n) && is_victim i (evicted_in r)) → LeavesAtMost (touch_at (key n i) k a r)
+    by : Tested (same_key k (key n i)) → Tested ((k.entity == n) && option_map_or (λ v. v == i) (evicted_in r) false) → LeavesAtMost (touch_at (key n i) k a r)
     by (inl t) v =
         let p : ((k.entity == n) ≡ true) × ((k.id == i) ≡ true) = and_parts (k.entity == n) (k.id == i) t in
         let g : is_among i (add_once k.id ids) ≡ false = rw p.0 at h in
@@ -107,7 +109,7 @@ unnamed_touch n i (Some k) ids a r h = by (tested (same_key k (key n i))) (teste
     by (inr t) (inl v) = rw (t, v) tt
     by (inr t) (inr v) = rw (t, v) tt
 
-left_more : (o : Option Touch) (now : ℕ) (s : History) → LeavesAtMost o → HasOnlyLeft s → HasOnlyLeft (with_touch o now s)
+left_more : (o : Option Touch) (now : ℕ) (s : History) → LeavesAtMost o → HasOnlyLeft s → HasOnlyLeft (option_map_or (λ t. (t, now) ∷ s) o s)
 left_more None now s l h = h
 left_more (Some Touch.Leaves) now s l h = h
 left_more (Some (Touch.Stores r x)) now s l h = absurd l
@@ -124,7 +126,7 @@ unnamed_left n i (e ∷ h) m =
     (unnamed_touch n i (key_in e.act) (named n h) e.act e.reply m)
     (unnamed_left n i h (among_before n i (key_in e.act) (named n h) m)))
   where
-    unless_restart : (b : Bool) → HasOnlyLeft (with_touch (touch (key n i) e) e.tick (history (key n i) h)) → HasOnlyLeft (cond b [] (with_touch (touch (key n i) e) e.tick (history (key n i) h)))
+    unless_restart : (b : Bool) → HasOnlyLeft (option_map_or (λ t. (t, e.tick) ∷ (history (key n i) h)) (touch (key n i) e) (history (key n i) h)) → HasOnlyLeft (cond b [] (option_map_or (λ t. (t, e.tick) ∷ (history (key n i) h)) (touch (key n i) e) (history (key n i) h)))
     unless_restart true l = tt
     unless_restart false l = l
 

@@ -1,11 +1,12 @@
 -- Worked rows of one part alone: its entries, the oldest first, each of which has the reply that is due over those before it.
 -- No session is named, and the ticks leave out those of the other parts.
+use Rattle.std.specs.Option.{option_map_or}
 use Rattle.std.proofs.Common.{◌≡◌, ℕ, true, false, List, [], ◌∷◌, map, reverse, Some, None, Option, refl}
 use Rattle.hib_journal.specs.Types.{Row, Strategy, Script, Part, Act, Checked, Miss, Put, Unlocked, Inserted, Updated, Evicted, Reply, Entry}
 use Rattle.hib_journal.specs.Sessions.{Journal}
 use Rattle.hib_journal.specs.Room.{key}
 use Rattle.hib_journal.specs.Stamps.{check}
-use Rattle.hib_journal.specs.Results.{result, found, dropped}
+use Rattle.hib_journal.specs.Results.{result, dropped}
 use Rattle.hib_journal.specs.Legal.{reply_of}
 use Rattle.hib_rows.proofs.Run.{row, entry, all_open}
 
@@ -280,7 +281,7 @@ two_results =
     []
 
 abbrev pub reply_in : ℕ → Journal → Act → Reply
-reply_in capacity h (Act.Look q) = found (result capacity q h)
+reply_in capacity h (Act.Look q) = option_map_or (λ r. Reply.Found r.0 r.1) (result capacity q h) Reply.Absent
 reply_in capacity h (Act.Keep q t l) = Reply.Kept (dropped capacity 3 q h)
 reply_in capacity h _ = Reply.Done
 
@@ -297,6 +298,6 @@ unfolding all_open
 two_results_due = refl
 
 -- Nothing is kept after a restart.
-results_restarted : found (result 2 1 (entry 9 None Part.Registry Act.Restart Reply.Done ∷ reverse two_results)) ≡ Reply.Absent
+results_restarted : option_map_or (λ r. Reply.Found r.0 r.1) (result 2 1 (entry 9 None Part.Registry Act.Restart Reply.Done ∷ reverse two_results)) Reply.Absent ≡ Reply.Absent
 unfolding all_open
 results_restarted = refl

@@ -1,5 +1,6 @@
 -- How a worked journal is computed from its script: the next act of each session in turn, by the orders, with its reply.
 -- In a worked script names are empty and columns are left out where no definition asks for them, and the schedule stands in the orders.
+use Rattle.std.specs.Prelude.{unwrap_or}
 use Rattle.std.proofs.Common.{ℕ, zero, suc, length, List, [], ◌∷◌, Some, None, Option, cond, pos}
 use Rattle.hib_base.specs.Tables.{Tables}
 use Rattle.hib_journal.specs.Types.{Cell, Row, Script, Part, Act, Reply, Order, Entry}
@@ -10,7 +11,7 @@ use Rattle.hib_journal.specs.Results.{result, dropped}
 use Rattle.hib_journal.specs.Query.{gives}
 use Rattle.hib_journal.specs.Held.{held, pending}
 use Rattle.hib_journal.specs.Next.{next}
-use Rattle.hib_journal.specs.Legal.{reply_of, part_of, number}
+use Rattle.hib_journal.specs.Legal.{reply_of, part_of}
 use Rattle.hib_journal.specs.Sound.{is_sound}
 
 abbrev pub row : Option ℕ → List Cell → Row
@@ -33,7 +34,7 @@ entry t s p a r = record { tick = t; session = s; part = p; act = a; reply = r }
 abbrev pub step_of : Script → Tables → Journal → Option ℕ → Option Act → Journal
 step_of script start h by None = h
 step_of script start h by (Some a) =
-    entry (suc (length h)) by (part_of a (number by)) a (reply_of script start h (number by) (suc (length h)) a) ∷ h
+    entry (suc (length h)) by (part_of a (unwrap_or by 0)) a (reply_of script start h (unwrap_or by 0) (suc (length h)) a) ∷ h
 
 abbrev pub next_of : Script → Journal → ℕ → Option Act
 next_of script h s = cond (was_killed s h) None (next script s (own s h))

@@ -1,12 +1,13 @@
 -- After each call the region stands for the journal with that entry.
+use Rattle.std.specs.Option.{option_flatten, option_or, option_map_or}
 use Rattle.std.proofs.Common.{◌≡◌, ◌<◌, ℕ, zero, suc, ◌+◌, inl, inr, Bool, true, false, cond, ◌||◌, ◌==◌, nat_eq, nat_lt, nat_le, ◌∷◌, Some, None, Option, is_some, refl, sym, ap, ◌∙◌, subst, arith, eq-eqb}
 use Rattle.std.proofs.lemmas.Bool.{eqb-true}
 use Rattle.indexmap.specs.IndexMap.{insert_entry}
 use Rattle.hib_base.proofs.Tables.{Tested, tested}
 use Rattle.hib_journal.specs.Types.{Key, Part, Act, Reply, Entry, Miss, Put, Unlocked, Inserted, Updated, Evicted}
 use Rattle.hib_journal.specs.Sessions.{Journal, last_tick, same_part, is_restart}
-use Rattle.hib_journal.specs.Slot.{Touch, history, LockState, Slot, slot_from, with_touch, touch_here, key_in, evicted_in, is_victim, is_positive}
-use Rattle.hib_journal.specs.Room.{key, place, or_earlier, is_earlier}
+use Rattle.hib_journal.specs.Slot.{Touch, history, LockState, Slot, slot_from, touch_here, key_in, evicted_in, is_positive}
+use Rattle.hib_journal.specs.Room.{key, place, is_earlier}
 use Rattle.hib_journal.specs.Regions as Regions
 use Rattle.hib_journal.proofs.Slots.{touched, IsFor}
 use Rattle.hib_soft_lock.specs.declared.slot.Slot.{Slot as Kept}
@@ -42,25 +43,25 @@ module _ (state : RegionState) (k : Key) (h : Journal) (e : Entry) (a : Act) (r 
   before : IsStanding state.timeout state.slots (hist_of k.entity h) (last_of k.entity h)
   before = standing state k.entity h next.stands
 
-  hist_now : (i : ℕ) → hist_of k.entity (e ∷ h) i ≡ with_touch (touch_by k.id i a r) e.tick (hist_of k.entity h i)
+  hist_now : (i : ℕ) → hist_of k.entity (e ∷ h) i ≡ option_map_or (λ t. (t, e.tick) ∷ (hist_of k.entity h i)) (touch_by k.id i a r) (hist_of k.entity h i)
   hist_now = touched_by k h e a r next.act next.reply names goes
 
   -- nothing happens
   same_region : touch_here a r ≡ None → evicted_in r ≡ None → IsRegion state k.entity (e ∷ h)
   same_region p q = region state k.entity (e ∷ h)
-      (standing_for state.timeout (last_of k.entity (e ∷ h)) state.slots (hist_of k.entity h) (hist_of k.entity (e ∷ h)) (λ i. hist_now i ∙ ap (λ o. with_touch o e.tick (hist_of k.entity h i)) (quiet k.id i a r p q))
+      (standing_for state.timeout (last_of k.entity (e ∷ h)) state.slots (hist_of k.entity h) (hist_of k.entity (e ∷ h)) (λ i. hist_now i ∙ ap (λ o. option_map_or (λ t. (t, e.tick) ∷ (hist_of k.entity h i)) o (hist_of k.entity h i)) (quiet k.id i a r p q))
       (subst (IsStanding state.timeout state.slots (hist_of k.entity h)) (sym last_now) (standing_later state.timeout (last_of k.entity h) e.tick state.slots (hist_of k.entity h) (omega (arith, last_before)) before)))
 
   abbrev left_by : Option ℕ → Histories
-  left_by v i = cond (is_victim i v) ((Touch.Leaves, e.tick) ∷ hist_of k.entity h i) (hist_of k.entity h i)
+  left_by v i = cond (option_map_or (λ x. x == i) v false) ((Touch.Leaves, e.tick) ∷ hist_of k.entity h i) (hist_of k.entity h i)
 
   after_left : (v : Option ℕ) → IsStanding state.timeout (left v state.slots) (left_by v) (last_of k.entity h)
   after_left None = before
   after_left (Some v) = standing_left state.timeout (last_of k.entity h) state.slots (hist_of k.entity h) before v e.tick
 
-  module _ (v : Option ℕ) (t : Touch) (slot : Kept) (apart : is_victim k.id v ≡ false) (here : touch_here a r ≡ Some t) (evicted : evicted_in r ≡ v)
+  module _ (v : Option ℕ) (t : Touch) (slot : Kept) (apart : option_map_or (λ x. x == k.id) v false ≡ false) (here : touch_here a r ≡ Some t) (evicted : evicted_in r ≡ v)
       (for : IsFor t (slot_in state k.id)) (is : shown slot ≡ touched state.timeout t e.tick (slot_in state k.id))
-      (at_place : place ((t, e.tick) ∷ hist_of k.entity h k.id) ≡ or_earlier (place (hist_of k.entity h k.id)) e.tick) where
+      (at_place : place ((t, e.tick) ∷ hist_of k.entity h k.id) ≡ option_or (place (hist_of k.entity h k.id)) (Some e.tick)) where
     -- the key's own history and slot, which the other's leaving does not change
     own : left_by v k.id ≡ hist_of k.entity h k.id
     own = ap (λ b. cond b ((Touch.Leaves, e.tick) ∷ hist_of k.entity h k.id) (hist_of k.entity h k.id)) apart
@@ -74,15 +75,15 @@ module _ (state : RegionState) (k : Key) (h : Journal) (e : Entry) (a : Act) (r 
     after_both : IsStanding state.timeout (insert_entry nat_eq (left v state.slots) k.id slot) both e.tick
     after_both = standing_touched state.timeout (last_of k.entity h) (left v state.slots) (left_by v) (after_left v) k.id e.tick t slot last_before
         (subst (IsFor t) own_slot for) (is ∙ ap (touched state.timeout t e.tick) own_slot)
-        (ap (λ s. place ((t, e.tick) ∷ s)) own ∙ at_place ∙ ap (λ s. or_earlier (place s) e.tick) (sym own))
+        (ap (λ s. place ((t, e.tick) ∷ s)) own ∙ at_place ∙ ap (λ s. option_or (place s) (Some e.tick)) (sym own))
 
     both_is : (i : ℕ) → hist_of k.entity (e ∷ h) i ≡ both i
-    both_is i = hist_now i ∙ rw (here, evicted) (by (tested (nat_eq k.id i)) (tested (is_victim i v)))
+    both_is i = hist_now i ∙ rw (here, evicted) (by (tested (nat_eq k.id i)) (tested (option_map_or (λ x. x == i) v false)))
       where
-        by : Tested (nat_eq k.id i) → Tested (is_victim i v)
-            → with_touch (cond (nat_eq k.id i) (Some t) (cond (is_victim i v) (Some Touch.Leaves) None)) e.tick (hist_of k.entity h i) ≡ both i
+        by : Tested (nat_eq k.id i) → Tested (option_map_or (λ x. x == i) v false)
+            → option_map_or (λ x. (x, e.tick) ∷ (hist_of k.entity h i)) (cond (nat_eq k.id i) (Some t) (cond (option_map_or (λ x. x == i) v false) (Some Touch.Leaves) None)) (hist_of k.entity h i) ≡ both i
         by (inl p) q =
-            let n : is_victim i v ≡ false = subst (λ j. is_victim j v ≡ false) (eqb-true k.id i p) apart in rw (p, n)
+            let n : option_map_or (λ x. x == i) v false ≡ false = subst (λ j. option_map_or (λ x. x == j) v false ≡ false) (eqb-true k.id i p) apart in rw (p, n)
         by (inr p) (inl q) = rw (p, q)
         by (inr p) (inr q) = rw (p, q)
 
@@ -92,10 +93,10 @@ module _ (state : RegionState) (k : Key) (h : Journal) (e : Entry) (a : Act) (r 
         (subst (IsStanding state.timeout (insert_entry nat_eq (left v state.slots) k.id slot) both) (sym last_now) after_both))
 
   -- a key that is there has a place
-  there_place : is_some (kept_in state k.id) ≡ true → or_earlier (place (hist_of k.entity h k.id)) e.tick ≡ place (hist_of k.entity h k.id)
+  there_place : is_some (kept_in state k.id) ≡ true → option_or (place (hist_of k.entity h k.id)) (Some e.tick) ≡ place (hist_of k.entity h k.id)
   there_place there = by (place (hist_of k.entity h k.id)) (place_there (place_of k.entity h) k.id state.slots next.stands.order there)
     where
-      by : (p : Option ℕ) → is_earlier p None ≡ true → or_earlier p e.tick ≡ p
+      by : (p : Option ℕ) → is_earlier p None ≡ true → option_or p (Some e.tick) ≡ p
       by None p = cc
       by (Some t) p = refl
 
@@ -150,45 +151,45 @@ put_over : (s : Kept) (room : Option (Option ℕ)) (time : ℕ) (w : Option ℕ)
 put_over (Kept.Item r t) room time w = writable_leaves (Slot.Item r t) time w
 put_over (Kept.Lock i v t n x u) room time w = writable_leaves (shown (Kept.Lock i v t n x u)) time w
 
-put_apart : (state : RegionState) (id time floor : ℕ) (w v : Option ℕ) (late : Bool) → Regions.put (slot_in state id) (room_in state floor) time w ≡ Put.Stored v late → is_victim id v ≡ false
+put_apart : (state : RegionState) (id time floor : ℕ) (w v : Option ℕ) (late : Bool) → Regions.put (slot_in state id) (room_in state floor) time w ≡ Put.Stored v late → option_map_or (λ x. x == id) v false ≡ false
 put_apart state id time floor w v late is = by (kept_in state id) refl
   where
-    by_room : (room : Option (Option ℕ)) → is_victim id (Regions.evicted_by room) ≡ false → Regions.put Slot.Vacant room time w ≡ Put.Stored v late → is_victim id v ≡ false
+    by_room : (room : Option (Option ℕ)) → option_map_or (λ v. v == id) (option_flatten room) false ≡ false → Regions.put Slot.Vacant room time w ≡ Put.Stored v late → option_map_or (λ x. x == id) v false ≡ false
     by_room None a p = cc
-    by_room (Some u) a p = let q : u ≡ v = cc in subst (λ o. is_victim id o ≡ false) q a
+    by_room (Some u) a p = let q : u ≡ v = cc in subst (λ o. option_map_or (λ v. v == id) o false ≡ false) q a
 
-    by : (o : Option Kept) → kept_in state id ≡ o → is_victim id v ≡ false
+    by : (o : Option Kept) → kept_in state id ≡ o → option_map_or (λ x. x == id) v false ≡ false
     by None there = by_room (room_in state floor) (room_apart state floor id there) (subst (λ o. Regions.put (shown_in o) (room_in state floor) time w ≡ Put.Stored v late) there is)
     by (Some s) there =
         let p : Regions.put (shown s) (room_in state floor) time w ≡ Put.Stored v late = subst (λ o. Regions.put (shown_in o) (room_in state floor) time w ≡ Put.Stored v late) there is in
         let n : v ≡ None = subst NoneLeaves p (put_over s (room_in state floor) time w) in
-        ap (is_victim id) n
+        ap (λ x. option_map_or (λ v. v == id) x false) n
 
-insert_apart : (state : RegionState) (id floor : ℕ) (v : Option ℕ) → Regions.after_insert (slot_in state id) (room_in state floor) ≡ Inserted.Stored v → is_victim id v ≡ false
+insert_apart : (state : RegionState) (id floor : ℕ) (v : Option ℕ) → Regions.after_insert (slot_in state id) (room_in state floor) ≡ Inserted.Stored v → option_map_or (λ x. x == id) v false ≡ false
 insert_apart state id floor v is = by (kept_in state id) refl
   where
-    by_room : (room : Option (Option ℕ)) → is_victim id (Regions.evicted_by room) ≡ false → Regions.after_insert Slot.Vacant room ≡ Inserted.Stored v → is_victim id v ≡ false
+    by_room : (room : Option (Option ℕ)) → option_map_or (λ v. v == id) (option_flatten room) false ≡ false → Regions.after_insert Slot.Vacant room ≡ Inserted.Stored v → option_map_or (λ x. x == id) v false ≡ false
     by_room None a p = cc
-    by_room (Some u) a p = let q : u ≡ v = cc in subst (λ o. is_victim id o ≡ false) q a
+    by_room (Some u) a p = let q : u ≡ v = cc in subst (λ o. option_map_or (λ v. v == id) o false ≡ false) q a
 
-    by_slot : (s : Kept) → Regions.after_insert (shown s) (room_in state floor) ≡ Inserted.Stored v → is_victim id v ≡ false
+    by_slot : (s : Kept) → Regions.after_insert (shown s) (room_in state floor) ≡ Inserted.Stored v → option_map_or (λ x. x == id) v false ≡ false
     by_slot (Kept.Item r t) p = cc
     by_slot (Kept.Lock i u t n x w) p = cc
 
-    by : (o : Option Kept) → kept_in state id ≡ o → is_victim id v ≡ false
+    by : (o : Option Kept) → kept_in state id ≡ o → option_map_or (λ x. x == id) v false ≡ false
     by None there = by_room (room_in state floor) (room_apart state floor id there) (subst (λ o. Regions.after_insert (shown_in o) (room_in state floor) ≡ Inserted.Stored v) there is)
     by (Some s) there = by_slot s (subst (λ o. Regions.after_insert (shown_in o) (room_in state floor) ≡ Inserted.Stored v) there is)
 
-lock_apart : (state : RegionState) (id floor now : ℕ) → is_victim id (Regions.lock state.timeout (slot_in state id) (room_in state floor) now).evicted ≡ false
+lock_apart : (state : RegionState) (id floor now : ℕ) → option_map_or (λ v. v == id) (Regions.lock state.timeout (slot_in state id) (room_in state floor) now).evicted false ≡ false
 lock_apart state id floor now = by (kept_in state id) refl
   where
-    by_slot : (s : Kept) → is_victim id (Regions.lock state.timeout (shown s) (room_in state floor) now).evicted ≡ false
+    by_slot : (s : Kept) → option_map_or (λ v. v == id) (Regions.lock state.timeout (shown s) (room_in state floor) now).evicted false ≡ false
     by_slot (Kept.Item r t) = refl
     by_slot (Kept.Lock i v t n x u) = refl
 
-    by : (o : Option Kept) → kept_in state id ≡ o → is_victim id (Regions.lock state.timeout (slot_in state id) (room_in state floor) now).evicted ≡ false
-    by None there = subst (λ o. is_victim id (Regions.lock state.timeout (shown_in o) (room_in state floor) now).evicted ≡ false) (sym there) (room_apart state floor id there)
-    by (Some s) there = subst (λ o. is_victim id (Regions.lock state.timeout (shown_in o) (room_in state floor) now).evicted ≡ false) (sym there) (by_slot s)
+    by : (o : Option Kept) → kept_in state id ≡ o → option_map_or (λ v. v == id) (Regions.lock state.timeout (slot_in state id) (room_in state floor) now).evicted false ≡ false
+    by None there = subst (λ o. option_map_or (λ v. v == id) (Regions.lock state.timeout (shown_in o) (room_in state floor) now).evicted false ≡ false) (sym there) (room_apart state floor id there)
+    by (Some s) there = subst (λ o. option_map_or (λ v. v == id) (Regions.lock state.timeout (shown_in o) (room_in state floor) now).evicted false ≡ false) (sym there) (by_slot s)
 
 locked_is : (timeout : ℕ) (v : Option ℕ) (now : ℕ) (o : Option Kept) → shown (locked_by timeout v now o) ≡ touched timeout (Touch.Locks v) now (shown_in o)
 locked_is timeout v now None = shown_new_lock timeout v now

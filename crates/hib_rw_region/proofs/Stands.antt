@@ -1,4 +1,5 @@
 -- Slots that stand for the histories of their keys, and what a touch of one key leaves of that.
+use Rattle.std.specs.Option.{option_or}
 use Rattle.std.proofs.Common.{◌≡◌, ◌≤◌, ◌<◌, ℕ, suc, inl, inr, Bool, true, false, cond, nat_eq, [], ◌∷◌, Some, None, Option, is_some, refl, sym, ap, ◌∙◌, subst, arith, eq-eqb, true≢false}
 use Rattle.std.specs.Map.{lookup, remove_entry}
 use Rattle.std.specs.Cmp.{nat_eq_equiv}
@@ -7,7 +8,7 @@ use Rattle.indexmap.specs.IndexMap.{insert_entry}
 use Rattle.indexmap.proofs.MapLemmas.{absent_from_lookup, insert_entry-absent}
 use Rattle.hib_base.proofs.Tables.{Tested, tested}
 use Rattle.hib_journal.specs.Slot.{Touch, History, Slot, slot_from}
-use Rattle.hib_journal.specs.Room.{place, or_earlier, is_earlier}
+use Rattle.hib_journal.specs.Room.{place, is_earlier}
 use Rattle.hib_journal.proofs.Slots.{touched, IsFor, IsKept, slot_step}
 use Rattle.hib_soft_lock.specs.declared.slot.Slot.{Slot as Kept}
 use Rattle.hib_soft_lock.specs.Shown.{shown}
@@ -140,17 +141,17 @@ few_more timeout now (Touch.Releases n) Slot.Vacant f = absurd f
 few_more timeout now (Touch.Releases n) (Slot.Item r t) f = absurd f
 few_more timeout now (Touch.Releases n) (Slot.Lock l) f = omega arith
 
-up_to_now : (last now : ℕ) (p : Option ℕ) → last < now → IsUpTo last p → IsUpTo now (or_earlier p now)
+up_to_now : (last now : ℕ) (p : Option ℕ) → last < now → IsUpTo last p → IsUpTo now (option_or p (Some now))
 up_to_now last now None l b = omega arith
 up_to_now last now (Some t) l b = omega arith
 
-earlier_place : (p : Option ℕ) (now : ℕ) → is_earlier p None ≡ true → or_earlier p now ≡ p
+earlier_place : (p : Option ℕ) (now : ℕ) → is_earlier p None ≡ true → option_or p (Some now) ≡ p
 earlier_place None now h = absurd (true≢false (sym h))
 earlier_place (Some t) now h = refl
 
 module _ (timeout last : ℕ) (slots : Slots) (hist : Histories) (s : IsStanding timeout slots hist last) (x now : ℕ) (t : Touch) (slot : Kept)
     (later : last < now) (for : IsFor t (slot_from timeout (hist x))) (is : shown slot ≡ touched timeout t now (slot_from timeout (hist x)))
-    (at_place : place ((t, now) ∷ hist x) ≡ or_earlier (place (hist x)) now) where
+    (at_place : place ((t, now) ∷ hist x) ≡ option_or (place (hist x)) (Some now)) where
   abbrev touched_hist : Histories
   touched_hist i = cond (nat_eq x i) ((t, now) ∷ hist i) (hist i)
 
@@ -160,7 +161,7 @@ module _ (timeout last : ℕ) (slots : Slots) (hist : Histories) (s : IsStanding
   place_other : (i : ℕ) → nat_eq x i ≡ false → place (touched_hist i) ≡ place (hist i)
   place_other i d = ap (λ b. place (cond b ((t, now) ∷ hist i) (hist i))) d
 
-  place_self : place (touched_hist x) ≡ or_earlier (place (hist x)) now
+  place_self : place (touched_hist x) ≡ option_or (place (hist x)) (Some now)
   place_self = ap (λ b. place (cond b ((t, now) ∷ hist x) (hist x))) (eq-eqb x x refl) ∙ at_place
 
   order_there : is_some (lookup (nat_eq x) slots) ≡ true → IsInOrder (λ i. place (touched_hist i)) set_slots
@@ -175,7 +176,7 @@ module _ (timeout last : ℕ) (slots : Slots) (hist : Histories) (s : IsStanding
 
   order_new : lookup (nat_eq x) slots ≡ None → IsInOrder (λ i. place (touched_hist i)) set_slots
   order_new none =
-      let p : place (touched_hist x) ≡ Some now = place_self ∙ ap (λ q. or_earlier q now) (s.placed x none) in
+      let p : place (touched_hist x) ≡ Some now = place_self ∙ ap (λ q. option_or q (Some now)) (s.placed x none) in
       subst (λ (l : Slots). IsInOrder (λ i. place (touched_hist i)) l) (sym (insert_entry-absent nat_eq x slot slots (absent_from_lookup (nat_eq x) slots none)))
       (order_push (λ i. place (touched_hist i)) slots (x, slot) last now
       (order_moved x (λ i. place (hist i)) (λ i. place (touched_hist i)) place_other slots none s.order) p later none

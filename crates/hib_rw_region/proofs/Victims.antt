@@ -1,4 +1,6 @@
 -- The victim, as the region finds it: a key that has a slot, and the one that the journal gives.
+use Rattle.std.specs.Prelude.{◌==◌, option_map, cond}
+use Rattle.std.specs.Option.{option_flatten, option_map_or}
 use Rattle.std.proofs.Common.{◌≡◌, ℕ, inl, inr, Bool, true, false, nat_eq, nat_lt, [], ◌∷◌, length, Some, None, Option, is_some, refl, sym, ap, ◌∙◌, subst, true≢false, eq-eqb}
 use Rattle.std.specs.Map.{lookup}
 use Rattle.std.specs.List.{filter}
@@ -6,9 +8,8 @@ use Rattle.std.proofs.lemmas.Bool.{eqb-true}
 use Rattle.std.proofs.lemmas.Option.{same_Some}
 use Rattle.hib_base.proofs.Tables.{Tested, tested}
 use Rattle.hib_journal.specs.Sessions.{Journal}
-use Rattle.hib_journal.specs.Slot.{history, slot, is_victim}
-use Rattle.hib_journal.specs.Regions.{evicted_by}
-use Rattle.hib_journal.specs.Room.{key, named, place, kept, has_entry, may_leave, victim, room, room_by, is_earlier}
+use Rattle.hib_journal.specs.Slot.{history, slot}
+use Rattle.hib_journal.specs.Room.{key, named, place, kept, has_entry, may_leave, victim, room, is_earlier}
 use Rattle.hib_soft_lock.specs.declared.slot.Slot.{Slot as Kept}
 use Rattle.hib_soft_lock.specs.Shown.{shown}
 use Rattle.hib_room_laws.specs.Order.{AreLater, IsInOrder}
@@ -31,7 +32,7 @@ victim_kept v floor (e ∷ es) first = by (tested (may_leave floor (shown e.1)))
     by (inr t) (inr n) r = let f : victim_in floor es ≡ Some v = rw t at first in rw n (r f)
 
 -- so it is not a key that has none
-pub victim_apart : (v floor : ℕ) (slots : Slots) → victim_in floor slots ≡ Some v → (id : ℕ) → lookup (nat_eq id) slots ≡ None → is_victim id (Some v) ≡ false
+pub victim_apart : (v floor : ℕ) (slots : Slots) → victim_in floor slots ≡ Some v → (id : ℕ) → lookup (nat_eq id) slots ≡ None → option_map_or (λ x. x == id) (Some v) false ≡ false
 victim_apart v floor slots first id absent = by (tested (nat_eq v id))
   where
     by : Tested (nat_eq v id) → nat_eq v id ≡ false
@@ -41,10 +42,10 @@ victim_apart v floor slots first id absent = by (tested (nat_eq v id))
         absurd (true≢false (sym there ∙ ap is_some absent))
     by (inr t) = t
 
-pub room_apart : (state : RegionState) (floor id : ℕ) → kept_in state id ≡ None → is_victim id (evicted_by (room_in state floor)) ≡ false
+pub room_apart : (state : RegionState) (floor id : ℕ) → kept_in state id ≡ None → option_map_or (λ v. v == id) (option_flatten (room_in state floor)) false ≡ false
 room_apart state floor id absent = by (nat_lt (length state.slots) state.capacity) (victim_in floor state.slots) refl
   where
-    by : (b : Bool) (v : Option ℕ) → victim_in floor state.slots ≡ v → is_victim id (evicted_by (room_by b v)) ≡ false
+    by : (b : Bool) (v : Option ℕ) → victim_in floor state.slots ≡ v → option_map_or (λ x. x == id) (option_flatten (cond b (Some None) (option_map (λ i. Some i) v))) false ≡ false
     by true v e = refl
     by false None e = refl
     by false (Some v) e = victim_apart v floor state.slots e id absent

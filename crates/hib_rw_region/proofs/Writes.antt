@@ -1,11 +1,12 @@
 -- Slots that are written by index, and a victim that leaves after the new key has come.
+use Rattle.std.specs.Prelude.{◌==◌}
+use Rattle.std.specs.Option.{option_map_or}
 use Rattle.std.proofs.Common.{◌≡◌, ℕ, inl, inr, false, nat_eq, [], ◌∷◌, Some, position, slice_get, sym, ap, ◌∙◌, subst}
 use Rattle.std.specs.Map.{keys_of, values_of, remove_entry}
 use Rattle.std.proofs.lemmas.Bool.{eqb-true}
 use Rattle.indexmap.specs.IndexMap.{insert_entry, set_value_at}
 use Rattle.indexmap.proofs.MapLemmas.{Found-position, insert_entry-first}
 use Rattle.hib_base.proofs.Tables.{Tested, tested}
-use Rattle.hib_journal.specs.Slot.{is_victim}
 use Rattle.hib_soft_lock.specs.declared.slot.Slot.{Slot as Kept}
 use Rattle.hib_rw_region.specs.Region.{Slots, RegionState}
 use Rattle.hib_rw_region.specs.Steps.{changed, changed_by, with_slot, without}
@@ -32,6 +33,6 @@ left_after v id (e ∷ es) slot d = by (tested (nat_eq id e.0)) (tested (nat_eq 
     by (inr p) (inl q) r = rw (p, q)
     by (inr p) (inr q) r = rw (p, q, p, r)
 
-pub placed : (v id : ℕ) (slot : Kept) (state : RegionState) (slots : Slots) → is_victim id (Some v) ≡ false → slots ≡ remove_entry (nat_eq v) (insert_entry nat_eq state.slots id slot)
+pub placed : (v id : ℕ) (slot : Kept) (state : RegionState) (slots : Slots) → option_map_or (λ x. x == id) (Some v) false ≡ false → slots ≡ remove_entry (nat_eq v) (insert_entry nat_eq state.slots id slot)
     → record state { slots = slots } ≡ with_slot id slot (without (Some v) state)
 placed v id slot state slots d is = ap (λ (s : Slots). record state { slots = s }) (is ∙ left_after v id state.slots slot d)

@@ -1,9 +1,9 @@
 -- A read-write region as contracts see it.
-use Rattle.std.specs.Prelude.{ℕ, nat_eq, nat_lt, List, length, Some, None, Option}
+use Rattle.std.specs.Prelude.{ℕ, nat_eq, nat_lt, List, length, Some, None, Option, option_map, cond}
 use Rattle.std.specs.Map.{lookup}
 use Rattle.std.specs.List.{filter}
 use Rattle.hib_journal.specs.Slot.{Slot}
-use Rattle.hib_journal.specs.Room.{may_leave, room_by}
+use Rattle.hib_journal.specs.Room.{may_leave}
 use Rattle.hib_soft_lock.specs.declared.slot.Slot.{Slot as Kept}
 use Rattle.hib_soft_lock.specs.Shown.{shown}
 use Rattle.hib_room_laws.specs.Order.{first_key}
@@ -36,4 +36,4 @@ victim_in floor slots = first_key (filter (λ p. may_leave floor (shown p.1)) sl
 
 -- the room for a new key
 abbrev pub room_in : RegionState → ℕ → Option (Option ℕ)
-room_in state floor = room_by (nat_lt (length state.slots) state.capacity) (victim_in floor state.slots)
+room_in state floor = cond (nat_lt (length state.slots) state.capacity) (Some None) (option_map (λ i. Some i) (victim_in floor state.slots))

@@ -1,9 +1,9 @@
 // The read-write region.
-ghost use Rattle.std.specs.Prelude.{◌≡◌, ◌+◌, ◌≤◌, ◌<◌, ◌^◌, ℕ, None, Some, true, false, IsOk, IfOk, OnOk, OnErr, nat_eq};
+ghost use Rattle.std.specs.Prelude.{◌≡◌, ◌+◌, ◌≤◌, ◌<◌, ◌^◌, ℕ, None, Some, true, false, IsOk, IfOk, OnOk, OnErr, nat_eq, ◌==◌};
+ghost use Rattle.std.specs.Option.{option_flatten, option_map_or};
 ghost use Rattle.std.specs.Map.{lookup};
 ghost use Rattle.hib_journal.specs.Regions as Regions;
 ghost use Rattle.hib_journal.specs.Room.{has_entry};
-ghost use Rattle.hib_journal.specs.Slot.{is_victim};
 ghost use Rattle.hib_soft_lock.specs.Steps.{holders_in};
 ghost use Rattle.hib_room_laws.specs.Answers.{got_reply};
 ghost use Rattle.hib_rw_region.specs.Region.{kept_in, slot_in, room_in};
@@ -72,7 +72,7 @@ impl RwRegion {
     // The room for a new key: none, or with the key that leaves for it, if one has to.
     fn room(&self, floor: Tick) -> Option<Option<u64>>
         ensures room { result ≡ room_in self.now floor }
-        ensures apart { (id : ℕ) → kept_in self.now id ≡ None → is_victim id (Regions.evicted_by result) ≡ false }
+        ensures apart { (id : ℕ) → kept_in self.now id ≡ None → option_map_or (λ v. v == id) (option_flatten result) false ≡ false }
     {
         if self.slots.len() < self.capacity as usize {
             return Some(None);
@@ -83,7 +83,7 @@ impl RwRegion {
 
     // Places a slot on a new key, and then lets another leave.
     fn place(&mut self, id: u64, slot: Slot, evicted: Option<u64>) -> Result<(), AllocError>
-        requires { is_victim id evicted ≡ false }
+        requires { option_map_or (λ v. v == id) evicted false ≡ false }
         ensures ok { OnOk result (self.new ≡ with_slot id slot (without evicted self.old)) }
         ensures err { OnErr result (self.new ≡ self.old) }
     {

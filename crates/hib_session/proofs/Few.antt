@@ -1,15 +1,18 @@
 -- A session's entries are few: a plan has few acts, whatever is answered.
+use Rattle.std.specs.Prelude.{is_some, option_and_then}
+use Rattle.std.specs.Option.{option_map_or}
 use Rattle.std.proofs.Common.{◌≡◌, ℕ, suc, ◌+◌, ◌-◌, ◌*◌, ◌≤◌, Bool, true, false, cond, not, ◌&&◌, List, [], ◌∷◌, ◌++◌, length, slice_get, Some, None, Option, refl, sym, subst, arith}
 use Rattle.std.specs.List.{filter, filter_map, flat_map, cons_option}
 use Rattle.std.proofs.lemmas.List.{length-append}
 use Rattle.std.proofs.lemmas.Nat.{mul-le}
 use Rattle.hib_base.specs.Keys.{same_key}
-use Rattle.hib_base.specs.Tables.{key_of, first_on, last_on}
+use Rattle.hib_base.specs.Tables.{key_of, first_on, last_on, row_left}
 use Rattle.hib_journal.specs.Types.{Key, Row, Change, Mode, Strategy, Statement, Script, Act, Reply, Checked, Entry}
 use Rattle.hib_journal.specs.Sessions.{Journal, changes_in, changes_after, time_in, floor_in}
-use Rattle.hib_journal.specs.Held.{Arrival, arrival, arrived_key, arrived, key_arrived, without_key, removed, key_removed, held, pending, insert_of, update_of, delete_of, is_fresh}
+use Rattle.hib_journal.specs.Held.{Arrival, arrival, arrived_key, arrived, without_key, removed, key_removed, held, pending, is_fresh}
 use Rattle.hib_journal.specs.Plan.{Plan, after, left_of, first_act, one, each, InOrder}
 use Rattle.hib_journal.specs.Next
+use Rattle.hib_journal.proofs.Shapes.{insert_of, update_of, delete_of}
 use Rattle.hib_session.specs.Bound.{most_entries}
 
 -- ---- lists
@@ -78,7 +81,7 @@ abbrev writes_one : Act → ℕ
 writes_one (Act.Write c) = 1
 writes_one _ = 0
 
-arrived_few : (o : Option Arrival) (ks : List Key) → length (key_arrived o ks) ≤ length ks + 1
+arrived_few : (o : Option Arrival) (ks : List Key) → length (option_map_or (λ a. without_key (arrived_key a) ks ++ arrived_key a ∷ []) o ks) ≤ length ks + 1
 arrived_few None ks = omega arith
 arrived_few (Some a) ks =
     let i = few_filter (λ j. not (same_key j (arrived_key a))) ks in
@@ -90,7 +93,7 @@ removed_few k Reply.Removed ks =
     let j = length-append (without_key k ks) (k ∷ []) in omega (arith, i, j)
 removed_few k _ ks = omega arith
 
-held_after : (a : Act) (r : Reply) (ks rs : List Key) → 2 * length (key_arrived (arrival a r) ks) + length (key_removed a r rs) ≤ 2 * length ks + length rs + gains a
+held_after : (a : Act) (r : Reply) (ks rs : List Key) → 2 * length (option_map_or (λ x. without_key (arrived_key x) ks ++ arrived_key x ∷ []) (arrival a r) ks) + length (key_removed a r rs) ≤ 2 * length ks + length rs + gains a
 held_after (Act.Persist k x) r ks rs = let i = arrived_few (arrival (Act.Persist k x) r) ks in omega (arith, i)
 held_after (Act.Load k) r ks rs = let i = arrived_few (arrival (Act.Load k) r) ks in omega (arith, i)
 held_after (Act.Get k t) r ks rs = let i = arrived_few (arrival (Act.Get k t) r) ks in omega (arith, i)
@@ -181,8 +184,8 @@ short_unless false acts s = s
 
 short_before : (script : Script) (past : Journal) (k : Key) (v : Option ℕ) → Short 1 0 (Next.before_key script past k v)
 short_before script past k v = short_unless (Next.is_in k (changes_in past))
-    (Next.before_cached (Next.strategy script k.entity) k (Next.fresh_version (is_fresh k past) v) (floor_in past))
-    (short_cached (Next.strategy script k.entity) k (Next.fresh_version (is_fresh k past) v) (floor_in past))
+    (Next.before_cached (Next.strategy script k.entity) k (cond (is_fresh k past) v None) (floor_in past))
+    (short_cached (Next.strategy script k.entity) k (cond (is_fresh k past) v None) (floor_in past))
 
 short_write : (script : Script) (past : Journal) (c : Change) → Short 1 0 (Next.before_write script past c)
 short_write script past (Change.Insert k r) = no_acts 1 0
@@ -251,7 +254,7 @@ short_completion script m b done =
     let keys : List Act = flat_map (λ k. Next.complete script m done b cs k) ks in
     let stamps : List Act = Next.stamps_of (Next.tables_in script cs) in
     let s : Short (times 1 ks) (times 0 ks) keys = short_flat (λ k. Next.complete script m done b cs k) 1 0
-    (λ k. short_complete (first_on k cs) (Next.strategy script k.entity) k (Next.lock_id k done) (floor_in done) (Next.puts_back (b && Next.mode_puts m) (last_on k cs))) ks in
+    (λ k. short_complete (first_on k cs) (Next.strategy script k.entity) k (Next.lock_id k done) (floor_in done) (cond (b && Next.mode_puts m) (option_and_then row_left (last_on k cs)) None)) ks in
     let i = times_one ks in
     let j = times_none ks in
     let f = keys_few cs in
@@ -335,7 +338,7 @@ get_few script m k done go w c n s f = one_few (Act.Get k (time_in done)) (λ e.
 
 find_few : (script : Script) (m : Mode) (k : Key) (done : Journal) (go : Journal → Plan) (w c n : ℕ) → Small w c done → Goes (w + 4) c n go → AtMost (n + 1 + 1 + 1) (Next.find script m k done go)
 find_few script m k done go w c n s f =
-    if_few (Next.is_held (held done k)) (one (Act.Find k) done go) (Next.find_away script m k done go) (n + 1 + 1 + 1)
+    if_few (is_some (held done k)) (one (Act.Find k) done go) (Next.find_away script m k done go) (n + 1 + 1 + 1)
     (more (one (Act.Find k) done go) (n + 1) (n + 1 + 1 + 1) (omega arith) (then_one (Act.Find k) done go w c n refl refl s (goes_more w c (w + 4) c n go (omega arith) (omega arith) f)))
     (if_few (Next.may_read script m k done) (Next.get script m k done go) (Next.load script m k done go) (n + 1 + 1 + 1) (get_few script m k done go w c n s f)
     (more (Next.load script m k done go) (n + 1 + 1) (n + 1 + 1 + 1) (omega arith) (load_few script m k done go w c n s (goes_more (w + 2) c (w + 4) c n go (omega arith) (omega arith) f))))
@@ -440,8 +443,8 @@ blocks_few script n m b (st ∷ sts) done k l s =
     cost : 3 * (4 * k) + k * (4 * n) + 5 + rest + 1 ≤ length (st ∷ sts) * (n * (4 * n) + 12 * n + 6)
     cost = let e = sum (length sts) (n * (4 * n) + 12 * n + 6) in let g = mul-le k (4 * n) n (4 * n) below (omega arith) in omega (arith, e, g, below)
 
-pub entries_few : (script : Script) (s : ℕ) (mine : Journal) → InOrder (Next.plan_of script s) mine → length mine ≤ most_entries (length (Next.statements (slice_get script.sessions s)))
+pub entries_few : (script : Script) (s : ℕ) (mine : Journal) → InOrder (Next.plan_of script s) mine → length mine ≤ most_entries (length (option_map_or (λ d. d.statements) (slice_get script.sessions s) []))
 entries_few script s mine o =
-    let sts : List Statement = Next.statements (slice_get script.sessions s) in
+    let sts : List Statement = option_map_or (λ d. d.statements) (slice_get script.sessions s) [] in
     let n : ℕ = length sts in
     (few (Next.plan_of script s) (n * (n * (4 * n) + 12 * n + 6)) mine (blocks_few script n Mode.Normal true sts [] 0 (omega arith) (record { held = omega arith; changes = omega arith })) o).0

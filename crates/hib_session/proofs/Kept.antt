@@ -1,13 +1,14 @@
 -- What is held of a key after one more entry of its session.
+use Rattle.std.specs.Prelude.{option_and_then, unwrap_or}
 use Rattle.std.proofs.Common.{◌≡◌, ℕ, Bool, true, false, cond, not, ◌&&◌, ◌||◌, List, [], ◌∷◌, Some, None, Option, refl, sym, ap, ◌∙◌}
 use Rattle.std.proofs.lemmas.Bool.{false≢true, true≢false}
 use Rattle.std.specs.List.{list_any}
-use Rattle.std.specs.Option.{option_map}
+use Rattle.std.specs.Option.{option_map, option_or}
 use Rattle.hib_base.specs.Keys.{same_key}
 use Rattle.hib_journal.specs.Types.{Key, Row, Cell, Change, State, Act, Reply, Entry}
 use Rattle.hib_journal.specs.Sessions.{Journal}
 use Rattle.hib_journal.specs.Held as held
-use Rattle.hib_journal.specs.Held.{Instance, Stay, Arrival, arrival, arrived_key, arrived_row, is_break, stay, stay_after, longer, has_left, base_of, or_row, last_written, row_written, state_of, version_of, cells_set, cells_after, is_removed, is_inserted, is_undone, removes, deletes, inserts, instance_of, held_by, with_cells}
+use Rattle.hib_journal.specs.Held.{Instance, Stay, Arrival, arrival, arrived_key, arrived_row, is_break, stay, stay_after, longer, has_left, base_of, last_written, row_written, state_of, cells_set, cells_after, is_removed, is_inserted, is_undone, removes, deletes, inserts, instance_of, with_cells}
 use Rattle.hib_identity_map.specs.Identity.{state_written}
 use Rattle.hib_session.specs.Memory.{is_unwritten}
 
@@ -37,16 +38,16 @@ later u k _ x o = o
 -- an instance of these parts, unless it has left
 abbrev parts : Key → Bool → Option Row → Bool → List Cell → Row → Option Instance
 parts k gone base removed cells made =
-    cond gone None (Some (record { key = k; state = state_of base removed; base = base; row = record { version = version_of base made; cells = cells } }))
+    cond gone None (Some (record { key = k; state = state_of base removed; base = base; row = record { version = (unwrap_or base made).version; cells = cells } }))
 
 abbrev is_gone : Bool → Key → Act → Reply → Bool
 is_gone u k a r = deletes k a || (removes k a r && u)
 
-or_or : (a b c : Option Row) → or_row (or_row a b) c ≡ or_row a (or_row b c)
+or_or : (a b c : Option Row) → option_or (option_or a b) c ≡ option_or a (option_or b c)
 or_or None b c = refl
 or_or (Some x) b c = refl
 
-base_longer : (k : Key) (e : Entry) (a : Arrival) (m : Journal) → base_of k (a, e ∷ m) ≡ or_row (row_written k e.act) (base_of k (a, m))
+base_longer : (k : Key) (e : Entry) (a : Arrival) (m : Journal) → base_of k (a, e ∷ m) ≡ option_or (row_written k e.act) (base_of k (a, m))
 base_longer k e (Arrival.Read j r) m = or_or (row_written k e.act) (last_written k m) (Some r)
 base_longer k e (Arrival.Made j r) m = refl
 
@@ -67,8 +68,8 @@ left_longer k e (Arrival.Made j r) m = by (deletes k e.act) (list_any (λ e. del
     by false false r n u = refl
 
 -- by its parts
-held_longer : (k : Key) (e : Entry) (a : Arrival) (m : Journal) → held_by k (Some (a, e ∷ m)) ≡
-    parts k (is_gone (is_unwritten k (Some (a, m))) k e.act e.reply || has_left k (a, m)) (or_row (row_written k e.act) (base_of k (a, m)))
+held_longer : (k : Key) (e : Entry) (a : Arrival) (m : Journal) → option_and_then (λ s. cond (has_left k s) None (Some (instance_of k s))) (Some (a, e ∷ m)) ≡
+    parts k (is_gone (is_unwritten k (Some (a, m))) k e.act e.reply || has_left k (a, m)) (option_or (row_written k e.act) (base_of k (a, m)))
     (removes k e.act e.reply || is_removed k m) (cells_after k e.act e.reply (cells_set k m (arrived_row a).cells)) (arrived_row a)
 held_longer k e a m = rw (left_longer k e a m, base_longer k e a m) refl
 
@@ -78,7 +79,7 @@ written_some k [] h = absurd (false≢true h)
 written_some k (e ∷ m) h = by_act e.act (row_written k e.act) refl h (λ i. written_some k m i)
   where
     by_act : (x : Act) (o : Option Row) → row_written k x ≡ o → (inserts k x || is_inserted k m) ≡ true → (is_inserted k m ≡ true → (r : Row) × (last_written k m ≡ Some r)) →
-        (r : Row) × (or_row o (last_written k m) ≡ Some r)
+        (r : Row) × (option_or o (last_written k m) ≡ Some r)
     by_act x (Some r) p h i = (r, refl)
     by_act (Act.Write (Change.Insert j y)) None p h i = by_test (same_key j k) p h i
       where
@@ -102,7 +103,7 @@ undone_removed k (e ∷ m) n u = by (inserts k e.act) (is_inserted k m) refl (re
 clean : (k : Key) (a : Arrival) (m : Journal) → has_left k (a, m) ≡ false → base_of k (a, m) ≡ None → is_removed k m ≡ false
 clean k (Arrival.Read j r) m l b = absurd (no (last_written k m) b)
   where
-    no : (o : Option Row) → or_row o (Some r) ≡ None → ⊥
+    no : (o : Option Row) → option_or o (Some r) ≡ None → ⊥
     no None x = cc
     no (Some y) x = cc
 clean k (Arrival.Made j r) m l b = undone_removed k m (not_inserted (is_inserted k m) refl) (second (list_any (λ e. deletes k e.act) m) (is_undone k m) l)
@@ -118,7 +119,7 @@ clean k (Arrival.Made j r) m l b = undone_removed k m (not_inserted (is_inserted
 based : (k : Key) (a : Arrival) (m : Journal) → is_unwritten k (Some (a, m)) ≡ false → (r : Row) × (base_of k (a, m) ≡ Some r)
 based k (Arrival.Read j x) m u = by (last_written k m)
   where
-    by : (o : Option Row) → (r : Row) × (or_row o (Some x) ≡ Some r)
+    by : (o : Option Row) → (r : Row) × (option_or o (Some x) ≡ Some r)
     by None = (x, refl)
     by (Some y) = (y, refl)
 based k (Arrival.Made j x) m u = written_some k m (by (is_inserted k m) u)
@@ -150,14 +151,14 @@ set_parts k false base removed cells made ps = refl
 
 module _ (k : Key) (a : Arrival) (m : Journal) where
   abbrev was : Option Instance
-  was = held_by k (Some (a, m))
+  was = option_and_then (λ s. cond (has_left k s) None (Some (instance_of k s))) (Some (a, m))
 
   abbrev now_by : Act → Reply → Option Instance
   now_by x r =
-      parts k (is_gone (is_unwritten k (Some (a, m))) k x r || has_left k (a, m)) (or_row (row_written k x) (base_of k (a, m)))
+      parts k (is_gone (is_unwritten k (Some (a, m))) k x r || has_left k (a, m)) (option_or (row_written k x) (base_of k (a, m)))
       (removes k x r || is_removed k m) (cells_after k x r (cells_set k m (arrived_row a).cells)) (arrived_row a)
 
-  write_at : (b : Bool) (r : Row) → parts k (has_left k (a, m)) (or_row (cond b (Some r) None) (base_of k (a, m))) (is_removed k m) (cells_set k m (arrived_row a).cells) (arrived_row a)
+  write_at : (b : Bool) (r : Row) → parts k (has_left k (a, m)) (option_or (cond b (Some r) None) (base_of k (a, m))) (is_removed k m) (cells_set k m (arrived_row a).cells) (arrived_row a)
       ≡ cond b (option_map (after_write r) was) was
   write_at true r = write_parts k (has_left k (a, m)) (base_of k (a, m)) (is_removed k m) (cells_set k m (arrived_row a).cells) (arrived_row a) r (clean k a m)
   write_at false r = refl
@@ -216,7 +217,7 @@ later_none u k (Act.Set j ps) Reply.Set = by (same_key j k)
     by false = refl
 later_none u k _ r = refl
 
-stay_longer : (k : Key) (e : Entry) (o : Option Stay) → held_by k (longer e o) ≡ later (is_unwritten k o) k e.act e.reply (held_by k o)
+stay_longer : (k : Key) (e : Entry) (o : Option Stay) → option_and_then (λ s. cond (has_left k s) None (Some (instance_of k s))) (longer e o) ≡ later (is_unwritten k o) k e.act e.reply (option_and_then (λ s. cond (has_left k s) None (Some (instance_of k s))) o)
 stay_longer k e None = sym (later_none false k e.act e.reply)
 stay_longer k e (Some s) = held_longer k e s.0 s.1 ∙ now_later k s.0 s.1 e.act e.reply
 
@@ -240,14 +241,14 @@ later_stay k e m b a = rw b (other_stay k e (arrival e.act e.reply) (stay k m) a
 pub held_later : (k : Key) (e : Entry) (m : Journal) → is_break e.act e.reply ≡ false → arrives_other k (arrival e.act e.reply) ≡ true →
     held.held (e ∷ m) k ≡ later (is_unwritten k (stay k m)) k e.act e.reply (held.held m k)
 unfolding held.held
-held_later k e m b a = ap (held_by k) (later_stay k e m b a) ∙ stay_longer k e (stay k m)
+held_later k e m b a = ap (λ x. option_and_then (λ s. cond (has_left k s) None (Some (instance_of k s))) x) (later_stay k e m b a) ∙ stay_longer k e (stay k m)
 
 -- an instance that arrives
 abbrev pub fresh : Key → Arrival → Instance
 fresh k (Arrival.Read j r) = record { key = k; state = State.Managed; base = Some r; row = r }
 fresh k (Arrival.Made j r) = record { key = k; state = State.New; base = None; row = r }
 
-held_fresh : (k : Key) (a : Arrival) → held_by k (Some (a, [])) ≡ Some (fresh k a)
+held_fresh : (k : Key) (a : Arrival) → option_and_then (λ s. cond (has_left k s) None (Some (instance_of k s))) (Some (a, [])) ≡ Some (fresh k a)
 held_fresh k (Arrival.Read j r) = refl
 held_fresh k (Arrival.Made j r) = refl
 
@@ -256,7 +257,7 @@ pub held_arrives : (k : Key) (e : Entry) (m : Journal) (a : Arrival) → is_brea
 unfolding held.held
 held_arrives k e m a b c d =
     let s : stay k (e ∷ m) ≡ Some (a, []) = rw (b, c, d) refl in
-    ap (held_by k) s ∙ held_fresh k a
+    ap (λ x. option_and_then (λ s. cond (has_left k s) None (Some (instance_of k s))) x) s ∙ held_fresh k a
 
 pub held_broken : (k : Key) (e : Entry) (m : Journal) → is_break e.act e.reply ≡ true → held.held (e ∷ m) k ≡ None
 unfolding held.held

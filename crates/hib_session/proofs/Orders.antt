@@ -1,4 +1,5 @@
 -- The instances that a memory keeps, in order of arrival.
+use Rattle.std.specs.Prelude.{option_and_then}
 use Rattle.std.proofs.Common.{◌≡◌, inl, inr, Bool, true, false, cond, not, List, [], ◌∷◌, ◌++◌, map, Some, None, Option, refl, sym, ap, ◌∙◌, subst}
 use Rattle.std.proofs.lemmas.Bool.{false≢true, and_parts, and_from}
 use Rattle.std.specs.List.{filter, filter_map, cons_option}
@@ -8,7 +9,7 @@ use Rattle.hib_base.proofs.Tables.{same_key_eq, Tested, tested}
 use Rattle.hib_journal.specs.Types.{Key, Held}
 use Rattle.hib_journal.specs.Sessions.{Journal}
 use Rattle.hib_journal.specs.Held as held
-use Rattle.hib_journal.specs.Held.{Instance, Stay, held_by, has_left, instance_of, stay, arrived, removed, without_key, pending}
+use Rattle.hib_journal.specs.Held.{Instance, Stay, has_left, instance_of, stay, arrived, removed, without_key, pending}
 use Rattle.hib_completion.proofs.Keys.{same_key_sym}
 use Rattle.hib_identity_map.specs.Identity.{Pairs, look_in, is_absent, are_distinct, drop_in, add_in, change_in}
 use Rattle.hib_identity_map.specs.Holds.{shown_of, shown}
@@ -25,7 +26,7 @@ cond_key false k s i e = ap (λ j. j.key) (same e)
     same : Some (instance_of k s) ≡ Some i → i ≡ instance_of k s
     same x = cc
 
-by_key : (k : Key) (o : Option Stay) (i : Instance) → held_by k o ≡ Some i → i.key ≡ k
+by_key : (k : Key) (o : Option Stay) (i : Instance) → option_and_then (λ s. cond (has_left k s) None (Some (instance_of k s))) o ≡ Some i → i.key ≡ k
 by_key k None i e = absurd (no e)
   where
     no : ◌≡◌ {A = Option Instance} None (Some i) → ⊥

@@ -1,4 +1,5 @@
 -- The tables of a query, as a test.
+use Rattle.std.specs.Option.{option_map_or}
 use Rattle.std.proofs.Common.{◌≡◌, ℕ, zero, suc, ◌+◌, ◌≤◌, inl, inr, Bool, true, false, cond, ◌&&◌, ◌||◌, ◌==◌, nat_lt, List, [], ◌∷◌, Some, None, Option, length, refl, ap, ◌∙◌, arith}
 use Rattle.std.proofs.lemmas.Bool.{eqb-true}
 use Rattle.std.proofs.lemmas.Bool.Decides.{nat_tests}
@@ -7,7 +8,7 @@ use Rattle.hib_base.proofs.Tables.{Tested, tested}
 use Rattle.hib_base.specs.Tables.{key_of}
 use Rattle.hib_journal.specs.Types.{Change, Query, Script}
 use Rattle.hib_journal.specs.Query.{reads, tables}
-use Rattle.hib_journal.specs.Next.{is_in_tables, tables_by}
+use Rattle.hib_journal.specs.Next.{is_in_tables}
 use Rattle.hib_session.specs.Queries.{touches, touching_in}
 
 within : (n s m : ℕ) → s ≤ n → list_any (λ t. n == t) (range_with_len s m) ≡ nat_lt n (s + m)
@@ -48,6 +49,6 @@ untouched : (cs : List Change) → false ≡ is_in_tables [] cs
 untouched [] = refl
 untouched (c ∷ cs) = untouched cs
 
-pub touched_by : (script : Script) (o : Option Query) (cs : List Change) → touching_in (length script.mapping) o cs ≡ is_in_tables (tables_by script o) cs
+pub touched_by : (script : Script) (o : Option Query) (cs : List Change) → touching_in (length script.mapping) o cs ≡ is_in_tables (option_map_or (tables (length script.mapping)) o []) cs
 touched_by script None cs = untouched cs
 touched_by script (Some q) cs = touched (length script.mapping) q cs

@@ -1,11 +1,12 @@
 -- A control that takes a step stands for what is left.
+use Rattle.std.specs.Option.{option_map_or}
 use Rattle.std.proofs.Common.{◌≡◌, ℕ, ◌+◌, Bool, true, false, cond, List, [], ◌∷◌, drop, slice_get, Some, None, Option, refl, ap, sym, ◌∙◌}
 use Rattle.std.proofs.lemmas.Bool.{true≢false, false≢true}
 use Rattle.hib_journal.specs.Types.{Mode, Statement, Script, Act, Entry}
 use Rattle.hib_journal.specs.Sessions.{Journal}
 use Rattle.hib_journal.specs.Held.{pending}
 use Rattle.hib_journal.specs.Plan.{Plan, after, first_act}
-use Rattle.hib_journal.specs.Next.{block, blocks, list, is_in_tables, tables_of, flush_of, mode_after, ends, mode_reads, is_free, look, list_store, statements, next}
+use Rattle.hib_journal.specs.Next.{block, blocks, list, is_in_tables, tables_of, flush_of, mode_after, ends, mode_reads, is_free, look, list_store, next}
 use Rattle.hib_session.specs.declared.control.Stage.{Stage}
 use Rattle.hib_session.specs.declared.control.Control.{Control}
 use Rattle.hib_session.specs.declared.written.Written.{Written}
@@ -29,14 +30,14 @@ list_flushed script acts q mode done go p t = rw (p, t) refl
 
 -- it takes a statement
 pub takes : (script : Script) (c : Control) (done : Journal) (st : Statement) (acts : List Act) (stage : Stage) (m : Mode) (b : Bool) → Stands script c done →
-    c.queue ≡ [] → c.stage ≡ Stage.Idle → c.begins ≡ false → untaken script c ≡ st ∷ drop (c.place + 1) (statements (slice_get script.sessions c.number)) →
+    c.queue ≡ [] → c.stage ≡ Stage.Idle → c.begins ≡ false → untaken script c ≡ st ∷ drop (c.place + 1) (option_map_or (λ d. d.statements) (slice_get script.sessions c.number) []) →
     ((go : Journal → Plan) → queued script (mode_after st c.mode) acts stage done go ≡ block script c.mode st done go) →
     m ≡ mode_after st c.mode → b ≡ ends st →
     Stands script (record { number = c.number; place = c.place + 1; mode = m; begins = b; queue = acts; stage = stage }) done
 takes script c done st acts stage m b h q i g s f p e = rw (p, e)
-    (h ∙ (same ∙ sym (f (λ x. blocks script (mode_after st c.mode) (ends st) (drop (c.place + 1) (statements (slice_get script.sessions c.number))) x))))
+    (h ∙ (same ∙ sym (f (λ x. blocks script (mode_after st c.mode) (ends st) (drop (c.place + 1) (option_map_or (λ d. d.statements) (slice_get script.sessions c.number) [])) x))))
   where
-    same : plan_at script c done ≡ block script c.mode st done (λ x. blocks script (mode_after st c.mode) (ends st) (drop (c.place + 1) (statements (slice_get script.sessions c.number))) x)
+    same : plan_at script c done ≡ block script c.mode st done (λ x. blocks script (mode_after st c.mode) (ends st) (drop (c.place + 1) (option_map_or (λ d. d.statements) (slice_get script.sessions c.number) [])) x)
     same = rw (q, i, g, s) refl
 
 -- it answers from the results or from the store

@@ -1,9 +1,10 @@
 -- What is left of a session's plan, by the state of a machine.
 use Rattle.std.specs.Prelude.{◌≡◌, ℕ, ◌+◌, ◌*◌, ◌^◌, not, length, Bool, true, false, cond, List, [], ◌∷◌, drop, slice_get, Some, None, Option}
+use Rattle.std.specs.Option.{option_map_or}
 use Rattle.hib_journal.specs.Types.{Mode, Statement, Script, Act}
 use Rattle.hib_journal.specs.Sessions.{Journal, time_in}
 use Rattle.hib_journal.specs.Plan.{Plan, Block, each, left_of}
-use Rattle.hib_journal.specs.Next.{is_free, mode_reads, get, load, answer, look, check, list_store, commit, rollback, blocks, statements, plan_of}
+use Rattle.hib_journal.specs.Next.{is_free, mode_reads, get, load, answer, look, check, list_store, commit, rollback, blocks, plan_of}
 use Rattle.hib_session.specs.declared.control.Stage.{Stage}
 use Rattle.hib_session.specs.declared.control.Control.{Control}
 
@@ -25,7 +26,7 @@ queued script m acts stage done go = each acts done (λ d. staged script m stage
 
 -- the statements that a machine has not taken
 abbrev pub untaken : Script → Control → List Statement
-untaken script c = drop c.place (statements (slice_get script.sessions c.number))
+untaken script c = drop c.place (option_map_or (λ d. d.statements) (slice_get script.sessions c.number) [])
 
 abbrev pub plan_at : Script → Control → Journal → Plan
 plan_at script c done = queued script c.mode c.queue c.stage done (λ d. blocks script c.mode c.begins (untaken script c) d)

@@ -9,7 +9,7 @@ use Rattle.hib_journal.specs.Types.{Key, Row, Change, Script, State, Held, Outco
 use Rattle.hib_base.specs.Keys.{same_key}
 use Rattle.hib_journal.specs.Sessions.{Journal, time_in, time_after, floor_in, floor_after, changes_in, changes_after}
 use Rattle.hib_journal.specs.Held.{Arrival, Stay, stay, is_break, removed, is_fresh, is_inserted}
-use Rattle.hib_journal.specs.Next.{lock_id, is_in, strategy, before_cached, fresh_version, tables_in}
+use Rattle.hib_journal.specs.Next.{lock_id, is_in, strategy, before_cached, tables_in}
 use Rattle.hib_journal.specs.Legal.{outcome, outcome_after}
 use Rattle.hib_identity_map.specs.Identity.{MapState, Pairs, drop_in, add_in, change_in, written, as_removed, with_sets, remove_last}
 use Rattle.hib_identity_map.specs.Holds.{Holds}
@@ -175,7 +175,7 @@ pub record Recalls (memory : Remembered) (mine : Journal) : Type 0 where
 -- what comes before a write, by the memory
 abbrev pub before_key_in : Script → Remembered → Key → Option ℕ → List Act
 before_key_in script x k v =
-    cond (is_in k x.changes) [] (before_cached (strategy script k.entity) k (fresh_version (is_key_in k x.fresh) v) x.floor)
+    cond (is_in k x.changes) [] (before_cached (strategy script k.entity) k (cond (is_key_in k x.fresh) v None) x.floor)
 
 abbrev pub before_in : Script → Remembered → Change → List Act
 before_in script x (Change.Insert k r) = []

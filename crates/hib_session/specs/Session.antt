@@ -1,11 +1,11 @@
 -- What a session stands for, and what it answers itself.
-use Rattle.std.specs.Prelude.{◌≡◌, ℕ, Bool, false, cond, ◌||◌, ◌&&◌, Some, None, Option}
+use Rattle.std.specs.Prelude.{◌≡◌, ℕ, Bool, false, cond, ◌||◌, ◌&&◌, Some, None, Option, is_some}
 use Rattle.hib_journal.specs.Types.{Script, Act, Reply, Entry}
 use Rattle.hib_journal.specs.Sessions.{Journal, changes_in}
 use Rattle.hib_journal.specs.Held.{held}
 use Rattle.hib_journal.specs.Plan.{InOrder}
-use Rattle.hib_journal.specs.Next.{strategy, is_in, is_held, plan_of, next}
-use Rattle.hib_journal.specs.Legal.{outcome, row_of, is_there, persisted, set_unless}
+use Rattle.hib_journal.specs.Next.{strategy, is_in, plan_of, next}
+use Rattle.hib_journal.specs.Legal.{outcome, row_of, set_unless}
 use Rattle.hib_session.specs.declared.session.Session.{Session}
 use Rattle.hib_session.specs.Memory.{Knows, Recalls}
 use Rattle.hib_session.specs.Control.{Stands, is_settled, weight}
@@ -40,9 +40,9 @@ is_ready script s = (is_settled script s.control && s.memory.room) && is_made s.
 abbrev pub own_reply : Script → Journal → Act → Option Reply
 own_reply script mine Act.End = Some (Reply.Ended (outcome mine))
 own_reply script mine (Act.Find k) = Some (Reply.Row (row_of (held mine k)))
-own_reply script mine (Act.Persist k r) = Some (persisted (is_held (held mine k) || is_in k (changes_in mine)))
-own_reply script mine (Act.Set k cells) = Some (cond (is_there (row_of (held mine k))) (set_unless (strategy script k.entity)) Reply.Unknown)
-own_reply script mine (Act.Remove k) = Some (cond (is_there (row_of (held mine k))) Reply.Removed Reply.Unknown)
+own_reply script mine (Act.Persist k r) = Some (cond (is_some (held mine k) || is_in k (changes_in mine)) Reply.Known Reply.New)
+own_reply script mine (Act.Set k cells) = Some (cond (is_some (row_of (held mine k))) (set_unless (strategy script k.entity)) Reply.Unknown)
+own_reply script mine (Act.Remove k) = Some (cond (is_some (row_of (held mine k))) Reply.Removed Reply.Unknown)
 own_reply script mine Act.Clear = Some Reply.Cleared
 own_reply script mine _ = None
 

@@ -1,5 +1,6 @@
 // The control of a session: which act is due.
 ghost use Rattle.std.specs.Prelude.{◌≡◌, ◌≢◌, ◌∷◌, [], ◌+◌, ◌*◌, ◌<◌, ◌≤◌, ◌^◌, length, slice_get, IfOk, IsOk, is_some, OnOk, OnErr, List, true, false, Some, drop, IsTrue, ◌↔◌};
+ghost use Rattle.std.specs.Option.{option_map_or};
 ghost use Rattle.hib_base.specs.declared.entries.Entry.{Entry};
 ghost use Rattle.hib_base.specs.declared.entries.Act.{Act};
 ghost use Rattle.hib_base.specs.declared.replies.Reply.{Reply};
@@ -7,7 +8,7 @@ ghost use Rattle.hib_base.specs.declared.scripts.Script.{Script};
 ghost use Rattle.hib_base.specs.declared.scripts.Mode.{Mode};
 ghost use Rattle.hib_journal.specs.Sessions.{Journal};
 ghost use Rattle.hib_journal.specs.Plan.{Plan, after, each};
-ghost use Rattle.hib_journal.specs.Next.{mode_reads, mode_puts, is_versioned_in, find, list, load_unless_hit, put_loaded, check_found, list_unless_fresh, keep_listed, block, mode_after, ends, first_version, statements, next, is_committed_reply, completion};
+ghost use Rattle.hib_journal.specs.Next.{mode_reads, mode_puts, find, list, load_unless_hit, put_loaded, check_found, list_unless_fresh, keep_listed, block, mode_after, ends, first_version, next, is_committed_reply, completion};
 ghost use Rattle.hib_session.specs.Memory.{Knows, Recalls, Fits, has_copies};
 ghost use Rattle.hib_session.specs.Control.{staged, queued, untaken, decided, is_answering, is_due, is_resting, rank, begin_at, act_staged, Stands, weight};
 ghost use Rattle.hib_session.specs.Ahead.{Ends, Copies, asks_rows, has_ending};
@@ -245,7 +246,7 @@ fn answered(
 }
 
 fn is_versioned(script: &Script, entity: EntityNo) -> bool
-    ensures { result ≡ is_versioned_in (slice_get script.now.mapping entity) }
+    ensures { result ≡ option_map_or (λ d. d.versioned) (slice_get script.now.mapping entity) false }
 {
     match script.mapping.as_slice().get(entity.0 as usize) {
         Some(def) => def.versioned,
@@ -367,7 +368,7 @@ fn is_end(statement: &Statement) -> bool
 
 /// The statements of a session.
 fn statements_of(script: &Script, number: SessionNo) -> &[Statement]
-    ensures { result.now ≡ statements (slice_get script.now.sessions number) }
+    ensures { result.now ≡ option_map_or (λ d. d.statements) (slice_get script.now.sessions number) [] }
 {
     match script.sessions.as_slice().get(number.0 as usize) {
         Some(def) => def.statements.as_slice(),
@@ -515,7 +516,7 @@ impl Control {
         requires empty { self.old.queue ≡ [] }
         requires idle { self.old.stage ≡ Stage.Idle }
         requires begun { self.old.begins ≡ false }
-        requires there { self.old.place < length (statements (slice_get script.now.sessions self.old.number)) }
+        requires there { self.old.place < length (option_map_or (λ d. d.statements) (slice_get script.now.sessions self.old.number) []) }
         ensures number { self.new.number ≡ self.old.number }
         ensures stands { (mine : Journal) → Knows memory.now mine → Stands script.now self.old mine → Stands script.now self.new mine }
         ensures weight { OnOk result (weight script.now self.new < weight script.now self.old) }

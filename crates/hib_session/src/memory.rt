@@ -1,9 +1,9 @@
 // What a session remembers of its own entries: its transaction's time, floor and changes, its locks and its instances.
-ghost use Rattle.std.specs.Prelude.{Bool, ◌≡◌, ◌||◌, ◌∷◌, [], ◌++◌, IfOk, IsOk, OnOk, true, Some, None, MatchOption};
+ghost use Rattle.std.specs.Prelude.{Bool, ◌≡◌, ◌||◌, ◌∷◌, [], ◌++◌, IfOk, IsOk, OnOk, true, Some, None, MatchOption, is_some, cond};
 ghost use Rattle.hib_journal.specs.Sessions.{Journal};
 ghost use Rattle.hib_journal.specs.Held.{pending};
 ghost use Rattle.hib_base.specs.declared.entries.Act.{Act};
-ghost use Rattle.hib_journal.specs.Next.{is_held, is_in, is_in_tables, is_free, may_read, may_put, flush_of, tables_of, before_cached, fresh_version, completion};
+ghost use Rattle.hib_journal.specs.Next.{is_in, is_in_tables, is_free, may_read, may_put, flush_of, tables_of, before_cached, completion};
 ghost use Rattle.hib_completion.specs.Completed.{acts_of, is_key_in};
 ghost use Rattle.hib_identity_map.specs.Holds.{held_in, shown_of};
 ghost use Rattle.hib_session.specs.Memory.{marked_in, before_key_in, before_in, flush_in, with_room, Knows, Recalls};
@@ -139,7 +139,7 @@ impl Memory {
 
     /// Whether a key is held.
     pub fn holds(&self, key: Key) -> bool
-        ensures { result ≡ is_held (held_in self.now.instances.held key) }
+        ensures { result ≡ is_some (held_in self.now.instances.held key) }
     {
         self.find(key).is_some()
     }
@@ -153,7 +153,7 @@ impl Memory {
 
     /// Whether a key is held or in the changes.
     pub fn knows(&self, key: Key) -> bool
-        ensures { result ≡ (is_held (held_in self.now.instances.held key) || is_in key self.now.changes) }
+        ensures { result ≡ (is_some (held_in self.now.instances.held key) || is_in key self.now.changes) }
     {
         // The key is passed twice, which a struct by value is not in a proved body.
         let Key { entity, id } = key;
@@ -196,7 +196,7 @@ impl Memory {
 
     /// The version that a lock on a key is to have: that of its base, where the base is fresh.
     fn lock_version(&self, key: &Key, version: Option<u32>) -> Option<u32>
-        ensures { result ≡ fresh_version (is_key_in key.now self.now.fresh) version }
+        ensures { result ≡ cond (is_key_in key.now self.now.fresh) version None }
     {
         if is_among(&self.fresh, *key) {
             version

@@ -1,13 +1,14 @@
 // Which tables a query reads.
-ghost use Rattle.std.specs.Prelude.{◌≡◌, length, slice_get};
-ghost use Rattle.hib_journal.specs.Query.{steps_to, mentions as mentioned, mentions_in, reads as is_read};
-ghost use Rattle.hib_journal.specs.Next.{is_in_tables, tables_of, is_cached_query};
+ghost use Rattle.std.specs.Prelude.{◌≡◌, length, slice_get, ◌==◌, false};
+ghost use Rattle.std.specs.Option.{option_map_or};
+ghost use Rattle.hib_journal.specs.Query.{mentions as mentioned, reads as is_read, mentions};
+ghost use Rattle.hib_journal.specs.Next.{is_in_tables, tables_of};
 ghost use Rattle.hib_session.specs.Queries.{touches as touching, touching_in};
 
 use hib_base::{Change, Cond, EntityNo, Query, QueryNo, Script, Target};
 
 fn is_target(target: Option<Target>, entity: EntityNo) -> bool
-    ensures { result ≡ steps_to entity target }
+    ensures { result ≡ option_map_or (λ g. g.entity == entity) target false }
 {
     match target {
         Some(target) => target.entity == entity,
@@ -28,7 +29,7 @@ fn mentions(condition: &Cond, entity: EntityNo) -> bool
 }
 
 fn conditions_on(condition: &Option<Cond>, entity: EntityNo) -> bool
-    ensures { result ≡ mentions_in entity condition.now }
+    ensures { result ≡ option_map_or (mentions entity) condition.now false }
 {
     match condition {
         Some(condition) => mentions(condition, entity),
@@ -74,7 +75,7 @@ pub fn is_touched(script: &Script, query: QueryNo, changes: &[Change]) -> bool
 
 /// Whether results are kept of a query; of an undeclared one none are.
 pub fn is_cached(script: &Script, query: QueryNo) -> bool
-    ensures { result ≡ is_cached_query (slice_get script.now.queries query) }
+    ensures { result ≡ option_map_or (λ d. d.cached) (slice_get script.now.queries query) false }
 {
     match script.queries.as_slice().get(query.0 as usize) {
         Some(query) => query.cached,

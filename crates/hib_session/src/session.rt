@@ -1,11 +1,11 @@
 // A session of a script.
-ghost use Rattle.std.specs.Prelude.{◌≡◌, ◌∷◌, ◌<◌, ◌≤◌, ◌||◌, cond, [], true, false, None, IfOk, IsOk, IfSome, OnOk, OnErr, Some};
+ghost use Rattle.std.specs.Prelude.{◌≡◌, ◌∷◌, ◌<◌, ◌≤◌, ◌||◌, cond, [], true, false, None, IfOk, IsOk, IfSome, OnOk, OnErr, Some, is_some};
 ghost use Rattle.hib_base.specs.declared.replies.Reply.{Reply};
 ghost use Rattle.hib_base.specs.declared.scripts.Script.{Script};
 ghost use Rattle.hib_journal.specs.Sessions.{Journal, changes_in, is_begun};
 ghost use Rattle.hib_journal.specs.Held.{held};
-ghost use Rattle.hib_journal.specs.Legal.{unless_removed, is_there, set_unless};
-ghost use Rattle.hib_journal.specs.Next.{next, is_held, is_in, strategy};
+ghost use Rattle.hib_journal.specs.Legal.{unless_removed, set_unless};
+ghost use Rattle.hib_journal.specs.Next.{next, is_in, strategy};
 ghost use Rattle.hib_session.specs.Memory.{Knows, brings};
 ghost use Rattle.hib_session.specs.Control.{Stands};
 ghost use Rattle.hib_journal.specs.Due.{IsAllowed, is_closed};
@@ -48,7 +48,7 @@ fn row_of(alloc: Global, held: &Held) -> Result<Option<Row>, AllocError>
 
 /// Whether the session sees the row of an instance.
 fn is_shown(held: &Held) -> bool
-    ensures { result ≡ is_there (unless_removed held.now.state held.now.row) }
+    ensures { result ≡ is_some (unless_removed held.now.state held.now.row) }
 {
     match held.state {
         State::New | State::Managed => true,
@@ -58,7 +58,7 @@ fn is_shown(held: &Held) -> bool
 
 /// The answer to a persist, by whether the key is known.
 fn persist_reply(known: bool) -> Reply
-    ensures { result ≡ Rattle.hib_journal.specs.Legal.persisted known }
+    ensures { result ≡ cond known Reply.Known Reply.New }
 {
     if known { Reply::Known } else { Reply::New }
 }
@@ -190,14 +190,14 @@ impl Session {
 
     /// The answer to a persist.
     fn persisted(&self, key: Key) -> Reply
-        ensures { (mine : Journal) → Knows self.now.memory mine → result ≡ Rattle.hib_journal.specs.Legal.persisted (is_held (held mine key) || is_in key (changes_in mine)) }
+        ensures { (mine : Journal) → Knows self.now.memory mine → result ≡ cond (is_some (held mine key) || is_in key (changes_in mine)) Reply.Known Reply.New }
     {
         persist_reply(self.memory.knows(key))
     }
 
     /// Whether the session sees a row of a key.
     fn shows(&self, key: Key) -> bool
-        ensures { (mine : Journal) → Knows self.now.memory mine → result ≡ is_there (Rattle.hib_journal.specs.Legal.row_of (held mine key)) }
+        ensures { (mine : Journal) → Knows self.now.memory mine → result ≡ is_some (Rattle.hib_journal.specs.Legal.row_of (held mine key)) }
     {
         match self.memory.find(key) {
             Some(held) => is_shown(held),
@@ -208,7 +208,7 @@ impl Session {
     /// The answer to a set.
     fn set(&self, script: &Script, key: Key) -> Reply
         ensures { (mine : Journal) → Knows self.now.memory mine
-            → result ≡ cond (is_there (Rattle.hib_journal.specs.Legal.row_of (held mine key))) (set_unless (strategy script.now key.entity)) Reply.Unknown }
+            → result ≡ cond (is_some (Rattle.hib_journal.specs.Legal.row_of (held mine key))) (set_unless (strategy script.now key.entity)) Reply.Unknown }
     {
         let entity = key.entity;
         if self.shows(key) {
@@ -221,7 +221,7 @@ impl Session {
     /// The answer to a remove.
     fn removed(&self, key: Key) -> Reply
         ensures { (mine : Journal) → Knows self.now.memory mine
-            → result ≡ cond (is_there (Rattle.hib_journal.specs.Legal.row_of (held mine key))) Reply.Removed Reply.Unknown }
+            → result ≡ cond (is_some (Rattle.hib_journal.specs.Legal.row_of (held mine key))) Reply.Removed Reply.Unknown }
     {
         if self.shows(key) {
             Reply::Removed

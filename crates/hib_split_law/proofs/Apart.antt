@@ -1,4 +1,5 @@
 -- What is legal by parts and by sessions is legal, and the other way round.
+use Rattle.std.specs.Prelude.{unwrap_or, option_map}
 use Rattle.std.proofs.Common.{◌≡◌, ◌<◌, ◌≤◌, ℕ, Bool, true, false, cond, ◌||◌, [], ◌∷◌, Some, None, Option, IsSome, refl, sym, ap, ◌∙◌, subst, eq-eqb, arith}
 use Rattle.std.proofs.lemmas.Bool.{true≢false, false≢true, eqb-true}
 use Rattle.hib_base.specs.Tables.{Tables}
@@ -6,7 +7,7 @@ use Rattle.hib_journal.specs.Types.{Script, Part, Act, Entry}
 use Rattle.hib_journal.specs.Sessions.{Journal, own, is_by, is_session, is_open, was_killed, killed_by, changes, deferred, same_part, same_session, last_tick, IsTimely}
 use Rattle.hib_journal.specs.Plan.{InOrder}
 use Rattle.hib_journal.specs.Next.{plan_of, next, is_cached}
-use Rattle.hib_journal.specs.Legal.{number, part_of, is_outside, due, due_by, part_due, may_come, IsReply, IsStep, IsLegal}
+use Rattle.hib_journal.specs.Legal.{part_of, is_outside, due, due_by, may_come, IsReply, IsStep, IsLegal}
 use Rattle.hib_journal.proofs.Sessions.{own_self, is_some_session}
 use Rattle.hib_journal.proofs.Steps.{next_is, next_act, steps_in_order}
 use Rattle.hib_journal.specs.Due.{asks_store, IsAllowed}
@@ -77,7 +78,7 @@ own_part _ s o = absurd (false≢true o)
 
 -- an entry of a session that does no outside act
 pub record Inner (e : Entry) : Type 0 where
-  pub session : e.session ≡ Some (number e.session)
+  pub session : e.session ≡ Some (unwrap_or e.session 0)
   pub inside : is_outside e.act ≡ false
 
 abbrev pub AllInner : Journal → Type 0
@@ -103,8 +104,8 @@ unsaved_inner : (n : ℕ) (h : Journal) → AllInner h → unsaved n h ≡ defer
 unsaved_inner n [] a = refl
 unsaved_inner n (e ∷ h) a = unsaved_step n e h (stops_none e.act a.1.inside) (unsaved_inner n h a.0)
 
-fits_own : (e : Entry) (h : Journal) → Fits e h → is_own e.part ≡ true → e.part ≡ Part.Own (number e.session)
-fits_own e h f o = sym f.part ∙ own_part e.act (number e.session) (ap is_own f.part ∙ o)
+fits_own : (e : Entry) (h : Journal) → Fits e h → is_own e.part ≡ true → e.part ≡ Part.Own (unwrap_or e.session 0)
+fits_own e h f o = sym f.part ∙ own_part e.act (unwrap_or e.session 0) (ap is_own f.part ∙ o)
 
 last_least : (p : Entry → Bool) (h : Journal) → AreLater h → last_tick p h ≤ last_tick (λ _. true) h
 last_least p [] t = omega arith
@@ -134,8 +135,8 @@ own_rises s h a b t = subst (λ n. last_tick (λ d. same_part (Part.Own s) d.par
     by_part : (e : Entry) (j : Journal) → Fits e j → Inner e → same_part (Part.Own s) e.part ≡ true → same_session (Some s) e.session ≡ true
     by_part e j f i p =
         let q : Part.Own s ≡ e.part = same_is (Part.Own s) e.part p in
-        let r : Part.Own s ≡ Part.Own (number e.session) = q ∙ fits_own e j f (sym (ap is_own q)) in
-        by_self e s (i.session ∙ ap Some (sym (same s (number e.session) r)))
+        let r : Part.Own s ≡ Part.Own (unwrap_or e.session 0) = q ∙ fits_own e j f (sym (ap is_own q)) in
+        by_self e s (i.session ∙ ap Some (sym (same s (unwrap_or e.session 0) r)))
       where
         same : (n m : ℕ) → Part.Own n ≡ Part.Own m → n ≡ m
         same n m x = cc
@@ -208,28 +209,28 @@ module _ (script : Script) where
 
   -- each entry fits, and is a session's
 
-  mine_due : (e : Entry) (h : Journal) → e.session ≡ Some (number e.session) → IsOwnLegal script (number e.session) (own (number e.session) (e ∷ h)) →
-      IsAllowed script (number e.session) (own (number e.session) h) e.act
+  mine_due : (e : Entry) (h : Journal) → e.session ≡ Some (unwrap_or e.session 0) → IsOwnLegal script (unwrap_or e.session 0) (own (unwrap_or e.session 0) (e ∷ h)) →
+      IsAllowed script (unwrap_or e.session 0) (own (unwrap_or e.session 0) h) e.act
   mine_due e h q l =
-      let m : IsOwnStep script (number e.session) (own (number e.session) h) e = mine_head (number e.session) e h q l in
-      allowed_due script (number e.session) (own (number e.session) h) e.act (mine_order (number e.session) (own (number e.session) h) (mine_tail (number e.session) e h l)) m.act
+      let m : IsOwnStep script (unwrap_or e.session 0) (own (unwrap_or e.session 0) h) e = mine_head (unwrap_or e.session 0) e h q l in
+      allowed_due script (unwrap_or e.session 0) (own (unwrap_or e.session 0) h) e.act (mine_order (unwrap_or e.session 0) (own (unwrap_or e.session 0) h) (mine_tail (unwrap_or e.session 0) e h l)) m.act
 
-  fits_mine : (e : Entry) (h : Journal) → AllInner h → e.session ≡ Some (number e.session) → IsOwnLegal script (number e.session) (own (number e.session) (e ∷ h)) → Fits e h
+  fits_mine : (e : Entry) (h : Journal) → AllInner h → e.session ≡ Some (unwrap_or e.session 0) → IsOwnLegal script (unwrap_or e.session 0) (own (unwrap_or e.session 0) (e ∷ h)) → Fits e h
   fits_mine e h a q l = record {
-    part = (mine_head (number e.session) e h q l).part;
-    same = λ y. unsaved_inner (number e.session) h a ∙ (mine_due e h q l).deferred y;
+    part = (mine_head (unwrap_or e.session 0) e h q l).part;
+    same = λ y. unsaved_inner (unwrap_or e.session 0) h a ∙ (mine_due e h q l).deferred y;
   }
 
-  inner_mine : (e : Entry) (h : Journal) → e.session ≡ Some (number e.session) → IsOwnLegal script (number e.session) (own (number e.session) (e ∷ h)) → Inner e
+  inner_mine : (e : Entry) (h : Journal) → e.session ≡ Some (unwrap_or e.session 0) → IsOwnLegal script (unwrap_or e.session 0) (own (unwrap_or e.session 0) (e ∷ h)) → Inner e
   inner_mine e h q l = record { session = q; inside = (mine_due e h q l).inside }
 
   inner_all : (h : Journal) → HaveSessions h → ((s : ℕ) → IsOwnLegal script s (own s h)) → AllInner h
   inner_all [] q l = tt
-  inner_all (e ∷ h) q l = (inner_all h q.0 (λ s. mine_tail s e h (l s)), inner_mine e h q.1 (l (number e.session)))
+  inner_all (e ∷ h) q l = (inner_all h q.0 (λ s. mine_tail s e h (l s)), inner_mine e h q.1 (l (unwrap_or e.session 0)))
 
   all_mine : (h : Journal) → HaveSessions h → ((s : ℕ) → IsOwnLegal script s (own s h)) → AllFit h
   all_mine [] q l = tt
-  all_mine (e ∷ h) q l = (all_mine h q.0 (λ s. mine_tail s e h (l s)), fits_mine e h (inner_all h q.0 (λ s. mine_tail s e h (l s))) q.1 (l (number e.session)))
+  all_mine (e ∷ h) q l = (all_mine h q.0 (λ s. mine_tail s e h (l s)), fits_mine e h (inner_all h q.0 (λ s. mine_tail s e h (l s))) q.1 (l (unwrap_or e.session 0)))
 
   -- legal apart, so legal
 
@@ -245,45 +246,45 @@ module _ (script : Script) where
       all_inner = inner_all h q.0 (λ s. mine_tail s e h (ss s))
 
       fits : Fits e h
-      fits = fits_mine e h all_inner q.1 (ss (number e.session))
+      fits = fits_mine e h all_inner q.1 (ss (unwrap_or e.session 0))
 
       part : is_own e.part ≡ false → IsPartStep script told (of_part e.part h) e
       part o = part_head told e h (ps e.part o)
 
-      mine : IsOwnStep script (number e.session) (own (number e.session) h) e
-      mine = mine_head (number e.session) e h q.1 (ss (number e.session))
+      mine : IsOwnStep script (unwrap_or e.session 0) (own (unwrap_or e.session 0) h) e
+      mine = mine_head (unwrap_or e.session 0) e h q.1 (ss (unwrap_or e.session 0))
 
       is_due : due script h e ≡ Some e.act
-      is_due = due_is (number e.session) e h q.1 (none_killed (number e.session) h all_inner) mine.act
+      is_due = due_is (unwrap_or e.session 0) e h q.1 (none_killed (unwrap_or e.session 0) h all_inner) mine.act
 
       in_part : (b : Bool) → is_own e.part ≡ b → last_tick (λ d. same_part e.part d.part) h < e.tick
       in_part true o =
-          let l : last_tick (λ d. same_part (Part.Own (number e.session)) d.part) h ≤ last_tick (λ _. true) (own (number e.session) h) = own_rises (number e.session) h fit all_inner t.0 in
-          let m : last_tick (λ _. true) (own (number e.session) h) < e.tick = mine.tick in
+          let l : last_tick (λ d. same_part (Part.Own (unwrap_or e.session 0)) d.part) h ≤ last_tick (λ _. true) (own (unwrap_or e.session 0) h) = own_rises (unwrap_or e.session 0) h fit all_inner t.0 in
+          let m : last_tick (λ _. true) (own (unwrap_or e.session 0) h) < e.tick = mine.tick in
           subst (λ p. last_tick (λ d. same_part p d.part) h < e.tick) (sym (fits_own e h fits o)) (omega arith)
       in_part false o = subst (λ n. n < e.tick) (sym (tick_of_part e.part h)) (part o).tick
 
       timely : IsTimely e h
       timely = record {
-        positive = let m : last_tick (λ _. true) (own (number e.session) h) < e.tick = mine.tick in omega arith;
+        positive = let m : last_tick (λ _. true) (own (unwrap_or e.session 0) h) < e.tick = mine.tick in omega arith;
         bounded = t.1.bounded;
         ordered = t.1.ordered;
         in_part = in_part (is_own e.part) refl;
         in_session = subst (λ o. last_tick (λ d. same_session o d.session) h < e.tick) (sym q.1)
-            (subst (λ n. n < e.tick) (sym (tick_of_own (number e.session) h)) mine.tick);
+            (subst (λ n. n < e.tick) (sym (tick_of_own (unwrap_or e.session 0) h)) mine.tick);
       }
 
       reply : (b : Bool) → is_of_session e.act ≡ b → IsReply script told h e
       reply true o = mine_out script e h o told (mine.reply o)
       reply false o = reply_out script e h fit fits o told (subst (λ l. IsStoreReply script told l e) (sym (seen_part e.part h all_inner))
-          ((part (ap is_own (sym fits.part) ∙ not_own e.act (number e.session) o)).reply o))
+          ((part (ap is_own (sym fits.part) ∙ not_own e.act (unwrap_or e.session 0) o)).reply o))
 
       step : IsStep script told h e
       step = record {
         tick = timely;
         session = subst (λ o. IsSome o) (sym is_due) refl;
-        part = subst (λ o. part_due o (number e.session) ≡ Some e.part) (sym is_due) (ap Some mine.part);
-        act = subst (λ o. may_come script h o ≡ Some e.act) (sym is_due) (comes script h e.act (mine_due e h q.1 (ss (number e.session))).inside);
+        part = subst (λ o. option_map (λ a. part_of a (unwrap_or e.session 0)) o ≡ Some e.part) (sym is_due) (ap Some mine.part);
+        act = subst (λ o. may_come script h o ≡ Some e.act) (sym is_due) (comes script h e.act (mine_due e h q.1 (ss (unwrap_or e.session 0))).inside);
         reply = reply (is_of_session e.act) refl;
       }
 
@@ -293,10 +294,10 @@ module _ (script : Script) where
     is_due : (e : Entry) (h : Journal) → IsStep script told h e → due script h e ≡ Some e.act
     is_due e h l = due_act script h (due script h e) e.act l.act
 
-    part_is : (e : Entry) (h : Journal) → IsStep script told h e → part_of e.act (number e.session) ≡ e.part
-    part_is e h l = same (subst (λ o. part_due o (number e.session) ≡ Some e.part) (is_due e h l) l.part)
+    part_is : (e : Entry) (h : Journal) → IsStep script told h e → part_of e.act (unwrap_or e.session 0) ≡ e.part
+    part_is e h l = same (subst (λ o. option_map (λ a. part_of a (unwrap_or e.session 0)) o ≡ Some e.part) (is_due e h l) l.part)
       where
-        same : Some (part_of e.act (number e.session)) ≡ Some e.part → part_of e.act (number e.session) ≡ e.part
+        same : Some (part_of e.act (unwrap_or e.session 0)) ≡ Some e.part → part_of e.act (unwrap_or e.session 0) ≡ e.part
         same x = cc
 
     step_due : (s : ℕ) (e : Entry) (h : Journal) → e.session ≡ Some s → IsLegal script told h → IsStep script told h e → IsAllowed script s (own s h) e.act
@@ -309,9 +310,9 @@ module _ (script : Script) where
         none true q x = absurd (true≢false q)
         none false q x = cc
 
-        same : (o : Option ℕ) → e.session ≡ o → asks_store e.act ≡ true → unsaved (number e.session) h ≡ changes (number e.session) h
+        same : (o : Option ℕ) → e.session ≡ o → asks_store e.act ≡ true → unsaved (unwrap_or e.session 0) h ≡ changes (unwrap_or e.session 0) h
         same None q y = absurd (none (is_outside e.act) (outside_asks e.act y) (subst (λ o. due_by script h o e.act ≡ Some e.act) q (is_due e h i)))
-        same (Some s) q y = subst (λ n. unsaved n h ≡ changes n h) (sym (ap number q))
+        same (Some s) q y = subst (λ n. unsaved n h ≡ changes n h) (sym (ap unwrap_or q 0))
             (unsaved_legal script told s h l (next_act script told h e s i (by_self e s q)).0 ∙ (step_due s e h q l i).deferred y)
 
     pub all_legal : (h : Journal) → IsLegal script told h → AllFit h
@@ -320,7 +321,7 @@ module _ (script : Script) where
 
     pub inner_legal : (h : Journal) → HaveSessions h → IsLegal script told h → AllInner h
     inner_legal [] q l = tt
-    inner_legal (e ∷ h) q l = (inner_legal h q.0 l.0, record { session = q.1; inside = (step_due (number e.session) e h q.1 l.0 l.1).inside })
+    inner_legal (e ∷ h) q l = (inner_legal h q.0 l.0, record { session = q.1; inside = (step_due (unwrap_or e.session 0) e h q.1 l.0 l.1).inside })
 
     pub reply_is_parts : (e : Entry) (h : Journal) → IsLegal script told (e ∷ h) → is_of_session e.act ≡ false → IsStoreReply script told (seen_by e.part h) e
     reply_is_parts e h l o = reply_in script e h (all_legal h l.0) (fits_legal e h l.0 l.1) o told l.1.reply
@@ -339,10 +340,10 @@ module _ (script : Script) where
         by true x i = rw x (i, subst (λ r. IsPartStep script told (of_part r h) e) (sym (same_is p e.part x)) (part_step e h q l))
         by false x i = rw x i
 
-    mine_step : (e : Entry) (h : Journal) → HaveSessions (e ∷ h) → IsLegal script told (e ∷ h) → IsOwnStep script (number e.session) (own (number e.session) h) e
+    mine_step : (e : Entry) (h : Journal) → HaveSessions (e ∷ h) → IsLegal script told (e ∷ h) → IsOwnStep script (unwrap_or e.session 0) (own (unwrap_or e.session 0) h) e
     mine_step e h q l = record {
-      tick = subst (λ n. n < e.tick) (tick_of_own (number e.session) h) (subst (λ o. last_tick (λ d. same_session o d.session) h < e.tick) q.1 l.1.tick.in_session);
-      act = (next_act script told h e (number e.session) l.1 (by_self e (number e.session) q.1)).1;
+      tick = subst (λ n. n < e.tick) (tick_of_own (unwrap_or e.session 0) h) (subst (λ o. last_tick (λ d. same_session o d.session) h < e.tick) q.1 l.1.tick.in_session);
+      act = (next_act script told h e (unwrap_or e.session 0) l.1 (by_self e (unwrap_or e.session 0) q.1)).1;
       part = part_is e h l.1;
       reply = λ o. mine_in script e h o told l.1.reply;
     }
@@ -352,7 +353,7 @@ module _ (script : Script) where
     sessions_apart s (e ∷ h) q l = by (is_by s e) refl (sessions_apart s h q.0 l.0)
       where
         by : (b : Bool) → is_by s e ≡ b → IsOwnLegal script s (own s h) → IsOwnLegal script s (own s (e ∷ h))
-        by true x i = rw x (i, subst (λ n. IsOwnStep script n (own n h) e) (ap number (is_some_session s e.session x)) (mine_step e h q l))
+        by true x i = rw x (i, subst (λ n. IsOwnStep script n (own n h) e) (ap unwrap_or (is_some_session s e.session x) 0) (mine_step e h q l))
         by false x i = rw x i
 
 pub later_legal : (script : Script) (told : Option Tables) (h : Journal) → IsLegal script told h → AreLater h

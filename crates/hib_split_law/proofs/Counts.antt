@@ -1,4 +1,6 @@
 -- The committed rows and the counts of a journal are those of the store's list.
+use Rattle.std.specs.Prelude.{is_some, unwrap_or}
+use Rattle.std.specs.Option.{option_map_or}
 use Rattle.std.proofs.Common.{◌≡◌, ℕ, ◌+◌, ◌&&◌, ◌||◌, nat_le, inl, inr, Bool, true, false, cond, List, [], ◌∷◌, Some, None, Option, refl, sym, ap, ◌∙◌, subst, arith}
 use Rattle.std.proofs.lemmas.Bool.{true≢false, or_parts}
 use Rattle.hib_base.specs.Tables.{Tables}
@@ -7,11 +9,11 @@ use Rattle.hib_journal.specs.Sessions.{Journal, own, changes, same_part}
 use Rattle.hib_journal.specs.Slot.{Slot, history, slot}
 use Rattle.hib_journal.specs.Room.{item}
 use Rattle.hib_journal.specs.Regions
-use Rattle.hib_journal.specs.Results.{Result, result, found}
+use Rattle.hib_journal.specs.Results.{Result, result}
 use Rattle.hib_journal.specs.Held.{held}
-use Rattle.hib_journal.specs.Next.{strategy, is_in, is_held}
-use Rattle.hib_journal.specs.Runs.{one_if, asks, ask_count, is_fault, fault_count}
-use Rattle.hib_journal.specs.Legal.{row_of, is_there, persisted, set_unless, get_reply, put_reply, insert_reply, evict_reply, reply_of, fault_of, is_told, number, part_of, IsAnswer, IsReply, IsLegal}
+use Rattle.hib_journal.specs.Next.{strategy, is_in}
+use Rattle.hib_journal.specs.Runs.{asks, ask_count, is_fault, fault_count}
+use Rattle.hib_journal.specs.Legal.{row_of, set_unless, get_reply, put_reply, insert_reply, evict_reply, reply_of, fault_of, is_told, part_of, IsAnswer, IsReply, IsLegal}
 use Rattle.hib_journal.specs.Due.{asks_store}
 use Rattle.hib_journal.specs.Lists.{of_part, stops, seen_by, unsaved}
 use Rattle.hib_split_law.specs.Apart.{HaveSessions, store_ask_count, IsStoreAlone}
@@ -34,19 +36,19 @@ asked_local : (h : Journal) → AllFit h → ask_count h ≡ store_ask_count (se
 asked_local [] a = refl
 asked_local (e ∷ h) a = by (same_part Part.Store e.part || stops e.act) refl (asked_local h a.0)
   where
-    same : asks (changes (number e.session) h) e.act ≡ asks (unsaved (number e.session) (seen_by Part.Store h)) e.act
-    same = asks_same e.act (changes (number e.session) h) (unsaved (number e.session) (seen_by Part.Store h))
-        (λ y. sym (a.1.same y) ∙ unsaved_local (number e.session) h a.0)
+    same : asks (changes (unwrap_or e.session 0) h) e.act ≡ asks (unsaved (unwrap_or e.session 0) (seen_by Part.Store h)) e.act
+    same = asks_same e.act (changes (unwrap_or e.session 0) h) (unsaved (unwrap_or e.session 0) (seen_by Part.Store h))
+        (λ y. sym (a.1.same y) ∙ unsaved_local (unwrap_or e.session 0) h a.0)
 
     by : (b : Bool) → (same_part Part.Store e.part || stops e.act) ≡ b → ask_count h ≡ store_ask_count (seen_by Part.Store h) → ask_count (e ∷ h) ≡ store_ask_count (seen_by Part.Store (e ∷ h))
-    by true q i = rw q (λ x. i x + one_if (same x))
+    by true q i = rw q (λ x. i x + cond (same x) 1 0)
     by false q i =
-        let n : asks (changes (number e.session) h) e.act ≡ false = asks_skip e.act (number e.session) (changes (number e.session) h) (ap (same_part Part.Store) a.1.part ∙ (or_parts (same_part Part.Store e.part) (stops e.act) q).0) in
+        let n : asks (changes (unwrap_or e.session 0) h) e.act ≡ false = asks_skip e.act (unwrap_or e.session 0) (changes (unwrap_or e.session 0) h) (ap (same_part Part.Store) a.1.part ∙ (or_parts (same_part Part.Store e.part) (stops e.act) q).0) in
         rw (q, n) (omega (arith, i))
 
 -- no other part answers that the keeper failed
 
-calm_persisted : (b : Bool) → is_fault (persisted b) ≡ false
+calm_persisted : (b : Bool) → is_fault (cond b Reply.Known Reply.New) ≡ false
 calm_persisted true = refl
 calm_persisted false = refl
 
@@ -61,7 +63,7 @@ calm_removed : (b : Bool) → is_fault (cond b Reply.Removed Reply.Unknown) ≡ 
 calm_removed true = refl
 calm_removed false = refl
 
-calm_found : (r : Option Result) → is_fault (found r) ≡ false
+calm_found : (r : Option Result) → is_fault (option_map_or (λ x. Reply.Found x.0 x.1) r Reply.Absent) ≡ false
 calm_found None = refl
 calm_found (Some r) = refl
 
@@ -103,7 +105,7 @@ calm_insert Strategy.ReadOnly script h k f = refl
 calm_insert Strategy.Nonstrict script h k f = refl
 calm_insert Strategy.Uncached script h k f = refl
 
-calm_drop : (o : Option (Row × ℕ)) → is_fault (Regions.remove_item o) ≡ false
+calm_drop : (o : Option (Row × ℕ)) → is_fault (cond (is_some o) Reply.Dropped Reply.Absent) ≡ false
 calm_drop None = refl
 calm_drop (Some p) = refl
 
@@ -117,9 +119,9 @@ calm_reply : (script : Script) (start : Tables) (h : Journal) (s now : ℕ) (a :
 calm_reply script start h s now (Act.Load k) o = absurd (true≢false o)
 calm_reply script start h s now (Act.List q) o = absurd (true≢false o)
 calm_reply script start h s now Act.Commit o = absurd (true≢false o)
-calm_reply script start h s now (Act.Persist k r) o = calm_persisted (is_held (held (own s h) k) || is_in k (changes s h))
-calm_reply script start h s now (Act.Set k cells) o = calm_set (is_there (row_of (held (own s h) k))) (strategy script k.entity)
-calm_reply script start h s now (Act.Remove k) o = calm_removed (is_there (row_of (held (own s h) k)))
+calm_reply script start h s now (Act.Persist k r) o = calm_persisted (is_some (held (own s h) k) || is_in k (changes s h))
+calm_reply script start h s now (Act.Set k cells) o = calm_set (is_some (row_of (held (own s h) k))) (strategy script k.entity)
+calm_reply script start h s now (Act.Remove k) o = calm_removed (is_some (row_of (held (own s h) k)))
 calm_reply script start h s now (Act.Look q) o = calm_found (result script.results q h)
 calm_reply script start h s now (Act.Get k t) o = calm_get (strategy script k.entity) script h k t
 calm_reply script start h s now (Act.Put k r t f) o = calm_put (strategy script k.entity) script h k r t f
@@ -144,24 +146,24 @@ elsewhere _ s p = refl
 
 module _ (script : Script) (e : Entry) (h : Journal) (o : asks_store e.act ≡ false) where
   calm_answer : (start : Tables) → IsAnswer script start h e → is_fault e.reply ≡ false
-  calm_answer start (inl p) = ap is_fault p ∙ calm_reply script start h (number e.session) e.tick e.act o
-  calm_answer start (inr p) = absurd (none (sym (sure_act e.act (changes (number e.session) h) o).1 ∙ p))
+  calm_answer start (inl p) = ap is_fault p ∙ calm_reply script start h (unwrap_or e.session 0) e.tick e.act o
+  calm_answer start (inr p) = absurd (none (sym (sure_act e.act (changes (unwrap_or e.session 0) h) o).1 ∙ p))
     where
       none : ◌≡◌ {A = Option Reply} None (Some e.reply) → ⊥
       none q = cc
 
   calm : (told : Option Tables) → IsReply script told h e → is_fault e.reply ≡ false
   calm (Some start) p = calm_answer start p
-  calm None p = calm_answer [] (p.1 (sure_act e.act (changes (number e.session) h) o).0)
+  calm None p = calm_answer [] (p.1 (sure_act e.act (changes (unwrap_or e.session 0) h) o).0)
 
 faults_local : (script : Script) (told : Option Tables) (h : Journal) → AllFit h → IsLegal script told h → fault_count h ≡ fault_count (seen_by Part.Store h)
 faults_local script told [] a l = refl
 faults_local script told (e ∷ h) a l = by (same_part Part.Store e.part || stops e.act) refl (faults_local script told h a.0 l.0)
   where
     by : (b : Bool) → (same_part Part.Store e.part || stops e.act) ≡ b → fault_count h ≡ fault_count (seen_by Part.Store h) → fault_count (e ∷ h) ≡ fault_count (seen_by Part.Store (e ∷ h))
-    by true q i = rw q (ap (λ n. n + one_if (is_fault e.reply)) i)
+    by true q i = rw q (ap (λ n. n + cond (is_fault e.reply) 1 0) i)
     by false q i =
-        let n : is_fault e.reply ≡ false = calm script e h (elsewhere e.act (number e.session) (ap (same_part Part.Store) a.1.part ∙ (or_parts (same_part Part.Store e.part) (stops e.act) q).0)) told l.1.reply in
+        let n : is_fault e.reply ≡ false = calm script e h (elsewhere e.act (unwrap_or e.session 0) (ap (same_part Part.Store) a.1.part ∙ (or_parts (same_part Part.Store e.part) (stops e.act) q).0)) told l.1.reply in
         rw (q, n) (omega (arith, i))
 
 pub store_alone : (script : Script) (told : Option Tables) (h : Journal) → IsLegal script told h → IsStoreAlone h (seen_by Part.Store h)

@@ -1,12 +1,12 @@
 -- When the list of a part, and that of a session, is legal by itself.
-use Rattle.std.specs.Prelude.{◌≡◌, ◌≤◌, ◌<◌, ◌+◌, ◌^◌, ℕ, Bool, true, false, [], ◌∷◌, Some, Option}
+use Rattle.std.specs.Prelude.{◌≡◌, ◌≤◌, ◌<◌, ◌+◌, ◌^◌, ℕ, Bool, true, false, [], ◌∷◌, Some, Option, unwrap_or, cond}
 use Rattle.hib_base.specs.Tables.{Tables}
 use Rattle.hib_journal.specs.Types.{Act, Part, Entry, Script}
 use Rattle.hib_journal.specs.Sessions.{Journal, own, committed, last_tick}
 use Rattle.hib_journal.specs.Next.{next}
-use Rattle.hib_journal.specs.Legal.{reply_of, part_of, number}
+use Rattle.hib_journal.specs.Legal.{reply_of, part_of}
 use Rattle.hib_journal.specs.Lists.{of_part, unsaved, stored, IsStoreReply}
-use Rattle.hib_journal.specs.Runs.{one_if, asks, ask_count, fault_count}
+use Rattle.hib_journal.specs.Runs.{asks, ask_count, fault_count}
 
 -- the acts whose replies hang on the session's entries alone
 abbrev pub is_of_session : Act → Bool
@@ -44,7 +44,7 @@ IsOwnLegal script s (e ∷ m) = IsOwnLegal script s m × IsOwnStep script s m e
 -- each entry is a session's
 abbrev pub HaveSessions : Journal → Type 0
 HaveSessions [] = Unit {0}
-HaveSessions (e ∷ h) = HaveSessions h × (e.session ≡ Some (number e.session))
+HaveSessions (e ∷ h) = HaveSessions h × (e.session ≡ Some (unwrap_or e.session 0))
 
 -- ticks are at most 2 ^ 62 and never fall
 pub record IsLater (e : Entry) (h : Journal) : Type 0 where
@@ -68,7 +68,7 @@ pub record IsLegalApart (script : Script) (told : Option Tables) (h : Journal) :
 -- the entries of the store's list at which it may have asked the keeper
 abbrev pub store_ask_count : Journal → ℕ
 store_ask_count [] = 0
-store_ask_count (e ∷ l) = store_ask_count l + one_if (asks (unsaved (number e.session) l) e.act)
+store_ask_count (e ∷ l) = store_ask_count l + cond (asks (unsaved (unwrap_or e.session 0) l) e.act) 1 0
 
 -- the committed rows and the counts of a journal are those of the store's list
 pub record IsStoreAlone (h l : Journal) : Type 0 where

@@ -1,12 +1,13 @@
 -- The rows of an index: as they are asked for, after a commit, and what a query gives over them.
 use Rattle.std.proofs.Common.{◌≡◌, ℕ, ◌+◌, ◌<◌, ◌≤◌, Bool, true, false, cond, ◌==◌, ◌||◌, List, [], ◌∷◌, ◌++◌, arith, Some, None, Option, IfSome, MatchOption, refl, sym, ap, ◌∙◌, subst, inl, inr}
 use Rattle.std.specs.Prelude.{nat_lt}
+use Rattle.std.specs.Option.{option_map_or}
 use Rattle.std.proofs.lemmas.Bool.{true≢false, eqb-true, eq-eqb, or_left, or_right, lt-ltb, le-ltb, ltb-true, ltb-false}
 use Rattle.hib_base.specs.Tables.{Tables, row_at, with_absent, last_on, after_changes, commit_answer, in_order}
 use Rattle.hib_base.proofs.Tables.{Tested, tested, left_by, row_at_changes}
 use Rattle.hib_outside.specs.Keeps.{is_listed, rows_of}
 use Rattle.hib_outside.proofs.Orders.{in_order_changes}
-use Rattle.hib_journal.specs.Query.{reads, mentions_in, gives}
+use Rattle.hib_journal.specs.Query.{reads, gives, mentions}
 use Rattle.hib_journal.specs.Room.{key}
 use Rattle.hib_query_eval.proofs.Untouched.{gives_alike}
 use Rattle.hib_query_eval.proofs.Laid.{kept, row_at_kept, in_order_kept, same_tables, row_at_with_absent}
@@ -58,7 +59,7 @@ gives_of n q cs rows m o p a f =
     (same_tables (kept own (after_changes cs rows)) (kept own (after_changes cs m))
     (in_order_kept own (after_changes cs rows) (in_order_changes cs rows o)) (in_order_kept own (after_changes cs m) (in_order_changes cs m p))
     (λ k. row_at_kept own (after_changes cs rows) k ∙ at k (tested (k.entity == q.entity)) ∙ sym (row_at_kept own (after_changes cs m) k)))
-    (λ k i e. changed_rows n cs rows m a (key k i) (f k (or_right (q.entity == k) (mentions_in k q.condition) e)))
+    (λ k i e. changed_rows n cs rows m a (key k i) (f k (or_right (q.entity == k) (option_map_or (mentions k) q.condition false) e)))
   where
     own : ℕ → Bool
     own n = n == q.entity
@@ -67,7 +68,7 @@ gives_of n q cs rows m o p a f =
     at k (inl s) =
         let e : q.entity ≡ k.entity = sym (eqb-true k.entity q.entity s) in
         ap (λ o. cond (k.entity == q.entity) o None)
-        (changed_rows n cs rows m a k (f k.entity (or_left (q.entity == k.entity) (mentions_in k.entity q.condition) (eq-eqb q.entity k.entity e))))
+        (changed_rows n cs rows m a k (f k.entity (or_left (q.entity == k.entity) (option_map_or (mentions k.entity) q.condition false) (eq-eqb q.entity k.entity e))))
     at k (inr s) = rw s refl
 
 -- one entity more

@@ -1,6 +1,7 @@
 // Which tables a query reads.
-ghost use Rattle.std.specs.Prelude.{◌≡◌, ◌<◌, ◌||◌, ℕ, true, nat_lt, IfOk, OnOk};
-ghost use Rattle.hib_journal.specs.Query.{steps_to, mentions, mentions_in, reads};
+ghost use Rattle.std.specs.Prelude.{◌≡◌, ◌<◌, ◌||◌, ℕ, true, nat_lt, IfOk, OnOk, ◌==◌, false};
+ghost use Rattle.std.specs.Option.{option_map_or};
+ghost use Rattle.hib_journal.specs.Query.{mentions, reads};
 ghost use Rattle.hib_outside.specs.Keeps.{is_listed};
 ghost use Rattle.hib_store.specs.Stores.{ReadsBelow};
 
@@ -35,7 +36,7 @@ fn add_steps(tables: &mut Vec<EntityNo>, condition: &Cond) -> Result<(), AllocEr
 
 /// Adds the entity of a target, unless it is there.
 fn add_target(tables: &mut Vec<EntityNo>, target: Option<Target>) -> Result<(), AllocError>
-    ensures { OnOk result ((n : ℕ) → is_listed n tables.new.items ≡ (is_listed n tables.old.items || steps_to n target)) }
+    ensures { OnOk result ((n : ℕ) → is_listed n tables.new.items ≡ (is_listed n tables.old.items || option_map_or (λ g. g.entity == n) target false)) }
 {
     if let Some(target) = target {
         if !tables.contains(&target.entity) {
@@ -46,8 +47,8 @@ fn add_target(tables: &mut Vec<EntityNo>, target: Option<Target>) -> Result<(), 
 }
 
 fn steps_below(target: Option<Target>, entities: u16) -> bool
-    ensures only { result ≡ true → (n : ℕ) → steps_to n target ≡ true → n < entities }
-    ensures others { ((n : ℕ) → steps_to n target ≡ true → n < entities) → result ≡ true }
+    ensures only { result ≡ true → (n : ℕ) → option_map_or (λ g. g.entity == n) target false ≡ true → n < entities }
+    ensures others { ((n : ℕ) → option_map_or (λ g. g.entity == n) target false ≡ true → n < entities) → result ≡ true }
 {
     match target {
         Some(target) => target.entity.0 < entities,

@@ -1,8 +1,8 @@
 use Rattle.std.proofs.Common.{◌≡◌, map, take, drop, slice_get, sym, ◌∙◌, ap, refl}
-use Rattle.std.specs.Prelude.{pos}
+use Rattle.std.specs.Prelude.{pos, unwrap_or, false}
 use Rattle.std.proofs.lemmas.Result.{IfOk-weaker}
 use Rattle.hib_journal.specs.Types.{Cell}
-use Rattle.hib_journal.specs.Query.{selected, sorted, or_false}
+use Rattle.hib_journal.specs.Query.{selected, sorted}
 use Rattle.hib_base.specs.Tables.{Tables}
 use Rattle.hib_query_eval.proofs.Walks.{cut_rows, sorted_rows}
 use Rattle.hib_query_eval.proofs.listing.selected.Goals as goal
@@ -28,7 +28,7 @@ returns-in_ok-placed-in-Column c =
     c.in_ok-placed-in-Column.ensures c.as_slice-in-Column.ensures c.as_slice-in-Column-2.ensures.value refl in
     IfOk-weaker c.cells_of.result _ _
     (λ l e. e
-    ∙ cut_rows (λ r. r.now) (λ a. or_false (slice_get a.1.cells c.in-Column.column)) c.cut-in-Column.result.now c.in_ok-placed-in-Column.placed.items
+    ∙ cut_rows (λ r. r.now) (λ a. unwrap_or (slice_get a.1.cells c.in-Column.column) (Cell.Bool false)) c.cut-in-Column.result.now c.in_ok-placed-in-Column.placed.items
     (sorted c.args.query.now.order found) c.args.query.now.offset c.args.query.now.limit (c.cut-in-Column.ensures ∙ ap (λ xs. take c.args.query.now.limit (drop c.args.query.now.offset xs)) c.as_slice-in-Column-3.ensures.value) placed
     ∙ sym (ap (selected c.args.query.now found) c.in-Column.is))
     c.cells_of.ensures

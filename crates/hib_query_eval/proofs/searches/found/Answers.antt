@@ -1,12 +1,14 @@
+use Rattle.std.specs.Prelude.{true}
+use Rattle.hib_journal.specs.Query.{holds}
+use Rattle.std.specs.Option.{option_map_or}
 use Rattle.std.proofs.Common.{sym, ap, ◌∙◌, map, ◌++◌, [], ◌∷◌, get_or, option_copied, option_to_list}
 use Rattle.std.proofs.lemmas.List.{map-append, append-nil, get_or_default}
-use Rattle.hib_journal.specs.Query.{meets}
 use Rattle.hib_query_eval.proofs.Found.{none_yet, found_more, at_end}
 use Rattle.hib_query_eval.proofs.searches.found.Goals as goal
 use Rattle.hib_query_eval.proofs.searches.found.Goals.{in-Some+in_ok-push, in_default}
 
 pub loop-id-init : goal.loop-id-init
-loop-id-init c = ap (map (λ r. r.now)) c.new-met.ensures.items ∙ none_yet c.args.query.now.entity (λ a. meets c.args.view.now a.1 c.args.query.now.condition) c.args.view.now
+loop-id-init c = ap (map (λ r. r.now)) c.new-met.ensures.items ∙ none_yet c.args.query.now.entity (λ a. option_map_or (holds c.args.view.now a.1) c.args.query.now.condition true) c.args.view.now
 
 pub loop-id-preserved : goal.loop-id-preserved
 loop-id-preserved c =
