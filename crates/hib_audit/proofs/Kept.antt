@@ -8,7 +8,7 @@ use Rattle.hib_base.proofs.Tables.{Tested, tested}
 use Rattle.hib_journal.specs.Types.{Change, Script, Entry}
 use Rattle.hib_journal.specs.Sessions.{Journal, own, changes, changes_in, changes_after}
 use Rattle.hib_audit.specs.Standing.{WrittenState, HasWritten, AreWritten}
-use Rattle.hib_audit.proofs.Bridge.{self_by}
+use Rattle.hib_engines.proofs.Bridge.{self_by}
 
 changes_self : (s : ℕ) (e : Entry) (h : Journal) → e.session ≡ Some s → changes s (e ∷ h) ≡ changes_after e.act (changes s h)
 changes_self s e h p = ap changes_in mine

@@ -1,9 +1,6 @@
 pub mod Lists
-pub mod Allowed
 pub mod Ready
-pub mod Bridge
 pub mod Replies
-pub mod Regions
 pub mod Served
 pub mod Outside
 pub mod Begun

@@ -1,13 +1,12 @@
 -- The sessions of an audit, and the act that is due in one.
-use Rattle.std.proofs.Common.{◌≡◌, ℕ, ◌<◌, ◌≤◌, ◌==◌, Bool, true, false, cond, List, [], ◌∷◌, length, get_or, IfSome, Some, None, Option, refl, sym, ap, ◌∙◌, subst, arith, inl, inr}
-use Rattle.std.proofs.lemmas.Bool.{true≢false, eqb-true, ltb-true}
+use Rattle.std.proofs.Common.{◌≡◌, ℕ, ◌<◌, ◌≤◌, Bool, true, false, cond, List, [], ◌∷◌, length, get_or, IfSome, Some, None, Option, refl, sym, ap, ◌∙◌, subst, arith, inl, inr}
+use Rattle.std.proofs.lemmas.Bool.{ltb-true}
 use Rattle.std.proofs.lemmas.Bool.Decides.{nat_tests}
-use Rattle.std.proofs.lemmas.List.{get_or-set_same, get_or-set_other, length-set}
-use Rattle.std.proofs.lemmas.Option.{slice_get_within, get_or_from_slice_get, slice_get-get_or, slice_get_past}
+use Rattle.std.proofs.lemmas.Option.{slice_get-get_or, slice_get_past}
 use Rattle.std.specs.Prelude.{nat_lt, slice_get, slice_set}
 use Rattle.std.specs.Option.{option_map_or}
 use Rattle.hib_base.proofs.Tables.{Tested, tested}
-use Rattle.hib_journal.specs.Types.{SessionDef, Script, Act, Entry}
+use Rattle.hib_journal.specs.Types.{Script, Act, Entry}
 use Rattle.hib_journal.specs.Sessions.{Journal, own, was_killed}
 use Rattle.hib_journal.specs.Plan.{Plan, left_of, after, first_act}
 use Rattle.hib_journal.specs.Next.{next, blocks}
@@ -15,8 +14,8 @@ use Rattle.hib_journal.specs.Legal.{due_by, is_outside}
 use Rattle.hib_journal.specs.Due.{IsAllowed}
 use Rattle.hib_session.specs.declared.session.Session.{Session}
 use Rattle.hib_session.specs.Session.{Follows, IsTaken, number_of, is_killed}
-use Rattle.hib_audit.specs.Standing.{AreSessions}
-use Rattle.hib_audit.proofs.Bridge.{self_by, killed_same}
+use Rattle.hib_session.specs.Sessions.{AreSessions}
+use Rattle.hib_session.proofs.Together.{sessions_step}
 
 none_some : (a : Act) → ◌≡◌ {A = Option Act} None (Some a) → ⊥
 none_some a e = cc
@@ -74,47 +73,6 @@ allowed_of script h xs s y o w p f k = by_kill (tested (was_killed s h))
 -- the session at a place
 pub place_of : (xs : List Session) (i s : ℕ) (y : Session) → i ≡ s → nat_lt i (length xs) ≡ true → y ≡ get_or xs i y → slice_get xs s ≡ Some y
 place_of xs i s y e l v = subst (λ n. slice_get xs n ≡ Some y) e (slice_get-get_or xs i y (ltb-true i (length xs) l) ∙ ap Some (sym v))
-
--- the session at a place, which is now z, and the others
-
-placed_here : (s n : ℕ) (xs : List Session) (y z : Session) → s < length xs → slice_get (slice_set xs s z) n ≡ Some y → s ≡ n → y ≡ z
-placed_here s n xs y z l p e = let q : slice_get (slice_set xs s z) s ≡ Some y = subst (λ m. slice_get (slice_set xs s z) m ≡ Some y) (sym e) p in
-    sym (get_or_from_slice_get (slice_set xs s z) s y z q) ∙ get_or-set_same xs s z z l
-
-placed_there : (s n : ℕ) (xs : List Session) (y z : Session) → slice_get (slice_set xs s z) n ≡ Some y → (s == n) ≡ false → slice_get xs n ≡ Some y
-placed_there s n xs y z p d = slice_get-get_or xs n y (omega (arith, length-set xs s z, slice_get_within (slice_set xs s z) n y p))
-    ∙ ap Some (sym (get_or-set_other xs s n z y (λ e. true≢false (sym (ap (λ m. s == m) e ∙ self_by s) ∙ d))) ∙ get_or_from_slice_get (slice_set xs s z) n y y p)
-
--- the sessions with an entry of the one at s, which is now z
-
-own_self : (s : ℕ) (e : Entry) (h : Journal) → e.session ≡ Some s → own s (e ∷ h) ≡ e ∷ own s h
-own_self s e h p = rw p (rw (self_by s) refl)
-
-own_other : (s n : ℕ) (e : Entry) (h : Journal) → e.session ≡ Some s → (s == n) ≡ false → own n (e ∷ h) ≡ own n h
-own_other s n e h p d = rw p (rw d refl)
-
-pub sessions_step : (script : Script) (h : Journal) (s : ℕ) (e : Entry) (xs : List Session) (z : Session) → e.session ≡ Some s → AreSessions script h xs →
-    s < length xs → number_of z ≡ s → is_killed z ≡ was_killed s h → is_outside e.act ≡ false → Follows script z (e ∷ own s h) → AreSessions script (e ∷ h) (slice_set xs s z)
-sessions_step script h s e xs z b w l k d i f = record {
-  all = length-set xs s z ∙ w.all;
-  numbers = λ n y p. number n y p (tested (s == n));
-  killed = λ n y p. killed n y p (tested (s == n)) ∙ sym (killed_same n e h i);
-  follow = λ n y p live. follow n y p (sym (killed_same n e h i) ∙ live) (tested (s == n));
-}
-  where
-    number : (n : ℕ) (y : Session) → slice_get (slice_set xs s z) n ≡ Some y → Tested (s == n) → number_of y ≡ n
-    number n y p (inl q) = let g : s ≡ n = eqb-true s n q in ap number_of (placed_here s n xs y z l p g) ∙ (k ∙ g)
-    number n y p (inr q) = w.numbers n y (placed_there s n xs y z p q)
-
-    killed : (n : ℕ) (y : Session) → slice_get (slice_set xs s z) n ≡ Some y → Tested (s == n) → is_killed y ≡ was_killed n h
-    killed n y p (inl q) = let g : s ≡ n = eqb-true s n q in ap is_killed (placed_here s n xs y z l p g) ∙ (d ∙ ap (λ m. was_killed m h) g)
-    killed n y p (inr q) = w.killed n y (placed_there s n xs y z p q)
-
-    follow : (n : ℕ) (y : Session) → slice_get (slice_set xs s z) n ≡ Some y → was_killed n h ≡ false → Tested (s == n) → Follows script y (own n (e ∷ h))
-    follow n y p live (inl q) = let g : s ≡ n = eqb-true s n q in
-        subst (λ m. Follows script y (own m (e ∷ h))) g
-        (subst (λ v. Follows script v (own s (e ∷ h))) (sym (placed_here s n xs y z l p g)) (subst (λ m. Follows script z m) (sym (own_self s e h b)) f))
-    follow n y p live (inr q) = subst (λ m. Follows script y m) (sym (own_other s n e h b q)) (w.follow n y (placed_there s n xs y z p q) live)
 
 -- with the session that was read at its place
 pub session_taken : (script : Script) (h : Journal) (i s : ℕ) (e : Entry) (xs : List Session) (y z : Session) → i ≡ s → y ≡ get_or xs i y → e.session ≡ Some s → AreSessions script h xs → s < length xs →

@@ -1,19 +1,12 @@
 -- The engines and the sessions stand for the journal with one more entry from outside.
-use Rattle.std.proofs.Common.{◌≡◌, ℕ, ◌+◌, ◌≤◌, ◌<◌, ◌==◌, Bool, true, false, cond, ◌||◌, ◌&&◌, nat_lt, List, [], ◌∷◌, length, get_or, Some, None, Option, refl, sym, ap, ◌∙◌, subst, arith, inl, inr}
-use Rattle.std.proofs.lemmas.Bool.{true≢false, false≢true, eqb-true}
-use Rattle.std.proofs.lemmas.Bool.Decides.{nat_tests}
-use Rattle.std.proofs.lemmas.List.{get_or-set_same, get_or-set_other, length-set}
-use Rattle.std.proofs.lemmas.Option.{slice_get_within, get_or_from_slice_get, slice_get-get_or}
-use Rattle.std.specs.Prelude.{slice_get, slice_set}
+use Rattle.std.proofs.Common.{◌≡◌, ℕ, true, ◌∷◌, length, Some, None, Option, refl, sym, ap, ◌∙◌, subst}
+use Rattle.std.proofs.lemmas.Bool.{false≢true}
 use Rattle.hib_base.specs.Tables.{Tables}
-use Rattle.hib_base.proofs.Tables.{Tested, tested}
 use Rattle.hib_journal.specs.Types.{Key, Script, Part, Act, Reply}
-use Rattle.hib_journal.specs.Sessions.{Journal, own, is_open, was_killed, killed_by}
+use Rattle.hib_journal.specs.Sessions.{Journal}
 use Rattle.hib_journal.specs.Next.{is_cached, strategy}
 use Rattle.hib_journal.specs.Lists.{entry_at, IsLate}
-use Rattle.hib_session.specs.declared.session.Session.{Session}
-use Rattle.hib_session.specs.Session.{Follows, number_of, is_killed}
-use Rattle.hib_engines.specs.Registry.{Opened, IsRegistry, holds}
+use Rattle.hib_engines.specs.Registry.{IsRegistry}
 use Rattle.hib_engines.specs.Region.{entity_in, IsPlaced, Suits}
 use Rattle.hib_engines.specs.Laws.{Laws}
 use Rattle.hib_engines.specs.Served.{IsServed}
@@ -25,31 +18,11 @@ use Rattle.hib_engines.proofs.ResultsServed.{results_stay}
 use Rattle.hib_engines.proofs.RegionServed.{restart_placed}
 use Rattle.hib_engines.proofs.Stored.{store_stays}
 use Rattle.hib_engines.proofs.Elsewhere.{registry_kept, region_kept}
-use Rattle.hib_audit.specs.Standing.{region_of, IsAtRegion, AreEmptied, EnginesState, AreStanding, IsAnswered, AreSessions}
-use Rattle.hib_session.specs.Killed.{IsAsBefore, AreKilled}
-use Rattle.hib_audit.proofs.Bridge.{self_by, either, bridged_kill, bridged_restart, bridged_evict}
+use Rattle.hib_engines.specs.Regions.{region_of, IsAtRegion, AreEmptied}
+use Rattle.hib_audit.specs.Standing.{EnginesState, AreStanding, IsAnswered}
+use Rattle.hib_engines.proofs.Bridge.{bridged_kill, bridged_restart, bridged_evict}
 use Rattle.hib_audit.proofs.Replies.{reply_any}
-use Rattle.hib_audit.proofs.Regions.{regions_at}
-
--- the sessions
-
-pub sessions_outside : (script : Script) (h : Journal) (now : ℕ) (a : Act) (r : Reply) (xs ys : List Session) → AreSessions script h xs → AreKilled (λ s. killed_by s a (is_open s h)) xs ys →
-    AreSessions script (entry_at now None a r ∷ h) ys
-sessions_outside script h now a r xs ys w k = record {
-  all = k.all ∙ w.all;
-  numbers = λ s y p. number s y (k.each s y p);
-  killed = λ s y p. killed s y (k.each s y p);
-  follow = λ s y p live. follow s y (k.each s y p) (either (killed_by s a (is_open s h)) (was_killed s h) live);
-}
-  where
-    number : (s : ℕ) (y : Session) → IsAsBefore (killed_by s a (is_open s h)) xs s y → number_of y ≡ s
-    number s y b = b.number ∙ w.numbers s b.before b.there
-
-    killed : (s : ℕ) (y : Session) → IsAsBefore (killed_by s a (is_open s h)) xs s y → is_killed y ≡ (killed_by s a (is_open s h) || was_killed s h)
-    killed s y b = b.killed ∙ ap (λ o. killed_by s a (is_open s h) || o) (w.killed s b.before b.there)
-
-    follow : (s : ℕ) (y : Session) → IsAsBefore (killed_by s a (is_open s h)) xs s y → (killed_by s a (is_open s h) ≡ false) × (was_killed s h ≡ false) → Follows script y (own s h)
-    follow s y b q = subst (λ v. Follows script v (own s h)) (sym (b.same q.0)) (w.follow s b.before b.there q.1)
+use Rattle.hib_engines.proofs.RegionList.{regions_at}
 
 -- ---- the engines
 

@@ -11,8 +11,9 @@ use Rattle.hib_journal.specs.Lists.{entry_at, stored, IsReplyOf, IsStoreReply}
 use Rattle.hib_journal.specs.Runs.{is_fault}
 use Rattle.hib_session.specs.Session.{own_reply}
 use Rattle.hib_engines.specs.Served.{is_for}
-use Rattle.hib_audit.specs.Standing.{IsBridged, AreStored}
-use Rattle.hib_audit.proofs.Bridge.{deferred_of}
+use Rattle.hib_engines.specs.Due.{AreStored}
+use Rattle.hib_engines.specs.Bridged.{IsBridged}
+use Rattle.hib_engines.proofs.Bridge.{deferred_of}
 
 some_same : (x y : Reply) → Some x ≡ Some y → x ≡ y
 some_same x y e = cc

@@ -13,7 +13,7 @@ use Rattle.hib_journal.specs.Lists.{entry_at, IsLate}
 use Rattle.hib_journal.specs.Runs.{is_fault}
 use Rattle.hib_session.specs.Session.{own_reply}
 use Rattle.hib_engines.specs.declared.region.Region.{Region}
-use Rattle.hib_engines.specs.Registry.{Opened, without, IsRegistry}
+use Rattle.hib_engines.specs.Registry.{Opened, without, IsRegistry, own_after}
 use Rattle.hib_engines.specs.Region.{is_regional, entity_in, acts_on, IsPlaced, Suits}
 use Rattle.hib_engines.specs.Laws.{Laws}
 use Rattle.hib_engines.specs.Served.{is_for, IsServed, HasQuery}
@@ -26,10 +26,11 @@ use Rattle.hib_engines.proofs.StampsServed.{stamps_stay}
 use Rattle.hib_engines.proofs.ResultsServed.{results_stay}
 use Rattle.hib_engines.proofs.Stored.{store_stays}
 use Rattle.hib_engines.proofs.Elsewhere.{registry_kept, region_kept}
-use Rattle.hib_audit.specs.Standing.{region_of, own_after, IsAtRegion, EnginesState, AreStanding, IsReady, IsAnswered}
-use Rattle.hib_audit.proofs.Bridge.{self_by, bridged_own, inside_stops}
+use Rattle.hib_engines.specs.Regions.{region_of, IsAtRegion}
+use Rattle.hib_audit.specs.Standing.{EnginesState, AreStanding, IsReady, IsAnswered}
+use Rattle.hib_engines.proofs.Bridge.{self_by, bridged_own, inside_stops}
 use Rattle.hib_audit.proofs.Replies.{reply_any, reply_stored, own_is}
-use Rattle.hib_audit.proofs.Regions.{no_region, of_region, regions_at}
+use Rattle.hib_engines.proofs.RegionList.{no_region, of_region, regions_at}
 
 not_outside : (a : Act) → is_outside a ≡ false → is_restart a ≡ false
 not_outside Act.Restart p = absurd (true≢false p)

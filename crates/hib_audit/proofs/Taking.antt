@@ -12,14 +12,15 @@ use Rattle.hib_journal.specs.Runs.{is_fault}
 use Rattle.hib_session.specs.declared.session.Session.{Session}
 use Rattle.hib_session.specs.Session.{IsTaken, own_reply}
 use Rattle.hib_engines.specs.Region.{is_regional, acts_on}
-use Rattle.hib_audit.specs.Standing.{EnginesState, AreStanding, WrittenState, HasWritten, AreWritten, AreSessions, TicksState, noted, IsReady, IsAnswered, IsJudged, IsComing, IsPartOf, IsSessionOf, AuditorState, Knows, IsTakenOr}
-use Rattle.hib_audit.proofs.Allowed.{is_due}
+use Rattle.hib_session.specs.Sessions.{AreSessions}
+use Rattle.hib_audit.specs.Standing.{EnginesState, AreStanding, AreWritten, noted, IsReady, IsAnswered, IsJudged, IsComing, IsPartOf, IsSessionOf, AuditorState, Knows}
+use Rattle.hib_engines.proofs.Allowed.{is_due}
 use Rattle.hib_audit.proofs.Replies.{own_is, own_unfailing, fault_is}
-use Rattle.hib_audit.proofs.Regions.{entity_within}
+use Rattle.hib_engines.proofs.RegionList.{entity_within}
 use Rattle.hib_audit.proofs.Members.{due_within, due_lives}
 use Rattle.hib_audit.proofs.Kept.{written_outside}
 use Rattle.hib_session.specs.Killed.{AreKilled}
-use Rattle.hib_audit.proofs.Outside.{sessions_outside}
+use Rattle.hib_session.proofs.Together.{sessions_outside}
 use Rattle.hib_audit.proofs.Ticking.{ticks_noted, roomy_noted}
 
 -- ---- the reply

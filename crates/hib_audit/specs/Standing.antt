@@ -1,24 +1,25 @@
 -- What the audit keeps while it goes over a journal: its engines and sessions stand for the entries so far.
-use Rattle.std.specs.Prelude.{◌≡◌, ℕ, ◌<◌, ◌^◌, ◌==◌, ◌||◌, ◌&&◌, nat_le, nat_lt, slice_set, Bool, false, true, cond, not, List, [], ◌∷◌, length, slice_get, slice_index, replicate, Some, None, Option, unwrap_or}
+use Rattle.std.specs.Prelude.{◌≡◌, ℕ, ◌<◌, ◌^◌, ◌==◌, ◌&&◌, nat_le, nat_lt, slice_set, Bool, false, true, not, List, ◌∷◌, length, slice_get, slice_index, replicate, Some, None, Option, unwrap_or}
 use Rattle.std.specs.List.{list_any}
 use Rattle.hib_base.specs.Keys.{same_key}
 use Rattle.hib_base.specs.Tables.{Tables}
 use Rattle.hib_journal.specs.Types.{Key, Change, Script, Part, Act, Reply, Entry}
-use Rattle.hib_journal.specs.Sessions.{Journal, own, is_open, is_begun, was_killed, changes, changes_in, deferred, committed, same_part, same_session, last_tick, IsTimely}
-use Rattle.hib_journal.specs.Held.{is_begin}
-use Rattle.hib_journal.specs.Next.{strategy, is_in}
+use Rattle.hib_journal.specs.Sessions.{Journal, own, was_killed, changes, same_part, same_session, last_tick, IsTimely}
+use Rattle.hib_journal.specs.Next.{is_in}
 use Rattle.hib_journal.specs.Legal.{IsLegal, IsReply, is_outside, due, may_come, part_of}
-use Rattle.hib_journal.specs.Lists.{entry_at, unsaved, stored, IsLate}
-use Rattle.hib_journal.specs.Due.{IsAllowed, is_asked}
+use Rattle.hib_journal.specs.Lists.{entry_at, IsLate}
+use Rattle.hib_journal.specs.Due.{IsAllowed}
 use Rattle.hib_store.specs.Stores.{StoreState}
 use Rattle.hib_query_cache.specs.Ranked.{Ranked}
 use Rattle.hib_session.specs.declared.session.Session.{Session}
-use Rattle.hib_session.specs.Session.{Follows, number_of, is_killed}
 use Rattle.hib_engines.specs.declared.region.Region.{Region}
-use Rattle.hib_engines.specs.Registry.{Opened, without, IsRegistry}
-use Rattle.hib_engines.specs.Region.{acts_on, emptied, IsPlaced, Suits}
-use Rattle.hib_engines.specs.Served.{AreWithin, HasQuery}
+use Rattle.hib_engines.specs.Registry.{IsRegistry}
+use Rattle.hib_engines.specs.Region.{IsPlaced}
+use Rattle.hib_session.specs.Sessions.{AreSessions}
 use Rattle.hib_engines.specs.Store.{IsStored}
+use Rattle.hib_engines.specs.Regions.{region_of}
+use Rattle.hib_engines.specs.Bridged.{IsBridged}
+use Rattle.hib_engines.specs.Due.{HasQueries, IsDue}
 use Rattle.hib_engines.specs.Stamps.{AreStamps}
 use Rattle.hib_engines.specs.Results.{AreResults}
 use Rattle.hib_audit.specs.declared.points.AuditKind.{AuditKind}
@@ -26,41 +27,12 @@ use Rattle.hib_audit.specs.Breaks.{Breaks}
 
 -- ---- the engines
 
--- the region of an entity; none is uncached
-abbrev pub or_uncached : Option Region → Region
-or_uncached None = Region.Uncached
-or_uncached (Some x) = x
-
-abbrev pub region_of : List Region → ℕ → Region
-region_of xs n = or_uncached (slice_get xs n)
-
--- no region but that of entity n has changed
-pub record IsAtRegion (n : ℕ) (xs ys : List Region) : Type 0 where
-  pub all : length ys ≡ length xs
-  pub others : (m : ℕ) → (n == m) ≡ false → region_of ys m ≡ region_of xs m
-
--- each region is emptied
-pub record AreEmptied (xs ys : List Region) : Type 0 where
-  pub all : length ys ≡ length xs
-  pub each : (n : ℕ) → region_of ys n ≡ emptied (region_of xs n)
-
--- what an act of a session's own leaves of the open sessions
-abbrev pub own_after : ℕ → Act → Opened → Opened
-own_after s Act.End ps = without s ps
-own_after s _ ps = ps
-
 pub record EnginesState : Type 0 where
   pub store : StoreState
   pub registry : List (ℕ × ℕ)
   pub stamps : List (Option ℕ)
   pub regions : List Region
   pub results : Ranked
-
--- what the store stores and defers is what the sessions commit and write; a session that is closed has nothing deferred
-pub record IsBridged (h : Journal) : Type 0 where
-  pub rows : (start : Tables) → stored start h ≡ committed start h
-  pub changes : (n : ℕ) → unsaved n h ≡ cond (was_killed n h) [] (deferred (own n h))
-  pub closed : (n : ℕ) → was_killed n h ≡ false → is_open n h ≡ false → deferred (own n h) ≡ []
 
 pub record AreStanding (script : Script) (start : Tables) (h : Journal) (x : EnginesState) : Type 0 where
   pub store : IsStored (Some start) h x.store
@@ -73,24 +45,6 @@ pub record AreStanding (script : Script) (start : Tables) (h : Journal) (x : Eng
 
 -- ---- an act that is due
 
--- the store's list is that of the transaction
-abbrev pub AreStored : Journal → Act → Type 0
-AreStored mine (Act.Load k) = deferred mine ≡ changes_in mine
-AreStored mine (Act.List q) = deferred mine ≡ changes_in mine
-AreStored mine Act.Commit = deferred mine ≡ changes_in mine
-AreStored mine _ = Unit {0}
-
--- what is known of the act that is due in a session with these entries
-pub record IsDue (script : Script) (mine : Journal) (a : Act) : Type 0 where
-  pub begins : is_begin a ≡ true → is_begun mine ≡ false
-  pub within : is_begin a ≡ false → is_begun mine ≡ true
-  pub ends : a ≡ Act.End → deferred mine ≡ []
-  pub stored : AreStored mine a
-  pub known : AreWithin (length script.mapping) a
-  pub suits : Suits (strategy script (acts_on a)) a
-  pub inside : is_outside a ≡ false
-  pub query : HasQuery script a
-
 -- over a journal that the engines stand for, in which s lives, the act is due at a tick that is late enough
 pub record IsReady (script : Script) (start : Tables) (h : Journal) (s now : ℕ) (a : Act) (x : EnginesState) : Type 0 where
   pub standing : AreStanding script start h x
@@ -102,15 +56,6 @@ pub record IsReady (script : Script) (start : Tables) (h : Journal) (s now : ℕ
 pub record IsAnswered (script : Script) (start : Tables) (h : Journal) (by : Option ℕ) (now : ℕ) (a : Act) (r : Reply) (y : EnginesState) : Type 0 where
   pub reply : IsReply script (Some start) h (entry_at now by a r)
   pub standing : AreStanding script start (entry_at now by a r ∷ h) y
-
--- ---- the sessions
-
--- the sessions of a script: each is killed if the journal says so, and else as far as its own entries
-pub record AreSessions (script : Script) (h : Journal) (sessions : List Session) : Type 0 where
-  pub all : length sessions ≡ length script.sessions
-  pub numbers : (s : ℕ) (y : Session) → slice_get sessions s ≡ Some y → number_of y ≡ s
-  pub killed : (s : ℕ) (y : Session) → slice_get sessions s ≡ Some y → is_killed y ≡ was_killed s h
-  pub follow : (s : ℕ) (y : Session) → slice_get sessions s ≡ Some y → was_killed s h ≡ false → Follows script y (own s h)
 
 -- ---- the ticks
 
@@ -172,10 +117,6 @@ IsSessionOf script None = Unit {0}
 IsSessionOf script (Some n) = n < length script.sessions
 
 -- ---- all of it
-
--- a session asks queries of the script alone
-abbrev pub HasQueries : Script → Type 0
-HasQueries script = (s q : ℕ) → is_asked script s q ≡ true → q < length script.queries
 
 -- what the audit needs of its script, which every valid script keeps
 pub record IsBuilt (script : Script) : Type 0 where

@@ -10,11 +10,11 @@ ghost use Rattle.hib_audit.specs.Standing.{HasWritten, IsReady, IsComing, IsJudg
 use crate::engines::Engines;
 use crate::points::{AuditKind, difference, due_act};
 use crate::same::is_same_reply;
-use crate::sessions::{advance, note_written, open_sessions, open_written};
+use crate::sessions::{advance, note_written, open_written};
 use crate::ticks::Ticks;
 use crate::written::Written;
 use hib_base::{Act, Entry, Key, Reply, Script, SessionNo};
-use hib_session::{Session, kill_all, kill_at};
+use hib_session::{Session, kill_all, kill_at, open_all};
 use std::alloc::{AllocError, Global};
 use std::marker::Model;
 
@@ -67,7 +67,7 @@ impl Auditor {
         requires { IsBuilt script.now }
         ensures { IfOk result (λ a. Knows script.now (start_rows script.now) [] a) }
     {
-        let sessions = open_sessions(alloc, script)?;
+        let sessions = open_all(alloc, script)?;
         let written = open_written(alloc, script)?;
         let ticks = Ticks::open(alloc, script)?;
         let engines = Engines::open(alloc, script)?;

@@ -1,5 +1,5 @@
 // The engines that answer the acts of a journal once more.
-ghost use Rattle.std.specs.Prelude.{◌≡◌, ◌≤◌, ◌<◌, ◌^◌, ◌∷◌, [], ℕ, length, map, IfOk, OnOk, Option, Some, None, true, false};
+ghost use Rattle.std.specs.Prelude.{◌≡◌, ◌≤◌, ◌<◌, ◌^◌, ◌∷◌, [], ℕ, length, IfOk, Some, None, true, false};
 ghost use Rattle.hib_base.specs.Start.{start};
 ghost use Rattle.hib_base.specs.Tables.{Tables};
 ghost use Rattle.hib_base.specs.declared.entries.Act.{Act};
@@ -7,18 +7,21 @@ ghost use Rattle.hib_base.specs.declared.replies.Reply.{Reply};
 ghost use Rattle.hib_base.specs.declared.scripts.Script.{Script as Said};
 ghost use Rattle.hib_journal.specs.Types.{Part, Key};
 ghost use Rattle.hib_journal.specs.Sessions.{Journal, own, changes};
-ghost use Rattle.hib_journal.specs.Next.{strategy, is_cached};
+ghost use Rattle.hib_journal.specs.Next.{is_cached};
 ghost use Rattle.hib_journal.specs.Legal.{fault_of};
 ghost use Rattle.hib_journal.specs.Lists.{entry_at, IsLate};
 ghost use Rattle.hib_journal.specs.Runs.{is_fault};
 ghost use Rattle.hib_session.specs.Session.{Follows, number_of, own_reply};
-ghost use Rattle.hib_engines.specs.Region.{entity_in, empty, IsPlaced, Suits};
-ghost use Rattle.hib_engines.specs.Served.{IsServed, AreWithin};
-ghost use Rattle.hib_audit.specs.Standing.{region_of, own_after, AreStanding, IsAtRegion, AreEmptied, IsReady, IsAnswered, IsBuilt};
+ghost use Rattle.hib_engines.specs.Served.{AreWithin};
+ghost use Rattle.hib_engines.specs.Registry.{own_after};
+ghost use Rattle.hib_audit.specs.Standing.{AreStanding, IsReady, IsAnswered, IsBuilt};
 
 use crate::keeper::Unfailing;
 use hib_base::{Act, EntityNo, Part, Reply, Script, SessionNo, Tick};
-use hib_engines::{Region, Registry, ResultsEngine, StampsEngine, StoreEngine, laws};
+use hib_engines::{
+    Region, Registry, ResultsEngine, StampsEngine, StoreEngine, laws, open_regions,
+    restart_regions, serve_region,
+};
 use hib_journal::part_of;
 use hib_session::Session;
 use std::alloc::{AllocError, Global};
@@ -40,49 +43,6 @@ impl Model for Engines {
     ghost Value = { EnginesState };
 
     ghost view = { λ e. record { store = e.store; registry = e.registry; stamps = e.stamps; regions = e.regions.items; results = e.results } };
-}
-
-/// The regions of a script's entities, which are empty.
-fn open_regions(alloc: Global, script: &Script) -> Result<Vec<Region>, AllocError>
-    ensures { IfOk result (λ v. v.items ≡ map (λ d. empty d.strategy d.capacity script.now.timeout) script.now.mapping) }
-{
-    let mut regions = Vec::new(alloc);
-    for entity in script.mapping.as_slice() {
-        regions.push(Region::open(alloc, entity.strategy, entity.capacity, script.timeout))?;
-    }
-    Ok(regions)
-}
-
-/// Each region drops all that it holds.
-fn restart_all(regions: &mut Vec<Region>)
-    ensures { AreEmptied regions.old.items regions.new.items }
-{
-    for at in 0..regions.len() {
-        regions[at].restart();
-    }
-}
-
-/// The answer of the region of an entity; one that has no region is uncached.
-fn serve_region(
-    alloc: Global,
-    regions: &mut Vec<Region>,
-    entity: EntityNo,
-    act: &Act,
-    now: Tick,
-) -> Result<Reply, AllocError>
-    requires { now ≤ 2 ^ 62 }
-    ensures answered { IfOk result (λ r. (script : Said) (l : Journal) (by : Option ℕ) → IsPlaced script entity l (region_of regions.old.items entity) → IsLate (Part.Region entity) now l
-        → entity_in act.now ≡ Some entity → Suits (strategy script entity) act.now
-        → IsServed (λ m. IsPlaced script entity m (region_of regions.new.items entity)) script l by now act.now r) }
-    ensures others { OnOk result (IsAtRegion entity regions.old.items regions.new.items) }
-    ensures calm { IfOk result (λ r. is_fault r ≡ false) }
-{
-    let at = entity.0 as usize;
-    if at < regions.len() {
-        return regions[at].serve(alloc, act, now);
-    }
-    // No act is due on an entity that isn't cached.
-    Ok(Reply::Done)
 }
 
 impl Engines {
@@ -152,7 +112,7 @@ impl Engines {
         self.store.restart();
         self.registry.restart();
         self.stamps.restart();
-        restart_all(&mut self.regions);
+        restart_regions(&mut self.regions);
         self.results.restart();
     }
 

@@ -1,8 +1,5 @@
 // A keeper in memory that never fails.
-ghost use Rattle.std.specs.Prelude.{◌≡◌, ◌+◌, ◌≤◌, [], length, IfOk, IfErr, Some};
-ghost use Rattle.hib_base.specs.Tables.{row_at};
-ghost use Rattle.hib_outside.specs.Keeps.{tables_seeded, tables_after, rows_of};
-ghost use Rattle.hib_outside.specs.Verdicts.{verdict, IsPlace};
+ghost use Rattle.std.specs.Prelude.{◌≡◌, [], Some};
 
 use hib_base::{Change, EntityNo, Key, Mapping, Row, Rows, Seq};
 use hib_outside::{Applied, KeepFault, Keeper, MemKeeper};

@@ -7,7 +7,8 @@ ghost use Rattle.hib_journal.specs.Next;
 ghost use Rattle.hib_journal.specs.Legal.{due_by, may_come};
 ghost use Rattle.hib_journal.specs.Due.{IsAllowed};
 ghost use Rattle.hib_engines.specs.Registry.{IsRegistry};
-ghost use Rattle.hib_audit.specs.Standing.{AreSessions, IsAllowedFor, Differs};
+ghost use Rattle.hib_session.specs.Sessions.{AreSessions};
+ghost use Rattle.hib_audit.specs.Standing.{IsAllowedFor, Differs};
 
 use crate::actors::is_outside;
 use crate::same::is_same_act;

@@ -1,26 +1,15 @@
 // The sessions of an audit, and what each has written.
-ghost use Rattle.std.specs.Prelude.{◌≡◌, ◌∷◌, ◌<◌, ◌^◌, ◌==◌, [], length, reverse, IfOk, OnOk, Some, true, false};
+ghost use Rattle.std.specs.Prelude.{◌≡◌, ◌∷◌, ◌<◌, [], length, reverse, IfOk, OnOk, Some, false};
 ghost use Rattle.hib_journal.specs.Sessions.{own, was_killed};
 ghost use Rattle.hib_journal.specs.Legal.{is_outside};
 ghost use Rattle.hib_session.specs.Session.{IsTaken};
-ghost use Rattle.hib_audit.specs.Standing.{AreSessions, AreWritten};
+ghost use Rattle.hib_session.specs.Sessions.{AreSessions};
+ghost use Rattle.hib_audit.specs.Standing.{AreWritten};
 
 use crate::written::Written;
 use hib_base::{Entry, Script, SessionNo};
 use hib_session::Session;
 use std::alloc::{AllocError, Global};
-
-/// The sessions of a script, which have done nothing.
-pub fn open_sessions(alloc: Global, script: &Script) -> Result<Vec<Session>, AllocError>
-    requires few { length script.now.sessions < 2 ^ 32 }
-    ensures { IfOk result (λ v. AreSessions script.now [] v.items) }
-{
-    let mut sessions = Vec::new(alloc);
-    for number in 0..script.sessions.len() {
-        sessions.push(Session::open(alloc, SessionNo(number as u32)))?;
-    }
-    Ok(sessions)
-}
 
 /// What the sessions of a script have written: nothing.
 pub fn open_written(alloc: Global, script: &Script) -> Result<Vec<Written>, AllocError>

@@ -1,24 +1,18 @@
 -- A factory goes on by an act from outside of its sessions.
-use Rattle.std.proofs.Common.{◌≡◌, ℕ, ◌+◌, ◌≤◌, ◌<◌, ◌^◌, ◌==◌, Bool, true, false, cond, ◌||◌, ◌&&◌, nat_lt, List, [], ◌∷◌, length, get_or, Some, None, Option, refl, sym, ap, ◌∙◌, subst, arith, inl, inr}
-use Rattle.std.proofs.lemmas.Bool.{true≢false, false≢true, eqb-true}
-use Rattle.std.proofs.lemmas.Bool.Decides.{nat_tests}
-use Rattle.std.proofs.lemmas.List.{get_or-set_same, get_or-set_other, length-set}
-use Rattle.std.proofs.lemmas.Option.{slice_get_within, get_or_from_slice_get, slice_get-get_or}
-use Rattle.std.specs.Prelude.{slice_get, slice_set, option_map}
-use Rattle.hib_base.proofs.Tables.{Tested, tested, same_key_refl}
+use Rattle.std.proofs.Common.{◌≡◌, ℕ, ◌+◌, ◌<◌, ◌^◌, true, false, cond, List, [], ◌∷◌, length, Some, None, Option, refl, sym, ap, ◌∙◌, subst, arith}
+use Rattle.std.proofs.lemmas.Bool.{false≢true}
+use Rattle.std.specs.Prelude.{option_map}
+use Rattle.hib_base.proofs.Tables.{same_key_refl}
 use Rattle.hib_journal.specs.Types.{Key, Change, Order, Script, Part, Act, Reply}
-use Rattle.hib_journal.specs.Sessions.{Journal, own, is_open, was_killed, killed_by, changes}
+use Rattle.hib_journal.specs.Sessions.{Journal, is_open, changes}
 use Rattle.hib_journal.specs.Next.{is_cached, strategy}
 use Rattle.hib_journal.specs.Played.{play_order}
 use Rattle.hib_journal.specs.Legal.{IsLegal, IsReply, part_of, due, may_come, is_outside}
 use Rattle.hib_journal.specs.Lists.{IsLate}
 use Rattle.hib_journal.specs.Runs.{IsNumbered, asks, ask_count, is_fault, fault_count}
-use Rattle.hib_session.specs.declared.session.Session.{Session}
-use Rattle.hib_session.specs.Session.{Follows, number_of, is_killed}
-use Rattle.hib_session.specs.Killed.{IsAsBefore, AreKilled}
 use Rattle.hib_engines.specs.declared.region.Region.{Region}
-use Rattle.hib_engines.specs.Registry.{Opened, IsRegistry, holds}
-use Rattle.hib_engines.specs.Region.{emptied, entity_in, IsPlaced, Suits}
+use Rattle.hib_engines.specs.Registry.{IsRegistry}
+use Rattle.hib_engines.specs.Region.{entity_in, IsPlaced, Suits}
 use Rattle.hib_engines.specs.Laws.{Laws}
 use Rattle.hib_engines.specs.Served.{IsServed}
 use Rattle.hib_engines.specs.Stamps.{AreStamps}
@@ -29,72 +23,16 @@ use Rattle.hib_engines.proofs.ResultsServed.{results_stay}
 use Rattle.hib_engines.proofs.RegionServed.{restart_placed}
 use Rattle.hib_engines.proofs.Stored.{store_stays}
 use Rattle.hib_engines.proofs.Elsewhere.{registry_kept, region_kept}
-use Rattle.hib_core.specs.Standing.{Origin, RoseBy, RoseWithin, IsStore, PartsState, AreParts, region_of, outside_entry, IsAtRegion, AreEmptied}
-use Rattle.hib_core.specs.Factory.{Lawful, AreSessions, IsRun, IsAsked}
+use Rattle.hib_engines.specs.Regions.{region_of, IsAtRegion, AreEmptied}
+use Rattle.hib_core.specs.Standing.{Origin, RoseBy, RoseWithin, IsStore, PartsState, AreParts, outside_entry}
+use Rattle.hib_core.specs.Factory.{Lawful, IsRun, IsAsked}
 use Rattle.hib_core.specs.Playing.{played, Leads}
-use Rattle.hib_core.proofs.Stored.{self_by, either, reply_any, store_of, bridged_kill, bridged_restart, bridged_evict}
-use Rattle.hib_core.proofs.Served.{late, stamps_in, results_in, parts_of, regions_at, region_same, region_other, none_past}
+use Rattle.hib_engines.proofs.Bridge.{self_by, bridged_kill, bridged_restart, bridged_evict}
+use Rattle.hib_engines.proofs.RegionList.{regions_at}
+use Rattle.hib_core.proofs.Stored.{reply_any, store_of}
+use Rattle.hib_core.proofs.Served.{late, stamps_in, results_in, parts_of}
 use Rattle.hib_core.proofs.Going.{timely, some_is}
 use Rattle.hib_core.proofs.Playing.{leads_none}
-
--- the sessions
-
-pub sessions_outside : (script : Script) (h : Journal) (a : Act) (r : Reply) (xs ys : List Session) → AreSessions script h xs → AreKilled (λ s. killed_by s a (is_open s h)) xs ys →
-    AreSessions script (outside_entry h a r ∷ h) ys
-sessions_outside script h a r xs ys w k = record {
-  all = k.all ∙ w.all;
-  numbers = λ s y p. number s y (k.each s y p);
-  killed = λ s y p. killed s y (k.each s y p);
-  follow = λ s y p live. follow s y (k.each s y p) (either (killed_by s a (is_open s h)) (was_killed s h) live);
-}
-  where
-    number : (s : ℕ) (y : Session) → IsAsBefore (killed_by s a (is_open s h)) xs s y → number_of y ≡ s
-    number s y b = b.number ∙ w.numbers s b.before b.there
-
-    killed : (s : ℕ) (y : Session) → IsAsBefore (killed_by s a (is_open s h)) xs s y → is_killed y ≡ (killed_by s a (is_open s h) || was_killed s h)
-    killed s y b = b.killed ∙ ap (λ o. killed_by s a (is_open s h) || o) (w.killed s b.before b.there)
-
-    follow : (s : ℕ) (y : Session) → IsAsBefore (killed_by s a (is_open s h)) xs s y → (killed_by s a (is_open s h) ≡ false) × (was_killed s h ≡ false) → Follows script y (own s h)
-    follow s y b q = subst (λ v. Follows script v (own s h)) (sym (b.same q.0)) (w.follow s b.before b.there q.1)
-
--- places up to a number
-
-below_next : (n s : ℕ) (b : Bool) → b ≡ false → (n == s) ≡ b → nat_lt s n ≡ nat_lt s (n + 1)
-below_next n s b p q = let d : (n == s) ≡ false = q ∙ p in grind (arith, nat_tests, d)
-
-below_self : (n : ℕ) → nat_lt n (n + 1) ≡ true
-below_self n = grind (arith, nat_tests)
-
--- the regions of a restart
-
-pub emptied_more : (n : ℕ) (xs ys : List Region) (z : Region) → n < length xs → length ys ≡ length xs →
-    ((m : ℕ) → region_of ys m ≡ cond (nat_lt m n) (emptied (region_of xs m)) (region_of xs m)) → z ≡ emptied (region_of ys n) →
-    (m : ℕ) → region_of (slice_set ys n z) m ≡ cond (nat_lt m (n + 1)) (emptied (region_of xs m)) (region_of xs m)
-emptied_more n xs ys z l e f p m = by_test (tested (n == m))
-  where
-    here : region_of ys n ≡ region_of xs n
-    here = let k : nat_lt n n ≡ false = grind (arith, nat_tests) in f n ∙ rw k refl
-
-    by_test : Tested (n == m) → region_of (slice_set ys n z) m ≡ cond (nat_lt m (n + 1)) (emptied (region_of xs m)) (region_of xs m)
-    by_test (inl q) = let d : n ≡ m = eqb-true n m q in
-        subst (λ i. region_of (slice_set ys n z) i ≡ cond (nat_lt i (n + 1)) (emptied (region_of xs i)) (region_of xs i)) d
-        (region_same ys n z (omega (arith, l, e)) ∙ (p ∙ (ap emptied here ∙ sym (rw (below_self n) refl))))
-    by_test (inr q) = region_other ys n m z (λ d. true≢false (sym (ap (λ i. n == i) d ∙ self_by n) ∙ q))
-        ∙ (f m ∙ ap (λ b. cond b (emptied (region_of xs m)) (region_of xs m)) (below_next n m false refl q))
-
-pub emptied_none : (xs : List Region) (m : ℕ) → region_of xs m ≡ cond (nat_lt m 0) (emptied (region_of xs m)) (region_of xs m)
-emptied_none xs m = let z : nat_lt m 0 ≡ false = grind (arith, nat_tests) in rw z refl
-
-pub emptied_all : (n : ℕ) (xs ys : List Region) → length xs ≤ n → length ys ≡ length xs → ((m : ℕ) → region_of ys m ≡ cond (nat_lt m n) (emptied (region_of xs m)) (region_of xs m)) →
-    AreEmptied xs ys
-emptied_all n xs ys l e f = record { all = e; each = λ m. by_test m (tested (nat_lt m n)) }
-  where
-    none : (m : ℕ) → length xs ≤ m → region_of xs m ≡ emptied (region_of xs m)
-    none m k = let u : region_of xs m ≡ Region.Uncached = none_past xs m k in u ∙ sym (ap emptied u)
-
-    by_test : (m : ℕ) → Tested (nat_lt m n) → region_of ys m ≡ emptied (region_of xs m)
-    by_test m (inl q) = f m ∙ rw q refl
-    by_test m (inr q) = let k : length xs ≤ m = grind (arith, nat_tests, l, q) in (f m ∙ rw q refl) ∙ none m k
 
 -- the journal, its parts and its legality
 
@@ -154,7 +92,7 @@ pub parts_killed : Laws → (script : Script) (from : Origin) (h : Journal) (n :
     ((told : Option Rattle.hib_base.specs.Tables.Tables) (l : Journal) (now : ℕ) → IsStored told l x.store → IsStored told (Rattle.hib_journal.specs.Lists.entry_at now None (Act.Kill n) Reply.Done ∷ l) y.store) →
     y.store.faults ≡ x.store.faults → y.stamps ≡ x.stamps → y.regions ≡ x.regions → y.results ≡ x.results → AreParts script from (outside_entry h (Act.Kill n) Reply.Done ∷ h) y
 parts_killed l script from h n x y k m registry store f b c d = parts_of script from (outside_entry h (Act.Kill n) Reply.Done ∷ h) y
-    (store_of from (outside_entry h (Act.Kill n) Reply.Done ∷ h) y.store (store from.tables h (length h + 1) k.store.stands) (bridged_kill h n Reply.Done k.store.bridged)
+    (store_of from (outside_entry h (Act.Kill n) Reply.Done ∷ h) y.store (store from.tables h (length h + 1) k.store.stands) (bridged_kill h n (length h + 1) Reply.Done k.store.bridged)
     (faults_outside from h x.store.faults y.store.faults k.store.faults f))
     (registry h (length h + 1) k.registry (late Part.Registry h m))
     (subst (λ z. AreStamps script (outside_entry h (Act.Kill n) Reply.Done ∷ h) z) (sym b) (stamps_outside l script from h (Act.Kill n) Reply.Done x k refl refl))
@@ -186,7 +124,7 @@ evict_run l w script from h k now r x y run c few e served at calm q = goes_outs
     (parts_of script from (outside_entry h (Act.Evict k) r ∷ h) y
     (subst (λ z. IsStore from (outside_entry h (Act.Evict k) r ∷ h) z) (sym (ap (λ z. z.store) q))
     (store_of from (outside_entry h (Act.Evict k) r ∷ h) x.store (store_stays from.tables h None (length h + 1) (Act.Evict k) r x.store run.parts.store.stands refl refl)
-    (bridged_evict h k r run.parts.store.bridged) (rw calm (faults_outside from h x.store.faults x.store.faults run.parts.store.faults refl))))
+    (bridged_evict h k (length h + 1) r run.parts.store.bridged) (rw calm (faults_outside from h x.store.faults x.store.faults run.parts.store.faults refl))))
     (subst (λ z. IsRegistry z (outside_entry h (Act.Evict k) r ∷ h)) (sym (ap (λ z. z.registry) q)) (registry_kept h None (length h + 1) (Act.Evict k) r x.registry run.parts.registry refl))
     (subst (λ z. AreStamps script (outside_entry h (Act.Evict k) r ∷ h) z) (sym (ap (λ z. z.stamps) q)) (stamps_outside l script from h (Act.Evict k) r x run.parts refl refl))
     (regions_at script (outside_entry h (Act.Evict k) r ∷ h) k.entity x.regions y.regions at v.stands
@@ -211,7 +149,7 @@ pub parts_restarted : Laws → (script : Script) (from : Origin) (h : Journal) (
     ((s : Script) (l : Journal) (now : ℕ) → AreResults s l x.results → AreResults s (Rattle.hib_journal.specs.Lists.entry_at now None Act.Restart Reply.Done ∷ l) y.results) →
     AreParts script from (outside_entry h Act.Restart Reply.Done ∷ h) y
 parts_restarted l script from h x y k m registry store f stamps rs results = parts_of script from (outside_entry h Act.Restart Reply.Done ∷ h) y
-    (store_of from (outside_entry h Act.Restart Reply.Done ∷ h) y.store (store from.tables h (length h + 1) k.store.stands) (bridged_restart h Reply.Done k.store.bridged)
+    (store_of from (outside_entry h Act.Restart Reply.Done ∷ h) y.store (store from.tables h (length h + 1) k.store.stands) (bridged_restart h (length h + 1) Reply.Done k.store.bridged)
     (faults_outside from h x.store.faults y.store.faults k.store.faults f))
     (registry h (length h + 1) k.registry (late Part.Registry h m)) (stamps script h (length h + 1) (stamps_in script from h x k))
     (λ n. restart_placed l script h n (length h + 1) (region_of x.regions n) (region_of y.regions n) (k.regions n) (rs.each n)) (rs.all ∙ k.entities)

@@ -1,13 +1,13 @@
 -- A factory goes on: with one entry more its journal is legal, and its parts and sessions stand for it.
 use Rattle.std.proofs.Common.{◌≡◌, ℕ, ◌+◌, ◌<◌, ◌^◌, ◌==◌, Bool, true, false, List, ◌∷◌, length, get_or, IsSome, IfSome, Some, None, Option, is_some, IfOk, Result, Ok, Err, refl, sym, ap, ◌∙◌, subst, arith, inl, inr}
 use Rattle.std.proofs.lemmas.Bool.{true≢false, eqb-true}
-use Rattle.std.proofs.lemmas.List.{get_or-set_same, get_or-set_other, length-set}
-use Rattle.std.proofs.lemmas.Option.{slice_get_within, get_or_from_slice_get, slice_get-get_or}
+use Rattle.std.proofs.lemmas.List.{length-set}
+use Rattle.std.proofs.lemmas.Option.{slice_get_within, slice_get-get_or}
 use Rattle.std.specs.Prelude.{slice_get, slice_set, option_map}
 use Rattle.std.specs.declared.alloc.AllocError.{AllocError}
 use Rattle.hib_base.proofs.Tables.{Tested, tested}
 use Rattle.hib_journal.specs.Types.{Part, Script, Act, Reply, Entry}
-use Rattle.hib_journal.specs.Sessions.{Journal, own, is_open, was_killed, killed_by, IsTimely}
+use Rattle.hib_journal.specs.Sessions.{Journal, own, was_killed, IsTimely}
 use Rattle.hib_journal.specs.Next.{next}
 use Rattle.hib_journal.specs.Played.{has_next}
 use Rattle.hib_journal.specs.Legal.{IsLegal, part_of, due, may_come, is_outside}
@@ -15,10 +15,12 @@ use Rattle.hib_journal.specs.Runs.{IsNumbered}
 use Rattle.hib_session.specs.declared.session.Session.{Session}
 use Rattle.hib_session.specs.Session.{Follows, IsTaken, number_of, is_killed}
 use Rattle.hib_engines.specs.Served.{AreWithin}
-use Rattle.hib_core.specs.Standing.{Origin, PartsState, IsStill, IsDue, IsReady, IsAnswered, entry_of}
-use Rattle.hib_core.specs.Factory.{Lawful, AreSessions, IsRun, IsMember, IsTurn, IsTold, Answers}
+use Rattle.hib_engines.specs.Due.{IsDue}
+use Rattle.hib_core.specs.Standing.{Origin, PartsState, IsStill, IsReady, IsAnswered, entry_of}
+use Rattle.hib_session.specs.Sessions.{AreSessions}
+use Rattle.hib_core.specs.Factory.{Lawful, IsRun, IsMember, IsTurn, IsTold, Answers}
+use Rattle.hib_session.proofs.Together.{placed_here, placed_there}
 use Rattle.hib_core.proofs.Served.{last_le, still_parts}
-use Rattle.hib_core.proofs.Stored.{self_by, own_self, own_other}
 
 pub timely : (h : Journal) (by : Option ℕ) (s : ℕ) (a : Act) (r : Reply) → IsNumbered h → length h < 2 ^ 62 →
     IsTimely (record { tick = length h + 1; session = by; part = part_of a s; act = a; reply = r }) h
@@ -38,15 +40,6 @@ stays script h (Act.Kill n) p = absurd (true≢false p)
 stays script h Act.Restart p = absurd (true≢false p)
 stays script h (Act.Evict k) p = absurd (true≢false p)
 stays script h _ p = refl
-
-unkilled : (s : ℕ) (a : Act) (o : Bool) → is_outside a ≡ false → killed_by s a o ≡ false
-unkilled s (Act.Kill n) o p = absurd (true≢false p)
-unkilled s Act.Restart o p = absurd (true≢false p)
-unkilled s _ o p = refl
-
--- an entry of a session kills none
-pub killed_same : (n : ℕ) (e : Entry) (h : Journal) → is_outside e.act ≡ false → was_killed n (e ∷ h) ≡ was_killed n h
-killed_same n e h p = rw (unkilled n e.act (is_open n h) p) refl
 
 pub goes_on : Lawful → (script : Script) (from : Origin) (h : Journal) (s : ℕ) (a : Act) (r : Reply) (x y : PartsState) → IsRun script from h x → was_killed s h ≡ false →
     next script s (own s h) ≡ Some a → is_outside a ≡ false → IsAnswered script from h s a r y → length h < 2 ^ 62 → IsRun script from (entry_of h s a r ∷ h) y
@@ -104,45 +97,7 @@ answers_of w script from y a r h e x z run t told l g = record {
 pub run_still : (script : Script) (from : Origin) (h : Journal) (x y : PartsState) → IsRun script from h x → IsStill x y → IsRun script from h y
 run_still script from h x y run u = record { legal = run.legal; law = run.law; numbered = run.numbered; parts = still_parts script from h x y u run.parts; built = run.built }
 
--- the session at a place, which is now z, and the others
-
-placed_here : (s n : ℕ) (xs : List Session) (y z : Session) → s < length xs → slice_get (slice_set xs s z) n ≡ Some y → s ≡ n → y ≡ z
-placed_here s n xs y z l p e = let q : slice_get (slice_set xs s z) s ≡ Some y = subst (λ m. slice_get (slice_set xs s z) m ≡ Some y) (sym e) p in
-    sym (get_or_from_slice_get (slice_set xs s z) s y z q) ∙ get_or-set_same xs s z z l
-
-placed_there : (s n : ℕ) (xs : List Session) (y z : Session) → slice_get (slice_set xs s z) n ≡ Some y → (s == n) ≡ false → slice_get xs n ≡ Some y
-placed_there s n xs y z p d = slice_get-get_or xs n y (omega (arith, length-set xs s z, slice_get_within (slice_set xs s z) n y p))
-    ∙ ap Some (sym (get_or-set_other xs s n z y (λ e. true≢false (sym (ap (λ m. s == m) e ∙ self_by s) ∙ d))) ∙ get_or_from_slice_get (slice_set xs s z) n y y p)
-
--- the sessions of a run with an entry of the one at s, which is now z
-
-pub sessions_step : (script : Script) (h new : Journal) (s : ℕ) (a : Act) (r : Reply) (xs : List Session) (z : Session) → new ≡ entry_of h s a r ∷ h → AreSessions script h xs →
-    s < length xs → number_of z ≡ s → is_killed z ≡ was_killed s h → is_outside a ≡ false → Follows script z (entry_of h s a r ∷ own s h) → AreSessions script new (slice_set xs s z)
-sessions_step script h new s a r xs z g w l k d i f = record {
-  all = length-set xs s z ∙ w.all;
-  numbers = λ n y p. number n y p (tested (s == n));
-  killed = λ n y p. killed n y p (tested (s == n)) ∙ sym (killed_now n);
-  follow = λ n y p live. subst (λ j. Follows script y (own n j)) (sym g) (follow n y p (sym (killed_now n) ∙ live) (tested (s == n)));
-}
-  where
-    number : (n : ℕ) (y : Session) → slice_get (slice_set xs s z) n ≡ Some y → Tested (s == n) → number_of y ≡ n
-    number n y p (inl q) = let e : s ≡ n = eqb-true s n q in ap number_of (placed_here s n xs y z l p e) ∙ (k ∙ e)
-    number n y p (inr q) = w.numbers n y (placed_there s n xs y z p q)
-
-    killed_now : (n : ℕ) → was_killed n new ≡ was_killed n h
-    killed_now n = ap (was_killed n) g ∙ killed_same n (entry_of h s a r) h i
-
-    killed : (n : ℕ) (y : Session) → slice_get (slice_set xs s z) n ≡ Some y → Tested (s == n) → is_killed y ≡ was_killed n h
-    killed n y p (inl q) = let e : s ≡ n = eqb-true s n q in ap is_killed (placed_here s n xs y z l p e) ∙ (d ∙ ap (λ m. was_killed m h) e)
-    killed n y p (inr q) = w.killed n y (placed_there s n xs y z p q)
-
-    follow : (n : ℕ) (y : Session) → slice_get (slice_set xs s z) n ≡ Some y → was_killed n h ≡ false → Tested (s == n) → Follows script y (own n (entry_of h s a r ∷ h))
-    follow n y p live (inl q) = let e : s ≡ n = eqb-true s n q in
-        subst (λ m. Follows script y (own m (entry_of h s a r ∷ h))) e
-        (subst (λ v. Follows script v (own s (entry_of h s a r ∷ h))) (sym (placed_here s n xs y z l p e)) (subst (λ m. Follows script z m) (sym (own_self h s a r)) f))
-    follow n y p live (inr q) = subst (λ m. Follows script y m) (sym (own_other h s n a r q)) (w.follow n y (placed_there s n xs y z p q) live)
-
--- and with no entry, where the one at s, which is now z, follows what it followed
+-- the sessions of a run with no entry, where the one at s, which is now z, follows what it followed
 pub sessions_same : (script : Script) (h : Journal) (s : ℕ) (xs : List Session) (y z : Session) → AreSessions script h xs → slice_get xs s ≡ Some y → number_of z ≡ number_of y →
     is_killed z ≡ is_killed y → ((mine : Journal) → Follows script y mine → Follows script z mine) → AreSessions script h (slice_set xs s z)
 sessions_same script h s xs y z w v k d f = record {

@@ -2,7 +2,6 @@ pub mod Stored
 pub mod Served
 pub mod Brought
 pub mod OwnServed
-pub mod Allowed
 pub mod Begun
 pub mod Ready
 pub mod Going

@@ -13,10 +13,12 @@ use Rattle.hib_session.specs.declared.session.Session.{Session}
 use Rattle.hib_session.specs.Session.{Follows, IsTaken, number_of, is_killed, left_in}
 use Rattle.hib_core.specs.declared.turns.Stepped.{Stepped}
 use Rattle.hib_core.specs.Standing.{Origin, PartsState, IsStill, IsAskedFor, entry_of}
-use Rattle.hib_core.specs.Factory.{AreSessions, IsRun, IsAsked, IsAskedOnceMore, IsTurn, Answers, Serves, Leaves, Moves, Does, IsOver, left_or}
+use Rattle.hib_session.specs.Sessions.{AreSessions}
+use Rattle.hib_core.specs.Factory.{IsRun, IsAsked, IsAskedOnceMore, IsTurn, Answers, Serves, Leaves, Moves, Does, IsOver, left_or}
 use Rattle.hib_core.specs.Bound.{outside_count}
 use Rattle.hib_core.proofs.Short.{inside_same}
-use Rattle.hib_core.proofs.Going.{run_still, sessions_step, sessions_same}
+use Rattle.hib_session.proofs.Together.{sessions_step}
+use Rattle.hib_core.proofs.Going.{run_still, sessions_same}
 
 pub brings_so : (b : Bool) → (b ≡ false → ⊥) → b ≡ true
 brings_so true f = refl
@@ -124,8 +126,9 @@ turned {E = X} script from s (Ok Stepped.Did) h new x w xs y z run all p k d did
     by_move : Moves script from h new x w y z → Turned {E = X} script from s (Ok Stepped.Did) h new x w xs (slice_set xs s z)
     by_move m = record {
       run = m.served.run;
-      sessions = sessions_step script h new s m.act m.served.answer xs z (m.served.grown ∙ ap (λ n. entry_of h n m.act m.served.answer ∷ h) here) all within (k ∙ here) (d ∙ all.killed s y p)
-          m.inside (subst (λ n. Follows script z (entry_of h n m.act m.served.answer ∷ own n h)) here m.served.follows);
+      sessions = subst (λ j. AreSessions script j (slice_set xs s z)) (sym (m.served.grown ∙ ap (λ n. entry_of h n m.act m.served.answer ∷ h) here))
+          (sessions_step script h s (entry_of h s m.act m.served.answer) xs z refl all within (k ∙ here) (d ∙ all.killed s y p)
+          m.inside (subst (λ n. Follows script z (entry_of h n m.act m.served.answer ∷ own n h)) here m.served.follows));
       did = λ e. record {
         entry = entry_of h (number_of y) m.act m.served.answer;
         by = ap Some here;

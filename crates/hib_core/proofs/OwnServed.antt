@@ -10,13 +10,13 @@ use Rattle.hib_journal.specs.Legal.{set_unless, row_of}
 use Rattle.hib_journal.specs.Lists.{entry_at, IsLate}
 use Rattle.hib_journal.specs.Runs.{is_fault, asks}
 use Rattle.hib_session.specs.Session.{own_reply}
-use Rattle.hib_engines.specs.Registry.{Opened, without, IsRegistry}
+use Rattle.hib_engines.specs.Registry.{Opened, without, IsRegistry, own_after}
 use Rattle.hib_engines.specs.Region.{is_regional}
 use Rattle.hib_engines.specs.Laws.{Laws}
 use Rattle.hib_engines.specs.Served.{is_for}
 use Rattle.hib_engines.proofs.RegistryServed.{end_stands}
 use Rattle.hib_engines.proofs.Elsewhere.{registry_kept}
-use Rattle.hib_core.specs.Standing.{Origin, RoseWithin, entry_of, own_after, PartsState, IsReady, IsAnswered, IsAskedFor, IsStill}
+use Rattle.hib_core.specs.Standing.{Origin, RoseWithin, entry_of, PartsState, IsReady, IsAnswered, IsAskedFor, IsStill}
 use Rattle.hib_core.specs.Factory.{IsTold}
 use Rattle.hib_core.proofs.Stored.{reply_any, own_is}
 use Rattle.hib_core.proofs.Served.{AreKept, kept, parts_of, late, still_same}

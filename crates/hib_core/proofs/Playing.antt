@@ -14,8 +14,8 @@ use Rattle.hib_journal.specs.Next.{next, blocks}
 use Rattle.hib_journal.specs.Played.{has_next, play_steps, play_order, play_orders, play_sessions, is_played}
 use Rattle.hib_core.specs.Factory.{Does, IsOver}
 use Rattle.hib_core.specs.Playing.{Play, played, play_all, play_script, GoesOn, Leads}
-use Rattle.hib_core.proofs.Stored.{self_by}
-use Rattle.hib_core.proofs.Going.{killed_same}
+use Rattle.hib_engines.proofs.Bridge.{self_by}
+use Rattle.hib_journal.proofs.Open.{killed_same}
 
 pub leads_none : (all left : Play) (h : Journal) → ((rest : Journal) → all h rest ≡ left h rest) → Leads all left h h
 leads_none all left h f = record { added = []; grown = refl; plays = f }

@@ -1,11 +1,9 @@
 -- The parts stand for the journal with one more entry.
-use Rattle.std.proofs.Common.{◌≡◌, ◌≢◌, ℕ, suc, ◌+◌, ◌≤◌, ◌<◌, ◌==◌, Bool, true, false, List, [], ◌∷◌, length, get_or, Some, None, Option, Result, Ok, Err, IfOk, OnOk, refl, sym, ap, ◌∙◌, subst, arith, inl, inr}
-use Rattle.std.proofs.lemmas.Bool.{true≢false, false≢true, eqb-true}
-use Rattle.std.proofs.lemmas.List.{get_or-set_same, get_or-set_other, length-set}
-use Rattle.std.proofs.lemmas.Option.{unwrap_or-slice_get, slice_get_past, slice_get-get_or}
-use Rattle.std.specs.Prelude.{slice_get, slice_set, unwrap_or, cond}
+use Rattle.std.proofs.Common.{◌≡◌, ◌≢◌, ℕ, suc, ◌+◌, ◌≤◌, ◌==◌, Bool, true, false, List, [], ◌∷◌, length, Some, None, Option, Result, Ok, Err, IfOk, OnOk, refl, sym, ap, ◌∙◌, subst, arith, inl, inr}
+use Rattle.std.proofs.lemmas.Bool.{true≢false, false≢true}
+use Rattle.std.specs.Prelude.{cond}
 use Rattle.hib_base.proofs.Tables.{Tested, tested}
-use Rattle.hib_journal.specs.Types.{Strategy, Script, Part, Act, Reply, Entry}
+use Rattle.hib_journal.specs.Types.{Script, Part, Act, Reply, Entry}
 use Rattle.hib_journal.specs.Sessions.{Journal, own, is_restart, last_tick, same_part}
 use Rattle.hib_journal.specs.Next.{strategy}
 use Rattle.hib_journal.specs.Slot.{key_in}
@@ -22,67 +20,16 @@ use Rattle.hib_engines.specs.Served.{is_for, IsServed}
 use Rattle.hib_engines.specs.Stamps.{AreStamps}
 use Rattle.hib_engines.specs.Results.{AreResults}
 use Rattle.hib_engines.specs.Store.{IsStoreServed}
-use Rattle.hib_engines.proofs.Regions.{uncached_not, apart, is_read_write, is_read_only, is_nonstrict}
-use Rattle.hib_engines.proofs.Grows.{regional_part}
 use Rattle.hib_engines.proofs.RegionServed.{named}
 use Rattle.hib_engines.proofs.StampsServed.{stamps_stay}
 use Rattle.hib_engines.proofs.ResultsServed.{results_stay}
 use Rattle.hib_engines.proofs.Stored.{store_stays}
 use Rattle.hib_engines.proofs.Elsewhere.{registry_kept, region_kept}
-use Rattle.hib_core.specs.Standing.{Origin, RoseBy, RoseWithin, entry_of, IsStore, or_uncached, region_of, IsAtRegion, PartsState, AreParts, IsStill, IsReady, IsAnswered, IsAskedFor}
-use Rattle.hib_core.proofs.Stored.{self_by, store_of, store_still, bridged_own, inside_stops, rose_more, rose_if, reply_any, reply_stored, asks_same, deferred_of}
-
--- the regions by entity
-
-or_is : (o : Option Region) → or_uncached o ≡ unwrap_or o Region.Uncached
-or_is None = refl
-or_is (Some x) = refl
-
-region_is : (xs : List Region) (n : ℕ) → region_of xs n ≡ get_or xs n Region.Uncached
-region_is xs n = or_is (slice_get xs n) ∙ unwrap_or-slice_get xs n Region.Uncached
-
-pub region_same : (xs : List Region) (n : ℕ) (y : Region) → n < length xs → region_of (slice_set xs n y) n ≡ y
-region_same xs n y l = region_is (slice_set xs n y) n ∙ get_or-set_same xs n y Region.Uncached l
-
-pub region_other : (xs : List Region) (n m : ℕ) (y : Region) → m ≢ n → region_of (slice_set xs n y) m ≡ region_of xs m
-region_other xs n m y d = region_is (slice_set xs n y) m ∙ (get_or-set_other xs n m y Region.Uncached d ∙ sym (region_is xs m))
-
-pub none_past : (xs : List Region) (n : ℕ) → length xs ≤ n → region_of xs n ≡ Region.Uncached
-none_past xs n l = ap or_uncached (slice_get_past xs n l)
-
--- a region at its place
-pub region_at : (xs : List Region) (n : ℕ) (y : Region) → n < length xs → y ≡ get_or xs n y → region_of xs n ≡ y
-region_at xs n y l v = ap or_uncached (slice_get-get_or xs n y l ∙ ap Some (sym v))
-
-pub region_put : (xs : List Region) (i n : ℕ) (y : Region) → i ≡ n → i < length xs → region_of (slice_set xs i y) n ≡ y
-region_put xs i n y e l = subst (λ j. region_of (slice_set xs i y) j ≡ y) e (region_same xs i y l)
-
-pub at_region : (xs : List Region) (n : ℕ) (y : Region) → IsAtRegion n xs (slice_set xs n y)
-at_region xs n y = record { all = length-set xs n y; others = λ m d. region_other xs n m y (λ e. true≢false (sym (self_by n) ∙ (ap (λ i. n == i) (sym e) ∙ d))) }
-
-pub at_none : (xs : List Region) (n : ℕ) → IsAtRegion n xs xs
-at_none xs n = record { all = refl; others = λ m d. refl }
-
--- an act of a region is due on no entity that is uncached
-unsuited : (g : Strategy) (a : Act) → is_regional a ≡ true → g ≡ Strategy.Uncached → Suits g a → ⊥
-unsuited g (Act.Get k t) r p u = uncached_not g p u
-unsuited g (Act.Put k row t f) r p u = uncached_not g p u
-unsuited g (Act.Lock k v f) r p u = apart is_read_write g Strategy.Uncached Strategy.ReadWrite p u refl refl
-unsuited g (Act.Unlock k i) r p u = apart is_read_write g Strategy.Uncached Strategy.ReadWrite p u refl refl
-unsuited g (Act.AfterInsert k row f) r p (inl u) = apart is_read_only g Strategy.Uncached Strategy.ReadOnly p u refl refl
-unsuited g (Act.AfterInsert k row f) r p (inr u) = apart is_read_write g Strategy.Uncached Strategy.ReadWrite p u refl refl
-unsuited g (Act.AfterUpdate k i row) r p u = apart is_read_write g Strategy.Uncached Strategy.ReadWrite p u refl refl
-unsuited g (Act.RegionRemove k) r p (inl u) = apart is_read_only g Strategy.Uncached Strategy.ReadOnly p u refl refl
-unsuited g (Act.RegionRemove k) r p (inr u) = apart is_nonstrict g Strategy.Uncached Strategy.Nonstrict p u refl refl
-unsuited g (Act.Evict k) r p u = uncached_not g p u
-unsuited g _ r p u = false≢true r
-
-pub none_due : (script : Script) (l : Journal) (n : ℕ) (a : Act) (x : Region) → x ≡ Region.Uncached → IsPlaced script n l x → entity_in a ≡ Some n → Suits (strategy script n) a → ⊥
-none_due script l n a x e k i u = unsuited (strategy script n) a (named (key_in a) n i).0 (subst (λ z. IsPlaced script n l z) e k) u
-
-pub on_ok : {T E : Type 0} (r : Result T E) (P : Type 0) → P → OnOk r P
-on_ok (Ok t) P p = p
-on_ok (Err e) P p = tt
+use Rattle.hib_engines.specs.Regions.{region_of, IsAtRegion}
+use Rattle.hib_core.specs.Standing.{Origin, RoseBy, RoseWithin, entry_of, IsStore, PartsState, AreParts, IsStill, IsReady, IsAnswered, IsAskedFor}
+use Rattle.hib_engines.proofs.Bridge.{self_by, bridged_own, inside_stops, deferred_of}
+use Rattle.hib_engines.proofs.RegionList.{no_region, of_region, regions_at}
+use Rattle.hib_core.proofs.Stored.{store_of, store_still, rose_more, rose_if, reply_any, reply_stored, asks_same}
 
 pub three_ok : {T E : Type 0} (r : Result T E) (P R : T → Type 0) (S : Type 0) (Q : T → Type 0) → IfOk r P → IfOk r R → OnOk r S → ((t : T) → P t → R t → S → Q t) → IfOk r Q
 three_ok (Ok t) P R S Q p q s f = f t p q s
@@ -137,28 +84,13 @@ pub record AreKept (script : Script) (from : Origin) (h : Journal) (s : ℕ) (a 
 pub kept : Laws → (script : Script) (from : Origin) (h : Journal) (s : ℕ) (a : Act) (r : Reply) (x : PartsState) → IsReady script from h s a x → AreKept script from h s a r x
 kept l script from h s a r x k = record {
   store = λ p f. store_of from (entry_of h s a r ∷ h) x.store (store_stays from.tables h (Some s) (length h + 1) a r x.store k.parts.store.stands p (inside_stops a k.due.inside))
-      (bridged_own script h s a r k.parts.store.bridged k.live k.due)
+      (bridged_own script h s (length h + 1) a r k.parts.store.bridged k.live k.due)
       (rose_more from.faults (fault_count h) x.store.faults (cond (is_fault r) 1 0) x.store.faults k.parts.store.faults (rw f (omega arith)));
   registry = λ p. registry_kept h (Some s) (length h + 1) a r x.registry k.parts.registry p;
   stamps = λ p. stamps_stay l script h (Some s) (length h + 1) a r x.stamps (stamps_in script from h x k.parts) p (not_outside a k.due.inside);
   regions = λ n d. region_kept l script h n (Some s) (length h + 1) a r (region_of x.regions n) (k.parts.regions n) d (not_outside a k.due.inside);
   results = λ p. results_stay l script h (Some s) (length h + 1) a r x.results (results_in script from h x k.parts) p (not_outside a k.due.inside);
 }
-
--- an act that is of no region
-no_region : (a : Act) (s : ℕ) (p : Part) → part_of a s ≡ p → ((n : ℕ) → same_part p (Part.Region n) ≡ false) → is_regional a ≡ true → ⊥
-no_region a s p e f t = true≢false (sym (same (acts_on a)) ∙ f (acts_on a))
-  where
-    same : (n : ℕ) → same_part p (Part.Region (acts_on a)) ≡ true
-    same n = sym (ap (λ q. same_part p q) (regional_part a s t)) ∙ (ap (λ q. same_part p q) e ∙ self p f)
-      where
-        self : (p : Part) → ((n : ℕ) → same_part p (Part.Region n) ≡ false) → same_part p p ≡ true
-        self Part.Registry f = refl
-        self Part.Store f = refl
-        self Part.Stamps f = refl
-        self Part.Results f = refl
-        self (Part.Region n) f = absurd (true≢false (sym (self_by n) ∙ f n))
-        self (Part.Own n) f = self_by n
 
 regions_kept : Laws → (script : Script) (from : Origin) (h : Journal) (s : ℕ) (a : Act) (r : Reply) (x : PartsState) (ys : List Region) → AreKept script from h s a r x → (is_regional a ≡ true → ⊥) → ys ≡ x.regions →
     (n : ℕ) → IsPlaced script n (entry_of h s a r ∷ h) (region_of ys n)
@@ -172,7 +104,7 @@ pub store_answered : Laws → (script : Script) (from : Origin) (h : Journal) (s
 store_answered l script from h s now a r x y m k p v later fault b c d e = record {
   reply = reply_stored script from.tables h s (length h + 1) a r k.parts.store.bridged k.live k.due.stored (ap (same_part Part.Store) p) v.reply;
   parts = parts_of script from (entry_of h s a r ∷ h) y
-      (store_of from (entry_of h s a r ∷ h) y.store v.stands (bridged_own script h s a r k.parts.store.bridged k.live k.due)
+      (store_of from (entry_of h s a r ∷ h) y.store v.stands (bridged_own script h s (length h + 1) a r k.parts.store.bridged k.live k.due)
       (rose_more from.faults (fault_count h) x.store.faults (cond (is_fault r) 1 0) y.store.faults k.parts.store.faults (rose_if r x.store.faults y.store.faults later fault)))
       (subst (λ z. IsRegistry z (entry_of h s a r ∷ h)) (sym b) (w.registry (ap (same_part Part.Registry) p)))
       (subst (λ z. AreStamps script (entry_of h s a r ∷ h) z) (sym c) (w.stamps (ap (same_part Part.Stamps) p)))
@@ -253,30 +185,6 @@ results_answered l script from h s now a r x y m k p served f b c d e = record {
 
     v : IsServed (λ m. AreResults script m y.results) script h (Some s) (length h + 1) a r
     v = subst (λ n. IsServed (λ m. AreResults script m y.results) script h (Some s) n a r) m (served (results_in script from h x k.parts) (ap (same_part Part.Results) p) k.due.query)
-
--- an act that is of a region names a key of its entity
-region_key : (n k : ℕ) → Part.Region k ≡ Part.Region n → k ≡ n
-region_key n k e = cc
-
-pub of_region : (a : Act) (s n : ℕ) → part_of a s ≡ Part.Region n → entity_in a ≡ Some n
-of_region (Act.Get k t) s n p = ap Some (region_key n k.entity p)
-of_region (Act.Put k row t f) s n p = ap Some (region_key n k.entity p)
-of_region (Act.Lock k v f) s n p = ap Some (region_key n k.entity p)
-of_region (Act.Unlock k i) s n p = ap Some (region_key n k.entity p)
-of_region (Act.AfterInsert k row f) s n p = ap Some (region_key n k.entity p)
-of_region (Act.AfterUpdate k i row) s n p = ap Some (region_key n k.entity p)
-of_region (Act.RegionRemove k) s n p = ap Some (region_key n k.entity p)
-of_region (Act.Evict k) s n p = ap Some (region_key n k.entity p)
-of_region _ s n p = absurd (false≢true (ap (same_part (Part.Region n)) p ∙ self_by n))
-
--- the regions after an act of one of them
-pub regions_at : (script : Script) (g : Journal) (n : ℕ) (xs ys : List Region) → IsAtRegion n xs ys → IsPlaced script n g (region_of ys n) → ((m : ℕ) → (n == m) ≡ false → IsPlaced script m g (region_of xs m)) →
-    (m : ℕ) → IsPlaced script m g (region_of ys m)
-regions_at script g n xs ys w here there m = by_test (tested (n == m))
-  where
-    by_test : Tested (n == m) → IsPlaced script m g (region_of ys m)
-    by_test (inl p) = subst (λ i. IsPlaced script i g (region_of ys i)) (eqb-true n m p) here
-    by_test (inr p) = subst (λ z. IsPlaced script m g z) (sym (w.others m p)) (there m p)
 
 pub region_answered : Laws → (script : Script) (from : Origin) (h : Journal) (s now n : ℕ) (a : Act) (r : Reply) (x y : PartsState) → now ≡ length h + 1 → IsReady script from h s a x → part_of a s ≡ Part.Region n →
     (IsPlaced script n h (region_of x.regions n) → IsLate (Part.Region n) now h → entity_in a ≡ Some n → Suits (strategy script n) a →

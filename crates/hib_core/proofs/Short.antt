@@ -13,7 +13,7 @@ use Rattle.hib_journal.specs.Legal.{IsLegal, due, due_by}
 use Rattle.hib_session.specs.Bound.{most_entries}
 use Rattle.hib_core.specs.Bound.{outside_count, most_in, one_if_none}
 use Rattle.hib_core.specs.Standing.{outside_entry}
-use Rattle.hib_core.proofs.Stored.{self_by}
+use Rattle.hib_engines.proofs.Bridge.{self_by}
 use Rattle.hib_core.proofs.Playing.{unknown}
 
 abbrev Ordered : Type 0

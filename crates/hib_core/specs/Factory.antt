@@ -1,5 +1,5 @@
 -- What a factory keeps: its journal is legal, and its parts and sessions stand for it.
-use Rattle.std.specs.Prelude.{◌≡◌, ℕ, ◌+◌, ◌<◌, ◌^◌, Bool, true, false, ◌||◌, List, ◌∷◌, length, slice_get, Some, Option, None}
+use Rattle.std.specs.Prelude.{◌≡◌, ℕ, ◌+◌, ◌<◌, ◌^◌, Bool, true, false, List, ◌∷◌, length, slice_get, Some, Option, None}
 use Rattle.hib_base.specs.Fits.{is_identifier}
 use Rattle.hib_base.specs.Tables.{Tables}
 use Rattle.hib_journal.specs.Types.{Order, Script, Act, Reply, Entry}
@@ -13,9 +13,10 @@ use Rattle.hib_session.specs.declared.session.Session.{Session}
 use Rattle.hib_law.specs.Law.{Obeys}
 use Rattle.hib_listeners.specs.Told.{Told, AreTold}
 use Rattle.hib_outside.specs.Causes.{Rose}
+use Rattle.hib_session.specs.Sessions.{AreSessions}
 use Rattle.hib_session.specs.Session.{Follows, IsTaken, number_of, is_killed, own_reply, left_in}
-use Rattle.hib_journal.specs.Due.{is_asked}
-use Rattle.hib_core.specs.Standing.{Origin, RoseWithin, PartsState, AreParts, IsStill, IsDue, IsAnswered, IsAskedFor, entry_of}
+use Rattle.hib_engines.specs.Due.{HasQueries, IsDue}
+use Rattle.hib_core.specs.Standing.{Origin, RoseWithin, PartsState, AreParts, IsStill, IsAnswered, IsAskedFor, entry_of}
 
 -- the steps of a factory as contracts see them
 pub record CoreState : Type 0 where
@@ -32,17 +33,6 @@ pub record FactoryState : Type 0 where
   pub refused : Bool
   pub told : List Told
   pub deaf : Bool
-
--- the sessions of a script: killed where the journal says so, and else each as far as its own entries
-pub record AreSessions (script : Script) (h : Journal) (sessions : List Session) : Type 0 where
-  pub all : length sessions ≡ length script.sessions
-  pub numbers : (s : ℕ) (y : Session) → slice_get sessions s ≡ Some y → number_of y ≡ s
-  pub killed : (s : ℕ) (y : Session) → slice_get sessions s ≡ Some y → is_killed y ≡ was_killed s h
-  pub follow : (s : ℕ) (y : Session) → slice_get sessions s ≡ Some y → was_killed s h ≡ false → Follows script y (own s h)
-
--- a session asks queries of the script alone
-abbrev pub HasQueries : Script → Type 0
-HasQueries script = (s q : ℕ) → is_asked script s q ≡ true → q < length script.queries
 
 -- an order evicts rows of cached entities alone, and names them by an identifier
 abbrev pub IsSound : Script → Order → Type 0

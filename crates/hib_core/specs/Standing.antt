@@ -1,23 +1,24 @@
 -- What a factory stands for: its parts are those that its journal's definitions give.
-use Rattle.std.specs.Prelude.{◌≡◌, ℕ, ◌+◌, ◌==◌, false, true, cond, List, [], ◌∷◌, length, slice_get, Some, None, Option}
+use Rattle.std.specs.Prelude.{◌≡◌, ℕ, ◌+◌, false, cond, List, [], ◌∷◌, length, Some, None, Option}
 use Rattle.std.specs.Option.{option_map}
 use Rattle.hib_base.specs.Start.{start}
 use Rattle.hib_base.specs.Tables.{Tables}
 use Rattle.hib_journal.specs.Types.{Script, Act, Reply, Entry}
-use Rattle.hib_journal.specs.Sessions.{Journal, own, is_open, is_begun, was_killed, changes_in, deferred, committed}
-use Rattle.hib_journal.specs.Held.{is_begin}
-use Rattle.hib_journal.specs.Next.{strategy}
-use Rattle.hib_journal.specs.Legal.{IsReply, is_outside}
-use Rattle.hib_journal.specs.Lists.{entry_at, unsaved, stored}
+use Rattle.hib_journal.specs.Sessions.{Journal, own, was_killed, changes_in, deferred}
+use Rattle.hib_journal.specs.Legal.{IsReply}
+use Rattle.hib_journal.specs.Lists.{entry_at}
 use Rattle.hib_journal.specs.Runs.{IsNumbered, told_committed, asks, fault_count}
 use Rattle.hib_store.specs.Stores.{StoreState, changes_of}
 use Rattle.hib_update_stamps.specs.Standing.{IsStamps}
 use Rattle.hib_query_cache.specs.Ranked.{Ranked}
 use Rattle.hib_query_cache.specs.Standing.{IsResults}
 use Rattle.hib_engines.specs.declared.region.Region.{Region}
-use Rattle.hib_engines.specs.Registry.{Opened, without, IsRegistry}
-use Rattle.hib_engines.specs.Region.{acts_on, emptied, IsPlaced, Suits}
+use Rattle.hib_engines.specs.Registry.{IsRegistry}
+use Rattle.hib_engines.specs.Region.{IsPlaced}
 use Rattle.hib_engines.specs.Store.{IsStored, IsCounted}
+use Rattle.hib_engines.specs.Regions.{region_of}
+use Rattle.hib_engines.specs.Bridged.{IsBridged}
+use Rattle.hib_engines.specs.Due.{IsDue}
 pub use Rattle.hib_engines.specs.Counts.{RoseBy, RoseWithin}
 pub use Rattle.hib_engines.specs.Served.{AreWithin, HasQuery}
 
@@ -40,12 +41,6 @@ entry_of h s a r = entry_at (length h + 1) (Some s) a r
 abbrev pub outside_entry : Journal → Act → Reply → Entry
 outside_entry h a r = entry_at (length h + 1) None a r
 
--- what the store stores and defers is what the sessions commit and write; a session that is closed has nothing deferred
-pub record IsBridged (h : Journal) : Type 0 where
-  pub rows : (start : Tables) → stored start h ≡ committed start h
-  pub changes : (n : ℕ) → unsaved n h ≡ cond (was_killed n h) [] (deferred (own n h))
-  pub closed : (n : ℕ) → was_killed n h ≡ false → is_open n h ≡ false → deferred (own n h) ≡ []
-
 -- the store stands for the journal: its rows are the committed ones, it defers what the sessions that live have not committed yet,
 -- and its keeper has failed as often as the journal says
 pub record IsStore (from : Origin) (h : Journal) (store : StoreState) : Type 0 where
@@ -54,29 +49,6 @@ pub record IsStore (from : Origin) (h : Journal) (store : StoreState) : Type 0 w
   pub rows : store.tables ≡ told_committed from.tables h
   pub changes : (n : ℕ) → changes_of store n ≡ cond (was_killed n h) [] (deferred (own n h))
   pub faults : RoseBy from.faults (fault_count h) store.faults
-
--- the region of an entity; none is uncached
-abbrev pub or_uncached : Option Region → Region
-or_uncached None = Region.Uncached
-or_uncached (Some x) = x
-
-abbrev pub region_of : List Region → ℕ → Region
-region_of xs n = or_uncached (slice_get xs n)
-
--- no region but that of entity n has changed
-pub record IsAtRegion (n : ℕ) (xs ys : List Region) : Type 0 where
-  pub all : length ys ≡ length xs
-  pub others : (m : ℕ) → (n == m) ≡ false → region_of ys m ≡ region_of xs m
-
--- each region is emptied
-pub record AreEmptied (xs ys : List Region) : Type 0 where
-  pub all : length ys ≡ length xs
-  pub each : (n : ℕ) → region_of ys n ≡ emptied (region_of xs n)
-
--- what an act of a session's own leaves of the open sessions
-abbrev pub own_after : ℕ → Act → Opened → Opened
-own_after s Act.End ps = without s ps
-own_after s _ ps = ps
 
 -- the parts of a factory
 pub record PartsState : Type 0 where
@@ -103,24 +75,6 @@ pub record IsStill (x y : PartsState) : Type 0 where
   pub stamps : y.stamps ≡ x.stamps
   pub regions : y.regions ≡ x.regions
   pub results : y.results ≡ x.results
-
--- the store's list is that of the transaction
-abbrev pub AreStored : Journal → Act → Type 0
-AreStored mine (Act.Load k) = deferred mine ≡ changes_in mine
-AreStored mine (Act.List q) = deferred mine ≡ changes_in mine
-AreStored mine Act.Commit = deferred mine ≡ changes_in mine
-AreStored mine _ = Unit {0}
-
--- what is known of the act that is due in a session with these entries
-pub record IsDue (script : Script) (mine : Journal) (a : Act) : Type 0 where
-  pub begins : is_begin a ≡ true → is_begun mine ≡ false
-  pub within : is_begin a ≡ false → is_begun mine ≡ true
-  pub ends : a ≡ Act.End → deferred mine ≡ []
-  pub stored : AreStored mine a
-  pub known : AreWithin (length script.mapping) a
-  pub suits : Suits (strategy script (acts_on a)) a
-  pub inside : is_outside a ≡ false
-  pub query : HasQuery script a
 
 -- an act was answered: with the reply that is due, and the parts stand for the journal with its entry
 pub record IsAnswered (script : Script) (from : Origin) (h : Journal) (s : ℕ) (a : Act) (r : Reply) (y : PartsState) : Type 0 where

@@ -1,5 +1,5 @@
 // How long a run is at most.
-ghost use Rattle.std.specs.Prelude.{◌≡◌, ◌≤◌, ◌+◌, ◌*◌, ℕ, Option, Some, length, slice_get};
+ghost use Rattle.std.specs.Prelude.{◌≡◌, ◌≤◌, ◌+◌, ℕ, Option, Some, length, slice_get};
 ghost use Rattle.hib_base.specs.Tables.{Tables};
 ghost use Rattle.hib_journal.specs.Types.{Script, SessionDef};
 ghost use Rattle.hib_journal.specs.Sessions.{Journal};

@@ -15,7 +15,8 @@ ghost use Rattle.hib_core.specs.Standing.{RoseBy, RoseWithin, IsStill, told_star
 ghost use Rattle.hib_outside.specs.Causes.{Rose};
 ghost use Rattle.hib_store.specs.Stores.{handed_back, is_store_fault};
 ghost use Rattle.hib_core.specs.Bound.{most_in, outside_count};
-ghost use Rattle.hib_core.specs.Factory.{AreSessions, Does, IsOver, IsAskedOnceMore, AreOver, IsSound, Hears};
+ghost use Rattle.hib_session.specs.Sessions.{AreSessions};
+ghost use Rattle.hib_core.specs.Factory.{Does, IsOver, IsAskedOnceMore, AreOver, IsSound, Hears};
 ghost use Rattle.hib_core.specs.Playing.{played, play_all, play_script, GoesOn, Leads, AreNamed};
 ghost use Rattle.hib_listeners.specs.Told.{Told, tells, AreTold};
 ghost use Rattle.hib_listeners.specs.Heard.{HaveHeard};

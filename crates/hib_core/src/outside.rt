@@ -7,7 +7,8 @@ ghost use Rattle.hib_journal.specs.Sessions.{is_open};
 ghost use Rattle.hib_journal.specs.Played.{play_order};
 ghost use Rattle.hib_core.specs.Standing.{outside_entry};
 ghost use Rattle.hib_core.specs.Bound.{outside_count};
-ghost use Rattle.hib_core.specs.Factory.{IsRun, IsAsked, AreSessions, HasGrown};
+ghost use Rattle.hib_session.specs.Sessions.{AreSessions};
+ghost use Rattle.hib_core.specs.Factory.{IsRun, IsAsked, HasGrown};
 ghost use Rattle.hib_core.specs.Playing.{played, Leads};
 ghost use Rattle.hib_session.specs.declared.session.Session.{Session};
 

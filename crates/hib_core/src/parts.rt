@@ -13,10 +13,14 @@ ghost use Rattle.hib_session.specs.Memory.{brings};
 ghost use Rattle.hib_session.specs.Session.{own_reply};
 ghost use Rattle.hib_engines.specs.Region.{entity_in, IsPlaced, Suits};
 ghost use Rattle.hib_engines.specs.Served.{IsServed, AreWithin, reads};
-ghost use Rattle.hib_core.specs.Standing.{Origin, region_of, own_after, outside_entry, AreParts, IsAtRegion, IsStill, IsReady, IsAnswered, IsAskedFor, AreEmptied};
+ghost use Rattle.hib_engines.specs.Regions.{region_of, IsAtRegion};
+ghost use Rattle.hib_engines.specs.Registry.{own_after};
+ghost use Rattle.hib_core.specs.Standing.{Origin, outside_entry, AreParts, IsStill, IsReady, IsAnswered, IsAskedFor};
 
 use hib_base::{Act, EntityNo, Part, Reply, Script, SessionNo, Tick};
-use hib_engines::{Region, Registry, ResultsEngine, StampsEngine, StoreEngine, laws};
+use hib_engines::{
+    Region, Registry, ResultsEngine, StampsEngine, StoreEngine, laws, restart_regions, serve_region,
+};
 use hib_journal::part_of;
 use hib_outside::Keeper;
 use std::alloc::{AllocError, Global};
@@ -37,40 +41,6 @@ impl<K: Keeper> Model for Parts<K> {
     ghost Value = { PartsState };
 
     ghost view = { λ p. record { store = p.store; registry = p.registry; stamps = p.stamps; regions = p.regions.items; results = p.results } };
-}
-
-/// Each region drops all that it holds.
-fn restart_all(regions: &mut Vec<Region>)
-    ensures { AreEmptied regions.old.items regions.new.items }
-{
-    for at in 0..regions.len() {
-        regions[at].restart();
-    }
-}
-
-/// The answer of the region of an entity; one that has no region is uncached.
-fn serve_region(
-    alloc: Global,
-    regions: &mut Vec<Region>,
-    entity: EntityNo,
-    act: &Act,
-    now: Tick,
-) -> Result<Reply, AllocError>
-    requires { now ≤ 2 ^ 62 }
-    ensures answered { IfOk result (λ r. (script : Said) (l : Journal) (by : Option ℕ) → IsPlaced script entity l (region_of regions.old.items entity) → IsLate (Part.Region entity) now l
-        → entity_in act.now ≡ Some entity → Suits (strategy script entity) act.now
-        → IsServed (λ m. IsPlaced script entity m (region_of regions.new.items entity)) script l by now act.now r) }
-    ensures others { OnOk result (IsAtRegion entity regions.old.items regions.new.items) }
-    ensures calm { IfOk result (λ r. is_fault r ≡ false) }
-    ensures still { OnOk result (reads act.now ≡ true → regions.new.items ≡ regions.old.items) }
-    ensures err { OnErr result (regions.new.items ≡ regions.old.items) }
-{
-    let at = entity.0 as usize;
-    if at < regions.len() {
-        return regions[at].serve(alloc, act, now);
-    }
-    // No act is due on an entity that isn't cached.
-    Ok(Reply::Done)
 }
 
 impl<K: Keeper> Parts<K> {
@@ -96,7 +66,7 @@ impl<K: Keeper> Parts<K> {
         self.store.restart();
         self.registry.restart();
         self.stamps.restart();
-        restart_all(&mut self.regions);
+        restart_regions(&mut self.regions);
         self.results.restart();
     }
 

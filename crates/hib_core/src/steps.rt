@@ -14,21 +14,22 @@ ghost use Rattle.hib_core.specs.Standing.{RoseBy, RoseWithin, IsStill, told_star
 ghost use Rattle.hib_outside.specs.Causes.{Rose};
 ghost use Rattle.hib_store.specs.Stores.{handed_back, is_store_fault};
 ghost use Rattle.hib_core.specs.Bound.{most_in, outside_count};
-ghost use Rattle.hib_core.specs.Factory.{AreSessions, Does, IsOver, IsAsked, IsAskedOnceMore, IsSound, HasGrown};
+ghost use Rattle.hib_session.specs.Sessions.{AreSessions};
+ghost use Rattle.hib_core.specs.Factory.{Does, IsOver, IsAsked, IsAskedOnceMore, IsSound, HasGrown};
 ghost use Rattle.hib_core.specs.Playing.{played, Leads};
 
 use crate::bounds::runs_are_short;
 use crate::names::Name;
-use crate::opening::{open_regions, open_sessions, ready};
+use crate::opening::ready;
 use crate::outside::{self, opened};
 use crate::parts::Parts;
 use crate::turns::{Stepped, has_turn, turn};
 use hib_base::{Key, Order, Script, SessionNo};
-use hib_engines::{Registry, ResultsEngine, StampsEngine, StoreEngine, laws};
+use hib_engines::{Registry, ResultsEngine, StampsEngine, StoreEngine, laws, open_regions};
 use hib_journal::Journal;
 use hib_law::law;
 use hib_outside::Keeper;
-use hib_session::Session;
+use hib_session::{Session, open_all};
 use hib_store::OpenFault;
 use std::alloc::{AllocError, Global};
 use std::marker::{Model, PhantomData};
@@ -81,7 +82,7 @@ impl<K: Keeper, N: Name> Core<K, N> {
         let Ok(results) = ResultsEngine::open(alloc, script.results) else {
             return Err(OpenFault::NoMemory(keeper));
         };
-        let Ok(sessions) = open_sessions(alloc, &script) else {
+        let Ok(sessions) = open_all(alloc, &script) else {
             return Err(OpenFault::NoMemory(keeper));
         };
         let entities = script.mapping.len() as u16;

@@ -1,5 +1,5 @@
 // One turn of a session: the act that is due is answered by the session or by a part, and its entry is added.
-ghost use Rattle.std.specs.Prelude.{ℕ, ◌≡◌, ◌≢◌, ◌∷◌, ◌<◌, ◌≤◌, ◌^◌, ◌+◌, ◌==◌, List, length, slice_get, is_some, IfOk, OnOk, OnErr, IsOk, Ok, None, false, true, IfSome};
+ghost use Rattle.std.specs.Prelude.{ℕ, ◌≡◌, ◌≢◌, ◌∷◌, ◌<◌, ◌≤◌, ◌^◌, ◌+◌, ◌==◌, length, slice_get, is_some, IfOk, OnOk, OnErr, IsOk, Ok, None, false, true, IfSome};
 ghost use Rattle.hib_base.specs.declared.entries.Entry.{Entry};
 ghost use Rattle.hib_journal.specs.Kept.{past};
 ghost use Rattle.hib_journal.specs.Sessions.{Journal as Past, own, was_killed};
@@ -9,10 +9,12 @@ ghost use Rattle.hib_journal.specs.Runs.{is_fault};
 ghost use Rattle.hib_outside.specs.Causes.{Rose};
 ghost use Rattle.hib_session.specs.Memory.{brings};
 ghost use Rattle.hib_session.specs.Session.{Follows, IsTaken, number_of, is_killed, is_ready, left_in};
-ghost use Rattle.hib_core.specs.Standing.{Origin, IsStill, IsDue, IsReady, entry_of};
+ghost use Rattle.hib_engines.specs.Due.{IsDue, HasQueries};
+ghost use Rattle.hib_core.specs.Standing.{Origin, IsStill, IsReady, entry_of};
 ghost use Rattle.hib_engines.specs.Served.{AreWithin};
 ghost use Rattle.hib_core.specs.Bound.{outside_count};
-ghost use Rattle.hib_core.specs.Factory.{IsTold, IsRun, IsAsked, IsMember, IsTurn, Answers, Serves, Leaves, Moves, AreSessions, Does, IsOver, HasQueries};
+ghost use Rattle.hib_session.specs.Sessions.{AreSessions};
+ghost use Rattle.hib_core.specs.Factory.{IsTold, IsRun, IsAsked, IsMember, IsTurn, Answers, Serves, Leaves, Moves, Does, IsOver};
 
 use crate::names::Name;
 use crate::parts::Parts;

@@ -9,7 +9,7 @@ use Rattle.hib_journal.specs.Regions as Regions
 use Rattle.hib_journal.specs.Next.{strategy, capacity}
 use Rattle.hib_journal.specs.Legal.{part_of}
 use Rattle.hib_room_laws.specs.Elsewhere.{IsElsewhere, last_of, is_of}
-use Rattle.hib_other_regions.specs.Items.{ItemsState, item_in, oldest_in}
+use Rattle.hib_other_regions.specs.Items.{ItemsState, item_in}
 use Rattle.hib_other_regions.specs.Items as Items
 use Rattle.hib_other_regions.specs.Laws as ItemLaws
 use Rattle.hib_rw_region.specs.Region.{RegionState, slot_in, room_in}

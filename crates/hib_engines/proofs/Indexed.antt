@@ -1,17 +1,17 @@
 -- The registry's two maps: the sessions by their times, and the times by their sessions.
-use Rattle.std.proofs.Common.{◌≡◌, ◌↔◌, ℕ, zero, suc, ◌≤◌, ◌<◌, Bool, true, false, cond, ◌||◌, ◌==◌, nat_eq, nat_lt, List, [], ◌∷◌, ◌++◌, map, slice_get, Some, None, Option, IsTrue, is_some, refl, sym, ap, ◌∙◌, subst, inl, inr}
-use Rattle.std.proofs.lemmas.Bool.{true≢false, false≢true, eqb-true, eq-eqb, ne_eqb}
+use Rattle.std.proofs.Common.{◌≡◌, ◌↔◌, ℕ, zero, suc, ◌≤◌, ◌<◌, Bool, true, false, cond, ◌==◌, nat_eq, nat_lt, List, [], ◌∷◌, ◌++◌, slice_get, Some, None, IsTrue, is_some, refl, sym, ap, ◌∙◌, subst, inl, inr}
+use Rattle.std.proofs.lemmas.Bool.{true≢false, eqb-true, eq-eqb, ne_eqb}
 use Rattle.std.specs.Cmp.{nat_cmp_is}
 use native.Mathlib.Omega.{arith}
 use Rattle.std.proofs.lemmas.Bool.Decides.{nat_tests}
-use Rattle.std.specs.Ordering.{nat_cmp, match_ordering, is_eq, is_lt}
+use Rattle.std.specs.Ordering.{nat_cmp, is_lt}
 use Rattle.std.specs.List.{list_any, All}
 use Rattle.std.specs.Map.{lookup, keys_of, remove_entry}
 use Rattle.std.specs.BTreeMap.{insert_entry, is_at}
 use Rattle.std.specs.declared.cmp.Ordering.{Ordering}
 use Rattle.hib_base.proofs.Tables.{Tested, tested}
 use Rattle.hib_engines.specs.Registry.{Opened, Each, AreRising, AreApart, IsIndexed, by_session, floor_in, holds, without, time_of}
-use Rattle.hib_engines.proofs.Opened.{none_some, same_some, self_eq, found, held_time, time_of-append, time_of-front, time_of-without, each_without, each_more, rising_without, rising_more}
+use Rattle.hib_engines.proofs.Opened.{none_some, same_some, self_eq, found, held_time, time_of-append, time_of-front, time_of-without, each_without, rising_without, rising_more}
 
 -- ---- sessions that stand once
 

@@ -11,3 +11,6 @@ pub mod StampsServed
 pub mod ResultsServed
 pub mod Stored
 pub mod Elsewhere
+pub mod Bridge
+pub mod Allowed
+pub mod RegionList

@@ -7,3 +7,6 @@ pub mod Results
 pub mod Store
 pub mod Laws
 pub mod Stays
+pub mod Regions
+pub mod Due
+pub mod Bridged

@@ -33,6 +33,11 @@ opened_after now by (Act.Kill s) ps = without s ps
 opened_after now by Act.Restart ps = []
 opened_after now by _ ps = ps
 
+-- what an act of a session's own leaves of them
+abbrev pub own_after : ℕ → Act → Opened → Opened
+own_after s Act.End ps = without s ps
+own_after s _ ps = ps
+
 abbrev pub time_of : Opened → ℕ → Option ℕ
 time_of [] s = None
 time_of (p ∷ ps) s = cond (p.0 == s) (Some p.1) (time_of ps s)

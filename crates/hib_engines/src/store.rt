@@ -1,8 +1,8 @@
 // The engine of the store.
-ghost use Rattle.std.specs.Prelude.{◌≡◌, ◌≢◌, ◌≤◌, ◌∷◌, ℕ, [], Option, None, length, false, true, IfOk, IfErr, IfSome, OnOk, OnErr, cond};
+ghost use Rattle.std.specs.Prelude.{◌≡◌, ◌≢◌, ◌≤◌, ◌∷◌, ℕ, [], Option, None, false, true, IfOk, IfErr, OnOk, OnErr, cond};
 ghost use Rattle.std.specs.Option.{option_map};
 ghost use Rattle.hib_base.specs.Start.{start};
-ghost use Rattle.hib_base.specs.Tables.{Tables, in_order};
+ghost use Rattle.hib_base.specs.Tables.{Tables};
 ghost use Rattle.hib_base.specs.declared.entries.Act.{Act};
 ghost use Rattle.hib_base.specs.declared.replies.Reply.{Reply};
 ghost use Rattle.hib_base.specs.declared.scripts.Script.{Script as Said};

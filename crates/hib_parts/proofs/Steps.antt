@@ -18,8 +18,8 @@ use Rattle.hib_engines.specs.Served.{is_for, IsServed, reads}
 use Rattle.hib_engines.specs.Stamps.{AreStamps}
 use Rattle.hib_engines.proofs.RegionServed.{named}
 use Rattle.hib_core.specs.Factory.{IsBuilt}
-use Rattle.hib_core.specs.Standing.{IsDue}
-use Rattle.hib_core.proofs.Allowed.{is_due}
+use Rattle.hib_engines.specs.Due.{IsDue}
+use Rattle.hib_engines.proofs.Allowed.{is_due}
 use Rattle.hib_core.proofs.Brought.{region_reads}
 use Rattle.hib_parts.specs.Listed.{WorkerState, RegionState, IsPartList, IsDueAct, IsDueEntry, IsDueOn, IsLater, IsKept, last_of}
 use Rattle.hib_parts.specs.Copied.{is_small}

@@ -8,7 +8,7 @@ use Rattle.hib_base.proofs.Tables.{same_key_eq, same_key_refl, Tested, tested}
 use Rattle.hib_journal.specs.Types.{Key, Row, Change, Held, Act, Reply, Entry}
 use Rattle.hib_journal.specs.Sessions.{Journal, time_after, floor_after, changes_after}
 use Rattle.hib_journal.specs.Held as held
-use Rattle.hib_journal.specs.Held.{Instance, Stay, Arrival, arrival, arrived, arrived_key, is_break, row_written, without_key, stay, longer, inserts, is_inserted, gives_row, gives_base, is_begin, since_begin, is_fresh, key_removed, removed}
+use Rattle.hib_journal.specs.Held.{Instance, Stay, Arrival, arrival, arrived, arrived_key, is_break, row_written, without_key, stay, longer, inserts, is_inserted, gives_row, gives_base, is_begin, since_begin, is_fresh, key_removed}
 use Rattle.hib_journal.specs.Next.{lock_in, lock_id}
 use Rattle.hib_journal.specs.Legal.{outcome_after}
 use Rattle.hib_completion.specs.Completed.{is_key_in, or_zero, lock_of}

@@ -8,3 +8,4 @@ pub mod Taken
 pub mod Taking
 pub mod Few
 pub mod Killed
+pub mod Together

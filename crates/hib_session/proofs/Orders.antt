@@ -9,7 +9,7 @@ use Rattle.hib_base.proofs.Tables.{same_key_eq, Tested, tested}
 use Rattle.hib_journal.specs.Types.{Key, Held}
 use Rattle.hib_journal.specs.Sessions.{Journal}
 use Rattle.hib_journal.specs.Held as held
-use Rattle.hib_journal.specs.Held.{Instance, Stay, has_left, instance_of, stay, arrived, removed, without_key, pending}
+use Rattle.hib_journal.specs.Held.{Instance, Stay, has_left, instance_of, stay, without_key}
 use Rattle.hib_completion.proofs.Keys.{same_key_sym}
 use Rattle.hib_identity_map.specs.Identity.{Pairs, look_in, is_absent, are_distinct, drop_in, add_in, change_in}
 use Rattle.hib_identity_map.specs.Holds.{shown_of, shown}

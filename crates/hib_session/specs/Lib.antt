@@ -6,3 +6,4 @@ pub mod Ahead
 pub mod Session
 pub mod Bound
 pub mod Killed
+pub mod Sessions

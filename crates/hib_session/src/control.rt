@@ -1,5 +1,5 @@
 // The control of a session: which act is due.
-ghost use Rattle.std.specs.Prelude.{◌≡◌, ◌≢◌, ◌∷◌, [], ◌+◌, ◌*◌, ◌<◌, ◌≤◌, ◌^◌, length, slice_get, IfOk, IsOk, is_some, OnOk, OnErr, List, true, false, Some, drop, IsTrue, ◌↔◌};
+ghost use Rattle.std.specs.Prelude.{◌≡◌, ◌∷◌, [], ◌+◌, ◌*◌, ◌<◌, ◌≤◌, length, slice_get, IfOk, IsOk, is_some, OnOk, OnErr, List, true, false, Some, drop, IsTrue, ◌↔◌};
 ghost use Rattle.std.specs.Option.{option_map_or};
 ghost use Rattle.hib_base.specs.declared.entries.Entry.{Entry};
 ghost use Rattle.hib_base.specs.declared.entries.Act.{Act};
@@ -8,7 +8,7 @@ ghost use Rattle.hib_base.specs.declared.scripts.Script.{Script};
 ghost use Rattle.hib_base.specs.declared.scripts.Mode.{Mode};
 ghost use Rattle.hib_journal.specs.Sessions.{Journal};
 ghost use Rattle.hib_journal.specs.Plan.{Plan, after, each};
-ghost use Rattle.hib_journal.specs.Next.{mode_reads, mode_puts, find, list, load_unless_hit, put_loaded, check_found, list_unless_fresh, keep_listed, block, mode_after, ends, first_version, next, is_committed_reply, completion};
+ghost use Rattle.hib_journal.specs.Next.{find, list, load_unless_hit, put_loaded, check_found, list_unless_fresh, keep_listed, block, mode_after, ends, first_version, next, is_committed_reply, completion};
 ghost use Rattle.hib_session.specs.Memory.{Knows, Recalls, Fits, has_copies};
 ghost use Rattle.hib_session.specs.Control.{staged, queued, untaken, decided, is_answering, is_due, is_resting, rank, begin_at, act_staged, Stands, weight};
 ghost use Rattle.hib_session.specs.Ahead.{Ends, Copies, asks_rows, has_ending};

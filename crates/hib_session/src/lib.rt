@@ -9,6 +9,7 @@ mod keyed;
 mod killing;
 mod memory;
 mod noting;
+mod opening;
 mod queries;
 mod queue;
 mod session;
@@ -16,4 +17,5 @@ mod written;
 
 pub use bounds::entries_are_few;
 pub use killing::{kill_all, kill_at};
+pub use opening::open_all;
 pub use session::Session;

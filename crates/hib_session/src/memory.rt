@@ -1,5 +1,5 @@
 // What a session remembers of its own entries: its transaction's time, floor and changes, its locks and its instances.
-ghost use Rattle.std.specs.Prelude.{Bool, ◌≡◌, ◌||◌, ◌∷◌, [], ◌++◌, IfOk, IsOk, OnOk, true, Some, None, MatchOption, is_some, cond};
+ghost use Rattle.std.specs.Prelude.{◌≡◌, ◌||◌, ◌∷◌, [], ◌++◌, IfOk, IsOk, OnOk, true, Some, None, MatchOption, is_some, cond};
 ghost use Rattle.hib_journal.specs.Sessions.{Journal};
 ghost use Rattle.hib_journal.specs.Held.{pending};
 ghost use Rattle.hib_base.specs.declared.entries.Act.{Act};

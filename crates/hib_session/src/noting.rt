@@ -1,5 +1,5 @@
 // How a memory takes one more entry.
-ghost use Rattle.std.specs.Prelude.{Bool, ◌≡◌, ◌∷◌, [], ◌++◌, OnOk, OnErr, IfOk, IsOk, is_some, true, false, Some, None};
+ghost use Rattle.std.specs.Prelude.{◌≡◌, ◌∷◌, [], ◌++◌, OnOk, OnErr, IfOk, IsOk, is_some, true, false, Some, None};
 ghost use Rattle.hib_journal.specs.Sessions.{floor_after};
 ghost use Rattle.hib_journal.specs.Held.{is_break};
 ghost use Rattle.hib_journal.specs.Legal.{outcome_after};

@@ -1,13 +1,15 @@
-use Rattle.std.proofs.Common.{◌≡◌, ◌∷◌, sym, ap, subst, ◌∙◌, refl}
+use Rattle.std.proofs.Common.{◌≡◌, ◌∷◌, sym, ap, subst, ◌∙◌, refl, length, ◌+◌}
 use Rattle.hib_journal.specs.Types.{Act, Order}
 use Rattle.hib_journal.specs.Kept.{past}
 use Rattle.hib_journal.specs.Sessions.{Journal}
 use Rattle.hib_journal.specs.Played.{play_order}
 use Rattle.hib_core.specs.Standing.{PartsState, outside_entry}
-use Rattle.hib_core.specs.Factory.{AreSessions, IsRun, IsAsked}
+use Rattle.hib_session.specs.Sessions.{AreSessions}
+use Rattle.hib_core.specs.Factory.{IsRun, IsAsked}
 use Rattle.hib_core.specs.Playing.{played, Leads}
 use Rattle.hib_core.proofs.Short.{outside_same, outside_one}
-use Rattle.hib_core.proofs.FromOutside.{evict_run, evict_leads, sessions_outside, asked_outside}
+use Rattle.hib_session.proofs.Together.{sessions_outside}
+use Rattle.hib_core.proofs.FromOutside.{evict_run, evict_leads, asked_outside}
 use Rattle.hib_session.proofs.Killed.{none_killed}
 use Rattle.hib_core.proofs.outside.evict.Goals as goal
 
@@ -28,7 +30,7 @@ returns-clause-sessions g c = λ xs w.
     let grown : past c.tell.new.journal ≡ outside_entry h (Act.Evict c.args.key) c.in_ok-reply.reply ∷ h =
     c.tell.ensures ∙ ap (λ (j : Journal). outside_entry j (Act.Evict c.args.key) c.in_ok-reply.reply ∷ j) same in
     subst (λ (j : Journal). AreSessions g.N.Name.script j xs) (sym grown)
-    (sessions_outside g.N.Name.script h (Act.Evict c.args.key) c.in_ok-reply.reply xs xs w (none_killed xs))
+    (sessions_outside g.N.Name.script h (length h + 1) (Act.Evict c.args.key) c.in_ok-reply.reply xs xs w (none_killed xs))
 
 pub returns-clause-asked : goal.returns-clause-asked
 returns-clause-asked g c = λ w.

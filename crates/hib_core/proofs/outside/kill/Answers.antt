@@ -1,4 +1,4 @@
-use Rattle.std.proofs.Common.{◌≡◌, ◌∷◌, ◌==◌, ℕ, true, sym, ap, subst, ◌∙◌, refl}
+use Rattle.std.proofs.Common.{◌≡◌, ◌∷◌, ◌==◌, ℕ, true, sym, ap, subst, ◌∙◌, refl, length, ◌+◌}
 use Rattle.std.proofs.lemmas.Bool.{false≢true}
 use Rattle.hib_journal.specs.Types.{Act, Reply}
 use Rattle.hib_journal.specs.Kept.{past}
@@ -7,11 +7,13 @@ use Rattle.hib_journal.specs.Played.{play_order}
 use Rattle.hib_journal.specs.Types.{Order}
 use Rattle.hib_engines.specs.Registry.{Opened, holds}
 use Rattle.hib_core.specs.Standing.{PartsState, outside_entry}
-use Rattle.hib_core.specs.Factory.{AreSessions, IsRun, IsAsked}
+use Rattle.hib_session.specs.Sessions.{AreSessions}
+use Rattle.hib_core.specs.Factory.{IsRun, IsAsked}
 use Rattle.hib_session.specs.Killed.{AreKilled}
 use Rattle.hib_core.specs.Playing.{played, Leads}
 use Rattle.hib_core.proofs.Short.{outside_same, outside_one}
-use Rattle.hib_core.proofs.FromOutside.{kill_run, kill_leads, no_kill_leads, sessions_outside, asked_outside}
+use Rattle.hib_session.proofs.Together.{sessions_outside}
+use Rattle.hib_core.proofs.FromOutside.{kill_run, kill_leads, no_kill_leads, asked_outside}
 use Rattle.hib_engines.proofs.Opened.{holds_open}
 use Rattle.hib_core.proofs.outside.kill.Goals as goal
 
@@ -48,7 +50,7 @@ returns-clause-sessions g c =
     let grown : past c.tell.new.journal ≡ outside_entry h (Act.Kill n) Reply.Done ∷ h =
     c.tell.ensures ∙ ap (λ (j : Journal). outside_entry j (Act.Kill n) Reply.Done ∷ j) same in
     subst (λ (j : Journal). AreSessions g.N.Name.script j ys) (sym grown)
-    (sessions_outside g.N.Name.script h (Act.Kill n) Reply.Done xs ys c.requires.sessions
+    (sessions_outside g.N.Name.script h (length h + 1) (Act.Kill n) Reply.Done xs ys c.requires.sessions
     (subst (λ (m : ℕ). AreKilled (λ s. m == s) xs ys) c.number.view_is c.kill_at.ensures))
 
 pub returns-clause-asked : goal.returns-clause-asked

@@ -1,4 +1,4 @@
-use Rattle.std.proofs.Common.{◌≡◌, ◌==◌, ◌∷◌, sym, ap, subst, ◌∙◌, refl}
+use Rattle.std.proofs.Common.{◌≡◌, ◌==◌, ◌∷◌, sym, ap, subst, ◌∙◌, refl, length, ◌+◌}
 use Rattle.std.specs.List.{list_any}
 use Rattle.hib_journal.specs.Types.{Act, Order, Reply}
 use Rattle.hib_journal.specs.Kept.{past}
@@ -6,10 +6,12 @@ use Rattle.hib_journal.specs.Sessions.{Journal, is_open}
 use Rattle.hib_journal.specs.Played.{play_order}
 use Rattle.hib_engines.specs.Registry.{Opened, holds}
 use Rattle.hib_core.specs.Standing.{PartsState, outside_entry}
-use Rattle.hib_core.specs.Factory.{AreSessions, IsRun, IsAsked}
+use Rattle.hib_session.specs.Sessions.{AreSessions}
+use Rattle.hib_core.specs.Factory.{IsRun, IsAsked}
 use Rattle.hib_core.specs.Playing.{played, Leads}
 use Rattle.hib_core.proofs.Short.{outside_same, outside_one}
-use Rattle.hib_core.proofs.FromOutside.{restart_run, restart_leads, sessions_outside, asked_outside}
+use Rattle.hib_session.proofs.Together.{sessions_outside}
+use Rattle.hib_core.proofs.FromOutside.{restart_run, restart_leads, asked_outside}
 use Rattle.hib_session.proofs.Killed.{killed_as}
 use Rattle.hib_engines.proofs.Opened.{holds_open}
 use Rattle.hib_core.proofs.outside.restart.Goals as goal
@@ -35,7 +37,7 @@ returns-clause-sessions g c =
     let grown : past c.tell.new.journal ≡ outside_entry h Act.Restart Reply.Done ∷ h =
     c.tell.ensures ∙ ap (λ (j : Journal). outside_entry j Act.Restart Reply.Done ∷ j) same in
     subst (λ (j : Journal). AreSessions g.N.Name.script j ys) (sym grown)
-    (sessions_outside g.N.Name.script h Act.Restart Reply.Done xs ys c.requires.sessions
+    (sessions_outside g.N.Name.script h (length h + 1) Act.Restart Reply.Done xs ys c.requires.sessions
     (killed_as (λ s. list_any (λ n. n == s) c.open_sessions.result.now) (λ s. is_open s h) xs ys
     (λ s l. c.open_sessions.ensures s ∙ (ap (λ (ps : Opened). holds s ps) here ∙ holds_open x.registry h s c.requires.run.parts.registry)) c.kill_all.ensures))
 

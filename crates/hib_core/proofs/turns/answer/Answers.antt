@@ -1,7 +1,8 @@
 use Rattle.std.proofs.Common.{◌≡◌, sym, ap, subst, ◌∙◌}
 use Rattle.hib_journal.specs.Sessions.{own}
 use Rattle.hib_session.specs.Session.{number_of}
-use Rattle.hib_core.specs.Standing.{own_after, IsReady, IsAnswered, IsAskedFor}
+use Rattle.hib_engines.specs.Registry.{own_after}
+use Rattle.hib_core.specs.Standing.{IsReady, IsAnswered, IsAskedFor}
 use Rattle.hib_engines.proofs.Outcomes.{three_ok}
 use Rattle.hib_core.proofs.OwnServed.{own_told, own_still, part_told}
 use Rattle.hib_core.proofs.turns.answer.Goals as goal

@@ -1,6 +1,6 @@
 use Rattle.hib_session.specs.Session.{number_of}
 use Rattle.hib_engines.proofs.Outcomes.{map_some}
-use Rattle.hib_core.proofs.Allowed.{is_due}
+use Rattle.hib_engines.proofs.Allowed.{is_due}
 use Rattle.hib_core.proofs.turns.due_act.Goals as goal
 
 pub returns-clause-due : goal.returns-clause-due

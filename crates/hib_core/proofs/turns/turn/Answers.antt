@@ -1,7 +1,8 @@
 use Rattle.std.proofs.Common.{sym, subst, ◌∙◌}
 use Rattle.std.specs.Prelude.{slice_set}
 use Rattle.hib_journal.specs.Kept.{past}
-use Rattle.hib_core.specs.Factory.{AreSessions, Does}
+use Rattle.hib_session.specs.Sessions.{AreSessions}
+use Rattle.hib_core.specs.Factory.{Does}
 use Rattle.hib_core.proofs.Going.{at_place, member_of}
 use Rattle.hib_core.proofs.Moved.{turned}
 use Rattle.hib_core.proofs.turns.turn.Goals as goal

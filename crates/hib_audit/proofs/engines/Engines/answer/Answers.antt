@@ -1,7 +1,7 @@
 use Rattle.std.proofs.Common.{sym, ap, ◌∙◌}
 use Rattle.hib_journal.specs.Sessions.{own}
 use Rattle.hib_session.specs.Session.{number_of}
-use Rattle.hib_audit.specs.Standing.{own_after}
+use Rattle.hib_engines.specs.Registry.{own_after}
 use Rattle.hib_audit.proofs.Served.{own_answered}
 use Rattle.hib_audit.proofs.engines.Engines.answer.Goals as goal
 

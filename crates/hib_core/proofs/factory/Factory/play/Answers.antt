@@ -42,4 +42,4 @@ pub returns-clause-named : goal.returns-clause-named
 returns-clause-named g c =
     let sessions : Play = play_sessions g.N.Name.script (range_with_len 0 (length g.N.Name.script.sessions)) in
     λ n. steps_named sessions (past c.follow_schedule.new.self.journal) (past c.finish.new.self.journal) c.finish.result c.finish.ensures.played c.finish.ensures.stands c.finish.ensures.inside
-        (c.in_ok-follow_schedule.ensures.named n)
+    (c.in_ok-follow_schedule.ensures.named n)

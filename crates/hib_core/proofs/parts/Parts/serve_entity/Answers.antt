@@ -1,7 +1,8 @@
 use Rattle.std.proofs.Common.{sym, subst}
 use Rattle.hib_engines.specs.Region.{IsPlaced}
 use Rattle.hib_engines.proofs.Outcomes.{map_ok}
-use Rattle.hib_core.specs.Standing.{PartsState, region_of}
+use Rattle.hib_engines.specs.Regions.{region_of}
+use Rattle.hib_core.specs.Standing.{PartsState}
 use Rattle.hib_core.proofs.parts.Parts.serve_entity.Goals as goal
 
 pub returns-clause-answered : goal.returns-clause-answered

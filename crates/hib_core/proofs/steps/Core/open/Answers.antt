@@ -7,7 +7,8 @@ use Rattle.hib_update_stamps.specs.Stamped.{unstamped}
 use Rattle.hib_query_cache.specs.Ranked.{Ranked}
 use Rattle.hib_engines.specs.Region.{empty}
 use Rattle.hib_core.specs.Standing.{Origin, told_start}
-use Rattle.hib_core.specs.Factory.{AreSessions, IsBuilt}
+use Rattle.hib_session.specs.Sessions.{AreSessions}
+use Rattle.hib_core.specs.Factory.{IsBuilt}
 use Rattle.hib_core.proofs.Begun.{standing_begins, parts_begin}
 use Rattle.hib_core.proofs.steps.Core.open.Goals as goal
 
@@ -27,5 +28,5 @@ invariant_of-result g c =
           (c.in-Ok.ensures ∙ ap (λ (s : Script). map (λ d. empty d.strategy d.capacity s.timeout) s.mapping) q)
           (c.in-Ok-open-2.ensures ∙ ap (λ (s : Script). (let r : Ranked = record { capacity = s.results; kept = [] } in r)) q) (subst (λ (s : Script). 0 < s.results) q c.ready.ensures.results))
           (c.in_ok-store.ensures.asked ∙ ap (λ (o : Origin). o.asked) from)
-          (subst (λ (s : Script). AreSessions s [] c.in-Ok-open_sessions.sessions.items) q c.in-Ok-open_sessions.ensures),
+          (subst (λ (s : Script). AreSessions s [] c.in-Ok-open_all.sessions.items) q c.in-Ok-open_all.ensures),
     )

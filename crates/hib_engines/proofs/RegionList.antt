@@ -1,5 +1,5 @@
--- The regions by entity.
-use Rattle.std.proofs.Common.{◌≡◌, ◌≢◌, ℕ, zero, suc, ◌+◌, ◌≤◌, ◌<◌, ◌==◌, Bool, true, false, cond, nat_lt, List, [], ◌∷◌, length, get_or, map, Some, None, Option, Result, Ok, Err, OnOk, refl, sym, ap, ◌∙◌, subst, arith, inl, inr}
+-- The regions of a script's entities, by their places.
+use Rattle.std.proofs.Common.{◌≡◌, ◌≢◌, ℕ, zero, suc, ◌+◌, ◌≤◌, ◌<◌, ◌==◌, Bool, true, false, cond, nat_lt, List, [], ◌∷◌, length, get_or, map, Some, Result, Ok, Err, OnOk, refl, sym, ap, ◌∙◌, subst, arith, inl, inr}
 use Rattle.std.proofs.lemmas.Bool.{true≢false, false≢true, eqb-true}
 use Rattle.std.proofs.lemmas.Bool.Decides.{nat_tests}
 use Rattle.std.proofs.lemmas.List.{get_or-set_same, get_or-set_other, length-set}
@@ -18,15 +18,11 @@ use Rattle.hib_engines.specs.Region.{is_regional, entity_in, acts_on, emptied, e
 use Rattle.hib_engines.proofs.Regions.{uncached_not, apart, is_read_write, is_read_only, is_nonstrict}
 use Rattle.hib_engines.proofs.Grows.{begins, regional_part}
 use Rattle.hib_engines.proofs.RegionServed.{named}
-use Rattle.hib_audit.specs.Standing.{or_uncached, region_of, IsAtRegion, AreEmptied}
-use Rattle.hib_audit.proofs.Bridge.{self_by}
-
-or_is : (o : Option Region) → or_uncached o ≡ unwrap_or o Region.Uncached
-or_is None = refl
-or_is (Some x) = refl
+use Rattle.hib_engines.specs.Regions.{region_of, IsAtRegion, AreEmptied}
+use Rattle.hib_engines.proofs.Bridge.{self_by}
 
 region_is : (xs : List Region) (n : ℕ) → region_of xs n ≡ get_or xs n Region.Uncached
-region_is xs n = or_is (slice_get xs n) ∙ unwrap_or-slice_get xs n Region.Uncached
+region_is xs n = unwrap_or-slice_get xs n Region.Uncached
 
 region_same : (xs : List Region) (n : ℕ) (y : Region) → n < length xs → region_of (slice_set xs n y) n ≡ y
 region_same xs n y l = region_is (slice_set xs n y) n ∙ get_or-set_same xs n y Region.Uncached l
@@ -35,11 +31,11 @@ region_other : (xs : List Region) (n m : ℕ) (y : Region) → m ≢ n → regio
 region_other xs n m y d = region_is (slice_set xs n y) m ∙ (get_or-set_other xs n m y Region.Uncached d ∙ sym (region_is xs m))
 
 pub none_past : (xs : List Region) (n : ℕ) → length xs ≤ n → region_of xs n ≡ Region.Uncached
-none_past xs n l = ap or_uncached (slice_get_past xs n l)
+none_past xs n l = ap (λ o. unwrap_or o Region.Uncached) (slice_get_past xs n l)
 
 -- a region at its place
 pub region_at : (xs : List Region) (n : ℕ) (y : Region) → n < length xs → y ≡ get_or xs n y → region_of xs n ≡ y
-region_at xs n y l v = ap or_uncached (slice_get-get_or xs n y l ∙ ap Some (sym v))
+region_at xs n y l v = ap (λ o. unwrap_or o Region.Uncached) (slice_get-get_or xs n y l ∙ ap Some (sym v))
 
 pub region_put : (xs : List Region) (i n : ℕ) (y : Region) → i ≡ n → i < length xs → region_of (slice_set xs i y) n ≡ y
 region_put xs i n y e l = subst (λ j. region_of (slice_set xs i y) j ≡ y) e (region_same xs i y l)

@@ -10,8 +10,9 @@ use Rattle.hib_journal.specs.Sessions.{Journal, own, is_session, is_open, open_a
 use Rattle.hib_journal.specs.Held.{is_begin}
 use Rattle.hib_journal.specs.Legal.{is_outside}
 use Rattle.hib_journal.specs.Lists.{entry_at, stops, unsaved, unsaved_after, stored, stored_by}
-use Rattle.hib_journal.proofs.Open.{begun_open}
-use Rattle.hib_audit.specs.Standing.{IsBridged, AreStored, IsDue}
+use Rattle.hib_journal.proofs.Open.{begun_open, killed_same}
+use Rattle.hib_engines.specs.Bridged.{IsBridged}
+use Rattle.hib_engines.specs.Due.{AreStored, IsDue}
 
 pub self_by : (s : ℕ) → (s == s) ≡ true
 self_by s = grind (arith, nat_tests)
@@ -27,17 +28,8 @@ pub either : (b c : Bool) → (b || c) ≡ false → (b ≡ false) × (c ≡ fal
 either true c p = absurd (true≢false p)
 either false c p = (refl, p)
 
-lived : (n : ℕ) (e : Entry) (h : Journal) → was_killed n (e ∷ h) ≡ false → was_killed n h ≡ false
+pub lived : (n : ℕ) (e : Entry) (h : Journal) → was_killed n (e ∷ h) ≡ false → was_killed n h ≡ false
 lived n e h p = (either (killed_by n e.act (is_open n h)) (was_killed n h) p).1
-
--- an act of a session kills none
-pub unkilled : (n : ℕ) (a : Act) (o : Bool) → is_outside a ≡ false → killed_by n a o ≡ false
-unkilled n (Act.Kill m) o p = absurd (true≢false p)
-unkilled n Act.Restart o p = absurd (true≢false p)
-unkilled n _ o p = refl
-
-pub killed_same : (n : ℕ) (e : Entry) (h : Journal) → is_outside e.act ≡ false → was_killed n (e ∷ h) ≡ was_killed n h
-killed_same n e h p = rw (unkilled n e.act (is_open n h) p) refl
 
 pub inside_stops : (a : Act) → is_outside a ≡ false → stops a ≡ false
 inside_stops (Act.Kill m) p = absurd (true≢false p)

@@ -1,6 +1,6 @@
 use Rattle.std.proofs.Common.{◌+◌, sym, subst}
-use Rattle.hib_core.proofs.Begun.{AreOpened, opened_more, all_opened}
-use Rattle.hib_core.proofs.opening.open_sessions.Goals as goal
+use Rattle.hib_session.proofs.Together.{AreOpened, opened_more, all_opened}
+use Rattle.hib_session.proofs.opening.open_all.Goals as goal
 
 pub loop-number-preserved : goal.loop-number-preserved
 loop-number-preserved c = subst (λ xs. AreOpened (c.loop-number.number + 1) c.args.script.now xs) (sym c.in_ok-push.ensures.items)

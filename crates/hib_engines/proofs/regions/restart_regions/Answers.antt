@@ -3,9 +3,9 @@ use Rattle.std.proofs.lemmas.List.{places}
 use Rattle.std.proofs.lemmas.List.{length-set}
 use Rattle.hib_engines.specs.declared.region.Region.{Region}
 use Rattle.hib_engines.specs.Region.{emptied}
-use Rattle.hib_core.proofs.Served.{region_at}
-use Rattle.hib_core.proofs.FromOutside.{emptied_more, emptied_all}
-use Rattle.hib_core.proofs.parts.restart_all.Goals as goal
+use Rattle.hib_engines.proofs.RegionList.{region_at}
+use Rattle.hib_engines.proofs.RegionList.{emptied_more, emptied_all}
+use Rattle.hib_engines.proofs.regions.restart_regions.Goals as goal
 
 pub loop-at-preserved : goal.loop-at-preserved
 loop-at-preserved c =

@@ -1,13 +1,13 @@
-use Rattle.std.proofs.Common.{rules, vec_len, ◌≡◌, ◌<◌, ◌≤◌, ℕ, List, length, sym, subst, ◌∙◌}
-use Rattle.std.proofs.lemmas.List.{places}
+use Rattle.std.proofs.Common.{rules, get_or, vec_len, ◌≡◌, ◌<◌, ◌≤◌, ℕ, List, length, sym, ap, subst, ◌∙◌}
+use Rattle.std.proofs.lemmas.List.{places, set-get_or}
 use Rattle.std.specs.Prelude.{slice_set}
 use Rattle.hib_engines.specs.declared.region.Region.{Region}
 use Rattle.hib_engines.specs.Region.{IsPlaced}
 use Rattle.hib_engines.specs.Served.{IsServed}
-use Rattle.hib_engines.proofs.Outcomes.{map_ok}
-use Rattle.hib_audit.specs.Standing.{region_of, IsAtRegion}
-use Rattle.hib_audit.proofs.Regions.{region_at, region_put, at_region, none_past, none_due, on_ok}
-use Rattle.hib_audit.proofs.engines.serve_region.Goals as goal
+use Rattle.hib_engines.proofs.Outcomes.{map_ok, map_on}
+use Rattle.hib_engines.specs.Regions.{region_of, IsAtRegion}
+use Rattle.hib_engines.proofs.RegionList.{region_at, region_put, at_region, none_past, none_due, on_ok}
+use Rattle.hib_engines.proofs.regions.serve_region.Goals as goal
 
 pub returns-then-at-len-clause-answered : goal.returns-then-at-len-clause-answered
 returns-then-at-len-clause-answered c = map_ok c.serve.result _ _ c.serve.ensures.answered (λ r p script l by k late e u.
@@ -33,3 +33,10 @@ returns-clause-answered c = λ script l by k late e u.
     let whole : vec_len c.args.regions.now ≡ length c.args.regions.now.items = search (rules, places) in
     let above : length xs ≤ i = subst (λ (m : ℕ). m ≤ i) (c.len.ensures ∙ whole) c.if-at-len.false in
     absurd (none_due script l c.args.entity c.args.act.now (region_of xs c.args.entity) (subst (λ (n : ℕ). region_of xs n ≡ Region.Uncached) c.entity.view_is (none_past xs i above)) k e u)
+
+pub returns-then-at-len-clause-still : goal.returns-then-at-len-clause-still
+returns-then-at-len-clause-still c = map_on c.serve.result _ _ c.serve.ensures.still (λ p q.
+    let xs : List Region = c.args.regions.now.items in
+    let i : ℕ = c.entity.inside.0 in
+    let e : c.serve.new.self ≡ get_or xs i c.index_mut.result.now = p q ∙ c.index_mut.ensures.value in
+    ap (slice_set xs i) e ∙ set-get_or xs i c.index_mut.result.now)

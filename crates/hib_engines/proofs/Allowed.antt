@@ -1,4 +1,4 @@
--- What a session says of the act that is due in it is what the parts want to know.
+-- What a session says of the act that is due in it is what the engines want to know.
 use Rattle.std.proofs.Common.{◌≡◌, ◌⊎◌, ℕ, Bool, true, false, not, List, [], ◌∷◌, length, ◌<◌, refl, ap, ◌∙◌, ◌&&◌, inl, inr}
 use Rattle.std.proofs.lemmas.Bool.{true≢false, false≢true, ltb-true}
 use Rattle.std.proofs.lemmas.List.Elements.{All-nil, All-cons}
@@ -7,11 +7,11 @@ use Rattle.std.specs.List.{All, list_all}
 use Rattle.hib_journal.specs.Types.{Strategy, Script, Act}
 use Rattle.hib_journal.specs.Sessions.{Journal, changes_in, deferred}
 use Rattle.hib_journal.specs.Next.{strategy}
-use Rattle.hib_journal.specs.Due.{IsAllowed, asks_store, is_asked, is_inserting, is_removing, are_declared, are_tables}
+use Rattle.hib_journal.specs.Due.{IsAllowed, asks_store, is_inserting, is_removing, are_tables}
 use Rattle.hib_journal.specs.Due as Due
 use Rattle.hib_engines.specs.Region.{acts_on, Suits}
-use Rattle.hib_core.specs.Standing.{AreWithin, AreStored, HasQuery, IsDue}
-use Rattle.hib_core.specs.Factory.{HasQueries}
+use Rattle.hib_engines.specs.Served.{AreWithin, HasQuery}
+use Rattle.hib_engines.specs.Due.{HasQueries, AreStored, IsDue}
 
 stored : (mine : Journal) (a : Act) → (asks_store a ≡ true → deferred mine ≡ changes_in mine) → AreStored mine a
 stored mine (Act.Load k) f = f refl

@@ -1,6 +1,0 @@
-use Rattle.std.proofs.Common.{◌≡◌, map, take}
-use Rattle.hib_engines.specs.Region.{empty}
-use Rattle.hib_core.proofs.opening.open_regions.Given as goal
-
-abbrev pub invariant-loop-entity : goal.invariant-loop-entity
-invariant-loop-entity l = l.regions.items ≡ map (λ d. empty d.strategy d.capacity l.script.timeout) (take l.entity-index l.entity-items)

@@ -1,0 +1,61 @@
+// The regions of a script's entities, one for each.
+ghost use Rattle.std.specs.Prelude.{◌≡◌, ◌≤◌, ◌^◌, Some, map, true, false, IfOk, OnOk, OnErr, Option, ℕ};
+ghost use Rattle.hib_base.specs.declared.scripts.Script.{Script as Said};
+ghost use Rattle.hib_journal.specs.Types.{Part};
+ghost use Rattle.hib_journal.specs.Sessions.{Journal};
+ghost use Rattle.hib_journal.specs.Next.{strategy};
+ghost use Rattle.hib_journal.specs.Lists.{IsLate};
+ghost use Rattle.hib_journal.specs.Runs.{is_fault};
+ghost use Rattle.hib_engines.specs.Region.{empty, entity_in, IsPlaced, Suits};
+ghost use Rattle.hib_engines.specs.Regions.{region_of, IsAtRegion, AreEmptied};
+ghost use Rattle.hib_engines.specs.Served.{IsServed, reads};
+
+use crate::region::Region;
+use hib_base::{Act, EntityNo, Reply, Script, Tick};
+use std::alloc::{AllocError, Global};
+
+/// The regions of a script's entities, which are empty.
+pub fn open_regions(alloc: Global, script: &Script) -> Result<Vec<Region>, AllocError>
+    ensures { IfOk result (λ v. v.items ≡ map (λ d. empty d.strategy d.capacity script.now.timeout) script.now.mapping) }
+{
+    let mut regions = Vec::new(alloc);
+    for entity in script.mapping.as_slice() {
+        regions.push(Region::open(alloc, entity.strategy, entity.capacity, script.timeout))?;
+    }
+    Ok(regions)
+}
+
+/// Each region drops all that it holds. It takes no memory.
+pub fn restart_regions(regions: &mut Vec<Region>)
+    ensures { AreEmptied regions.old.items regions.new.items }
+{
+    for at in 0..regions.len() {
+        regions[at].restart();
+    }
+}
+
+/// The answer of the region of an entity; one that has no region is uncached. A read leaves the regions as they are, and so does
+/// want of memory.
+pub fn serve_region(
+    alloc: Global,
+    regions: &mut Vec<Region>,
+    entity: EntityNo,
+    act: &Act,
+    now: Tick,
+) -> Result<Reply, AllocError>
+    requires { now ≤ 2 ^ 62 }
+    ensures answered { IfOk result (λ r. (script : Said) (l : Journal) (by : Option ℕ) → IsPlaced script entity l (region_of regions.old.items entity) → IsLate (Part.Region entity) now l
+        → entity_in act.now ≡ Some entity → Suits (strategy script entity) act.now
+        → IsServed (λ m. IsPlaced script entity m (region_of regions.new.items entity)) script l by now act.now r) }
+    ensures others { OnOk result (IsAtRegion entity regions.old.items regions.new.items) }
+    ensures calm { IfOk result (λ r. is_fault r ≡ false) }
+    ensures still { OnOk result (reads act.now ≡ true → regions.new.items ≡ regions.old.items) }
+    ensures err { OnErr result (regions.new.items ≡ regions.old.items) }
+{
+    let at = entity.0 as usize;
+    if at < regions.len() {
+        return regions[at].serve(alloc, act, now);
+    }
+    // No act is due on an entity that isn't cached.
+    Ok(Reply::Done)
+}

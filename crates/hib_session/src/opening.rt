@@ -1,0 +1,19 @@
+// The sessions of a script.
+ghost use Rattle.std.specs.Prelude.{◌<◌, ◌^◌, [], length, IfOk};
+ghost use Rattle.hib_session.specs.Sessions.{AreSessions};
+
+use crate::session::Session;
+use hib_base::{Script, SessionNo};
+use std::alloc::{AllocError, Global};
+
+/// The sessions of a script, each at its number, which have done nothing.
+pub fn open_all(alloc: Global, script: &Script) -> Result<Vec<Session>, AllocError>
+    requires few { length script.now.sessions < 2 ^ 32 }
+    ensures { IfOk result (λ v. AreSessions script.now [] v.items) }
+{
+    let mut sessions = Vec::new(alloc);
+    for number in 0..script.sessions.len() {
+        sessions.push(Session::open(alloc, SessionNo(number as u32)))?;
+    }
+    Ok(sessions)
+}
