@@ -6,7 +6,7 @@ use Rattle.std.proofs.lemmas.Option.{slice_get-get_or, slice_get_past}
 use Rattle.std.specs.Prelude.{nat_lt, slice_get, slice_set}
 use Rattle.std.specs.Option.{option_map_or}
 use Rattle.hib_base.proofs.Tables.{Tested, tested}
-use Rattle.hib_journal.specs.Types.{Script, Act, Entry}
+use Rattle.hib_journal.specs.Types.{SessionDef, Script, Act, Entry}
 use Rattle.hib_journal.specs.Sessions.{Journal, own, was_killed}
 use Rattle.hib_journal.specs.Plan.{Plan, left_of, after, first_act}
 use Rattle.hib_journal.specs.Next.{next, blocks}
@@ -27,7 +27,7 @@ over_left (e ∷ mine) = ap (λ p. after p e) (over_left mine)
 
 none_next : (script : Script) (s : ℕ) (mine : Journal) → slice_get script.sessions s ≡ None → next script s mine ≡ None
 unfolding next
-none_next script s mine e = ap first_act (ap (λ o. left_of (blocks script Rattle.hib_journal.specs.Types.Mode.Normal true (option_map_or (λ d. d.statements) o []) []) mine) e ∙ over_left mine)
+none_next script s mine e = ap first_act (ap (λ (o : Option SessionDef). left_of (blocks script Rattle.hib_journal.specs.Types.Mode.Normal true (option_map_or (λ d. d.statements) o []) []) mine) e ∙ over_left mine)
 
 cond_none : (b : Bool) (o : Option Act) → o ≡ None → cond b None o ≡ None
 cond_none true o e = refl

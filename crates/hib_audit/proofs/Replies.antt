@@ -1,10 +1,10 @@
 -- The reply that an engine gives is the one that a legal journal has.
-use Rattle.std.specs.Prelude.{cond, length, ◌==◌}
+use Rattle.std.specs.Prelude.{cond}
 use Rattle.std.proofs.Common.{◌≡◌, ℕ, inl, Bool, true, false, List, Some, None, Option, refl, sym, ◌∙◌, subst}
 use Rattle.std.proofs.lemmas.Bool.{false≢true}
 use Rattle.hib_base.specs.Tables.{Tables}
 use Rattle.hib_journal.specs.Types.{Change, Commit, Script, Part, Act, Reply}
-use Rattle.hib_journal.specs.Sessions.{Journal, own, was_killed, committed, changes}
+use Rattle.hib_journal.specs.Sessions.{Journal, own, was_killed, committed, changes, is_empty}
 use Rattle.hib_journal.specs.Legal.{IsReply, IsAnswerBy, reply_by, reply_of, fault_of}
 use Rattle.hib_journal.specs.Next.{is_in}
 use Rattle.hib_journal.specs.Lists.{entry_at, stored, IsReplyOf, IsStoreReply}
@@ -61,7 +61,7 @@ unless_fault false f r t p = subst (λ x. is_fault x ≡ true) (some_same f r p)
 pub fault_is : (cs : List Change) (a : Act) (r : Reply) → fault_of cs a ≡ Some r → is_fault r ≡ true
 fault_is cs (Act.Load k) r p = unless_fault (is_in k cs) Reply.Fault r refl p
 fault_is cs (Act.List q) r p = subst (λ x. is_fault x ≡ true) (some_same Reply.Fault r p) refl
-fault_is cs Act.Commit r p = unless_fault (length cs == 0) (Reply.Commit Commit.Fault) r refl p
+fault_is cs Act.Commit r p = unless_fault (is_empty cs) (Reply.Commit Commit.Fault) r refl p
 fault_is cs _ r p = absurd (none_some r p)
 
 -- an act of a session's own has no such answer

@@ -4,7 +4,7 @@ use Rattle.std.specs.List.{list_any}
 use Rattle.hib_base.specs.Keys.{same_key}
 use Rattle.hib_base.specs.Tables.{Tables}
 use Rattle.hib_journal.specs.Types.{Key, Change, Script, Part, Act, Reply, Entry}
-use Rattle.hib_journal.specs.Sessions.{Journal, own, was_killed, changes, same_part, same_session, last_tick, IsTimely}
+use Rattle.hib_journal.specs.Sessions.{Journal, own, was_killed, changes, same_part, same_session, last_tick, IsTimely, is_empty}
 use Rattle.hib_journal.specs.Next.{is_in}
 use Rattle.hib_journal.specs.Legal.{IsLegal, IsReply, is_outside, due, may_come, part_of}
 use Rattle.hib_journal.specs.Lists.{entry_at, IsLate}
@@ -137,7 +137,7 @@ has_key k ks = list_any (λ j. same_key k j) ks
 
 pub record HasWritten (cs : List Change) (x : WrittenState) : Type 0 where
   pub keys : (k : Key) → has_key k x.keys ≡ is_in k cs
-  pub any : x.any ≡ not (length cs == 0)
+  pub any : x.any ≡ not (is_empty cs)
 
 -- each session of a script has written its changes
 pub record AreWritten (script : Script) (h : Journal) (xs : List WrittenState) : Type 0 where

@@ -68,6 +68,11 @@ fn is_absent(entry: &Entry) -> bool {
     matches!(&entry.reply, Reply::Evicted(Evicted::Absent))
 }
 
+/// Whether these are half a million evictions of keys that had no entry.
+fn are_absent(entries: &[Entry]) -> bool {
+    entries.len() == 500_000 && entries.iter().all(is_absent)
+}
+
 /// Evicts a hundred thousand books, five times over. Where memory runs out the evictions so far stand.
 fn evict_all<N: Name, K: Keeper, L: Listener>(
     alloc: Global,
@@ -101,9 +106,10 @@ fn evicts<N: Name, K: Keeper + Drop, L: Listener>(
     };
     let evicted = evict_all(alloc, &mut factory);
     let (_keeper, _script, journal, _listeners) = factory.close();
-    evicted?;
-    let entries = journal.as_slice();
-    Ok(entries.len() == 500_000 && entries.iter().all(is_absent))
+    match evicted {
+        Ok(()) => Ok(are_absent(journal.as_slice())),
+        Err(error) => Err(error),
+    }
 }
 
 /// Whether each of these evictions finds no entry, in a factory.

@@ -145,24 +145,39 @@ commit
 end
 ";
 
+fn play_word(alloc: Global) -> Result<Vec<String>, AllocError> {
+    let mut words = Vec::new(alloc);
+    words.push(String::from_str(alloc, "play")?)?;
+    Ok(words)
+}
+
+fn persists(alloc: Global) -> Result<MemSource, AllocError> {
+    let text = PERSISTS.to_vec(alloc)?;
+    Ok(MemSource::new(Seq::from_vec(text), Seq::new(alloc)))
+}
+
+/// Whether the run is done, and one listener comes back, which has heard eight entries.
+fn hears_eight(
+    alloc: Global,
+    words: &Vec<String>,
+    source: &mut MemSource,
+    sink: &mut MemSink,
+    several: Several,
+) -> bool {
+    let keeper = MemKeeper::new(alloc, Seq::new(alloc));
+    let ended = play_words(alloc, words, source, sink, keeper, several);
+    let left = ended.listeners.as_slice();
+    ended.status == Status::Done && left.len() == 1 && left.iter().all(|one| heard_to(one, 8))
+}
+
 /// Whether of a recorder and one limited to three entries, which hear a run of eight, the recorder alone comes back, and has
 /// heard all.
 pub fn hears_a_run(alloc: Global) -> Result<bool, AllocError> {
+    let words = play_word(alloc)?;
+    let mut source = persists(alloc)?;
+    let mut sink = MemSink::new(alloc, 100000, Seq::new(alloc))?;
     let mut several: Several = Vec::new(alloc);
     several.push(Box::new(alloc, Recorder::new(alloc))?)?;
     several.push(Box::new(alloc, Limited::new(alloc, 3))?)?;
-    let mut source = MemSource::new(Seq::from_vec(PERSISTS.to_vec(alloc)?), Seq::new(alloc));
-    let mut sink = MemSink::new(alloc, 100000, Seq::new(alloc))?;
-    let mut words = Vec::new(alloc);
-    words.push(String::from_str(alloc, "play")?)?;
-    let ended = play_words(
-        alloc,
-        &words,
-        &mut source,
-        &mut sink,
-        MemKeeper::new(alloc, Seq::new(alloc)),
-        several,
-    );
-    let left = ended.listeners.as_slice();
-    Ok(ended.status == Status::Done && left.len() == 1 && left.iter().all(|one| heard_to(one, 8)))
+    Ok(hears_eight(alloc, &words, &mut source, &mut sink, several))
 }

@@ -68,39 +68,54 @@ impl Row {
 
     /// Takes a line of the row's description, and answers whether it has a form.
     pub fn take(&mut self, alloc: Global, word: &str, text: &str) -> Result<bool, AllocError> {
-        match word {
-            "words" => add_words(alloc, &mut self.words, text)?,
-            "also" => add_words(alloc, &mut self.also, text)?,
-            "in" => add_line(&mut self.input, text)?,
-            "times" => return add_many(alloc, &mut self.input, text),
-            "part" => self.input.extend_from_slice(text.as_bytes())?,
-            "out" => add_line(&mut self.output, text)?,
-            "has" => self.lines.push(String::from_str(alloc, text)?)?,
-            "piece" => self.output.extend_from_slice(text.as_bytes())?,
-            "says" => self.says.push_str(text)?,
-            "kept" => return add_kept(alloc, &mut self.kept, text),
-            "kept-cells" => return add_kept_cells(alloc, &mut self.kept, text),
-            _ => return self.take_number(word, text),
-        }
+        let taken = match word {
+            "words" => add_words(alloc, &mut self.words, text),
+            "also" => add_words(alloc, &mut self.also, text),
+            "in" => add_line(&mut self.input, text),
+            "part" => add_text(&mut self.input, text),
+            "out" => add_line(&mut self.output, text),
+            "piece" => add_text(&mut self.output, text),
+            "has" => add_word(alloc, &mut self.lines, text),
+            "says" => self.says.push_str(text),
+            _ => return self.take_rows(alloc, word, text),
+        };
+        taken?;
         Ok(true)
     }
 
-    fn take_number(&mut self, word: &str, text: &str) -> Result<bool, AllocError> {
-        let Ok(number) = text.parse::<u32>() else {
-            return Ok(false);
-        };
+    fn take_rows(&mut self, alloc: Global, word: &str, text: &str) -> Result<bool, AllocError> {
+        match word {
+            "times" => add_many(alloc, &mut self.input, text),
+            "kept" => add_kept(alloc, &mut self.kept, text),
+            "kept-cells" => add_kept_cells(alloc, &mut self.kept, text),
+            _ => match text.parse::<u32>() {
+                Ok(number) => self.take_number(word, number),
+                Err(_) => Ok(false),
+            },
+        }
+    }
+
+    fn take_number(&mut self, word: &str, number: u32) -> Result<bool, AllocError> {
         match word {
             "status" => self.status = number,
             "keeps" => self.keeps = number,
             "asks" => self.asks = Some(number),
-            "may-end" => self.ends.push(number)?,
             "room" => self.room = number as usize,
-            "fill" => fill(&mut self.input, number as usize)?,
-            "source-fails" => self.source_fails.push(number)?,
-            "sink-fails" => self.sink_fails.push(number)?,
-            "keeper-fails" => self.keeper_fails.push(number)?,
-            _ => return Ok(false),
+            _ => return self.add_number(word, number),
         }
+        Ok(true)
+    }
+
+    fn add_number(&mut self, word: &str, number: u32) -> Result<bool, AllocError> {
+        let added = match word {
+            "may-end" => add_to(&mut self.ends, number),
+            "fill" => fill(&mut self.input, number as usize),
+            "source-fails" => add_to(&mut self.source_fails, number),
+            "sink-fails" => add_to(&mut self.sink_fails, number),
+            "keeper-fails" => add_to(&mut self.keeper_fails, number),
+            _ => return Ok(false),
+        };
+        added?;
         Ok(true)
     }
 }
@@ -167,6 +182,20 @@ fn add_kept_cells(alloc: Global, rows: &mut Rows, text: &str) -> Result<bool, Al
         }
     }
     push_kept(rows, id, version, cells)
+}
+
+fn add_text(bytes: &mut Vec<u8>, text: &str) -> Result<(), AllocError> {
+    bytes.extend_from_slice(text.as_bytes())
+}
+
+fn add_word(alloc: Global, words: &mut Vec<String>, word: &str) -> Result<(), AllocError> {
+    words.push(String::from_str(alloc, word)?)?;
+    Ok(())
+}
+
+fn add_to(numbers: &mut Vec<u32>, number: u32) -> Result<(), AllocError> {
+    numbers.push(number)?;
+    Ok(())
 }
 
 fn add_line(bytes: &mut Vec<u8>, text: &str) -> Result<(), AllocError> {

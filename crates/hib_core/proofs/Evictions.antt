@@ -1,5 +1,6 @@
 -- What is evicted from outside has an identifier, by each order that has one, and in the steps of sessions.
-use Rattle.std.proofs.Common.{◌≡◌, ⊤, ℕ, ◌+◌, ◌≤◌, Bool, true, false, cond, [], ◌∷◌, ◌++◌, Some, None, Option, Result, Ok, Err, OnOk, OnErr, refl, sym, ap, ◌∙◌, subst, arith, inl, inr}
+use Rattle.std.proofs.Common.{◌≡◌, ℕ, ◌+◌, ◌≤◌, Bool, true, false, cond, [], ◌∷◌, ◌++◌, Some, None, Option, Result, Ok, Err, OnOk, OnErr, refl, sym, ap, ◌∙◌, subst, arith, inl, inr}
+use Rattle.std.specs.Prelude.{⊤}
 use Rattle.std.specs.declared.alloc.AllocError.{AllocError}
 use Rattle.std.proofs.lemmas.Bool.{false≢true, and_from}
 use Rattle.hib_base.specs.Fits.{is_identifier}
@@ -73,7 +74,7 @@ one_named p h [] new f q = absurd (none q)
     none x = cc
 one_named p h (e ∷ rest) new f q = by (p e) refl q
   where
-    by : (b : Bool) → p e ≡ b → cond b (Some (e ∷ h, rest)) None ≡ Some (new, []) → AreNamed h new
+    by : (b : Bool) → p e ≡ b → cond {A = Option Playing} b (Some (e ∷ h, rest)) None ≡ Some (new, []) → AreNamed h new
     by true t x = λ n. subst (λ j. name_identifiers j ≡ true) (ap (λ (y : Playing). y.0) (same x)) (and_from (names_identifier e.session e.act) (name_identifiers h) (f e t) n)
       where
         same : ◌≡◌ {A = Option Playing} (Some (e ∷ h, rest)) (Some (new, [])) → ◌≡◌ {A = Playing} (e ∷ h, rest) (new, [])

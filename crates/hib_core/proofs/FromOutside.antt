@@ -68,7 +68,7 @@ asks_nothing cs (Act.Evict k) o = refl
 asks_nothing cs _ o = absurd (false≢true o)
 
 pub asked_outside : (from : Origin) (h : Journal) (a : Act) (r : Reply) (x y : PartsState) → is_outside a ≡ true → y.store.asked ≡ x.store.asked → IsAsked from h x → IsAsked from (outside_entry h a r ∷ h) y
-asked_outside from h a r x y o e g = subst (λ n. RoseWithin from.asked (ask_count h + n) y.store.asked) (sym (ap cond (asks_nothing (changes 0 h) a o) 1 0)) (record {
+asked_outside from h a r x y o e g = subst (λ n. RoseWithin from.asked (ask_count h + n) y.store.asked) (sym (ap (λ b. cond b 1 0) (asks_nothing (changes 0 h) a o))) (record {
   later = omega (arith, g.later, e);
   few = omega (arith, g.few, e);
 })

@@ -7,11 +7,11 @@ use Rattle.std.proofs.lemmas.Option.{slice_get_past}
 use Rattle.std.proofs.lemmas.List.{reverse-append, reverse-reverse, drop_all}
 use Rattle.std.specs.List.{range_with_len}
 use Rattle.hib_base.proofs.Tables.{Tested, tested}
-use Rattle.hib_journal.specs.Types.{Mode, Order, Script, Act, Entry}
-use Rattle.hib_journal.specs.Sessions.{Journal, own, is_by, was_killed}
+use Rattle.hib_journal.specs.Types.{Mode, Order, SessionDef, Script, Act, Entry}
+use Rattle.hib_journal.specs.Sessions.{Journal, own, is_by, was_killed, is_empty}
 use Rattle.hib_journal.specs.Plan.{Plan, left_of, first_act}
 use Rattle.hib_journal.specs.Next.{next, blocks}
-use Rattle.hib_journal.specs.Played.{has_next, play_steps, play_order, play_orders, play_sessions, is_played}
+use Rattle.hib_journal.specs.Played.{Playing, has_next, play_steps, play_order, play_orders, play_sessions, is_played}
 use Rattle.hib_core.specs.Factory.{Does, IsOver}
 use Rattle.hib_core.specs.Playing.{Play, played, play_all, play_script, GoesOn, Leads}
 use Rattle.hib_engines.proofs.Bridge.{self_by}
@@ -105,7 +105,7 @@ all_over script s old mid new x w = subst (λ j. Leads (play_all script s) playe
 -- one piece after the other
 
 bound : (p q : Play) (old new : Journal) → Leads p played old new → Leads (λ x r. option_and_then (λ y. q y.0 y.1) (p x r)) q old new
-bound p q old new w = record { added = w.added; grown = w.grown; plays = λ rest. ap (λ o. option_and_then (λ p. q p.0 p.1) o) (w.plays rest) }
+bound p q old new w = record { added = w.added; grown = w.grown; plays = λ rest. ap (λ (o : Option Playing). option_and_then (λ p. q p.0 p.1) o) (w.plays rest) }
 
 pub sessions_more : (script : Script) (s n : ℕ) (all : Play) (old mid new : Journal) → s < n →
     Leads all (play_sessions script (range_with_len s (n - s))) old mid → Leads (play_all script s) played mid new →
@@ -153,7 +153,7 @@ script_leads script old mid h x y = leads_on (play_script script) sessions playe
 pub is_all_played : (script : Script) (mid h : Journal) → Leads (play_orders script script.schedule) played [] mid →
     Leads (play_sessions script (range_with_len 0 (length script.sessions))) played mid h → is_played script h ≡ true
 unfolding is_played
-is_all_played script mid h x y = ap option_map_or (λ p. length p.1 == 0) (ap (play_script script []) at_once ∙ z.plays []) false
+is_all_played script mid h x y = ap (λ (o : Option Playing). option_map_or (λ p. is_empty p.1) o false) (ap (play_script script []) at_once ∙ z.plays [])
   where
     z : Leads (play_script script) played [] h
     z = script_leads script [] mid h x y
@@ -195,7 +195,7 @@ over_left (e ∷ m) = rw (over_left m) refl
 
 pub unknown : (script : Script) (s : ℕ) (mine : Journal) → length script.sessions ≤ s → next script s mine ≡ None
 unfolding next
-unknown script s mine l = ap (λ d. first_act (left_of (blocks script Mode.Normal true (option_map_or (λ x. x.statements) d []) []) mine)) (slice_get_past script.sessions s l) ∙ ap first_act (over_left mine)
+unknown script s mine l = ap (λ (o : Option SessionDef). first_act (left_of (blocks script Mode.Normal true (option_map_or (λ d. d.statements) o []) []) mine)) (slice_get_past script.sessions s l) ∙ ap first_act (over_left mine)
 
 pub unknown_leads : (script : Script) (s n : ℕ) (h : Journal) → length script.sessions ≤ s → Leads (play_steps script s n) played h h
 unknown_leads script s n h l = leads_none (play_steps script s n) played h (no_step script s n h (none_next (not (was_killed s h)) (next script s (own s h)) (unknown script s (own s h) l)))

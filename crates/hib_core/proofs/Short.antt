@@ -114,3 +114,7 @@ outside_same h new g = let e = ap outside_count g in omega (arith, e)
 
 pub outside_one : (h new : Journal) (a : Act) (r : Reply) → new ≡ outside_entry h a r ∷ h → outside_count new ≤ outside_count h + 1
 outside_one h new a r g = let e : outside_count new ≡ outside_count h + 1 = ap outside_count g in omega (arith, e)
+
+-- an entry from outside that was added to what a journal still is
+pub grown_from : (mid h new : Journal) (a : Act) (r : Reply) → new ≡ outside_entry mid a r ∷ mid → mid ≡ h → new ≡ outside_entry h a r ∷ h
+grown_from mid h new a r g e = g ∙ ap (λ j. outside_entry j a r ∷ j) e

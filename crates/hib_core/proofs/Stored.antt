@@ -16,6 +16,7 @@ use Rattle.hib_engines.specs.Served.{is_for}
 use Rattle.hib_engines.specs.Store.{IsStored}
 use Rattle.hib_engines.specs.Due.{AreStored}
 use Rattle.hib_engines.specs.Bridged.{IsBridged}
+use Rattle.hib_engines.proofs.Bridge.{deferred_of}
 use Rattle.hib_core.specs.Standing.{Origin, RoseBy, IsStore}
 
 -- counts

@@ -21,7 +21,7 @@ play_all script s past rest = play_steps script s (suc (length rest)) past rest
 -- the orders of the schedule, one after the other, and then each session to its end
 abbrev pub play_script : Script → Play
 play_script script past rest =
-    option_and_then (λ x. (λ p r. play_sessions script (range_with_len 0 (length script.sessions)) p r) x.0 x.1) (play_orders script script.schedule past rest)
+    option_and_then (λ p. play_sessions script (range_with_len 0 (length script.sessions)) p.0 p.1) (play_orders script script.schedule past rest)
 
 -- a journal has gone on from another, or is still that
 abbrev pub GoesOn : Journal → Journal → Type 0

@@ -3,4 +3,5 @@ pub mod Parts
 pub mod Declared
 pub mod Depth
 pub mod Marks
+pub mod Heads
 pub mod Sound

@@ -30,7 +30,7 @@ follows w script l by now a r x y k v q = record {
 pub look_served : Laws → (script : Script) (l : Journal) (by : Option ℕ) (now q : ℕ) (r : Reply) (x y : Ranked) → AreResults script l x →
     r ≡ option_map_or (λ r. Reply.Found r.0 r.1) (result_of q x.kept) Reply.Absent → y ≡ record x { kept = used q x.kept } → IsServed (λ m. AreResults script m y) script l by now (Act.Look q) r
 look_served w script l by now q r x y k p e = record {
-  reply = λ start. p ∙ (ap option_map_or (λ r. Reply.Found r.0 r.1) (w.results_answer (length script.queries) x l k.stands q) Reply.Absent ∙ ap (λ c. option_map_or (λ r. Reply.Found r.0 r.1) (Kept.result c q l) Reply.Absent) k.capacity);
+  reply = λ start. p ∙ (ap (λ (o : Option Kept.Result). option_map_or (λ r. Reply.Found r.0 r.1) o Reply.Absent) (w.results_answer (length script.queries) x l k.stands q) ∙ ap (λ c. option_map_or (λ r. Reply.Found r.0 r.1) (Kept.result c q l) Reply.Absent) k.capacity);
   stands = follows w script l by now (Act.Look q) r x y k p e;
 }
 

@@ -1,12 +1,12 @@
 -- What the store answers is due, and afterwards it stands for the list with the entry.
-use Rattle.std.specs.Prelude.{length, unwrap_or}
+use Rattle.std.specs.Prelude.{unwrap_or}
 use Rattle.std.proofs.Common.{◌≡◌, ◌≢◌, ◌⊎◌, inl, inr, ℕ, ◌+◌, ◌≤◌, ◌==◌, Bool, true, false, cond, not, List, [], ◌∷◌, ◌++◌, Some, None, Option, IfSome, refl, sym, ap, ◌∙◌, subst, slice_get, eq-eqb, arith}
 use Rattle.std.proofs.lemmas.Bool.{true≢false, false≢true, eqb-true}
 use Rattle.std.specs.Option.{option_map, option_map_or}
 use Rattle.hib_base.specs.Tables.{Tables, row_at, after_changes, commit_answer}
 use Rattle.hib_base.proofs.Tables.{Tested, tested}
 use Rattle.hib_journal.specs.Types.{Key, Row, Change, Commit, Query, Part, Act, Reply, Script}
-use Rattle.hib_journal.specs.Sessions.{Journal, is_session, deferred_after, committer}
+use Rattle.hib_journal.specs.Sessions.{Journal, is_session, deferred_after, committer, is_empty}
 use Rattle.hib_journal.specs.Lists.{entry_at, stops, unsaved, unsaved_after, stored, stored_by, IsStoreReply}
 use Rattle.hib_journal.specs.Runs.{is_fault, asks}
 use Rattle.hib_journal.specs.Query.{gives}
@@ -164,7 +164,7 @@ rollback_served script told l now s x y kept w o t = record {
 
 -- ---- a commit
 
-empty_nil : (cs : List Change) → (length cs == 0) ≡ true → cs ≡ []
+empty_nil : (cs : List Change) → is_empty cs ≡ true → cs ≡ []
 empty_nil [] p = refl
 empty_nil (c ∷ cs) p = absurd (false≢true p)
 
@@ -196,14 +196,14 @@ commit_reply script told l now s c store kept answer none = by_told told kept.ro
         (unsaved s l ≡ [] → c ≡ Commit.Committed) → IsStoreReply script told l (entry_at now (Some s) Act.Commit (Reply.Commit c))
     by_told None rows a n = (
       refl,
-      λ q. let e : unsaved s l ≡ [] = empty_nil (unsaved s l) (not_false (length (unsaved s l) == 0) q) in
+      λ q. let e : unsaved s l ≡ [] = empty_nil (unsaved s l) (not_false (is_empty (unsaved s l)) q) in
           inl (ap (λ x. Reply.Commit x) (n e ∙ ap (λ cs. commit_answer cs (stored [] l)) (sym e))),
     )
     by_told (Some start) rows a n = by_answer (fault_or c)
       where
         by_answer : (c ≡ Commit.Fault) ⊎ (c ≢ Commit.Fault) → IsStoreReply script (Some start) l (entry_at now (Some s) Act.Commit (Reply.Commit c))
         by_answer (inr f) = inl (ap (λ x. Reply.Commit x) (subst (λ t. IfSome t (λ m. c ≡ commit_answer (unsaved s l) m)) rows (a f)))
-        by_answer (inl p) = inr (fault_if (length (unsaved s l) == 0) (Reply.Commit Commit.Fault) (not_true (length (unsaved s l) == 0) (λ q. committed_fault (sym (n (empty_nil (unsaved s l) q)) ∙ p)))
+        by_answer (inl p) = inr (fault_if (is_empty (unsaved s l)) (Reply.Commit Commit.Fault) (not_true (is_empty (unsaved s l)) (λ q. committed_fault (sym (n (empty_nil (unsaved s l) q)) ∙ p)))
             ∙ ap (λ x. Some (Reply.Commit x)) (sym p))
 
 commit_keeps : (told : Option Tables) (l : Journal) (now s : ℕ) (c : Commit) (old new : StoreState) → IsStored told l old →

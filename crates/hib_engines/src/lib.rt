@@ -7,7 +7,7 @@
 mod joined;
 mod queries;
 mod region;
-mod regions;
+mod region_list;
 mod registry;
 mod results;
 mod stamps;
@@ -15,7 +15,7 @@ mod store;
 
 pub use joined::{entries_elsewhere, laws};
 pub use region::Region;
-pub use regions::{open_regions, restart_regions, serve_region};
+pub use region_list::{open_regions, restart_regions, serve_region};
 pub use registry::Registry;
 pub use results::ResultsEngine;
 pub use stamps::StampsEngine;

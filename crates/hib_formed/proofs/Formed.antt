@@ -15,7 +15,7 @@ use Rattle.hib_base.specs.Valid.{is_valid}
 use Rattle.hib_base.proofs.Lists.{all_at}
 use Rattle.hib_base.proofs.Valid.{Rules, rules}
 use Rattle.hib_journal.specs.Types.{Cell, Change, ColumnDef, Statement, SessionDef, Script, Part, Act, Reply, Commit, Entry}
-use Rattle.hib_journal.specs.Sessions.{Journal, own, is_by, is_open, was_killed, changes}
+use Rattle.hib_journal.specs.Sessions.{Journal, own, is_by, is_open, was_killed, changes, is_empty}
 use Rattle.hib_journal.specs.Runs.{IsNumbered, names_identifier, name_identifiers}
 use Rattle.hib_journal.specs.Plan.{Plan, left_of, first_act, after}
 use Rattle.hib_journal.specs.Next.{next, plan_of, is_cached, is_in}
@@ -143,7 +143,7 @@ fault_good script cs (Act.List q) r f = subst (λ y. is_reply script (Act.List q
   where
     same : Some Reply.Fault ≡ Some r → Reply.Fault ≡ r
     same y = cc
-fault_good script cs Act.Commit r f = by (length cs == 0) f
+fault_good script cs Act.Commit r f = by (is_empty cs) f
   where
     by : (b : Bool) → cond b None (Some (Reply.Commit Commit.Fault)) ≡ Some r → is_reply script Act.Commit r ≡ true
     by true x = none_some x

@@ -1,9 +1,9 @@
 -- Legal journals: each entry is the next act of its session, in its part, with the reply that the parts give.
-use Rattle.std.specs.Prelude.{◌≡◌, ℕ, ◌+◌, ◌⊎◌, Bool, true, false, cond, not, ◌||◌, List, [], ◌∷◌, length, slice_get, IsSome, Some, None, Option, is_some, unwrap_or, option_map, option_and_then, ◌==◌}
+use Rattle.std.specs.Prelude.{◌≡◌, ℕ, ◌+◌, ◌⊎◌, Bool, true, false, cond, not, ◌||◌, List, [], ◌∷◌, length, slice_get, IsSome, Some, None, Option, is_some, unwrap_or, option_map, option_and_then}
 use Rattle.std.specs.Option.{option_map_or}
 use Rattle.hib_journal.specs.Types.{Key, Row, Change, Commit, State, Outcome, Strategy, Script, Part, Act, Reply, Inserted, Evicted, Entry}
 use Rattle.hib_base.specs.Tables.{Tables, row_at, after_changes, commit_answer}
-use Rattle.hib_journal.specs.Sessions.{Journal, own, floor, changes, is_open, was_killed, committed, IsTimely}
+use Rattle.hib_journal.specs.Sessions.{Journal, is_empty, own, floor, changes, is_open, was_killed, committed, IsTimely}
 use Rattle.hib_journal.specs.Slot.{slot, history, key_in}
 use Rattle.hib_journal.specs.Room.{room, item, oldest}
 use Rattle.hib_journal.specs.Regions
@@ -103,14 +103,14 @@ reply_of script start h s now a = reply_by script (changes s h) (committed start
 abbrev pub fault_of : List Change → Act → Option Reply
 fault_of cs (Act.Load k) = cond (is_in k cs) None (Some Reply.Fault)
 fault_of cs (Act.List q) = Some Reply.Fault
-fault_of cs Act.Commit = cond (length cs == 0) None (Some (Reply.Commit Commit.Fault))
+fault_of cs Act.Commit = cond (is_empty cs) None (Some (Reply.Commit Commit.Fault))
 fault_of cs _ = None
 
 -- the replies that hang on the committed rows, by the session's changes
 abbrev pub is_told : List Change → Act → Bool
 is_told cs (Act.Load k) = not (is_in k cs)
 is_told cs (Act.List q) = true
-is_told cs Act.Commit = not (length cs == 0)
+is_told cs Act.Commit = not (is_empty cs)
 is_told cs _ = false
 
 -- a reply of the kind that the store gives

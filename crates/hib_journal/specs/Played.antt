@@ -4,7 +4,7 @@ use Rattle.std.specs.Option.{option_map_or}
 use Rattle.std.specs.List.{range_with_len}
 use Rattle.hib_journal.specs.Types.{Key, Act, Order, Script, Entry}
 use Rattle.hib_base.specs.Keys.{same_key}
-use Rattle.hib_journal.specs.Sessions.{Journal, own, is_by, is_open, was_killed, is_restart}
+use Rattle.hib_journal.specs.Sessions.{Journal, is_empty, own, is_by, is_open, was_killed, is_restart}
 use Rattle.hib_journal.specs.Next.{next}
 
 -- what was played, the newest first, and what is still to be played, the oldest first
@@ -53,4 +53,4 @@ unfoldable pub is_played : Script → Journal → Bool
 is_played script h =
     let scheduled = play_orders script script.schedule [] (reverse h) in
     let played = option_and_then (λ p. play_sessions script (range_with_len 0 (length script.sessions)) p.0 p.1) scheduled in
-    option_map_or (λ p. length p.1 == 0) played false
+    option_map_or (λ p. is_empty p.1) played false

@@ -7,6 +7,11 @@ use Rattle.hib_base.specs.Tables.{Tables, after_changes, row_at}
 abbrev pub Journal : Type 0
 Journal = List Entry
 
+-- nothing is in a list
+abbrev pub is_empty : {A : Type 0} → List A → Bool
+is_empty [] = true
+is_empty _ = false
+
 abbrev pub is_session : ℕ → Option ℕ → Bool
 is_session s by = option_map_or (λ n. n == s) by false
 

@@ -8,7 +8,7 @@ use Rattle.hib_journal.specs.Sessions.{Journal, changes, committer, is_restart, 
 use Rattle.hib_journal.specs.Slot.{Touch, history}
 use Rattle.hib_journal.specs.Next.{is_in_tables}
 
--- an answer is neither Expired, nor Stored with the late mark
+-- it was not answered Expired, nor Stored with the late mark
 abbrev pub is_calm : Touch → Bool
 is_calm (Touch.Stores r late) = not late
 is_calm Touch.Expires = false

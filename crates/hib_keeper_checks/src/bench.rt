@@ -4,7 +4,7 @@ use hib_base::{Change, EntityNo, Key, Mapping, Row, Seq};
 use hib_keeper_sqlite::{SqliteKeeper, SqliteTables, in_memory, open_file};
 use hib_outside::Keeper;
 use sqlite::{Connection, Error, File, FileStore};
-use std::alloc::Global;
+use std::alloc::{AllocError, Global};
 use std::{fs, io};
 
 /// The keeper that is open.
@@ -50,15 +50,63 @@ fn run(rt: &HostRuntime, path: &str, sql: &str) -> Result<(), Error> {
 fn change(alloc: Global, word: &str, rest: &mut &str) -> Option<Change> {
     let key = words::key(rest)?;
     if word == "insert" {
-        let row = words::row(alloc, rest)?;
-        return Some(Change::Insert { key, row });
+        return insert(alloc, key, rest);
     }
     let expected = words::version(rest)?;
     if word == "delete" {
         return Some(Change::Delete { key, expected });
     }
+    update(alloc, key, expected, rest)
+}
+
+fn insert(alloc: Global, key: Key, rest: &mut &str) -> Option<Change> {
+    let row = words::row(alloc, rest)?;
+    Some(Change::Insert { key, row })
+}
+
+fn update(alloc: Global, key: Key, expected: Option<u32>, rest: &mut &str) -> Option<Change> {
     let row = words::row(alloc, rest)?;
     Some(Change::Update { key, expected, row })
+}
+
+/// The entities that a line names.
+fn entities(alloc: Global, rest: &mut &str) -> Result<Vec<EntityNo>, AllocError> {
+    let mut entities = Vec::new(alloc);
+    for _ in 0..rest.len() {
+        if let Ok(entity) = words::next(rest).parse() {
+            entities.push(EntityNo(entity))?;
+        }
+    }
+    Ok(entities)
+}
+
+/// The list of the entities that a line names.
+fn call_list<K: Keeper>(
+    out: &mut String,
+    alloc: Global,
+    keeper: &mut K,
+    rest: &mut &str,
+) -> io::Result<()> {
+    let entities = entities(alloc, rest)?;
+    play::list(out, alloc, keeper, entities.as_slice())
+}
+
+/// The row of the key that a line names.
+fn call_read<K: Keeper>(
+    out: &mut String,
+    alloc: Global,
+    keeper: &mut K,
+    rest: &mut &str,
+) -> io::Result<()> {
+    match words::key(rest) {
+        Some(key) => play::read(out, alloc, keeper, key),
+        None => add(out, "no form"),
+    }
+}
+
+fn add(out: &mut String, text: &str) -> io::Result<()> {
+    out.push_str(text)?;
+    Ok(())
 }
 
 /// A call of a keeper by a word, and its answer as text.
@@ -77,18 +125,50 @@ fn call<K: Keeper>(
         return play::apply(out, alloc, keeper, next.changes.as_slice());
     }
     if word == "list" {
-        let mut entities = Vec::new(alloc);
-        for _ in 0..rest.len() {
-            if let Ok(entity) = words::next(rest).parse() {
-                entities.push(EntityNo(entity))?;
-            }
-        }
-        return play::list(out, alloc, keeper, entities.as_slice());
+        return call_list(out, alloc, keeper, rest);
     }
-    match words::key(rest) {
-        Some(key) => play::read(out, alloc, keeper, key),
-        None => Ok(out.push_str("no form")?),
+    call_read(out, alloc, keeper, rest)
+}
+
+/// The keeper that a line opens; none if it can't be opened, or closes.
+fn opened(rt: &HostRuntime, alloc: Global, word: &str, rest: &str) -> Open {
+    if word == "memory" {
+        return memory(alloc);
     }
+    if word == "file" {
+        return file(rt, rest);
+    }
+    Open::Nothing
+}
+
+fn memory(alloc: Global) -> Open {
+    match in_memory(alloc) {
+        Ok(keeper) => Open::Memory(keeper),
+        Err(_) => Open::Nothing,
+    }
+}
+
+fn file(rt: &HostRuntime, path: &str) -> Open {
+    match open_file(rt, path) {
+        Ok(keeper) => Open::File(keeper),
+        Err(_) => Open::Nothing,
+    }
+}
+
+/// Whether the line prepares a file or a folder; then that is done.
+fn prepares(rt: &HostRuntime, out: &mut String, word: &str, rest: &str) -> io::Result<bool> {
+    if word == "sql" {
+        let (path, sql) = rest.split_once(' ').unwrap_or((rest, ""));
+        let is_refused = run(rt, path, sql).is_err();
+        add(out, if is_refused { "refused" } else { "ok" })?;
+        return Ok(true);
+    }
+    if word == "folder" {
+        fs::create_dir(rt, rest)?;
+        add(out, "ok")?;
+        return Ok(true);
+    }
+    Ok(false)
 }
 
 impl Bench {
@@ -114,11 +194,36 @@ impl Bench {
         if word == "row" || word == "insert" || word == "update" || word == "delete" {
             return self.add(rt, word, rest);
         }
+        self.answer_line(rt, line, word, rest)
+    }
+
+    /// Does what a line says, and prints the line with what came of it.
+    fn answer_line(
+        &mut self,
+        rt: &HostRuntime,
+        line: &str,
+        word: &str,
+        rest: &str,
+    ) -> io::Result<()> {
         let mut out = String::new(self.alloc);
-        if !self.opens(rt, &mut out, word, rest)? {
-            self.calls(&mut out, word, &mut rest)?;
+        match self.answer(rt, &mut out, word, rest) {
+            Ok(()) => println!(rt; "{line}: {}", out.as_str()),
+            Err(error) => Err(error),
         }
-        println!(rt; "{line}: {}", out.as_str())
+    }
+
+    fn answer(
+        &mut self,
+        rt: &HostRuntime,
+        out: &mut String,
+        word: &str,
+        rest: &str,
+    ) -> io::Result<()> {
+        let mut rest = rest;
+        if self.opens(rt, out, word, rest)? {
+            return Ok(());
+        }
+        self.calls(out, word, &mut rest)
     }
 
     /// Adds an entity to the mapping of the next call.
@@ -133,18 +238,40 @@ impl Bench {
     /// Adds a row or a change to the next call.
     fn add(&mut self, rt: &HostRuntime, word: &str, rest: &str) -> io::Result<()> {
         let mut rest = rest;
-        if word == "row" {
-            if let Some(key) = words::key(&mut rest) {
-                if let Some(row) = words::row(self.alloc, &mut rest) {
-                    self.next.rows.push((key, row))?;
-                    return Ok(());
-                }
-            }
-        } else if let Some(change) = change(self.alloc, word, &mut rest) {
-            self.next.changes.push(change)?;
+        let is_added = if word == "row" {
+            self.add_row(&mut rest)?
+        } else {
+            self.add_change(word, &mut rest)?
+        };
+        if is_added {
             return Ok(());
         }
         println!(rt; "{word}: no form")
+    }
+
+    /// Whether the line has the form of a row; then that is added.
+    fn add_row(&mut self, rest: &mut &str) -> Result<bool, AllocError> {
+        let Some(key) = words::key(rest) else {
+            return Ok(false);
+        };
+        match words::row(self.alloc, rest) {
+            Some(row) => {
+                self.next.rows.push((key, row))?;
+                Ok(true)
+            }
+            None => Ok(false),
+        }
+    }
+
+    /// Whether the line has the form of a change; then that is added.
+    fn add_change(&mut self, word: &str, rest: &mut &str) -> Result<bool, AllocError> {
+        match change(self.alloc, word, rest) {
+            Some(change) => {
+                self.next.changes.push(change)?;
+                Ok(true)
+            }
+            None => Ok(false),
+        }
     }
 
     /// Whether the line opens, closes or prepares something; then that is done.
@@ -155,32 +282,13 @@ impl Bench {
         word: &str,
         rest: &str,
     ) -> io::Result<bool> {
-        if word == "memory" {
-            self.open = match in_memory(self.alloc) {
-                Ok(keeper) => Open::Memory(keeper),
-                Err(_) => Open::Nothing,
-            };
-        } else if word == "file" {
+        if word == "memory" || word == "file" || word == "close" {
             self.open = Open::Nothing;
-            self.open = match open_file(rt, rest) {
-                Ok(keeper) => Open::File(keeper),
-                Err(_) => Open::Nothing,
-            };
-        } else if word == "close" {
-            self.open = Open::Nothing;
-        } else if word == "sql" {
-            let (path, sql) = rest.split_once(' ').unwrap_or((rest, ""));
-            if run(rt, path, sql).is_err() {
-                out.push_str("refused")?;
-                return Ok(true);
-            }
-        } else if word == "folder" {
-            fs::create_dir(rt, rest)?;
-        } else {
-            return Ok(false);
+            self.open = opened(rt, self.alloc, word, rest);
+            add(out, "ok")?;
+            return Ok(true);
         }
-        out.push_str("ok")?;
-        Ok(true)
+        prepares(rt, out, word, rest)
     }
 
     /// A call of the keeper that is open. What was added for it is taken.
@@ -189,7 +297,7 @@ impl Bench {
         match &mut self.open {
             Open::Memory(keeper) => call(out, self.alloc, keeper, word, rest, next)?,
             Open::File(keeper) => call(out, self.alloc, keeper, word, rest, next)?,
-            Open::Nothing => out.push_str("nothing is open")?,
+            Open::Nothing => add(out, "nothing is open")?,
         }
         self.next = nothing(self.alloc);
         Ok(())

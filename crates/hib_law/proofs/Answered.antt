@@ -16,7 +16,7 @@ use Rattle.hib_law.specs.Prefixes.{AtEachPrefix, AtEachEntry}
 use Rattle.hib_law.specs.Rows.{IsItemCommitted, IsHitCommitted, WasCommitted, IsFindAnswered, IsKeyCoherent}
 use Rattle.hib_law.specs.Items.{IsItemOld}
 use Rattle.hib_base.proofs.Tables.{left_by, row_at_changes, same_key_refl}
-use Rattle.hib_law.proofs.Protocol.{IsRowOf}
+use Rattle.hib_law.proofs.Guarded.{IsRowOf}
 use Rattle.hib_law.proofs.Working.{Allowed}
 use Rattle.hib_law.proofs.Blocks.{allowed_act}
 use Rattle.hib_law.proofs.Whole.{coherent, got_by, loaded_by, hit_item}

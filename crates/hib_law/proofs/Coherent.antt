@@ -1,5 +1,5 @@
 -- A sound read-write key that is coherent stays so by an entry of a legal journal whose session keeps to its rules.
-use Rattle.std.specs.Prelude.{option_and_then, length, unwrap_or}
+use Rattle.std.specs.Prelude.{option_and_then, unwrap_or}
 use Rattle.std.specs.Option.{option_map_or}
 use Rattle.std.proofs.Common.{◌≡◌, ℕ, ◌⊎◌, inl, inr, Bool, true, false, cond, not, ◌&&◌, ◌||◌, ◌==◌, List, [], ◌∷◌, Some, None, Option, refl, sym, ◌∙◌, subst}
 use Rattle.std.proofs.lemmas.Bool.{true≢false, false≢true, and_parts, or_parts, or_right, not-true, ne_eqb}
@@ -8,7 +8,7 @@ use Rattle.std.specs.List.{list_any, list_all}
 use Rattle.hib_journal.specs.Types.{Key, Row, Change, Commit, Strategy, Script, Act, Reply, Entry}
 use Rattle.hib_base.specs.Keys.{same_key}
 use Rattle.hib_base.specs.Tables.{Tables, row_at, key_of, row_left, first_on, last_on, after_changes, commit_answer}
-use Rattle.hib_journal.specs.Sessions.{Journal, is_by, is_session, changes, is_open, open_after, is_restart, time, committed, committer}
+use Rattle.hib_journal.specs.Sessions.{Journal, is_by, is_session, changes, is_open, open_after, is_restart, time, committed, committer, is_empty}
 use Rattle.hib_journal.specs.Slot.{Touch, Slot, slot, slot_from, history, touch, key_in, touch_at}
 use Rattle.hib_journal.specs.Held.{is_begin}
 use Rattle.hib_journal.specs.Next.{strategy}
@@ -18,7 +18,8 @@ use Rattle.hib_journal.specs.Coherence.{holders, takes, gives_back, last_row, Se
 use Rattle.hib_base.proofs.Tables.{Tested, tested, row_at_changes, left_by}
 use Rattle.hib_journal.proofs.Slots.{IsKept}
 use Rattle.hib_journal.proofs.Sessions.{IsOrdered, time_same, seen_before}
-use Rattle.hib_law.proofs.Protocol.{In, IsCoherent, Follows, IsQuiet, Move, IsCommit, Commits, kept, kept_commit}
+use Rattle.hib_law.proofs.Guarded.{In, IsCoherent, Follows, IsQuiet, Move, IsCommit, Commits}
+use Rattle.hib_law.proofs.Protocol.{kept, kept_commit}
 use Rattle.hib_law.proofs.Commits.{AreSteps, Meets, first_meets, IsUp, goes_up}
 use Rattle.hib_law.proofs.Effects.{Effect, effect, is_remove}
 use Rattle.hib_law.proofs.Views.{view_of, IsOrderly, IsReady, to_move, to_kept, to_rest, untouched, slot_touched, slot_rests, holders_same, history_step}
@@ -215,7 +216,7 @@ module _ (script : Script) (start : Tables) (k : Key) (h : Journal) (e : Entry) 
       | inr f ↦ let g : fault_of (changes (unwrap_or e.session 0) h) Act.Commit ≡ Some (Reply.Commit Commit.Committed) =
           subst (λ r. fault_of (changes (unwrap_or e.session 0) h) Act.Commit ≡ Some r) said.reply
           (subst (λ a. fault_of (changes (unwrap_or e.session 0) h) a ≡ Some e.reply) said.act f) in
-          absurd (not_free (length (changes (unwrap_or e.session 0) h) == 0) g)
+          absurd (not_free (is_empty (changes (unwrap_or e.session 0) h)) g)
     ]
       where
         same_commit : {x : Commit} → Reply.Commit Commit.Committed ≡ Reply.Commit x → x ≡ Commit.Committed

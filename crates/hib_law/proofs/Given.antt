@@ -13,7 +13,7 @@ use Rattle.hib_journal.specs.Next.{is_in_tables, tables_in}
 use Rattle.hib_journal.specs.Query.{holds, tables, mentions}
 use Rattle.hib_base.specs.Scripts.{is_target_below, are_targets_below, are_targets_in, is_declared}
 use Rattle.hib_base.proofs.Tables.{Tested, tested, same_key_eq, row_at_other_change}
-use Rattle.hib_law.proofs.Protocol.{In}
+use Rattle.hib_law.proofs.Guarded.{In}
 
 -- lists of tables
 

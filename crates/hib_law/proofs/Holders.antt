@@ -12,7 +12,7 @@ use Rattle.hib_journal.specs.Legal.{IsLegal}
 use Rattle.hib_journal.specs.Coherence.{holders, takes, gives_back, remove}
 use Rattle.hib_base.proofs.Tables.{Tested, tested}
 use Rattle.hib_journal.proofs.Sessions.{is_some_session}
-use Rattle.hib_law.proofs.Protocol.{In}
+use Rattle.hib_law.proofs.Guarded.{In}
 use Rattle.hib_law.proofs.Coherent.{open_before, closed}
 use Rattle.hib_law.proofs.Working.{Allowed, holds, holds_after}
 use Rattle.hib_law.proofs.Blocks.{allowed_act}

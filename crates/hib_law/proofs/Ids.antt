@@ -19,7 +19,7 @@ use Rattle.hib_law.specs.Locks.{is_holder, IsLockHeld, IsGivenBack, AreLocksKept
 use Rattle.hib_base.proofs.Tables.{Tested, tested, same_key_refl}
 use Rattle.hib_journal.proofs.Slots.{touched}
 use Rattle.hib_law.specs.Locks.{holder_count}
-use Rattle.hib_law.proofs.Protocol.{In, in_remove, in_none}
+use Rattle.hib_law.proofs.Guarded.{In, in_remove, in_none}
 use Rattle.hib_law.proofs.Effects.{Effect, is_remove}
 use Rattle.hib_law.proofs.Views.{slot_touched, slot_rests, takes_not_back, to_kept}
 use Rattle.hib_law.proofs.Coherent.{WasSound, was_sound, effect_of, rest_of}

@@ -1,6 +1,7 @@
 -- Small facts.
 mod Basics
 -- One key of a read-write region, with no journal in sight: what each kind of entry does to it, and what always holds.
+mod Guarded
 mod Protocol
 -- From a legal journal to that: what touches a key, what its slot was before, and what a session may do.
 mod Touches
@@ -14,6 +15,7 @@ mod HeldRows
 mod Pending
 mod Walks
 mod Working
+mod Flushing
 mod Flushes
 mod Ends
 mod Blocks
@@ -26,6 +28,7 @@ mod Ids
 mod Stamped
 mod Given
 mod QueryRules
+mod Past
 mod Hits
 mod Lists
 -- Items of any region.

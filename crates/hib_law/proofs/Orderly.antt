@@ -13,7 +13,7 @@ use Rattle.hib_journal.specs.Coherence.{holders, is_done, done_in, done_after, l
 use Rattle.hib_base.proofs.Tables.{Tested, tested, same_key_refl, left_by, row_at_changes}
 use Rattle.hib_journal.proofs.Sessions.{is_some_session}
 use Rattle.hib_law.proofs.Floors.{floors_le}
-use Rattle.hib_law.proofs.Protocol.{In}
+use Rattle.hib_law.proofs.Guarded.{In}
 use Rattle.hib_law.proofs.Effects.{floor_named, is_remove}
 use Rattle.hib_law.proofs.Touches.{here_or_victim}
 use Rattle.hib_law.proofs.Views.{IsOrderly, IsReady}

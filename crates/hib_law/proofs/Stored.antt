@@ -25,7 +25,7 @@ use Rattle.hib_journal.proofs.Open.{begun_open}
 use Rattle.hib_law.proofs.Orderly.{Kind, kind, Doer, doer}
 use Rattle.hib_law.proofs.Whole.{view_unchanged, loaded_by}
 use Rattle.hib_law.proofs.StoreRules.{MayPut, MayStore, AllowedStore, allowed_store}
-use Rattle.hib_law.proofs.Hits.{IsPast, up_own, legal_past}
+use Rattle.hib_law.proofs.Past.{IsPast, up_own, legal_past}
 use Rattle.hib_law.proofs.Basics.{none_some, some_same}
 
 -- which acts store a row

@@ -12,7 +12,7 @@ use Rattle.hib_journal.specs.Room.{key, named, place, may_leave, victim, room, f
 use Rattle.hib_journal.specs.Regions
 use Rattle.hib_base.proofs.Tables.{Tested, tested, same_key_eq}
 use Rattle.hib_law.specs.Locks.{holder_count}
-use Rattle.hib_law.proofs.Protocol.{positive_false}
+use Rattle.hib_law.proofs.Guarded.{positive_false}
 use Rattle.hib_law.proofs.Basics.{none_some, some_same}
 
 -- the victim may leave

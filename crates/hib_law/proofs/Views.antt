@@ -16,7 +16,7 @@ use Rattle.hib_base.specs.Keys.{same_key}
 use Rattle.hib_base.proofs.Tables.{Tested, tested, same_key_refl, same_key_eq}
 use Rattle.hib_journal.proofs.Slots.{touched, IsFor, IsKept, slot_step}
 use Rattle.hib_law.specs.Locks.{holder_count}
-use Rattle.hib_law.proofs.Protocol.{View, Move, In}
+use Rattle.hib_law.proofs.Guarded.{View, Move, In}
 use Rattle.hib_law.proofs.Effects.{Effect, floor_named, is_remove}
 
 abbrev pub view_of : Script → Tables → Key → Journal → View

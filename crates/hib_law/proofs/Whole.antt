@@ -16,7 +16,7 @@ use Rattle.hib_journal.specs.Coherence.{Seen}
 use Rattle.hib_base.proofs.Tables.{Tested, tested, left_by, row_at_changes}
 use Rattle.hib_journal.proofs.Sessions.{is_some_session}
 use Rattle.hib_journal.proofs.Slots.{IsKept}
-use Rattle.hib_law.proofs.Protocol.{IsRowOf, IsCoherent}
+use Rattle.hib_law.proofs.Guarded.{IsRowOf, IsCoherent}
 use Rattle.hib_law.proofs.Views.{view_of}
 use Rattle.hib_law.proofs.Coherent.{open_before, closed, WasSound, was_sound, kept_history, coherent_at_first, coherent_anew, coherent_next}
 use Rattle.hib_law.proofs.HeldRows.{HasRead, not_in_before}

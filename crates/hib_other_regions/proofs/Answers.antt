@@ -32,7 +32,7 @@ module _ (state : ItemsState) (n : ℕ) (h : Journal) (stands : IsItems state n 
 
   pub first_of_all : first_placed (λ i. option_map (λ p. p.1) (item (history (key n i) h))) (items n h) ≡ first_key state.items
   first_of_all = first_in_order (λ i. option_map (λ p. p.1) (item (history (key n i) h))) (items n h) state.items
-      (order_same (stamp_of state) (λ i. option_map (λ p. p.1) (item (history (key n i) h))) (λ i. ap option_map (λ p. p.1) (sym (stands.same i))) state.items stands.order) same_keys
+      (order_same (stamp_of state) (λ i. option_map (λ p. p.1) (item (history (key n i) h))) (λ i. ap (option_map (λ p. p.1)) (sym (stands.same i))) state.items stands.order) same_keys
 
   pub oldest_is : (c : ℕ) → state.capacity ≡ c → oldest_in state ≡ oldest c n h
   unfolding oldest

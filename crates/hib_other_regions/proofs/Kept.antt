@@ -38,7 +38,7 @@ module _ (items : ItemList) (last : ℕ) (r : IsRising items last) where
   pub rising_without : (x : ℕ) → IsRising (remove_entry (nat_eq x) items) last
   rising_without x = record {
     order = order_moved x (stamp_at items) (stamp_at (remove_entry (nat_eq x) items))
-        (λ i d. ap option_map (λ p. p.1) (lookup_gone x i) ∙ ap (λ b. option_map (λ p. p.1) (cond b None (lookup (nat_eq i) items))) d)
+        (λ i d. ap (option_map (λ p. p.1)) (lookup_gone x i) ∙ ap (λ b. option_map (λ p. p.1) (cond b None (lookup (nat_eq i) items))) d)
         (remove_entry (nat_eq x) items) (gone x) (order_without (stamp_at items) x items r.order);
     before = λ i. subst (λ p. IsUpTo last (option_map (λ x. x.1) p)) (sym (lookup_gone x i)) (up_to_without (nat_eq x i) (lookup (nat_eq i) items) (r.before i));
   }
@@ -48,7 +48,7 @@ module _ (items : ItemList) (last : ℕ) (r : IsRising items last) where
     lookup_come i = lookup_push (x, (row, now)) i items absent
 
     other : (i : ℕ) → nat_eq x i ≡ false → stamp_at (items ++ (x, (row, now)) ∷ []) i ≡ stamp_at items i
-    other i d = ap option_map (λ p. p.1) (lookup_come i) ∙ ap (λ b. option_map (λ p. p.1) (cond b (Some (row, now)) (lookup (nat_eq i) items))) d
+    other i d = ap (option_map (λ p. p.1)) (lookup_come i) ∙ ap (λ b. option_map (λ p. p.1) (cond b (Some (row, now)) (lookup (nat_eq i) items))) d
 
     up_to_with : (b : Bool) (p : Option (Row × ℕ)) → IsUpTo last (option_map (λ x. x.1) p) → IsUpTo now (option_map (λ x. x.1) (cond b (Some (row, now)) p))
     up_to_with true p h = omega arith
@@ -57,7 +57,7 @@ module _ (items : ItemList) (last : ℕ) (r : IsRising items last) where
     pub rising_push : IsRising (items ++ (x, (row, now)) ∷ []) now
     rising_push =
         let e : stamp_at (items ++ (x, (row, now)) ∷ []) x ≡ Some now =
-        ap option_map (λ p. p.1) (lookup_come x) ∙ ap (λ b. option_map (λ p. p.1) (cond b (Some (row, now)) (lookup (nat_eq x) items))) (eq-eqb x x refl) in
+        ap (option_map (λ p. p.1)) (lookup_come x) ∙ ap (λ b. option_map (λ p. p.1) (cond b (Some (row, now)) (lookup (nat_eq x) items))) (eq-eqb x x refl) in
         record {
           order = order_push (stamp_at (items ++ (x, (row, now)) ∷ [])) items (x, (row, now)) last now
               (order_moved x (stamp_at items) (stamp_at (items ++ (x, (row, now)) ∷ [])) other items absent r.order)

@@ -1,11 +1,11 @@
 -- The part of the store goes on: it stands for its list with one entry more, and its keeper's counts rise as the list says.
-use Rattle.std.specs.Prelude.{cond, unwrap_or, length, ◌==◌}
+use Rattle.std.specs.Prelude.{cond, unwrap_or}
 use Rattle.std.proofs.Common.{◌≡◌, ◌⊎◌, ◌<◌, ◌≤◌, ◌+◌, ◌^◌, ℕ, Bool, true, false, [], ◌∷◌, Some, None, Option, refl, sym, ap, ◌∙◌, subst, arith, inl, inr}
 use Rattle.std.proofs.lemmas.Bool.{true≢false, false≢true}
 use Rattle.hib_base.specs.Tables.{Tables}
 use Rattle.hib_base.proofs.Tables.{Tested, tested}
 use Rattle.hib_journal.specs.Types.{Commit, Script, Act, Reply, Part}
-use Rattle.hib_journal.specs.Sessions.{Journal}
+use Rattle.hib_journal.specs.Sessions.{Journal, is_empty}
 use Rattle.hib_journal.specs.Legal.{part_of, is_of_store}
 use Rattle.hib_journal.specs.Lists.{entry_at, unsaved, IsStoreReply}
 use Rattle.hib_journal.specs.Runs.{asks, is_fault, fault_count}
@@ -57,7 +57,7 @@ store_small script told l s now (Act.List q) r v p b = absurd (true≢false b)
 store_small script None l s now (Act.Write c) r v p b = answer_small Reply.Written r None (v.1 refl) refl tt
 store_small script (Some start) l s now (Act.Write c) r v p b = answer_small Reply.Written r None v refl tt
 store_small script None l s now Act.Commit r v p b = commit_small r v.0
-store_small script (Some start) l s now Act.Commit r v p b = answer_small _ r _ v refl (fault_small (length (unsaved s l) == 0))
+store_small script (Some start) l s now Act.Commit r v p b = answer_small _ r _ v refl (fault_small (is_empty (unsaved s l)))
 store_small script None l s now Act.Rollback r v p b = answer_small Reply.Done r None (v.1 refl) refl tt
 store_small script (Some start) l s now Act.Rollback r v p b = answer_small Reply.Done r None v refl tt
 store_small script told l s now _ r v p b = absurd (false≢true p)

@@ -178,11 +178,11 @@ follow n r oth lst stands (Act.Look q) reply answered =
     by_result : (o : Option Result) → result_of q r.kept ≡ o → (reply : Reply) → reply ≡ option_map_or (λ x. Reply.Found x.0 x.1) (result_of q r.kept) Reply.Absent
         → AreRanked n (record r { kept = used q r.kept }) (λ y. others_after y (told.used (Act.Look q) reply) (oth y)) lst
     by_result None k reply e =
-        let is : Reply.Absent ≡ reply = sym (e ∙ ap option_map_or (λ r. Reply.Found r.0 r.1) k Reply.Absent) in
+        let is : Reply.Absent ≡ reply = sym (e ∙ ap (λ (o : Option Result). option_map_or (λ r. Reply.Found r.0 r.1) o Reply.Absent) k) in
         subst (λ rep. AreRanked n (record r { kept = used q r.kept }) (λ y. others_after y (told.used (Act.Look q) rep) (oth y)) lst) is
         (subst (λ es. AreRanked n (record r { kept = es }) oth lst) (sym (used_absent q r k)) stands)
     by_result (Some x) k reply e =
-        let is : Reply.Found x.0 x.1 ≡ reply = sym (e ∙ ap option_map_or (λ r. Reply.Found r.0 r.1) k Reply.Absent) in
+        let is : Reply.Found x.0 x.1 ≡ reply = sym (e ∙ ap (λ (o : Option Result). option_map_or (λ r. Reply.Found r.0 r.1) o Reply.Absent) k) in
         subst (λ rep. AreRanked n (record r { kept = used q r.kept }) (λ y. others_after y (told.used (Act.Look q) rep) (oth y)) lst) is
         (subst (λ es. AreRanked n (record r { kept = es }) (λ y. others_after y (Some q) (oth y)) lst) (sym (used_first q x r stands.bounded k))
         (subst (λ f. AreRanked n (record r { kept = first q x r }) (λ y. others_after y (Some q) (oth y)) f) (λ i y. same y i)

@@ -13,6 +13,7 @@ mod opening;
 mod queries;
 mod queue;
 mod session;
+mod stages;
 mod written;
 
 pub use bounds::entries_are_few;

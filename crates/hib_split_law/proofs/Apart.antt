@@ -312,7 +312,7 @@ module _ (script : Script) where
 
         same : (o : Option ℕ) → e.session ≡ o → asks_store e.act ≡ true → unsaved (unwrap_or e.session 0) h ≡ changes (unwrap_or e.session 0) h
         same None q y = absurd (none (is_outside e.act) (outside_asks e.act y) (subst (λ o. due_by script h o e.act ≡ Some e.act) q (is_due e h i)))
-        same (Some s) q y = subst (λ n. unsaved n h ≡ changes n h) (sym (ap unwrap_or q 0))
+        same (Some s) q y = subst (λ n. unsaved n h ≡ changes n h) (sym (ap (λ o. unwrap_or o 0) q))
             (unsaved_legal script told s h l (next_act script told h e s i (by_self e s q)).0 ∙ (step_due s e h q l i).deferred y)
 
     pub all_legal : (h : Journal) → IsLegal script told h → AllFit h
@@ -353,7 +353,7 @@ module _ (script : Script) where
     sessions_apart s (e ∷ h) q l = by (is_by s e) refl (sessions_apart s h q.0 l.0)
       where
         by : (b : Bool) → is_by s e ≡ b → IsOwnLegal script s (own s h) → IsOwnLegal script s (own s (e ∷ h))
-        by true x i = rw x (i, subst (λ n. IsOwnStep script n (own n h) e) (ap unwrap_or (is_some_session s e.session x) 0) (mine_step e h q l))
+        by true x i = rw x (i, subst (λ n. IsOwnStep script n (own n h) e) (ap (λ o. unwrap_or o 0) (is_some_session s e.session x)) (mine_step e h q l))
         by false x i = rw x i
 
 pub later_legal : (script : Script) (told : Option Tables) (h : Journal) → IsLegal script told h → AreLater h

@@ -239,7 +239,7 @@ committed_local start (e ∷ h) a = by (same_part Part.Store e.part || stops e.a
     asked : (n : ℕ) → committer e.act e.reply e.session ≡ Some n → changes n h ≡ unsaved n (seen_by Part.Store h)
     asked n p =
         let r : (asks_store e.act ≡ true) × (e.session ≡ Some n) = committer_asks e.act e.reply e.session n p in
-        subst (λ m. changes m h ≡ unsaved m (seen_by Part.Store h)) (ap unwrap_or r.1 0) (sym (a.1.same r.0) ∙ unsaved_local (unwrap_or e.session 0) h a.0)
+        subst (λ m. changes m h ≡ unsaved m (seen_by Part.Store h)) (ap (λ o. unwrap_or o 0) r.1) (sym (a.1.same r.0) ∙ unsaved_local (unwrap_or e.session 0) h a.0)
 
     by_committer : (o : Option ℕ) → committer e.act e.reply e.session ≡ o → committed start h ≡ stored start (seen_by Part.Store h) →
         option_map_or (λ s. after_changes (changes s h) (committed start h)) o (committed start h) ≡ stored_by o (seen_by Part.Store h) (stored start (seen_by Part.Store h))

@@ -26,7 +26,7 @@ played turns telling _ left after text script kept rows journal taken written r 
 -- and so it is where none was read
 pub unread : (turns : Turns) (telling : Telling) (answer : Status) (left after : Option (List ℕ)) (kept rows : Option Tables) (journal : Kept) (taken : Option (List ℕ)) →
     HasNoScript left after answer → past journal ≡ [] → rows ≡ kept → Plays turns telling answer left after kept rows journal taken taken
-unread turns telling (Status.Refused q) left after kept rows journal taken read e s = (read, record { empty = e; same = s }, refl)
+unread turns telling (Status.Refused q) left after kept rows journal taken read e s = (read, (record { empty = e; same = s }, refl))
 unread turns telling Status.ReadFault left after kept rows journal taken n e s = (record { empty = e; same = s }, refl)
 unread turns telling Status.TooLong left after kept rows journal taken n e s = (record { empty = e; same = s }, refl)
 unread turns telling Status.NoMemory left after kept rows journal taken n e s = inl (record { empty = e; same = s }, refl)

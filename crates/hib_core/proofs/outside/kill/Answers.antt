@@ -11,7 +11,7 @@ use Rattle.hib_session.specs.Sessions.{AreSessions}
 use Rattle.hib_core.specs.Factory.{IsRun, IsAsked}
 use Rattle.hib_session.specs.Killed.{AreKilled}
 use Rattle.hib_core.specs.Playing.{played, Leads}
-use Rattle.hib_core.proofs.Short.{outside_same, outside_one}
+use Rattle.hib_core.proofs.Short.{outside_same, outside_one, grown_from}
 use Rattle.hib_session.proofs.Together.{sessions_outside}
 use Rattle.hib_core.proofs.FromOutside.{kill_run, kill_leads, no_kill_leads, asked_outside}
 use Rattle.hib_engines.proofs.Opened.{holds_open}
@@ -34,7 +34,7 @@ returns-clause-run g c =
     let begun : is_open n h ≡ true = sym (ap (λ (ps : Opened). holds n ps) here ∙ holds_open x.registry h n c.requires.run.parts.registry) ∙ (sym c.is_open.ensures ∙ c.if-not-is_open.false) in
     let same : past c.reserve_tick.new.journal ≡ h = c.in_ok-now.ensures.same in
     let grown : past c.tell.new.journal ≡ outside_entry h (Act.Kill n) Reply.Done ∷ h =
-    c.tell.ensures ∙ ap (λ (j : Journal). outside_entry j (Act.Kill n) Reply.Done ∷ j) same in
+    grown_from (past c.reserve_tick.new.journal) h (past c.tell.new.journal) (Act.Kill n) Reply.Done c.tell.ensures same in
     subst (λ (j : Journal). IsRun g.N.Name.script g.N.Name.from j c.kill.new.self) (sym grown)
     (kill_run c.law.ensures.obeyed g.N.Name.script g.N.Name.from h n x c.kill.new.self c.requires.run begun c.in_ok-now.ensures.few
     (c.kill.ensures.stands g.N.Name.script g.N.Name.from h c.requires.run.parts c.requires.run.numbered))
@@ -48,7 +48,7 @@ returns-clause-sessions g c =
     let ys = c.kill_at.new.sessions.items in
     let same : past c.reserve_tick.new.journal ≡ h = c.in_ok-now.ensures.same in
     let grown : past c.tell.new.journal ≡ outside_entry h (Act.Kill n) Reply.Done ∷ h =
-    c.tell.ensures ∙ ap (λ (j : Journal). outside_entry j (Act.Kill n) Reply.Done ∷ j) same in
+    grown_from (past c.reserve_tick.new.journal) h (past c.tell.new.journal) (Act.Kill n) Reply.Done c.tell.ensures same in
     subst (λ (j : Journal). AreSessions g.N.Name.script j ys) (sym grown)
     (sessions_outside g.N.Name.script h (length h + 1) (Act.Kill n) Reply.Done xs ys c.requires.sessions
     (subst (λ (m : ℕ). AreKilled (λ s. m == s) xs ys) c.number.view_is c.kill_at.ensures))
@@ -60,7 +60,7 @@ returns-clause-asked g c = λ w.
     let x = c.args.parts.now in
     let same : past c.reserve_tick.new.journal ≡ h = c.in_ok-now.ensures.same in
     let grown : past c.tell.new.journal ≡ outside_entry h (Act.Kill n) Reply.Done ∷ h =
-    c.tell.ensures ∙ ap (λ (j : Journal). outside_entry j (Act.Kill n) Reply.Done ∷ j) same in
+    grown_from (past c.reserve_tick.new.journal) h (past c.tell.new.journal) (Act.Kill n) Reply.Done c.tell.ensures same in
     subst (λ (j : Journal). IsAsked g.N.Name.from j c.kill.new.self) (sym grown)
     (asked_outside g.N.Name.from h (Act.Kill n) Reply.Done x c.kill.new.self refl c.kill.ensures.asked w)
 
@@ -73,7 +73,7 @@ returns-clause-played g c =
     let begun : is_open n h ≡ true = sym (ap (λ (ps : Opened). holds n ps) here ∙ holds_open x.registry h n c.requires.run.parts.registry) ∙ (sym c.is_open.ensures ∙ c.if-not-is_open.false) in
     let same : past c.reserve_tick.new.journal ≡ h = c.in_ok-now.ensures.same in
     let grown : past c.tell.new.journal ≡ outside_entry h (Act.Kill n) Reply.Done ∷ h =
-    c.tell.ensures ∙ ap (λ (j : Journal). outside_entry j (Act.Kill n) Reply.Done ∷ j) same in
+    grown_from (past c.reserve_tick.new.journal) h (past c.tell.new.journal) (Act.Kill n) Reply.Done c.tell.ensures same in
     subst (λ (j : Journal). Leads (play_order g.N.Name.script (Order.Kill n)) played h j) (sym grown) (kill_leads g.N.Name.script h n begun)
 
 pub returns-in_err-now-clause-outside : goal.returns-in_err-now-clause-outside
@@ -84,7 +84,7 @@ returns-clause-outside g c =
     let h = past c.args.journal.now in
     let n = c.args.number in
     let same : past c.reserve_tick.new.journal ≡ h = c.in_ok-now.ensures.same in
-    outside_one h (past c.tell.new.journal) (Act.Kill n) Reply.Done (c.tell.ensures ∙ ap (λ (j : Journal). outside_entry j (Act.Kill n) Reply.Done ∷ j) same)
+    outside_one h (past c.tell.new.journal) (Act.Kill n) Reply.Done (grown_from (past c.reserve_tick.new.journal) h (past c.tell.new.journal) (Act.Kill n) Reply.Done c.tell.ensures same)
 
 pub returns-in_err-now-clause-closed : goal.returns-in_err-now-clause-closed
 returns-in_err-now-clause-closed g c = λ k.

@@ -9,7 +9,7 @@ use Rattle.hib_core.specs.Standing.{PartsState, outside_entry}
 use Rattle.hib_session.specs.Sessions.{AreSessions}
 use Rattle.hib_core.specs.Factory.{IsRun, IsAsked}
 use Rattle.hib_core.specs.Playing.{played, Leads}
-use Rattle.hib_core.proofs.Short.{outside_same, outside_one}
+use Rattle.hib_core.proofs.Short.{outside_same, outside_one, grown_from}
 use Rattle.hib_session.proofs.Together.{sessions_outside}
 use Rattle.hib_core.proofs.FromOutside.{restart_run, restart_leads, asked_outside}
 use Rattle.hib_session.proofs.Killed.{killed_as}
@@ -21,7 +21,7 @@ returns-clause-run g c =
     let h = past c.args.journal.now in
     let same : past c.reserve_tick.new.journal ≡ h = c.in_ok-now.ensures.same in
     let grown : past c.tell.new.journal ≡ outside_entry h Act.Restart Reply.Done ∷ h =
-    c.tell.ensures ∙ ap (λ (j : Journal). outside_entry j Act.Restart Reply.Done ∷ j) same in
+    grown_from (past c.reserve_tick.new.journal) h (past c.tell.new.journal) Act.Restart Reply.Done c.tell.ensures same in
     subst (λ (j : Journal). IsRun g.N.Name.script g.N.Name.from j c.restart.new.self) (sym grown)
     (restart_run c.law.ensures.obeyed g.N.Name.script g.N.Name.from h c.args.parts.now c.restart.new.self c.requires.run c.in_ok-now.ensures.few
     (c.restart.ensures.stands g.N.Name.script g.N.Name.from h c.requires.run.parts c.requires.run.numbered))
@@ -35,7 +35,7 @@ returns-clause-sessions g c =
     let here : c.parts.inside.registry ≡ x.registry = ap (λ (v : PartsState). v.registry) c.parts.view_is in
     let same : past c.reserve_tick.new.journal ≡ h = c.in_ok-now.ensures.same in
     let grown : past c.tell.new.journal ≡ outside_entry h Act.Restart Reply.Done ∷ h =
-    c.tell.ensures ∙ ap (λ (j : Journal). outside_entry j Act.Restart Reply.Done ∷ j) same in
+    grown_from (past c.reserve_tick.new.journal) h (past c.tell.new.journal) Act.Restart Reply.Done c.tell.ensures same in
     subst (λ (j : Journal). AreSessions g.N.Name.script j ys) (sym grown)
     (sessions_outside g.N.Name.script h (length h + 1) Act.Restart Reply.Done xs ys c.requires.sessions
     (killed_as (λ s. list_any (λ n. n == s) c.open_sessions.result.now) (λ s. is_open s h) xs ys
@@ -46,7 +46,7 @@ returns-clause-asked g c = λ w.
     let h = past c.args.journal.now in
     let same : past c.reserve_tick.new.journal ≡ h = c.in_ok-now.ensures.same in
     let grown : past c.tell.new.journal ≡ outside_entry h Act.Restart Reply.Done ∷ h =
-    c.tell.ensures ∙ ap (λ (j : Journal). outside_entry j Act.Restart Reply.Done ∷ j) same in
+    grown_from (past c.reserve_tick.new.journal) h (past c.tell.new.journal) Act.Restart Reply.Done c.tell.ensures same in
     subst (λ (j : Journal). IsAsked g.N.Name.from j c.restart.new.self) (sym grown)
     (asked_outside g.N.Name.from h Act.Restart Reply.Done c.args.parts.now c.restart.new.self refl c.restart.ensures.asked w)
 
@@ -55,7 +55,7 @@ returns-clause-played g c =
     let h = past c.args.journal.now in
     let same : past c.reserve_tick.new.journal ≡ h = c.in_ok-now.ensures.same in
     let grown : past c.tell.new.journal ≡ outside_entry h Act.Restart Reply.Done ∷ h =
-    c.tell.ensures ∙ ap (λ (j : Journal). outside_entry j Act.Restart Reply.Done ∷ j) same in
+    grown_from (past c.reserve_tick.new.journal) h (past c.tell.new.journal) Act.Restart Reply.Done c.tell.ensures same in
     subst (λ (j : Journal). Leads (play_order g.N.Name.script Order.Restart) played h j) (sym grown) (restart_leads g.N.Name.script h)
 
 pub returns-in_err-now-clause-outside : goal.returns-in_err-now-clause-outside
@@ -65,4 +65,4 @@ pub returns-clause-outside : goal.returns-clause-outside
 returns-clause-outside g c =
     let h = past c.args.journal.now in
     let same : past c.reserve_tick.new.journal ≡ h = c.in_ok-now.ensures.same in
-    outside_one h (past c.tell.new.journal) Act.Restart Reply.Done (c.tell.ensures ∙ ap (λ (j : Journal). outside_entry j Act.Restart Reply.Done ∷ j) same)
+    outside_one h (past c.tell.new.journal) Act.Restart Reply.Done (grown_from (past c.reserve_tick.new.journal) h (past c.tell.new.journal) Act.Restart Reply.Done c.tell.ensures same)

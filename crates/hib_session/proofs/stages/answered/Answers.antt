@@ -2,7 +2,7 @@ use Rattle.std.proofs.Common.{◌∷◌, ap, ◌∙◌}
 use Rattle.hib_session.specs.declared.control.Stage.{Stage}
 use Rattle.hib_session.specs.Control.{queued}
 use Rattle.hib_journal.specs.Next.{completion}
-use Rattle.hib_session.proofs.control.answered.Goals as goal
+use Rattle.hib_session.proofs.stages.answered.Goals as goal
 
 pub returns-in_ok-acts-in-Committing-clause-follows : goal.returns-in_ok-acts-in-Committing-clause-follows
 returns-in_ok-acts-in-Committing-clause-follows c = λ done go d r e.

@@ -7,7 +7,7 @@ use Rattle.hib_engines.specs.Served.{IsServed}
 use Rattle.hib_engines.proofs.Outcomes.{map_ok, map_on}
 use Rattle.hib_engines.specs.Regions.{region_of, IsAtRegion}
 use Rattle.hib_engines.proofs.RegionList.{region_at, region_put, at_region, none_past, none_due, on_ok}
-use Rattle.hib_engines.proofs.regions.serve_region.Goals as goal
+use Rattle.hib_engines.proofs.region_list.serve_region.Goals as goal
 
 pub returns-then-at-len-clause-answered : goal.returns-then-at-len-clause-answered
 returns-then-at-len-clause-answered c = map_ok c.serve.result _ _ c.serve.ensures.answered (λ r p script l by k late e u.

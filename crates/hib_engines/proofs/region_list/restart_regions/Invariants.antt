@@ -1,7 +1,7 @@
 use Rattle.std.proofs.Common.{◌≡◌, ℕ, cond, nat_lt, length}
 use Rattle.hib_engines.specs.Region.{emptied}
 use Rattle.hib_engines.specs.Regions.{region_of}
-use Rattle.hib_engines.proofs.regions.restart_regions.Given as goal
+use Rattle.hib_engines.proofs.region_list.restart_regions.Given as goal
 
 -- the regions so far are emptied, and the others as they were
 abbrev pub invariant-loop-at : goal.invariant-loop-at

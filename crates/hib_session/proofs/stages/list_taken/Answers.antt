@@ -1,6 +1,6 @@
 use Rattle.std.proofs.Common.{sym, ◌∙◌}
 use Rattle.hib_session.proofs.Taken.{list_flushed}
-use Rattle.hib_session.proofs.control.list_taken.Goals as goal
+use Rattle.hib_session.proofs.stages.list_taken.Goals as goal
 
 pub returns-then-branch : goal.returns-then-branch
 returns-then-branch c = λ mine mode go k.

@@ -5,7 +5,7 @@ use Rattle.hib_engines.specs.declared.region.Region.{Region}
 use Rattle.hib_engines.specs.Region.{emptied}
 use Rattle.hib_engines.proofs.RegionList.{region_at}
 use Rattle.hib_engines.proofs.RegionList.{emptied_more, emptied_all}
-use Rattle.hib_engines.proofs.regions.restart_regions.Goals as goal
+use Rattle.hib_engines.proofs.region_list.restart_regions.Goals as goal
 
 pub loop-at-preserved : goal.loop-at-preserved
 loop-at-preserved c =

@@ -1,5 +1,5 @@
 use Rattle.hib_session.proofs.Taken.{flush_taken, commit_taken}
-use Rattle.hib_session.proofs.control.taken.Goals as goal
+use Rattle.hib_session.proofs.stages.taken.Goals as goal
 
 pub returns-in_ok-flush-in-Flush : goal.returns-in_ok-flush-in-Flush
 returns-in_ok-flush-in-Flush c = λ mine go r.
