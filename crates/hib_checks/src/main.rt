@@ -11,6 +11,7 @@ mod row;
 mod stale;
 mod words;
 mod working;
+mod world;
 
 use row::Row;
 use std::alloc::{AllocError, Global};
@@ -18,7 +19,7 @@ use std::io;
 use std::sync::Wait;
 use std::thread::Threads;
 
-/// The word and the text behind it.
+/// The word and the text after it.
 fn split(line: &str) -> (&str, &str) {
     line.split_once(' ').unwrap_or((line, ""))
 }
@@ -30,8 +31,11 @@ fn finish<R: Threads + Wait + Sync>(
     alloc: Global,
     row: &Row,
 ) -> io::Result<()> {
-    let report = check::report(rt, alloc, row)?;
-    out.println(report.as_str())
+    let name = row.name.as_str();
+    match check::first_fault(rt, alloc, row)? {
+        None => println!(out; "row {name}: ok"),
+        Some(fault) => println!(out; "row {name}: {}", fault.as_str()),
+    }
 }
 
 /// Prints the line of what is tried by direct calls.
@@ -126,23 +130,34 @@ fn take_line<R: Threads + Wait + Sync>(
     complain(out, line)
 }
 
+/// Runs the rows of standard input, and prints the line of each.
+fn try_rows<R: Threads + Wait + Sync>(rt: &R, host: &HostRuntime, alloc: Global) -> io::Result<()> {
+    let mut open: Option<Row> = None;
+    for line in host.lines(alloc) {
+        let line = line?;
+        take_line(rt, host, alloc, &mut open, line.as_str())?;
+    }
+    match &open {
+        Some(row) => finish(rt, host, alloc, row),
+        None => Ok(()),
+    }
+}
+
+/// Prints the lines of what is tried of commits, evictions and words.
+fn tell_calls(rt: &impl Print, alloc: Global) -> io::Result<()> {
+    tell(rt, "stale-version", stale::finds_the_version(alloc)?)?;
+    tell(rt, "stale-row", stale::finds_no_row(alloc)?)?;
+    tell(rt, "long-eviction", evicting::finds_none(alloc)?)?;
+    tell(rt, "full-region", evicting::leaves_in_turn(alloc)?)?;
+    tell(rt, "word-with-a-path", words::keeps_a_path(alloc)?)?;
+    tell(rt, "many-words", words::refuses_many(alloc)?)?;
+    tell(rt, "help", words::helps(alloc)?)
+}
+
 fn main(rt: HostRuntime) -> io::Result<()> {
     let alloc = rt.alloc();
-    let mut open: Option<Row> = None;
-    for line in rt.lines(alloc) {
-        let line = line?;
-        take_line(&rt, &rt, alloc, &mut open, line.as_str())?;
-    }
-    if let Some(row) = &open {
-        finish(&rt, &rt, alloc, row)?;
-    }
-    tell(&rt, "stale-version", stale::finds_the_version(alloc)?)?;
-    tell(&rt, "stale-row", stale::finds_no_row(alloc)?)?;
-    tell(&rt, "long-eviction", evicting::finds_none(alloc)?)?;
-    tell(&rt, "full-region", evicting::leaves_in_turn(alloc)?)?;
-    tell(&rt, "word-with-a-path", words::keeps_a_path(alloc)?)?;
-    tell(&rt, "many-words", words::refuses_many(alloc)?)?;
-    tell(&rt, "help", words::helps(alloc)?)?;
+    try_rows(&rt, &rt, alloc)?;
+    tell_calls(&rt, alloc)?;
     tell_listening(&rt, alloc)?;
     tell_working(&rt, &rt, alloc)
 }

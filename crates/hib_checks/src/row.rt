@@ -1,46 +1,56 @@
-// A row, from the lines that describe it.
+// A row: its name, and the lines that describe it.
 use hib_base::{Cell, Cells, EntityNo, Key, Rows, Seq};
 use std::alloc::{AllocError, Global};
 
-/// The bytes that a sink takes where a row says nothing of its room.
-const ROOM: usize = 65536;
+/// A line of a row's description: its first word, and the text after it.
+#[derive(Drop)]
+struct Line {
+    word: String,
+    text: String,
+}
 
-/// What goes into the top call, and what must come of it.
+/// What goes into the top call, and what must come of it, as the lines of its description say.
 #[derive(Drop)]
 pub struct Row {
     /// The row's name.
     pub name: String,
-    /// The words of the command line.
-    pub words: Vec<String>,
-    /// Other words that must come to the same, if there are any.
-    pub also: Vec<String>,
-    /// The bytes of the source.
-    pub input: Vec<u8>,
-    /// The rows that the keeper has at first. It places them at its first call.
-    pub kept: Rows,
-    /// How many bytes the sink takes.
-    pub room: usize,
-    /// The numbers of the source's calls that fail.
-    pub source_fails: Vec<u32>,
-    /// The numbers of the sink's calls that fail.
-    pub sink_fails: Vec<u32>,
-    /// The numbers of the keeper's calls that fail.
-    pub keeper_fails: Vec<u32>,
-    /// The number of the status that is wanted.
-    pub status: u32,
-    /// What the program is to say on standard error, without the line's end.
-    pub says: String,
-    /// The bytes that are to be written, where no lines of them are named.
-    pub output: Vec<u8>,
-    /// Lines that are to be written, in their order, with others between them.
-    pub lines: Vec<String>,
-    /// The lines at which the script may end: then each front of the input is run too, and is played where it ends with such
-    /// a line, and else refused.
-    pub ends: Vec<u32>,
-    /// How many rows the keeper is to have at the end.
-    pub keeps: u32,
-    /// How often the keeper is to have been asked for rows, where the row says so.
-    pub asks: Option<u32>,
+    lines: Vec<Line>,
+}
+
+/// Whether a word is one of these.
+fn is_one_of(word: &str, words: &[&str]) -> bool {
+    words.iter().any(|one| *one == word)
+}
+
+/// Whether a line has a form.
+fn has_form(word: &str, text: &str) -> bool {
+    is_one_of(
+        word,
+        &["words", "also", "in", "part", "out", "piece", "has", "says"],
+    ) || (is_one_of(
+        word,
+        &["status", "keeps", "asks", "room", "may-end", "fill"],
+    ) && text.parse::<u32>().is_ok())
+        || (is_one_of(word, &["source-fails", "sink-fails", "keeper-fails"])
+            && text.parse::<u32>().is_ok())
+        || (word == "times" && repeated(text).is_some())
+        || (is_one_of(word, &["kept", "kept-cells"]) && kept_key(text).is_some())
+}
+
+/// How often the lines after the number are repeated.
+fn repeated(text: &str) -> Option<(u32, &str)> {
+    let (count, lines) = text.split_once(' ')?;
+    let count = count.parse().ok()?;
+    Some((count, lines))
+}
+
+/// The identifier and the version of a row that the keeper has at first, and the text of its cells.
+fn kept_key(text: &str) -> Option<(u64, u32, &str)> {
+    let (id, rest) = text.split_once(' ')?;
+    let (version, cells) = rest.split_once(' ').unwrap_or((rest, ""));
+    let id = id.parse().ok()?;
+    let version = version.parse().ok()?;
+    Some((id, version, cells))
 }
 
 impl Row {
@@ -48,182 +58,112 @@ impl Row {
     pub fn new(alloc: Global, name: &str) -> Result<Row, AllocError> {
         Ok(Row {
             name: String::from_str(alloc, name)?,
-            words: Vec::new(alloc),
-            also: Vec::new(alloc),
-            input: Vec::new(alloc),
-            kept: Seq::new(alloc),
-            room: ROOM,
-            source_fails: Vec::new(alloc),
-            sink_fails: Vec::new(alloc),
-            keeper_fails: Vec::new(alloc),
-            status: 0,
-            says: String::new(alloc),
-            output: Vec::new(alloc),
             lines: Vec::new(alloc),
-            ends: Vec::new(alloc),
-            keeps: 0,
-            asks: None,
         })
     }
 
     /// Takes a line of the row's description, and answers whether it has a form.
     pub fn take(&mut self, alloc: Global, word: &str, text: &str) -> Result<bool, AllocError> {
-        let taken = match word {
-            "words" => add_words(alloc, &mut self.words, text),
-            "also" => add_words(alloc, &mut self.also, text),
-            "in" => add_line(&mut self.input, text),
-            "part" => add_text(&mut self.input, text),
-            "out" => add_line(&mut self.output, text),
-            "piece" => add_text(&mut self.output, text),
-            "has" => add_word(alloc, &mut self.lines, text),
-            "says" => self.says.push_str(text),
-            _ => return self.take_rows(alloc, word, text),
-        };
-        taken?;
+        if !has_form(word, text) {
+            return Ok(false);
+        }
+        let word = String::from_str(alloc, word)?;
+        let text = String::from_str(alloc, text)?;
+        self.lines.push(Line { word, text })?;
         Ok(true)
     }
 
-    fn take_rows(&mut self, alloc: Global, word: &str, text: &str) -> Result<bool, AllocError> {
-        match word {
-            "times" => add_many(alloc, &mut self.input, text),
-            "kept" => add_kept(alloc, &mut self.kept, text),
-            "kept-cells" => add_kept_cells(alloc, &mut self.kept, text),
-            _ => match text.parse::<u32>() {
-                Ok(number) => self.take_number(word, number),
-                Err(_) => Ok(false),
-            },
-        }
+    /// Whether there is a line of this word.
+    pub fn has(&self, word: &str) -> bool {
+        self.lines.iter().any(|line| line.word.as_str() == word)
     }
 
-    fn take_number(&mut self, word: &str, number: u32) -> Result<bool, AllocError> {
-        match word {
-            "status" => self.status = number,
-            "keeps" => self.keeps = number,
-            "asks" => self.asks = Some(number),
-            "room" => self.room = number as usize,
-            _ => return self.add_number(word, number),
-        }
-        Ok(true)
-    }
-
-    fn add_number(&mut self, word: &str, number: u32) -> Result<bool, AllocError> {
-        let added = match word {
-            "may-end" => add_to(&mut self.ends, number),
-            "fill" => fill(&mut self.input, number as usize),
-            "source-fails" => add_to(&mut self.source_fails, number),
-            "sink-fails" => add_to(&mut self.sink_fails, number),
-            "keeper-fails" => add_to(&mut self.keeper_fails, number),
-            _ => return Ok(false),
-        };
-        added?;
-        Ok(true)
-    }
-}
-
-/// Takes off what stands before the first space.
-fn next<'a>(rest: &mut &'a str) -> &'a str {
-    let (word, more) = rest.split_once(' ').unwrap_or((*rest, ""));
-    *rest = more;
-    word
-}
-
-/// Adds a row of the first entity, whose identifier and version these words are.
-fn push_kept(rows: &mut Rows, id: &str, version: &str, cells: Cells) -> Result<bool, AllocError> {
-    let (Ok(id), Ok(version)) = (id.parse::<u64>(), version.parse::<u32>()) else {
-        return Ok(false);
-    };
-    let key = Key {
-        entity: EntityNo(0),
-        id,
-    };
-    let version = Some(version);
-    rows.push((key, hib_base::Row { version, cells }))?;
-    Ok(true)
-}
-
-/// Adds a row of the first entity, from its identifier, its version and the one text in it.
-fn add_kept(alloc: Global, rows: &mut Rows, text: &str) -> Result<bool, AllocError> {
-    let mut rest = text;
-    let id = next(&mut rest);
-    let version = next(&mut rest);
-    let mut cells = Seq::new(alloc);
-    cells.push(Cell::Text(Seq::from_vec(rest.as_bytes().to_vec(alloc)?)))?;
-    push_kept(rows, id, version, cells)
-}
-
-/// A text behind a quote, a truth or a number.
-fn kept_cell(alloc: Global, word: &str) -> Result<Option<Cell>, AllocError> {
-    if let Some(text) = word.strip_prefix("'") {
-        let bytes = text.as_bytes().to_vec(alloc)?;
-        return Ok(Some(Cell::Text(Seq::from_vec(bytes))));
-    }
-    if word == "true" || word == "false" {
-        return Ok(Some(Cell::Bool(word == "true")));
-    }
-    match word.parse() {
-        Ok(number) => Ok(Some(Cell::Int(number))),
-        Err(_) => Ok(None),
-    }
-}
-
-/// Adds a row of the first entity, from its identifier, its version and its cells.
-fn add_kept_cells(alloc: Global, rows: &mut Rows, text: &str) -> Result<bool, AllocError> {
-    let mut rest = text;
-    let id = next(&mut rest);
-    let version = next(&mut rest);
-    let mut cells = Seq::new(alloc);
-    for _ in 0..rest.len() {
-        if rest.is_empty() {
-            break;
-        }
-        match kept_cell(alloc, next(&mut rest))? {
-            Some(cell) => cells.push(cell)?,
-            None => return Ok(false),
-        }
-    }
-    push_kept(rows, id, version, cells)
-}
-
-fn add_text(bytes: &mut Vec<u8>, text: &str) -> Result<(), AllocError> {
-    bytes.extend_from_slice(text.as_bytes())
-}
-
-fn add_word(alloc: Global, words: &mut Vec<String>, word: &str) -> Result<(), AllocError> {
-    words.push(String::from_str(alloc, word)?)?;
-    Ok(())
-}
-
-fn add_to(numbers: &mut Vec<u32>, number: u32) -> Result<(), AllocError> {
-    numbers.push(number)?;
-    Ok(())
-}
-
-fn add_line(bytes: &mut Vec<u8>, text: &str) -> Result<(), AllocError> {
-    bytes.extend_from_slice(text.as_bytes())?;
-    bytes.push(b'\n')?;
-    Ok(())
-}
-
-/// Adds lines for each number from 1 to the one before the space; `#` stands for it, and `|` for a line's end.
-fn add_many(alloc: Global, bytes: &mut Vec<u8>, text: &str) -> Result<bool, AllocError> {
-    let Some((count, lines)) = text.split_once(' ') else {
-        return Ok(false);
-    };
-    let Ok(count) = count.parse::<u32>() else {
-        return Ok(false);
-    };
-    for number in 0..count {
-        let shown = u64::from(number).saturating_add(1).to_string(alloc)?;
-        for byte in lines.as_bytes() {
-            match *byte {
-                b'#' => bytes.extend_from_slice(shown.as_bytes())?,
-                b'|' => bytes.push(b'\n')?,
-                other => bytes.push(other)?,
+    /// The text of the last line of this word; empty if there is none.
+    pub fn text(&self, word: &str) -> &str {
+        let mut text = "";
+        for line in self.lines.as_slice() {
+            if line.word.as_str() == word {
+                text = line.text.as_str();
             }
         }
-        bytes.push(b'\n')?;
+        text
     }
-    Ok(true)
+
+    /// The number of the last line of this word, if there is one.
+    pub fn number(&self, word: &str) -> Option<u32> {
+        self.text(word).parse().ok()
+    }
+
+    /// The numbers of all lines of this word, in order.
+    pub fn numbers(&self, alloc: Global, word: &str) -> Result<Seq<u32>, AllocError> {
+        let mut numbers = Seq::new(alloc);
+        for line in self.lines.as_slice() {
+            if line.word.as_str() == word {
+                if let Ok(number) = line.text.as_str().parse::<u32>() {
+                    numbers.push(number)?;
+                }
+            }
+        }
+        Ok(numbers)
+    }
+
+    /// The words of all lines of this word, in order.
+    pub fn words(&self, alloc: Global, word: &str) -> Result<Vec<String>, AllocError> {
+        let mut words = Vec::new(alloc);
+        for line in self.lines.as_slice() {
+            if line.word.as_str() == word {
+                add_words(alloc, &mut words, line.text.as_str())?;
+            }
+        }
+        Ok(words)
+    }
+
+    /// The bytes of the source.
+    pub fn input(&self, alloc: Global) -> Result<Vec<u8>, AllocError> {
+        let mut bytes = Vec::new(alloc);
+        for line in self.lines.as_slice() {
+            add_input(alloc, &mut bytes, line.word.as_str(), line.text.as_str())?;
+        }
+        Ok(bytes)
+    }
+
+    /// The bytes that are to be written, if no lines of them are named.
+    pub fn output(&self, alloc: Global) -> Result<Vec<u8>, AllocError> {
+        let mut bytes = Vec::new(alloc);
+        for line in self.lines.as_slice() {
+            match line.word.as_str() {
+                "out" => add_line(&mut bytes, line.text.as_str())?,
+                "piece" => add_text(&mut bytes, line.text.as_str())?,
+                _ => {}
+            }
+        }
+        Ok(bytes)
+    }
+
+    /// The first line that is to be written and doesn't stand in this text after those that are named before it.
+    pub fn missing(&self, text: &str) -> Option<&str> {
+        let mut written = text.lines();
+        for line in self.lines.as_slice() {
+            let wanted = line.text.as_str();
+            if line.word.as_str() == "has" && !written.any(|one| one == wanted) {
+                return Some(wanted);
+            }
+        }
+        None
+    }
+
+    /// The rows that the keeper has at first.
+    pub fn kept(&self, alloc: Global) -> Result<Rows, AllocError> {
+        let mut rows = Seq::new(alloc);
+        for line in self.lines.as_slice() {
+            match line.word.as_str() {
+                "kept" => add_kept(alloc, &mut rows, line.text.as_str(), false)?,
+                "kept-cells" => add_kept(alloc, &mut rows, line.text.as_str(), true)?,
+                _ => {}
+            }
+        }
+        Ok(rows)
+    }
 }
 
 fn add_words(alloc: Global, words: &mut Vec<String>, text: &str) -> Result<(), AllocError> {
@@ -235,11 +175,101 @@ fn add_words(alloc: Global, words: &mut Vec<String>, text: &str) -> Result<(), A
     Ok(())
 }
 
-/// Adds lines of comment, up to this number of bytes.
-fn fill(bytes: &mut Vec<u8>, size: usize) -> Result<(), AllocError> {
+/// Adds what a line says of the input, if it says something of it.
+fn add_input(alloc: Global, bytes: &mut Vec<u8>, word: &str, text: &str) -> Result<(), AllocError> {
+    match word {
+        "in" => add_line(bytes, text),
+        "part" => add_text(bytes, text),
+        "times" => add_many(alloc, bytes, text),
+        "fill" => fill(bytes, text),
+        _ => Ok(()),
+    }
+}
+
+fn add_text(bytes: &mut Vec<u8>, text: &str) -> Result<(), AllocError> {
+    bytes.extend_from_slice(text.as_bytes())
+}
+
+fn add_line(bytes: &mut Vec<u8>, text: &str) -> Result<(), AllocError> {
+    bytes.extend_from_slice(text.as_bytes())?;
+    bytes.push(b'\n')?;
+    Ok(())
+}
+
+/// Adds lines for each number from 1 to the one before the space; `#` stands for it, and `|` for a line's end.
+fn add_many(alloc: Global, bytes: &mut Vec<u8>, text: &str) -> Result<(), AllocError> {
+    let Some((count, lines)) = repeated(text) else {
+        return Ok(());
+    };
+    for number in 0..count {
+        let shown = u64::from(number).saturating_add(1).to_string(alloc)?;
+        add_numbered(bytes, lines, shown.as_bytes())?;
+    }
+    Ok(())
+}
+
+fn add_numbered(bytes: &mut Vec<u8>, lines: &str, shown: &[u8]) -> Result<(), AllocError> {
+    for byte in lines.as_bytes() {
+        match *byte {
+            b'#' => bytes.extend_from_slice(shown)?,
+            b'|' => bytes.push(b'\n')?,
+            other => bytes.push(other)?,
+        }
+    }
+    bytes.push(b'\n')?;
+    Ok(())
+}
+
+/// Adds lines of comment, up to the number of bytes that the text says.
+fn fill(bytes: &mut Vec<u8>, text: &str) -> Result<(), AllocError> {
+    let size = text.parse::<u32>().unwrap_or(0) as usize;
     for at in bytes.len()..size {
         let is_end = at % 1000 == 999;
         bytes.push(if is_end { b'\n' } else { b'#' })?;
     }
     Ok(())
+}
+
+/// Adds a row of the first entity: with one text in it, or with a cell for each word.
+fn add_kept(alloc: Global, rows: &mut Rows, text: &str, has_cells: bool) -> Result<(), AllocError> {
+    let Some((id, version, rest)) = kept_key(text) else {
+        return Ok(());
+    };
+    let mut cells = Seq::new(alloc);
+    if has_cells {
+        add_cells(alloc, &mut cells, rest)?;
+    } else {
+        cells.push(text_cell(alloc, rest)?)?;
+    }
+    let key = Key {
+        entity: EntityNo(0),
+        id,
+    };
+    let version = Some(version);
+    rows.push((key, hib_base::Row { version, cells }))
+}
+
+/// Adds a cell for each word.
+fn add_cells(alloc: Global, cells: &mut Cells, text: &str) -> Result<(), AllocError> {
+    for word in text.split(' ') {
+        if !word.is_empty() {
+            cells.push(cell(alloc, word)?)?;
+        }
+    }
+    Ok(())
+}
+
+fn text_cell(alloc: Global, text: &str) -> Result<Cell, AllocError> {
+    Ok(Cell::Text(Seq::from_vec(text.as_bytes().to_vec(alloc)?)))
+}
+
+/// A number, a truth, or else a text, which may stand after a quote.
+fn cell(alloc: Global, word: &str) -> Result<Cell, AllocError> {
+    if word == "true" || word == "false" {
+        return Ok(Cell::Bool(word == "true"));
+    }
+    match word.parse() {
+        Ok(number) => Ok(Cell::Int(number)),
+        Err(_) => text_cell(alloc, word.strip_prefix("'").unwrap_or(word)),
+    }
 }

@@ -2,11 +2,19 @@
 use hib_words::{Command, help, read};
 use std::alloc::{AllocError, Global};
 
+/// These words.
+pub fn words_of(alloc: Global, words: &[&str]) -> Result<Vec<String>, AllocError> {
+    let mut owned = Vec::new(alloc);
+    for word in words {
+        owned.push(String::from_str(alloc, word)?)?;
+    }
+    Ok(owned)
+}
+
 /// Whether `play --file=a=b` is read, with its whole path.
 pub fn keeps_a_path(alloc: Global) -> Result<bool, AllocError> {
-    let play = String::from_str(alloc, "play")?;
-    let file = String::from_str(alloc, "--file=a=b")?;
-    match read(alloc, &[play, file])? {
+    let words = words_of(alloc, &["play", "--file=a=b"])?;
+    match read(alloc, &words)? {
         Some(Command::Play { options }) => Ok(
             options.file.is_some_and(|path| path.as_str() == "a=b"),
         ),

@@ -1,11 +1,13 @@
 // Sessions on workers, through the top call: made scripts on several numbers of workers, and two workers that must run beside each
 // other.
 use crate::gate::Turnstile;
-use hib_base::{Act, Seq};
+use crate::words::words_of;
+use crate::world::{empty_keeper, sink_of, source_of};
+use hib_base::Act;
 use hib_journal::Journal;
 use hib_listeners::Recorder;
 use hib_outside::{Gate, MemKeeper, MemSink, MemSource};
-use hib_top::{Status, play_words, top};
+use hib_top::{Ended, Status, play_words, top};
 use std::alloc::{AllocError, Global};
 use std::sync::Wait;
 use std::thread::Threads;
@@ -27,6 +29,9 @@ find Book 3
 commit
 end
 ";
+
+/// The bytes that a sink takes.
+const ROOM: u32 = 65_536;
 
 /// How many sessions a made script has.
 const MADE: usize = 40;
@@ -53,24 +58,51 @@ fn ends_in(journal: &Journal) -> usize {
         .count()
 }
 
-/// These words.
-fn words_of(alloc: Global, words: &[&str]) -> Result<Vec<String>, AllocError> {
-    let mut owned = Vec::new(alloc);
-    for word in words {
-        owned.push(String::from_str(alloc, word)?)?;
-    }
-    Ok(owned)
-}
-
 /// The text of the script of a number, as `make` writes it.
 fn made(alloc: Global, seed: &str) -> Result<Vec<u8>, AllocError> {
     let words = words_of(alloc, &["make", "--seed", seed, "--text"])?;
-    let mut source = MemSource::new(Seq::new(alloc), Seq::new(alloc));
-    let mut sink = MemSink::new(alloc, 65_536, Seq::new(alloc))?;
-    let keeper = MemKeeper::new(alloc, Seq::new(alloc));
-    let listeners: Vec<Recorder> = Vec::new(alloc);
-    play_words(alloc, &words, &mut source, &mut sink, keeper, listeners);
+    let mut source = source_of(alloc, b"")?;
+    let mut sink = sink_of(alloc, ROOM)?;
+    ends_alone(alloc, words.as_slice(), &mut source, &mut sink);
     sink.bytes().to_vec(alloc)
+}
+
+/// How a call without a lock and without listeners ends.
+fn ends_alone(
+    alloc: Global,
+    words: &[String],
+    source: &mut MemSource,
+    sink: &mut MemSink,
+) -> Status {
+    let listeners: Vec<Recorder> = Vec::new(alloc);
+    play_words(alloc, words, source, sink, empty_keeper(alloc), listeners).status
+}
+
+/// What came of a run with one listener.
+fn came_of(ended: &Ended<MemKeeper, Recorder>) -> Came {
+    let entries = ended.journal.len();
+    Came {
+        is_done: ended.status == Status::Done,
+        entries,
+        ends: ends_in(&ended.journal),
+        is_heard: ended
+            .listeners
+            .iter()
+            .all(|one| one.entries.len() == entries),
+    }
+}
+
+/// The words `work --workers N`.
+fn work_words(alloc: Global, workers: u32) -> Result<Vec<String>, AllocError> {
+    let number = workers.to_string(alloc)?;
+    words_of(alloc, &["work", "--workers", number.as_str()])
+}
+
+/// One recorder.
+fn recorder(alloc: Global) -> Result<Vec<Recorder>, AllocError> {
+    let mut listeners = Vec::new(alloc);
+    listeners.push(Recorder::new(alloc))?;
+    Ok(listeners)
 }
 
 /// Runs a script by `work --workers N`.
@@ -81,34 +113,21 @@ fn work<R: Threads + Wait + Sync, G: Gate>(
     workers: u32,
     gate: &G,
 ) -> Result<Came, AllocError> {
-    let number = workers.to_string(alloc)?;
-    let words = words_of(alloc, &["work", "--workers", number.as_str()])?;
-    let text = Seq::from_vec(script.to_vec(alloc)?);
-    let mut source = MemSource::new(text, Seq::new(alloc));
-    let mut sink = MemSink::new(alloc, 65_536, Seq::new(alloc))?;
-    let keeper = MemKeeper::new(alloc, Seq::new(alloc));
-    let mut listeners = Vec::new(alloc);
-    listeners.push(Recorder::new(alloc))?;
+    let words = work_words(alloc, workers)?;
+    let mut source = source_of(alloc, script)?;
+    let mut sink = sink_of(alloc, ROOM)?;
+    let listeners = recorder(alloc)?;
     let ended = top(
         rt,
         alloc,
-        &words,
+        words.as_slice(),
         &mut source,
         &mut sink,
-        keeper,
+        empty_keeper(alloc),
         gate,
         listeners,
     );
-    let entries = ended.journal.len();
-    Ok(Came {
-        is_done: ended.status == Status::Done,
-        entries,
-        ends: ends_in(&ended.journal),
-        is_heard: ended
-            .listeners
-            .iter()
-            .all(|one| one.entries.len() == entries),
-    })
+    Ok(came_of(&ended))
 }
 
 /// Whether a script of so many sessions comes to its end on some workers, who make all steps: each session passes the gate before each
@@ -153,11 +172,9 @@ pub fn runs_beside<R: Threads + Wait + Sync>(rt: &R, alloc: Global) -> Result<bo
 
 /// Whether `work` has no form for the call that takes no lock.
 pub fn has_no_form_alone(alloc: Global) -> Result<bool, AllocError> {
-    let words = words_of(alloc, &["work", "--workers", "2"])?;
-    let mut source = MemSource::new(Seq::new(alloc), Seq::new(alloc));
-    let mut sink = MemSink::new(alloc, 64, Seq::new(alloc))?;
-    let keeper = MemKeeper::new(alloc, Seq::new(alloc));
-    let listeners: Vec<Recorder> = Vec::new(alloc);
-    let ended = play_words(alloc, &words, &mut source, &mut sink, keeper, listeners);
-    Ok(ended.status == Status::Usage && sink.bytes().is_empty())
+    let words = work_words(alloc, 2)?;
+    let mut source = source_of(alloc, b"")?;
+    let mut sink = sink_of(alloc, 64)?;
+    let status = ends_alone(alloc, words.as_slice(), &mut source, &mut sink);
+    Ok(status == Status::Usage && sink.bytes().is_empty())
 }

@@ -1,19 +1,45 @@
 // The keeper that is tried, and the mapping, the rows and the changes that the next call takes.
 use crate::{play, words};
 use hib_base::{Change, EntityNo, Key, Mapping, Row, Seq};
-use hib_keeper_sqlite::{SqliteKeeper, SqliteTables, in_memory, open_file};
+use hib_keeper_sqlite::{in_memory, open_file};
 use hib_outside::Keeper;
-use sqlite::{Connection, Error, File, FileStore};
 use std::alloc::{AllocError, Global};
 use std::{fs, io};
 
-/// The keeper that is open.
-#[derive(Drop)]
-enum Open {
-    Nothing,
-    Memory(SqliteTables),
-    File(SqliteKeeper<FileStore<File>>),
+/// A keeper that is tried.
+trait Tried: Drop {
+    /// Makes a call by its word, with what was read for it, and writes what is answered.
+    fn call(
+        &mut self,
+        out: &mut String,
+        alloc: Global,
+        word: &str,
+        rest: &mut &str,
+        next: &Next,
+    ) -> io::Result<()>;
 }
+
+/// A keeper of some type.
+#[derive(Drop)]
+struct Over<K: Keeper + Drop> {
+    keeper: K,
+}
+
+impl<K: Keeper + Drop> Tried for Over<K> {
+    fn call(
+        &mut self,
+        out: &mut String,
+        alloc: Global,
+        word: &str,
+        rest: &mut &str,
+        next: &Next,
+    ) -> io::Result<()> {
+        call(out, alloc, &mut self.keeper, word, rest, next)
+    }
+}
+
+/// The keeper that is open, if one is.
+type Open = Option<Box<dyn Tried>>;
 
 /// The keeper that is open, and what was read for its next call.
 #[derive(Drop)]
@@ -37,13 +63,6 @@ fn nothing(alloc: Global) -> Next {
         rows: Vec::new(alloc),
         changes: Vec::new(alloc),
     }
-}
-
-/// Runs SQL on a file, by a connection of its own.
-fn run(rt: &HostRuntime, path: &str, sql: &str) -> Result<(), Error> {
-    let mut conn = Connection::open(rt, path)?;
-    conn.execute_batch(sql)?;
-    conn.close()
 }
 
 /// The change that a line describes.
@@ -130,37 +149,63 @@ fn call<K: Keeper>(
     call_read(out, alloc, keeper, rest)
 }
 
+/// A keeper in a box.
+fn boxed<K: Keeper + Drop + 'static>(alloc: Global, keeper: K) -> Result<Open, AllocError> {
+    let tried: Box<dyn Tried> = Box::new(alloc, Over { keeper })?;
+    Ok(Some(tried))
+}
+
 /// The keeper that a line opens; none if it can't be opened, or closes.
-fn opened(rt: &HostRuntime, alloc: Global, word: &str, rest: &str) -> Open {
+fn opened(rt: &HostRuntime, alloc: Global, word: &str, rest: &str) -> Result<Open, AllocError> {
     if word == "memory" {
         return memory(alloc);
     }
     if word == "file" {
-        return file(rt, rest);
+        return file(rt, alloc, rest);
     }
-    Open::Nothing
+    Ok(None)
 }
 
-fn memory(alloc: Global) -> Open {
+fn memory(alloc: Global) -> Result<Open, AllocError> {
     match in_memory(alloc) {
-        Ok(keeper) => Open::Memory(keeper),
-        Err(_) => Open::Nothing,
+        Ok(keeper) => boxed(alloc, keeper),
+        Err(_) => Ok(None),
     }
 }
 
-fn file(rt: &HostRuntime, path: &str) -> Open {
+fn file(rt: &HostRuntime, alloc: Global, path: &str) -> Result<Open, AllocError> {
     match open_file(rt, path) {
-        Ok(keeper) => Open::File(keeper),
-        Err(_) => Open::Nothing,
+        Ok(keeper) => boxed(alloc, keeper),
+        Err(_) => Ok(None),
     }
 }
 
-/// Whether the line prepares a file or a folder; then that is done.
-fn prepares(rt: &HostRuntime, out: &mut String, word: &str, rest: &str) -> io::Result<bool> {
-    if word == "sql" {
-        let (path, sql) = rest.split_once(' ').unwrap_or((rest, ""));
-        let is_refused = run(rt, path, sql).is_err();
-        add(out, if is_refused { "refused" } else { "ok" })?;
+/// Opens another keeper over a file, and reads a row by it.
+fn read_beside(
+    rt: &HostRuntime,
+    alloc: Global,
+    out: &mut String,
+    path: &str,
+    rest: &mut &str,
+) -> io::Result<()> {
+    match file(rt, alloc, path)? {
+        Some(mut tried) => tried.call(out, alloc, "read", rest, &nothing(alloc)),
+        None => add(out, "refused"),
+    }
+}
+
+/// Whether the line makes a folder or opens another keeper beside the one that is open; then that is done.
+fn prepares(
+    rt: &HostRuntime,
+    alloc: Global,
+    out: &mut String,
+    word: &str,
+    rest: &str,
+) -> io::Result<bool> {
+    if word == "beside" {
+        let mut rest = rest;
+        let path = words::next(&mut rest);
+        read_beside(rt, alloc, out, path, &mut rest)?;
         return Ok(true);
     }
     if word == "folder" {
@@ -176,7 +221,7 @@ impl Bench {
     pub fn new(alloc: Global) -> Bench {
         Bench {
             alloc,
-            open: Open::Nothing,
+            open: None,
             next: nothing(alloc),
         }
     }
@@ -283,21 +328,19 @@ impl Bench {
         rest: &str,
     ) -> io::Result<bool> {
         if word == "memory" || word == "file" || word == "close" {
-            self.open = Open::Nothing;
-            self.open = opened(rt, self.alloc, word, rest);
+            self.open = None;
+            self.open = opened(rt, self.alloc, word, rest)?;
             add(out, "ok")?;
             return Ok(true);
         }
-        prepares(rt, out, word, rest)
+        prepares(rt, self.alloc, out, word, rest)
     }
 
     /// A call of the keeper that is open. What was added for it is taken.
     fn calls(&mut self, out: &mut String, word: &str, rest: &mut &str) -> io::Result<()> {
-        let next = &self.next;
         match &mut self.open {
-            Open::Memory(keeper) => call(out, self.alloc, keeper, word, rest, next)?,
-            Open::File(keeper) => call(out, self.alloc, keeper, word, rest, next)?,
-            Open::Nothing => add(out, "nothing is open")?,
+            Some(tried) => tried.call(out, self.alloc, word, rest, &self.next)?,
+            None => add(out, "nothing is open")?,
         }
         self.next = nothing(self.alloc);
         Ok(())

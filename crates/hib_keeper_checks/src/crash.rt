@@ -55,7 +55,7 @@ fn apply<K: Keeper>(alloc: Global, keeper: &mut K, step: i64) -> Option<()> {
     }
 }
 
-/// The last step that was answered with Done; 0 where the seed wasn't.
+/// The last step that was answered with Done; 0 if the seed wasn't.
 fn last_done<K: Keeper>(alloc: Global, keeper: &mut K) -> i64 {
     if seed(alloc, keeper).is_none() {
         return 0;
@@ -70,7 +70,7 @@ fn last_done<K: Keeper>(alloc: Global, keeper: &mut K) -> i64 {
     done
 }
 
-/// The step that a row shows; 0 where there is no row.
+/// The step that a row shows; 0 if there is no row.
 fn step_of<K: Keeper>(alloc: Global, keeper: &mut K, id: u64) -> Option<i64> {
     let Some(row) = keeper.read(alloc, key(id)).ok()? else {
         return Some(0);
@@ -143,30 +143,45 @@ fn after_crash<D: Crash + Drop + Send>(alloc: Global, keeper: DiskKeeper<D>, don
 }
 
 /// Runs over files that may stop, and judges what is left after a crash.
-fn after_stop<D: Crash + Drop + Send>(alloc: Global, log: D, db: D) -> Left {
-    match open(alloc, Files { log, db }) {
-        Some(mut keeper) => {
-            let done = last_done(alloc, &mut keeper);
-            after_crash(alloc, keeper, done)
-        }
+fn after_run<D: Crash + Drop + Send>(alloc: Global, keeper: DiskKeeper<D>) -> Left {
+    let mut keeper = keeper;
+    let done = last_done(alloc, &mut keeper);
+    after_crash(alloc, keeper, done)
+}
+
+/// The same, of files that may stop as they are opened.
+fn after_stop<D: Crash + Drop + Send>(alloc: Global, files: Files<D>) -> Left {
+    match open(alloc, files) {
+        Some(keeper) => after_run(alloc, keeper),
         None => Left::Nothing,
     }
 }
 
-fn fused(alloc: Global, calls: u64) -> Fuse<Memory> {
+/// A disk in memory, which counts its calls and stops at one of them.
+type Disk = Fuse<Memory>;
+
+fn fused(alloc: Global, calls: u64) -> Disk {
     Fuse::new(Memory::new(alloc), calls)
+}
+
+/// Files of which the log or the database stops at a call.
+fn files(alloc: Global, of_log: bool, calls: u64) -> Files<Disk> {
+    let (log, db) = if of_log {
+        (calls, u64::MAX)
+    } else {
+        (u64::MAX, calls)
+    };
+    Files {
+        log: fused(alloc, log),
+        db: fused(alloc, db),
+    }
 }
 
 /// Stops the log or the database file at each call in turn, up to a run that ends before. Whether each time the rows are
 /// those after one step, and none before one that was answered.
 pub fn holds_at_each_stop(alloc: Global, of_log: bool) -> bool {
     for calls in 0..MOST_CALLS {
-        let (log, db) = if of_log {
-            (calls, u64::MAX)
-        } else {
-            (u64::MAX, calls)
-        };
-        match after_stop(alloc, fused(alloc, log), fused(alloc, db)) {
+        match after_stop(alloc, files(alloc, of_log, calls)) {
             Left::Nothing | Left::Step => {}
             Left::Last => return true,
             Left::Broken => return false,
@@ -175,6 +190,7 @@ pub fn holds_at_each_stop(alloc: Global, of_log: bool) -> bool {
     false
 }
 
+/// Prints the line of what holds.
 pub fn tell(rt: &impl Print, name: &str, holds: bool) -> io::Result<()> {
     let end = if holds { "ok" } else { "it isn't so" };
     println!(rt; "stops of the {name}: {end}")

@@ -10,13 +10,19 @@ mod words;
 use bench::Bench;
 use std::io;
 
+/// Does what each line of standard input says.
+fn try_lines(rt: &HostRuntime) -> io::Result<()> {
+    let mut bench = Bench::new(rt.alloc());
+    for line in rt.lines(rt.alloc()) {
+        let line = line?;
+        bench.take_line(rt, line.as_str())?;
+    }
+    Ok(())
+}
+
 fn main(rt: HostRuntime) -> io::Result<()> {
     let alloc = rt.alloc();
-    let mut bench = Bench::new(alloc);
-    for line in rt.lines(alloc) {
-        let line = line?;
-        bench.take_line(&rt, line.as_str())?;
-    }
+    try_lines(&rt)?;
     crash::tell(&rt, "log", crash::holds_at_each_stop(alloc, true))?;
     crash::tell(&rt, "database", crash::holds_at_each_stop(alloc, false))
 }

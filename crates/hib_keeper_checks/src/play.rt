@@ -37,6 +37,7 @@ fn fault(out: &mut String, fault: KeepFault) -> io::Result<()> {
     Ok(())
 }
 
+/// The row of a key, as text.
 pub fn read<K: Keeper>(
     out: &mut String,
     alloc: Global,
@@ -50,6 +51,7 @@ pub fn read<K: Keeper>(
     }
 }
 
+/// All rows of these entities, as text.
 pub fn list<K: Keeper>(
     out: &mut String,
     alloc: Global,
@@ -69,6 +71,7 @@ pub fn list<K: Keeper>(
     }
 }
 
+/// Seeds a keeper, and writes how that ended.
 pub fn seed<K: Keeper>(
     out: &mut String,
     alloc: Global,
@@ -82,6 +85,7 @@ pub fn seed<K: Keeper>(
     }
 }
 
+/// Applies changes, and writes how that ended.
 pub fn apply<K: Keeper>(
     out: &mut String,
     alloc: Global,
