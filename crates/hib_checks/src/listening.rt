@@ -80,21 +80,29 @@ impl Listener for Forgetful {
     }
 }
 
-/// Adds a listener.
-fn add<L: Listener + 'static>(
-    alloc: Global,
-    several: &mut Several,
-    listener: L,
-) -> Result<(), AllocError> {
-    several.push(Box::new(alloc, listener)?)?;
+/// Adds a recorder.
+fn add_recorder(alloc: Global, several: &mut Several) -> Result<(), AllocError> {
+    several.push(Box::new(alloc, Recorder::new(alloc))?)?;
+    Ok(())
+}
+
+/// Adds a recorder that leaves after some entries.
+fn add_limited(alloc: Global, several: &mut Several, limited: Limited) -> Result<(), AllocError> {
+    several.push(Box::new(alloc, limited)?)?;
+    Ok(())
+}
+
+/// Adds a recorder that has no memory for the second entry.
+fn add_forgetful(alloc: Global, several: &mut Several) -> Result<(), AllocError> {
+    several.push(Box::new(alloc, Forgetful::new(alloc))?)?;
     Ok(())
 }
 
 /// A recorder and one limited to three entries.
 fn recorder_and_limited(alloc: Global) -> Result<Several, AllocError> {
     let mut several: Several = Vec::new(alloc);
-    add(alloc, &mut several, Recorder::new(alloc))?;
-    add(alloc, &mut several, Limited::new(alloc, 3))?;
+    add_recorder(alloc, &mut several)?;
+    add_limited(alloc, &mut several, Limited::new(alloc, 3))?;
     Ok(several)
 }
 
@@ -119,18 +127,18 @@ pub fn drops_the_limited(alloc: Global) -> Result<bool, AllocError> {
 /// Whether of three listeners the second leaves at the first entry, and the others hear the next.
 pub fn drops_the_second(alloc: Global) -> Result<bool, AllocError> {
     let mut several: Several = Vec::new(alloc);
-    add(alloc, &mut several, Recorder::new(alloc))?;
-    add(alloc, &mut several, Limited::new(alloc, 1))?;
-    add(alloc, &mut several, Limited::new(alloc, 9))?;
+    add_recorder(alloc, &mut several)?;
+    add_limited(alloc, &mut several, Limited::new(alloc, 1))?;
+    add_limited(alloc, &mut several, Limited::new(alloc, 9))?;
     Ok(leaves(alloc, several, 2, 2))
 }
 
 /// Whether of three listeners of which the second has no memory for the second entry the first alone has heard two.
 pub fn stops_at_the_second(alloc: Global) -> Result<bool, AllocError> {
     let mut several: Several = Vec::new(alloc);
-    add(alloc, &mut several, Recorder::new(alloc))?;
-    add(alloc, &mut several, Forgetful::new(alloc))?;
-    add(alloc, &mut several, Recorder::new(alloc))?;
+    add_recorder(alloc, &mut several)?;
+    add_forgetful(alloc, &mut several)?;
+    add_recorder(alloc, &mut several)?;
     let (left, refused) = left_after(alloc, several, 2);
     Ok(match left.as_slice() {
         [first, others @ ..] => {

@@ -1,4 +1,4 @@
-// The keeper that is tried, and the mapping, the rows and the changes that the next call takes.
+// The lines of the input: each block of them is over the keeper that its first line opens.
 use crate::{play, words};
 use hib_base::{Change, EntityNo, Key, Mapping, Row, Seq};
 use hib_keeper_sqlite::{in_memory, open_file};
@@ -6,46 +6,10 @@ use hib_outside::Keeper;
 use std::alloc::{AllocError, Global};
 use std::{fs, io};
 
-/// A keeper that is tried.
-trait Tried: Drop {
-    /// Makes a call by its word, with what was read for it, and writes what is answered.
-    fn call(
-        &mut self,
-        out: &mut String,
-        alloc: Global,
-        word: &str,
-        rest: &mut &str,
-        next: &Next,
-    ) -> io::Result<()>;
-}
-
-/// A keeper of some type.
-#[derive(Drop)]
-struct Over<K: Keeper + Drop> {
-    keeper: K,
-}
-
-impl<K: Keeper + Drop> Tried for Over<K> {
-    fn call(
-        &mut self,
-        out: &mut String,
-        alloc: Global,
-        word: &str,
-        rest: &mut &str,
-        next: &Next,
-    ) -> io::Result<()> {
-        call(out, alloc, &mut self.keeper, word, rest, next)
-    }
-}
-
-/// The keeper that is open, if one is.
-type Open = Option<Box<dyn Tried>>;
-
-/// The keeper that is open, and what was read for its next call.
+/// What was read for the next call of the keeper that is open.
 #[derive(Drop)]
 pub struct Bench {
     alloc: Global,
-    open: Open,
     next: Next,
 }
 
@@ -149,37 +113,6 @@ fn call<K: Keeper>(
     call_read(out, alloc, keeper, rest)
 }
 
-/// A keeper in a box.
-fn boxed<K: Keeper + Drop + 'static>(alloc: Global, keeper: K) -> Result<Open, AllocError> {
-    let tried: Box<dyn Tried> = Box::new(alloc, Over { keeper })?;
-    Ok(Some(tried))
-}
-
-/// The keeper that a line opens; none if it can't be opened, or closes.
-fn opened(rt: &HostRuntime, alloc: Global, word: &str, rest: &str) -> Result<Open, AllocError> {
-    if word == "memory" {
-        return memory(alloc);
-    }
-    if word == "file" {
-        return file(rt, alloc, rest);
-    }
-    Ok(None)
-}
-
-fn memory(alloc: Global) -> Result<Open, AllocError> {
-    match in_memory(alloc) {
-        Ok(keeper) => boxed(alloc, keeper),
-        Err(_) => Ok(None),
-    }
-}
-
-fn file(rt: &HostRuntime, alloc: Global, path: &str) -> Result<Open, AllocError> {
-    match open_file(rt, path) {
-        Ok(keeper) => boxed(alloc, keeper),
-        Err(_) => Ok(None),
-    }
-}
-
 /// Opens another keeper over a file, and reads a row by it.
 fn read_beside(
     rt: &HostRuntime,
@@ -188,47 +121,98 @@ fn read_beside(
     path: &str,
     rest: &mut &str,
 ) -> io::Result<()> {
-    match file(rt, alloc, path)? {
-        Some(mut tried) => tried.call(out, alloc, "read", rest, &nothing(alloc)),
-        None => add(out, "refused"),
+    match open_file(rt, path) {
+        Ok(mut keeper) => call_read(out, alloc, &mut keeper, rest),
+        Err(_) => add(out, "refused"),
     }
 }
 
-/// Whether the line makes a folder or opens another keeper beside the one that is open; then that is done.
-fn prepares(
+/// Does what these lines say over a keeper, up to the one that closes it. Answers how many lines were taken.
+fn serve<K: Keeper>(
     rt: &HostRuntime,
-    alloc: Global,
-    out: &mut String,
-    word: &str,
-    rest: &str,
-) -> io::Result<bool> {
-    if word == "beside" {
-        let mut rest = rest;
-        let path = words::next(&mut rest);
-        read_beside(rt, alloc, out, path, &mut rest)?;
-        return Ok(true);
+    bench: &mut Bench,
+    lines: &[String],
+    keeper: &mut K,
+) -> io::Result<usize> {
+    for (place, line) in lines.iter().enumerate() {
+        if line.as_str() == "close" {
+            println!(rt; "close: ok")?;
+            return Ok(place.saturating_add(1));
+        }
+        bench.take_line(rt, line.as_str(), keeper)?;
     }
-    if word == "folder" {
-        fs::create_dir(rt, rest)?;
-        add(out, "ok")?;
-        return Ok(true);
+    Ok(lines.len())
+}
+
+fn over_memory(rt: &HostRuntime, bench: &mut Bench, lines: &[String]) -> io::Result<usize> {
+    match in_memory(bench.alloc) {
+        Ok(mut keeper) => serve(rt, bench, lines, &mut keeper),
+        Err(_) => Ok(0),
     }
-    Ok(false)
+}
+
+fn over_file(
+    rt: &HostRuntime,
+    bench: &mut Bench,
+    path: &str,
+    lines: &[String],
+) -> io::Result<usize> {
+    match open_file(rt, path) {
+        Ok(mut keeper) => serve(rt, bench, lines, &mut keeper),
+        Err(_) => Ok(0),
+    }
+}
+
+/// Whether a line says nothing.
+fn is_skipped(line: &str) -> bool {
+    line.is_empty() || line.starts_with("#")
+}
+
+/// Does what a line says if no keeper is open, and over a keeper that it opens what those after it say. Answers how many of
+/// these were taken.
+pub fn open(
+    rt: &HostRuntime,
+    bench: &mut Bench,
+    line: &str,
+    lines: &[String],
+) -> io::Result<usize> {
+    if is_skipped(line) {
+        return Ok(0);
+    }
+    let mut rest = line;
+    let word = words::next(&mut rest);
+    if word != "memory" && word != "file" && word != "folder" {
+        println!(rt; "{line}: no form")?;
+        return Ok(0);
+    }
+    println!(rt; "{line}: ok")?;
+    match word {
+        "memory" => over_memory(rt, bench, lines),
+        "file" => over_file(rt, bench, rest, lines),
+        _ => {
+            fs::create_dir(rt, rest)?;
+            Ok(0)
+        }
+    }
 }
 
 impl Bench {
-    /// Nothing is open.
+    /// Nothing was read for the next call.
     pub fn new(alloc: Global) -> Bench {
         Bench {
             alloc,
-            open: None,
             next: nothing(alloc),
         }
     }
 
-    /// Does what a line says, and prints the line with what came of it, unless it only adds to the next call.
-    pub fn take_line(&mut self, rt: &HostRuntime, line: &str) -> io::Result<()> {
-        if line.is_empty() || line.starts_with("#") {
+    /// Does what a line says over a keeper, and prints the line with what came of it, unless it only adds to the next call.
+    fn take_line<K: Keeper>(
+        &mut self,
+        rt: &HostRuntime,
+        line: &str,
+        keeper: &mut K,
+    ) -> io::Result<()> {
+        if is_skipped(line) {
             return Ok(());
         }
         let mut rest = line;
@@ -239,36 +223,27 @@ impl Bench {
         if word == "row" || word == "insert" || word == "update" || word == "delete" {
             return self.add(rt, word, rest);
         }
-        self.answer_line(rt, line, word, rest)
-    }
-
-    /// Does what a line says, and prints the line with what came of it.
-    fn answer_line(
-        &mut self,
-        rt: &HostRuntime,
-        line: &str,
-        word: &str,
-        rest: &str,
-    ) -> io::Result<()> {
         let mut out = String::new(self.alloc);
-        match self.answer(rt, &mut out, word, rest) {
-            Ok(()) => println!(rt; "{line}: {}", out.as_str()),
-            Err(error) => Err(error),
-        }
+        self.answer(rt, &mut out, word, &mut rest, keeper)?;
+        println!(rt; "{line}: {}", out.as_str())
     }
 
-    fn answer(
+    /// Writes what comes of a call. What was added for it is taken.
+    fn answer<K: Keeper>(
         &mut self,
         rt: &HostRuntime,
         out: &mut String,
         word: &str,
-        rest: &str,
+        rest: &mut &str,
+        keeper: &mut K,
     ) -> io::Result<()> {
-        let mut rest = rest;
-        if self.opens(rt, out, word, rest)? {
-            return Ok(());
+        if word == "beside" {
+            let path = words::next(rest);
+            return read_beside(rt, self.alloc, out, path, rest);
         }
-        self.calls(out, word, &mut rest)
+        call(out, self.alloc, keeper, word, rest, &self.next)?;
+        self.next = nothing(self.alloc);
+        Ok(())
     }
 
     /// Adds an entity to the mapping of the next call.
@@ -317,32 +292,5 @@ impl Bench {
             }
             None => Ok(false),
         }
-    }
-
-    /// Whether the line opens, closes or prepares something; then that is done.
-    fn opens(
-        &mut self,
-        rt: &HostRuntime,
-        out: &mut String,
-        word: &str,
-        rest: &str,
-    ) -> io::Result<bool> {
-        if word == "memory" || word == "file" || word == "close" {
-            self.open = None;
-            self.open = opened(rt, self.alloc, word, rest)?;
-            add(out, "ok")?;
-            return Ok(true);
-        }
-        prepares(rt, self.alloc, out, word, rest)
-    }
-
-    /// A call of the keeper that is open. What was added for it is taken.
-    fn calls(&mut self, out: &mut String, word: &str, rest: &mut &str) -> io::Result<()> {
-        match &mut self.open {
-            Some(tried) => tried.call(out, self.alloc, word, rest, &self.next)?,
-            None => add(out, "nothing is open")?,
-        }
-        self.next = nothing(self.alloc);
-        Ok(())
     }
 }
