@@ -180,7 +180,7 @@ pub enum Act {
 pub struct Entry {
     /// When it was.
     pub tick: Tick,
-    /// The session that did it; none where it came from outside.
+    /// The session that did it; none if it came from outside.
     pub session: Option<SessionNo>,
     /// The part that it touched.
     pub part: Part,

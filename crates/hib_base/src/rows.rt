@@ -32,7 +32,7 @@ pub type Listing = Seq<Cell>;
 /// A row of an entity.
 #[derive(Drop, PartialEq, Eq)]
 pub struct Row {
-    /// Its version, where its entity is versioned.
+    /// Its version, if its entity is versioned.
     pub version: Option<u32>,
     /// Its cells, one for each column.
     pub cells: Cells,
@@ -44,7 +44,7 @@ pub type Rows = Seq<(Key, Row)>;
 /// What a transaction does to one row.
 #[derive(Drop, PartialEq, Eq)]
 pub enum Change {
-    /// A new row, where there is none.
+    /// A new row, if there is none.
     Insert {
         /// The row's key.
         key: Key,

@@ -58,7 +58,7 @@ pub struct ColumnDef {
     pub name: Text,
     /// What its cells are.
     pub kind: ColumnType,
-    /// The cell that a row gets in it if the row was kept before the column was there. Behind a column that has a default
+    /// The cell that a row gets in it if the row was kept before the column was there. After a column that has a default
     /// each column has one.
     pub default: Option<Cell>,
 }

@@ -101,7 +101,7 @@ impl<K: Keeper> Parts<K> {
         }
     }
 
-    /// The answer of a part to an act of a session at this tick, which isn't the session's own. A fault is answered only where the
+    /// The answer of a part to an act of a session at this tick, which isn't the session's own. A fault is answered only if the
     /// keeper failed in this call. At an error the parts are as before, but for the keeper's counts, and the keeper was asked once
     /// at most.
     pub fn serve(

@@ -1,4 +1,4 @@
-// What stands behind the condition of a query line, token by token.
+// What stands after the condition of a query line, token by token.
 ghost use Rattle.hib_criteria.specs.Form as lines;
 ghost use Rattle.std.specs.Prelude.{◌≡◌, IfOk};
 
@@ -19,7 +19,7 @@ fn has_pages(form: &Form) -> bool
     form.offset.is_some() || form.limit.is_some()
 }
 
-/// The first word of a clause behind `where`.
+/// The first word of a clause after `where`.
 pub fn step_clauses(form: Form, frames: Frames, token: &Token) -> Option<Draft>
     ensures { result ≡ lines.step_clauses form frames token.now }
 {
@@ -55,7 +55,7 @@ pub fn step_chosen(form: Form, frames: Frames, token: &Token) -> Option<Draft>
     }
 }
 
-/// Whether a word begins a clause behind an order.
+/// Whether a word begins a clause after an order.
 fn is_clause(token: &Token) -> bool
     ensures { result ≡ lines.is_clause token.now }
 {
@@ -96,7 +96,7 @@ pub fn step_sorting(
     }
 }
 
-/// What stands behind a column of an order.
+/// What stands after a column of an order.
 pub fn step_sorted(
     mapping: &[EntityDef],
     form: Form,

@@ -67,13 +67,13 @@ pub enum Place {
     Operand(Op, Option<Column>),
     /// With one more cell of `in`, or its end.
     Operands(Option<Column>, Cells),
-    /// With a clause behind `where`.
+    /// With a clause after `where`.
     Clauses,
     /// With the first column of an order.
     Order,
-    /// With `desc`, a further column of an order or a clause behind it.
+    /// With `desc`, a further column of an order or a clause after it.
     Sorted(u16),
-    /// With a further column of an order or a clause behind it.
+    /// With a further column of an order or a clause after it.
     Sorting,
     /// With the number of an offset.
     Offset,
@@ -114,7 +114,7 @@ pub struct Draft {
     pub place: Place,
 }
 
-/// What a query line says, or none where it hasn't the form of one.
+/// What a query line says, or none if it hasn't the form of one.
 #[tactic(auto, using(crate::proofs::Lines::form_next, crate::proofs::Lines::form_done))]
 pub fn read_form(
     alloc: Global,
@@ -170,7 +170,7 @@ fn ended(draft: Draft) -> Option<Form>
     }
 }
 
-/// The line behind one more token, or none where it can't stand there.
+/// The line after one more token, or none if it can't stand there.
 fn step(
     alloc: Global,
     mapping: &[EntityDef],

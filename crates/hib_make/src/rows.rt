@@ -8,7 +8,7 @@ use crate::entities::{AUTHOR, BOOK, CUSTOMER, SHELF};
 use hib_base::{Cell, EntityNo, Key, Row, Rows, Seq, Text};
 use std::alloc::{AllocError, Global};
 
-/// A word and a number behind it.
+/// A word and a number after it.
 pub fn numbered(alloc: Global, word: &[u8], number: u32) -> Result<Text, AllocError>
     ensures { IfOk result (λ t. t ≡ numbered word.now number) }
 {

@@ -30,7 +30,7 @@ pub fn is_within(token: &Token, low: u32, high: u32) -> bool
     }
 }
 
-/// The number that a token is, where it is one from 0 to `high`; else 0.
+/// The number that a token is, if it is one from 0 to `high`; else 0.
 pub fn number_up_to(token: &Token, high: u32) -> u32
     ensures { result ≡ parts.number_up_to high token.now }
 {
