@@ -11,14 +11,18 @@ use hib_mapping::{column_place, has_type};
 /// A column of an entity, by its place, with its type.
 #[derive(Clone, Copy)]
 pub struct Found {
+    /// Its place among the columns of its entity, from 0.
     pub place: u16,
+    /// The type of its cells.
     pub kind: ColumnType,
 }
 
 /// A column that is named, with its type.
 #[derive(Clone, Copy)]
 pub struct Column {
+    /// How a row leads to its cell: in the row itself, or by a reference in a row of another entity.
     pub path: Path,
+    /// The type of its cells.
     pub kind: ColumnType,
 }
 

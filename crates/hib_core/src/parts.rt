@@ -28,10 +28,15 @@ use std::marker::Model;
 
 /// The store, the open sessions, the stamps of tables, the regions, one for each entity, and the results of queries.
 pub struct Parts<K: Keeper> {
+    /// The committed rows, and what each session has written and not committed.
     pub store: StoreEngine<K>,
+    /// The open sessions with the ticks at which they began.
     pub registry: Registry,
+    /// For each table the tick of its last change, or one ahead while a commit is under way.
     pub stamps: StampsEngine,
+    /// For each entity of the script its region, in order.
     pub regions: Vec<Region>,
+    /// The results of queries that are kept.
     pub results: ResultsEngine,
 }
 

@@ -187,6 +187,7 @@ fn subject(
     }
 }
 
+/// The form, with the note that a column isn't known if this one is missing.
 pub fn known(mut form: Form, is_missing: bool) -> Form
     ensures { result ≡ lines.known form is_missing }
 {

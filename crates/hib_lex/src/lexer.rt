@@ -62,6 +62,7 @@ pub fn is_lexical(line: &[u8]) -> bool
     line.len() <= MOST_BYTES && is_printable(line)
 }
 
+/// Whether a line has printable bytes alone: those from 32 to 126.
 pub fn is_printable(line: &[u8]) -> bool
     ensures { result ≡ list_all is_printable line.now }
 {

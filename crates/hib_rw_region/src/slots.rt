@@ -81,6 +81,7 @@ pub fn remove(slots: &mut IndexMap<u64, Slot>, id: u64)
     slots.shift_remove(&id);
 }
 
+/// Removes all keys. It takes no memory.
 pub fn clear(slots: &mut IndexMap<u64, Slot>)
     ensures { slots.new.entries ≡ [] }
 {

@@ -99,7 +99,9 @@ pub enum Awaited {
 /// Pairs as far as they were read.
 #[derive(Drop)]
 pub struct Draft {
+    /// The pairs so far, with their faults.
     pub pairs: Pairs,
+    /// What comes next.
     pub awaited: Awaited,
 }
 
