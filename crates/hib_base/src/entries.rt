@@ -191,7 +191,7 @@ pub struct Entry {
 }
 
 impl Act {
-    /// An equal act.
+    /// An equal act. Fails for want of memory alone.
     pub fn copy(&self, alloc: Global) -> Result<Act, AllocError>
         ensures { IfOk result (λ a. a ≡ self.now) }
     {
@@ -277,7 +277,7 @@ impl Act {
 }
 
 impl Entry {
-    /// An equal entry.
+    /// An equal entry. Fails for want of memory alone.
     pub fn copy(&self, alloc: Global) -> Result<Entry, AllocError>
         ensures { IfOk result (λ e. e ≡ self.now) }
     {

@@ -174,7 +174,7 @@ pub enum Node {
 }
 
 impl Cond {
-    /// A condition of the same parts.
+    /// A condition of the same parts. Fails for want of memory alone.
     pub fn copy(&self, alloc: Global) -> Result<Cond, AllocError>
         ensures { IfOk result (λ c. parts_of c ≡ parts_of self.now) }
     {
@@ -252,6 +252,7 @@ pub struct Query {
 
 impl Query {
     /// A query that says the same: each part is equal, and its condition has the same parts.
+    /// Fails for want of memory alone.
     pub fn copy(&self, alloc: Global) -> Result<Query, AllocError>
         ensures { IfOk result (λ q. said q ≡ said self.now) }
     {

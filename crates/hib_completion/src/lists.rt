@@ -21,7 +21,7 @@ fn touched(changes: &[Change], number: usize) -> Option<EntityNo>
     None
 }
 
-/// The entities of these changes, in the order of the mapping.
+/// The entities of these changes, in the order of the mapping. Fails for want of memory alone.
 pub fn tables(alloc: Global, mapping: &Mapping, changes: &[Change]) -> Result<Names, AllocError>
     ensures { IfOk result (λ n. n ≡ tables_by mapping.now changes.now) }
 {

@@ -75,7 +75,7 @@ impl<K: Keeper> Parts<K> {
         self.results.restart();
     }
 
-    /// An act of a region, of a session or from outside.
+    /// An act of a region, of a session or from outside. At an error nothing has changed.
     pub fn serve_entity(
         &mut self,
         alloc: Global,

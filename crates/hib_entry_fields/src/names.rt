@@ -77,7 +77,7 @@ pub fn key_at<'a>(script: &Script, bytes: &'a [u8]) -> (Key, &'a [u8])
     )
 }
 
-/// Entities, each after a space.
+/// Entities, each after a space. Fails for want of memory alone.
 #[tactic(auto, using(crate::proofs::Loops::names_go_on, crate::proofs::Loops::names_stop, crate::proofs::Loops::names_end))]
 pub fn names_of(alloc: Global, script: &Script, bytes: &[u8]) -> Result<Names, AllocError>
     ensures { IfOk result (λ n. n ≡ format.names_from script.now (length bytes.now) bytes.now) }

@@ -83,7 +83,7 @@ pub fn is_skipped(line: &[u8]) -> bool
 }
 
 /// The tokens of a line, or none if a byte, its length or a part of it is against the rules. A comment isn't told
-/// from other lines here: ask `is_skipped` first.
+/// from other lines here: ask `is_skipped` first. Fails for want of memory alone.
 #[tactic(auto, using(crate::proofs::Scans::scan_next, crate::proofs::Scans::scan_done))]
 pub fn tokens(alloc: Global, line: &[u8]) -> Result<Option<Tokens>, AllocError>
     ensures { IfOk result (λ t. t ≡ lines.tokens_of line.now) }

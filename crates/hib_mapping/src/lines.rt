@@ -122,6 +122,7 @@ fn or_no_columns(followed: bool, kind: Option<Kind>) -> Option<Kind>
 }
 
 /// The entity that an entity line declares, without its columns; none if the line hasn't its form.
+/// Fails for want of memory alone.
 pub fn entity(alloc: Global, tokens: &[Token]) -> Result<Option<EntityDef>, AllocError>
     ensures { IfOk result (λ e. e ≡ lines.entity_of tokens.now) }
 {
@@ -353,7 +354,7 @@ fn column(
     })
 }
 
-/// The entity with the column of a column line.
+/// The entity with the column of a column line. Fails for want of memory alone.
 pub fn with_column(
     alloc: Global,
     mapping: &[EntityDef],

@@ -27,7 +27,7 @@ impl Model for Results {
 }
 
 impl Results {
-    /// No result is kept. The capacity is at least 1.
+    /// No result is kept. The capacity is at least 1. Fails for want of memory alone.
     pub fn open(alloc: Global, capacity: u32) -> Result<Results, AllocError>
         requires { 0 < capacity }
         ensures { IfOk result (λ r. r ≡ record { capacity = capacity; kept = [] }) }

@@ -216,7 +216,7 @@ impl RwRegion {
     }
 
     /// Stores a row whose update was committed under a lock, unless others have locked the key too, and gives the
-    /// lock back. If the key has no lock of this number that is held, as `unlock`.
+    /// lock back. If the key has no lock of this number that is held, as `unlock`. At an error nothing has changed.
     pub fn after_update(
         &mut self,
         id: u64,

@@ -159,7 +159,7 @@ impl Session {
         Ok(act)
     }
 
-    /// The act that is due, or none if the session is at its end or was killed.
+    /// The act that is due, or none if the session is at its end or was killed. Fails for want of memory alone.
     pub fn next_act(&self, alloc: Global, script: &Script) -> Result<Option<Act>, AllocError>
         ensures act { IfOk result (λ a. (mine : Journal) → Follows script.now self.now mine → a ≡ next script.now (number_of self.now) mine) }
         ensures killed { IfOk result (λ a. is_killed self.now ≡ true → a ≡ None) }
@@ -230,7 +230,7 @@ impl Session {
         }
     }
 
-    /// The session's own answer to an act of its own and to End; none to another act.
+    /// The session's own answer to an act of its own and to End; none to another act. Fails for want of memory alone.
     pub fn reply_to(
         &self,
         alloc: Global,
@@ -256,7 +256,7 @@ impl Session {
     }
 
     /// The answer to the act that is due, if that is an act of the session's own or End. None if it is another, or if
-    /// no act is due.
+    /// no act is due. Fails for want of memory alone.
     pub fn reply(&self, alloc: Global, script: &Script) -> Result<Option<Reply>, AllocError>
         ensures reply { IfOk result (λ r. (mine : Journal) → Follows script.now self.now mine → r ≡ reply_due script.now mine (next script.now (number_of self.now) mine)) }
         ensures killed { IfOk result (λ r. is_killed self.now ≡ true → r ≡ None) }

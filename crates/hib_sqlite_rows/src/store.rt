@@ -22,6 +22,7 @@ pub struct StoreTable<S: Alter> {
 
 impl<S: Alter + Drop> StoreTable<S> {
     /// The table of a connection that has begun no transaction. It is made if it isn't there.
+    /// Fails within a transaction, if SQLite fails, or for want of memory; then the connection is closed.
     pub fn over(mut conn: Connection<S>) -> Result<StoreTable<S>, Error>
         ensures { IfOk result (λ t. HasCleanDisk (state S.Store t.conn) → (count : ℕ) × Executes create_text [] (state S.Store conn) (state S.Store t.conn) (Ok count)) }
     {
