@@ -8,7 +8,7 @@ use Rattle.hib_lex.proofs.Texts.{lines_first}
 use Rattle.hib_journal_json.proofs.Journals.{line_here}
 use Rattle.hib_audit_input.specs.Input.{TextLines, is_mark, with_first, cut}
 
--- ---- a text is cut behind a line feed
+-- ---- a text is cut after a line feed
 
 is_feed : (b : ℕ) → (b == line_feed) ≡ true → b ≡ 10
 is_feed b e = grind (arith, nat_tests)
@@ -30,7 +30,7 @@ split_behind (b ∷ bs) (suc i) h e = by (b == line_feed) (split_behind bs i (om
     by true r = ap (λ ls. [] ∷ ls) r
     by false r = ap (before_lines b) r ∙ before_more b (take (suc i) bs) (lines_of (drop (suc i) bs)) inside
 
--- a line feed stands behind a line that isn't the rest of the text
+-- a line feed stands after a line that isn't the rest of the text
 feed_behind : (bs : List ℕ) → line_length bs < length bs → get_or bs (line_length bs) 0 ≡ 10
 feed_behind [] h = absurd (omega (arith, h))
 feed_behind (b ∷ bs) h = by (b == line_feed) refl h (λ k. feed_behind bs k)
@@ -76,7 +76,7 @@ cut_on (l ∷ before) ls h = by (is_mark l) h (λ e. cut_on before ls e)
     by true e rest = absurd (cc)
     by false e rest = ap (option_map (with_first l)) (rest e) ∙ more (cut ls)
 
--- the rest of a text from a place behind its end on is nothing
+-- the rest of a text from a place after its end on is nothing
 drop_least : (text : List ℕ) (i : ℕ) → drop (min (length text) i) text ≡ drop i text
 drop_least text i = by (nat_le i (length text)) refl
   where

@@ -20,7 +20,7 @@ is_mark line = bytes_eq line (codes "journal")
 abbrev pub with_first : List ℕ → TextLines × TextLines → TextLines × TextLines
 with_first l c = (l ∷ c.0, c.1)
 
--- the lines before the first such line, and those behind it
+-- the lines before the first such line, and those after it
 abbrev pub cut : TextLines → Option (TextLines × TextLines)
 cut [] = None
 cut (l ∷ ls) = cond (is_mark l) (Some ([], ls)) (option_map (with_first l) (cut ls))
@@ -29,7 +29,7 @@ cut (l ∷ ls) = cond (is_mark l) (Some ([], ls)) (option_map (with_first l) (cu
 abbrev pub script_of_lines : TextLines → Result Outline Refused
 script_of_lines ls = script_in (lexing (Ok (record { lines = []; count = 0 })) ls)
 
--- the script, and the entries whose JSON lines come behind it
+-- the script, and the entries whose JSON lines come after it
 abbrev pub IsCutInto : Option (TextLines × TextLines) → Script → List Entry → Type 0
 IsCutInto None script es = ⊥
 IsCutInto (Some c) script es = (script_of_lines c.0 ≡ Ok (outline_of script)) × AreLines script c.1 es
@@ -37,7 +37,7 @@ IsCutInto (Some c) script es = (script_of_lines c.0 ≡ Ok (outline_of script)) 
 abbrev pub IsInput : List ℕ → Script → List Entry → Type 0
 IsInput text script es = IsCutInto (cut (lines_of text)) script es
 
--- the first bad line: without a line `journal` all lines are the script, and one is missing behind them
+-- the first bad line: without a line `journal` all lines are the script, and one is missing after them
 abbrev pub unmarked : ℕ → Result Outline Refused → Refused
 unmarked n (Err r) = r
 unmarked n (Ok said) = record { line = n; kind = Kind.Journal }
@@ -64,7 +64,7 @@ abbrev pub IsWhere : List ℕ → InputFault → Type 0
 IsWhere text InputFault.NoMemory = Unit {0}
 IsWhere text (InputFault.Refused r) = IsBadInput text r
 
--- the lines behind the script are entries', whatever script it is that says this
+-- the lines after the script are entries', whatever script it is that says this
 pub record IsWholeInput (text : List ℕ) : Type 0 where
   pub before : TextLines
   pub behind : TextLines

@@ -10,7 +10,7 @@ use hib_lex::line_length;
 pub struct Cut {
     /// The bytes before the line `journal`.
     pub before: usize,
-    /// The bytes before what comes behind that line.
+    /// The bytes before what comes after that line.
     pub behind: usize,
     /// The number of lines before it.
     pub lines: usize,

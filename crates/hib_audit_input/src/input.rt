@@ -42,7 +42,7 @@ fn without_mark(alloc: Global, text: &[u8], lines: usize) -> InputFault
     }
 }
 
-/// The journal behind a script, whose lines begin with this number.
+/// The journal after a script, whose lines begin with this number.
 fn read_behind(
     alloc: Global,
     script: Script,
@@ -61,7 +61,7 @@ fn read_behind(
     }
 }
 
-/// The script before a line `journal`, and the journal behind it; so many lines stand before it.
+/// The script before a line `journal`, and the journal after it; so many lines stand before it.
 fn read_cut(alloc: Global, before: &[u8], behind: &[u8], lines: usize) -> Result<Input, InputFault>
     requires small { length before.now < 2 ^ 31 }
     requires few { lines ≤ length before.now + 1 }
@@ -78,11 +78,11 @@ fn read_cut(alloc: Global, before: &[u8], behind: &[u8], lines: usize) -> Result
     }
 }
 
-/// The script and the journal of a text: the lines before the first line that is exactly `journal` are the script, those behind
+/// The script and the journal of a text: the lines before the first line that is exactly `journal` are the script, those after
 /// it JSON lines, one for each entry.
 ///
 /// Errors: `Refused` exactly if the text has not this form, with its first bad line by the rules of a script, and else the
-/// first line behind it that is no entry's; `NoMemory` if there is none left.
+/// first line after it that is no entry's; `NoMemory` if there is none left.
 pub fn read(alloc: Global, text: &[u8]) -> Result<Input, InputFault>
     requires { length text.now < 2 ^ 31 }
     ensures input { IfOk result (λ i. IsInput text.now i.script i.journal.list) }

@@ -55,7 +55,7 @@ pub named_more : {A : Type 0} (f : A → List ℕ) (xs : List A) (x : A) → are
 named_more f xs x h i e =
     subst (λ ws. are_names ws ≡ true) (sym (map_more f xs x)) (names_more (map f xs) (f x) h i (has_mapped f xs (f x) ∙ e))
 
--- where no place is found, none passes
+-- if no place is found, none passes
 pub none_found : {A : Type 0} (p : A → Bool) (xs : List A) → length xs ≤ position_or_len p xs → list_any p xs ≡ false
 none_found p [] h = refl
 none_found p (x ∷ xs) h = by_test (p x) h (λ l. none_found p xs l)

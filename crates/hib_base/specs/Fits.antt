@@ -35,7 +35,7 @@ are_of_types [] [] = true
 are_of_types (d ∷ ds) (c ∷ cs) = is_of_type d.kind c && are_of_types ds cs
 are_of_types _ _ = false
 
--- a version exactly where the entity is versioned, below 4,000,000,000
+-- a version exactly if the entity is versioned, below 4,000,000,000
 abbrev pub is_version : Bool → Option ℕ → Bool
 is_version true (Some v) = nat_lt v 4000000000
 is_version false None = true
@@ -48,7 +48,7 @@ abbrev pub fits_entity : Option EntityDef → Key → Row → Bool
 fits_entity None k r = true
 fits_entity (Some d) k r = is_identifier k.id && (is_version d.versioned r.version && are_of_types d.columns r.cells)
 
--- each row of a declared entity has an identifier, a version where it has to, and cells of its columns' types
+-- each row of a declared entity has an identifier, a version if it has to, and cells of its columns' types
 abbrev pub fits : List EntityDef → Tables → Bool
 fits mapping rows = list_all (λ e. fits_entity (slice_get mapping e.0.entity) e.0 e.1) rows
 
@@ -64,7 +64,7 @@ abbrev pub kind_in : Option ColumnDef → Option ColumnType
 kind_in None = None
 kind_in (Some d) = Some d.kind
 
--- the type of the column at a place, where there is one
+-- the type of the column at a place, if there is one
 abbrev pub type_at : List ColumnDef → ℕ → Option ColumnType
 type_at columns c = kind_in (slice_get columns c)
 
@@ -81,7 +81,7 @@ abbrev pub is_default : ColumnType → Option Cell → Bool
 is_default k None = true
 is_default k (Some c) = is_of_type k c
 
--- behind a column that has a default each has one
+-- after a column that has a default each has one
 abbrev pub ends_in_defaults : List ColumnDef → Bool
 ends_in_defaults [] = true
 ends_in_defaults (d ∷ ds) = (not (has_default d) || list_all has_default ds) && ends_in_defaults ds
@@ -111,7 +111,7 @@ fits_statement mapping (Statement.Remove k) = is_key_in mapping k
 fits_statement mapping _ = true
 
 -- ---- queries
--- of the target's column, behind a reference
+-- of the target's column, after a reference
 abbrev pub type_through : List EntityDef → Target → ColumnType → Option ColumnType
 type_through mapping g (ColumnType.Ref e) = cond (e == g.entity) (type_at (entity_columns mapping e) g.column) None
 type_through mapping g _ = None
@@ -120,7 +120,7 @@ abbrev pub type_led : List EntityDef → Option Target → ColumnType → Option
 type_led mapping None k = Some k
 type_led mapping (Some g) k = type_through mapping g k
 
--- the type of the column to which a path leads from an entity, where there is one
+-- the type of the column to which a path leads from an entity, if there is one
 abbrev pub type_of_path : List EntityDef → ℕ → Path → Option ColumnType
 type_of_path mapping e p = option_and_then (λ k. type_led mapping p.target k) (type_at (entity_columns mapping e) p.column)
 

@@ -39,7 +39,7 @@ abbrev pub is_row_below : ℕ → Key × Row → Bool
 is_row_below n x = nat_lt x.0.entity n
 
 -- ---- queries
--- the target of a step, where a path has one, is below n
+-- the target of a step, if a path has one, is below n
 abbrev pub is_target_below : ℕ → Option Target → Bool
 is_target_below n None = true
 is_target_below n (Some g) = nat_lt g.entity n

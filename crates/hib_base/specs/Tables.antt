@@ -26,7 +26,7 @@ abbrev pub unless_there : Tables → Key → Row → Option Row → Tables
 unless_there kept k r None = with_row kept k r
 unless_there kept k r (Some old) = kept
 
--- each of some rows is placed where its key has none
+-- each of some rows is placed if its key has none
 abbrev pub with_absent : Tables → Tables → Tables
 with_absent kept [] = kept
 with_absent kept (e ∷ es) = with_absent (unless_there kept e.0 e.1 (row_at kept e.0)) es
@@ -72,7 +72,7 @@ abbrev pub unless_absent : Key → Option Row → Option Commit
 unless_absent k None = None
 unless_absent k (Some r) = Some (Commit.Duplicate k)
 
--- the answer to a change that does not apply, or none where it does
+-- the answer to a change that does not apply, or none if it does
 abbrev pub refusal : Change → Tables → Option Commit
 refusal (Change.Insert k r) t = unless_absent k (row_at t k)
 refusal (Change.Update k v r) t = unless_expected k v (row_at t k)

@@ -180,7 +180,7 @@ pub enum Act {
 pub struct Entry {
     /// When it was.
     pub tick: Tick,
-    /// The session that did it; none where it came from outside.
+    /// The session that did it; none if it came from outside.
     pub session: Option<SessionNo>,
     /// The part that it touched.
     pub part: Part,
@@ -191,7 +191,7 @@ pub struct Entry {
 }
 
 impl Act {
-    /// An equal act.
+    /// An equal act. Fails for want of memory alone.
     pub fn copy(&self, alloc: Global) -> Result<Act, AllocError>
         ensures { IfOk result (λ a. a ≡ self.now) }
     {
@@ -277,7 +277,7 @@ impl Act {
 }
 
 impl Entry {
-    /// An equal entry.
+    /// An equal entry. Fails for want of memory alone.
     pub fn copy(&self, alloc: Global) -> Result<Entry, AllocError>
         ensures { IfOk result (λ e. e ≡ self.now) }
     {

@@ -33,7 +33,7 @@ pub enum Kind {
     ColumnType,
     /// The entity that is referred to isn't declared yet.
     RefUnknown,
-    /// A default isn't of its column's type, or a column without one stands behind a column that has one.
+    /// A default isn't of its column's type, or a column without one stands after a column that has one.
     Default,
     /// An entity without a column.
     NoColumns,

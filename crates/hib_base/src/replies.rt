@@ -262,7 +262,7 @@ pub enum Reply {
 }
 
 impl Reply {
-    /// An equal reply.
+    /// An equal reply. Fails for want of memory alone.
     pub fn copy(&self, alloc: Global) -> Result<Reply, AllocError>
         ensures { IfOk result (λ r. r ≡ self.now) }
     {

@@ -32,7 +32,7 @@ pub type Listing = Seq<Cell>;
 /// A row of an entity.
 #[derive(Drop, PartialEq, Eq)]
 pub struct Row {
-    /// Its version, where its entity is versioned.
+    /// Its version, if its entity is versioned.
     pub version: Option<u32>,
     /// Its cells, one for each column.
     pub cells: Cells,
@@ -44,7 +44,7 @@ pub type Rows = Seq<(Key, Row)>;
 /// What a transaction does to one row.
 #[derive(Drop, PartialEq, Eq)]
 pub enum Change {
-    /// A new row, where there is none.
+    /// A new row, if there is none.
     Insert {
         /// The row's key.
         key: Key,
@@ -78,7 +78,7 @@ pub type Sets = Seq<(u16, Cell)>;
 /// Entities, by number.
 pub type Names = Seq<EntityNo>;
 
-/// An equal list of cells.
+/// An equal list of cells. Fails for want of memory alone.
 pub fn copy_cells(alloc: Global, cells: &Cells) -> Result<Cells, AllocError>
     ensures { IfOk result (λ c. c ≡ cells.now) }
 {
@@ -89,7 +89,7 @@ pub fn copy_cells(alloc: Global, cells: &Cells) -> Result<Cells, AllocError>
     Ok(Seq::from_vec(copy))
 }
 
-/// An equal list of sets.
+/// An equal list of sets. Fails for want of memory alone.
 pub fn copy_sets(alloc: Global, sets: &Sets) -> Result<Sets, AllocError>
     ensures { IfOk result (λ c. c ≡ sets.now) }
 {
@@ -100,7 +100,7 @@ pub fn copy_sets(alloc: Global, sets: &Sets) -> Result<Sets, AllocError>
     Ok(Seq::from_vec(copy))
 }
 
-/// An equal list of names.
+/// An equal list of names. Fails for want of memory alone.
 pub fn copy_names(alloc: Global, names: &Names) -> Result<Names, AllocError>
     ensures { IfOk result (λ n. n ≡ names.now) }
 {
@@ -108,7 +108,7 @@ pub fn copy_names(alloc: Global, names: &Names) -> Result<Names, AllocError>
 }
 
 impl Cell {
-    /// An equal cell.
+    /// An equal cell. Fails for want of memory alone.
     pub fn copy(&self, alloc: Global) -> Result<Cell, AllocError>
         ensures { IfOk result (λ c. c ≡ self.now) }
     {
@@ -121,7 +121,7 @@ impl Cell {
 }
 
 impl Row {
-    /// An equal row.
+    /// An equal row. Fails for want of memory alone.
     pub fn copy(&self, alloc: Global) -> Result<Row, AllocError>
         ensures { IfOk result (λ r. r ≡ self.now) }
     {
@@ -153,7 +153,7 @@ impl Change {
         }
     }
 
-    /// An equal change.
+    /// An equal change. Fails for want of memory alone.
     pub fn copy(&self, alloc: Global) -> Result<Change, AllocError>
         ensures { IfOk result (λ c. c ≡ self.now) }
     {

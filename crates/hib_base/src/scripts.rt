@@ -58,7 +58,7 @@ pub struct ColumnDef {
     pub name: Text,
     /// What its cells are.
     pub kind: ColumnType,
-    /// The cell that a row gets in it if the row was kept before the column was there. Behind a column that has a default
+    /// The cell that a row gets in it if the row was kept before the column was there. After a column that has a default
     /// each column has one.
     pub default: Option<Cell>,
 }
@@ -174,7 +174,7 @@ pub enum Node {
 }
 
 impl Cond {
-    /// A condition of the same parts.
+    /// A condition of the same parts. Fails for want of memory alone.
     pub fn copy(&self, alloc: Global) -> Result<Cond, AllocError>
         ensures { IfOk result (λ c. parts_of c ≡ parts_of self.now) }
     {
@@ -252,6 +252,7 @@ pub struct Query {
 
 impl Query {
     /// A query that says the same: each part is equal, and its condition has the same parts.
+    /// Fails for want of memory alone.
     pub fn copy(&self, alloc: Global) -> Result<Query, AllocError>
         ensures { IfOk result (λ q. said q ≡ said self.now) }
     {

@@ -66,7 +66,7 @@ fn add_defaults(alloc: Global, cells: &mut Cells, columns: &[ColumnDef]) -> Resu
 }
 
 /// The cells of a row of these columns. If the row lacks columns, and each that it lacks has a default, it gets these
-/// defaults at its end; else it has the cells that it had.
+/// defaults at its end; else it has the cells that it had. Fails for want of memory alone.
 pub fn widened_cells(
     alloc: Global,
     columns: &[ColumnDef],
@@ -83,7 +83,7 @@ pub fn widened_cells(
 
 impl Row {
     /// The row with the defaults of the columns that it lacks, if each of these has one; else an equal row. Its version
-    /// stays.
+    /// stays. Fails for want of memory alone.
     pub fn widened(&self, alloc: Global, columns: &[ColumnDef]) -> Result<Row, AllocError>
         ensures { IfOk result (λ r. r ≡ start.widened_row columns.now self.now) }
     {

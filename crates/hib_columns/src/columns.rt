@@ -11,18 +11,22 @@ use hib_mapping::{column_place, has_type};
 /// A column of an entity, by its place, with its type.
 #[derive(Clone, Copy)]
 pub struct Found {
+    /// Its place among the columns of its entity, from 0.
     pub place: u16,
+    /// The type of its cells.
     pub kind: ColumnType,
 }
 
 /// A column that is named, with its type.
 #[derive(Clone, Copy)]
 pub struct Column {
+    /// How a row leads to its cell: in the row itself, or by a reference in a row of another entity.
     pub path: Path,
+    /// The type of its cells.
     pub kind: ColumnType,
 }
 
-/// The columns of an entity; none where there is no such entity.
+/// The columns of an entity; none if there is no such entity.
 pub fn columns_of(mapping: &[EntityDef], entity: Option<EntityNo>) -> &[ColumnDef]
     ensures { result.now ≡ named.columns_of mapping.now entity }
 {
@@ -54,7 +58,7 @@ fn at_place(columns: &[ColumnDef], place: u16) -> Option<Found>
     }
 }
 
-/// The place of a column; where there is none, 0.
+/// The place of a column; if there is none, 0.
 pub fn place_or_first(found: Option<Found>) -> u16
     ensures { result ≡ named.place_or_first found }
 {
@@ -142,7 +146,7 @@ pub fn is_path(token: &Token) -> bool
     matches!(token, Token::Word(_) | Token::Path(_, _))
 }
 
-/// The path of a column; where there is none, that of the first one.
+/// The path of a column; if there is none, that of the first one.
 pub fn path_or_first(column: Option<Column>) -> Path
     ensures { result ≡ named.path_or_first column }
 {
@@ -155,7 +159,7 @@ pub fn path_or_first(column: Option<Column>) -> Path
     }
 }
 
-/// Whether a cell has a column's type, where the column is known.
+/// Whether a cell has a column's type, if the column is known.
 pub fn is_typed(column: &Option<Column>, cell: &Cell) -> bool
     ensures { result ≡ named.is_typed column.now cell.now }
 {

@@ -7,7 +7,7 @@ ghost use Rattle.hib_completion.specs.Completed.{tables_by};
 use hib_base::{Change, EntityNo, Mapping, Names, Seq};
 use std::alloc::{AllocError, Global};
 
-/// The entity of this number, where one of the changes is of it.
+/// The entity of this number, if one of the changes is of it.
 fn touched(changes: &[Change], number: usize) -> Option<EntityNo>
     ensures { MatchOption result (list_any (λ c. (key_of c).entity == number) changes.now ≡ false)
         (λ e. (e ≡ number) × (list_any (λ c. (key_of c).entity == number) changes.now ≡ true)) }
@@ -21,7 +21,7 @@ fn touched(changes: &[Change], number: usize) -> Option<EntityNo>
     None
 }
 
-/// The entities of these changes, in the order of the mapping.
+/// The entities of these changes, in the order of the mapping. Fails for want of memory alone.
 pub fn tables(alloc: Global, mapping: &Mapping, changes: &[Change]) -> Result<Names, AllocError>
     ensures { IfOk result (λ n. n ≡ tables_by mapping.now changes.now) }
 {

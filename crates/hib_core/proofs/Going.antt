@@ -97,7 +97,7 @@ answers_of w script from y a r h e x z run t told l g = record {
 pub run_still : (script : Script) (from : Origin) (h : Journal) (x y : PartsState) → IsRun script from h x → IsStill x y → IsRun script from h y
 run_still script from h x y run u = record { legal = run.legal; law = run.law; numbered = run.numbered; parts = still_parts script from h x y u run.parts; built = run.built }
 
--- the sessions of a run with no entry, where the one at s, which is now z, follows what it followed
+-- the sessions of a run with no entry, if the one at s, which is now z, follows what it followed
 pub sessions_same : (script : Script) (h : Journal) (s : ℕ) (xs : List Session) (y z : Session) → AreSessions script h xs → slice_get xs s ≡ Some y → number_of z ≡ number_of y →
     is_killed z ≡ is_killed y → ((mine : Journal) → Follows script y mine → Follows script z mine) → AreSessions script h (slice_set xs s z)
 sessions_same script h s xs y z w v k d f = record {

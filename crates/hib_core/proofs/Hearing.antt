@@ -1,4 +1,4 @@
--- What listeners have heard, after a step and where none was taken.
+-- What listeners have heard, after a step and if none was taken.
 use Rattle.std.proofs.Common.{◌≡◌, suc, Bool, false, not, is_ok, is_err, List, [], ◌∷◌, ◌++◌, length, reverse, Result, Ok, Err, refl, sym, ◌∙◌, ap, subst, arith}
 use Rattle.std.proofs.lemmas.List.{reverse-append, reverse-reverse}
 use Rattle.hib_journal.specs.Types.{Entry}

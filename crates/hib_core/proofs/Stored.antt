@@ -42,7 +42,7 @@ store_of from h store k b f = record {
   faults = f;
 }
 
--- an answer that is a fault only where the count rose
+-- an answer that is a fault only if the count rose
 pub rose_if : (r : Reply) (o w : ℕ) → o ≤ w → (is_fault r ≡ true → RoseBy o 1 w) → RoseBy o (cond (is_fault r) 1 0) w
 rose_if r o w l f = by_test (tested (is_fault r))
   where
@@ -50,7 +50,7 @@ rose_if r o w l f = by_test (tested (is_fault r))
     by_test (inl p) = rw p (f p)
     by_test (inr p) = rw p (omega (arith, l))
 
--- where memory ran out
+-- if memory ran out
 pub store_still : (from : Origin) (h : Journal) (old new : StoreState) → IsStore from h old → new.tables ≡ old.tables → new.written ≡ old.written → old.faults ≤ new.faults → IsStore from h new
 store_still from h old new k t w f = store_of from h new
     (record { rows = t ∙ k.stands.rows; changes = λ n. ap (λ x. Rattle.hib_store.specs.Stores.changes_in x n) w ∙ k.stands.changes n }) k.bridged

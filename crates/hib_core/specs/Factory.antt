@@ -64,7 +64,7 @@ pub record IsRun (script : Script) (from : Origin) (h : Journal) (x : PartsState
 abbrev pub IsAsked : Origin → Journal → PartsState → Type 0
 IsAsked from h x = RoseWithin from.asked (ask_count h) x.store.asked
 
--- or once more, where memory ran out
+-- or once more, if memory ran out
 abbrev pub IsAskedOnceMore : Origin → Journal → PartsState → Type 0
 IsAskedOnceMore from h x = RoseWithin from.asked (ask_count h + 1) x.store.asked
 
@@ -74,7 +74,7 @@ pub record IsStanding (script : Script) (from : Origin) (x : CoreState) : Type 0
   -- unless memory ran out in a call
   pub asked : x.refused ≡ false → IsAsked from (past x.journal) x.parts
 
--- a session is killed where the journal says so, and else as far as its own entries
+-- a session is killed if the journal says so, and else as far as its own entries
 pub record IsMember (script : Script) (h : Journal) (y : Session) : Type 0 where
   pub killed : is_killed y ≡ was_killed (number_of y) h
   pub follow : was_killed (number_of y) h ≡ false → Follows script y (own (number_of y) h)
@@ -86,7 +86,7 @@ pub record IsTurn (script : Script) (h : Journal) (y : Session) (a : Act) : Type
   pub next : next script (number_of y) (own (number_of y) h) ≡ Some a
   pub due : IsDue script (own (number_of y) h) a
 
--- an act was answered, with the session's own reply where it has one, the keeper was asked as the act allows, and it failed where
+-- an act was answered, with the session's own reply if it has one, the keeper was asked as the act allows, and it failed if
 -- the reply says so
 pub record IsTold (script : Script) (from : Origin) (h : Journal) (s : ℕ) (a : Act) (r : Reply) (x y : PartsState) : Type 0 where
   pub answered : IsAnswered script from h s a r y
@@ -148,7 +148,7 @@ pub record Does (script : Script) (s : ℕ) (old new : Journal) (xs ys : List Se
 abbrev pub HasGrown : Journal → Journal → Type 0
 HasGrown old new = (e : Entry) × (new ≡ e ∷ old)
 
--- what listeners told before and after a step: where it added an entry they were told that, and else nothing
+-- what listeners told before and after a step: if it added an entry they were told that, and else nothing
 abbrev pub Hears : Journal → Journal → Bool → List Told → List Told → Type 0
 Hears old new whole told now = ((e : Entry) → new ≡ e ∷ old → AreTold e whole told now) × (new ≡ old → now ≡ told)
 

@@ -22,13 +22,13 @@ use Rattle.hib_engines.specs.Due.{IsDue}
 pub use Rattle.hib_engines.specs.Counts.{RoseBy, RoseWithin}
 pub use Rattle.hib_engines.specs.Served.{AreWithin, HasQuery}
 
--- what a factory is opened with: the committed rows, where the keeper tells them, and its counts
+-- what a factory is opened with: the committed rows, if the keeper tells them, and its counts
 pub record Origin : Type 0 where
   pub tables : Option Tables
   pub faults : ℕ
   pub asked : ℕ
 
--- the committed rows at the start, where the keeper tells what it kept: this is widened to the script's mapping, and the script's
+-- the committed rows at the start, if the keeper tells what it kept: this is widened to the script's mapping, and the script's
 -- rows are beside it
 abbrev pub told_start : Script → Option Tables → Option Tables
 told_start script kept = option_map (λ t. start script.mapping t script.rows) kept
@@ -81,7 +81,7 @@ pub record IsAnswered (script : Script) (from : Origin) (h : Journal) (s : ℕ) 
   pub reply : IsReply script from.tables h (entry_of h s a r)
   pub parts : AreParts script from (entry_of h s a r ∷ h) y
 
--- the keeper was asked once at most for an act of s, and only where the act asks
+-- the keeper was asked once at most for an act of s, and only if the act asks
 abbrev pub IsAskedFor : Journal → ℕ → Act → PartsState → PartsState → Type 0
 IsAskedFor h s a x y = RoseWithin x.store.asked (cond (asks (changes_in (own s h)) a) 1 0) y.store.asked
 

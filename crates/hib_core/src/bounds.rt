@@ -9,7 +9,7 @@ ghost use Rattle.hib_core.specs.Bound.{most_in, outside_count};
 use hib_law::steps_are_in_order;
 use hib_session::entries_are_few;
 
-/// A legal journal has few entries beside the kills, evictions and restarts; where a script has at most 1,000 sessions of 5,000
+/// A legal journal has few entries beside the kills, evictions and restarts; if a script has at most 1,000 sessions of 5,000
 /// statements each, fewer than 2^49.
 pub fn runs_are_short()
     ensures short { (script : Script) (told : Option Tables) (h : Journal) → IsLegal script told h → length h ≤ most_in script.sessions + outside_count h }

@@ -71,7 +71,7 @@ impl<K: Keeper, N: Name, L: Listener> Model for Factory<K, N, L> {
     ghost invariant = { λ f. HaveHeard f.deaf f.core.journal.list N.told (tells L.heard L.left f.listeners) };
 }
 
-/// Tells the newest entry of a journal. Where a listener has no memory for it, that is noted.
+/// Tells the newest entry of a journal. If a listener has no memory for it, that is noted.
 fn tell<L: Listener>(
     alloc: Global,
     journal: &Journal,
@@ -95,7 +95,7 @@ fn tell<L: Listener>(
 
 impl<K: Keeper, N: Name, L: Listener> Factory<K, N, L> {
     /// Opens the factory of this name, in which no session has begun. The keeper is seeded with the script's mapping and rows, each of
-    /// which it takes where its key has none. At an error the keeper is handed back with the rows that it had, and the listeners
+    /// which it takes if its key has none. At an error the keeper is handed back with the rows that it had, and the listeners
     /// untold.
     pub fn open(
         alloc: Global,
@@ -128,7 +128,7 @@ impl<K: Keeper, N: Name, L: Listener> Factory<K, N, L> {
     }
 
     /// One step of a session: the act that is due in it, if one is, and then the listeners hear of its entry. The other sessions stay
-    /// as they are. Where memory runs out no entry is added and nothing has changed, but the answer of `refused` and the keeper's
+    /// as they are. If memory runs out no entry is added and nothing has changed, but the answer of `refused` and the keeper's
     /// counts; so a later call may succeed. Only if a listener had none does the entry stand, and no call adds another.
     pub fn step(&mut self, alloc: Global, number: SessionNo) -> Result<Stepped, AllocError>
         requires known { number < length N.script.sessions }
@@ -222,7 +222,7 @@ impl<K: Keeper, N: Name, L: Listener> Factory<K, N, L> {
         self.core.lawful();
     }
 
-    /// Runs a session for so many steps, or to its end where that comes before; one that isn't there has none. Where memory
+    /// Runs a session for so many steps, or to its end if that comes before; one that isn't there has none. If memory
     /// runs out the steps so far stand.
     pub fn run_steps(
         &mut self,
@@ -252,7 +252,7 @@ impl<K: Keeper, N: Name, L: Listener> Factory<K, N, L> {
         Ok(())
     }
 
-    /// Runs a session to its end. Where memory runs out the steps so far stand.
+    /// Runs a session to its end. If memory runs out the steps so far stand.
     pub fn run_session(&mut self, alloc: Global, number: SessionNo) -> Result<(), AllocError>
         requires known { number < length N.script.sessions }
         ensures played { OnOk result (Leads (play_all N.script number) played (past self.old.journal) (past self.new.journal)) }
@@ -274,7 +274,7 @@ impl<K: Keeper, N: Name, L: Listener> Factory<K, N, L> {
         }
     }
 
-    /// Runs each session to its end, the first one first. Where memory runs out the steps so far stand.
+    /// Runs each session to its end, the first one first. If memory runs out the steps so far stand.
     pub fn finish(&mut self, alloc: Global) -> Result<(), AllocError>
         ensures played { OnOk result (Leads (play_sessions N.script (range_with_len 0 (length N.script.sessions))) played (past self.old.journal) (past self.new.journal)) }
         ensures over { OnOk result (AreOver N.script (past self.new.journal)) }
@@ -422,7 +422,7 @@ impl<K: Keeper, N: Name, L: Listener> Factory<K, N, L> {
     }
 
     /// Plays the script: the orders of its schedule, one after the other, and then each session to its end, the first one
-    /// first. Where memory runs out it stops there, and the steps so far stand. If memory ran out in no call before, the keeper was
+    /// first. If memory runs out it stops there, and the steps so far stand. If memory ran out in no call before, the keeper was
     /// asked once more than the journal says at most. What it evicts has an identifier.
     pub fn play(&mut self, alloc: Global) -> Result<(), AllocError>
         ensures played { OnOk result (past self.old.journal ≡ [] → is_played N.script (past self.new.journal) ≡ true) }

@@ -11,7 +11,7 @@ pub trait Name {
     /// The script.
     ghost script: { Script };
 
-    /// The committed rows at the start, where the keeper tells them, and its counts.
+    /// The committed rows at the start, if the keeper tells them, and its counts.
     ghost from: { Origin };
 
     /// What each listener told at the start.

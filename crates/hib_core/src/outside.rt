@@ -49,7 +49,7 @@ pub fn opened<K: Keeper, N: Name>(number: SessionNo, parts: &Parts<K>, journal: 
     parts.registry.is_open(number)
 }
 
-/// Kills a session, if it is open. Its locks stay until their time is over. Where memory runs out nothing has changed.
+/// Kills a session, if it is open. Its locks stay until their time is over. If memory runs out nothing has changed.
 pub fn kill<K: Keeper, N: Name>(
     number: SessionNo,
     sessions: &mut Vec<Session>,
@@ -81,7 +81,7 @@ pub fn kill<K: Keeper, N: Name>(
     Ok(())
 }
 
-/// Evicts a row of a cached entity from its region. Where memory runs out nothing has changed.
+/// Evicts a row of a cached entity from its region. If memory runs out nothing has changed.
 pub fn evict<K: Keeper, N: Name>(
     alloc: Global,
     key: Key,
@@ -109,7 +109,7 @@ pub fn evict<K: Keeper, N: Name>(
     Ok(())
 }
 
-/// A restart: the sessions that are open are killed, and nothing is cached, locked or stamped any more. Where memory runs out
+/// A restart: the sessions that are open are killed, and nothing is cached, locked or stamped any more. If memory runs out
 /// nothing has changed.
 pub fn restart<K: Keeper, N: Name>(
     sessions: &mut Vec<Session>,

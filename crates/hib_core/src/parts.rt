@@ -28,10 +28,15 @@ use std::marker::Model;
 
 /// The store, the open sessions, the stamps of tables, the regions, one for each entity, and the results of queries.
 pub struct Parts<K: Keeper> {
+    /// The committed rows, and what each session has written and not committed.
     pub store: StoreEngine<K>,
+    /// The open sessions with the ticks at which they began.
     pub registry: Registry,
+    /// For each table the tick of its last change, or one ahead while a commit is under way.
     pub stamps: StampsEngine,
+    /// For each entity of the script its region, in order.
     pub regions: Vec<Region>,
+    /// The results of queries that are kept.
     pub results: ResultsEngine,
 }
 
@@ -70,7 +75,7 @@ impl<K: Keeper> Parts<K> {
         self.results.restart();
     }
 
-    /// An act of a region, of a session or from outside.
+    /// An act of a region, of a session or from outside. At an error nothing has changed.
     pub fn serve_entity(
         &mut self,
         alloc: Global,
@@ -101,7 +106,7 @@ impl<K: Keeper> Parts<K> {
         }
     }
 
-    /// The answer of a part to an act of a session at this tick, which isn't the session's own. A fault is answered only where the
+    /// The answer of a part to an act of a session at this tick, which isn't the session's own. A fault is answered only if the
     /// keeper failed in this call. At an error the parts are as before, but for the keeper's counts, and the keeper was asked once
     /// at most.
     pub fn serve(

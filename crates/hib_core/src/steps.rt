@@ -109,7 +109,7 @@ impl<K: Keeper, N: Name> Core<K, N> {
         })
     }
 
-    /// One step of a session: the act that is due in it, if one is. The other sessions stay as they are. Where memory runs out no
+    /// One step of a session: the act that is due in it, if one is. The other sessions stay as they are. If memory runs out no
     /// entry is added and nothing has changed, but the answer of `refused` and the keeper's counts; so a later call may succeed.
     pub fn step(&mut self, alloc: Global, number: SessionNo) -> Result<Stepped, AllocError>
         requires known { number < length N.script.sessions }
@@ -189,7 +189,7 @@ impl<K: Keeper, N: Name> Core<K, N> {
         *self.script.schedule.at(at)
     }
 
-    /// A step that adds no entry: where an act is due, it answers want of memory.
+    /// A step that adds no entry: if an act is due, it answers want of memory.
     pub fn idle_step(&self, alloc: Global, number: SessionNo) -> Result<Stepped, AllocError>
         requires known { number < length N.script.sessions }
         ensures none { result ≢ Ok Stepped.Did }
@@ -211,7 +211,7 @@ impl<K: Keeper, N: Name> Core<K, N> {
         }
     }
 
-    /// A kill that adds no entry: where the session is open, it answers want of memory.
+    /// A kill that adds no entry: if the session is open, it answers want of memory.
     pub fn idle_kill(&self, number: SessionNo) -> Result<(), AllocError>
         ensures closed { is_open number (past self.now.journal) ≡ false → IsOk result }
         ensures open { IsOk result → is_open number (past self.now.journal) ≡ false }
@@ -239,7 +239,7 @@ impl<K: Keeper, N: Name> Core<K, N> {
         let _ = &self.journal;
     }
 
-    /// Kills a session, if it is open: no act of it is due from then on, and its locks stay until their time is over. Where
+    /// Kills a session, if it is open: no act of it is due from then on, and its locks stay until their time is over. If
     /// memory runs out nothing has changed but the answer of `refused`.
     pub fn kill(&mut self, number: SessionNo) -> Result<(), AllocError>
         ensures played { OnOk result (Leads (play_order N.script (Order.Kill number)) played (past self.old.journal) (past self.new.journal)) }
@@ -265,7 +265,7 @@ impl<K: Keeper, N: Name> Core<K, N> {
         killed
     }
 
-    /// Evicts a row of a cached entity from its region. Where memory runs out nothing has changed but the answer of `refused`.
+    /// Evicts a row of a cached entity from its region. If memory runs out nothing has changed but the answer of `refused`.
     pub fn evict(&mut self, alloc: Global, key: Key) -> Result<(), AllocError>
         requires cached { is_cached N.script key.entity ≡ true }
         ensures played { OnOk result (Leads (play_order N.script (Order.Evict key)) played (past self.old.journal) (past self.new.journal)) }
@@ -285,7 +285,7 @@ impl<K: Keeper, N: Name> Core<K, N> {
         evicted
     }
 
-    /// A restart: the sessions that are open are killed, and nothing is cached, locked, stamped or kept any more. Where memory
+    /// A restart: the sessions that are open are killed, and nothing is cached, locked, stamped or kept any more. If memory
     /// runs out nothing has changed but the answer of `refused`.
     pub fn restart(&mut self) -> Result<(), AllocError>
         ensures played { OnOk result (Leads (play_order N.script Order.Restart) played (past self.old.journal) (past self.new.journal)) }

@@ -86,7 +86,7 @@ pub fn has_turn<N: Name>(
 }
 
 /// The answer to an act that is due: the session's own, or that of a part. At an error the parts are as before, but for the
-/// keeper's counts, and so they are where the act brings something to the session.
+/// keeper's counts, and so they are if the act brings something to the session.
 fn answer<K: Keeper>(
     alloc: Global,
     script: &Script,
@@ -147,7 +147,7 @@ pub fn add(journal: &mut Journal, entry: Entry)
 }
 
 /// The tick and the reply of the act that is due, which the session or a part has answered. The journal has room for its entry.
-/// Where memory runs out nothing has changed, but for the keeper's counts.
+/// If memory runs out nothing has changed, but for the keeper's counts.
 fn answered<K: Keeper, N: Name>(
     alloc: Global,
     script: &Script,
@@ -173,8 +173,8 @@ fn answered<K: Keeper, N: Name>(
     Ok((tick, reply))
 }
 
-/// The session takes the entry of its act, and then the journal, which has room for it: both, or where memory runs out neither.
-/// Of a session that is ready it runs out only where the act brings something to it.
+/// The session takes the entry of its act, and then the journal, which has room for it: both, or if memory runs out neither.
+/// Of a session that is ready it runs out only if the act brings something to it.
 fn enter(
     alloc: Global,
     script: &Script,
@@ -200,7 +200,7 @@ fn enter(
     Ok(())
 }
 
-/// The act that is due is answered, taken by its session, and its entry added: all of it, or where memory runs out nothing.
+/// The act that is due is answered, taken by its session, and its entry added: all of it, or if memory runs out nothing.
 fn serve<K: Keeper, N: Name>(
     alloc: Global,
     script: &Script,
@@ -262,7 +262,7 @@ fn take_turn<K: Keeper, N: Name>(
     Ok(Stepped::Did)
 }
 
-/// One act of the session of this number, if one is due. Where memory runs out nothing has changed, but for the keeper's counts.
+/// One act of the session of this number, if one is due. If memory runs out nothing has changed, but for the keeper's counts.
 pub fn turn<K: Keeper, N: Name>(
     alloc: Global,
     script: &Script,

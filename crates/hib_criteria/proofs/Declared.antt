@@ -216,11 +216,11 @@ Holds n w d = In n w d.form d.place
 still : (n : ℕ) (w v : List ℕ) (ns : List Node) (u : Bool) (e : Option ℕ) (p q : Place) → Below n w v ns u e p → is_nameless q ≡ false → is_place_below n q ≡ true → is_head q ≡ true → Below n w v ns u e q
 still n w v ns u e p q b l h t = record { late = l; name = b.name; nodes = b.nodes; place = h; entity = λ f g. absurd (true≢false (sym t ∙ f)) }
 
--- behind it
+-- after it
 moved : (n : ℕ) (w v : List ℕ) (ns : List Node) (u : Bool) (e : Option ℕ) (p q : Place) → Below n w v ns u e p → is_head p ≡ false → is_nameless q ≡ false → is_place_below n q ≡ true → Below n w v ns u e q
 moved n w v ns u e p q b t l h = record { late = l; name = b.name; nodes = b.nodes; place = h; entity = λ f g. b.entity t g }
 
--- where something may be unknown
+-- if something may be unknown
 noted : (n : ℕ) (w v : List ℕ) (ns : List Node) (u missing : Bool) (e : Option ℕ) (p q : Place) → Below n w v ns u e p → is_head p ≡ false → is_nameless q ≡ false → is_place_below n q ≡ true → Below n w v ns (u || missing) e q
 noted n w v ns u missing e p q b t l h =
     record { late = l; name = b.name; nodes = b.nodes; place = h; entity = λ f g. let both : (u ≡ false) × (missing ≡ false) = or_parts u missing g in b.entity t both.0 }

@@ -58,7 +58,7 @@ shallow_more st (y ∷ ys) x h l =
     and_from (nat_lt (length (rid st)) 16) (are_shallow (go st y) (ys ++ x ∷ [])) both.0 (shallow_more (go st y) ys x both.1 l)
 
 -- ---- a condition of such parts
--- what stands behind a condition
+-- what stands after a condition
 record Behind (st : List ℕ) (rest : List Node) : Type 0 where
   left : List ℕ
   same : rid left ≡ rid (used st)
@@ -75,7 +75,7 @@ leaf st rest h =
     let both : (nat_lt (length (rid st)) 16 ≡ true) × (are_shallow (0 ∷ used st) rest ≡ true) = and_parts (nat_lt (length (rid st)) 16) (are_shallow (0 ∷ used st) rest) h in
     record { left = 0 ∷ used st; same = refl; shallow = both.1 }
 
--- one level further, behind a joint
+-- one level further, after a joint
 further : (n k : ℕ) (st : List ℕ) → suc n + length (rid st) ≡ 16 → n + length (rid (suc k ∷ used st)) ≡ 16
 further n k st e = let l : length (used st) ≡ length (rid st) = used_length st in omega (arith, l, e)
 

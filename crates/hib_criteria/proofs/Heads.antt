@@ -46,7 +46,7 @@ Holds m d = Sound m d.form d.frames d.place
 pub then_if : {A : Type 0} (b : Bool) (x y : Option A) (P : A → Type 0) → Then x P → Then y P → Then (cond b x y) P
 then_if b x y P f g = then_cond b x y P (λ _. f) (λ _. g)
 
--- from one place to another, neither of them behind an open parenthesis
+-- from one place to another, neither of them after an open parenthesis
 pub moved : (m : List EntityDef) (f : Form) (fs : List Frame) (p q : Place) → Sound m f fs p → is_due p ≡ is_due q → is_over p ≡ false → (is_head q ≡ true → is_head p ≡ true) →
     IsAt m f.entity f.unknown f.mistyped q → Sound m f fs q
 moved m f fs p q b w o h i = (

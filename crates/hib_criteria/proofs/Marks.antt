@@ -35,7 +35,7 @@ counts_length (Frame.Two ∷ fs) = rw (counts_length fs) refl
 counts_length (Frame.One ∷ fs) = rw (counts_length fs) refl
 counts_length (Frame.Closing ∷ fs) = rw (counts_length fs) refl
 
--- behind an open parenthesis whose part isn't noted yet
+-- after an open parenthesis whose part isn't noted yet
 abbrev pub is_due : Place → Bool
 is_due Place.Operator = true
 is_due (Place.Subject t) = true
@@ -58,7 +58,7 @@ noted ns deep fs gs x b e = record {
   state = subst (λ (st : List ℕ). rid st ≡ rid (counts gs)) (sym (after_more [] ns x)) (ap (λ (st : List ℕ). rid (arity x ∷ st)) b.state.0 ∙ e);
 }
 
--- where something may be too much
+-- if something may be too much
 pub deeper : (ns : List Node) (deep more : Bool) (fs : List Frame) → Nested ns deep fs false → Nested ns (deep || more) fs false
 deeper ns deep more fs b = record { shallow = λ h. b.shallow (or_parts deep more h).0; state = b.state }
 
@@ -116,7 +116,7 @@ pub fitted : (m : List EntityDef) (ns : List Node) (u y : Bool) (e : Option ℕ)
     (is_head q ≡ true → is_head p ≡ true) → IsAt m e u y q → Typed m ns u y e order select q
 fitted m ns u y e order select p q b h i = record { parts = b.parts; sorts = b.sorts; selects = b.selects; head = λ g. b.head (h g); at = i }
 
--- where something may be unknown or of another type
+-- if something may be unknown or of another type
 pub flagged : (m : List EntityDef) (ns : List Node) (u y missing bad : Bool) (e : Option ℕ) (order : List Sort) (select : Select) (p q : Place) → Typed m ns u y e order select p →
     is_head q ≡ false → IsAt m e (u || missing) (y || bad) q → Typed m ns (u || missing) (y || bad) e order select q
 flagged m ns u y missing bad e order select p q b h i = record {

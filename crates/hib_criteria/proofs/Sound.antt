@@ -139,7 +139,7 @@ limit_sound m f fs t b =
     )
     tt
 
--- what is selected; a count only where nothing is ordered or cut
+-- what is selected; a count only if nothing is ordered or cut
 selected : (m : List EntityDef) (f : Form) (fs : List Frame) (missing : Bool) (s : Select) → Sound m f fs Place.Select → ((f.unknown || missing) ≡ false → fits_select (columns m f.entity) s ≡ true) →
     (is_count s ≡ true → (lines.has_pages f || lines.is_sorted f) ≡ false) → Sound m (record f { unknown = f.unknown || missing; select = s }) fs Place.Over
 selected m f fs missing s b h c = (
@@ -154,7 +154,7 @@ selected m f fs missing s b h c = (
   record { short = b.2.short; offsets = b.2.offsets; limits = b.2.limits; low = b.2.low; early = λ g. absurd (true≢false g); count = c },
 )
 
--- where nothing more is unknown
+-- if nothing more is unknown
 plain_selected : (m : List EntityDef) (f : Form) (fs : List Frame) (s : Select) → Sound m f fs Place.Select → fits_select (columns m f.entity) s ≡ true →
     (is_count s ≡ true → (lines.has_pages f || lines.is_sorted f) ≡ false) → Sound m (record f { select = s }) fs Place.Over
 plain_selected m f fs s b h c = (

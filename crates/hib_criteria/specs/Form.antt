@@ -172,7 +172,7 @@ step_order m f fs t = cond (is_a_word t && not (is_clause t)) (sorted f fs (plai
 abbrev pub step_sorting : List EntityDef → Form → List Frame → Token → Option Draft
 step_sorting m f fs t = cond (is_clause t) (step_clauses f fs t) (step_order m f fs t)
 
--- a `desc` behind a column belongs to it
+-- a `desc` after a column belongs to it
 abbrev pub step_sorted : List EntityDef → Form → List Frame → ℕ → Token → Option Draft
 step_sorted m f fs c t =
     cond (is_the_word (codes "desc") t) (at (with_sort f c true) fs Place.Sorting) (step_sorting m (with_sort f c false) fs t)
@@ -250,6 +250,6 @@ empty = record {
   deep = false;
 }
 
--- the form of a query line, or none where the line hasn't it
+-- the form of a query line, or none if the line hasn't it
 abbrev pub form_of : List EntityDef → List Token → Option Form
 form_of m ts = form_from m (at empty [] Place.Start) ts

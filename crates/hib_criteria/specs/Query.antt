@@ -22,7 +22,7 @@ arity _ = 0
 abbrev pub joined : Node → ℕ → Option ℕ
 joined n k = cond (nat_le (arity n) k) (Some (suc (k - arity n))) None
 
--- how many conditions some parts come to, from the last one on; none where a part joins more than there are
+-- how many conditions some parts come to, from the last one on; none if a part joins more than there are
 abbrev pub count_of : List Node → Option ℕ
 count_of [] = Some 0
 count_of (n ∷ ns) = option_and_then (λ k. joined n k) (count_of ns)
@@ -36,7 +36,7 @@ abbrev pub are_whole : List Node → Bool
 are_whole [] = true
 are_whole (n ∷ ns) = is_one (count_of (n ∷ ns))
 
--- the condition of some parts, or none where they aren't those of one
+-- the condition of some parts, or none if they aren't those of one
 abbrev pub IsBuilt : List Node → Option Cond → Type 0
 IsBuilt ns None = is_one (count_of ns) ≡ false
 IsBuilt ns (Some c) = (is_one (count_of ns) ≡ true) × (parts_of c ≡ ns)
@@ -46,12 +46,12 @@ abbrev pub parts_all : List Cond → List Node
 parts_all [] = []
 parts_all (c ∷ cs) = parts_all cs ++ parts_of c
 
--- the conditions with one part more in front of theirs, or none where it joins more than there are
+-- the conditions with one part more in front of theirs, or none if it joins more than there are
 abbrev pub IsJoined : Node → List Cond → Option (List Cond) → Type 0
 IsJoined n cs None = nat_le (arity n) (length cs) ≡ false
 IsJoined n cs (Some ds) = parts_all ds ≡ n ∷ parts_all cs
 
--- the one of some conditions, or none where there isn't exactly one
+-- the one of some conditions, or none if there isn't exactly one
 abbrev pub IsOnly : List Cond → Option Cond → Type 0
 IsOnly cs None = (length cs == 1) ≡ false
 IsOnly cs (Some c) = cs ≡ c ∷ []
@@ -65,7 +65,7 @@ IsTorn ns CriteriaError.NoMemory = Unit {0}
 IsTorn ns (CriteriaError.Fault k) = (are_whole ns ≡ false) × (k ≡ Kind.Words)
 
 -- ---- the query of a form
--- what a form says, where nothing is wrong with it
+-- what a form says, if nothing is wrong with it
 abbrev pub said_by : Form → Said
 said_by f = record {
   name = f.name;

@@ -1,4 +1,4 @@
-// What stands behind the condition of a query line, token by token.
+// What stands after the condition of a query line, token by token.
 ghost use Rattle.hib_criteria.specs.Form as lines;
 ghost use Rattle.std.specs.Prelude.{◌≡◌, IfOk};
 
@@ -19,7 +19,7 @@ fn has_pages(form: &Form) -> bool
     form.offset.is_some() || form.limit.is_some()
 }
 
-/// The first word of a clause behind `where`.
+/// The first word of a clause after `where`.
 pub fn step_clauses(form: Form, frames: Frames, token: &Token) -> Option<Draft>
     ensures { result ≡ lines.step_clauses form frames token.now }
 {
@@ -45,6 +45,7 @@ fn unless(is_there: bool, form: Form, frames: Frames, place: Place) -> Option<Dr
     }
 }
 
+/// What stands after the entity's name: `where`, or the first word of a clause.
 pub fn step_chosen(form: Form, frames: Frames, token: &Token) -> Option<Draft>
     ensures { result ≡ lines.step_chosen form frames token.now }
 {
@@ -55,7 +56,7 @@ pub fn step_chosen(form: Form, frames: Frames, token: &Token) -> Option<Draft>
     }
 }
 
-/// Whether a word begins a clause behind an order.
+/// Whether a word begins a clause after an order.
 fn is_clause(token: &Token) -> bool
     ensures { result ≡ lines.is_clause token.now }
 {
@@ -81,6 +82,7 @@ fn sorted(form: Form, frames: Frames, found: Option<Found>) -> Option<Draft>
     at(known(form, found.is_none()), frames, place)
 }
 
+/// A further column of an order, or the first word of a clause after it.
 pub fn step_sorting(
     mapping: &[EntityDef],
     form: Form,
@@ -96,7 +98,7 @@ pub fn step_sorting(
     }
 }
 
-/// What stands behind a column of an order.
+/// What stands after a column of an order.
 pub fn step_sorted(
     mapping: &[EntityDef],
     form: Form,
@@ -121,6 +123,7 @@ fn with_sort(mut form: Form, column: u16, desc: bool) -> Result<Form, AllocError
     Ok(form)
 }
 
+/// The number of an offset; one that is out of its range is noted.
 pub fn step_offset(mut form: Form, frames: Frames, token: &Token) -> Option<Draft>
     ensures { result ≡ lines.step_offset form frames token.now }
 {
@@ -132,6 +135,7 @@ pub fn step_offset(mut form: Form, frames: Frames, token: &Token) -> Option<Draf
     at(form, frames, Place::Clauses)
 }
 
+/// The number of a limit; one that is out of its range is noted.
 pub fn step_limit(mut form: Form, frames: Frames, token: &Token) -> Option<Draft>
     ensures { result ≡ lines.step_limit form frames token.now }
 {

@@ -10,7 +10,7 @@ use std::alloc::{AllocError, Global};
 /// Conditions that stand side by side, the last one first.
 type Conds = Seq<Cond>;
 
-/// The condition of these parts, or none where they aren't those of exactly one.
+/// The condition of these parts, or none if they aren't those of exactly one.
 pub fn condition(alloc: Global, nodes: Nodes) -> Result<Option<Cond>, AllocError>
     ensures { IfOk result (IsBuilt nodes) }
 {
@@ -34,7 +34,7 @@ fn only(conds: Conds) -> Option<Cond>
     if all.is_empty() { Some(last) } else { None }
 }
 
-/// The conditions behind one part more, read from the last part on; none where it joins more than there are.
+/// The conditions after one part more, read from the last part on; none if it joins more than there are.
 fn with_node(alloc: Global, node: Node, conds: Conds) -> Result<Option<Conds>, AllocError>
     ensures { IfOk result (IsJoined node conds) }
 {

@@ -67,13 +67,13 @@ pub enum Place {
     Operand(Op, Option<Column>),
     /// With one more cell of `in`, or its end.
     Operands(Option<Column>, Cells),
-    /// With a clause behind `where`.
+    /// With a clause after `where`.
     Clauses,
     /// With the first column of an order.
     Order,
-    /// With `desc`, a further column of an order or a clause behind it.
+    /// With `desc`, a further column of an order or a clause after it.
     Sorted(u16),
-    /// With a further column of an order or a clause behind it.
+    /// With a further column of an order or a clause after it.
     Sorting,
     /// With the number of an offset.
     Offset,
@@ -88,13 +88,21 @@ pub enum Place {
 /// What a query line says, and which faults it has.
 #[derive(Drop)]
 pub struct Form {
+    /// The query's name.
     pub name: Text,
+    /// Whether its results are to be kept.
     pub cached: bool,
+    /// The entity that it reads; none if its name is not known, or not read yet.
     pub entity: Option<EntityNo>,
+    /// The parts of its condition, each joint before what it joins.
     pub nodes: Nodes,
+    /// The columns by which rows are ordered, the first one first.
     pub order: Sorts,
+    /// How many rows are passed over.
     pub offset: Option<u32>,
+    /// How many rows are answered at most.
     pub limit: Option<u32>,
+    /// What is answered of each row.
     pub select: Select,
     /// An entity or a column isn't known.
     pub unknown: bool,
@@ -109,12 +117,15 @@ pub struct Form {
 /// A query line as far as it was read.
 #[derive(Drop)]
 pub struct Draft {
+    /// What the tokens so far say.
     pub form: Form,
+    /// The parentheses that are open, and what each still awaits.
     pub frames: Frames,
+    /// What the next token goes on with.
     pub place: Place,
 }
 
-/// What a query line says, or none where it hasn't the form of one.
+/// What a query line says, or none if it hasn't the form of one.
 #[tactic(auto, using(crate::proofs::Lines::form_next, crate::proofs::Lines::form_done))]
 pub fn read_form(
     alloc: Global,
@@ -170,7 +181,7 @@ fn ended(draft: Draft) -> Option<Form>
     }
 }
 
-/// The line behind one more token, or none where it can't stand there.
+/// The line after one more token, or none if it can't stand there.
 fn step(
     alloc: Global,
     mapping: &[EntityDef],
@@ -207,6 +218,7 @@ fn step(
     }
 }
 
+/// The line goes on at this place.
 pub fn at(form: Form, frames: Frames, place: Place) -> Option<Draft>
     ensures { result ≡ lines.at form frames place }
 {

@@ -12,8 +12,8 @@ use std::alloc::Global;
 
 /// The query of a query line, over the entities and columns of a mapping.
 ///
-/// Errors: `Fault` exactly where the line is no query, with the first kind that it has of words, reserved, unknown,
-/// number, type and depth; those of a condition are looked for over the whole condition. `NoMemory` where there is none
+/// Errors: `Fault` exactly if the line is no query, with the first kind that it has of words, reserved, unknown,
+/// number, type and depth; those of a condition are looked for over the whole condition. `NoMemory` if there is none
 /// left. Nothing is changed.
 pub fn check(alloc: Global, mapping: &Mapping, line: &[Token]) -> Result<Query, CriteriaError>
     ensures query { IfOk result (λ q. query.query_of mapping.now line.now ≡ Ok (query.said q)) }

@@ -85,7 +85,7 @@ fn behind(frames: &[Frame]) -> Place
     }
 }
 
-/// An operator, behind an opening parenthesis.
+/// An operator, after an opening parenthesis.
 pub fn step_operator(
     alloc: Global,
     form: Form,
@@ -152,7 +152,7 @@ fn compared(form: Form, frames: Frames, op: Option<Op>) -> Option<Draft>
     }
 }
 
-/// A path, behind an operator.
+/// A path, after an operator.
 pub fn step_subject(
     alloc: Global,
     mapping: &[EntityDef],
@@ -187,6 +187,7 @@ fn subject(
     }
 }
 
+/// The form, with the note that a column isn't known if this one is missing.
 pub fn known(mut form: Form, is_missing: bool) -> Form
     ensures { result ≡ lines.known form is_missing }
 {

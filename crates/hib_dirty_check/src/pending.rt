@@ -19,7 +19,7 @@ fn version_after(version: Option<u32>) -> Option<u32>
     }
 }
 
-/// The insert of a new instance; none of another one.
+/// The insert of a new instance; none of another one. Fails for want of memory alone.
 pub fn insert(alloc: Global, key: Key, held: &Held) -> Result<Option<Change>, AllocError>
     ensures { IfOk result (λ c. c ≡ insert_of key held.now) }
 {
@@ -33,6 +33,7 @@ pub fn insert(alloc: Global, key: Key, held: &Held) -> Result<Option<Change>, Al
 }
 
 /// The update of a managed instance whose cells differ from those of its base; none of another one.
+/// Fails for want of memory alone.
 pub fn update(alloc: Global, key: Key, held: &Held) -> Result<Option<Change>, AllocError>
     ensures { IfOk result (λ c. c ≡ update_of key held.now) }
 {
@@ -71,7 +72,7 @@ pub fn delete(key: Key, held: &Held) -> Option<Change>
 }
 
 /// The change that is pending of an instance, or none: the row is new, its cells differ from those of its base, or it is
-/// to be deleted.
+/// to be deleted. Fails for want of memory alone.
 pub fn change(alloc: Global, key: Key, held: &Held) -> Result<Option<Change>, AllocError>
     ensures { IfOk result (λ c. c ≡ change_of key held.now) }
 {

@@ -14,7 +14,7 @@ use crate::region::Region;
 use hib_base::{Act, EntityNo, Reply, Script, Tick};
 use std::alloc::{AllocError, Global};
 
-/// The regions of a script's entities, which are empty.
+/// The regions of a script's entities, which are empty. Fails for want of memory alone.
 pub fn open_regions(alloc: Global, script: &Script) -> Result<Vec<Region>, AllocError>
     ensures { IfOk result (λ v. v.items ≡ map (λ d. empty d.strategy d.capacity script.now.timeout) script.now.mapping) }
 {

@@ -40,7 +40,7 @@ impl Model for ResultsEngine {
 }
 
 impl ResultsEngine {
-    /// No result is kept. The capacity is at least 1.
+    /// No result is kept. The capacity is at least 1. Fails for want of memory alone.
     pub fn open(alloc: Global, capacity: u32) -> Result<ResultsEngine, AllocError>
         requires { 0 < capacity }
         ensures { IfOk result (λ r. r ≡ record { capacity = capacity; kept = [] }) }

@@ -35,7 +35,7 @@ impl Model for StampsEngine {
 }
 
 impl StampsEngine {
-    /// No table has a stamp.
+    /// No table has a stamp. Fails for want of memory alone.
     pub fn open(alloc: Global, tables: u16) -> Result<StampsEngine, AllocError>
         ensures { IfOk result (λ s. s ≡ unstamped tables) }
     {

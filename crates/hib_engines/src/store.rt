@@ -170,8 +170,8 @@ impl<K: Keeper> StoreEngine<K> {
         Reply::Done
     }
 
-    /// Answers an act of a session that is asked of the store. The keeper is asked once at most, and only where the act asks. A
-    /// fault is answered only where the keeper failed in this call. At an error all is as before but for the keeper's counts.
+    /// Answers an act of a session that is asked of the store. The keeper is asked once at most, and only if the act asks. A
+    /// fault is answered only if the keeper failed in this call. At an error all is as before but for the keeper's counts.
     pub fn serve(
         &mut self,
         alloc: Global,

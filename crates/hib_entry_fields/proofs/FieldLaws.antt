@@ -1,4 +1,4 @@
--- Names, numbers, versions and keys that were written behind a space are read again.
+-- Names, numbers, versions and keys that were written after a space are read again.
 use Rattle.std.proofs.Common.{◌≡◌, ℕ, ◌^◌, ◌<◌, List, [], ◌∷◌, ◌++◌, Option, refl, ap, sym, ◌∙◌, true, arith, append_assoc, length, nat_lt}
 use Rattle.std.specs.Fmt.{decimal}
 use Rattle.std.proofs.lemmas.List.{append-nil}
@@ -23,7 +23,7 @@ tick_small t h = grind (arith, nat_tests)
 pub identifier_small : (i : ℕ) → is_identifier i ≡ true → i < 2 ^ 64
 identifier_small i h = grind (arith, nat_tests)
 
--- ---- names and numbers behind a space
+-- ---- names and numbers after a space
 
 pub name_next : (of : List ℕ → ℕ) (text : List ℕ) (n : ℕ) (rest : List ℕ) → IsName of text n → Stops rest → of (next (32 ∷ (text ++ rest))) ≡ n
 name_next of text n rest h s = ap of (next_again text rest h.plain s) ∙ h.back

@@ -60,7 +60,7 @@ pub tables_again : (script : Script) (ts : List ℕ) → IsNamed script → are_
 tables_again script ts h w =
     names_again script ts (length (names_text script ts)) h (names_length script ts) (and_right (nat_le 1 (length ts)) (list_all (λ t. is_entity script t) ts) w)
 
--- the first table stands behind a space
+-- the first table stands after a space
 pub some_tables : (script : Script) (ts : List ℕ) → are_tables script ts ≡ true → 1 ≤ length ts
 some_tables script ts w = leb-true 1 (length ts) (and_left (nat_le 1 (length ts)) (list_all (λ t. is_entity script t) ts) w)
 

@@ -21,7 +21,7 @@ piece bs = take (piece_len bs) bs
 unfoldable pub behind : List ℕ → List ℕ
 behind bs = drop (piece_len bs) bs
 
--- the piece behind a space, and what follows it
+-- the piece after a space, and what follows it
 unfoldable pub next : List ℕ → List ℕ
 next bs = piece (drop 1 bs)
 
@@ -77,7 +77,7 @@ key_at script bs = record { entity = entity_of script (next bs); id = number_of 
 unfoldable pub after_key : List ℕ → List ℕ
 after_key bs = after (after bs)
 
--- entities, each behind a space
+-- entities, each after a space
 unfoldable pub names_from : Script → ℕ → List ℕ → List ℕ
 names_from script zero bs = []
 names_from script (suc n) [] = []
@@ -117,7 +117,7 @@ abbrev pub with_cell : (List ℕ → List Cell × List ℕ) → List ℕ → Opt
 with_cell read bs None = ([], bs)
 with_cell read bs (Some c) = (c.0 ∷ (read c.1).0, (read c.1).1)
 
--- cells, each behind one byte, and what follows them
+-- cells, each after one byte, and what follows them
 unfoldable pub cells_from : ℕ → List ℕ → List Cell × List ℕ
 cells_from zero bs = ([], bs)
 cells_from (suc n) bs = with_cell (cells_from n) bs (cell_at (drop 1 bs))

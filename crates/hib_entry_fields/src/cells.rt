@@ -75,7 +75,7 @@ pub fn cell_at(alloc: Global, bytes: &[u8]) -> Result<Option<(Cell, &[u8])>, All
     }
 }
 
-/// Cells, each behind one byte, and what follows them.
+/// Cells, each after one byte, and what follows them. Fails for want of memory alone.
 #[tactic(auto, using(crate::proofs::Loops::cells_go_on, crate::proofs::Loops::cells_stop_at, crate::proofs::Loops::cells_end), unfolding(crate::specs::Fields::cells_at))]
 pub fn cells_at(alloc: Global, bytes: &[u8]) -> Result<(Cells, &[u8]), AllocError>
     ensures { IfOk result (λ x. (x.0, x.1.now) ≡ format.cells_at bytes.now) }
@@ -94,7 +94,7 @@ pub fn cells_at(alloc: Global, bytes: &[u8]) -> Result<(Cells, &[u8]), AllocErro
     Ok((Seq::from_vec(cells), rest))
 }
 
-/// The row behind a space, and what follows it.
+/// The row after a space, and what follows it. Fails for want of memory alone.
 #[tactic(auto, unfolding(crate::specs::Fields::row_at, crate::specs::Fields::after_row))]
 pub fn row_at(alloc: Global, bytes: &[u8]) -> Result<(Row, &[u8]), AllocError>
     ensures row { IfOk result (λ x. x.0 ≡ format.row_at bytes.now) }

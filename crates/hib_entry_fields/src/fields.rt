@@ -39,7 +39,7 @@ pub fn piece(bytes: &[u8]) -> (&[u8], &[u8])
     bytes.split_at(piece_len(bytes))
 }
 
-/// The piece behind a space, and what follows it.
+/// The piece after a space, and what follows it.
 #[tactic(auto, unfolding(crate::specs::Fields::next, crate::specs::Fields::after))]
 pub fn next(bytes: &[u8]) -> (&[u8], &[u8])
     ensures next { result.0.now ≡ format.next bytes.now }

@@ -60,7 +60,7 @@ pub fn column_of(script: &Script, entity: EntityNo, name: &[u8]) -> u16
     }
 }
 
-/// The key behind a space, and what follows it.
+/// The key after a space, and what follows it.
 #[tactic(auto, unfolding(crate::specs::Fields::key_at, crate::specs::Fields::after_key))]
 pub fn key_at<'a>(script: &Script, bytes: &'a [u8]) -> (Key, &'a [u8])
     ensures key { result.0 ≡ format.key_at script.now bytes.now }
@@ -77,7 +77,7 @@ pub fn key_at<'a>(script: &Script, bytes: &'a [u8]) -> (Key, &'a [u8])
     )
 }
 
-/// Entities, each behind a space.
+/// Entities, each after a space. Fails for want of memory alone.
 #[tactic(auto, using(crate::proofs::Loops::names_go_on, crate::proofs::Loops::names_stop, crate::proofs::Loops::names_end))]
 pub fn names_of(alloc: Global, script: &Script, bytes: &[u8]) -> Result<Names, AllocError>
     ensures { IfOk result (λ n. n ≡ format.names_from script.now (length bytes.now) bytes.now) }

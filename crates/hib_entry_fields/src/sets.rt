@@ -25,7 +25,7 @@ fn set_at<'a>(
     }
 }
 
-/// Columns of an entity with their cells, one after the other.
+/// Columns of an entity with their cells, one after the other. Fails for want of memory alone.
 pub fn sets_of(
     alloc: Global,
     script: &Script,

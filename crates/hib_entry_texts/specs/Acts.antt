@@ -3,11 +3,11 @@ use Rattle.std.specs.Prelude.{ℕ, cond, List, length, codes, bytes_eq, drop}
 use Rattle.hib_journal.specs.Types.{Change, Act, Script}
 use Rattle.hib_entry_fields.specs.Fields.{piece, behind, next, after, number_of, version_of, query_of, session_of, key_at, after_key, names_from, cells_at, row_at, after_row, sets_from}
 
--- the tables behind a word
+-- the tables after a word
 abbrev pub tables_of : Script → List ℕ → List ℕ
 tables_of script bs = names_from script (length bs) bs
 
--- the number behind a key and a label
+-- the number after a key and a label
 abbrev pub marked : List ℕ → ℕ
 marked bs = number_of (next (after (after_key bs)))
 

@@ -64,7 +64,7 @@ miss_of bs =
 abbrev pub got_of : List ℕ → List ℕ → Reply
 got_of word bs = cond (bytes_eq word (codes "hit")) (Reply.Hit (row_at bs)) (Reply.Miss (miss_of bs))
 
--- behind the word evicted, if it is there
+-- after the word evicted, if it is there
 abbrev pub evicted_id_of : List ℕ → Option ℕ
 evicted_id_of bs = cond (bytes_eq (next bs) (codes "evicted")) (Some (number_of (next (after bs)))) None
 

@@ -7,7 +7,7 @@ use hib_base::{Act, Key, Script, Tick};
 use hib_entry_fields::{is, key_at, next, number_of, row_at, version_of};
 use std::alloc::{AllocError, Global};
 
-// A key, and the number behind a label.
+// A key, and the number after a label.
 fn marked(script: &Script, bytes: &[u8]) -> (Key, Tick)
     ensures key { result.0 ≡ key_at script.now bytes.now }
     ensures number { result.1 ≡ format.marked bytes.now }

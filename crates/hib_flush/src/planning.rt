@@ -9,7 +9,7 @@ use hib_identity_map::IdentityMap;
 use std::alloc::{AllocError, Global};
 
 /// The changes that are pending of a session's instances: all inserts in order of arrival, then all updates in order of
-/// arrival, then all deletes in order of removal.
+/// arrival, then all deletes in order of removal. Fails for want of memory alone.
 pub fn plan(alloc: Global, map: &IdentityMap) -> Result<Changes, AllocError>
     ensures { IfOk result (λ cs. cs ≡ planned map.now) }
 {

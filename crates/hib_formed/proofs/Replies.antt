@@ -1,4 +1,4 @@
--- The reply to a well-formed act is well formed, where the entries before it are good.
+-- The reply to a well-formed act is well formed, if the entries before it are good.
 use Rattle.std.specs.Prelude.{is_some}
 use Rattle.std.specs.Option.{option_map_or}
 use Rattle.std.proofs.Common.{◌≡◌, ℕ, ◌+◌, ◌<◌, ◌≤◌, ◌^◌, Bool, true, false, cond, ◌||◌, length, slice_get, Some, None, Option, refl, arith}

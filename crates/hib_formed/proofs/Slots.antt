@@ -1,4 +1,4 @@
--- What regions answer is well formed, where the entries before it are good.
+-- What regions answer is well formed, if the entries before it are good.
 use Rattle.std.specs.Prelude.{is_some, option_map, option_and_then}
 use Rattle.std.specs.Option.{option_map_or}
 use Rattle.std.proofs.Common.{◌≡◌, ℕ, zero, suc, ◌≤◌, ◌^◌, Bool, true, false, cond, ◌&&◌, ◌==◌, List, [], ◌∷◌, length, nat_lt, Some, None, Option, IfSome, refl, arith}

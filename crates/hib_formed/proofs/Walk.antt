@@ -1,4 +1,4 @@
--- Each act that is due is well formed, where a session's entries so far are good.
+-- Each act that is due is well formed, if a session's entries so far are good.
 use Rattle.std.specs.Prelude.{is_some, option_and_then}
 use Rattle.std.specs.Option.{option_map_or}
 use Rattle.std.proofs.Common.{◌≡◌, ℕ, zero, suc, ◌+◌, ◌<◌, ◌≤◌, Bool, true, false, cond, not, ◌&&◌, ◌==◌, List, [], ◌∷◌, ◌++◌, length, nat_le, slice_get, Some, None, Option, IfSome, refl, sym, ap, ◌∙◌, subst, inl, inr, arith}

@@ -17,14 +17,14 @@ ghost use Rattle.hib_journal.specs.Sessions.{Journal};
 ghost use Rattle.hib_journal.specs.Types.{Script};
 ghost use Rattle.std.specs.Prelude.{◌≡◌, ◌≤◌, ◌^◌, Some, length, reverse, true};
 
-/// Over rows that fit a valid script's mapping, each entry of a legal journal is well formed, where the ticks are early enough
+/// Over rows that fit a valid script's mapping, each entry of a legal journal is well formed, if the ticks are early enough
 /// that a timeout can be added to each, and what is evicted from outside has an identifier.
 pub fn entries_are_formed()
     ensures formed { (script : Script) (start : Tables) (h : Journal) → is_valid script ≡ true → AreFit script start →
         length h ≤ 2 ^ 61 → AreEarly h → name_identifiers h ≡ true → IsLegal script (Some start) h → AreEntries script (reverse h) }
 {}
 
-/// Where the k-th entry has tick k, the ticks are early.
+/// If the k-th entry has tick k, the ticks are early.
 pub fn ticks_are_early()
     ensures early { (h : Journal) → IsNumbered h → length h ≤ 2 ^ 61 → AreEarly h }
 {}

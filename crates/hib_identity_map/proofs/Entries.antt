@@ -59,7 +59,7 @@ absent_same k f (p ∷ ps) e = by (same_key k p.0) e (λ x. absent_same k f ps x
     by true e i = absurd (cc)
     by false e i = ap (λ xs. p ∷ xs) (i e)
 
--- nothing changes where the key is not there
+-- nothing changes if the key is not there
 pub unchanged : (k : Key) (f : Held → Held) (ps : Pairs) → false ≡ is_some (lookup (same_key k) ps) → ps ≡ change_in k f ps
 unchanged k f ps e = sym (absent_same k f ps (sym e))
 

@@ -41,7 +41,7 @@ first_is_all k (j ∷ js) e = by_test (tested (same_key k j)) (first_is_all k js
         let none : list_any (same_key k) rest ≡ false = sym (ap (λ b. b || list_any (same_key k) rest) p) ∙ (sym head ∙ e) in
         rw (p, q) (ap (λ xs. j ∷ xs) (i none))
 
--- a key comes last, where it was taken out
+-- a key comes last, if it was taken out
 pub moved_last : (k : Key) (ks left : List Key) → left ≡ remove_key (same_key k) ks → list_any (same_key k) left ≡ false → insert_key same_key left k ≡ remove_last k ks
 moved_last k ks left p e =
     let q : list_any (same_key k) (remove_key (same_key k) ks) ≡ false = ap (list_any (same_key k)) (sym p) ∙ e in

@@ -60,7 +60,7 @@ abbrev pub state_written : State → State
 state_written State.Removed = State.Removed
 state_written _ = State.Managed
 
--- an instance whose row was written: it stands for that row, and stays removed where it is
+-- an instance whose row was written: it stands for that row, and stays removed if it is
 abbrev pub written : Row → Held → Held
 written r h = record { state = state_written h.state; base = Some r; row = record { version = r.version; cells = h.row.cells }; removed = h.removed }
 

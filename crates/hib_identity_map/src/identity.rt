@@ -42,7 +42,7 @@ impl IdentityMap {
         look_at(&self.entries, key)
     }
 
-    /// Adds the instance of a key that has none, behind the others. At an error nothing has changed.
+    /// Adds the instance of a key that has none, after the others. At an error nothing has changed.
     pub fn add(&mut self, key: Key, held: Held) -> Result<(), AllocError>
         requires { look_in self.old.held key ≡ None }
         ensures ok { OnOk result (self.new ≡ record self.old { held = add_in key held self.old.held }) }
@@ -51,7 +51,7 @@ impl IdentityMap {
         insert_new(&mut self.entries, key, held)
     }
 
-    /// The instance of a key comes behind the others, and the one that the key had leaves. At an error nothing has changed.
+    /// The instance of a key comes after the others, and the one that the key had leaves. At an error nothing has changed.
     pub fn arrive(&mut self, key: &Key, held: Held) -> Result<(), AllocError>
         ensures ok { OnOk result (self.new ≡ record self.old { held = add_in key.now held (drop_in key.now self.old.held) }) }
         ensures err { OnErr result (self.new ≡ self.old) }
@@ -199,7 +199,7 @@ fn pair_at(entries: &IndexMap<Key, Held>, i: usize) -> (Key, &Held)
     (*key, held)
 }
 
-// Puts a key behind the others, in place of where it was.
+// Puts a key after the others, in place of where it was.
 fn move_last(keys: &mut IndexSet<Key>, key: Key) -> Result<(), AllocError>
     ensures ok { OnOk result (keys.new.keys ≡ remove_last key keys.old.keys) }
     ensures err { OnErr result (keys.new.keys ≡ keys.old.keys) }

@@ -15,7 +15,7 @@ use Rattle.hib_journal.specs.Next.{strategy, is_cached, is_cached_by, plan_of, n
 use Rattle.hib_journal.specs.Legal.{is_outside}
 use Rattle.hib_journal.specs.Due.{asks_store, found_by, is_removing, is_inserting, asks, is_asked, time_found, Suits, IsAllowed, closes, is_closed}
 
--- plans of which each act is allowed, and which end where an end is final
+-- plans of which each act is allowed, and which end if an end is final
 
 module _ (Allowed : Journal → Act → Type 0) (Final : Journal → Type 0) where
   abbrev Good : Plan → Journal → Type 0

@@ -1,4 +1,4 @@
--- A session that was not killed is open exactly where its own entries say so; and none is killed by an act of a session.
+-- A session that was not killed is open exactly if its own entries say so; and none is killed by an act of a session.
 use Rattle.std.proofs.Common.{◌≡◌, ℕ, inl, inr, Bool, true, false, cond, ◌||◌, [], ◌∷◌, Option, refl, ◌∙◌}
 use Rattle.std.proofs.lemmas.Bool.{true≢false, or_parts}
 use Rattle.hib_journal.specs.Types.{Act, Entry}

@@ -1,4 +1,4 @@
--- The changes that a held instance asks for, where there is one: names of terms of `pending`, for proofs alone.
+-- The changes that a held instance asks for, if there is one: names of terms of `pending`, for proofs alone.
 use Rattle.std.specs.Prelude.{Option, option_and_then}
 use Rattle.hib_journal.specs.Types.{Change}
 use Rattle.hib_journal.specs.Held.{Instance, insert_by, update_by, delete_by}

@@ -129,7 +129,7 @@ is_of_store _ r = true
 abbrev pub IsAnswerBy : List Change → Reply → Entry → Type 0
 IsAnswerBy cs reply e = (e.reply ≡ reply) ⊎ (fault_of cs e.act ≡ Some e.reply)
 
--- where the rows at the start are not told, the replies that hang on rows have their kind alone
+-- if the rows at the start are not told, the replies that hang on rows have their kind alone
 abbrev pub IsReplyBy : Option Tables → List Change → (Tables → Reply) → Entry → Type 0
 IsReplyBy (Some start) cs reply e = IsAnswerBy cs (reply start) e
 IsReplyBy None cs reply e = (is_of_store e.act e.reply ≡ true) × (is_told cs e.act ≡ false → IsAnswerBy cs (reply []) e)

@@ -36,7 +36,7 @@ tables_in script cs = filter (λ n. list_any (λ c. (key_of c).entity == n) cs) 
 
 -- find
 
--- a cached entity's region is spoken to of a key that is not in the changes, where the mode lets it
+-- a cached entity's region is spoken to of a key that is not in the changes, if the mode lets it
 abbrev pub may_read : Script → Mode → Key → Journal → Bool
 may_read script m k done = is_cached script k.entity && (mode_reads m && not (is_in k (changes_in done)))
 

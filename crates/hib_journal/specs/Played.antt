@@ -18,7 +18,7 @@ abbrev pub play_one : (Entry → Bool) → Journal → Journal → Option Playin
 play_one p past [] = None
 play_one p past (e ∷ rest) = cond (p e) (Some (e ∷ past, rest)) None
 
--- the next n entries of s, or fewer where it has no further act
+-- the next n entries of s, or fewer if it has no further act
 abbrev pub play_steps : Script → ℕ → ℕ → Journal → Journal → Option Playing
 play_steps script s zero past rest = Some (past, rest)
 play_steps script s (suc n) past rest =

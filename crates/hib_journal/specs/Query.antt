@@ -44,7 +44,7 @@ abbrev pub cell_by : Tables → Row → ℕ → Option Target → Option Cell
 cell_by t r c None = slice_get r.cells c
 cell_by t r c (Some g) = option_and_then (λ x. slice_get x.cells g.column) (row_of_ref t g.entity (slice_get r.cells c))
 
--- the cell at a path, or none where the row to which it steps is missing
+-- the cell at a path, or none if the row to which it steps is missing
 abbrev pub cell_at : Tables → Row → Path → Option Cell
 cell_at t r p = cell_by t r p.column p.target
 

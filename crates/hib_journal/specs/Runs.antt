@@ -14,7 +14,7 @@ abbrev pub IsNumbered : Journal → Type 0
 IsNumbered [] = Unit {0}
 IsNumbered (e ∷ h) = (e.tick ≡ length h + 1) × IsNumbered h
 
--- the committed rows at the end of a journal, where those at the start are told
+-- the committed rows at the end of a journal, if those at the start are told
 abbrev pub told_committed : Option Tables → Journal → Option Tables
 told_committed told h = option_map (λ start. committed start h) told
 

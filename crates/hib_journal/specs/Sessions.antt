@@ -78,7 +78,7 @@ abbrev pub is_begun : Journal → Bool
 is_begun [] = false
 is_begun (e ∷ m) = begun_after e.act (is_begun m)
 
--- whether s is open after an act by `by`, where it was or was not before
+-- whether s is open after an act by `by`, if it was or was not before
 abbrev pub open_after : ℕ → Option ℕ → Act → Bool → Bool
 open_after s by Act.Begin o = is_session s by || o
 open_after s by Act.End o = cond (is_session s by) false o

@@ -58,7 +58,7 @@ touch_at k here a r =
     cond (same_key here k) (touch_here a r)
     (cond ((here.entity == k.entity) && option_map_or (λ i. i == k.id) (evicted_in r) false) (Some Leaves) None)
 
--- what an entry does to k, or none where it leaves k as it is
+-- what an entry does to k, or none if it leaves k as it is
 abbrev pub touch : Key → Entry → Option Touch
 touch k e = option_and_then (λ here. touch_at k here e.act e.reply) (key_in e.act)
 

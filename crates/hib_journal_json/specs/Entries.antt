@@ -33,7 +33,7 @@ IsFirstBad script (l ∷ ls) (suc n) = ((e : Entry) × IsLine script l e) × IsF
 
 -- ---- refusals
 
--- of the line behind n others, if the first has a given number; a number has 32 bits
+-- of the line after n others, if the first has a given number; a number has 32 bits
 abbrev pub refused_at : ℕ → ℕ → Refused
 refused_at first n = record { line = min (first + n) 4294967295; kind = Kind.Journal }
 

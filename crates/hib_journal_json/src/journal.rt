@@ -15,7 +15,7 @@ use hib_journal::Journal;
 use hib_lex::line_length;
 use std::alloc::Global;
 
-// The refusal of the line behind some lines.
+// The refusal of the line after some lines.
 fn refused(first: u32, before: usize) -> Refused
     requires { before ≤ 2 ^ 62 }
     ensures { result ≡ refused_at first before }

@@ -35,7 +35,7 @@ fn send_lines<W: Sink>(
 }
 
 /// Writes the JSON lines of a journal to a sink, as `write` gives them, piece by piece: no more of them is in memory at a time
-/// than a piece and a line. Where the sink fails or memory runs out a front of them was taken.
+/// than a piece and a line. If the sink fails or memory runs out a front of them was taken.
 pub fn send<W: Sink>(
     alloc: Global,
     script: &Script,

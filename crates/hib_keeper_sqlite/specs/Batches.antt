@@ -15,7 +15,7 @@ IsKeepable (Change.Delete k v) = k.id < 2 ^ 63
 abbrev pub IsKeepableEntry : Key × Row → Type 0
 IsKeepableEntry e = IsInRange e.0 e.1
 
--- a change meets no row where it adds one, and else a row
+-- a change meets no row if it adds one, and else a row
 abbrev pub Meets : Change → Option Row → Type 0
 Meets (Change.Insert k r) found = found ≡ None
 Meets (Change.Update k v r) found = found ≢ None

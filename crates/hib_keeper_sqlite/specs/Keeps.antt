@@ -7,7 +7,7 @@ use Rattle.hib_outside.specs.declared.keeper.KeepFault.{KeepFault}
 use Rattle.hib_outside.specs.declared.keeper.KeepFault.TheVariants.{Failed, NoMemory}
 use Rattle.hib_sqlite_rows.specs.Told.{Told}
 
--- what the table tells, if it was opened; else no rows, where such a table tells its rows
+-- what the table tells, if it was opened; else no rows, if such a table tells its rows
 abbrev pub told_in : {T : Type 0} → Bool → (T → Option Told) → Option T → Option Told
 told_in tells told (Some table) = told table
 told_in tells told None = cond tells (Some (record { now = []; before = []; in_transaction = false })) None

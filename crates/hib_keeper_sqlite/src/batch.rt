@@ -24,7 +24,7 @@ fn is_same_version(a: Option<u32>, b: Option<u32>) -> bool
     }
 }
 
-/// What is answered to a change that expects a version, by the row that it meets; none where it applies.
+/// What is answered to a change that expects a version, by the row that it meets; none if it applies.
 fn unless_expected(at: usize, expected: Option<u32>, found: &Option<Row>) -> Option<Applied>
     ensures value { result ≡ unless_as_expected at expected found.now }
     ensures place { (n : ℕ) → at < n → IfSome result (λ a. IsPlace a n) }
@@ -49,7 +49,7 @@ fn unless_expected(at: usize, expected: Option<u32>, found: &Option<Row>) -> Opt
     }
 }
 
-/// What is answered to a change by the row that it meets; none where it applies.
+/// What is answered to a change by the row that it meets; none if it applies.
 fn refused(at: usize, change: &Change, found: &Option<Row>) -> Option<Applied>
     ensures value { result ≡ refused_at at change.now found.now }
     ensures place { (n : ℕ) → at < n → IfSome result (λ a. IsPlace a n) }
@@ -123,7 +123,7 @@ fn apply_all<T: RowTable>(table: &mut T, alloc: Global, batch: &[Change]) -> Res
     Ok(Applied::Done)
 }
 
-/// Begins a transaction, makes changes, and commits where all apply.
+/// Begins a transaction, makes changes, and commits if all apply.
 fn apply_within<T: RowTable>(
     table: &mut T,
     alloc: Global,
@@ -145,7 +145,7 @@ fn apply_within<T: RowTable>(
     Ok(applied)
 }
 
-/// Makes all changes of a batch in one transaction, or none where one doesn't apply or a call fails.
+/// Makes all changes of a batch in one transaction, or none if one doesn't apply or a call fails.
 pub fn apply<T: RowTable>(table: &mut T, alloc: Global, batch: &[Change]) -> Result<Applied, Error>
     requires range { All IsKeepable batch.now }
     requires rest { IsAtRest (T.told table.old) }
@@ -209,7 +209,7 @@ fn seed_within<T: RowTable>(
 }
 
 /// In one transaction gives each row of an entity of this mapping the defaults of the columns that it lacks, if each of these
-/// has one, and adds each of these rows whose key has none. It does all of this, or nothing where a call fails or a row has no
+/// has one, and adds each of these rows whose key has none. It does all of this, or nothing if a call fails or a row has no
 /// body.
 pub fn seed<T: RowTable>(
     table: &mut T,

@@ -20,7 +20,7 @@ use std::alloc::Global;
 /// As many entities have numbers.
 const MOST_ENTITIES: usize = 65536;
 
-/// A keeper over a table of rows in SQL. Where the table couldn't be opened, each call fails.
+/// A keeper over a table of rows in SQL. If the table couldn't be opened, each call fails.
 #[derive(Drop)]
 pub struct SqlKeeper<T: RowTable> {
     table: Option<T>,
@@ -49,7 +49,7 @@ impl<T: RowTable> SqlKeeper<T> {
         }
     }
 
-    /// The keeper of a table that couldn't be opened, or the fault where memory ran out.
+    /// The keeper of a table that couldn't be opened, or the fault if memory ran out.
     pub(crate) fn without(error: Error) -> Result<SqlKeeper<T>, KeepFault>
         ensures table { IfOk result (λ k. k.table ≡ None) }
         ensures counts { IfOk result (λ k. (k.faults ≡ 0) × (k.asked ≡ 0)) }

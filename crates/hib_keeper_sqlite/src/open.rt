@@ -8,7 +8,7 @@ use hib_sqlite_rows::{MemoryTable, StoreTable};
 use sqlite::{Alter, Connection, Error, ErrorCode, File, FileStore};
 use std::alloc::Global;
 
-/// Opens a keeper in memory, without rows. It is refused for want of memory alone. Where SQLite refuses it for another
+/// Opens a keeper in memory, without rows. It is refused for want of memory alone. If SQLite refuses it for another
 /// cause, each later call fails.
 pub fn in_memory(alloc: Global) -> Result<SqliteTables, KeepFault>
     ensures tables { IfOk result (λ k. ⟦<SqliteTables as Keeper>⟧.tables k ≡ Some []) }
@@ -22,8 +22,8 @@ pub fn in_memory(alloc: Global) -> Result<SqliteTables, KeepFault>
     }
 }
 
-/// Takes an open connection over any store, and makes the table `hib_rows` where it isn't there. It is refused for want of
-/// memory alone. Where the table can't be made, or the connection has begun a transaction, the connection is closed and each
+/// Takes an open connection over any store, and makes the table `hib_rows` if it isn't there. It is refused for want of
+/// memory alone. If the table can't be made, or the connection has begun a transaction, the connection is closed and each
 /// later call fails.
 pub fn adopt<S: Alter + Drop>(connection: Connection<S>) -> Result<SqliteKeeper<S>, KeepFault>
     ensures err { IfErr result (λ e. e ≡ NoMemory) }
@@ -34,7 +34,7 @@ pub fn adopt<S: Alter + Drop>(connection: Connection<S>) -> Result<SqliteKeeper<
     }
 }
 
-/// Opens the file at a path, or makes it, and the table `hib_rows` in it. It is refused for want of memory alone. Where the
+/// Opens the file at a path, or makes it, and the table `hib_rows` in it. It is refused for want of memory alone. If the
 /// file can't be opened, as one that another program has open, or the table can't be made, each later call fails.
 pub fn open_file(rt: &HostRuntime, path: &str) -> Result<SqliteKeeper<FileStore<File>>, KeepFault>
     ensures err { IfErr result (λ e. e ≡ NoMemory) }

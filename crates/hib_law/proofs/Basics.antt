@@ -1,4 +1,4 @@
--- Small facts that many files use: what is one constructor is not another, and the reply that is due where no fault may be.
+-- Small facts that many files use: what is one constructor is not another, and the reply that is due if no fault may be.
 use Rattle.std.specs.Prelude.{unwrap_or}
 use Rattle.std.proofs.Common.{◌≡◌, inl, inr, List, Some, None, Option, sym, ◌∙◌, subst}
 use Rattle.hib_journal.specs.Types.{Change, Script, Act, Entry}

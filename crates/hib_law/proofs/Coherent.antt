@@ -293,7 +293,7 @@ unfolding slot_from
 vacant_at_first timeout = refl
 
 module _ (script : Script) (start : Tables) (k : Key) (rw_k : strategy script k.entity ≡ Strategy.ReadWrite) where
-  -- the history is kept, where no item of the key is removed
+  -- the history is kept, if no item of the key is removed
   pub kept_history : ((h : Journal) (e : Entry) → IsLegal script (Some start) (e ∷ h) → (x : Touch) → touch k e ≡ Some x → is_remove e.act ≡ false) →
       (h : Journal) → IsLegal script (Some start) h → IsKept script.timeout (history k h)
   kept_history f [] l = tt

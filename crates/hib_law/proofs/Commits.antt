@@ -118,7 +118,7 @@ next_not_below None w e = e
 next_not_below (Some v) None e = refl
 next_not_below (Some v) (Some w) e = up_by_one v w e
 
--- a row that is gone stays gone where nothing inserts it
+-- a row that is gone stays gone if nothing inserts it
 pub stays_gone : (k : Key) (cs : List Change) (t : Tables) → commit_answer cs t ≡ Commit.Committed → AreSteps k cs → row_at t k ≡ None →
     row_at (after_changes cs t) k ≡ None
 stays_gone k [] t e s n = n

@@ -24,7 +24,7 @@ pub record IsEnding (k : Key) (cs : List Change) (d : Bool) (f i : ℕ) (m : Jou
   pub floor : floor_in m ≡ f
   pub id : lock_id k m ≡ i
 
--- the lock is held exactly where the first change on k is no insert
+-- the lock is held exactly if the first change on k is no insert
 abbrev pub IsHeldFor : Key → Journal → Option Change → Type 0
 IsHeldFor k m None = holds k m ≡ false
 IsHeldFor k m (Some (Change.Insert j r)) = holds k m ≡ false

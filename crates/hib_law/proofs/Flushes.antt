@@ -24,7 +24,7 @@ module _ (script : Script) (k : Key) (rw_k : strategy script k.entity ≡ Strate
   abbrev Allow : List Act → Journal → (Journal → Type 0) → Type 0
   Allow = Allows (Allowed script k) (Right k)
 
-  -- after the write of c, from m: no lock is held where none is to be held, and only c's key is changed
+  -- after the write of c, from m: no lock is held if none is to be held, and only c's key is changed
   abbrev Wrote : Change → Journal → Journal → Type 0
   Wrote c m n = IsFlushing k start n × IsFreeIn k n (first_on k (changes_in n))
       × (same_key (key_of c) k ≡ false → first_on k (changes_in n) ≡ first_on k (changes_in m))
@@ -41,7 +41,7 @@ module _ (script : Script) (k : Key) (rw_k : strategy script k.entity ≡ Strate
         ),
   )
 
-  -- ready to write a change of j, from n: under the lock, where it comes first on k
+  -- ready to write a change of j, from n: under the lock, if it comes first on k
   abbrev IsSet : Key → Journal → Journal → Type 0
   IsSet j n m = IsFlushing k start m × (same_key j k ≡ true → first_on k (changes_in m) ≡ None → holds k m ≡ true)
       × (changes_in m ≡ changes_in n) × ((same_key j k ≡ true → first_on k (changes_in start) ≡ None → ⊥) → holds k m ≡ holds k n)

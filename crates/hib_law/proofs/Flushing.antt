@@ -61,7 +61,7 @@ steps_none k (d ∷ cs) p = by_key (tested (same_key (key_of d) k)) p (steps_non
     by_key (inl q) p i = let g : Some d ≡ None = rw q at p in none_some (sym g)
     by_key (inr q) p i = let g : first_on k cs ≡ None = rw q at p in (other d q, i g)
 
--- what a change must meet to be written: an insert of k comes first on k; another change of k goes up by one and, where it
+-- what a change must meet to be written: an insert of k comes first on k; another change of k goes up by one and, if it
 -- comes first, under the lock
 abbrev pub IsNoUpdate : Option Change → Type 0
 IsNoUpdate None = Unit {0}

@@ -33,7 +33,7 @@ pub any_append : (p : Change → Bool) (cs : List Change) (c : Change) → list_
 any_append p [] c = or_none (p c)
 any_append p (d ∷ cs) c = ap (λ b. p d || b) (any_append p cs c) ∙ or_assoc (p d) (list_any p cs) (p c)
 
--- what an act leaves of "k is not in the changes", where it begins nothing
+-- what an act leaves of "k is not in the changes", if it begins nothing
 pub not_in_before : (k : Key) (a : Act) (cs : List Change) → is_begin a ≡ false → is_in k (changes_after a cs) ≡ false →
     (is_in k cs ≡ false) × (row_written k a ≡ None)
 not_in_before k Act.Begin cs n p = absurd (true≢false n)

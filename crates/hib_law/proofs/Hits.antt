@@ -209,7 +209,7 @@ is_committed_by Act.Commit (Reply.Commit Commit.Committed) o u e = (refl, refl, 
 is_committed_by _ _ o u e = none_some e
 
 module _ (script : Script) (start : Tables) where
-  -- a commit since time on one of these tables, where they are fresh, is unstamped
+  -- a commit since time on one of these tables, if they are fresh, is unstamped
   since_fresh : (q time : ℕ) (c : Entry) (g h : Journal) → IsLegal script (Some start) h → IsPast (c ∷ g) h → time < c.tick →
       check script.timeout time (tables_of script q) h ≡ Checked.Fresh → commits (λ x. is_in_tables (tables_of script q) (x ∷ [])) g c ≡ true →
       is_listed c (unstamped (tables_of script q) h) ≡ true
@@ -292,7 +292,7 @@ module _ (script : Script) (start : Tables) where
       same : {a b : Checked} → Reply.Check a ≡ Reply.Check b → a ≡ b
       same e = cc
 
-  -- the List behind a Keep
+  -- the List before a Keep
   pub record IsKeptFrom (d : Entry) (g : Journal) (q t : ℕ) (l : List Cell) : Type 0 where
     pub entry : Entry
     pub journal : Journal

@@ -1,4 +1,4 @@
--- Who holds the lock of a read-write key: an open session exactly where its own entries say so, and once.
+-- Who holds the lock of a read-write key: an open session exactly if its own entries say so, and once.
 use Rattle.std.specs.Prelude.{option_to_list, ◌++◌}
 use Rattle.std.specs.Option.{option_map_or}
 use Rattle.std.proofs.Common.{◌≡◌, ℕ, suc, ◌≤◌, inl, inr, Bool, true, false, cond, ◌&&◌, ◌==◌, List, [], ◌∷◌, Some, None, Option, refl, ap, sym, ◌∙◌, subst, arith, eq-eqb}
@@ -74,7 +74,7 @@ begin_says script k m Act.Begin s w = w
 begin_says script k m _ s w = absurd (false≢true s)
 
 module _ (script : Script) (start : Tables) (k : Key) (rw_k : strategy script k.entity ≡ Strategy.ReadWrite) where
-  -- a session stands once at most among the holders, and only where its own entries hold the lock
+  -- a session stands once at most among the holders, and only if its own entries hold the lock
   pub holders_le : (t : ℕ) (h : Journal) → IsLegal script (Some start) h → count t (holders k h) ≤ cond (holds k (own t h)) 1 0
   holders_le t [] l = omega arith
   holders_le t (e ∷ h) l = by_restart (tested (is_restart e.act)) (holders_le t h l.0)

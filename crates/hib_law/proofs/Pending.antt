@@ -14,7 +14,7 @@ use Rattle.hib_base.proofs.Tables.{Tested, tested}
 use Rattle.hib_law.proofs.HeldRows.{Brings, brings, no_arrival, longer_some, any_append}
 use Rattle.hib_law.proofs.Basics.{none_some, some_same}
 
--- each new instance of k came where k was not in the changes
+-- each new instance of k came only if k was not in the changes
 abbrev pub IsFair : Key → Journal → Type 0
 IsFair k [] = Unit {0}
 IsFair k (e ∷ m) = ((j : Key) (r : Row) → arrival e.act e.reply ≡ Some (Arrival.Made j r) → same_key j k ≡ true → is_in k (changes_in m) ≡ false) × IsFair k m

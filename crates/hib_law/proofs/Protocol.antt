@@ -125,7 +125,7 @@ item_row : (slot : Slot) (row : Option Row) (r : Row) (u : ℕ) → slot ≡ Slo
 item_row slot row r u e h = let g : IsRowOf (Slot.Item r u) row = rw e at h in g
 
 module _ (timeout now : ℕ) (x y : View) (f : Follows now x y) (q : IsQuiet x y) (c : IsCoherent x) where
-  -- what sessions have seen stays safe where the move keeps it so
+  -- what sessions have seen stays safe if the move keeps it so
   seen_kept : ((s : ℕ) (b : Row) → x.active s ≡ true → x.seen s b → x.time s < now → IsGrown b x.row x.deleted →
       IsSafe (x.time s) b x.slot x.row → IsSafe (x.time s) b y.slot x.row) →
       IsHolding y.slot y.row y.holders y.done y.last → IsCoherent y

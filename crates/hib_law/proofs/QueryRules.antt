@@ -24,7 +24,7 @@ abbrev pub owed : Script → Journal → List ℕ
 owed script [] = []
 owed script (e ∷ m) = owed_by script (changes_in m) e.act e.reply (owed script m)
 
--- a Keep is of what a List has just answered, at the session's time, where no table of the query is in the changes
+-- a Keep is of what a List has just answered, at the session's time, if no table of the query is in the changes
 abbrev pub MayKeep : Script → Journal → ℕ → ℕ → List Cell → Type 0
 MayKeep script [] q t l = ⊥
 MayKeep script (e ∷ m) q t l =

@@ -69,7 +69,7 @@ set_none k m e cs f = by_act e.act e.reply refl refl
     by_act (Act.Set j ps) Reply.Set p q = by_key j ps p q (tested (same_key j k))
     by_act _ _ p q = refl
 
--- an entry keeps it, where what it writes of k has those cells
+-- an entry keeps it, if what it writes of k has those cells
 arrived_on : (k : Key) (m : Journal) (e : Entry) → IsAsArrived k m → Refuses k m e →
     ((a : Arrival) (l : Journal) (r : Row) → stay k m ≡ Some (a, l) → row_written k e.act ≡ Some r → r.cells ≡ (arrived_row a).cells) → IsAsArrived k (e ∷ m)
 arrived_on k m e w f g a l p = by_break (tested (is_break e.act e.reply))
@@ -172,7 +172,7 @@ from_pending m =
     (from_filter m insert_of insert_key refl (λ c e. inl e) (arrived m)) (from_filter m update_of update_key refl (λ c e. inr (inl e)) (arrived m)))
     (from_filter m delete_of delete_key refl (λ c e. inr (inr e)) (removed m))
 
--- what is held, where it has the cells that arrived
+-- what is held, if it has the cells that arrived
 pub record IsHeldAs (k : Key) (m : Journal) (z : Instance) : Type 0 where
   pub arrival : Arrival
   pub rest : Journal

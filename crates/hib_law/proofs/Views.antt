@@ -32,7 +32,7 @@ view_of script start k h = record {
   last = λ s. last_row k s h;
 }
 
--- what a session has that is to commit: where its first change on the key is no insert, the lock, and changes that go
+-- what a session has that is to commit: if its first change on the key is no insert, the lock, and changes that go
 -- up by one version
 abbrev pub IsReady : Key → Journal → ℕ → Option Change → Type 0
 IsReady k h s None = Unit {0}

@@ -114,7 +114,7 @@ module _ (Allowed : Journal → Act → Type 0) (Right : Journal → Entry → T
             let f : Keeps W (Act.Get k (time_in m)) = keep (Act.Get k (time_in m)) refl in
             ((f m w).0, λ e p r. goes_unless_hit k e.reply (e ∷ m) ((f m w).1 e p r) go g)
 
-        -- a find, where each of its acts keeps W
+        -- a find, if each of its acts keeps W
         pub goes_find : (k : Key) → Goes (Next.find script mode k) W W
         goes_find k m w = runs_if Allowed Right (is_some (held m k)) (one (Act.Find k)) (Next.find_away script mode k) m W
             (goes_act (Act.Find k) (keep (Act.Find k) refl) m w)
@@ -204,7 +204,7 @@ module _ (Allowed : Journal → Act → Type 0) (Right : Journal → Entry → T
           by_change (Change.Update k v r) = by_test (is_in k (changes_in d)) k (cond (is_fresh k d) v None)
           by_change (Change.Delete k v) = by_test (is_in k (changes_in d)) k (cond (is_fresh k d) v None)
 
-      -- a flush, where each of its acts keeps W
+      -- a flush, if each of its acts keeps W
       pub goes_flush : Goes (Next.flush script) W W
       goes_flush m w = runs_each Allowed Right (Next.flush_of script m (pending m)) m W (by_pending (pending m))
         where

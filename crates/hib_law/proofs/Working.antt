@@ -26,7 +26,7 @@ abbrev pub holds : Key → Journal → Bool
 holds k [] = false
 holds k (e ∷ m) = holds_after k e.act (holds k m)
 
--- ready to commit: where the first change on k is no insert, the lock is held and versions go up by one
+-- ready to commit: if the first change on k is no insert, the lock is held and versions go up by one
 abbrev pub IsReadyIn : Key → Journal → Option Change → Type 0
 IsReadyIn k m None = Unit {0}
 IsReadyIn k m (Some (Change.Insert j r)) = Unit {0}
@@ -57,7 +57,7 @@ Allowed script k m Act.Begin = holds k m ≡ false
 Allowed script k m (Act.RegionRemove j) = strategy script j.entity ≡ Strategy.ReadWrite → ⊥
 Allowed script k m _ = Unit {0}
 
--- a new instance comes where its key is not in the changes
+-- a new instance comes only if its key is not in the changes
 abbrev pub Right : Key → Journal → Entry → Type 0
 Right k m e = (j : Key) (r : Row) → arrival e.act e.reply ≡ Some (Arrival.Made j r) → same_key j k ≡ true → is_in k (changes_in m) ≡ false
 
@@ -110,7 +110,7 @@ working_plain k m e w p r =
       ready = subst (λ cs. IsReadyIn k (e ∷ m) (first_on k cs)) (sym c) (ready_same k m (e ∷ m) (first_on k (changes_in m)) c g w.ready);
     }
 
--- no lock is held before the first change on k, nor where that is an insert
+-- no lock is held before the first change on k, nor if that is an insert
 abbrev pub IsFreeIn : Key → Journal → Option Change → Type 0
 IsFreeIn k m None = holds k m ≡ false
 IsFreeIn k m (Some (Change.Insert j r)) = holds k m ≡ false

@@ -14,13 +14,13 @@ use Rattle.hib_law.specs.Prefixes.{AtEachEntry, last_reply}
 abbrev pub is_listed : Entry → List (ℕ × ℕ) → Bool
 is_listed c us = list_any (λ u. is_session u.0 c.session && (u.1 == c.tick)) us
 
--- an entry of a journal that goes on from m is unstamped, where it commits a change in a table of q
+-- an entry of a journal that goes on from m is unstamped, if it commits a change in a table of q
 abbrev pub IsUnstampedSince : Script → ℕ → Journal → Journal → Journal → Entry → Type 0
 IsUnstampedSince script q m h g c = length m ≤ length g → commits (λ x. is_in_tables (tables_of script q) (x ∷ [])) g c ≡ true →
     is_listed c (unstamped (tables_of script q) h) ≡ true
 
 -- a hit by session s of query q, over the journal before its Check: the list that its Look has found was answered by the
--- List at the moment of the hit, and is what the query gave over the committed rows there, where its tables are declared; and
+-- List at the moment of the hit, and is what the query gave over the committed rows there, if its tables are declared; and
 -- each Committed entry since then that touches a table of the query is unstamped
 pub record IsHitTrue (script : Script) (start : Tables) (s q time : ℕ) (h : Journal) : Type 0 where
   pub list : List Cell
@@ -34,7 +34,7 @@ abbrev pub AreHitsTrue : Script → Tables → Journal → Type 0
 AreHitsTrue script start h = AtEachEntry (λ g e. (s q t : ℕ) → e.session ≡ Some s → e.act ≡ Act.Check q t → e.reply ≡ Reply.Check Checked.Fresh →
     IsHitTrue script start s q t g) h
 
--- the list that a hit answers is what its query gave over the committed rows at the moment of the hit. This needs no premise where
+-- the list that a hit answers is what its query gave over the committed rows at the moment of the hit. This needs no premise if
 -- the script is valid, since its queries read declared tables alone
 abbrev pub IsListGiven : Script → Tables → ℕ → ℕ → ℕ → Journal → Type 0
 IsListGiven script start s q time h = (list : List Cell) (d : Query) → last_reply (own s h) ≡ Reply.Found time list →

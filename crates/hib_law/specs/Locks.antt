@@ -22,7 +22,7 @@ pub record IsLockHeld (script : Script) (k : Key) (h : Journal) : Type 0 where
   pub count : length (holders k h) ≡ holder_count (slot script.timeout k h)
   pub id : (s : ℕ) → is_holder s k h ≡ true → (l : LockState) × (slot script.timeout k h ≡ Slot.Lock l) × (l.id ≡ lock_id k (own s h))
 
--- a lock that a session gives back is its own, and it is not refused; where it is answered who still holds it, there is one fewer
+-- a lock that a session gives back is its own, and it is not refused; if it is answered who still holds it, there is one fewer
 pub record IsGivenBack (k : Key) (h : Journal) (e : Entry) : Type 0 where
   pub unlock : (s i : ℕ) → e.session ≡ Some s → e.act ≡ Act.Unlock k i →
       (is_holder s k h ≡ true) × (n : ℕ) × (suc n ≡ length (holders k h)) × (e.reply ≡ Reply.Unlocked (Unlocked.Released n))

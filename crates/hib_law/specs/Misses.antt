@@ -17,7 +17,7 @@ MissesSlot z t (Miss.Young stamp) = (r : Row) × (z ≡ Slot.Item r stamp) × (t
 MissesSlot z t (Miss.Locked n) = (l : LockState) × (z ≡ Slot.Lock l) × (l.holders ≡ n) × (1 ≤ n)
 MissesSlot z t (Miss.Released unlock) = (l : LockState) × (z ≡ Slot.Lock l) × (l.holders ≡ 0) × (l.unlock ≡ unlock)
 
--- and an item of a weaker region: nothing is there, or, where the strategy goes by time, one that is too young
+-- and an item of a weaker region: nothing is there, or, if the strategy goes by time, one that is too young
 abbrev pub MissesItem : Bool → Option (Row × ℕ) → ℕ → Miss → Type 0
 MissesItem by_time i t Miss.Absent = i ≡ None
 MissesItem by_time i t (Miss.Young stamp) = (by_time ≡ true) × (r : Row) × (i ≡ Some (r, stamp)) × (t ≤ stamp)
@@ -49,7 +49,7 @@ SlotRefuses z room t w (Put.Old v) = (l : LockState) × (z ≡ Slot.Lock l) × (
     × (is_below (Some v) w ≡ false)
 SlotRefuses z room t w Put.Crowded = (z ≡ Slot.Vacant) × (room ≡ None)
 
--- a weaker region refuses a row only where it has an item
+-- a weaker region refuses a row only if it has an item
 abbrev pub ItemRefuses : Option (Row × ℕ) → Put → Type 0
 ItemRefuses i (Put.Stored v late) = Unit {0}
 ItemRefuses i (Put.Present v) = (r : Row) × (stamp : ℕ) × (i ≡ Some (r, stamp)) × (r.version ≡ v)
@@ -59,7 +59,7 @@ abbrev pub Refuses : Strategy → Script → Journal → Key → Row → ℕ →
 Refuses Strategy.ReadWrite script h k r t f p = SlotRefuses (slot script.timeout k h) (room_for script h k f) t r.version p
 Refuses _ script h k r t f p = ItemRefuses (item (history k h)) p
 
--- an inserted row is refused where the key has an entry already, or where there is no room for it
+-- an inserted row is refused if the key has an entry already, or if there is no room for it
 abbrev pub RefusesInsert : Strategy → Script → Journal → Key → ℕ → Inserted → Type 0
 RefusesInsert g script h k f (Inserted.Stored v) = Unit {0}
 RefusesInsert Strategy.ReadWrite script h k f Inserted.Present = has_entry (slot script.timeout k h) ≡ true

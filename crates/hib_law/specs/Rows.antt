@@ -11,7 +11,7 @@ use Rattle.hib_journal.specs.Legal.{row_of}
 use Rattle.hib_journal.specs.Sound.{is_sound}
 use Rattle.hib_law.specs.Prefixes.{AtEachPrefix, AtEachEntry}
 
--- the cached item, where there is one, is the committed row
+-- the cached item, if there is one, is the committed row
 abbrev pub IsItemCommitted : Script → Tables → Key → Journal → Type 0
 IsItemCommitted script start k h = (r : Row) (t : ℕ) → slot script.timeout k h ≡ Slot.Item r t → row_at (committed start h) k ≡ Some r
 

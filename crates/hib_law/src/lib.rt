@@ -87,7 +87,7 @@ pub fn floors_are_low()
     ensures floors { (script : Script) (start : Tables) (h : Journal) → IsLegal script (Some start) h → AtEachPrefix AreFloorsLow h }
 {}
 
-/// The whole law: all of the above, of every legal journal over told rows. Where the rows at the start aren't told, the order
+/// The whole law: all of the above, of every legal journal over told rows. If the rows at the start aren't told, the order
 /// of the acts alone.
 pub fn law()
     ensures law { (script : Script) (start : Tables) (h : Journal) → IsLegal script (Some start) h → Coheres script start h }

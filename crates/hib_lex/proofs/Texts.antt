@@ -16,7 +16,7 @@ pub length_fits : (bs : List ℕ) → line_length bs ≤ length bs
 length_fits [] = omega arith
 length_fits (b ∷ bs) = elim (b == line_feed) as (λ v. cond v 0 (suc (line_length bs)) ≤ suc (length bs)) [ true ↦ omega arith | false ↦ omega (arith, length_fits bs) ]
 
--- the first line stands before the first line end, and the others behind it
+-- the first line stands before the first line end, and the others after it
 before_rest : (b : ℕ) (bs : List ℕ) → (0 < length bs → lines_of bs ≡ take (line_length bs) bs ∷ lines_of (drop (suc (line_length bs)) bs)) → before_lines b (lines_of bs) ≡ (b ∷ take (line_length bs) bs) ∷ lines_of (drop (suc (line_length bs)) bs)
 before_rest b [] h = refl
 before_rest b (c ∷ bs) h = ap (before_lines b) (h (omega arith))
@@ -27,7 +27,7 @@ lines_first (b ∷ bs) h =
     elim (b == line_feed) as (λ v. cond v ([] ∷ lines_of bs) (before_lines b (lines_of bs)) ≡ take (cond v 0 (suc (line_length bs))) (b ∷ bs) ∷ lines_of (drop (suc (cond v 0 (suc (line_length bs)))) (b ∷ bs)))
     [ true ↦ refl | false ↦ before_rest b bs (λ k. lines_first bs k) ]
 
--- what is read from a place in the text on is what is read behind the line there
+-- what is read from a place in the text on is what is read after the line there
 pub lexing_next : (done : Lines) (text : List ℕ) (start stop : ℕ) → start < length text → stop ≡ start + line_length (drop start text) → lexing (Ok done) (lines_of (drop start text)) ≡ lexing (with_line done (take (stop - start) (drop start text))) (lines_of (drop (stop + 1) text))
 lexing_next done text start stop h e =
     let rest : List ℕ = drop start text in

@@ -43,7 +43,7 @@ content_of line =
     (Content.Bad Kind.Long))
     (Content.Bad Kind.Byte)
 
--- ---- the lines with one more; it has the number behind those so far
+-- ---- the lines with one more; it has the number after those so far
 abbrev pub with_content : Lines → Content → Result Lines Refused
 with_content done Content.Nothing = Ok (record done { count = done.count + 1 })
 with_content done (Content.Tokens ts) =
@@ -53,7 +53,7 @@ with_content done (Content.Bad kind) = Err (record { line = done.count + 1; kind
 abbrev pub with_line : Lines → List ℕ → Result Lines Refused
 with_line done line = with_content done (content_of line)
 
--- the lines that are left behind those so far; the first bad one ends it
+-- the lines that are left after those so far; the first bad one ends it
 abbrev pub lexing : Result Lines Refused → List (List ℕ) → Result Lines Refused
 lexing (Err r) ls = Err r
 lexing (Ok done) [] = Ok done

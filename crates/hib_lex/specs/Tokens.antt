@@ -64,7 +64,7 @@ abbrev pub is_positive : List ℕ → Bool
 is_positive [] = false
 is_positive (d ∷ ds) = not (d == zero_digit) && list_all is_digit (d ∷ ds)
 
--- what digits come to behind the digits of n
+-- what digits come to after the digits of n
 abbrev pub size_after : ℕ → List ℕ → ℕ
 size_after n [] = n
 size_after n (d ∷ ds) = size_after (n * 10 + (d - zero_digit)) ds
@@ -124,7 +124,7 @@ abbrev pub step_escaped : List Token → List ℕ → ℕ → Option Scan
 step_escaped ts bs b =
     cond ((b == mark) || (b == backslash)) (scan_at ts (Place.Quoted (bs ++ b ∷ []))) None
 
--- behind a text comes a space, a parenthesis or the end
+-- after a text comes a space, a parenthesis or the end
 abbrev pub step_closed : List Token → ℕ → Option Scan
 step_closed ts b = cond (is_end b) (step_between ts b) None
 
@@ -157,6 +157,6 @@ tokens_from (Some scan) (b ∷ bs) = tokens_from (step scan b) bs
 abbrev pub start : Scan
 start = record { tokens = []; place = Place.Between }
 
--- the tokens of a line, or none where it breaks a rule
+-- the tokens of a line, or none if it breaks a rule
 abbrev pub tokens_of : List ℕ → Option (List Token)
 tokens_of line = cond (is_lexical line) (tokens_from (Some start) line) None

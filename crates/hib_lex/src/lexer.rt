@@ -42,9 +42,9 @@ enum Place {
     Bare(Text),
     /// Within a quoted text, of which these bytes were read.
     Quoted(Text),
-    /// The same, just behind a backslash.
+    /// The same, just after a backslash.
     Escaped(Text),
-    /// Just behind the end of a quoted text.
+    /// Just after the end of a quoted text.
     Closed,
 }
 
@@ -62,6 +62,7 @@ pub fn is_lexical(line: &[u8]) -> bool
     line.len() <= MOST_BYTES && is_printable(line)
 }
 
+/// Whether a line has printable bytes alone: those from 32 to 126.
 pub fn is_printable(line: &[u8]) -> bool
     ensures { result ≡ list_all is_printable line.now }
 {
@@ -81,8 +82,8 @@ pub fn is_skipped(line: &[u8]) -> bool
     true
 }
 
-/// The tokens of a line, or none where a byte, its length or a part of it is against the rules. A comment isn't told
-/// from other lines here: ask `is_skipped` first.
+/// The tokens of a line, or none if a byte, its length or a part of it is against the rules. A comment isn't told
+/// from other lines here: ask `is_skipped` first. Fails for want of memory alone.
 #[tactic(auto, using(crate::proofs::Scans::scan_next, crate::proofs::Scans::scan_done))]
 pub fn tokens(alloc: Global, line: &[u8]) -> Result<Option<Tokens>, AllocError>
     ensures { IfOk result (λ t. t ≡ lines.tokens_of line.now) }
@@ -103,7 +104,7 @@ pub fn tokens(alloc: Global, line: &[u8]) -> Result<Option<Tokens>, AllocError>
     ended(alloc, scan)
 }
 
-/// The scan after one more byte, or none where the line is bad.
+/// The scan after one more byte, or none if the line is bad.
 fn step(alloc: Global, scan: Scan, byte: u8) -> Result<Option<Scan>, AllocError>
     ensures { IfOk result (λ s. s ≡ lines.step scan byte) }
 {
@@ -144,7 +145,7 @@ fn step_quoted(mut tokens: Tokens, mut text: Text, byte: u8) -> Result<Option<Sc
     }))
 }
 
-/// A byte behind a backslash.
+/// A byte after a backslash.
 fn step_escaped(tokens: Tokens, mut text: Text, byte: u8) -> Result<Option<Scan>, AllocError>
     ensures { IfOk result (λ s. s ≡ lines.step_escaped tokens text byte) }
 {
@@ -182,7 +183,7 @@ fn step_between(alloc: Global, mut tokens: Tokens, byte: u8) -> Result<Option<Sc
     Ok(Some(Scan { tokens, place }))
 }
 
-/// A byte within a word, a path or a number, or just behind it.
+/// A byte within a word, a path or a number, or just after it.
 fn step_bare(
     alloc: Global,
     tokens: Tokens,
@@ -204,7 +205,7 @@ fn step_bare(
     }
 }
 
-/// A byte just behind a quoted text.
+/// A byte just after a quoted text.
 fn step_closed(alloc: Global, tokens: Tokens, byte: u8) -> Result<Option<Scan>, AllocError>
     ensures { IfOk result (λ s. s ≡ lines.step_closed tokens byte) }
 {
@@ -222,7 +223,7 @@ fn is_end(byte: u8) -> bool
     byte == b' ' || byte == b'(' || byte == b')'
 }
 
-/// The tokens at the end of a line, or none where a text isn't closed or the last part is no token.
+/// The tokens at the end of a line, or none if a text isn't closed or the last part is no token.
 fn ended(alloc: Global, scan: Scan) -> Result<Option<Tokens>, AllocError>
     ensures { IfOk result (λ t. t ≡ lines.ended scan) }
 {
@@ -234,7 +235,7 @@ fn ended(alloc: Global, scan: Scan) -> Result<Option<Tokens>, AllocError>
     }
 }
 
-/// The tokens with one more, of these bytes; none where they are no token.
+/// The tokens with one more, of these bytes; none if they are no token.
 fn with_bare(alloc: Global, mut tokens: Tokens, bytes: Text) -> Result<Option<Tokens>, AllocError>
     ensures { IfOk result (λ t. t ≡ lines.with_bare tokens bytes) }
 {
@@ -336,7 +337,7 @@ fn natural(digits: &[u8]) -> Option<i64>
     }
 }
 
-/// The number that digits stand for behind a minus: they don't begin with 0.
+/// The number that digits stand for after a minus: they don't begin with 0.
 #[tactic(auto, using(crate::proofs::Scans::positive_size))]
 fn negative(digits: &[u8]) -> Option<i64>
     ensures { result ≡ lines.negative_of digits.now }

@@ -37,10 +37,10 @@ enum Content {
 }
 
 /// The lines of a text with their tokens, without those that are skipped. Lines are numbered from 1; their number is
-/// that of the line feeds, plus one where bytes follow the last.
+/// that of the line feeds, plus one if bytes follow the last.
 ///
-/// Errors: `Refused` exactly where a line breaks a rule, with the first such line, and with the first of the kinds byte,
-/// long and token that it has; `NoMemory` where there is none left. Nothing else is changed.
+/// Errors: `Refused` exactly if a line breaks a rule, with the first such line, and with the first of the kinds byte,
+/// long and token that it has; `NoMemory` if there is none left. Nothing else is changed.
 #[tactic(auto, using(crate::proofs::Texts::lexing_done, crate::proofs::Texts::length_fits))]
 pub fn lex(alloc: Global, text: &[u8]) -> Result<Lines, LexError>
     requires { length text.now < 2 ^ 31 }

@@ -61,7 +61,7 @@ impl Listener for Late {
     }
 }
 
-/// Lets the clerks go on in turns. Where memory runs out the steps so far stand.
+/// Lets the clerks go on in turns. If memory runs out the steps so far stand.
 fn take_turns<N: Name, K: Keeper, L: Listener>(
     alloc: Global,
     factory: &mut Factory<K, N, L>,

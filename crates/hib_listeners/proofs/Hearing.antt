@@ -33,7 +33,7 @@ one_leaves e None left due = refl
 one_leaves e (Some es) None due = absurd (due refl)
 one_leaves e (Some es) (Some n) due = let few : n ≤ 1 = due.0 refl in rw (le-ltb 1 n few) refl
 
--- those in front hear it, and those behind don't; where all are told there are none behind
+-- those in front hear it, and the others don't; if all are told there are no others
 abbrev pub HearsInFront : Entry → Bool → List Teller → List Teller → Type 0
 HearsInFront e whole before after =
     (front : List Teller) × (back : List Teller) × (before ≡ front ++ back) × (after ≡ after_entries (e ∷ []) front ++ back) × (whole ≡ true → back ≡ [])

@@ -146,7 +146,7 @@ noted_at index xs e at d g h = at_key (key_at index (key_in e.act) at h)
                 let too : slice_get index c.entity ≡ Some (Some at) = subst (λ n. slice_get index n ≡ Some (Some at)) s p.2 in
                 ne (some_is j at (some_is (Some j) (Some at) (sym named ∙ too)))
 
--- where no place is of it
+-- if no place is of it
 pub noted_nowhere : (index : List (Option ℕ)) (xs : List RegionCounts) (e : Entry) → IsIndex index (entities xs) → place_in index (key_in e.act) ≡ None
     → map (noted_region e) xs ≡ xs
 noted_nowhere index xs e g h = mapped_same (noted_region e) xs (λ j c q. unmoved e c (not_in j c q (key_in e.act) refl h))

@@ -25,7 +25,7 @@ stays_for count (Some left) = count == 0 || nat_lt count left
 abbrev pub after_hearing : List Entry → Teller → List Teller
 after_hearing es one = cond (stays_for (length es) one.1) ((one.0 ++ es, option_map (λ n. n - length es) one.1) ∷ []) []
 
--- those that stay when all hear these entries, each with these behind what it had heard
+-- those that stay when all hear these entries, each with these after what it had heard
 abbrev pub after_entries : List Entry → List Teller → List Teller
 after_entries es all = flat_map (after_hearing es) all
 

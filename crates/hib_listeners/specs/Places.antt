@@ -6,7 +6,7 @@ use Rattle.hib_listeners.specs.declared.counts.RegionCounts.{RegionCounts}
 abbrev pub entities : List RegionCounts → List ℕ
 entities places = map (λ c. c.entity) places
 
--- place k of a list of entities has entity n exactly where the index of n is k
+-- place k of a list of entities has entity n exactly if the index of n is k
 abbrev pub IsIndex : List (Option ℕ) → List ℕ → Type 0
 IsIndex index entities = (n k : ℕ) → (slice_get index n ≡ Some (Some k)) ↔ (slice_get entities k ≡ Some n)
 

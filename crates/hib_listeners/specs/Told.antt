@@ -30,5 +30,5 @@ pub data AreTold (entry : Entry) : Bool → List Told → List Told → Type 0 w
   -- one hears it and is dropped
   Leaves : (one : Told) (whole : Bool) (before after : List Told) → MayAnswer Heard.Leave one
       → AreTold entry whole before after → AreTold entry whole (one ∷ before) after
-  -- one has no memory: neither it nor any behind it has heard it
+  -- one has no memory: neither it nor any after it has heard it
   Stops : (one : Told) (others : List Told) → AreTold entry false (one ∷ others) (one ∷ others)

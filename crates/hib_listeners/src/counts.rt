@@ -66,7 +66,7 @@ fn raise(count: &mut u64, counts: bool)
 }
 
 impl RegionCounts {
-    // An entry of this region is counted.
+    /// An entry of this region is counted.
     pub fn note(&mut self, entry: &Entry)
         requires below { IsRegionBelow (2 ^ 62) self.old }
         requires here { is_in self.old.entity entry.now.act ≡ true }
@@ -85,7 +85,7 @@ impl RegionCounts {
 }
 
 impl StoreCounts {
-    // An entry is counted.
+    /// An entry is counted.
     pub fn note(&mut self, entry: &Entry)
         requires { IsStoreBelow (2 ^ 62) self.old }
         ensures { self.new ≡ noted_store entry.now self.old }
@@ -99,7 +99,7 @@ impl StoreCounts {
 }
 
 impl QueryCounts {
-    // An entry is counted.
+    /// An entry is counted.
     pub fn note(&mut self, entry: &Entry)
         requires { AreQueriesBelow (2 ^ 62) self.old }
         ensures { self.new ≡ noted_queries entry.now self.old }

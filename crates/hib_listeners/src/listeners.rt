@@ -36,7 +36,7 @@ fn ask<L: Listener>(listener: &mut L, is_told: bool, alloc: Global, entry: &Entr
     listener.hear(alloc, entry)
 }
 
-// The listener at a place comes behind the first ones that are kept; how many these are then.
+// The listener at a place comes after the first ones that are kept; how many these are then.
 fn keep<L>(list: &mut Vec<L>, kept: usize, at: usize) -> usize
     requires order { kept ≤ at }
     requires within { at < length list.old.items }
@@ -86,8 +86,8 @@ impl<L> Listeners<L> {
 }
 
 impl<L: Listener> Listeners<L> {
-    /// Tells each listener an entry, in order. One that answers that it leaves is dropped, and no other. Where memory
-    /// runs out, those before the one that had none have heard the entry, and it and those behind it haven't; all
+    /// Tells each listener an entry, in order. One that answers that it leaves is dropped, and no other. If memory
+    /// runs out, those before the one that had none have heard the entry, and it and those after it haven't; all
     /// others that stay are there in their order.
     pub fn tell(&mut self, alloc: Global, entry: &Entry) -> Result<(), AllocError>
         ensures { AreTold entry.now (is_ok result) (tells L.heard L.left self.old) (tells L.heard L.left self.new) }

@@ -100,7 +100,7 @@ impl RegionList {
         self.places.as_slice()
     }
 
-    // An entry is counted. It costs the same however many regions there are.
+    /// An entry is counted. It costs the same however many regions there are.
     pub fn note(&mut self, entry: &Entry)
         requires { All (IsRegionBelow (2 ^ 62)) self.old }
         ensures { self.new ≡ map (noted_region entry.now) self.old }

@@ -22,18 +22,21 @@ pub fn key_in(act: &Act) -> Option<Key>
     }
 }
 
+/// Whether a region had the row that it was asked for.
 pub fn is_hit(act: &Act, reply: &Reply) -> bool
     ensures { result ≡ (is_get act.now && is_hit_reply reply.now) }
 {
     matches!(act, Act::Get { .. }) && matches!(reply, Reply::Hit(_))
 }
 
+/// Whether a region hadn't the row that it was asked for, or didn't give it.
 pub fn is_miss(act: &Act, reply: &Reply) -> bool
     ensures { result ≡ (is_get act.now && is_miss_reply reply.now) }
 {
     matches!(act, Act::Get { .. }) && matches!(reply, Reply::Miss(_))
 }
 
+/// Whether a region stored the row of a put, an insert or an update.
 pub fn stores(act: &Act, reply: &Reply) -> bool
     ensures { result ≡ stores act.now reply.now }
 {
@@ -45,6 +48,7 @@ pub fn stores(act: &Act, reply: &Reply) -> bool
     }
 }
 
+/// Whether a region did not store the row of a put or an insert.
 pub fn refuses(act: &Act, reply: &Reply) -> bool
     ensures { result ≡ refuses act.now reply.now }
 {
@@ -55,12 +59,14 @@ pub fn refuses(act: &Act, reply: &Reply) -> bool
     }
 }
 
+/// Whether a lock was taken.
 pub fn locks(act: &Act) -> bool
     ensures { result ≡ locks act.now }
 {
     matches!(act, Act::Lock { .. })
 }
 
+/// Whether a key had to leave its region for another.
 pub fn evicts(act: &Act, reply: &Reply) -> bool
     ensures { result ≡ evicts act.now reply.now }
 {
@@ -84,6 +90,7 @@ pub fn evicts(act: &Act, reply: &Reply) -> bool
     }
 }
 
+/// Whether a lock had run out when it was to be given back, or when a row was stored over it.
 pub fn is_expired(reply: &Reply) -> bool
     ensures { result ≡ is_expired_reply reply.now }
 {
@@ -94,42 +101,49 @@ pub fn is_expired(reply: &Reply) -> bool
     }
 }
 
+/// Whether the store was asked for a row.
 pub fn loads(act: &Act) -> bool
     ensures { result ≡ loads act.now }
 {
     matches!(act, Act::Load { .. })
 }
 
+/// Whether the store was asked for what a query gives.
 pub fn lists(act: &Act) -> bool
     ensures { result ≡ lists act.now }
 {
     matches!(act, Act::List { .. })
 }
 
+/// Whether a change was written.
 pub fn writes(act: &Act) -> bool
     ensures { result ≡ writes act.now }
 {
     matches!(act, Act::Write(_))
 }
 
+/// Whether a commit was applied.
 pub fn is_committed(entry: &Entry) -> bool
     ensures { result ≡ is_committed entry.now }
 {
     matches!(entry.act, Act::Commit) && matches!(entry.reply, Reply::Commit(Commit::Committed))
 }
 
+/// Whether the store failed.
 pub fn is_fault(reply: &Reply) -> bool
     ensures { result ≡ is_fault_reply reply.now }
 {
     matches!(reply, Reply::Fault | Reply::Commit(Commit::Fault))
 }
 
+/// Whether a kept result was fresh.
 pub fn is_query_hit(entry: &Entry) -> bool
     ensures { result ≡ is_query_hit entry.now }
 {
     matches!(entry.act, Act::Check { .. }) && matches!(entry.reply, Reply::Check(Checked::Fresh))
 }
 
+/// Whether a kept result wasn't there, or was stale.
 pub fn lacks(act: &Act, reply: &Reply) -> bool
     ensures { result ≡ lacks act.now reply.now }
 {
@@ -140,12 +154,14 @@ pub fn lacks(act: &Act, reply: &Reply) -> bool
     }
 }
 
+/// Whether a result was kept.
 pub fn keeps(act: &Act) -> bool
     ensures { result ≡ keeps act.now }
 {
     matches!(act, Act::Keep { .. })
 }
 
+/// Whether a kept result had to leave for another.
 pub fn is_drop(entry: &Entry) -> bool
     ensures { result ≡ is_drop entry.now }
 {

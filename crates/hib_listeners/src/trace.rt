@@ -12,12 +12,12 @@ use hib_outside::{Failed, Heard, Listener, Sink, write_all};
 use std::alloc::Global;
 
 /// Writes `entry N` to a sink for each entry that it hears, with N the number of entries so far. It tells nothing, and
-/// leaves where writing fails.
+/// leaves if writing fails.
 #[derive(Drop)]
 pub struct Trace<W> {
     /// Where the lines go.
     pub sink: W,
-    /// How many entries it heard, or the last value of the type where that is more.
+    /// How many entries it heard, or the last value of the type if that is more.
     pub count: u64,
 }
 
@@ -36,7 +36,7 @@ impl<W: Sink + Send + Drop> Listener for Trace<W> {
 
     ghost left = { λ _. None };
 
-    /// Where it stays, the sink has taken the line; it leaves only where the sink failed. Where memory runs out nothing
+    /// If it stays, the sink has taken the line; it leaves only if the sink failed. If memory runs out nothing
     /// is written, and the entry isn't numbered.
     fn hear(&mut self, alloc: Global, entry: &Entry) -> Heard
         ensures heard { None ≡ heard_after result entry.now None }

@@ -34,7 +34,7 @@ draw n x f = f (drawn n x) (after_draw x)
 abbrev pub at_once : {A : Type 0} → List A → ℕ → Drawn A
 at_once xs x = record { made = xs; state = x }
 
--- one more is made behind others
+-- one more is made after others
 abbrev pub more : {A : Type 0} → Drawn A → Drawn A → Drawn A
 more d e = record { made = d.made ++ e.made; state = e.state }
 

@@ -14,7 +14,7 @@ use Rattle.hib_make.specs.Rows.{number}
 abbrev pub own : ℕ → Path
 own c = record { column = c; target = None }
 
--- a column behind a reference
+-- a column after a reference
 abbrev pub behind : ℕ → ℕ → ℕ → Path
 behind c entity column = record { column = c; target = Some (record { entity = entity; column = column }) }
 

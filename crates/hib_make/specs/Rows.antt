@@ -10,7 +10,7 @@ use Rattle.hib_make.specs.Entities.{author, book, customer, shelf}
 abbrev pub key : ℕ → ℕ → Key
 key entity id = record { entity = entity; id = id }
 
--- a word and a number behind it
+-- a word and a number after it
 abbrev pub numbered : List ℕ → ℕ → List ℕ
 numbered word k = word ++ decimal k
 

@@ -5,14 +5,19 @@ ghost use Rattle.hib_make.specs.Entities.{author, book, customer, order, shelf, 
 use hib_base::{ColumnDef, ColumnType, EntityDef, EntityNo, Mapping, Seq, Strategy};
 use std::alloc::{AllocError, Global};
 
+/// The entity `Author`.
 pub const AUTHOR: EntityNo = EntityNo(0);
 
+/// The entity `Book`.
 pub const BOOK: EntityNo = EntityNo(1);
 
+/// The entity `Customer`.
 pub const CUSTOMER: EntityNo = EntityNo(2);
 
+/// The entity `Order`.
 pub const ORDER: EntityNo = EntityNo(3);
 
+/// The entity `Shelf`.
 pub const SHELF: EntityNo = EntityNo(4);
 
 fn column(alloc: Global, name: &[u8], kind: ColumnType) -> Result<ColumnDef, AllocError>
@@ -97,6 +102,7 @@ fn note_entity(alloc: Global) -> Result<EntityDef, AllocError>
     entity(alloc, b"Note", Strategy::Uncached, false, 0, columns)
 }
 
+/// The mapping of each made script: its six entities. Fails for want of memory alone.
 pub fn mapping(alloc: Global) -> Result<Mapping, AllocError>
     ensures { IfOk result (λ m. m ≡ made_mapping) }
 {

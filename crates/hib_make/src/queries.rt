@@ -123,6 +123,7 @@ fn orders(alloc: Global) -> Result<Query, AllocError>
     )
 }
 
+/// The four queries of each made script. Fails for want of memory alone.
 pub fn queries(alloc: Global) -> Result<Queries, AllocError>
     ensures { IfOk result (λ q. q ≡ made_queries) }
 {

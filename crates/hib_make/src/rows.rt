@@ -8,7 +8,7 @@ use crate::entities::{AUTHOR, BOOK, CUSTOMER, SHELF};
 use hib_base::{Cell, EntityNo, Key, Row, Rows, Seq, Text};
 use std::alloc::{AllocError, Global};
 
-/// A word and a number behind it.
+/// A word and a number after it.
 pub fn numbered(alloc: Global, word: &[u8], number: u32) -> Result<Text, AllocError>
     ensures { IfOk result (λ t. t ≡ numbered word.now number) }
 {
@@ -18,6 +18,7 @@ pub fn numbered(alloc: Global, word: &[u8], number: u32) -> Result<Text, AllocEr
     Ok(Seq::from_vec(text))
 }
 
+/// The key of a row of an entity.
 pub fn key(entity: EntityNo, id: u32) -> Key
     ensures { result ≡ key entity id }
 {
@@ -27,6 +28,7 @@ pub fn key(entity: EntityNo, id: u32) -> Key
     }
 }
 
+/// The cell of a number.
 pub fn number(n: u32) -> Cell
     ensures { result ≡ number n }
 {

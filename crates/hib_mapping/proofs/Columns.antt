@@ -152,7 +152,7 @@ none_there None h = refl
 none_there (Some i) h = absurd (true≢false h)
 
 -- ---- defaults
--- the tokens of a type, by how many stand behind a column's name
+-- the tokens of a type, by how many stand after a column's name
 pub type_of_three : (ts : List Token) → length ts ≡ 3 → type_in ts ≡ take 1 ts
 type_of_three (a ∷ b ∷ c ∷ []) h = refl
 type_of_three [] h = absurd (omega arith)

@@ -50,7 +50,7 @@ parts_kind m followed name strategy capacity =
     (cond (is_some (entity_at m (word_of name))) (Some Kind.EntityTaken)
     (or_no_columns followed (strategy_kind (strategy_of strategy) capacity)))
 
--- what is wrong with an entity line of this form behind the entities m, if anything; followed: the next line is a column's
+-- what is wrong with an entity line of this form after the entities m, if anything; followed: the next line is a column's
 abbrev pub entity_kind : List EntityDef → Bool → List Token → Option Kind
 entity_kind m followed (first ∷ name ∷ strategy ∷ versioning ∷ capacity ∷ []) = parts_kind m followed name strategy capacity
 entity_kind m followed _ = None
@@ -67,7 +67,7 @@ entity_of (first ∷ name ∷ strategy ∷ versioning ∷ capacity ∷ []) =
     })
 entity_of _ = None
 
--- ---- column NAME TYPE, where TYPE is a word, or `ref` and an entity's name; behind it `default` and a cell, if it has a default
+-- ---- column NAME TYPE, where TYPE is a word, or `ref` and an entity's name; after it `default` and a cell, if it has a default
 abbrev pub is_plain : Token → Bool
 is_plain kind = is_a_word kind && not (is_the_word (codes "ref") kind)
 
@@ -77,7 +77,7 @@ is_reference kind target = is_the_word (codes "ref") kind && is_a_word target
 abbrev pub is_default : Token → Token → Bool
 is_default word cell = is_the_word (codes "default") word && is_a_cell cell
 
--- what stands behind the name
+-- what stands after the name
 abbrev pub is_described : List Token → Bool
 is_described (kind ∷ []) = is_plain kind
 is_described (kind ∷ target ∷ []) = is_reference kind target
@@ -89,7 +89,7 @@ abbrev pub is_column_line : List Token → Bool
 is_column_line (first ∷ name ∷ ts) = is_a_word name && is_described ts
 is_column_line _ = false
 
--- of the tokens behind a column's name, those of its type
+-- of the tokens after a column's name, those of its type
 abbrev pub type_in : List Token → List Token
 type_in (kind ∷ word ∷ cell ∷ []) = kind ∷ []
 type_in (kind ∷ target ∷ word ∷ cell ∷ []) = kind ∷ target ∷ []
@@ -128,7 +128,7 @@ type_from m e _ = ColumnType.Int
 abbrev pub default_unless : Bool → Option Kind
 default_unless fine = cond fine None (Some Kind.Default)
 
--- a default is a cell of its column's type; a column without one stands behind none that has one
+-- a default is a cell of its column's type; a column without one stands after none that has one
 abbrev pub default_kind : List ColumnDef → ColumnType → Option Token → Option Kind
 default_kind ds k None = default_unless (not (list_any has_default ds))
 default_kind ds k (Some t) = default_unless (is_cell_of k t)
@@ -141,7 +141,7 @@ or_kind None other = other
 abbrev pub rest_kind : List EntityDef → EntityDef → List Token → Option Kind
 rest_kind m e ts = or_kind (type_kind m e (type_in ts)) (default_kind e.columns (type_from m e (type_in ts)) (default_in ts))
 
--- what is wrong with a column line of this form behind the entities m and the entity e, if anything
+-- what is wrong with a column line of this form after the entities m and the entity e, if anything
 abbrev pub column_kind : List EntityDef → EntityDef → List Token → Option Kind
 column_kind m e (first ∷ name ∷ ts) =
     cond (nat_le 16 (length e.columns)) (Some Kind.ManyColumns)

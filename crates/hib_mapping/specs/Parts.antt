@@ -29,7 +29,7 @@ abbrev pub is_within : ℕ → ℕ → Token → Bool
 is_within low high (Token.Number (pos n)) = nat_le low n && nat_le n high
 is_within low high _ = false
 
--- the number, where a token is one from 0 to high; else 0
+-- the number, if a token is one from 0 to high; else 0
 abbrev pub number_up_to : ℕ → Token → ℕ
 number_up_to high (Token.Number (pos n)) = cond (nat_le n high) n 0
 number_up_to high _ = 0

@@ -82,7 +82,7 @@ fn strategy_kind(strategy: Option<Strategy>, capacity: &Token) -> Option<Kind>
     }
 }
 
-/// The first thing that is wrong with an entity line of this form behind these entities, if anything. `followed` says
+/// The first thing that is wrong with an entity line of this form after these entities, if anything. `followed` says
 /// whether the next line is a column's.
 pub fn entity_kind(mapping: &[EntityDef], followed: bool, tokens: &[Token]) -> Option<Kind>
     ensures { result ≡ lines.entity_kind mapping.now followed tokens.now }
@@ -121,7 +121,8 @@ fn or_no_columns(followed: bool, kind: Option<Kind>) -> Option<Kind>
     }
 }
 
-/// The entity that an entity line declares, without its columns; none where the line hasn't its form.
+/// The entity that an entity line declares, without its columns; none if the line hasn't its form.
+/// Fails for want of memory alone.
 pub fn entity(alloc: Global, tokens: &[Token]) -> Result<Option<EntityDef>, AllocError>
     ensures { IfOk result (λ e. e ≡ lines.entity_of tokens.now) }
 {
@@ -138,7 +139,7 @@ pub fn entity(alloc: Global, tokens: &[Token]) -> Result<Option<EntityDef>, Allo
 }
 
 /// Whether a line that begins with `column` is `column NAME TYPE`, where TYPE is a word, or `ref` and an entity's name, or has
-/// this and behind it `default` and a cell.
+/// this and after it `default` and a cell.
 pub fn is_column_line(tokens: &[Token]) -> bool
     ensures { result ≡ lines.is_column_line tokens.now }
 {
@@ -190,7 +191,7 @@ fn is_default(word: &Token, cell: &Token) -> bool
     is_the_word(word, b"default") && is_a_cell(cell)
 }
 
-/// Of the tokens behind a column's name, those of its type.
+/// Of the tokens after a column's name, those of its type.
 #[tactic(auto, using(crate::proofs::Columns::type_of_three, crate::proofs::Columns::type_of_four, crate::proofs::Columns::type_of_others))]
 fn type_tokens(tokens: &[Token]) -> &[Token]
     ensures { result.now ≡ lines.type_in tokens.now }
@@ -202,7 +203,7 @@ fn type_tokens(tokens: &[Token]) -> &[Token]
     }
 }
 
-/// Of the tokens behind a column's name, the one that is its default, if it has one.
+/// Of the tokens after a column's name, the one that is its default, if it has one.
 fn default_token(tokens: &[Token]) -> Option<&Token>
     ensures { option_copied result ≡ lines.default_in tokens.now }
 {
@@ -297,7 +298,7 @@ fn default_kind(columns: &[ColumnDef], kind: ColumnType, default: Option<&Token>
     }
 }
 
-/// The first thing that is wrong with a column line of this form behind these entities, for the columns of this one.
+/// The first thing that is wrong with a column line of this form after these entities, for the columns of this one.
 pub fn column_kind(mapping: &[EntityDef], entity: &EntityDef, tokens: &[Token]) -> Option<Kind>
     ensures { result ≡ lines.column_kind mapping.now entity.now tokens.now }
 {
@@ -313,7 +314,7 @@ pub fn column_kind(mapping: &[EntityDef], entity: &EntityDef, tokens: &[Token]) 
     rest_kind(mapping, entity, rest)
 }
 
-/// The first thing that is wrong with what stands behind a column's name.
+/// The first thing that is wrong with what stands after a column's name.
 fn rest_kind(mapping: &[EntityDef], entity: &EntityDef, tokens: &[Token]) -> Option<Kind>
     ensures { result ≡ lines.rest_kind mapping.now entity.now tokens.now }
 {
@@ -353,7 +354,7 @@ fn column(
     })
 }
 
-/// The entity with the column of a column line.
+/// The entity with the column of a column line. Fails for want of memory alone.
 pub fn with_column(
     alloc: Global,
     mapping: &[EntityDef],

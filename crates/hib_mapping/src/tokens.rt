@@ -30,7 +30,7 @@ pub fn is_within(token: &Token, low: u32, high: u32) -> bool
     }
 }
 
-/// The number that a token is, where it is one from 0 to `high`; else 0.
+/// The number that a token is, if it is one from 0 to `high`; else 0.
 pub fn number_up_to(token: &Token, high: u32) -> u32
     ensures { result ≡ parts.number_up_to high token.now }
 {
@@ -50,7 +50,7 @@ pub fn word_bytes(token: &Token) -> &[u8]
     }
 }
 
-/// The same as a text of its own.
+/// The same as a text of its own. Fails for want of memory alone.
 pub fn word(alloc: Global, token: &Token) -> Result<Text, AllocError>
     ensures { IfOk result (λ w. w ≡ parts.word_of token.now) }
 {

@@ -102,7 +102,7 @@ module _ (state : ItemsState) (k : Key) (h : Journal) (e : Entry) (a : Act) (r :
       by false true p = refl
       by false false p = refl
 
--- where there is no item, it is as if it had gone
+-- if there is no item, it is as if it had gone
 gone_already : (state : ItemsState) (x i : ℕ) → item_in state x ≡ None → item_in state i ≡ cond (nat_eq x i) None (item_in state i)
 gone_already state x i absent = by (tested (nat_eq x i))
   where

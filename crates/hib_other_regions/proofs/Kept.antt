@@ -1,4 +1,4 @@
--- A list of items in order of stamps stays so where one goes or comes.
+-- A list of items in order of stamps stays so if one goes or comes.
 use Rattle.std.specs.Prelude.{option_map}
 use Rattle.std.proofs.Common.{◌≡◌, ◌≤◌, ◌<◌, ℕ, Bool, true, false, cond, nat_eq, List, [], ◌∷◌, ◌++◌, Some, None, Option, refl, sym, ap, ◌∙◌, subst, arith, eq-eqb}
 use Rattle.std.specs.Map.{lookup, remove_entry}

@@ -15,7 +15,7 @@ empty capacity = record { capacity = capacity; items = [] }
 abbrev pub item_in : ItemsState → ℕ → Option (Row × ℕ)
 item_in state id = lookup (nat_eq id) state.items
 
--- who leaves for a new one: nobody where there is room
+-- who leaves for a new one: nobody if there is room
 abbrev pub oldest_in : ItemsState → Option ℕ
 oldest_in state = cond (nat_lt (length state.items) state.capacity) None (first_key state.items)
 

@@ -24,6 +24,7 @@ impl Model for Items {
 }
 
 impl Items {
+    /// No items, and room for so many. It takes no memory.
     pub fn open(alloc: Global, capacity: u32) -> Items
         ensures { result ≡ empty capacity }
     {
@@ -75,6 +76,7 @@ impl Items {
         remove_key(&mut self.entries, id)
     }
 
+    /// Removes all items. It takes no memory.
     pub fn clear(&mut self)
         ensures { self.new ≡ after_clear self.old }
     {

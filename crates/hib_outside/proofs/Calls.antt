@@ -1,4 +1,4 @@
--- Where no call is to fail, none fails.
+-- If no call is to fail, none fails.
 use Rattle.std.proofs.Common.{◌≡◌, ℕ, zero, suc, [], refl, arith}
 use Rattle.hib_outside.specs.Causes.{failed_calls}
 

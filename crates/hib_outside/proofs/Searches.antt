@@ -50,11 +50,11 @@ one_further_more : (n : ℕ) (p : Result ℕ ℕ) → one_further (further n p) 
 one_further_more n (Ok i) = ap Ok (omega arith)
 one_further_more n (Err i) = ap Err (omega arith)
 
--- where the first key comes before the one that is sought, it is sought among the rest
+-- if the first key comes before the one that is sought, it is sought among the rest
 past_first : (e : Key × Row) (es : Tables) (k : Key) → is_before e.0 k ≡ true → place_in (e ∷ es) k ≡ one_further (place_in es k)
 past_first e es k h = let x : IsEarlier e.0 k = earlier e.0 k h in rw (x.differs, x.not_after) refl
 
--- where the key at a place comes before the one that is sought, it is sought behind the place
+-- if the key at a place comes before the one that is sought, it is sought among those after the place
 pub place_behind : (t : Tables) (k : Key) (n : ℕ) (d : Key × Row) → in_order t ≡ true → n < length t → is_before (get_or t n d).0 k ≡ true
     → place_in t k ≡ further (suc n) (place_in (drop (suc n) t) k)
 place_behind [] k n d o l h = absurd (omega arith)
@@ -70,7 +70,7 @@ pub place_after : (t : Tables) (k : Key) (n : ℕ) (d : Key × Row) → in_order
     → place_in t k ≡ further (n + 1) (place_in (drop (n + 1) t) k)
 place_after t k n d o l h = place_behind t k n d o l h ∙ ap (λ j. further j (place_in (drop j t) k)) (sym (add-one n))
 
--- where the key that is sought comes before the one at a place, it is sought in front of the place
+-- if the key that is sought comes before the one at a place, it is sought among those before the place
 pub place_ahead : (t : Tables) (k : Key) (n : ℕ) (d : Key × Row) → n < length t → is_before k (get_or t n d).0 ≡ true → place_in t k ≡ place_in (take n t) k
 place_ahead [] k n d l h = absurd (omega arith)
 place_ahead (e ∷ es) k zero d l h = at (tested (same_key e.0 k))
@@ -114,7 +114,7 @@ ends_at n (Ok i) (Err j) e h = cc
 ends_at n (Err i) (Ok j) e h = cc
 ends_at n (Err i) (Err j) e h = let f : j ≡ n + i = cc in ap Err (omega arith)
 
--- where nothing is left between the two ends, the key belongs there
+-- if nothing is left between the two ends, the key belongs there
 pub place_between : (t : Tables) (k : Key) (low high : ℕ) → high ≤ low → low ≤ high → place_in t k ≡ further low (place_in (drop low t) k)
     → place_in t k ≡ place_in (take high t) k → Err low ≡ place_in t k
 place_between t k low high a b f h =

@@ -1,4 +1,4 @@
--- Counts of faults, answers that come only where one rose, and the calls that are to fail.
+-- Counts of faults, answers that come only if one rose, and the calls that are to fail.
 use Rattle.std.specs.Prelude.{◌≡◌, ℕ, zero, suc, ◌+◌, ◌-◌, ◌^◌, ◌≤◌, min, Bool, cond, ◌&&◌, List, nat_eq, nat_lt, Result, OnOk, OnErr, IfErr}
 use Rattle.std.specs.List.{list_any}
 use Rattle.hib_outside.specs.declared.keeper.KeepFault.{KeepFault}
@@ -8,13 +8,13 @@ use Rattle.hib_outside.specs.declared.keeper.KeepFault.TheVariants.{Failed}
 abbrev pub Rose : ℕ → ℕ → Type 0
 Rose before now = min (before + 1) (2 ^ 64 - 1) ≤ now
 
--- the count has not fallen, an error comes only where it rose, and where all went well it is as before
+-- the count has not fallen, an error comes only if it rose, and if all went well it is as before
 pub record HasCause {T E : Type 0} (before now : ℕ) (result : Result T E) : Type 0 where
   pub later : before ≤ now
   pub failed : OnErr result (Rose before now)
   pub kept : OnOk result (now ≡ before)
 
--- the count has not fallen, and Failed comes only where it rose
+-- the count has not fallen, and Failed comes only if it rose
 pub record FailsByCause {T : Type 0} (before now : ℕ) (result : Result T KeepFault) : Type 0 where
   pub later : before ≤ now
   pub failed : IfErr result (λ e. e ≡ Failed → Rose before now)

@@ -16,14 +16,14 @@ left_after Heard.NoMemory left = left
 left_after Heard.Stay left = option_map (λ n. n - 1) left
 left_after Heard.Leave left = option_map (λ n. n - 1) left
 
--- where it tells, it leaves exactly where at most one entry was left
+-- if it tells, it leaves exactly if at most one entry was left
 abbrev pub IsDue : Heard → Option (List Entry) → Option ℕ → Type 0
 IsDue Heard.NoMemory heard left = ⊤
 IsDue answer None left = ⊤
 IsDue answer (Some es) None = answer ≢ Heard.Leave
 IsDue answer (Some es) (Some n) = (answer ≡ Heard.Leave) ↔ (n ≤ 1)
 
--- the entry at a place of the list heard; none where nothing is told
+-- the entry at a place of the list heard; none if nothing is told
 abbrev pub told_at : Option (List Entry) → ℕ → Option Entry
 told_at None i = None
 told_at (Some es) i = slice_get es i

@@ -12,7 +12,7 @@ abbrev pub unless_free : ℕ → Option Row → Option Applied
 unless_free at None = None
 unless_free at (Some r) = Some (Applied.Duplicate at)
 
--- what is answered to a change at a place that meets this row and does not apply; none where it does
+-- what is answered to a change at a place that meets this row and does not apply; none if it does
 abbrev pub refused_at : ℕ → Change → Option Row → Option Applied
 refused_at at (Change.Insert k r) found = unless_free at found
 refused_at at (Change.Update k v r) found = unless_as_expected at v found

@@ -13,7 +13,7 @@ use std::io::{Read, Write};
 pub struct StdSource<R> {
     /// The reader.
     pub inner: R,
-    /// How often it has failed, or the last value of the type where that is more.
+    /// How often it has failed, or the last value of the type if that is more.
     pub faults: u64,
 }
 
@@ -54,7 +54,7 @@ impl<R: Read> Source for StdSource<R> {
 pub struct StdSink<W> {
     /// The writer.
     pub inner: W,
-    /// How often it has failed, or the last value of the type where that is more.
+    /// How often it has failed, or the last value of the type if that is more.
     pub faults: u64,
 }
 

@@ -10,7 +10,7 @@ pub type Numbers = Seq<u32>;
 /// How many calls came so far, and the numbers of those that are to fail.
 #[derive(Drop)]
 pub struct Failing {
-    /// The calls so far, or 4294967295 where there were more.
+    /// The calls so far, or 4294967295 if there were more.
     pub calls: u32,
     /// The numbers of the calls that are to fail.
     pub fail: Numbers,

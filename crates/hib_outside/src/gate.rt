@@ -3,7 +3,7 @@ use hib_base::SessionNo;
 
 /// Holds a worker before a step.
 pub trait Gate: Sync {
-    /// Called before each step, with the session and the number of its entries so far, or 4294967295 where there
+    /// Called before each step, with the session and the number of its entries so far, or 4294967295 if there
     /// are more. It promises nothing.
     fn pass(&self, session: SessionNo, place: u32);
 }

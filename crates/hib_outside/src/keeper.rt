@@ -59,9 +59,9 @@ pub enum Applied {
     },
 }
 
-/// Keeps tables. At any error they are as before, and Failed comes only where the count of faults rose.
+/// Keeps tables. At any error they are as before, and Failed comes only if the count of faults rose.
 pub trait Keeper: Send {
-    /// Its tables, where it tells them.
+    /// Its tables, if it tells them.
     ghost tables: { Self → Option Tables };
 
     /// How often it has failed.
@@ -97,7 +97,7 @@ pub trait Keeper: Send {
         ensures asked { (asked self.old ≤ asked self.new) × (asked self.new ≤ asked self.old + 1) }
         ensures cause { FailsByCause (faults self.old) (faults self.new) result };
 
-    /// Applies changes in order: all of them where it answers Done, else none.
+    /// Applies changes in order: all of them if it answers Done, else none.
     fn apply(&mut self, alloc: Global, batch: &[Change]) -> Result<Applied, KeepFault>
         ensures verdict { IfOk result (λ a. IfSome (tables self.old) (λ m. a ≡ verdict m batch.now 0)) }
         ensures place { IfOk result (λ a. IsPlace a (length batch.now)) }

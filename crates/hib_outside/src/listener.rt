@@ -20,19 +20,19 @@ pub enum Heard {
 
 /// Hears entries.
 pub trait Listener: Send + Drop {
-    /// The entries that it heard, where it tells them.
+    /// The entries that it heard, if it tells them.
     ghost heard: { Self → Option (List Entry) };
 
-    /// How many it has still to hear, or none where it never leaves.
+    /// How many it has still to hear, or none if it never leaves.
     ghost left: { Self → Option ℕ };
 
-    /// Hears an entry. Where it tells, it leaves exactly where at most one was left to hear.
+    /// Hears an entry. If it tells, it leaves exactly if at most one was left to hear.
     fn hear(&mut self, alloc: Global, entry: &Entry) -> Heard
         ensures heard { heard self.new ≡ heard_after result entry.now (heard self.old) }
         ensures left { left self.new ≡ left_after result (left self.old) }
         ensures leaves { IsDue result (heard self.old) (left self.old) };
 
-    /// The entry at a place of the list heard, from 0. None where it tells nothing.
+    /// The entry at a place of the list heard, from 0. None if it tells nothing.
     fn nth(&self, i: usize) -> Option<&Entry>
         ensures { told_at (heard self.now) i ≡ option_copied result };
 }

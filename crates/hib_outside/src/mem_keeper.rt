@@ -17,7 +17,7 @@ use std::alloc::Global;
 pub struct MemKeeper {
     /// The rows, in order of keys.
     pub rows: Vec<(Key, Row)>,
-    /// How often it was asked for rows, or the last value of the type where that is more.
+    /// How often it was asked for rows, or the last value of the type if that is more.
     pub asked: u64,
     /// The calls so far, and those that are to fail.
     pub failing: Failing,
@@ -39,7 +39,7 @@ impl MemKeeper {
         }
     }
 
-    /// How often it was asked for rows, or 18446744073709551615 where that is more.
+    /// How often it was asked for rows, or 18446744073709551615 if that is more.
     pub fn asked(&self) -> u64
         ensures { result ≡ self.now.asked }
     {

@@ -71,7 +71,7 @@ pub struct MemSink {
     pub room: usize,
     /// The calls so far, and those that are to fail.
     pub failing: Failing,
-    /// How many calls failed, or the last value of the type where that is more.
+    /// How many calls failed, or the last value of the type if that is more.
     pub failures: u64,
     ghost reserved: { vec_len bytes + room ≤ vec_capacity bytes },
 }
@@ -107,7 +107,7 @@ impl Sink for MemSink {
 
     ghost faults = { λ s. s.failures };
 
-    /// Takes as much of a piece as there is room for. It fails exactly at the calls that are to fail, and where a
+    /// Takes as much of a piece as there is room for. It fails exactly at the calls that are to fail, and if a
     /// piece that isn't empty meets no room.
     fn write(&mut self, bytes: &[u8]) -> Result<usize, Failed>
         ensures bound { WritesAtMost result bytes.now }

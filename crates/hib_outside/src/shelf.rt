@@ -137,7 +137,7 @@ fn row_after<'a>(
     }
 }
 
-/// The answer to a change that meets this row and doesn't apply; none where it applies.
+/// The answer to a change that meets this row and doesn't apply; none if it applies.
 fn refused(at: usize, change: &Change, found: Option<&Row>) -> Option<Applied>
     ensures value { result ≡ refused_at at change.now (option_copied found.entry) }
     ensures place { (n : ℕ) → at < n → IfSome result (λ a. IsPlace a n) }

@@ -1,4 +1,4 @@
--- The text of tokens: a space stands between two of them, but none behind an opening parenthesis and none before a closing one.
+-- The text of tokens: a space stands between two of them, but none after an opening parenthesis and none before a closing one.
 use Rattle.std.specs.Prelude.{ℕ, Bool, true, false, cond, List, [], ◌∷◌, ◌++◌, codes, flat_map}
 use Rattle.std.specs.Fmt.{signed_decimal}
 use Rattle.hib_lex.specs.declared.lexer.Token.{Token}

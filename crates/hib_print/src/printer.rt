@@ -1,4 +1,4 @@
-// Tokens, appended to a text with a space where one stands between them.
+// Tokens, appended to a text with a space if one stands between them.
 ghost use Rattle.std.specs.Prelude.{◌≡◌, ℕ, ◌+◌, ◌++◌, List, [], ◌∷◌, OnOk, cond, true, false, codes, Some};
 ghost use Rattle.hib_lex.specs.declared.lexer.Token.{Token};
 ghost use Rattle.hib_print.specs.Lines.{natural, cell_token, cell_tokens, key_tokens};
@@ -14,7 +14,7 @@ use std::alloc::{AllocError, Global};
 pub struct Printer {
     /// The text so far.
     pub text: Vec<u8>,
-    /// Whether the next token needs no space before it: it is the first of a line, or behind an opening parenthesis.
+    /// Whether the next token needs no space before it: it is the first of a line, or after an opening parenthesis.
     pub glued: bool,
 }
 

@@ -21,7 +21,7 @@ apart a b h e = true≢false (sym (eq-eqb a b e) ∙ h)
 abbrev pub taken : ℕ → List Kept → List Kept
 taken q es = remove_entry (nat_eq q) es
 
--- cut off behind some
+-- cut off after some
 
 pub take_found : (m : ℕ) (es : List Kept) (x : ℕ) (v : Result) → result_of x (take m es) ≡ Some v
     → (result_of x es ≡ Some v) × (place x (take m es) ≡ place x es) × (place x es < m) × ((p : ℕ) → is_ahead p x (take m es) ≡ is_ahead p x es)

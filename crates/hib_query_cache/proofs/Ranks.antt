@@ -17,7 +17,7 @@ use Rattle.hib_query_cache.specs.Standing.{place, is_ahead, AreRanked, IsResults
 use Rattle.hib_query_cache.proofs.Places as places
 use Rattle.hib_query_cache.proofs.Places.{taken, flip, apart}
 
--- a query goes first, and the last one goes where there is no room
+-- a query goes first, and the last one goes if there is no room
 abbrev first : ℕ → Result → Ranked → List Kept
 first q x r = (q, x) ∷ take (r.capacity - 1) (taken q r.kept)
 
@@ -59,7 +59,7 @@ module _ (n : ℕ) (r : Ranked) (oth : ℕ → List ℕ) (lst : ℕ → Option R
   used_others : ℕ → ℕ → List ℕ
   used_others q y = others_after y (Some q) (oth y)
 
-  -- how many others a query has behind its last use, after a use of q
+  -- how many others a query has after its last use, after a use of q
   one_more : (q y : ℕ) (v : Result) → y ≢ q → result_of y r.kept ≡ Some v → length (add_once q (oth y)) ≡ 1 + place y (taken q r.kept)
   one_more q y v ne old =
       counted (is_ahead q y r.kept) (names q (oth y)) (length (add_once q (oth y))) (length (oth y)) (place y r.kept) (place y (taken q r.kept))
@@ -237,7 +237,7 @@ module _ (n : ℕ) (r : Ranked) (oth : ℕ → List ℕ) (lst : ℕ → Option R
   early_stays : (p : ℕ) → nat_eq p q ≡ false → length (add_once q (oth p)) < r.capacity → goes p ≡ false
   early_stays p t l = rw (flip p q false t, lt-ltb (length (add_once q (oth p))) r.capacity l) (and_false (is_some (cond (nat_lt (length (oth p)) r.capacity) (lst p) None)))
 
-  -- where q is kept, nothing goes
+  -- if q is kept, nothing goes
   none_goes : (w : Result) → result_of q r.kept ≡ Some w → (p : ℕ) → goes p ≡ false
   none_goes w k p = at (tested (nat_eq p q)) (result_of p r.kept) refl (tested (is_ahead q p r.kept))
     where
@@ -265,7 +265,7 @@ module _ (n : ℕ) (r : Ranked) (oth : ℕ → List ℕ) (lst : ℕ → Option R
               let m : place q r.kept < length r.kept = places.place_within q r.kept w k in
               omega arith
 
-  -- where q isn't kept, each result but the one at the last place stays
+  -- if q isn't kept, each result but the one at the last place stays
   other_stays : result_of q r.kept ≡ None → (p : ℕ) → ((v : Result) → result_of p r.kept ≡ Some v → place p r.kept ≡ r.capacity - 1 → ⊥) → goes p ≡ false
   other_stays k p elsewhere = at (tested (nat_eq p q)) (result_of p r.kept) refl
     where

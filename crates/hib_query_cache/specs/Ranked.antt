@@ -20,7 +20,7 @@ result_of q kept = lookup (nat_eq q) kept
 abbrev pub used : ℕ → List Kept → List Kept
 used q kept = option_map_or (λ e. e ∷ remove_entry (nat_eq q) kept) (lookup_entry (nat_eq q) kept) kept
 
--- a result that is kept goes first; where its query is new and there is no room, the last goes
+-- a result that is kept goes first; if its query is new and there is no room, the last goes
 abbrev pub with_result : ℕ → Result → Ranked → List Kept
 with_result q result r =
     option_map_or (λ e. (e.0, result) ∷ remove_entry (nat_eq q) r.kept) (lookup_entry (nat_eq q) r.kept) ((q, result) ∷ take (r.capacity - 1) r.kept)

@@ -21,7 +21,7 @@ abbrev pub AreDistinct : List Kept → Type 0
 AreDistinct [] = Unit {0}
 AreDistinct (e ∷ es) = (result_of e.0 es ≡ None) × AreDistinct es
 
--- results of queries below a number, by which others each query has behind its last use, and what was kept of it last
+-- results of queries below a number, by which others each query has after its last use, and what was kept of it last
 pub record AreRanked (queries : ℕ) (r : Ranked) (others_of : ℕ → List ℕ) (last_of : ℕ → Option Result) : Type 0 where
   pub positive : 0 < r.capacity
   pub bounded : length r.kept ≤ r.capacity

@@ -7,12 +7,12 @@ ghost use Rattle.hib_journal.specs.Results.{result as kept_result, dropped};
 ghost use Rattle.hib_query_cache.specs.Ranked.{Ranked, result_of, dropped_for};
 ghost use Rattle.hib_query_cache.specs.Standing.{IsResults, results_after, IsAnswered};
 
-/// Where nothing is kept, results stand for the empty journal.
+/// If nothing is kept, results stand for the empty journal.
 pub fn no_results_stand_for_no_entry()
     ensures { (queries capacity : ℕ) → 0 < capacity → IsResults queries (record { capacity = capacity; kept = [] }) [] }
 {}
 
-/// Where results stand for a journal, what an act that they answer leaves stands for the journal with the act's entry.
+/// If results stand for a journal, what an act that they answer leaves stands for the journal with the act's entry.
 pub fn results_follow()
     ensures { (queries : ℕ) (r : Ranked) (h : Journal) (e : Entry) → IsResults queries r h → IsAnswered queries r e.act e.reply
         → IsResults queries (results_after e.act e.reply r) (e ∷ h) }
@@ -24,13 +24,13 @@ pub fn other_acts_leave_results()
         → same_part (part_of e.act s) Part.Results ≡ false → is_restart e.act ≡ false → IsResults queries r (e ∷ h) }
 {}
 
-/// Where results stand for a journal, the result of a query is the one that the journal tells.
+/// If results stand for a journal, the result of a query is the one that the journal tells.
 pub fn results_answer()
     ensures { (queries : ℕ) (r : Ranked) (h : Journal) → IsResults queries r h
         → (q : ℕ) → result_of q r.kept ≡ kept_result r.capacity q h }
 {}
 
-/// Where results stand for a journal, the query whose result goes for another is the one that the journal tells.
+/// If results stand for a journal, the query whose result goes for another is the one that the journal tells.
 pub fn results_name_the_dropped()
     ensures { (queries : ℕ) (r : Ranked) (h : Journal) → IsResults queries r h
         → (q : ℕ) → dropped_for q r ≡ dropped r.capacity queries q h }

@@ -27,7 +27,7 @@ impl Model for Results {
 }
 
 impl Results {
-    /// No result is kept. The capacity is at least 1.
+    /// No result is kept. The capacity is at least 1. Fails for want of memory alone.
     pub fn open(alloc: Global, capacity: u32) -> Result<Results, AllocError>
         requires { 0 < capacity }
         ensures { IfOk result (λ r. r ≡ record { capacity = capacity; kept = [] }) }
@@ -38,7 +38,7 @@ impl Results {
         })
     }
 
-    /// The time and the list that are kept of a query, or none. Where one is kept, it is the most recently used now.
+    /// The time and the list that are kept of a query, or none. If one is kept, it is the most recently used now.
     pub fn look(&mut self, query: QueryNo) -> Option<(&Tick, &Listing)>
         ensures* order { sem 𝓛 (EndsAs self.entry (record self.old { kept = used query self.old.kept })) }
         ensures value { option_map (λ p. (p.0.now, p.1.now)) result ≡ result_of query self.old.kept }
@@ -56,7 +56,7 @@ impl Results {
     }
 
     /// Keeps a result, as the most recently used, in the place of an earlier one of the query. Answers the query
-    /// whose result went for it: where the query is new and there was no room, the least recently used. At an error
+    /// whose result went for it: if the query is new and there was no room, the least recently used. At an error
     /// nothing has changed.
     pub fn keep(
         &mut self,

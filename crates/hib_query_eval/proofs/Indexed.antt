@@ -22,7 +22,7 @@ no_rows ps e = record {
 own_id : (k : Key) (e i : ℕ) → same_key k (key e i) ≡ true → k.id ≡ i
 own_id k e i h = eqb-true k.id i ((and_parts (k.entity == e) (k.id == i) h).1)
 
--- a key's cells are added, where it had no row
+-- a key's cells are added, if it had no row
 pub with_cells : (ps qs : List Place) (t u : Tables) (k : Key) (o : Option Row) → IsIndexOf ps t → row_at t k ≡ None → (is_some o ≡ true → k.id < 2 ^ 64)
     → ((e c i : ℕ) (d : Cell) → has_place qs e c i d ≡ ((same_key k (key e i) && has_cell o c d) || has_place ps e c i d))
     → ((q : Key) → row_at u q ≡ cond (same_key k q) o (row_at t q)) → IsIndexOf qs u

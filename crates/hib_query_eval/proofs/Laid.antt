@@ -186,7 +186,7 @@ pub read_gives : (q : Query) (cs : List Change) (m rows v : Tables) → in_order
     → gives q v ≡ gives q (after_changes cs m)
 read_gives q cs m rows v o r e = ap (gives q) (e ∙ ap (λ xs. after_changes cs (with_absent [] xs)) r) ∙ gives_view q cs m o
 
--- and so of a keeper's rows, where it tells its tables
+-- and so of a keeper's rows, if it tells its tables
 pub listed_told : (es : List ℕ) (q : Query) (told : Option Tables) (rows : Tables) → ((n : ℕ) → is_listed n es ≡ reads q n)
     → IfSome told (λ m. rows ≡ rows_of es m) → IfSome told (λ m. rows ≡ read_by q m)
 listed_told es q None rows f h = tt

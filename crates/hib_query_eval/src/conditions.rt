@@ -21,7 +21,7 @@ fn referred<'a>(view: &'a View<'_>, entity: EntityNo, cell: Option<&Cell>) -> Op
     }
 }
 
-/// The cell at a path from a row, or none where the row to which it steps is missing.
+/// The cell at a path from a row, or none if the row to which it steps is missing.
 fn cell_at<'a>(view: &'a View<'_>, row: &'a Row, path: &Path) -> Option<&'a Cell>
     ensures { option_copied result ≡ cell_at view.now row.now path.now }
 {

@@ -35,7 +35,7 @@ impl Model for Index {
 }
 
 impl Index {
-    /// The index of rows in order of keys.
+    /// The index of rows in order of keys. Fails for want of memory alone.
     pub fn build(alloc: Global, rows: Rows) -> Result<Index, AllocError>
         requires { in_order rows ≡ true }
         ensures { IfOk result (λ index. index ≡ rows) }
@@ -64,6 +64,7 @@ impl Index {
     }
 
     /// What a query gives over the rows with a session's own changes laid over them. The rows aren't copied.
+    /// Fails for want of memory alone; an identifier that no cell can hold, 2^63 or more, is answered so too.
     pub fn gives(&self, alloc: Global, query: &Query, own: &[Change]) -> Result<Listing, AllocError>
         ensures ordered { in_order self.now ≡ true }
         ensures given { IfOk result (λ l. l ≡ gives query.now (after_changes own.now self.now)) }

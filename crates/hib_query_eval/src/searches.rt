@@ -130,8 +130,8 @@ fn every_id(
     Ok(ids)
 }
 
-/// Identifiers among which are those of all rows that meet a query's condition after changes. None only without changes,
-/// where all rows are to be gone over.
+/// Identifiers among which are those of all rows that meet a query's condition after changes. None only without changes:
+/// then all rows are to be gone over.
 fn searched(
     alloc: Global,
     query: &Query,

@@ -196,7 +196,7 @@ among_read script h ns fs p xs k rest w t y a b =
     subject_read script h ns fs Test.Among p k (lines.cell_tokens xs ++ Token.Right ∷ rest) w t
     ∙ (cells_read script.mapping h ns fs p k [] xs (Token.Right ∷ rest) y ∙ among_closed script.mapping h ns fs p k xs rest a b)
 
--- ---- a condition behind its opening parenthesis
+-- ---- a condition after its opening parenthesis
 abbrev inner : Script → ℕ → Cond → List Token
 inner script e (Cond.And' p a q b) = Token.Word (codes "and") ∷ lines.condition_tokens script e a ++ lines.condition_tokens script e b ++ Token.Right ∷ []
 inner script e (Cond.Or' p a q b) = Token.Word (codes "or") ∷ lines.condition_tokens script e a ++ lines.condition_tokens script e b ++ Token.Right ∷ []
@@ -246,7 +246,7 @@ left_none : (m : List EntityDef) (h : Head) (ns : List Node) (rest : List Token)
     form_from m (at (form h ns) [] Place.Condition) (Token.Left ∷ rest) ≡ form_from m (at (form h ns) [] Place.Operator) rest
 left_none m h ns rest = refl
 
--- what it is to read a condition behind its opening parenthesis
+-- what it is to read a condition after its opening parenthesis
 abbrev IsRead : Script → Head → Cond → Type 0
 IsRead script h c = (ns : List Node) (fs : List Frame) (rest : List Token) (n : ℕ) → is_nested n c ≡ true → length fs + n ≤ 16 →
     form_from script.mapping (at (form h ns) fs Place.Operator) (inner script h.entity c ++ rest) ≡ form_from script.mapping (at (form h (ns ++ parts_of c)) fs (behind fs)) rest

@@ -137,7 +137,7 @@ column_formed script d = of_kind d.kind d.default
     of_kind ColumnType.Bool (Some c) = cell_formed c
     of_kind (ColumnType.Ref n) (Some c) = cell_formed c
 
--- what stands behind a column's name, taken apart
+-- what stands after a column's name, taken apart
 record TakenApart (script : Script) (k : ColumnType) (o : Option Cell) : Type 0 where
   type : declarations.type_in (type_tokens script k ++ default_tokens o) ≡ type_tokens script k
   default : declarations.default_in (type_tokens script k ++ default_tokens o) ≡ option_map cell_token o
@@ -152,7 +152,7 @@ taken_apart script ColumnType.Text (Some c) = record { type = refl; default = re
 taken_apart script ColumnType.Bool (Some c) = record { type = refl; default = refl }
 taken_apart script (ColumnType.Ref n) (Some c) = record { type = refl; default = refl }
 
--- a column without a default stands behind none that has one
+-- a column without a default stands after none that has one
 none_before : (ds : List ColumnDef) (d : ColumnDef) (es : List ColumnDef) → ends_in_defaults (ds ++ d ∷ es) ≡ true → has_default d ≡ false → list_any has_default ds ≡ false
 none_before [] d es h n = refl
 none_before (x ∷ ds) d es h n =

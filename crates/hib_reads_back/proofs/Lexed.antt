@@ -127,7 +127,7 @@ lines_cut (ts ∷ ls) h =
     ap (λ x. lines_of x) (append_assoc (text_of ts) (codes "\n") (lines_text ls))
     ∙ (line_cut (text_of ts) (lines_text ls) shown ∙ ap (λ x. text_of ts ∷ x) (lines_cut ls parts.1))
 
--- lines with their numbers, behind n others
+-- lines with their numbers, after n others
 abbrev pub numbered : ℕ → List (List Token) → List Line
 numbered n [] = []
 numbered n (ts ∷ ls) = record { line = n + 1; tokens = ts } ∷ numbered (n + 1) ls

@@ -33,7 +33,7 @@ use Rattle.hib_reads_back.proofs.Whole.{script_worded}
 abbrev is_bounded : List Token → Bool
 is_bounded ts = list_all is_wide ts && nat_le (most_of ts) 4096
 
--- such a line is short where it is one
+-- such a line is short if it is one
 short_from : (ts : List Token) → is_worded_line ts ≡ true → is_bounded ts ≡ true → is_short ts ≡ true
 short_from ts h g =
     let parts : (list_all is_wide ts ≡ true) × (nat_le (most_of ts) 4096 ≡ true) = and_parts (list_all is_wide ts) (nat_le (most_of ts) 4096) g in

@@ -27,7 +27,7 @@ use Rattle.hib_reads_back.proofs.Entities.{Among, bare, with_columns, entity_rul
 use Rattle.hib_reads_back.proofs.Parts.{Arrives}
 use Rattle.hib_reads_back.proofs.Steps.{leads, Goes, goes_both, between, Reached, part_read}
 
--- a script with some of its entities, and nothing behind them
+-- a script with some of its entities, and nothing after them
 abbrev pub early : Script → List EntityDef → Outline
 early s m = record { timeout = s.timeout; results = s.results; mapping = m; rows = []; queries = []; sessions = []; schedule = [] }
 
@@ -113,7 +113,7 @@ entity_go s done e rest r b a rules g =
 entities_on : (s : Script) (done : List EntityDef) (e : EntityDef) (ds : List ColumnDef) → Reached (among s done e e.columns) (early s (done ++ e ∷ [])) 0 3
 entities_on s done e ds = record { last = Part.Entities; place = refl; whole = refl; low = omega arith }
 
--- the rules of entities behind others
+-- the rules of entities after others
 pub record AreRuled (s : Script) (done xs : List EntityDef) : Type 0 where
   pub whole : s.mapping ≡ done ++ xs
   pub few : length s.mapping ≤ 64

@@ -30,7 +30,7 @@ use Rattle.hib_reads_back.proofs.Orders.{row_back}
 use Rattle.hib_reads_back.proofs.Queries.{Asked, query_back}
 use Rattle.hib_reads_back.proofs.Steps.{leads, Goes, between, Reached, reached, part_read, rows_follow, queries_follow}
 
--- a script as far as it was read, behind its entities
+-- a script as far as it was read, after its entities
 abbrev pub stage : Script → List (Key × Row) → List Said → List SessionDef → List Order → Outline
 stage s rows queries sessions schedule = record { timeout = s.timeout; results = s.results; mapping = s.mapping; rows = rows; queries = queries; sessions = sessions; schedule = schedule }
 
@@ -48,7 +48,7 @@ arrives_more r m ts ls b o n top e a = record { reader = a.reader; goes = (m, (e
 same_key_turn : (a b : Key) → same_key a b ≡ false → same_key b a ≡ false
 same_key_turn a b h = false_from_ne_true (same_key b a) (λ e. true≢false (sym (subst (λ k. same_key a k ≡ true) (sym (same_key_eq b a e)) (same_key_refl a)) ∙ h))
 
--- what is asked of rows that stand behind others
+-- what is asked of rows that stand after others
 pub record RowRules (s : Script) (done xs : List (Key × Row)) : Type 0 where
   pub below : list_all (λ x. is_row_below (length s.mapping) x) xs ≡ true
   pub fit : fits s.mapping xs ≡ true

@@ -76,7 +76,7 @@ head_read : (script : Script) (name : List ℕ) (cached : Bool) (e : ℕ) (rest 
 head_read script name true e rest w l = ap (λ o. form_from script.mapping (at (chosen (record empty { name = name; cached = true }) o) [] Place.Chosen) rest) (entity_back script e w l)
 head_read script name false e rest w l = ap (λ o. form_from script.mapping (at (chosen (record empty { name = name; cached = false }) o) [] Place.Chosen) rest) (entity_back script e w l)
 
--- ---- what stands behind the condition
+-- ---- what stands after the condition
 abbrev sorting : Head → List Node → List Sort → Form
 sorting h ns os = record (form h ns) { order = os }
 
@@ -148,7 +148,7 @@ order_begins script h ns os s rest r =
     ap (λ b. form_from m (order b) rest) (no_clause name r)
     ∙ sym (ap (λ b. form_from m (cond b (step_clauses f [] (Token.Word name)) (order b)) rest) (no_clause name r))
 
--- what may stand behind a column
+-- what may stand after a column
 abbrev IsBehind : Script → List Token → Type 0
 IsBehind script ts = (f : Form) (c : ℕ) → form_from script.mapping (at f [] (Place.Sorted c)) ts ≡ form_from script.mapping (at (with_sort f c false) [] Place.Sorting) ts
 
@@ -221,7 +221,7 @@ ids_read : (m : List EntityDef) (h : Head) (ns : List Node) (os : List Sort) (of
     (Token.Word (codes "offset") ∷ lines.natural off ∷ Token.Word (codes "limit") ∷ lines.natural lim ∷ Token.Word (codes "select") ∷ Token.Word (codes "ids") ∷ []) ≡ Some (cut_form h ns os off lim Select.Ids)
 ids_read m h ns os off lim a b c = rw (le-leb 0 off (omega arith), a, b, c) refl
 
--- the form behind the offset and the limit
+-- the form after the offset and the limit
 abbrev paged : Head → List Node → List Sort → ℕ → ℕ → Form
 paged h ns os off lim = record (sorting h ns os) { offset = Some off; limit = Some lim }
 

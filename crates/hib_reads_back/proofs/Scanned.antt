@@ -18,11 +18,11 @@ abbrev between : List Token → List ℕ → Option (List Token)
 between done rest = tokens_from (scan_at done start.place) rest
 
 -- ---- bytes that are no ends
--- behind some bytes of a word, a path or a number, and one more
+-- after some bytes of a word, a path or a number, and one more
 abbrev behind_byte : List Token → List ℕ → ℕ → List ℕ → Option (List Token)
 behind_byte done acc b rest = tokens_from (step_bare done acc b) rest
 
--- and behind others
+-- and after others
 abbrev behind_bytes : List Token → List ℕ → ℕ → List ℕ → List ℕ → Option (List Token)
 behind_bytes done acc b [] rest = behind_byte done acc b rest
 behind_bytes done acc b (c ∷ cs) rest = behind_bytes done (acc ++ b ∷ []) c cs rest
@@ -76,7 +76,7 @@ bytes_end done acc b [] t h e = byte_end done acc b t (and_parts (is_bare b) tru
 bytes_end done acc b (c ∷ cs) t h e = bytes_end done (acc ++ b ∷ []) c cs t (and_parts (is_bare b) (list_all is_bare (c ∷ cs)) h).1 (together acc b c cs t e)
 
 -- ---- quoted texts
--- within a text, behind some bytes and one more
+-- within a text, after some bytes and one more
 abbrev within : List Token → List ℕ → ℕ → List ℕ → Option (List Token)
 within done acc b rest = cond ((b == 34) || (b == 92)) (tokens_from (step_escaped done acc b) rest) (tokens_from (step_quoted done acc b) rest)
 
@@ -228,7 +228,7 @@ bare_path v w h =
 bare_number : (z : ℤ) → is_i64 z ≡ true → Bare (Token.Number z)
 bare_number z h = record { bytes = number_bare z h; some = number_some z h; back = rw (number_no_word z h, number_back z h) refl }
 
--- ---- behind a token
+-- ---- after a token
 abbrev behind : List Token → Token → List ℕ → Option (List Token)
 behind done (Token.Quoted t) rest = tokens_from (step_quoted done t 34) rest
 behind done Token.Left rest = between (done ++ Token.Left ∷ []) rest
@@ -284,7 +284,7 @@ starting done (Token.Quoted t) rest h = quoted_read done t rest
 starting done Token.Left rest h = refl
 starting done Token.Right rest h = refl
 
--- ---- one token behind another
+-- ---- one token after another
 next_spaced : (done : List Token) (t u : Token) (rest : List ℕ) → is_spelt t ≡ true → is_spelt u ≡ true → behind done t (32 ∷ (token_text u ++ rest)) ≡ behind (done ++ t ∷ []) u rest
 next_spaced done t u rest h g = spaced done t (token_text u ++ rest) h ∙ starting (done ++ t ∷ []) u rest g
 

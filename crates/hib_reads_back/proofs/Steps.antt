@@ -12,7 +12,7 @@ use Rattle.hib_script.specs.declared.places.Part.{Part}
 use Rattle.hib_script.specs.declared.places.Place.{Place}
 use Rattle.hib_reads_back.proofs.Lexed.{numbered}
 
--- whether the first of some lines is a column's; of none, whether the line behind them is
+-- whether the first of some lines is a column's; of none, whether the line after them is
 abbrev pub leads : Bool → List (List Token) → Bool
 leads b [] = b
 leads b (ts ∷ ls) = begins (codes "column") ts

@@ -291,7 +291,7 @@ all_read s r back =
       there = a5.there;
     }
 
--- the end of the text is reached behind a part
+-- the end of the text is reached after a part
 ended_there : (s : Script) (r : Reader) (n k : ℕ) → Reached r (stage s s.rows (map said s.queries) s.sessions s.schedule) k 7 → ended_at n r r.place ≡ Ok (outline_of s)
 ended_there s r n k g = ap (λ p. ended_at n r p) g.place ∙ ap (λ x. Ok x.outline) g.whole
 

@@ -1,4 +1,4 @@
--- What is known of a session, behind one more entry.
+-- What is known of a session, after one more entry.
 use Rattle.std.proofs.Common.{◌≡◌, ℕ, ◌≤◌, ◌<◌, ◌+◌, inl, inr, Bool, true, false, cond, ◌||◌, ◌==◌, List, ◌∷◌, ◌++◌, codes, append_assoc, length, slice_get, get_or, set, Some, None, Option, refl, sym, ap, subst, ◌∙◌, arith, eq-eqb, length-set, get_or-set_same, get_or-set_other}
 use Rattle.std.specs.Option.{option_map}
 use Rattle.std.proofs.lemmas.Option.{slice_get_past, slice_get-get_or}

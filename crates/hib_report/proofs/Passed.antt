@@ -37,11 +37,11 @@ calm_by true o now s = refl
 calm_by false None now s = refl
 calm_by false (Some t) now s = refl
 
--- a key is calm behind one more entry
+-- a key is calm after one more entry
 pub calm_more : (k : Key) (e : Entry) (h : Journal) → list_all (λ t. is_calm t.0) (history k (e ∷ h)) ≡ cond (is_restart e.act) true (leaves_calm (touch k e) && list_all (λ t. is_calm t.0) (history k h))
 calm_more k e h = calm_by (is_restart e.act) (touch k e) e.tick (history k h)
 
--- what a session wrote, behind one more entry of any session
+-- what a session wrote, after one more entry of any session
 
 abbrev pub wrote_by : (Change → Bool) → Act → Bool → Bool
 wrote_by p Act.Begin b = false

@@ -38,7 +38,7 @@ sent_front old new text rest more s =
 short_front : (xs : List ℕ) (n : ℕ) → (m : ℕ) × (m ≤ length xs) × (take m xs ≡ take n xs)
 short_front xs n = (min n (length xs), omega arith, take_min n xs)
 
--- and so it is where the sink failed on the way
+-- and so it is if the sink failed on the way
 pub sent_part : (old mid new : Option (List ℕ)) (text rest more : List ℕ) → IsSent old mid text rest → TakesFront mid new rest → TakesFront old new (text ++ more)
 sent_part old mid new text rest more s f =
     let m : (m : ℕ) × (m ≤ length rest) × (take m rest ≡ take f.0 rest) = short_front rest f.0 in
@@ -61,7 +61,7 @@ sent_on old mid new text rest last s t = record {
 split_lines : (f : Entry → List ℕ) (es : List Entry) (i : ℕ) (text : List ℕ) → (text ++ flat_map f (take i es)) ++ flat_map f (drop i es) ≡ text ++ flat_map f es
 split_lines f es i text = append_assoc text _ _ ∙ ap (λ w. text ++ w) (sym (flat_map-append f (take i es) (drop i es)) ∙ ap (flat_map f) (take-append-drop i es))
 
--- what was taken behind some entries is a front of the texts of all
+-- what was taken after some entries is a front of the texts of all
 pub lines_front : (f : Entry → List ℕ) (es : List Entry) (i : ℕ) (old new : Option (List ℕ)) (text rest : List ℕ) → IsSent old new (text ++ flat_map f (take i es)) rest → TakesFront old new (text ++ flat_map f es)
 lines_front f es i old new text rest s = subst (TakesFront old new) (split_lines f es i text) (sent_front old new _ rest (flat_map f (drop i es)) s)
 
@@ -98,7 +98,7 @@ begun : (script : Script) (list es fs : List Entry) (none g : List ℕ) → none
 begun script list es fs none g n p q e =
     ap (λ (w : List ℕ). w ++ lines_text script fs) (e ∙ ap (λ (w : List ℕ). w ++ journal_text es) n) ∙ ap (λ (x : List Entry). journal_text x ++ lines_text script fs) p ∙ ap (λ (x : List Entry). journal_text list ++ lines_text script x) q
 
--- what comes behind the lines is gathered, too
+-- what comes after the lines is gathered, too
 with_ends : (script : Script) (list : List Entry) (old new : Option (List ℕ)) (text rest : List ℕ) → text ≡ journal_text list ++ lines_text script list → IsSent old new text rest →
     IsSent old new (report script list) (rest ++ sessions_text script (reverse list) ++ unsound_text script (reverse list) ++ counts_text script (counted script list))
 with_ends script list old new text rest e s =

@@ -1,4 +1,4 @@
--- The pass over a journal: what it knows of keys and of sessions, behind one more key or one more entry.
+-- The pass over a journal: what it knows of keys and of sessions, after one more key or one more entry.
 use Rattle.std.specs.Option.{option_map_or}
 use Rattle.std.proofs.Common.{Result, Ok, Err, OnOk, ◌≡◌, ℕ, ◌+◌, ◌<◌, inl, inr, Bool, true, false, cond, ◌&&◌, ◌||◌, List, [], ◌∷◌, ◌++◌, take, length, get_or, Some, None, Option, refl, sym, ap, ◌∙◌}
 use Rattle.std.specs.List.{list_any}
@@ -117,7 +117,7 @@ deleted_if_mine : (mine : Bool) (k : Key) (a : Act) (x : Written) →
 deleted_if_mine true k a x = deleted_noted k a x
 deleted_if_mine false k a x = refl
 
--- what is known stands for one more entry, where its answer, its commit and its change are noted
+-- what is known stands for one more entry, if its answer, its commit and its change are noted
 pub watches_more : (cs answered committed : Courses) (ws noted : Writers) (e : Entry) (h : Journal) →
     ((k : Key) → course_at answered k ≡ cond (is_restart e.act) fresh (calm_if (leaves_calm (touch k e)) (course_at cs k))) →
     ((k : Key) → course_at committed k ≡ committed_by (committer e.act e.reply e.session) ws k (course_at answered k)) →

@@ -5,8 +5,8 @@ use Rattle.hib_journal.specs.Sessions.{Journal, is_open, was_killed, own}
 use Rattle.hib_journal.specs.Legal.{outcome, outcome_after}
 use Rattle.hib_report.specs.declared.fates.Fate.{Fate}
 
--- whether a session that began at a place, and has not ended, is open behind the last restart, or was lost by it; restart is the place
--- behind that restart
+-- whether a session that began at a place, and has not ended, is open after the last restart, or was lost by it; restart is the place
+-- after that restart
 abbrev pub is_open_at : ℕ → Option ℕ → Bool
 is_open_at restart None = false
 is_open_at restart (Some b) = nat_le restart b
@@ -29,12 +29,12 @@ abbrev pub kills : ℕ → Act → Bool
 kills s (Act.Kill n) = n == s
 kills s _ = false
 
--- the place behind the last restart, where next is the place behind an act
+-- the place after the last restart, if next is the place after an act
 abbrev pub restart_after : ℕ → Act → ℕ → ℕ
 restart_after next Act.Restart restart = next
 restart_after next _ restart = restart
 
--- it stands for a session of which this is known behind n entries
+-- it stands for a session of which this is known after n entries
 pub record IsFated (restart n : ℕ) (f : Fate) (opened killed : Bool) (last : Outcome) : Type 0 where
   pub since : restart ≤ n
   pub early : (b : ℕ) → f.opened ≡ Some b → b < n

@@ -72,7 +72,7 @@ outcome_text Outcome.Stale = codes "stale"
 outcome_text Outcome.Duplicate = codes "duplicate"
 outcome_text Outcome.Fault = codes "fault"
 
--- the version of the row that a commit found, or none where there is no row
+-- the version of the row that a commit found, or none if there is no row
 abbrev pub found_text : Option ℕ → List ℕ
 found_text None = codes "none"
 found_text (Some v) = codes "v" ++ decimal v

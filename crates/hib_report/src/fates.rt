@@ -38,7 +38,7 @@ fn outcome_after(act: &Act, reply: &Reply, outcome: Outcome) -> Outcome
 }
 
 impl Fate {
-    /// Whether it was killed, where the last restart is before this place.
+    /// Whether it was killed, if the last restart is before this place.
     pub fn is_killed(self, restart: usize) -> bool
         ensures { result ≡ (self.killed || is_lost_at restart self.opened) }
     {
@@ -111,7 +111,7 @@ fn note_kill(fates: &mut Vec<Fate>, act: &Act)
     }
 }
 
-/// The place behind the last restart, where `next` is the place behind an act.
+/// The place after the last restart, if `next` is the place after an act.
 fn restart_after(next: usize, act: &Act, restart: usize) -> usize
     ensures { result ≡ restart_after next act.now restart }
 {
@@ -126,12 +126,12 @@ fn restart_after(next: usize, act: &Act, restart: usize) -> usize
 pub struct Fates {
     /// What is known of each session, by number.
     pub fates: Vec<Fate>,
-    /// The place behind the last restart.
+    /// The place after the last restart.
     pub restart: usize,
 }
 
 impl Fates {
-    /// Of the first sessions, that many, behind these entries.
+    /// Of the first sessions, that many, after these entries.
     pub fn of(alloc: Global, sessions: usize, entries: &[Entry]) -> Result<Fates, AllocError>
         ensures all { IfOk result (λ x. length x.fates.items ≡ sessions) }
         ensures each { IfOk result (λ x. (s : ℕ) (f : Fate) → slice_get x.fates.items s ≡ Some f → IsFateOf x.restart (length entries.now) s f (reverse entries.now)) }

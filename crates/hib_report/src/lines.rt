@@ -41,7 +41,7 @@ fn put_line(
     put_reply(alloc, out, script, &entry.reply)
 }
 
-// The line of an entry, and its end.
+/// The line of an entry, and its end.
 pub fn put_entry(
     alloc: Global,
     out: &mut Vec<u8>,
@@ -54,6 +54,7 @@ pub fn put_entry(
     out.extend_from_slice(b"\n")
 }
 
+/// The lines of entries, each with its end.
 pub fn put_lines(
     alloc: Global,
     out: &mut Vec<u8>,

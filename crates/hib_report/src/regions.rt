@@ -123,7 +123,7 @@ fn put_statistics(
     out.extend_from_slice(b"end\n")
 }
 
-// What the entries of a journal come to, which is counted in one pass.
+/// What the entries of a journal come to, which is counted in one pass.
 pub fn put_counts(
     alloc: Global,
     out: &mut Vec<u8>,

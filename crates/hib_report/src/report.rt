@@ -21,7 +21,7 @@ pub fn put_journal(alloc: Global, out: &mut Vec<u8>, entries: &[Entry]) -> Resul
     out.extend_from_slice(b"\n")
 }
 
-/// What comes behind the entries: the sessions, the unsound keys and the counts.
+/// What comes after the entries: the sessions, the unsound keys and the counts.
 pub fn put_ends(
     alloc: Global,
     out: &mut Vec<u8>,
@@ -42,7 +42,7 @@ pub fn put_ends(
 ///
 /// A session that was killed prints as `killed`, and another with the outcome of its last commit or
 /// rollback. So a session that is still open prints as its last transaction ended, or as
-/// `rolled-back` where it has ended none. The counts are noted in one pass. Fails for want of memory
+/// `rolled-back` if it has ended none. The counts are noted in one pass. Fails for want of memory
 /// alone.
 pub fn text(alloc: Global, script: &Script, journal: &Journal) -> Result<Bytes, AllocError>
     ensures { IfOk result (λ b. b ≡ report script.now journal.now.list) }

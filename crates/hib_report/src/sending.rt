@@ -49,7 +49,7 @@ impl From<Failed> for WriteStop {
 /// How many bytes are gathered before they go to the sink.
 const PIECE: usize = 65_536;
 
-/// Sends all that is gathered. Where the sink fails a front of it was taken.
+/// Sends all that is gathered. If the sink fails a front of it was taken.
 pub fn send<W: Sink>(out: &mut W, gathered: &mut Vec<u8>) -> Result<(), Failed>
     ensures whole { OnOk result (Appends (W.taken out.old) (W.taken out.new) gathered.old.items) }
     ensures empty { OnOk result (gathered.new.items ≡ []) }
@@ -61,7 +61,7 @@ pub fn send<W: Sink>(out: &mut W, gathered: &mut Vec<u8>) -> Result<(), Failed>
     Ok(())
 }
 
-/// Sends what is gathered if it is a piece of 65,536 bytes or more. Where the sink fails a front of it was taken.
+/// Sends what is gathered if it is a piece of 65,536 bytes or more. If the sink fails a front of it was taken.
 pub fn send_piece<W: Sink>(out: &mut W, gathered: &mut Vec<u8>) -> Result<(), Failed>
     ensures sent { OnOk result (IsSent (W.taken out.old) (W.taken out.new) gathered.old.items gathered.new.items) }
     ensures front { OnErr result (TakesFront (W.taken out.old) (W.taken out.new) gathered.old.items) }
@@ -94,7 +94,7 @@ fn send_lines<W: Sink>(
 }
 
 /// Writes the report of a journal, as `text` gives it, piece by piece: no more of it is in memory at a time than a piece and
-/// what comes behind the entries. Where the sink fails or memory runs out a front of it was taken.
+/// what comes after the entries. If the sink fails or memory runs out a front of it was taken.
 pub fn write<W: Sink>(
     alloc: Global,
     script: &Script,

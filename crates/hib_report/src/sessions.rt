@@ -50,7 +50,7 @@ fn put_fates(
     Ok(())
 }
 
-// The number of sessions, and how each ended.
+/// The number of sessions, and how each ended.
 pub fn put_sessions(
     alloc: Global,
     out: &mut Vec<u8>,

@@ -107,7 +107,7 @@ fn put_keys(
     Ok(())
 }
 
-// The number of unsound keys, and a line for each.
+/// The number of unsound keys, and a line for each.
 pub fn put_unsound(
     alloc: Global,
     out: &mut Vec<u8>,

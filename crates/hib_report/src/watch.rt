@@ -1,4 +1,4 @@
-// What is known of keys behind the entries that were noted, since the last restart. Each entry is noted once.
+// What is known of keys after the entries that were noted, since the last restart. Each entry is noted once.
 
 ghost use Rattle.std.specs.Prelude.{◌≡◌, ◌∷◌, [], ℕ, cond, ◌&&◌, ◌==◌, OnOk, Some, true, false};
 ghost use Rattle.std.specs.List.{list_any};
@@ -275,7 +275,7 @@ fn note_written(alloc: Global, written: &mut Writers, entry: &Entry) -> Result<(
     }
 }
 
-/// What is known of keys behind the entries that were noted.
+/// What is known of keys after the entries that were noted.
 #[derive(Drop)]
 pub struct Watch {
     courses: Courses,
@@ -303,7 +303,7 @@ impl Watch {
         note_written(alloc, &mut self.written, entry)
     }
 
-    /// Whether a key is sound behind the entries that were noted.
+    /// Whether a key is sound after the entries that were noted.
     #[tactic(auto, unfolding(hib_journal::specs::Sound::is_sound))]
     pub fn is_sound(&self, key: &Key) -> bool
         ensures { (past : Journal) → Watches self.now.courses.entries self.now.written.entries past → result ≡ is_sound key.now past }

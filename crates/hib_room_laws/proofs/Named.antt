@@ -150,7 +150,7 @@ left_slot timeout ((Touch.Releases m, now) ∷ s) h = absurd h
 left_slot timeout ((Touch.Evicts, now) ∷ s) h = absurd h
 left_slot timeout ((Touch.Expires, now) ∷ s) h = absurd h
 
--- an identifier is among those named that pass a test exactly where it passes, if no other passes
+-- an identifier is among those named that pass a test exactly if it passes, if no other passes
 pub among_filter : (n i : ℕ) (test : ℕ → Bool) (h : Journal) → (HasOnlyLeft (history (key n i) h) → test i ≡ false) → is_among i (filter test (named n h)) ≡ test i
 among_filter n i test h u = any-filter_same (λ j. j == i) test (test i) (λ k t. ap test (eqb-true k i t)) (named n h) ∙ by (tested (is_among i (named n h)))
   where

@@ -1,4 +1,4 @@
--- How the order of keys goes on where a key comes, goes, or gets another place.
+-- How the order of keys goes on if a key comes, goes, or gets another place.
 use Rattle.std.proofs.Common.{◌≡◌, ◌<◌, ℕ, inl, inr, Bool, true, false, cond, nat_eq, List, [], ◌∷◌, ◌++◌, Option, Some, None, refl, sym, ap, ◌∙◌, subst, arith, true≢false, le-ltb, lt-ltb}
 use Rattle.std.specs.Map.{lookup, remove_entry, keys_of}
 use Rattle.std.specs.List.{IsDistinct, AllByRecursion, filter}
@@ -23,7 +23,7 @@ pub earlier_now : (p : Option ℕ) (last now : ℕ) → is_earlier p None ≡ tr
 earlier_now None last now h b l = absurd (true≢false (sym h))
 earlier_now (Some t) last now h b l = lt-ltb t now (omega arith)
 
--- where the head is another key, the rest does not have it either
+-- if the head is another key, the rest does not have it either
 pub absent_head : {X : Type 0} (x : ℕ) (e : ℕ × X) (es : List (ℕ × X)) → lookup (nat_eq x) (e ∷ es) ≡ None → (nat_eq x e.0 ≡ false) × (lookup (nat_eq x) es ≡ None)
 absent_head x e es h = by (tested (nat_eq x e.0))
   where

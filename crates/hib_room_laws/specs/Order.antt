@@ -12,7 +12,7 @@ abbrev pub IsInOrder : {X : Type 0} → (ℕ → Option ℕ) → List (ℕ × X)
 IsInOrder place [] = Unit {0}
 IsInOrder place (e ∷ es) = (is_earlier (place e.0) None ≡ true) × AreLater place (place e.0) es × IsInOrder place es
 
--- a place, where there is one, is at most this tick
+-- a place, if there is one, is at most this tick
 abbrev pub IsUpTo : ℕ → Option ℕ → Type 0
 IsUpTo last None = Unit {0}
 IsUpTo last (Some t) = t ≤ last

@@ -1,5 +1,5 @@
 -- A session persists a row of an entity without a cache, finds it again, and commits.
--- Its journal of eight entries is legal. It is not where one entry is turned: in its tick, its session, its part, its act or its reply.
+-- Its journal of eight entries is legal. It is not if one entry is turned: in its tick, its session, its part, its act or its reply.
 use Rattle.std.proofs.Common.{◌≡◌, ◌<◌, drop, true, [], ◌∷◌, reverse, Some, None, Option, refl, inl, inr, lit≤, lit<}
 use Rattle.std.specs.Prelude.{IsSome}
 use Rattle.std.proofs.Math.Nat.{lt_irrefl}

@@ -1,5 +1,5 @@
 -- How a worked journal is computed from its script: the next act of each session in turn, by the orders, with its reply.
--- In a worked script names are empty and columns are left out where no definition asks for them, and the schedule stands in the orders.
+-- In a worked script names are empty and columns are left out if no definition asks for them, and the schedule stands in the orders.
 use Rattle.std.specs.Prelude.{unwrap_or}
 use Rattle.std.proofs.Common.{ℕ, zero, suc, length, List, [], ◌∷◌, Some, None, Option, cond, pos}
 use Rattle.hib_base.specs.Tables.{Tables}
@@ -30,7 +30,7 @@ ulysses version stock = row (Some version) (Cell.Text (85 ∷ []) ∷ Cell.Int (
 abbrev pub entry : ℕ → Option ℕ → Part → Act → Reply → Entry
 entry t s p a r = record { tick = t; session = s; part = p; act = a; reply = r }
 
--- one entry more, where an act is due: in its part, with the reply that is due, at the next tick
+-- one entry more, if an act is due: in its part, with the reply that is due, at the next tick
 abbrev pub step_of : Script → Tables → Journal → Option ℕ → Option Act → Journal
 step_of script start h by None = h
 step_of script start h by (Some a) =

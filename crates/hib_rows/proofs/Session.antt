@@ -1,4 +1,4 @@
--- How a row of one session is computed: the acts that are due one after the other, where these are the entries, and what is
+-- How a row of one session is computed: the acts that are due one after the other, if these are the entries, and what is
 -- answered to the session's own acts. Others give the replies to the acts of the parts, so they are taken from the entries.
 use Rattle.std.proofs.Common.{ℕ, Bool, true, List, [], ◌∷◌, ◌++◌, map, Some, None, Option, pos}
 use Rattle.hib_journal.specs.Types.{Cell, Strategy, Select, Query, Statement, Script, Act, Reply, Entry}
@@ -49,7 +49,7 @@ of_one strategy versioned capacity queries results statements = record {
   sessions = record { name = []; statements = statements } ∷ [];
 }
 
--- the act that is due before each of these entries, and behind the last one
+-- the act that is due before each of these entries, and after the last one
 abbrev pub due : Script → Journal → List Entry → List (Option Act)
 due script past [] = next script 0 past ∷ []
 due script past (e ∷ es) = next script 0 past ∷ due script (e ∷ past) es
@@ -57,7 +57,7 @@ due script past (e ∷ es) = next script 0 past ∷ due script (e ∷ past) es
 abbrev pub acts_of : List Entry → List (Option Act)
 acts_of es = map (λ e. Some e.act) es ++ None ∷ []
 
--- the answer of the session itself, where it has one
+-- the answer of the session itself, if it has one
 abbrev pub answer : Act → Reply → Reply → Reply
 answer Act.End own given = own
 answer (Act.Find k) own given = own

@@ -57,7 +57,7 @@ miss_and_put_replies : answered miss_and_put_script [] miss_and_put ≡ replies_
 unfolding next held pending
 miss_and_put_replies = refl
 
--- Where there is no row nothing is offered, and nothing is held.
+-- If there is no row nothing is offered, and nothing is held.
 abbrev pub none_script : Script
 none_script = of_one Strategy.ReadWrite true 100 [] 100 (
     Statement.Find (key 0 1) ∷

@@ -23,7 +23,7 @@ left (Some id) slots = remove_entry (nat_eq id) slots
 abbrev pub without : Option ℕ → RegionState → RegionState
 without evicted state = record state { slots = left evicted state.slots }
 
--- the slots with another at a key, where there is one
+-- the slots with another at a key, if there is one
 abbrev pub changed_by : ℕ → (Kept → Kept) → Slots → Option Kept → Slots
 changed_by id change slots None = slots
 changed_by id change slots (Some slot) = insert_entry nat_eq slots id (change slot)
@@ -38,7 +38,7 @@ with_release id now state = record state { slots = changed id (released now) sta
 abbrev pub barred : ℕ → ℕ → Kept
 barred now until = Kept.Lock now None until 0 false until
 
--- a new item, where there is room
+-- a new item, if there is room
 abbrev pub new_item : ℕ → Row → ℕ → Option (Option ℕ) → RegionState → RegionState
 new_item id row now None state = state
 new_item id row now (Some evicted) state = with_slot id (Kept.Item row now) (without evicted state)

@@ -17,7 +17,7 @@ use std::alloc::{AllocError, Global};
 use std::marker::Model;
 
 /// The region of a read-write entity. Contracts see the capacity, the timeout, and the slots in order of insertion.
-/// Each `now` is greater than every tick that the region was given before. No call asks this: where it doesn't hold, a lock
+/// Each `now` is greater than every tick that the region was given before. No call asks this: if it doesn't hold, a lock
 /// that has as many holders as `now` has ticks takes no more.
 #[derive(Drop)]
 pub struct RwRegion {
@@ -59,7 +59,7 @@ impl RwRegion {
         }
     }
 
-    /// How many hold the lock of an identifier; 0 where it has none.
+    /// How many hold the lock of an identifier; 0 if it has none.
     pub fn holders(&self, id: u64) -> u64
         ensures { result ≡ holders_in (slot_in self.now id) }
     {
@@ -154,7 +154,7 @@ impl RwRegion {
 
     /// Takes the lock of a key, for a session whose base has this version. A new key gets a lock whether or not
     /// another may leave for it. At an error nothing has changed. A lock that has as many holders as `now` has ticks is
-    /// answered as if memory ran out; where ticks rise there is none.
+    /// answered as if memory ran out; if ticks rise there is none.
     pub fn lock(
         &mut self,
         id: u64,
@@ -198,8 +198,8 @@ impl RwRegion {
         slots::set(&mut self.slots, id, slots::bar(now, until))
     }
 
-    /// Gives a lock back. Where the key has no lock of this number that is held, it gets one without holder that is
-    /// good for the timeout. At an error nothing has changed; there is none where the key has a slot.
+    /// Gives a lock back. If the key has no lock of this number that is held, it gets one without holder that is
+    /// good for the timeout. At an error nothing has changed; there is none if the key has a slot.
     pub fn unlock(&mut self, id: u64, lock: Tick, now: Tick) -> Result<Unlocked, AllocError>
         requires { now ≤ 2 ^ 62 }
         ensures answer { IfOk result (λ unlocked. unlocked ≡ Regions.unlock (slot_in self.old id) lock) }
@@ -216,7 +216,7 @@ impl RwRegion {
     }
 
     /// Stores a row whose update was committed under a lock, unless others have locked the key too, and gives the
-    /// lock back. Where the key has no lock of this number that is held, as `unlock`.
+    /// lock back. If the key has no lock of this number that is held, as `unlock`. At an error nothing has changed.
     pub fn after_update(
         &mut self,
         id: u64,

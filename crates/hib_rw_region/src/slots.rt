@@ -41,7 +41,7 @@ fn may_leave(slot: &Slot, floor: Tick) -> bool
     }
 }
 
-/// The first key in order that may leave, where the oldest open session began at `floor`.
+/// The first key in order that may leave, if the oldest open session began at `floor`.
 pub fn victim(slots: &IndexMap<u64, Slot>, floor: Tick) -> Option<u64>
     ensures { result ≡ victim_in floor slots.now.entries }
 {
@@ -81,13 +81,14 @@ pub fn remove(slots: &mut IndexMap<u64, Slot>, id: u64)
     slots.shift_remove(&id);
 }
 
+/// Removes all keys. It takes no memory.
 pub fn clear(slots: &mut IndexMap<u64, Slot>)
     ensures { slots.new.entries ≡ [] }
 {
     slots.clear();
 }
 
-/// Takes the lock of a key that has a slot, and answers its number; or none, where the key has no slot.
+/// Takes the lock of a key that has a slot, and answers its number; or none, if the key has no slot.
 pub fn lock(slots: &mut IndexMap<u64, Slot>, id: u64, now: Tick, timeout: u32) -> Option<Tick>
     requires late { now ≤ 2 ^ 62 }
     requires few { holders_in (shown_in (lookup (nat_eq id) slots.old.entries)) < now }

@@ -29,7 +29,7 @@ use Rattle.hib_script.specs.declared.places.Part.{Part}
 use Rattle.hib_script.specs.declared.places.Place.{Place}
 use Rattle.hib_script.proofs.Keeps.{IsFilled}
 
--- columns are read behind the line of a part alone
+-- columns are read after the line of a part alone
 abbrev IsIdle : Place → Option EntityDef → Type 0
 IsIdle (Place.Behind p) e = Unit {0}
 IsIdle _ e = e ≡ None

@@ -61,7 +61,7 @@ start_keeps = record {
   fitting = record { rows_so = (refl, refl); queries = record { shallow = refl; short = refl; cut = refl; fit = refl }; statements = refl; opened = refl; orders = refl };
 }
 
--- behind a line of a part, or within the schedule, no session is open
+-- after a line of a part, or within the schedule, no session is open
 none_open : (n : ℕ) (ss : List SessionDef) (p : Place) (count : ℕ) → HasSessions n ss p count → HasSessions n ss Place.Schedule count
 none_open n ss p count k = record { few = omega (arith, k.few); counted = omega (arith, k.counted); statements = k.statements; over = k.over; known = k.known; opened = refl; names = k.names; named = tt }
 

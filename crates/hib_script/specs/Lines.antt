@@ -141,7 +141,7 @@ is_of_form Kind.Words = true
 is_of_form Kind.Reserved = true
 is_of_form _ = false
 
--- a name that is there already is found behind the form and before all else
+-- a name that is there already is found after the form and before all else
 abbrev pub or_taken : Bool → Kind → Kind
 or_taken taken k = cond (taken && not (is_of_form k)) Kind.Taken k
 
@@ -188,7 +188,7 @@ with_statement r s (Ok t) =
 abbrev pub with_session : Reader → SessionDef → Reader
 with_session r s = behind Part.Sessions (record r { outline = record r.outline { sessions = r.outline.sessions ++ s ∷ [] } })
 
--- a session ends behind a commit or a rollback alone
+-- a session ends after a commit or a rollback alone
 abbrev pub end_line : Reader → SessionDef → List Token → After
 end_line r s ts =
     cond (is_alone ts) (cond (are_over s.statements) (Ok (with_session r s)) (Err Kind.Last)) (Err Kind.Words)
@@ -216,7 +216,7 @@ abbrev pub in_schedule : Reader → List Token → After
 in_schedule r ts =
     cond (begins (codes "end") ts) (schedule_end r ts) (with_order r (order_of r.outline.mapping r.outline.sessions ts))
 
--- ---- a line behind the line of a part
+-- ---- a line after the line of a part
 abbrev pub part_line : Reader → Part → Bool → List Token → After
 part_line r Part.Timeout followed ts = timeout_line r ts
 part_line r Part.Results followed ts = results_line r ts

@@ -48,7 +48,7 @@ pub fn start(alloc: Global) -> Draft
     }
 }
 
-/// Puts a draft behind a line of a part.
+/// Puts a draft after a line of a part.
 pub fn behind(part: Part, draft: &mut Draft)
     ensures { reader_of draft.new ≡ lines.behind part (reader_of draft.old) }
 {

@@ -7,7 +7,7 @@ use hib_base::Kind;
 use hib_lex::{Token, is_the_word};
 use hib_mapping::{is_number, is_within, number_up_to, word_bytes};
 
-/// The name that a line declares; no bytes where it declares none.
+/// The name that a line declares; no bytes if it declares none.
 pub fn name_in(tokens: &[Token]) -> &[u8]
     ensures { result.now ≡ lines.name_in tokens.now }
 {

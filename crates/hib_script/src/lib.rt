@@ -1,4 +1,4 @@
-//! The reader of scripts: a script where a text is one, else the first bad line.
+//! The reader of scripts: a script if a text is one, else the first bad line.
 #![tactic(auto)]
 
 mod declarations;

@@ -15,7 +15,7 @@ use hib_lex::{Token, begins};
 use std::alloc::Global;
 use std::mem;
 
-/// The draft behind one more line, or what is wrong with that; `followed` says whether the line behind it is a column's.
+/// The draft after one more line, or what is wrong with that; `followed` says whether the line after it is a column's.
 pub fn after_line(
     alloc: Global,
     draft: &mut Draft,
@@ -40,7 +40,7 @@ pub fn after_line(
     }
 }
 
-/// A line behind the line of a part.
+/// A line after the line of a part.
 fn behind_part(
     alloc: Global,
     draft: &mut Draft,

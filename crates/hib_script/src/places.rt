@@ -31,7 +31,7 @@ pub enum Part {
 pub enum Place {
     /// Before the first line.
     Start,
-    /// Behind a line of this part, or behind the `end` of one.
+    /// After a line of this part, or after the `end` of one.
     Behind(Part),
     /// Within a session, of which this was read.
     Session(SessionDef),
@@ -65,7 +65,7 @@ fn repeats(part: Part) -> bool
     )
 }
 
-/// Whether a part may stand behind another.
+/// Whether a part may stand after another.
 pub fn may_follow(last: Part, next: Part) -> bool
     ensures { result ≡ places.may_follow last next }
 {

@@ -18,9 +18,9 @@ use std::alloc::{AllocError, Global};
 /// The script that a text is. It keeps the rules of scripts: its limits at both ends, each session ends its last transaction, what
 /// it names is there, and more.
 ///
-/// Errors: `Refused` exactly where the text is no script, with its first bad line and the first kind that this has, those
-/// of bytes, length and tokens over the whole text before all others; where the text ends too early, the line is the
-/// number of lines, and without a line that says something it is 1. `NoMemory` where there is none left. Nothing is
+/// Errors: `Refused` exactly if the text is no script, with its first bad line and the first kind that this has, those
+/// of bytes, length and tokens over the whole text before all others; if the text ends too early, the line is the
+/// number of lines, and without a line that says something it is 1. `NoMemory` if there is none left. Nothing is
 /// changed.
 pub fn read(alloc: Global, text: &[u8]) -> Result<Script, ScriptError>
     requires { length text.now < 2 ^ 31 }
@@ -47,7 +47,7 @@ fn read_lines(alloc: Global, lines: &Lines) -> Result<Script, ScriptError>
     }
 }
 
-/// The draft behind all lines.
+/// The draft after all lines.
 #[tactic(auto, using(crate::proofs::Scan::reading_done, crate::proofs::Scan::reading_next, crate::proofs::Scan::where_on))]
 fn read_draft(alloc: Global, lines: &[Line]) -> Result<Draft, ScriptError>
     ensures draft { IfOk result (λ d. order.reading (Ok order.start) lines.now ≡ Ok (reader_of d)) }
@@ -60,7 +60,7 @@ fn read_draft(alloc: Global, lines: &[Line]) -> Result<Draft, ScriptError>
     Ok(draft)
 }
 
-/// Whether the line behind this one is a column's.
+/// Whether the line after this one is a column's.
 #[tactic(auto, using(crate::proofs::Scan::next_column, crate::proofs::Scan::no_column))]
 fn is_column_next(lines: &[Line], i: usize) -> bool
     requires { i < length lines.now }
@@ -109,7 +109,7 @@ fn finished(mut draft: Draft) -> Result<Script, AllocError>
     Ok(script)
 }
 
-/// What is said where a text of so many lines ends within a session or a schedule.
+/// What is said if a text of so many lines ends within a session or a schedule.
 fn unfinished(count: u32) -> ScriptError
     ensures { result ≡ ScriptError.Refused (order.refused_at count Kind.NoEnd) }
 {

@@ -58,7 +58,7 @@ pub same_map : (f g : Key → Option Instance) (ks : List Key) → ((k : Key) �
 same_map f g [] h = refl
 same_map f g (k ∷ ks) h = rw (h k, same_map f g ks h) refl
 
--- where nothing is held of a key, it does not matter that the key is taken out
+-- if nothing is held of a key, it does not matter that the key is taken out
 pub without_none : (f : Key → Option Instance) (j : Key) (ks : List Key) → f j ≡ None → filter_map f (without_key j ks) ≡ filter_map f ks
 without_none f j [] n = refl
 without_none f j (k ∷ ks) n = at_key (tested (same_key k j)) (without_none f j ks n)
@@ -80,7 +80,7 @@ without_same f g j (k ∷ ks) h = at_key (tested (same_key k j)) (without_same f
 abbrev pub others : Key → List Instance → List Instance
 others k is = filter (λ i. not (same_key k i.key)) is
 
--- and where the instance of a key is gone, those of the others stay
+-- and if the instance of a key is gone, those of the others stay
 pub dropped_map : (f g : Key → Option Instance) (j : Key) (ks : List Key) → ((k : Key) (i : Instance) → g k ≡ Some i → i.key ≡ k) →
     ((k : Key) → f k ≡ cond (same_key j k) None (g k)) → filter_map f ks ≡ others j (filter_map g ks)
 dropped_map f g j [] h e = refl

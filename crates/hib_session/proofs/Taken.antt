@@ -67,7 +67,7 @@ pub open_queue : (acts : List Act) (stage : Stage) (due : Bool) (sts : List Stat
 open_queue (a ∷ acts) stage due sts p = absurd (true≢false p)
 open_queue [] stage due sts p = refl
 
--- the act that is due, where it is settled
+-- the act that is due, if it is settled
 pub act_due : (script : Script) (c : Control) (done : Journal) → Stands script c done → is_settled script c ≡ true →
     act_at c.queue c.stage c.begins (untaken script c) done ≡ next script c.number done
 unfolding next
@@ -94,7 +94,7 @@ pub queue_steps : (script : Script) (c : Control) (done : Journal) (e : Entry) (
     Stands script (record { number = c.number; place = c.place; mode = c.mode; begins = c.begins; queue = acts; stage = c.stage }) (e ∷ done)
 queue_steps script c done e a acts q h = ap (λ p. after p e) h ∙ rw q refl
 
--- an entry where nothing is queued and no block is open: a transaction begins, or nothing is left
+-- an entry, if nothing is queued and no block is open: a transaction begins, or nothing is left
 pub begin_steps : (script : Script) (c : Control) (done : Journal) (e : Entry) → c.queue ≡ [] → c.stage ≡ Stage.Idle → is_settled script c ≡ true → Stands script c done →
     Stands script (record { number = c.number; place = c.place; mode = c.mode; begins = false; queue = c.queue; stage = c.stage }) (e ∷ done)
 begin_steps script c done e q i s h = by_rest (untaken script c) refl (rw (q, i) at s)
@@ -141,7 +141,7 @@ staged_due acts stage due sts done r q i e = e ∙ rw q (by_stage stage i)
     by_stage Stage.Idle i = absurd (true≢false i)
     by_stage _ i = refl
 
--- where something is left at an idle stage, a transaction is to begin
+-- if something is left at an idle stage, a transaction is to begin
 pub begin_left : (due : Bool) (sts : List Statement) → is_over_at [] Stage.Idle due sts ≡ false → due ≡ true
 begin_left true sts p = refl
 begin_left false [] p = absurd (true≢false p)

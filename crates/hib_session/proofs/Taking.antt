@@ -79,7 +79,7 @@ pub recalls_next : (script : Script) (c : Control) (x : Remembered) (mine : Jour
 recalls_next script c x mine e k h s n q d =
     recalls_more x mine e k (due_staged c.queue c.stage c.begins (untaken script c) mine e.act q d (act_due script c mine h s ∙ n))
 
--- something is left where an act is due
+-- something is left if an act is due
 pub left_over : (script : Script) (c : Control) (mine : Journal) (a : Act) → Stands script c mine → is_settled script c ≡ true → next script c.number mine ≡ Some a → is_over script c ≡ false
 left_over script c mine a h s p = by_state c.queue c.stage c.begins (untaken script c) (act_due script c mine h s ∙ p)
   where
@@ -181,6 +181,6 @@ if_allowed script s mine (Some a) f e = allowed_due script (number_of s) mine a 
 pub if_ended : (script : Script) (s : Session) (mine : Journal) (o : Option Act) → Follows script s mine → o ≡ next script (number_of s) mine → o ≡ None → is_closed script (number_of s) ≡ true → is_begun mine ≡ false
 if_ended script s mine o f e n c = closed_end script (number_of s) mine f.order (sym e ∙ n) c
 
--- a number that falls where the session was not killed
+-- a number that falls if the session was not killed
 pub left_falls : (script : Script) (s z : Session) → s.killed ≡ false → z.killed ≡ false → weight script z.control < weight script s.control → left_in script z < left_in script s
 left_falls script s z a b h = rw (a, b) h

@@ -26,7 +26,7 @@ asks_rows (Stage.Loading k) = true
 asks_rows (Stage.Listing q) = true
 asks_rows _ = false
 
--- the acts that complete the transaction are there, where the stage ends it
+-- the acts that complete the transaction are there, if the stage ends it
 abbrev pub has_ending : Stage → Option Ending → Bool
 has_ending Stage.Committing e = is_some e
 has_ending Stage.RollingBack e = is_some e

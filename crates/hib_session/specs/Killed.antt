@@ -3,7 +3,7 @@ use Rattle.std.specs.Prelude.{◌≡◌, ℕ, Bool, false, ◌||◌, List, lengt
 use Rattle.hib_session.specs.declared.session.Session.{Session}
 use Rattle.hib_session.specs.Session.{number_of, is_killed}
 
--- a session that was at this place, and is killed where this says so
+-- a session that was at this place, and is killed if this says so
 pub record IsAsBefore (kills : Bool) (xs : List Session) (s : ℕ) (y : Session) : Type 0 where
   pub before : Session
   pub there : slice_get xs s ≡ Some before

@@ -88,7 +88,7 @@ managed r = record { state = State.Managed; base = Some r; row = r; removed = 0 
 abbrev pub arrive_in : Key → Held → Pairs → Pairs
 arrive_in k h ps = add_in k h (drop_in k ps)
 
--- a removed one leaves where it was never written, and is marked where it was
+-- a removed one leaves if it was never written, and is marked if it was
 abbrev pub remove_in : Bool → Key → Pairs → Pairs
 remove_in true k ps = drop_in k ps
 remove_in false k ps = change_in k as_removed ps
@@ -204,7 +204,7 @@ brings (Act.Set k cells) = true
 brings (Act.Remove k) = true
 brings _ = false
 
--- the copies of a write are there, where the act is one
+-- the copies of a write are there, if the act is one
 abbrev pub has_copies : Option Written → Act → Bool
 has_copies w (Act.Write c) = is_some w
 has_copies w _ = true

@@ -46,12 +46,12 @@ own_reply script mine (Act.Remove k) = Some (cond (is_some (row_of (held mine k)
 own_reply script mine Act.Clear = Some Reply.Cleared
 own_reply script mine _ = None
 
--- the reply to the act that is due, where it is an own act or End; none to another act, or where none is due
+-- the reply to the act that is due, if it is an own act or End; none to another act, or if none is due
 abbrev pub reply_due : Script → Journal → Option Act → Option Reply
 reply_due script mine None = None
 reply_due script mine (Some a) = own_reply script mine a
 
--- an entry of the act that is due, which has the session's own reply where the act has one
+-- an entry of the act that is due, which has the session's own reply if the act has one
 pub record IsTaken (script : Script) (s : ℕ) (mine : Journal) (e : Entry) : Type 0 where
   pub due : next script s mine ≡ Some e.act
   pub own : (r : Reply) → own_reply script mine e.act ≡ Some r → e.reply ≡ r

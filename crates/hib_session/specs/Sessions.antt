@@ -5,7 +5,7 @@ use Rattle.hib_journal.specs.Sessions.{Journal, own, was_killed}
 use Rattle.hib_session.specs.declared.session.Session.{Session}
 use Rattle.hib_session.specs.Session.{Follows, number_of, is_killed}
 
--- each is killed where the journal says so, and else as far as its own entries
+-- each is killed if the journal says so, and else as far as its own entries
 pub record AreSessions (script : Script) (h : Journal) (sessions : List Session) : Type 0 where
   pub all : length sessions ≡ length script.sessions
   pub numbers : (s : ℕ) (y : Session) → slice_get sessions s ≡ Some y → number_of y ≡ s

@@ -280,7 +280,7 @@ impl Control {
         Ok(())
     }
 
-    /// The act that is due, or none where nothing is left.
+    /// The act that is due, or none if nothing is left.
     pub fn next_act(
         &self,
         alloc: Global,
@@ -386,7 +386,7 @@ impl Control {
         answered(alloc, script, memory, self.mode, self.stage, entry, ending)
     }
 
-    /// Takes one more entry, of which these acts and this stage follow where nothing is queued and a stage has its act.
+    /// Takes one more entry, of which these acts and this stage follow if nothing is queued and a stage has its act.
     /// It takes no memory.
     pub fn step(&mut self, queue: Acts, stage: Stage)
         ensures number { self.new.number ≡ self.old.number }

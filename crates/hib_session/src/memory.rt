@@ -194,7 +194,7 @@ impl Memory {
         Ok(is_touched(script, query, changes.as_slice()))
     }
 
-    /// The version that a lock on a key is to have: that of its base, where the base is fresh.
+    /// The version that a lock on a key is to have: that of its base, if the base is fresh.
     fn lock_version(&self, key: &Key, version: Option<u32>) -> Option<u32>
         ensures { result ≡ cond (is_key_in key.now self.now.fresh) version None }
     {
@@ -205,7 +205,7 @@ impl Memory {
         }
     }
 
-    /// What comes before a write of an update or a delete: nothing, where the key is in the changes already.
+    /// What comes before a write of an update or a delete: nothing, if the key is in the changes already.
     fn before_key(&self, script: &Script, key: &Key, version: Option<u32>) -> Option<Act>
         ensures { acts_of result ≡ before_key_in script.now self.now key.now version }
     {

@@ -187,7 +187,7 @@ impl Memory {
         }
     }
 
-    /// A row was removed: its instance leaves where it was never written, and else is marked.
+    /// A row was removed: its instance leaves if it was never written, and else is marked.
     fn remove(&mut self, key: &Key) -> Result<(), AllocError>
         ensures ok { OnOk result (self.new ≡ record self.old {
           instances = record { held = remove_in (marked_in key.now self.old.marks) key.now self.old.instances.held; removals = remove_last key.now self.old.instances.removals };
@@ -249,7 +249,7 @@ impl Memory {
         Ok(())
     }
 
-    /// Takes one more entry, where there is room.
+    /// Takes one more entry, if there is room.
     fn take(
         &mut self,
         alloc: Global,
@@ -306,7 +306,7 @@ impl Memory {
         }
     }
 
-    /// Takes one more entry, which may be that of a write of which there are copies. It makes room first; where there is
+    /// Takes one more entry, which may be that of a write of which there are copies. It makes room first; if there is
     /// room, it takes memory for what the entry brings alone. At an error nothing has changed but the room.
     pub fn note(
         &mut self,

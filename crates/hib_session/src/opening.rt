@@ -6,7 +6,7 @@ use crate::session::Session;
 use hib_base::{Script, SessionNo};
 use std::alloc::{AllocError, Global};
 
-/// The sessions of a script, each at its number, which have done nothing.
+/// The sessions of a script, each at its number, which have done nothing. Fails for want of memory alone.
 pub fn open_all(alloc: Global, script: &Script) -> Result<Vec<Session>, AllocError>
     requires few { length script.now.sessions < 2 ^ 32 }
     ensures { IfOk result (λ v. AreSessions script.now [] v.items) }

@@ -40,12 +40,14 @@ impl Queue {
         }
     }
 
+    /// How many acts are due.
     pub fn len(&self) -> usize
         ensures { result ≡ length self.now }
     {
         self.acts.len()
     }
 
+    /// Whether no act is due.
     pub fn is_empty(&self) -> bool
         ensures { IsTrue result ↔ (self.now ≡ []) }
     {

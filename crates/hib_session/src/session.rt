@@ -123,7 +123,7 @@ impl Session {
 
     /// Makes the session ready for its next act: what is to be done next is expanded, and the memory is taken that `advance`
     /// needs for the entry of the act that is due. From then on `advance` answers Ok for that entry, unless the act is Persist,
-    /// Load, List, Get, Set or Remove. A session that is ready stays as it is, without memory. Where memory runs out the session
+    /// Load, List, Get, Set or Remove. A session that is ready stays as it is, without memory. If memory runs out the session
     /// follows the same entries as before.
     pub fn ready(&mut self, alloc: Global, script: &Script) -> Result<(), AllocError>
         ensures number { number_of self.new ≡ number_of self.old }
@@ -159,7 +159,7 @@ impl Session {
         Ok(act)
     }
 
-    /// The act that is due, or none where the session is at its end or was killed.
+    /// The act that is due, or none if the session is at its end or was killed. Fails for want of memory alone.
     pub fn next_act(&self, alloc: Global, script: &Script) -> Result<Option<Act>, AllocError>
         ensures act { IfOk result (λ a. (mine : Journal) → Follows script.now self.now mine → a ≡ next script.now (number_of self.now) mine) }
         ensures killed { IfOk result (λ a. is_killed self.now ≡ true → a ≡ None) }
@@ -230,7 +230,7 @@ impl Session {
         }
     }
 
-    /// The session's own answer to an act of its own and to End; none to another act.
+    /// The session's own answer to an act of its own and to End; none to another act. Fails for want of memory alone.
     pub fn reply_to(
         &self,
         alloc: Global,
@@ -255,8 +255,8 @@ impl Session {
         }
     }
 
-    /// The answer to the act that is due, where that is an act of the session's own or End. None where it is another, or where
-    /// no act is due.
+    /// The answer to the act that is due, if that is an act of the session's own or End. None if it is another, or if
+    /// no act is due. Fails for want of memory alone.
     pub fn reply(&self, alloc: Global, script: &Script) -> Result<Option<Reply>, AllocError>
         ensures reply { IfOk result (λ r. (mine : Journal) → Follows script.now self.now mine → r ≡ reply_due script.now mine (next script.now (number_of self.now) mine)) }
         ensures killed { IfOk result (λ r. is_killed self.now ≡ true → r ≡ None) }
@@ -268,7 +268,7 @@ impl Session {
     }
 
     /// Takes the entry of the act that was due. It makes the session ready first. Of a session that is ready it answers Ok,
-    /// unless the act is Persist, Load, List, Get, Set or Remove. Where memory runs out the session follows the same entries as
+    /// unless the act is Persist, Load, List, Get, Set or Remove. If memory runs out the session follows the same entries as
     /// before.
     pub fn advance(
         &mut self,

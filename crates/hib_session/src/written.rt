@@ -10,11 +10,11 @@ use std::alloc::{AllocError, Global};
 pub struct Written {
     /// The change.
     pub change: Change,
-    /// The row that it leaves, where it leaves one.
+    /// The row that it leaves, if it leaves one.
     pub base: Option<Row>,
 }
 
-/// The row that a change leaves, where it leaves one.
+/// The row that a change leaves, if it leaves one.
 fn left_row(alloc: Global, change: &Change) -> Result<Option<Row>, AllocError>
     ensures { IfOk result (λ r. r ≡ row_left change.now) }
 {

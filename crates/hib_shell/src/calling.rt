@@ -19,7 +19,7 @@ use std::{env, io};
 /// Writes its lines on standard error.
 pub type ErrorTrace = Trace<StdSink<Stderr>>;
 
-/// The words of the command line behind the program's name; or how the program ends where they can't be had: a word that isn't
+/// The words of the command line after the program's name; or how the program ends if they can't be had: a word that isn't
 /// UTF-8 is no word of a command. Another failure of the host is handed on.
 pub fn words_given(host: &HostRuntime) -> io::Result<Result<Vec<String>, Status>> {
     let mut words = Vec::new(host.alloc());

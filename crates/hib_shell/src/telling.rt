@@ -28,7 +28,7 @@ fn print_text(rt: &impl Print, text: &str) -> Status
     }
 }
 
-/// Says on standard error how the call ended, where it isn't done, and gives the status's number. That nobody may be
+/// Says on standard error how the call ended, if it isn't done, and gives the status's number. That nobody may be
 /// listening there, or memory be lacking for the line, changes nothing.
 pub fn told(rt: &impl Eprint, alloc: Global, status: Status) -> ExitCode
     ensures { exit_status result ≡ exit_number status }

@@ -98,7 +98,7 @@ impl Slot {
         }
     }
 
-    /// Why it isn't read, where it isn't.
+    /// Why it isn't read, if it isn't.
     pub fn miss(&self) -> Miss
         ensures { result ≡ Regions.miss (shown self.now) }
     {
@@ -183,7 +183,7 @@ impl Slot {
         }
     }
 
-    /// One holder lets go; where none is left, the lock is free from now on. Answers how many are left.
+    /// One holder lets go; if none is left, the lock is free from now on. Answers how many are left.
     pub fn release(&mut self, now: Tick) -> u64
         requires { is_held (shown self.old) ≡ true }
         ensures slot { self.new ≡ released now self.old }

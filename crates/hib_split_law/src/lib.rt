@@ -14,13 +14,13 @@ ghost use Rattle.hib_split_law.specs.Apart.{AreLater, HaveSessions, IsLegalApart
 ghost use Rattle.hib_split_law.specs.Merged.{Agrees, AreBounded, AreDue, AreOwnLegal, ArePartsLegal, IsMerged};
 ghost use Rattle.std.specs.Prelude.{◌≡◌, ◌≤◌, ◌^◌, ◌∷◌, List, Option, false, length};
 
-/// A journal whose ticks never fall is legal, where the list of each part and that of each session is legal by itself.
+/// A journal whose ticks never fall is legal, if the list of each part and that of each session is legal by itself.
 pub fn apart_is_legal()
     ensures legal { (script : Script) (told : Option Tables) (h : Journal) → HaveSessions h → AreLater h →
         IsLegalApart script told h → IsLegal script told h }
 {}
 
-/// The list of each part, and that of each session, of a legal journal is legal by itself, where each entry is a session's; and
+/// The list of each part, and that of each session, of a legal journal is legal by itself, if each entry is a session's; and
 /// its ticks never fall.
 pub fn legal_is_apart()
     ensures apart { (script : Script) (told : Option Tables) (h : Journal) → HaveSessions h →
@@ -41,7 +41,7 @@ pub fn store_stands_alone()
     ensures listed { (script : Script) (told : Option Tables) (h : Journal) → HaveSessions h → IsLegal script told h → IsStoreAlone h (of_part Part.Store h) }
 {}
 
-/// The list that the parts' lists are merged into is legal, where each of them and of the sessions' lists is legal by itself
+/// The list that the parts' lists are merged into is legal, if each of them and of the sessions' lists is legal by itself
 /// and the sessions' lists agree with it.
 pub fn merged_is_legal()
     ensures legal { (script : Script) (told : Option Tables) (lists mine : List Journal) (h : Journal) →
@@ -53,7 +53,7 @@ pub fn merged_once()
     ensures once { (lists : List Journal) (h g : Journal) → IsMerged lists h → IsMerged lists g → h ≡ g }
 {}
 
-/// Where each tick is the one that is due, none is above the number of entries.
+/// If each tick is the one that is due, none is above the number of entries.
 pub fn due_ticks_are_few()
     ensures few { (h : Journal) → AreDue h → length h ≤ 2 ^ 62 → AreBounded h }
 {}

@@ -147,14 +147,14 @@ packed_unpacked (n ∷ bs) all = by (unpacked_cells n bs) (cells_pack n bs all.1
       is = λ i. h.0 i ∷ h.1 i;
     }
 
--- bytes behind a slice
+-- bytes after a slice
 abbrev pub Fit : List ℕ → Type 0
 Fit bs = (i : ℕ) → Fits w8 (slice_index_or bs i 0)
 
 are_bytes : (bs : List ℕ) → Fit bs → AreBytes bs
 are_bytes bs fit = recursion_from_All (λ b. b < 256) bs (All-from_get_or (λ b. b < 256) bs 0 (λ i low. (fit i).fits))
 
--- what `unpack` answers is given exactly where the bytes are a body
+-- what `unpack` answers is given exactly if the bytes are a body
 pub gives_exactly : (o : Option (List Cell)) (bs : List ℕ) → Fit bs → o ≡ unpacked bs → IsSome o ↔ IsBody bs
 gives_exactly o bs all is = (there o (subst (PacksTo bs) (sym is) (packed_unpacked bs (are_bytes bs all))), back)
   where

@@ -59,7 +59,7 @@ fn pack_cell(bytes: &mut Vec<u8>, cell: &Cell) -> Result<(), AllocError>
     Ok(())
 }
 
-/// The body of cells, from which `unpack` gives them back.
+/// The body of cells, from which `unpack` gives them back. Fails for want of memory alone.
 pub fn pack(alloc: Global, cells: &Cells) -> Result<Bytes, AllocError>
     requires { IsPackable cells.now }
     ensures body { IfOk result (λ bytes. bytes ≡ packed cells.now) }
@@ -73,7 +73,7 @@ pub fn pack(alloc: Global, cells: &Cells) -> Result<Bytes, AllocError>
     Ok(Seq::from_vec(bytes))
 }
 
-/// The first cell of bytes, and how many bytes it takes; none where they begin with no cell.
+/// The first cell of bytes, and how many bytes it takes; none if they begin with no cell.
 fn take_cell(alloc: Global, bytes: &[u8]) -> Result<Option<(Cell, usize)>, AllocError>
     ensures { IfOk result (λ found. MatchOption found (taken bytes.now ≡ None) (λ f. (f.1 ≤ length bytes.now) × (taken bytes.now ≡ Some (f.0, drop f.1 bytes.now)))) }
 {
@@ -110,7 +110,7 @@ fn take_cell(alloc: Global, bytes: &[u8]) -> Result<Option<(Cell, usize)>, Alloc
     Ok(None)
 }
 
-/// The cells whose body these bytes are; none exactly where they are no body.
+/// The cells whose body these bytes are; none exactly if they are no body. Fails for want of memory alone.
 pub fn unpack(alloc: Global, body: &[u8]) -> Result<Option<Cells>, AllocError>
     ensures cells { IfOk result (λ cells. cells ≡ unpacked body.now) }
     ensures exactly { IfOk result (λ cells. IsSome cells ↔ IsBody body.now) }

@@ -31,7 +31,7 @@ impl Model for MemoryTable {
 }
 
 impl MemoryTable {
-    /// An empty table.
+    /// An empty table. Fails if SQLite does, or for want of memory.
     pub fn open(alloc: Global) -> Result<MemoryTable, Error>
         ensures { IfOk result (λ t. told_of t ≡ at_rest []) }
     {

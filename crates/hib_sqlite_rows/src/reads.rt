@@ -50,7 +50,7 @@ fn entry_of(alloc: Global, entity: EntityNo, row: &SqlRow) -> Result<(Key, Row),
     ))
 }
 
-/// The row of a key, if it has one.
+/// The row of a key, if it has one. At an error nothing has changed, or the transaction is undone.
 pub fn read<T: RowTable>(table: &mut T, alloc: Global, key: Key) -> Result<Option<Row>, Error>
     requires { key.id < 2 ^ 63 }
     ensures row { IfOk result (λ row. IfSome (T.told table.old) (λ t. row ≡ row_at t.now key)) }
@@ -93,7 +93,7 @@ fn distinct(alloc: Global, entities: &[EntityNo]) -> Result<Vec<u16>, AllocError
     Ok(numbers)
 }
 
-/// All rows of these entities, in order of keys.
+/// All rows of these entities, in order of keys. At an error nothing has changed, or the transaction is undone.
 pub fn list<T: RowTable>(table: &mut T, alloc: Global, entities: &[EntityNo]) -> Result<Rows, Error>
     ensures rows { IfOk result (λ rows. IfSome (T.told table.old) (λ t. rows ≡ rows_of entities.now t.now)) }
     ensures same { OnOk result (T.told table.new ≡ T.told table.old) }

@@ -14,14 +14,15 @@ use sqlite::{Alter, Connection, Error, ErrorCode, Row as SqlRow};
 use std::alloc::Global;
 
 /// The table of a connection over any store, such as a file. It tells nothing. Of each statement that went well a clause says
-/// which text ran, with which values: what it did is then what SQL makes of it, where the disk gave back what was written.
+/// which text ran, with which values: what it did is then what SQL makes of it, if the disk gave back what was written.
 #[derive(Drop)]
 pub struct StoreTable<S: Alter> {
     conn: Connection<S>,
 }
 
 impl<S: Alter + Drop> StoreTable<S> {
-    /// The table of a connection that has begun no transaction. It is made where it isn't there.
+    /// The table of a connection that has begun no transaction. It is made if it isn't there.
+    /// Fails within a transaction, if SQLite fails, or for want of memory; then the connection is closed.
     pub fn over(mut conn: Connection<S>) -> Result<StoreTable<S>, Error>
         ensures { IfOk result (λ t. HasCleanDisk (state S.Store t.conn) → (count : ℕ) × Executes create_text [] (state S.Store conn) (state S.Store t.conn) (Ok count)) }
     {

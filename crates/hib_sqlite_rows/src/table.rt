@@ -11,7 +11,7 @@ use std::alloc::Global;
 
 /// A table of rows in SQL. At an error nothing has changed, or the transaction is undone.
 pub trait RowTable {
-    /// What it tells, where it tells anything.
+    /// What it tells, if it tells anything.
     ghost told: { Self → Option Told };
 
     /// Whether a table of this type tells its rows. One that couldn't be opened then has none.

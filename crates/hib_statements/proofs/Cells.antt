@@ -10,7 +10,7 @@ use Rattle.hib_base.specs.declared.scripts.EntityDef.{EntityDef}
 use Rattle.hib_statements.specs.Statements.{persist_of, persist_parts, set_of, set_parts}
 use Rattle.hib_statements.specs.Parts.{cells_of, before_cells, are_typed, pairs_from, with_token, ended}
 
--- the cells of the tokens that are left, behind those so far
+-- the cells of the tokens that are left, after those so far
 abbrev pub cells_behind : List Cell → Option (List Cell) → Option (List Cell)
 cells_behind done rest = option_map (λ cs. done ++ cs) rest
 

@@ -64,7 +64,7 @@ version_small false None f h = refl
 version_small true None f h = absurd (false≢true f)
 version_small false (Some v) f h = absurd (false≢true f)
 
--- what stands behind a key has the version and the cells that it has to
+-- what stands after a key has the version and the cells that it has to
 record IsTold (b : Bool) (x : Told) : Type 0 where
   version : is_versioned_so b x.version ≡ true
   cells : are_cells x.cells ≡ true

@@ -37,7 +37,7 @@ abbrev pub before_cells : Option Cell → Option (List Cell) → Option (List Ce
 before_cells None cs = None
 before_cells (Some c) cs = option_map (λ rest. c ∷ rest) cs
 
--- the cells that tokens are, or none where one of them is no cell
+-- the cells that tokens are, or none if one of them is no cell
 abbrev pub cells_of : List Token → Option (List Cell)
 cells_of [] = Some []
 cells_of (t ∷ ts) = before_cells (cell_of t) (cells_of ts)

@@ -36,7 +36,7 @@ abbrev pub version_of : Token → Option ℕ
 version_of (Token.Word w) = version_word w
 version_of _ = None
 
--- ---- what stands behind the key: a version, or none, and cells
+-- ---- what stands after the key: a version, or none, and cells
 abbrev pub with_version : Option ℕ → Option (List Cell) → Option Told
 with_version v None = None
 with_version v (Some cs) = Some (record { version = v; cells = cs })
@@ -56,7 +56,7 @@ abbrev pub or_plain : List Token → Option Told → Option Told
 or_plain ts None = plain_told ts
 or_plain ts (Some x) = Some x
 
--- a row of an unknown entity has a form where it has that of a versioned or of a plain one
+-- a row of an unknown entity has a form if it has that of a versioned or of a plain one
 abbrev pub told_in : Option Bool → List Token → Option Told
 told_in None ts = or_plain ts (versioned_told ts)
 told_in (Some true) ts = versioned_told ts
@@ -69,7 +69,7 @@ versioning_of (Some e) = Some e.versioned
 abbrev pub versioning_at : List EntityDef → ℕ → Option Bool
 versioning_at m n = versioning_of (slice_get m n)
 
--- whether an entity is versioned, where there is one
+-- whether an entity is versioned, if there is one
 abbrev pub versioning_in : List EntityDef → Option ℕ → Option Bool
 versioning_in m None = None
 versioning_in m (Some n) = versioning_at m n
@@ -105,7 +105,7 @@ abbrev pub row_parts : List EntityDef → List (Key × Row) → Token → Token 
 row_parts m rows name id ts =
     cond (is_key name id) (row_at_entity m rows (entity_at m (word_of name)) (key_of m name id) ts) (Err Kind.Words)
 
--- the key and row of a line behind these rows, or the first thing that is wrong with it
+-- the key and row of a line after these rows, or the first thing that is wrong with it
 abbrev pub row_of : List EntityDef → List (Key × Row) → List Token → Result (Key × Row) Kind
 row_of m rows (first ∷ name ∷ id ∷ ts) = row_parts m rows name id ts
 row_of m rows _ = Err Kind.Words

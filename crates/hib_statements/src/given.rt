@@ -41,6 +41,7 @@ impl Given {
         }
     }
 
+    /// How many rows there are.
     pub fn len(&self) -> usize
         ensures { result ≡ length self.now }
     {

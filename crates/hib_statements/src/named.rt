@@ -58,6 +58,7 @@ impl NamedSessions {
         }
     }
 
+    /// How many sessions there are.
     pub fn len(&self) -> usize
         ensures { result ≡ length self.now }
     {

@@ -33,7 +33,7 @@ pub fn key(mapping: &[EntityDef], name: &Token, id: &Token) -> Result<Key, Kind>
     }
 }
 
-/// The number that a token is, where it is none below 0; else 0.
+/// The number that a token is, if it is none below 0; else 0.
 fn size(token: &Token) -> u64
     ensures { result ≡ parts.size_in token.now }
 {
@@ -43,7 +43,7 @@ fn size(token: &Token) -> u64
     }
 }
 
-/// The cells that tokens are, or none where one of them is no cell.
+/// The cells that tokens are, or none if one of them is no cell.
 #[tactic(auto, using(crate::proofs::Cells::cells_done, crate::proofs::Cells::cells_more, crate::proofs::Cells::cells_bad))]
 pub fn cells(alloc: Global, tokens: &[Token]) -> Result<Option<Cells>, AllocError>
     ensures { IfOk result (λ c. c ≡ parts.cells_of tokens.now) }
@@ -99,11 +99,13 @@ pub enum Awaited {
 /// Pairs as far as they were read.
 #[derive(Drop)]
 pub struct Draft {
+    /// The pairs so far, with their faults.
     pub pairs: Pairs,
+    /// What comes next.
     pub awaited: Awaited,
 }
 
-/// The pairs that tokens are; none where they are no pairs, or where there is none.
+/// The pairs that tokens are; none if they are no pairs, or if there is none.
 #[tactic(auto, using(crate::proofs::Cells::pairs_next, crate::proofs::Cells::pairs_done))]
 pub fn read_pairs(
     alloc: Global,

@@ -17,10 +17,10 @@ use std::alloc::{AllocError, Global};
 /// The greatest version of a row.
 const MOST_VERSION: u32 = 1_000_000;
 
-/// What stands behind the key of a row.
+/// What stands after the key of a row.
 #[derive(Drop)]
 pub struct Told {
-    /// The version, where one stands there; one above the greatest is told as the number behind that.
+    /// The version, if one stands there; one above the greatest is told as the number after that.
     pub version: Option<u32>,
     /// The cells.
     pub cells: Cells,
@@ -28,8 +28,8 @@ pub struct Told {
 
 /// The key and the row of a row line, over a mapping and the rows that were given before.
 ///
-/// Errors: `Fault` exactly where the line is no row, with the first kind that it has of words, taken, unknown, number,
-/// cells and type; `NoMemory` where there is none left. Nothing is changed.
+/// Errors: `Fault` exactly if the line is no row, with the first kind that it has of words, taken, unknown, number,
+/// cells and type; `NoMemory` if there is none left. Nothing is changed.
 pub fn row(
     alloc: Global,
     mapping: &Mapping,
@@ -74,7 +74,7 @@ fn judged(row: Result<(Key, Row), Kind>) -> Result<(Key, Row), StatementError>
     }
 }
 
-/// Whether the entity of a name is versioned, where there is one.
+/// Whether the entity of a name is versioned, if there is one.
 fn versioning(mapping: &[EntityDef], name: &Token) -> Option<bool>
     ensures { result ≡ told_rows.versioning_in mapping.now (entity_at mapping.now (word_of name.now)) }
 {
@@ -205,7 +205,7 @@ fn are_digits(bytes: &[u8]) -> bool
     bytes.iter().all(|byte| byte.is_ascii_digit())
 }
 
-/// What digits come to; what is above the greatest version counts as the number behind that.
+/// What digits come to; what is above the greatest version counts as the number after that.
 #[tactic(auto, using(crate::proofs::Digits::digit_next, crate::proofs::Digits::size_grows, crate::proofs::Digits::size_done, crate::proofs::Digits::capped_above, crate::proofs::Digits::capped_within))]
 fn size(digits: &[u8]) -> u32
     ensures { result ≡ told_rows.capped (digits_of.size_of digits.now) }
@@ -220,7 +220,7 @@ fn size(digits: &[u8]) -> u32
     size
 }
 
-/// The row of a key and what is told behind it.
+/// The row of a key and what is told after it.
 fn row_told(
     columns: &[ColumnDef],
     rows: &Given,

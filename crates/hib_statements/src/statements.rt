@@ -15,8 +15,8 @@ use std::alloc::Global;
 
 /// The statement of a line, over a mapping and the queries that were declared.
 ///
-/// Errors: `Fault` exactly where the line is no statement, with the first kind that it has of line, words, taken,
-/// unknown, number, cells and type; `NoMemory` where there is none left. Nothing is changed.
+/// Errors: `Fault` exactly if the line is no statement, with the first kind that it has of line, words, taken,
+/// unknown, number, cells and type; `NoMemory` if there is none left. Nothing is changed.
 pub fn statement(
     alloc: Global,
     mapping: &Mapping,
@@ -181,7 +181,7 @@ fn alone(statement: Statement, line: &[Token]) -> Result<Statement, Kind>
     }
 }
 
-/// The columns of the entity of a name; none where there is no such entity.
+/// The columns of the entity of a name; none if there is no such entity.
 pub fn named_columns<'a>(mapping: &'a [EntityDef], name: &Token) -> &'a [ColumnDef]
     ensures { result.now ≡ lines.named_columns mapping.now name.now }
 {

@@ -1,4 +1,4 @@
--- The changes of a session behind a write at its place, and whether a key is among changes.
+-- The changes of a session after a write at its place, and whether a key is among changes.
 use Rattle.std.proofs.Common.{◌≡◌, ◌≢◌, ℕ, Bool, true, false, cond, ◌==◌, List, [], ◌∷◌, ◌++◌, nat_eq, Some, None, Option, is_some, position, slice_get, refl, sym, ap, ◌∙◌, inl, inr}
 use Rattle.std.proofs.lemmas.Bool.{eq-eqb, ne_eqb, eqb-true, false≢true}
 use Rattle.std.specs.Map.{keys_of, values_of, lookup}

@@ -18,7 +18,7 @@ Written = List (ℕ × List Change)
 
 -- what contracts see of a store
 pub record StoreState : Type 0 where
-  -- the committed rows, where the keeper tells them
+  -- the committed rows, if the keeper tells them
   pub tables : Option Tables
   -- how often the keeper has failed
   pub faults : ℕ
@@ -45,19 +45,19 @@ changes_of store s = changes_in store.written s
 abbrev pub is_in : Key → List Change → Bool
 is_in k cs = list_any (λ c. same_key (key_of c) k) cs
 
--- a row that is loaded is what the changes leave of the committed rows, where they are told
+-- a row that is loaded is what the changes leave of the committed rows, if they are told
 abbrev pub IsView : Option Tables → List Change → Key → Loaded → Type 0
 IsView None cs k loaded = Unit {0}
 IsView (Some m) cs k (Loaded.Row row) = row ≡ row_at (after_changes cs m) k
 IsView (Some m) cs k Loaded.Fault = Unit {0}
 
--- what is listed is what the query gives over what the changes leave of the committed rows, where these are told
+-- what is listed is what the query gives over what the changes leave of the committed rows, if these are told
 abbrev pub IsListed : Option Tables → List Change → Query → Listed → Type 0
 IsListed None cs q listed = Unit {0}
 IsListed (Some m) cs q (Listed.List cells) = cells ≡ gives q (after_changes cs m)
 IsListed (Some m) cs q Listed.Fault = Unit {0}
 
--- the keeper that is handed back where a store is not opened
+-- the keeper that is handed back if a store is not opened
 abbrev pub handed_back : {K : Type 0} → OpenFault K → K
 handed_back (OpenFault.NoMemory k) = k
 handed_back (OpenFault.StoreFault k) = k
@@ -80,7 +80,7 @@ tables_answered (Commit.Stale k found) cs told = told
 tables_answered (Commit.Duplicate k) cs told = told
 tables_answered Commit.Fault cs told = told
 
--- the committed rows after a commit: changed exactly where it was answered Committed
+-- the committed rows after a commit: changed exactly if it was answered Committed
 abbrev pub tables_committed : Result Commit AllocError → List Change → Option Tables → Option Tables
 tables_committed (Ok answer) cs told = tables_answered answer cs told
 tables_committed (Err e) cs told = told
@@ -89,7 +89,7 @@ tables_committed (Err e) cs told = told
 abbrev pub AreOf : ℕ → Tables → Tables → Type 0
 AreOf entities rows m = (k : Key) → k.entity < entities → row_at rows k ≡ row_at m k
 
--- the rows of an index, if one stands, are those of the first entities, where the keeper tells them
+-- the rows of an index, if one stands, are those of the first entities, if the keeper tells them
 abbrev pub IsIndexed : ℕ → Option Tables → Option Tables → Type 0
 IsIndexed entities index told = IfSome index (λ rows. IfSome told (λ m. AreOf entities rows m))
 

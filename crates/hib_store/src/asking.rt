@@ -38,7 +38,7 @@ pub fn read<K: Keeper>(alloc: Global, keeper: &mut K, key: Key) -> Result<Loaded
     }
 }
 
-/// Asks a keeper for the rows of the tables that a query reads; none where it failed.
+/// Asks a keeper for the rows of the tables that a query reads; none if it failed.
 pub fn list<K: Keeper>(
     alloc: Global,
     keeper: &mut K,
@@ -58,7 +58,7 @@ pub fn list<K: Keeper>(
     }
 }
 
-/// Asks a keeper for the rows of the first entities, for an index of them; none where it failed.
+/// Asks a keeper for the rows of the first entities, for an index of them; none if it failed.
 fn index<K: Keeper>(
     alloc: Global,
     keeper: &mut K,
@@ -82,7 +82,7 @@ fn index<K: Keeper>(
 }
 
 /// Makes an index of the rows of the first entities, unless it stands. The keeper isn't asked if it stands. There is none
-/// only where the keeper failed.
+/// only if the keeper failed.
 pub fn make_index<K: Keeper>(
     alloc: Global,
     keeper: &mut K,

@@ -9,6 +9,7 @@ use hib_base::{Cond, EntityNo, Query, Target};
 use std::alloc::{AllocError, Global};
 
 /// The entities that a query reads, each once: its own, and those to which its condition steps.
+/// Fails for want of memory alone.
 pub fn tables_of(alloc: Global, query: &Query) -> Result<Vec<EntityNo>, AllocError>
     ensures { IfOk result (λ v. (n : ℕ) → is_listed n v.items ≡ reads query.now n) }
 {

@@ -20,7 +20,7 @@ pub not_write_fault : (a : Audit) → status_said a ≡ Status.WriteFault → �
 not_write_fault Audit.Legal e = absurd (cc)
 not_write_fault (Audit.Illegal entry kind) e = absurd (cc)
 
--- where it couldn't be written
+-- if it couldn't be written
 pub not_said : (answer : Status) (a : Audit) → IsAfterRun answer → answer ≢ Status.Done → IsSaid answer a
 not_said Status.Done a after other = absurd (other refl)
 not_said Status.WriteFault a after other = tt

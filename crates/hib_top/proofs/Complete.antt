@@ -23,7 +23,7 @@ played turns telling Status.NoMemory left after text script kept rows journal ta
 played turns telling Status.StoreFault left after text script kept rows journal taken written r x = ((text, outline_of script, r), x)
 played turns telling _ left after text script kept rows journal taken written r x = absurd x
 
--- and so it is where none was read
+-- and so it is if none was read
 pub unread : (turns : Turns) (telling : Telling) (answer : Status) (left after : Option (List ℕ)) (kept rows : Option Tables) (journal : Kept) (taken : Option (List ℕ)) →
     HasNoScript left after answer → past journal ≡ [] → rows ≡ kept → Plays turns telling answer left after kept rows journal taken taken
 unread turns telling (Status.Refused q) left after kept rows journal taken read e s = (read, (record { empty = e; same = s }, refl))

@@ -67,7 +67,7 @@ nothing_back Telling.Report script es = tt
 nothing_back Telling.JsonLines script es = tt
 nothing_back (Telling.Summary n) script es = tt
 
--- nothing was written where the run didn't come to its end
+-- nothing was written if the run didn't come to its end
 pub runs_stopped : (turns : Turns) (telling : Telling) (e : End) (script : Script) (kept rows : Option Tables) (journal : Kept) (taken : Option (List ℕ)) → e ≡ End.Stopped →
     CameTo turns e script kept (told_start script kept) rows (past journal) → Runs turns telling Status.NoMemory script kept rows journal taken taken
 runs_stopped turns telling e script kept rows journal taken p c =

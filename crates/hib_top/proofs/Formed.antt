@@ -1,4 +1,4 @@
--- The entries of a run are few, with early ticks; so they are well formed where the rows at the start fit.
+-- The entries of a run are few, with early ticks; so they are well formed if the rows at the start fit.
 use Rattle.std.proofs.Common.{◌≡◌, ℕ, suc, zero, ◌+◌, ◌≤◌, ◌^◌, Bool, true, List, [], ◌∷◌, length, reverse, slice_get, Some, None, Option, IfSome, refl, ap, arith}
 use Rattle.std.proofs.lemmas.List.Sums.{sum_by-cons}
 use Rattle.hib_base.specs.Scripts.{statement_count}

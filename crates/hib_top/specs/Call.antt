@@ -38,12 +38,12 @@ pub record Promised (way : Option Way) (old new : Outside) (answer : Status) (jo
   pub faults : RoseBy old.store_faults (fault_count (past journal)) new.store_faults
   -- and an input is called too long only if it is
   pub long : answer ≡ Status.TooLong → IfSome old.left (λ bytes. limit_of way < length bytes)
-  -- the keeper was asked as often as the journal says at most; where memory runs out perhaps once more, without an entry
+  -- the keeper was asked as often as the journal says at most; if memory runs out perhaps once more, without an entry
   pub asked : answer ≢ Status.NoMemory → RoseWithin old.asked (ask_count (past journal)) new.asked
   pub once : RoseWithin old.asked (ask_count (past journal) + 1) new.asked
   -- at most one piece of 4,096 bytes beyond the limit is read
   pub few : ReadsFew (limit_of way + 4096) old.left new.left
-  -- all is done where source and sink don't fail, unless memory runs out or the keeper doesn't take the script's rows
+  -- all is done if source and sink don't fail, unless memory runs out or the keeper doesn't take the script's rows
   pub complete : HasInput way old.left (Rose old.read_faults new.read_faults) → (Rose old.write_faults new.write_faults → ⊥) → IsCompleted answer
   -- which listeners are handed back, and what they have heard
   pub listeners : AreHandedBack (is_short answer) journal.list old.told new.told

@@ -50,7 +50,7 @@ told_by Telling.Report script es = report script es
 told_by Telling.JsonLines script es = json_lines script es
 told_by (Telling.Summary n) script es = codes "seed " ++ decimal n ++ codes "\n" ++ summary script es
 
--- each session is at its end, where it has no next act, or was killed
+-- each session is at its end, if it has no next act, or was killed
 pub record IsFinished (turns : Turns) (script : Script) (h : Journal) : Type 0 where
   pub ended : (s : ℕ) (d : SessionDef) → slice_get script.sessions s ≡ Some d → has_next script h s ≡ false
   pub ordered : IsOrdered turns script h
@@ -67,7 +67,7 @@ pub record IsPlayed (script : Script) (start rows : Option Tables) (h : Journal)
   pub few : length h ≤ most_in script.sessions + length script.schedule
   -- what was evicted from outside has an identifier
   pub named : name_identifiers h ≡ true
-  -- where the rows at the start fit the mapping, each entry is well formed
+  -- if the rows at the start fit the mapping, each entry is well formed
   pub formed : IfSome start (λ told. AreFit script told → AreEntries script (reverse h))
   pub committed : rows ≡ told_committed start h
 
@@ -89,7 +89,7 @@ unopened (OpenFault.NoMemory k) = End.Unopened
 unopened (OpenFault.StoreFault k) = End.Unseeded
 
 -- the listeners at the start of a run of these entries and those that are handed back: of the ones that tell, exactly those that
--- stay when they hear all entries, each with these behind what it had heard. Where memory ran out, one may have had none for the
+-- stay when they hear all entries, each with these after what it had heard. If memory ran out, one may have had none for the
 -- last entry, so that from it on nobody has heard that
 abbrev pub AreHandedBack : Bool → List Entry → List Told → List Told → Type 0
 AreHandedBack false es start now = HaveHeard false es start now
@@ -101,14 +101,14 @@ abbrev pub is_short : Status → Bool
 is_short Status.NoMemory = true
 is_short _ = false
 
--- the run is finished at Done, and where only the writing failed; where memory ran out it is finished if anything was written
+-- the run is finished at Done, and if only the writing failed; if memory ran out it is finished if anything was written
 abbrev pub EndsWell : Turns → Status → Script → Journal → Option (List ℕ) → Option (List ℕ) → Type 0
 EndsWell turns Status.Done script h taken written = IsFinished turns script h
 EndsWell turns Status.WriteFault script h taken written = IsFinished turns script h
 EndsWell turns Status.NoMemory script h taken written = (written ≡ taken) ⊎ IsFinished turns script h
 EndsWell turns _ script h taken written = ⊤
 
--- what was written: the text at Done and Illegal, a front of it where the sink failed or memory ran out, else nothing
+-- what was written: the text at Done and Illegal, a front of it if the sink failed or memory ran out, else nothing
 abbrev pub IsWritten : Status → List ℕ → Option (List ℕ) → Option (List ℕ) → Type 0
 IsWritten Status.Done text old new = Appends old new text
 IsWritten (Status.Illegal n k) text old new = Appends old new text
@@ -147,7 +147,7 @@ Runs turns telling Status.NoMemory script kept rows journal taken written =
 Runs turns telling Status.StoreFault script kept rows journal taken written = IsIdle kept rows journal taken written
 Runs turns telling _ script kept rows journal taken written = ⊥
 
--- a text of so many bytes at most was read to the source's end: it is all that the source had left, where it tells
+-- a text of so many bytes at most was read to the source's end: it is all that the source had left, if it tells
 pub record HasText (most : ℕ) (left after : Option (List ℕ)) (text : List ℕ) : Type 0 where
   pub whole : IfSome left (λ bytes. bytes ≡ text)
   pub end : IsAtEnd after
@@ -251,8 +251,8 @@ pub record PlaysScript (turns : Turns) (telling : Telling) (answer : Status) (le
   pub read : Reads left after text (Ok (outline_of script))
   pub run : IsRunOf turns telling answer script (told_start script kept) rows journal taken written
 
--- what stands after a call, by its status: left and after are what the source had to read before and behind it, kept the keeper's
--- tables as they were handed in. A text that is no script is refused with its first bad line; where the keeper failed, a script was
+-- what stands after a call, by its status: left and after are what the source had to read before and after it, kept the keeper's
+-- tables as they were handed in. A text that is no script is refused with its first bad line; if the keeper failed, a script was
 -- read and not run
 abbrev pub Plays : Turns → Telling → Status → Option (List ℕ) → Option (List ℕ) → Option Tables → Option Tables → Kept → Option (List ℕ) → Option (List ℕ) → Type 0
 Plays turns telling Status.Done left after kept rows journal taken written = PlaysScript turns telling Status.Done left after kept rows journal taken written
@@ -280,7 +280,7 @@ Comes Way.Audited answer left after kept rows journal taken written = Audits ans
 Comes (Way.Made n) answer left after kept rows journal taken written = Runs Turns.Scheduled (Telling.Summary n) answer (made n) kept rows journal taken written
 Comes (Way.Printed n) answer left after kept rows journal taken written = Prints answer (printed (made n)) kept rows journal taken written
 
--- and where the words have no form, nothing is done
+-- and if the words have no form, nothing is done
 unfoldable pub ComesOf : Option Way → Status → Option (List ℕ) → Option (List ℕ) → Option Tables → Option Tables → Kept → Option (List ℕ) → Option (List ℕ) → Type 0
 ComesOf None answer left after kept rows journal taken written = IsIdle kept rows journal taken written
 ComesOf (Some way) answer left after kept rows journal taken written = Comes way answer left after kept rows journal taken written

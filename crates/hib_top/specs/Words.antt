@@ -20,7 +20,7 @@ way_in (work n s) = Way.Run (Turns.OnWorkers n) (telling_of s.journal)
 way_in (make n t) = cond t (Way.Printed n) (Way.Made n)
 way_in audit = Way.Audited
 
--- what the words have it do; none where they have no form
+-- what the words have it do; none if they have no form
 unfoldable pub way_asked : List (String Global) → Option Way
 way_asked words = option_map way_in (command (map string_bytes words))
 

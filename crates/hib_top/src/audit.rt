@@ -1,4 +1,4 @@
-// The audit of a journal that comes behind its script.
+// The audit of a journal that comes after its script.
 ghost use Rattle.std.specs.Prelude.{◌≡◌, ◌<◌, ◌≤◌, ◌+◌, [], length, true, Err, IfOk, IfErr, IfSome};
 ghost use Rattle.hib_journal.specs.Kept.{past};
 ghost use Rattle.hib_base.specs.Valid.{is_valid};

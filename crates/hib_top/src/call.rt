@@ -41,7 +41,7 @@ fn serve_alone<S: Source, W: Sink, K: Keeper, L: Listener>(
     ensures store { result.status ≡ Status.StoreFault → Rose (K.faults keeper) (K.faults result.keeper) }
     ensures faults { RoseBy (K.faults keeper) (fault_count (past result.journal)) (K.faults result.keeper) }
     ensures asked { result.status ≢ Status.NoMemory → RoseWithin (K.asked keeper) (ask_count (past result.journal)) (K.asked result.keeper) }
-    // Where memory runs out it may have been asked once more, without an entry.
+    // If memory runs out it may have been asked once more, without an entry.
     ensures once { RoseWithin (K.asked keeper) (ask_count (past result.journal) + 1) (K.asked result.keeper) }
     // At most one piece of 4,096 bytes beyond the limit is read.
     ensures taken { ReadsFew (limit_of (Some way) + 4096) (S.left script.old) (S.left script.new) }
@@ -80,7 +80,7 @@ fn serve<R: Threads + Wait + Sync, S: Source, W: Sink, K: Keeper, G: Gate, L: Li
     ensures store { result.status ≡ Status.StoreFault → Rose (K.faults keeper) (K.faults result.keeper) }
     ensures faults { RoseBy (K.faults keeper) (fault_count (past result.journal)) (K.faults result.keeper) }
     ensures asked { result.status ≢ Status.NoMemory → RoseWithin (K.asked keeper) (ask_count (past result.journal)) (K.asked result.keeper) }
-    // Where memory runs out it may have been asked once more, without an entry.
+    // If memory runs out it may have been asked once more, without an entry.
     ensures once { RoseWithin (K.asked keeper) (ask_count (past result.journal) + 1) (K.asked result.keeper) }
     // At most one piece of 4,096 bytes beyond the limit is read.
     ensures taken { ReadsFew (limit_of (Some way) + 4096) (S.left script.old) (S.left script.new) }
@@ -99,7 +99,7 @@ fn serve<R: Threads + Wait + Sync, S: Source, W: Sink, K: Keeper, G: Gate, L: Li
 /// Does what the words say, except for `work`, of which the words have no form here; so it takes no lock, and returns. `play` reads
 /// a script from the source, runs it over the keeper by its schedule and writes the report of its journal to the sink. `make` makes
 /// the script of a number, and runs it and writes that number and the summary; or it writes the script. `audit` reads a script and a
-/// journal behind it, and says whether the journal is legal. If the words have no form, nothing is read.
+/// journal after it, and says whether the journal is legal. If the words have no form, nothing is read.
 ///
 /// Whatever the status, the journal handed back is legal for the script, from the keeper's tables as they were handed in and the
 /// script's rows beside them, and obeys the law; its k-th entry has tick k, and the keeper's tables are those that its commits

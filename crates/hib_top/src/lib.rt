@@ -1,5 +1,5 @@
 //! The top call: reads or makes a script, runs it over a keeper, by its schedule or on workers, and tells the run; or judges a
-//! journal that comes behind its script.
+//! journal that comes after its script.
 #![tactic(auto)]
 
 mod audit;

@@ -31,7 +31,7 @@ pub fn make<W: Sink, K: Keeper, L: Listener>(
     ensures store { result.status ≡ Status.StoreFault → Rose (K.faults keeper) (K.faults result.keeper) }
     ensures faults { RoseBy (K.faults keeper) (fault_count (past result.journal)) (K.faults result.keeper) }
     ensures asked { result.status ≢ Status.NoMemory → RoseWithin (K.asked keeper) (ask_count (past result.journal)) (K.asked result.keeper) }
-    // Where memory runs out it may have been asked once more, without an entry.
+    // If memory runs out it may have been asked once more, without an entry.
     ensures once { RoseWithin (K.asked keeper) (ask_count (past result.journal) + 1) (K.asked result.keeper) }
     ensures complete { (Rose (W.faults out.old) (W.faults out.new) → ⊥) → IsCompleted result.status }
     ensures listeners { AreHandedBack (is_short result.status) result.journal.list (tells L.heard L.left listeners.items) (tells L.heard L.left result.listeners.items) }

@@ -36,7 +36,7 @@ pub struct Ended<K, L> {
     pub status: Status,
     /// The keeper that was handed in.
     pub keeper: K,
-    /// The journal of the run; empty where nothing was run.
+    /// The journal of the run; empty if nothing was run.
     pub journal: Journal,
     /// The listeners that stayed.
     pub listeners: Vec<L>,
@@ -172,7 +172,7 @@ pub fn play_script<W: Sink, K: Keeper, L: Listener>(
     ensures store { result.status ≡ Status.StoreFault → Rose (K.faults keeper) (K.faults result.keeper) }
     ensures faults { RoseBy (K.faults keeper) (fault_count (past result.journal)) (K.faults result.keeper) }
     ensures asked { result.status ≢ Status.NoMemory → RoseWithin (K.asked keeper) (ask_count (past result.journal)) (K.asked result.keeper) }
-    // Where memory runs out it may have been asked once more, without an entry.
+    // If memory runs out it may have been asked once more, without an entry.
     ensures once { RoseWithin (K.asked keeper) (ask_count (past result.journal) + 1) (K.asked result.keeper) }
     ensures listeners { AreHandedBack (is_short result.status) result.journal.list (tells L.heard L.left listeners.items) (tells L.heard L.left result.listeners.items) }
 {
@@ -251,9 +251,9 @@ pub fn play<S: Source, W: Sink, K: Keeper, L: Listener>(
     ensures store { result.status ≡ Status.StoreFault → Rose (K.faults keeper) (K.faults result.keeper) }
     ensures faults { RoseBy (K.faults keeper) (fault_count (past result.journal)) (K.faults result.keeper) }
     ensures asked { result.status ≢ Status.NoMemory → RoseWithin (K.asked keeper) (ask_count (past result.journal)) (K.asked result.keeper) }
-    // Where memory runs out it may have been asked once more, without an entry.
+    // If memory runs out it may have been asked once more, without an entry.
     ensures once { RoseWithin (K.asked keeper) (ask_count (past result.journal) + 1) (K.asked result.keeper) }
-    // A script is run to its end where source and sink don't fail, unless memory runs out or the keeper doesn't take its rows.
+    // A script is run to its end if source and sink don't fail, unless memory runs out or the keeper doesn't take its rows.
     ensures complete { HasScript (S.left source.old) → (Rose (S.faults source.old) (S.faults source.new) → ⊥)
         → (Rose (W.faults out.old) (W.faults out.new) → ⊥) → IsCompleted result.status }
     ensures taken { ReadsFew (LIMIT + 4096) (S.left source.old) (S.left source.new) }

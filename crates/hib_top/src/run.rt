@@ -40,7 +40,7 @@ pub struct Ran<K, L> {
     pub end: End,
     /// The keeper that was handed in.
     pub keeper: K,
-    /// The entries of its steps; none where nothing was run.
+    /// The entries of its steps; none if nothing was run.
     pub journal: Journal,
     /// The listeners that stayed.
     pub listeners: Vec<L>,
@@ -124,7 +124,7 @@ fn named<N: Name, K: Keeper, L: Listener>(
     }
 }
 
-/// Runs a script over a keeper: the orders of its schedule, and then each session to its end, the first one first. Where memory
+/// Runs a script over a keeper: the orders of its schedule, and then each session to its end, the first one first. If memory
 /// runs out the journal so far stands. The listeners hear of each entry.
 pub fn run<K: Keeper, L: Listener>(
     alloc: Global,

@@ -54,7 +54,7 @@ impl Status {
     }
 }
 
-/// The line that says how a call ended, as a program prints it, with its line end.
+/// The line that says how a call ended, as a program prints it, with its line end. Fails for want of memory alone.
 pub fn status_line(alloc: Global, status: &Status) -> Result<Bytes, AllocError>
     ensures { IfOk result (λ line. line ≡ status_text status.now) }
 {

@@ -45,7 +45,7 @@ impl From<Failed> for ReadStop {
 /// The most bytes that a script has.
 pub const LIMIT: usize = 1_048_576;
 
-/// The most bytes that a script has with its journal behind it.
+/// The most bytes that a script has with its journal after it.
 pub const AUDIT_LIMIT: usize = 67_108_864;
 
 /// All that the source has left, up to the limit. Then the source is at its end, and has not failed. Each turn takes a byte at least,

@@ -35,7 +35,7 @@ pub enum Way {
     Made(u32),
     /// It is made from this number and written, and not run.
     Printed(u32),
-    /// It is read with a journal behind it, which is judged.
+    /// It is read with a journal after it, which is judged.
     Audited,
 }
 
@@ -70,7 +70,7 @@ fn way_in(command: &Command) -> Way
     }
 }
 
-/// What the words have the program do; none where they have no form. Fails for want of memory alone.
+/// What the words have the program do; none if they have no form. Fails for want of memory alone.
 #[tactic(auto, using(crate::proofs::Asked::few_asked), unfolding(crate::specs::Words::way_asked))]
 pub fn way_asked(alloc: Global, words: &[String]) -> Result<Option<Way>, AllocError>
     ensures way { IfOk result (λ way. way ≡ spec.way_asked words.now) }
@@ -93,7 +93,7 @@ fn if_alone(way: Way) -> Option<Way>
     }
 }
 
-/// What the words have the program do without threads; none where they have no form there. Fails for want of memory alone.
+/// What the words have the program do without threads; none if they have no form there. Fails for want of memory alone.
 #[tactic(auto, unfolding(crate::specs::Words::way_alone))]
 pub fn way_alone(alloc: Global, words: &[String]) -> Result<Option<Way>, AllocError>
     ensures way { IfOk result (λ way. way ≡ spec.way_alone words.now) }

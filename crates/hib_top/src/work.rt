@@ -74,7 +74,7 @@ fn named<N: Name + Send + Sync, R: Threads + Wait + Sync, K: Keeper, L: Listener
     }
 }
 
-/// Runs a script over a keeper on workers, each session to its end. Where memory runs out the journal so far stands. The
+/// Runs a script over a keeper on workers, each session to its end. If memory runs out the journal so far stands. The
 /// listeners hear of each entry.
 fn run<R: Threads + Wait + Sync, K: Keeper, L: Listener, G: Gate>(
     rt: &R,
@@ -116,7 +116,7 @@ fn work_script<R: Threads + Wait + Sync, W: Sink, K: Keeper, L: Listener, G: Gat
     ensures store { result.status ≡ Status.StoreFault → Rose (K.faults keeper) (K.faults result.keeper) }
     ensures faults { RoseBy (K.faults keeper) (fault_count (past result.journal)) (K.faults result.keeper) }
     ensures asked { result.status ≢ Status.NoMemory → RoseWithin (K.asked keeper) (ask_count (past result.journal)) (K.asked result.keeper) }
-    // Where memory runs out it may have been asked once more, without an entry.
+    // If memory runs out it may have been asked once more, without an entry.
     ensures once { RoseWithin (K.asked keeper) (ask_count (past result.journal) + 1) (K.asked result.keeper) }
     ensures listeners { AreHandedBack (is_short result.status) result.journal.list (tells L.heard L.left listeners.items) (tells L.heard L.left result.listeners.items) }
 {
@@ -156,9 +156,9 @@ pub fn work<R: Threads + Wait + Sync, S: Source, W: Sink, K: Keeper, L: Listener
     ensures store { result.status ≡ Status.StoreFault → Rose (K.faults keeper) (K.faults result.keeper) }
     ensures faults { RoseBy (K.faults keeper) (fault_count (past result.journal)) (K.faults result.keeper) }
     ensures asked { result.status ≢ Status.NoMemory → RoseWithin (K.asked keeper) (ask_count (past result.journal)) (K.asked result.keeper) }
-    // Where memory runs out it may have been asked once more, without an entry.
+    // If memory runs out it may have been asked once more, without an entry.
     ensures once { RoseWithin (K.asked keeper) (ask_count (past result.journal) + 1) (K.asked result.keeper) }
-    // A script is run to its end where source and sink don't fail, unless memory runs out or the keeper doesn't take its rows.
+    // A script is run to its end if source and sink don't fail, unless memory runs out or the keeper doesn't take its rows.
     ensures complete { HasScript (S.left source.old) → (Rose (S.faults source.old) (S.faults source.new) → ⊥)
         → (Rose (W.faults out.old) (W.faults out.new) → ⊥) → IsCompleted result.status }
     ensures taken { ReadsFew (LIMIT + 4096) (S.left source.old) (S.left source.new) }

@@ -17,7 +17,7 @@ length-stamped : (ts : List ℕ) (v : ℕ) (s : Stamped) → length (stamped ts 
 length-stamped [] v s = refl
 length-stamped (t ∷ ts) v s = length-stamped ts v (set s t (Some v)) ∙ length-set s t (Some v)
 
--- a table has the new stamp exactly where it is named
+-- a table has the new stamp exactly if it is named
 stamped_at : (ts : List ℕ) (v : ℕ) (s : Stamped) (t : ℕ) → t < length s → get_or (stamped ts v s) t None ≡ cond (names t ts) (Some v) (get_or s t None)
 stamped_at [] v s t l = refl
 stamped_at (n ∷ ts) v s t l =

@@ -19,7 +19,7 @@ abbrev pub or_none : Option (Option ℕ) → Option ℕ
 or_none None = None
 or_none (Some stamp) = stamp
 
--- Fresh where each of these tables has no stamp or one before the time; else the first that has not
+-- Fresh if each of these tables has no stamp or one before the time; else the first that has not
 abbrev pub checked : ℕ → List ℕ → Stamped → Checked
 checked time [] s = Checked.Fresh
 checked time (t ∷ ts) s = check_one time t (or_none (slice_get s t)) (checked time ts s)

@@ -13,7 +13,7 @@ pub fn unstamped_stand_for_no_entry()
     ensures { (timeout : ℕ) (tables : ℕ) → IsStamps timeout (unstamped tables) [] }
 {}
 
-/// Where stamps stand for a journal, what an act leaves stands for the journal with the act's entry.
+/// If stamps stand for a journal, what an act leaves stands for the journal with the act's entry.
 pub fn stamps_follow()
     ensures { (timeout : ℕ) (stamps : Stamped) (h : Journal) (e : Entry) → IsStamps timeout stamps h
         → IsStamps timeout (stamps_after timeout e.tick e.act stamps) (e ∷ h) }
@@ -25,7 +25,7 @@ pub fn other_acts_leave_stamps()
         → same_part (part_of e.act s) Part.Stamps ≡ false → is_restart e.act ≡ false → IsStamps timeout stamps (e ∷ h) }
 {}
 
-/// Where stamps stand for a journal, a check of tables that have a place answers what the journal says.
+/// If stamps stand for a journal, a check of tables that have a place answers what the journal says.
 pub fn stamps_answer()
     ensures { (timeout : ℕ) (stamps : Stamped) (h : Journal) → IsStamps timeout stamps h
         → (time : ℕ) (tables : List ℕ) → All (λ t. t < length stamps) tables

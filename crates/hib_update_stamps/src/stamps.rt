@@ -7,7 +7,7 @@ use hib_base::{Checked, EntityNo, Tick};
 use std::alloc::{AllocError, Global};
 use std::marker::Model;
 
-/// For each table its stamp, or none. A result of a query is fresh where no table of the query has a stamp at or
+/// For each table its stamp, or none. A result of a query is fresh if no table of the query has a stamp at or
 /// after the result's time. Contracts see a list with one place for each table.
 #[derive(Drop)]
 pub struct Stamps {

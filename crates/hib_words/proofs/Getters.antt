@@ -134,7 +134,7 @@ found_stays ((n, takes) ∷ form) id rows e =
     ap (λ rs. row_of_id id (with_defaults form rs)) (default_added n takes rows)
     ∙ (found_stays form id (rows ++ added n takes rows) (has_row-append id rows (added n takes rows) ∙ or_true _ _ e) ∙ row_kept id rows (added n takes rows) e)
 
--- where there is none, a flag's is its default's
+-- if there is none, a flag's is its default's
 pub missing_row : (form : Form) (id : Text) (rows : List Row) → has_row id rows ≡ false → row_of_id id (with_defaults form rows) ≡ cond (has_flag form id) (Some (default_row id)) None
 missing_row [] id rows e = no_row id rows e
 missing_row ((n, takes) ∷ form) id rows e =

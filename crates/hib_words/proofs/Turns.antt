@@ -1,4 +1,4 @@
--- What clap's walk makes of one word, where the command has the options of a form.
+-- What clap's walk makes of one word, if the command has the options of a form.
 use Rattle.std.proofs.Common.{◌≡◌, ◌∙◌, ℕ, true, false, refl, ap, List, [], ◌∷◌, ◌++◌, Option, Some, None, append-nil}
 use Rattle.std.specs.Str.{bytes_eq}
 use Rattle.clap.specs.Lexer.{long_of, short_of}
@@ -60,7 +60,7 @@ module _ (top : Text) (form : Form) where
   abbrev pub shape : Shape
   shape = built_shape top form
 
-  -- an option's word, where none waits
+  -- an option's word, if none waits
   pub idle_turn : (h : Held) (word n : Text) (v : Option Text) → bytes_eq word dashes ≡ false → long_of word ≡ Some (n, v)
       → turn_fault shape [] (at_idle h) word
       ≡ or_else (long_fault rules false (arg_by_long rules n) v h) (step_fault shape 1 (long_word rules idle word n v h).0 (long_word rules idle word n v h).1)
@@ -71,18 +71,18 @@ module _ (top : Text) (form : Form) where
   unfolding walked
   idle_walk h word n v e f = rw (e, f) refl
 
-  -- a word that is no option, where none waits
+  -- a word that is no option, if none waits
   pub idle_stray : (h : Held) (word : Text) → bytes_eq word dashes ≡ false → long_of word ≡ None → short_of word ≡ None
       → turn_fault shape [] (at_idle h) word ≡ kind.UnknownArgument ∷ []
   idle_stray h word e f g = rw (e, f, g, no_position form 1) refl
 
-  -- an option's word, where one waits
+  -- an option's word, if one waits
   pub option_turn : (m : Text) (rows : List Row) (skip : ℕ) (word n : Text) (v : Option Text) → bytes_eq word dashes ≡ false → long_of word ≡ Some (n, v)
       → turn_fault shape [] (at_option m rows skip) word
       ≡ or_else (long_fault rules false (arg_by_long rules n) v (waits m rows skip)) (step_fault shape 1 (long_word rules (option m) word n v (waits m rows skip)).0 (long_word rules (option m) word n v (waits m rows skip)).1)
   option_turn m rows skip word n v e f = rw (e, f) refl
 
-  -- a value, where an option waits
+  -- a value, if an option waits
   pub option_value : (m : Text) (rows : List Row) (skip : ℕ) (word : Text) → bytes_eq word dashes ≡ false → long_of word ≡ None → short_of word ≡ None
       → turn_fault shape [] (at_option m rows skip) word ≡ []
   option_value m rows skip word e f g = rw (e, f, g) refl

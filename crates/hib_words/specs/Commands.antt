@@ -108,19 +108,19 @@ pub data Asked : Type 0 where
   make : ℕ → Bool → Asked
   audit : Asked
 
--- none where the file's path is no value
+-- none if the file's path is no value
 abbrev pub settings_in : Chosen → Option Settings
 settings_in chosen = if option_map_or is_value chosen.file true
     then Some (record { journal = chosen.journal; trace = chosen.trace; file = chosen.file }) else None
 
--- what a verb asks for with these options; none where a number is missing or out of its range, or a value is none
+-- what a verb asks for with these options; none if a number is missing or out of its range, or a value is none
 abbrev pub asked : Verb → Chosen → Option Asked
 asked Play chosen = option_map play (settings_in chosen)
 asked Work chosen = option_and_then (λ n. option_map (work n) (settings_in chosen)) (option_and_then (number_between 1 64) chosen.workers)
 asked Make chosen = option_map (λ n. make n chosen.text) (option_and_then (number_between 0 4294967295) chosen.seed)
 asked Audit chosen = Some audit
 
--- the command that words are, without the program's name; none where they have no form
+-- the command that words are, without the program's name; none if they have no form
 abbrev pub command : List Text → Option Asked
 command [] = None
 command (word ∷ rest) = option_and_then (λ verb. option_and_then (λ given. asked verb (chosen_in given))

@@ -13,12 +13,12 @@ use Rattle.hib_words.specs.declared.parse.Found.{Found}
 abbrev pub is_fit : Text → Bool
 is_fit word = not (slice_index word 0 == 45) || (nat_lt 2 (length word) && slice_index word 1 == 45)
 
--- each option that was given is one of the form, with a value where it takes one
+-- each option that was given is one of the form, with a value if it takes one
 abbrev pub IsProper : Form → Given → Type 0
 IsProper form [] = ⊤
 IsProper form (g ∷ given) = (takes_value form g.0 ≡ Some (is_some g.1)) × IsProper form given
 
--- the matches that hold these options, and none where the words have no form
+-- the matches that hold these options, and none if the words have no form
 abbrev pub HoldsGiven : Form → Option Given → Option ArgMatches → Type 0
 HoldsGiven form None found = found ≡ None
 HoldsGiven form (Some given) found =

@@ -45,7 +45,7 @@ fn all_fit_after_first(words: &[String]) -> bool
     words.iter().skip(1).all(|word| is_fit(word.as_str()))
 }
 
-/// What clap matches, of which the first word is the verb's own; none where the words have no form.
+/// What clap matches, of which the first word is the verb's own; none if the words have no form.
 fn matches_for<'a>(
     alloc: Global,
     verb: Verb,
@@ -66,7 +66,7 @@ fn matches_for<'a>(
     }
 }
 
-/// The options that the words after the first give; none where they have no form.
+/// The options that the words after the first give; none if they have no form.
 pub fn parse<'a>(
     alloc: Global,
     verb: Verb,

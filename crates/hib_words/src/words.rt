@@ -200,7 +200,7 @@ fn command_from(alloc: Global, verb: Verb, found: &Found<'_>) -> Result<Option<C
     }
 }
 
-/// The command that these words are, without the program's own name before them; none exactly where they have no form. The
+/// The command that these words are, without the program's own name before them; none exactly if they have no form. The
 /// only error is want of memory.
 pub fn read(alloc: Global, words: &[String]) -> Result<Option<Command>, AllocError>
     ensures { IfOk result (λ r. option_map asked_of r ≡ command (map string_bytes words.now)) }

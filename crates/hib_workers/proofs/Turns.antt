@@ -57,7 +57,7 @@ pub finished_on : (r : Result ⊤ AllocError) (all left : Play) (old new : Facto
 finished_on (Ok t) all left old new played stands = goes_by all left (past old.journal) (past new.journal) played
 finished_on (Err e) all left old new played stands = stands
 
--- where memory ran out in a call, and not before
+-- if memory ran out in a call, and not before
 pub asked_by : {T : Type 0} (r : Result T AllocError) (from : Origin) (old new : FactoryState) → old.refused ≡ false
     → OnOk r (new.refused ≡ old.refused) → OnErr r (old.refused ≡ false → IsAskedOnceMore from (past new.journal) new.parts)
     → new.refused ≡ true → IsAskedOnceMore from (past new.journal) new.parts

@@ -14,9 +14,9 @@ pub record IsWorked (script : Script) (from : Origin) (handed now : FactoryState
   pub inside : outside_count (past now.journal) ≡ 0
   pub law : Obeys script from.tables (past now.journal)
   pub on : GoesOn (past handed.journal) (past now.journal)
-  -- where memory ran out, the keeper was asked at most once more than the journal says
+  -- if memory ran out, the keeper was asked at most once more than the journal says
   pub asked : handed.refused ≡ false → now.refused ≡ true → IsAskedOnceMore from (past now.journal) now.parts
-  -- where it had run out before, nothing was done
+  -- if it had run out before, nothing was done
   pub same : handed.refused ≡ true → now ≡ handed
 
 -- a factory that nobody handed in

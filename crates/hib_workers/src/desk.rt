@@ -43,7 +43,7 @@ impl<K: Keeper, N: Name, L: Listener, H: Handed> Model for Desk<K, N, L, H> {
     ghost invariant = { λ d. IsWorked N.script N.from H.factory d.factory };
 }
 
-/// How many of these entries are the session's, or 4294967295 where there are more.
+/// How many of these entries are the session's, or 4294967295 if there are more.
 fn count_of(entries: &[Entry], number: SessionNo) -> u32 {
     let count = entries
         .iter()
@@ -76,7 +76,7 @@ impl<K: Keeper, N: Name, L: Listener, H: Handed> Desk<K, N, L, H> {
         self.factory.sessions()
     }
 
-    /// How many entries a session has before its worker's first step, or 4294967295 where there are more.
+    /// How many entries a session has before its worker's first step, or 4294967295 if there are more.
     pub fn place_of(&self, number: SessionNo) -> u32 {
         let entries = self.factory.journal().as_slice();
         let before = self.before.min(entries.len());

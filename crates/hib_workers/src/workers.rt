@@ -80,7 +80,7 @@ struct Bench<K: Keeper, N: Name, L: Listener, H: Handed> {
 }
 
 impl<K: Keeper, N: Name, L: Listener, H: Handed> Bench<K, N, L, H> {
-    /// The next session that nobody has taken, or none where all are taken.
+    /// The next session that nobody has taken, or none if all are taken.
     fn take_session(&self) -> Option<SessionNo>
         ensures { IfSome result (λ number. number < length N.script.sessions) }
     {
