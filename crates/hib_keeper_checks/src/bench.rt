@@ -113,17 +113,53 @@ fn call<K: Keeper>(
     call_read(out, alloc, keeper, rest)
 }
 
-/// Opens another keeper over a file, and reads a row by it.
-fn read_beside(
-    rt: &HostRuntime,
-    alloc: Global,
-    out: &mut String,
-    path: &str,
-    rest: &mut &str,
-) -> io::Result<()> {
+/// What is done over a keeper, whatever its type.
+trait Task {
+    /// Does it, and answers how many lines were taken.
+    fn run<K: Keeper>(&mut self, rt: &HostRuntime, keeper: &mut K) -> io::Result<usize>;
+}
+
+/// Does something over a keeper over a file, and closes it.
+fn over_file<T: Task>(rt: &HostRuntime, path: &str, task: &mut T) -> io::Result<usize> {
     match open_file(rt, path) {
-        Ok(mut keeper) => call_read(out, alloc, &mut keeper, rest),
-        Err(_) => add(out, "refused"),
+        Ok(mut keeper) => {
+            let taken = task.run(rt, &mut keeper);
+            if let Some(connection) = keeper.into_connection() {
+                let _ = connection.close();
+            }
+            taken
+        }
+        Err(_) => Ok(0),
+    }
+}
+
+/// A row is read.
+#[derive(Drop)]
+struct Reading<'a, 'b> {
+    alloc: Global,
+    out: &'a mut String,
+    key: &'b str,
+}
+
+impl Task for Reading<'_, '_> {
+    fn run<K: Keeper>(&mut self, rt: &HostRuntime, keeper: &mut K) -> io::Result<usize> {
+        let _ = rt;
+        let mut rest = self.key;
+        call_read(self.out, self.alloc, keeper, &mut rest)?;
+        Ok(0)
+    }
+}
+
+/// A block of lines is done.
+#[derive(Drop)]
+struct Block<'a, 'b> {
+    bench: &'a mut Bench,
+    lines: &'b [String],
+}
+
+impl Task for Block<'_, '_> {
+    fn run<K: Keeper>(&mut self, rt: &HostRuntime, keeper: &mut K) -> io::Result<usize> {
+        serve(rt, self.bench, self.lines, keeper)
     }
 }
 
@@ -146,18 +182,6 @@ fn serve<K: Keeper>(
 
 fn over_memory(rt: &HostRuntime, bench: &mut Bench, lines: &[String]) -> io::Result<usize> {
     match in_memory(bench.alloc) {
-        Ok(mut keeper) => serve(rt, bench, lines, &mut keeper),
-        Err(_) => Ok(0),
-    }
-}
-
-fn over_file(
-    rt: &HostRuntime,
-    bench: &mut Bench,
-    path: &str,
-    lines: &[String],
-) -> io::Result<usize> {
-    match open_file(rt, path) {
         Ok(mut keeper) => serve(rt, bench, lines, &mut keeper),
         Err(_) => Ok(0),
     }
@@ -188,7 +212,7 @@ pub fn open(
     println!(rt; "{line}: ok")?;
     match word {
         "memory" => over_memory(rt, bench, lines),
-        "file" => over_file(rt, bench, rest, lines),
+        "file" => over_file(rt, rest, &mut Block { bench, lines }),
         _ => {
             fs::create_dir(rt, rest)?;
             Ok(0)
@@ -239,7 +263,13 @@ impl Bench {
     ) -> io::Result<()> {
         if word == "beside" {
             let path = words::next(rest);
-            return read_beside(rt, self.alloc, out, path, rest);
+            let mut reading = Reading {
+                alloc: self.alloc,
+                out,
+                key: *rest,
+            };
+            over_file(rt, path, &mut reading)?;
+            return Ok(());
         }
         call(out, self.alloc, keeper, word, rest, &self.next)?;
         self.next = nothing(self.alloc);
