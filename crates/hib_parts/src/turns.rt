@@ -34,7 +34,7 @@ fn tick_of(part: Tick, session: Tick) -> Result<Tick, AllocError>
 }
 
 /// One act of a session on the registry.
-fn step_registry<N: Name>(
+pub fn step_registry<N: Name>(
     alloc: Global,
     script: &Script,
     registry: &mut RegistryPart<N>,
@@ -52,7 +52,7 @@ fn step_registry<N: Name>(
 }
 
 /// One act of a session on the store.
-fn step_store<K: Keeper, N: Name>(
+pub fn step_store<K: Keeper, N: Name>(
     alloc: Global,
     script: &Script,
     store: &mut StorePart<K, N>,
@@ -71,7 +71,7 @@ fn step_store<K: Keeper, N: Name>(
 }
 
 /// One act of a session on the stamps.
-fn step_stamps<N: Name>(
+pub fn step_stamps<N: Name>(
     alloc: Global,
     script: &Script,
     stamps: &mut StampsPart<N>,
@@ -89,7 +89,7 @@ fn step_stamps<N: Name>(
 }
 
 /// One act of a session on the results.
-fn step_results<N: Name>(
+pub fn step_results<N: Name>(
     alloc: Global,
     script: &Script,
     results: &mut ResultsPart<N>,
@@ -107,7 +107,7 @@ fn step_results<N: Name>(
 }
 
 /// One act of a session on this region.
-fn step_region<N: Name>(
+pub fn step_region<N: Name>(
     alloc: Global,
     script: &Script,
     region: &mut RegionPart<N>,
@@ -126,7 +126,7 @@ fn step_region<N: Name>(
 }
 
 /// One act of a session that is its own.
-fn step_own<N: Name>(
+pub fn step_own<N: Name>(
     alloc: Global,
     script: &Script,
     worker: &mut Worker<N>,

@@ -3,8 +3,8 @@ use Rattle.std.specs.Vec.{vec_len, vec_capacity}
 use Rattle.hib_journal.specs.Types.{Part}
 use Rattle.hib_journal.specs.Kept.{past}
 use Rattle.hib_split_law.specs.Merged.{of_part_in}
-use Rattle.hib_parts.proofs.Gathered.{IsAdding}
-use Rattle.hib_parts.proofs.gathering.add_regions.Given as goal
+use Rattle.hib_split.proofs.Gathered.{IsAdding}
+use Rattle.hib_split.proofs.gathering.add_regions.Given as goal
 
 abbrev pub invariant-regions : goal.invariant-regions
 invariant-regions g l = record {

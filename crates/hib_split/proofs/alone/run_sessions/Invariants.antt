@@ -2,8 +2,8 @@ use Rattle.std.proofs.Common.{◌≡◌, ◌≤◌, ◌+◌, ◌-◌, length, ma
 use Rattle.std.specs.Vec.{vec_len, vec_capacity}
 use Rattle.hib_journal.specs.Kept.{past}
 use Rattle.hib_split_law.specs.Merged.{AreOwnLegal}
-use Rattle.hib_parts.specs.Alone.{AreAtEnds}
-use Rattle.hib_parts.proofs.alone.run_sessions.Given as goal
+use Rattle.hib_split.specs.Alone.{AreAtEnds}
+use Rattle.hib_split.proofs.alone.run_sessions.Given as goal
 
 abbrev pub invariant-loop-number : goal.invariant-loop-number
 invariant-loop-number g l = record {

@@ -3,9 +3,9 @@ use Rattle.hib_journal.specs.Types.{Part}
 use Rattle.hib_journal.specs.Sessions.{Journal}
 use Rattle.hib_journal.specs.Kept.{past}
 use Rattle.hib_split_law.specs.Merged.{of_part_in}
-use Rattle.hib_parts.specs.Gathered.{IsGathered}
-use Rattle.hib_parts.proofs.Gathered.{four_items, gather_four, store_of_four}
-use Rattle.hib_parts.proofs.gathering.add_four.Goals as goal
+use Rattle.hib_split.specs.Gathered.{IsGathered}
+use Rattle.hib_split.proofs.Gathered.{four_items, gather_four, store_of_four}
+use Rattle.hib_split.proofs.gathering.add_four.Goals as goal
 
 pub returns-clause-gathered : goal.returns-clause-gathered
 returns-clause-gathered g c =

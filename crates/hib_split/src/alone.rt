@@ -8,16 +8,15 @@ ghost use Rattle.hib_journal.specs.Next.{is_cached};
 ghost use Rattle.hib_engines.specs.Counts.{RoseWithin};
 ghost use Rattle.hib_split_law.specs.Apart.{store_ask_count};
 ghost use Rattle.hib_split_law.specs.Merged.{AreOwnLegal, list_of, of_part_in};
-ghost use Rattle.hib_parts.specs.Alone.{AreAtEnds, AreListed, IsToldBy};
+ghost use Rattle.hib_split.specs.Alone.{AreAtEnds, AreListed, IsToldBy};
 
 use crate::gathering::{add_own_lists, add_shared, room_for};
-use crate::parts::Parts;
-use crate::worker::Worker;
 use hib_base::{EntityNo, Script, Seq, SessionNo};
 use hib_core::Name;
 use hib_journal::Journal;
 use hib_merge::Lists;
 use hib_outside::Keeper;
+use hib_parts::{Parts, Worker};
 use std::alloc::{AllocError, Global};
 
 /// What comes of a run of the sessions over the parts.
@@ -86,7 +85,7 @@ fn run_sessions<K: Keeper, N: Name>(
 }
 
 /// Room for the lists of the shared parts, and for those of sessions.
-fn rooms(
+pub fn rooms(
     alloc: Global,
     regions: usize,
     sessions: usize,
@@ -103,7 +102,7 @@ fn rooms(
 }
 
 /// The run for which there is no room.
-fn without_room<K: Keeper, N: Name>(alloc: Global, parts: Parts<K, N>) -> Split<K>
+pub fn without_room<K: Keeper, N: Name>(alloc: Global, parts: Parts<K, N>) -> Split<K>
     requires { parts.store.list ≡ [] }
     ensures listed { AreListed N.script N.from.tables (map past result.lists) (map past result.mine) }
     ensures told { IsToldBy N.from (of_part_in Part.Store (map past result.lists)) (K.tables result.keeper) (K.faults result.keeper) }

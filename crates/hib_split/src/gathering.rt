@@ -7,16 +7,15 @@ ghost use Rattle.hib_journal.specs.Sessions.{same_part};
 ghost use Rattle.hib_engines.specs.Counts.{RoseWithin};
 ghost use Rattle.hib_split_law.specs.Apart.{IsPartLegal, store_ask_count};
 ghost use Rattle.hib_split_law.specs.Merged.{AreOwnLegal, list_of, of_part_in};
-ghost use Rattle.hib_parts.specs.Alone.{IsToldBy};
-ghost use Rattle.hib_parts.specs.Gathered.{AscendFrom, IsGathered};
+ghost use Rattle.hib_split.specs.Alone.{IsToldBy};
+ghost use Rattle.hib_split.specs.Gathered.{AscendFrom, IsGathered};
 ghost use Rattle.hib_parts.specs.Listed.{AreOf};
 
-use crate::parts::Parts;
-use crate::region::RegionPart;
 use hib_base::{Entry, Part, SessionNo};
 use hib_core::Name;
 use hib_journal::Journal;
 use hib_outside::Keeper;
+use hib_parts::{Parts, RegionPart};
 use std::alloc::{AllocError, Global};
 
 /// No lists, with room for so many.

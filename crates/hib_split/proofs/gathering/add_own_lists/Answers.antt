@@ -2,8 +2,8 @@ use Rattle.std.proofs.Common.{◌<◌, ◌≤◌, length, map, reverse, arith}
 use Rattle.hib_journal.specs.Types.{Part}
 use Rattle.hib_journal.specs.Kept.{past}
 use Rattle.hib_split_law.specs.Merged.{of_part_in}
-use Rattle.hib_parts.proofs.Gathered.{own_added, own_store, own_each, own_done}
-use Rattle.hib_parts.proofs.gathering.add_own_lists.Goals as goal
+use Rattle.hib_split.proofs.Gathered.{own_added, own_store, own_each, own_done}
+use Rattle.hib_split.proofs.gathering.add_own_lists.Goals as goal
 
 pub loop-number-preserved : goal.loop-number-preserved
 loop-number-preserved g c =

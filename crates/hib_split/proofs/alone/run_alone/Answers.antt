@@ -1,8 +1,8 @@
 use Rattle.std.proofs.Common.{ℕ, List, length, sym, ◌∙◌, subst}
 use Rattle.hib_journal.specs.Next.{is_cached}
-use Rattle.hib_parts.specs.Gathered.{AscendFrom}
-use Rattle.hib_parts.proofs.Gathered.{ascend_picked, listed}
-use Rattle.hib_parts.proofs.alone.run_alone.Goals as goal
+use Rattle.hib_split.specs.Gathered.{AscendFrom}
+use Rattle.hib_split.proofs.Gathered.{ascend_picked, listed}
+use Rattle.hib_split.proofs.alone.run_alone.Goals as goal
 
 pub add_shared-keeper-requires-clause-ascend : goal.add_shared-keeper-requires-clause-ascend
 add_shared-keeper-requires-clause-ascend g c κs within =

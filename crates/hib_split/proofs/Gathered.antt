@@ -1,5 +1,5 @@
 -- The lists of parts are gathered in the order of parts.
-use Rattle.std.proofs.Common.{◌≡◌, ◌<◌, ◌≤◌, ◌+◌, ◌==◌, ◌⊎◌, inl, inr, ℕ, zero, suc, Bool, true, false, cond, ◌&&◌, ◌||◌, nat_lt, List, [], ◌∷◌, ◌++◌, length, map, reverse, take, set, get_or, None, Option, Ok, Err, Result, OnOk, refl, sym, ap, ◌∙◌, subst, append-nil, arith}
+use Rattle.std.proofs.Common.{◌≡◌, ◌<◌, ◌≤◌, ◌+◌, ◌==◌, ◌⊎◌, inl, inr, ℕ, zero, suc, Bool, true, false, cond, ◌&&◌, ◌||◌, nat_lt, List, [], ◌∷◌, ◌++◌, length, map, reverse, take, get_or, None, Option, Ok, Err, Result, OnOk, refl, sym, ap, ◌∙◌, subst, append-nil, arith}
 use Rattle.std.proofs.lemmas.Bool.{true≢false}
 use Rattle.std.proofs.lemmas.Bool.Decides.{nat_tests}
 use Rattle.std.proofs.lemmas.Grind.{flat_map-append}
@@ -18,8 +18,8 @@ use Rattle.hib_split_law.proofs.Apart.{same_self, same_is}
 use Rattle.hib_merge.specs.Merging.{Rises, IsRising, AreRising, IsInOne}
 use Rattle.hib_merge.proofs.Placed.{take_next}
 use Rattle.hib_merge.proofs.Reversed.{rising_part}
-use Rattle.hib_parts.specs.Alone.{AreAtEnds, AreListed}
-use Rattle.hib_parts.specs.Gathered.{IsGathered, AscendFrom}
+use Rattle.hib_split.specs.Alone.{AreAtEnds, AreListed}
+use Rattle.hib_split.specs.Gathered.{IsGathered, AscendFrom}
 use Rattle.hib_parts.specs.Listed.{AreOf}
 use Rattle.hib_parts.proofs.Lists.{none_of, all_of}
 
@@ -204,13 +204,6 @@ store_same n ks ls j whole h o e = ap (of_part_in Part.Store) (ap (map past) h �
 
 pub adding_done : {R : Type 0} (script : Script) (told : Option Tables) (f : R → ℕ) (rest : List R) (ls : List Journal) → IsAdding script told (map f (reverse rest)) ls → IsGathered script told (Part.Own 0) ls
 adding_done script told f rest ls a = gather_skip script told (Part.Region a.bound) (Part.Own 0) ls refl a.gathered
-
--- the entities stay where a region does
-
-pub same_entities : {R : Type 0} (f : R → ℕ) (xs : List R) (i : ℕ) (x y : R) → x ≡ get_or xs i x → f y ≡ f x → map f (set xs i y) ≡ map f xs
-same_entities f [] i x y e q = refl
-same_entities f (z ∷ xs) zero x y e q = ap (λ n. n ∷ map f xs) (q ∙ ap f e)
-same_entities f (z ∷ xs) (suc i) x y e q = ap (λ ns. f z ∷ ns) (same_entities f xs i x y e q)
 
 -- ---- a session's own entries
 

@@ -2,9 +2,9 @@ use Rattle.std.proofs.Common.{◌≡◌, ◌+◌, ℕ, None, map, sym, ap, ◌�
 use Rattle.hib_journal.specs.Kept.{past}
 use Rattle.hib_journal.specs.Next.{next}
 use Rattle.hib_split_law.specs.Apart.{IsOwnLegal}
-use Rattle.hib_parts.specs.Alone.{AreAtEnds}
-use Rattle.hib_parts.proofs.Gathered.{mine_legal, mine_over, ok_more}
-use Rattle.hib_parts.proofs.alone.run_session.Goals as goal
+use Rattle.hib_split.specs.Alone.{AreAtEnds}
+use Rattle.hib_split.proofs.Gathered.{mine_legal, mine_over, ok_more}
+use Rattle.hib_split.proofs.alone.run_session.Goals as goal
 
 pub returns-clause-legal : goal.returns-clause-legal
 returns-clause-legal g c =

@@ -3,8 +3,8 @@ use Rattle.hib_journal.specs.Types.{Part}
 use Rattle.hib_journal.specs.Kept.{past}
 use Rattle.hib_journal.specs.Lists.{of_part}
 use Rattle.hib_split_law.specs.Merged.{list_of, of_part_in}
-use Rattle.hib_parts.specs.Gathered.{IsGathered}
-use Rattle.hib_parts.proofs.gathering.add_own_lists.Given as goal
+use Rattle.hib_split.specs.Gathered.{IsGathered}
+use Rattle.hib_split.proofs.gathering.add_own_lists.Given as goal
 
 abbrev pub invariant-loop-number : goal.invariant-loop-number
 invariant-loop-number g l = record {

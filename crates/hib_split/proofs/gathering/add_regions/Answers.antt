@@ -2,8 +2,8 @@ use Rattle.std.proofs.Common.{map, arith}
 use Rattle.hib_journal.specs.Types.{Part}
 use Rattle.hib_journal.specs.Kept.{past}
 use Rattle.hib_split_law.specs.Merged.{of_part_in}
-use Rattle.hib_parts.proofs.Gathered.{adding_region, store_same}
-use Rattle.hib_parts.proofs.gathering.add_regions.Goals as goal
+use Rattle.hib_split.proofs.Gathered.{adding_region, store_same}
+use Rattle.hib_split.proofs.gathering.add_regions.Goals as goal
 
 pub regions-preserved : goal.regions-preserved
 regions-preserved g c = record {
