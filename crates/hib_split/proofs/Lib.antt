@@ -1,1 +1,4 @@
 pub mod Gathered
+pub mod Locks
+pub mod Captured
+pub mod Crossing

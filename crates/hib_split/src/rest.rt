@@ -70,25 +70,26 @@ fn end_session<K: Keeper, N: Name>(
     alloc: Global,
     script: &Script,
     parts: &mut Parts<K, N>,
+    aside: &mut Vec<Option<Worker<N>>>,
     mine: &mut Vec<Journal>,
-    worker: Worker<N>,
+    number: SessionNo,
     before: bool,
 ) -> bool
     requires script { script.now ≡ N.script }
     requires room { vec_len mine.old < vec_capacity mine.old }
-    requires place { worker.number ≡ length mine.old.items }
+    requires place { number ≡ length mine.old.items }
     requires going { before ≡ false → parts.old.store.refused ≡ false }
     requires legal { AreOwnLegal N.script (map past mine.old.items) }
-    requires over { before ≡ false → AreAtEnds N.script worker.number (map past mine.old.items) }
+    requires over { before ≡ false → AreAtEnds N.script number (map past mine.old.items) }
     ensures going { result ≡ false → parts.new.store.refused ≡ false }
     ensures entities { map (λ r. r.entity) parts.new.regions.items ≡ map (λ r. r.entity) parts.old.regions.items }
     ensures legal { AreOwnLegal N.script (map past mine.new.items) }
-    ensures over { result ≡ false → AreAtEnds N.script (worker.number + 1) (map past mine.new.items) }
-    ensures place { length mine.new.items ≡ worker.number + 1 }
+    ensures over { result ≡ false → AreAtEnds N.script (number + 1) (map past mine.new.items) }
+    ensures place { length mine.new.items ≡ number + 1 }
     ensures len { vec_len mine.new ≡ vec_len mine.old + 1 }
     ensures capacity { vec_capacity mine.new ≡ vec_capacity mine.old }
 {
-    let mut session = worker;
+    let mut session = taken(alloc, aside, number);
     let refused = step_to_end(alloc, script, parts, &mut session, before);
     let (_, list) = session.close();
     mine.push_reserved(list);
@@ -117,8 +118,8 @@ fn end_sessions<K: Keeper, N: Name>(
     parts.registry.built();
     let mut refused = before;
     for number in 0..script.sessions.len() {
-        let worker = taken(alloc, aside, SessionNo(number as u32));
-        refused = end_session(alloc, script, parts, mine, worker, refused);
+        let session = SessionNo(number as u32);
+        refused = end_session(alloc, script, parts, aside, mine, session, refused);
     }
     refused
 }

@@ -1,6 +1,6 @@
 // Workers: threads that step sessions over parts behind locks, each a session at a time.
 ghost use Rattle.std.specs.Prelude.{◌≡◌, ◌≤◌, ◌+◌, [], map, vec_len, vec_capacity, IfNone};
-ghost use denote.Param.Send.{IsSend, IsSync};
+ghost use denote.Param.Send.{IsSync};
 
 use crate::bench::{Bench, Halt, Left, Room};
 use hib_base::{Query, Script};
@@ -40,11 +40,6 @@ pub fn on_threads<R: Threads + Wait + Sync, K: Keeper, N: Name + Send + Sync, G:
     bench.close(regions)
 }
 
-/// What may go from thread to thread, proofs may say so of.
-fn may_be_sent<T: Send>()
-    ensures { IsSend T.row }
-{}
-
 /// What threads may share, proofs may say so of.
 fn may_be_shared<T: Sync>()
     ensures { IsSync T.row }
@@ -61,9 +56,11 @@ fn take_turns<R: Threads + Wait + Sync, K: Keeper, N: Name + Send + Sync, G: Gat
 )
     requires { script.now ≡ N.script }
 {
-    may_be_sent::<Query>();
     may_be_shared::<Query>();
-    spread(rt, workers, &move || serve(rt, alloc, bench, script, gate));
+    let work = move ||
+        requires { script.now ≡ N.script }
+    { serve(rt, alloc, bench, script, gate) };
+    spread(rt, workers, &work);
 }
 
 /// Starts so many threads that do this work, and waits for their ends. One that can't be started is done without.
