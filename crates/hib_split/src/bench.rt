@@ -203,7 +203,8 @@ fn step_under_lock<R: Wait, N: Name>(
     };
     let mut held = regions[place].region.lock(rt);
     let region = &mut *held;
-    compared(entity, region.entity())?;
+    let found = region.entity();
+    compared(entity, found)?;
     step_region(alloc, script, region, worker)?;
     Ok(())
 }
