@@ -47,7 +47,8 @@ fn run_session<K: Keeper, N: Name>(
     requires legal { AreOwnLegal N.script (map past mine.old.items) }
     requires over { AreAtEnds N.script number (map past mine.old.items) }
     ensures going { OnOk result (parts.new.store.refused ≡ parts.old.store.refused) }
-    ensures entities { map (λ r. r.entity) parts.new.regions.items ≡ map (λ r. r.entity) parts.old.regions.items }
+    ensures entities { map (λ r. r.entity) parts.new.regions.items
+        ≡ map (λ r. r.entity) parts.old.regions.items }
     ensures legal { AreOwnLegal N.script (map past mine.new.items) }
     ensures over { OnOk result (AreAtEnds N.script (number + 1) (map past mine.new.items)) }
     ensures place { length mine.new.items ≡ number + 1 }
@@ -73,9 +74,11 @@ fn run_sessions<K: Keeper, N: Name>(
     requires empty { mine.old.items ≡ [] }
     requires room { vec_len mine.old + length script.now.sessions ≤ vec_capacity mine.old }
     ensures going { OnOk result (parts.new.store.refused ≡ parts.old.store.refused) }
-    ensures entities { map (λ r. r.entity) parts.new.regions.items ≡ map (λ r. r.entity) parts.old.regions.items }
+    ensures entities { map (λ r. r.entity) parts.new.regions.items
+        ≡ map (λ r. r.entity) parts.old.regions.items }
     ensures legal { AreOwnLegal N.script (map past mine.new.items) }
-    ensures over { OnOk result (AreAtEnds N.script (length N.script.sessions) (map past mine.new.items)) }
+    ensures over { OnOk result
+        (AreAtEnds N.script (length N.script.sessions) (map past mine.new.items)) }
 {
     parts.registry.built();
     for number in 0..script.sessions.len() {
@@ -104,8 +107,10 @@ pub fn rooms(
 /// The run for which there is no room.
 pub fn without_room<K: Keeper, N: Name>(alloc: Global, parts: Parts<K, N>) -> Split<K>
     requires { parts.store.list ≡ [] }
-    ensures listed { AreListed N.script N.from.tables (map past result.lists) (map past result.mine) }
-    ensures told { IsToldBy N.from (of_part_in Part.Store (map past result.lists)) (K.tables result.keeper) (K.faults result.keeper) }
+    ensures listed { AreListed N.script N.from.tables (map past result.lists)
+        (map past result.mine) }
+    ensures told { IsToldBy N.from (of_part_in Part.Store (map past result.lists))
+        (K.tables result.keeper) (K.faults result.keeper) }
     ensures strange { result.strange ≡ None }
     ensures memory { result.out_of_memory ≡ true }
 {
@@ -132,12 +137,20 @@ pub fn run_alone<K: Keeper, N: Name>(alloc: Global, parts: Parts<K, N>, script: 
     requires script { script.now ≡ N.script }
     requires store { parts.store.list ≡ [] }
     requires going { parts.store.refused ≡ false }
-    requires entities { map (λ r. r.entity) parts.regions.items ≡ filter (λ n. is_cached N.script n) (range_with_len 0 (length N.script.mapping)) }
-    ensures listed { AreListed N.script N.from.tables (map past result.lists) (map past result.mine) }
-    ensures over { result.out_of_memory ≡ false → AreAtEnds N.script (length N.script.sessions) (map past result.mine) }
-    ensures told { IsToldBy N.from (of_part_in Part.Store (map past result.lists)) (K.tables result.keeper) (K.faults result.keeper) }
-    ensures asked { result.out_of_memory ≡ false → RoseWithin N.from.asked (store_ask_count (of_part_in Part.Store (map past result.lists))) (K.asked result.keeper) }
-    ensures own { result.out_of_memory ≡ false → (s : ℕ) → of_part_in (Part.Own s) (map past result.lists) ≡ of_part (Part.Own s) (list_of s (map past result.mine)) }
+    requires entities { map (λ r. r.entity) parts.regions.items
+        ≡ filter (λ n. is_cached N.script n) (range_with_len 0 (length N.script.mapping)) }
+    ensures listed { AreListed N.script N.from.tables (map past result.lists)
+        (map past result.mine) }
+    ensures over { result.out_of_memory ≡ false
+        → AreAtEnds N.script (length N.script.sessions) (map past result.mine) }
+    ensures told { IsToldBy N.from (of_part_in Part.Store (map past result.lists))
+        (K.tables result.keeper) (K.faults result.keeper) }
+    ensures asked { result.out_of_memory ≡ false
+        → RoseWithin N.from.asked (store_ask_count (of_part_in Part.Store (map past result.lists)))
+        (K.asked result.keeper) }
+    ensures own { result.out_of_memory ≡ false → (s : ℕ)
+        → of_part_in (Part.Own s) (map past result.lists)
+        ≡ of_part (Part.Own s) (list_of s (map past result.mine)) }
     ensures strange { result.strange ≡ None }
 {
     let regions = parts.regions.len();

@@ -149,7 +149,8 @@ fn unlock_regions<N: Name>(
 ) -> Result<(), Strange>
     requires empty { regions.old.items ≡ [] }
     requires room { vec_len regions.old + vec_len locks ≤ vec_capacity regions.old }
-    ensures entities { OnOk result (map (λ r. r.entity) regions.new.items ≡ map (λ l. l.entity) locks.items) }
+    ensures entities { OnOk result
+        (map (λ r. r.entity) regions.new.items ≡ map (λ l. l.entity) locks.items) }
     ensures len { OnOk result (vec_len regions.new ≡ vec_len regions.old + vec_len locks) }
 {
     let mut rest = locks;
@@ -220,7 +221,8 @@ impl<K: Keeper, N: Name> Bench<K, N> {
         requires script { script.now ≡ N.script }
         requires empty { locks.items ≡ [] }
         requires room { vec_len locks + vec_len parts.regions ≤ vec_capacity locks }
-        ensures entities { map (λ l. l.entity) result.regions.items ≡ map (λ r. r.entity) parts.regions.items }
+        ensures entities { map (λ l. l.entity) result.regions.items
+            ≡ map (λ r. r.entity) parts.regions.items }
         ensures len { vec_len result.regions ≡ vec_len locks + vec_len parts.regions }
     {
         parts.registry.built();
@@ -251,8 +253,11 @@ impl<K: Keeper, N: Name> Bench<K, N> {
     pub fn close(self, room: Vec<RegionPart<N>>) -> Left<K, N>
         requires empty { room.items ≡ [] }
         requires room { vec_len room + vec_len self.regions ≤ vec_capacity room }
-        ensures entities { IfNone result.strange (map (λ r. r.entity) result.parts.regions.items ≡ map (λ l. l.entity) self.regions.items) }
-        ensures len { IfNone result.strange (vec_len result.parts.regions ≡ vec_len room + vec_len self.regions) }
+        ensures entities { IfNone result.strange
+            (map (λ r. r.entity) result.parts.regions.items
+            ≡ map (λ l. l.entity) self.regions.items) }
+        ensures len { IfNone result.strange
+            (vec_len result.parts.regions ≡ vec_len room + vec_len self.regions) }
     {
         let Bench {
             registry,

@@ -45,7 +45,8 @@ fn add_four<N: Name>(
     requires legal_store { IsPartLegal N.script N.from.tables (past store) }
     requires legal_stamps { IsPartLegal N.script N.from.tables (past stamps) }
     requires legal_results { IsPartLegal N.script N.from.tables (past results) }
-    ensures gathered { IsGathered N.script N.from.tables (Part.Region 0) (map past lists.new.items) }
+    ensures gathered { IsGathered N.script N.from.tables (Part.Region 0)
+        (map past lists.new.items) }
     ensures stored { of_part_in Part.Store (map past lists.new.items) ≡ past store }
     ensures len { vec_len lists.new ≡ vec_len lists.old + 4 }
     ensures capacity { vec_capacity lists.new ≡ vec_capacity lists.old }
@@ -60,9 +61,11 @@ fn add_four<N: Name>(
 fn add_regions<N: Name>(lists: &mut Vec<Journal>, regions: Vec<RegionPart<N>>)
     requires room { vec_len lists.old + vec_len regions ≤ vec_capacity lists.old }
     requires ascend { AscendFrom 0 (map (λ r. r.entity) (reverse regions.items)) }
-    requires gathered { IsGathered N.script N.from.tables (Part.Region 0) (map past lists.old.items) }
+    requires gathered { IsGathered N.script N.from.tables (Part.Region 0)
+        (map past lists.old.items) }
     ensures gathered { IsGathered N.script N.from.tables (Part.Own 0) (map past lists.new.items) }
-    ensures store { of_part_in Part.Store (map past lists.new.items) ≡ of_part_in Part.Store (map past lists.old.items) }
+    ensures store { of_part_in Part.Store (map past lists.new.items)
+        ≡ of_part_in Part.Store (map past lists.old.items) }
 {
     let mut regions = regions;
     'regions: while let Some(region) = regions.pop() {
@@ -76,8 +79,11 @@ pub fn add_shared<K: Keeper, N: Name>(lists: &mut Vec<Journal>, parts: Parts<K, 
     requires room { vec_len lists.old + (vec_len parts.regions + 4) ≤ vec_capacity lists.old }
     requires ascend { AscendFrom 0 (map (λ r. r.entity) parts.regions.items) }
     ensures gathered { IsGathered N.script N.from.tables (Part.Own 0) (map past lists.new.items) }
-    ensures told { IsToldBy N.from (of_part_in Part.Store (map past lists.new.items)) (K.tables result) (K.faults result) }
-    ensures asked { parts.store.refused ≡ false → RoseWithin N.from.asked (store_ask_count (of_part_in Part.Store (map past lists.new.items))) (K.asked result) }
+    ensures told { IsToldBy N.from (of_part_in Part.Store (map past lists.new.items))
+        (K.tables result) (K.faults result) }
+    ensures asked { parts.store.refused ≡ false
+        → RoseWithin N.from.asked
+        (store_ask_count (of_part_in Part.Store (map past lists.new.items))) (K.asked result) }
 {
     let Parts {
         registry,
@@ -109,7 +115,10 @@ fn is_number(number: usize, session: SessionNo) -> bool
 
 /// Adds an equal entry, if it is a session's own.
 fn add_own(alloc: Global, own: &mut Journal, number: usize, entry: &Entry) -> Result<(), AllocError>
-    ensures { OnOk result (past own.new ≡ cond (same_part (Part.Own number) entry.now.part) (entry.now ∷ past own.old) (past own.old)) }
+    ensures { OnOk result
+        (past own.new
+        ≡ cond (same_part (Part.Own number) entry.now.part) (entry.now ∷ past own.old)
+        (past own.old)) }
 {
     match entry.part {
         Part::Own(session) if is_number(number, session) => own.push(entry.copy(alloc)?),
@@ -136,9 +145,13 @@ pub fn add_own_lists<N: Name>(
 ) -> Result<(), AllocError>
     requires mine { AreOwnLegal N.script (map past mine.now) }
     requires gathered { IsGathered N.script N.from.tables (Part.Own 0) (map past lists.old.items) }
-    ensures gathered { (n : ℕ) × IsGathered N.script N.from.tables (Part.Own n) (map past lists.new.items) }
-    ensures store { of_part_in Part.Store (map past lists.new.items) ≡ of_part_in Part.Store (map past lists.old.items) }
-    ensures own { OnOk result ((s : ℕ) → of_part_in (Part.Own s) (map past lists.new.items) ≡ of_part (Part.Own s) (list_of s (map past mine.now))) }
+    ensures gathered { (n : ℕ)
+        × IsGathered N.script N.from.tables (Part.Own n) (map past lists.new.items) }
+    ensures store { of_part_in Part.Store (map past lists.new.items)
+        ≡ of_part_in Part.Store (map past lists.old.items) }
+    ensures own { OnOk result
+        ((s : ℕ) → of_part_in (Part.Own s) (map past lists.new.items)
+        ≡ of_part (Part.Own s) (list_of s (map past mine.now))) }
 {
     for number in 0..mine.len() {
         let own = own_entries(alloc, number, mine[number].as_slice())?;

@@ -50,7 +50,8 @@ fn step_to_end<K: Keeper, N: Name>(
     requires script { script.now ≡ N.script }
     requires going { before ≡ false → parts.old.store.refused ≡ false }
     ensures going { result ≡ false → parts.new.store.refused ≡ false }
-    ensures entities { map (λ r. r.entity) parts.new.regions.items ≡ map (λ r. r.entity) parts.old.regions.items }
+    ensures entities { map (λ r. r.entity) parts.new.regions.items
+        ≡ map (λ r. r.entity) parts.old.regions.items }
     ensures number { worker.new.number ≡ worker.old.number }
     ensures over { result ≡ false → next N.script worker.new.number worker.new.list ≡ None }
     ensures before { result ≡ false → before ≡ false }
@@ -82,7 +83,8 @@ fn end_session<K: Keeper, N: Name>(
     requires legal { AreOwnLegal N.script (map past mine.old.items) }
     requires over { before ≡ false → AreAtEnds N.script number (map past mine.old.items) }
     ensures going { result ≡ false → parts.new.store.refused ≡ false }
-    ensures entities { map (λ r. r.entity) parts.new.regions.items ≡ map (λ r. r.entity) parts.old.regions.items }
+    ensures entities { map (λ r. r.entity) parts.new.regions.items
+        ≡ map (λ r. r.entity) parts.old.regions.items }
     ensures legal { AreOwnLegal N.script (map past mine.new.items) }
     ensures over { result ≡ false → AreAtEnds N.script (number + 1) (map past mine.new.items) }
     ensures place { length mine.new.items ≡ number + 1 }
@@ -111,9 +113,11 @@ fn end_sessions<K: Keeper, N: Name>(
     requires room { vec_len mine.old + length script.now.sessions ≤ vec_capacity mine.old }
     requires going { before ≡ false → parts.old.store.refused ≡ false }
     ensures going { result ≡ false → parts.new.store.refused ≡ false }
-    ensures entities { map (λ r. r.entity) parts.new.regions.items ≡ map (λ r. r.entity) parts.old.regions.items }
+    ensures entities { map (λ r. r.entity) parts.new.regions.items
+        ≡ map (λ r. r.entity) parts.old.regions.items }
     ensures legal { AreOwnLegal N.script (map past mine.new.items) }
-    ensures over { result ≡ false → AreAtEnds N.script (length N.script.sessions) (map past mine.new.items) }
+    ensures over { result ≡ false
+        → AreAtEnds N.script (length N.script.sessions) (map past mine.new.items) }
 {
     parts.registry.built();
     let mut refused = before;
@@ -142,16 +146,24 @@ pub fn go_on<K: Keeper, N: Name>(
     mine: Vec<Journal>,
 ) -> Split<K>
     requires script { script.now ≡ N.script }
-    requires entities { map (λ r. r.entity) parts.regions.items ≡ filter (λ n. is_cached N.script n) (range_with_len 0 (length N.script.mapping)) }
+    requires entities { map (λ r. r.entity) parts.regions.items
+        ≡ filter (λ n. is_cached N.script n) (range_with_len 0 (length N.script.mapping)) }
     requires lists { lists.items ≡ [] }
     requires room { vec_len lists + (vec_len parts.regions + 4) ≤ vec_capacity lists }
     requires mine { mine.items ≡ [] }
     requires own_room { vec_len mine + length script.now.sessions ≤ vec_capacity mine }
-    ensures listed { AreListed N.script N.from.tables (map past result.lists) (map past result.mine) }
-    ensures over { result.out_of_memory ≡ false → AreAtEnds N.script (length N.script.sessions) (map past result.mine) }
-    ensures told { IsToldBy N.from (of_part_in Part.Store (map past result.lists)) (K.tables result.keeper) (K.faults result.keeper) }
-    ensures asked { result.out_of_memory ≡ false → RoseWithin N.from.asked (store_ask_count (of_part_in Part.Store (map past result.lists))) (K.asked result.keeper) }
-    ensures own { result.out_of_memory ≡ false → (s : ℕ) → of_part_in (Part.Own s) (map past result.lists) ≡ of_part (Part.Own s) (list_of s (map past result.mine)) }
+    ensures listed { AreListed N.script N.from.tables (map past result.lists)
+        (map past result.mine) }
+    ensures over { result.out_of_memory ≡ false
+        → AreAtEnds N.script (length N.script.sessions) (map past result.mine) }
+    ensures told { IsToldBy N.from (of_part_in Part.Store (map past result.lists))
+        (K.tables result.keeper) (K.faults result.keeper) }
+    ensures asked { result.out_of_memory ≡ false
+        → RoseWithin N.from.asked (store_ask_count (of_part_in Part.Store (map past result.lists)))
+        (K.asked result.keeper) }
+    ensures own { result.out_of_memory ≡ false → (s : ℕ)
+        → of_part_in (Part.Own s) (map past result.lists)
+        ≡ of_part (Part.Own s) (list_of s (map past result.mine)) }
     ensures strange { result.strange ≡ None }
 {
     let mut parts = parts;
@@ -178,8 +190,10 @@ pub fn stop<K: Keeper, N: Name>(
     strange: &Strange,
     out_of_memory: bool,
 ) -> Split<K>
-    ensures listed { AreListed N.script N.from.tables (map past result.lists) (map past result.mine) }
-    ensures own { (s : ℕ) → of_part_in (Part.Own s) (map past result.lists) ≡ of_part (Part.Own s) (list_of s (map past result.mine)) }
+    ensures listed { AreListed N.script N.from.tables (map past result.lists)
+        (map past result.mine) }
+    ensures own { (s : ℕ) → of_part_in (Part.Own s) (map past result.lists)
+        ≡ of_part (Part.Own s) (list_of s (map past result.mine)) }
     ensures strange { IfSome result.strange (λ p. p.0 ≢ p.1) }
     ensures stopped { IsSome result.strange }
 {

@@ -43,12 +43,21 @@ pub fn work_split<R: Threads + Wait + Sync, K: Keeper, N: Name + Send + Sync, G:
     requires script { script.now ≡ N.script }
     requires store { parts.store.list ≡ [] }
     requires going { parts.store.refused ≡ false }
-    requires entities { map (λ r. r.entity) parts.regions.items ≡ filter (λ n. is_cached N.script n) (range_with_len 0 (length N.script.mapping)) }
-    ensures listed { AreListed N.script N.from.tables (map past result.lists) (map past result.mine) }
-    ensures over { result.strange ≡ None → result.out_of_memory ≡ false → AreAtEnds N.script (length N.script.sessions) (map past result.mine) }
-    ensures told { result.strange ≡ None → IsToldBy N.from (of_part_in Part.Store (map past result.lists)) (K.tables result.keeper) (K.faults result.keeper) }
-    ensures asked { result.strange ≡ None → result.out_of_memory ≡ false → RoseWithin N.from.asked (store_ask_count (of_part_in Part.Store (map past result.lists))) (K.asked result.keeper) }
-    ensures own { result.out_of_memory ≡ false → (s : ℕ) → of_part_in (Part.Own s) (map past result.lists) ≡ of_part (Part.Own s) (list_of s (map past result.mine)) }
+    requires entities { map (λ r. r.entity) parts.regions.items
+        ≡ filter (λ n. is_cached N.script n) (range_with_len 0 (length N.script.mapping)) }
+    ensures listed { AreListed N.script N.from.tables (map past result.lists)
+        (map past result.mine) }
+    ensures over { result.strange ≡ None → result.out_of_memory ≡ false
+        → AreAtEnds N.script (length N.script.sessions) (map past result.mine) }
+    ensures told { result.strange ≡ None
+        → IsToldBy N.from (of_part_in Part.Store (map past result.lists)) (K.tables result.keeper)
+        (K.faults result.keeper) }
+    ensures asked { result.strange ≡ None → result.out_of_memory ≡ false
+        → RoseWithin N.from.asked (store_ask_count (of_part_in Part.Store (map past result.lists)))
+        (K.asked result.keeper) }
+    ensures own { result.out_of_memory ≡ false → (s : ℕ)
+        → of_part_in (Part.Own s) (map past result.lists)
+        ≡ of_part (Part.Own s) (list_of s (map past result.mine)) }
     ensures strange { IfSome result.strange (λ p. p.0 ≢ p.1) }
     ensures alone { workers ≡ 1 → result.strange ≡ None }
 {

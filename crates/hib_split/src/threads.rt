@@ -27,7 +27,8 @@ pub fn on_threads<R: Threads + Wait + Sync, K: Keeper, N: Name + Send + Sync, G:
     requires lock_room { vec_len parts.regions ≤ vec_capacity room.locks }
     requires regions { (room.regions.items ≡ []) × (vec_len room.regions ≡ 0) }
     requires room { vec_len parts.regions ≤ vec_capacity room.regions }
-    ensures entities { IfNone result.strange (map (λ r. r.entity) result.parts.regions.items ≡ map (λ r. r.entity) parts.regions.items) }
+    ensures entities { IfNone result.strange
+        (map (λ r. r.entity) result.parts.regions.items ≡ map (λ r. r.entity) parts.regions.items) }
     ensures len { IfNone result.strange (vec_len result.parts.regions ≡ vec_len parts.regions) }
 {
     let Room {
