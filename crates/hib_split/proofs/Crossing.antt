@@ -53,7 +53,7 @@ use Rattle.hib_parts.specs.contracts.results.ResultsPart as ResultsPartT
 use Rattle.hib_parts.specs.contracts.region.RegionPart as RegionPartT
 use Rattle.hib_parts.specs.contracts.worker.Worker as WorkerT
 use Rattle.hib_split.specs.contracts.strange.Strange as StrangeT
-use Rattle.hib_split.specs.contracts.bench.LockedRegion as LockedRegionT
+use Rattle.hib_split.specs.contracts.locks.LockedRegion as LockedRegionT
 use Rattle.hib_split.specs.contracts.bench.Bench as BenchT
 
 seq_send : (T : RattleType) → IsSend T → IsSend (SeqT.the_field T).row

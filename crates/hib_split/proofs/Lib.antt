@@ -1,4 +1,4 @@
 pub mod Gathered
-pub mod Locks
+pub mod Moved
 pub mod Captured
 pub mod Crossing

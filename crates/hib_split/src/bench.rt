@@ -1,56 +1,21 @@
 // What workers share: each part behind a lock of its own.
-ghost use Rattle.std.specs.Prelude.{◌≡◌, ◌<◌, ◌≤◌, ◌+◌, ◌^◌, [], length, map, vec_len, vec_capacity, IfNone, IfSome, IfOk, IsOk, OnOk};
-ghost use Rattle.hib_base.specs.declared.entries.Part.{Part};
+ghost use Rattle.std.specs.Prelude.{◌≡◌, ◌<◌, ◌≤◌, ◌+◌, ◌^◌, [], map, vec_len, vec_capacity, IfNone, IfOk, IsOk};
 ghost use Rattle.hib_parts.specs.Listed.{IsDueOn};
 
-use crate::strange::{Strange, compared};
-use hib_base::{EntityNo, Part, Script, SessionNo};
+use crate::halt::Halt;
+use crate::locks::{LockedRegion, lock_regions, step_under_lock, unlock_regions};
+use crate::strange::Strange;
+use hib_base::{Part, Script, SessionNo};
 use hib_core::{Name, Stepped};
 use hib_journal::part_of;
 use hib_outside::Keeper;
 use hib_parts::{
     Parts, RegionPart, RegistryPart, ResultsPart, StampsPart, StorePart, Worker, step_own,
-    step_region, step_registry, step_results, step_stamps, step_store,
+    step_registry, step_results, step_stamps, step_store,
 };
 use std::alloc::{AllocError, Global};
 use std::sync::atomic::{AtomicBool, AtomicUsize, Ordering};
 use std::sync::{Mutex, Wait};
-
-/// Why a worker stops before its session is at its end.
-#[derive(Drop)]
-pub enum Halt {
-    /// Memory ran out, or no tick is left.
-    NoMemory,
-    /// A lock gave another region than the one that was asked for.
-    Strange(Strange),
-}
-
-impl From<AllocError> for Halt {
-    ghost use Rattle.hib_split.specs.declared.bench.Halt.TheVariants.{NoMemory};
-
-    ghost from_gives = { λ _ e. e ≡ NoMemory };
-
-    fn from(_: AllocError) -> Self {
-        Halt::NoMemory
-    }
-}
-
-impl From<Strange> for Halt {
-    ghost use Rattle.hib_split.specs.declared.bench.Halt.TheVariants as halts;
-
-    ghost from_gives = { λ s e. e ≡ halts.Strange s };
-
-    fn from(strange: Strange) -> Self {
-        Halt::Strange(strange)
-    }
-}
-
-/// A region behind its lock, and the entity whose region it was when it was put there.
-#[derive(Drop)]
-pub struct LockedRegion<N: Name> {
-    entity: EntityNo,
-    region: Mutex<RegionPart<N>>,
-}
 
 /// What workers share: each part behind a lock of its own, the number of the next session that nobody has taken, and what they
 /// leave.
@@ -125,45 +90,6 @@ pub fn room_for_threads<N: Name>(
     })
 }
 
-/// Puts each region behind a lock, in order. There is room for the locks.
-fn lock_regions<N: Name>(regions: Vec<RegionPart<N>>, locks: &mut Vec<LockedRegion<N>>)
-    requires empty { locks.old.items ≡ [] }
-    requires room { vec_len locks.old + vec_len regions ≤ vec_capacity locks.old }
-    ensures entities { map (λ l. l.entity) locks.new.items ≡ map (λ r. r.entity) regions.items }
-    ensures len { vec_len locks.new ≡ vec_len locks.old + vec_len regions }
-{
-    let mut rest = regions;
-    rest.reverse();
-    'rest: while let Some(region) = rest.pop() {
-        locks.push_reserved(LockedRegion {
-            entity: region.entity(),
-            region: Mutex::new(region),
-        });
-    }
-}
-
-/// Takes each region out of its lock, in order, and compares it with the one that was put there. There is room for the regions.
-fn unlock_regions<N: Name>(
-    locks: Vec<LockedRegion<N>>,
-    regions: &mut Vec<RegionPart<N>>,
-) -> Result<(), Strange>
-    requires empty { regions.old.items ≡ [] }
-    requires room { vec_len regions.old + vec_len locks ≤ vec_capacity regions.old }
-    ensures entities { OnOk result
-        (map (λ r. r.entity) regions.new.items ≡ map (λ l. l.entity) locks.items) }
-    ensures len { OnOk result (vec_len regions.new ≡ vec_len regions.old + vec_len locks) }
-{
-    let mut rest = locks;
-    rest.reverse();
-    'rest: while let Some(locked) = rest.pop() {
-        let LockedRegion { entity, region } = locked;
-        let region = region.into_inner();
-        compared(entity, region.entity())?;
-        regions.push_reserved(region);
-    }
-    Ok(())
-}
-
 /// The region that isn't the one that was asked for, if there is one: found by the caller, or before by a worker.
 fn first_strange(unlocked: Result<(), Strange>, found: Option<Strange>) -> Option<Strange>
     ensures { IfNone result (IsOk unlocked) }
@@ -172,42 +98,6 @@ fn first_strange(unlocked: Result<(), Strange>, found: Option<Strange>) -> Optio
         Ok(()) => found,
         Err(strange) => Some(strange),
     }
-}
-
-/// The place of the lock of an entity's region, or none.
-fn place_of<N: Name>(regions: &[LockedRegion<N>], entity: EntityNo) -> Option<usize>
-    ensures { IfSome result (λ i. i < length regions.now) }
-{
-    for (place, locked) in regions.iter().enumerate() {
-        if locked.entity == entity {
-            return Some(place);
-        }
-    }
-    None
-}
-
-/// One act of a session on the region of this entity, under the region's lock.
-fn step_under_lock<R: Wait, N: Name>(
-    rt: &R,
-    alloc: Global,
-    script: &Script,
-    regions: &[LockedRegion<N>],
-    entity: EntityNo,
-    worker: &mut Worker<N>,
-) -> Result<(), Halt>
-    requires script { script.now ≡ N.script }
-    requires due { IsDueOn N.script (Part.Region entity) worker.old }
-{
-    // No act is due on an entity that isn't cached.
-    let Some(place) = place_of(regions, entity) else {
-        return Err(Halt::NoMemory);
-    };
-    let mut held = regions[place].region.lock(rt);
-    let region = &mut *held;
-    let found = region.entity();
-    compared(entity, found)?;
-    step_region(alloc, script, region, worker)?;
-    Ok(())
 }
 
 impl<K: Keeper, N: Name> Bench<K, N> {

@@ -5,6 +5,8 @@
 mod alone;
 mod bench;
 mod gathering;
+mod halt;
+mod locks;
 mod rest;
 mod split;
 mod strange;

@@ -2,7 +2,8 @@
 ghost use Rattle.std.specs.Prelude.{◌≡◌, ◌≤◌, ◌+◌, [], map, vec_len, vec_capacity, IfNone};
 ghost use denote.Param.Send.{IsSync};
 
-use crate::bench::{Bench, Halt, Left, Room};
+use crate::bench::{Bench, Left, Room};
+use crate::halt::Halt;
 use hib_base::{Query, Script};
 use hib_core::{Name, Stepped};
 use hib_outside::{Gate, Keeper};

@@ -1,6 +1,6 @@
 use Rattle.std.proofs.Common.{◌≡◌, ◌≤◌, ◌+◌, ◌++◌, map, reverse}
 use Rattle.std.specs.Vec.{vec_len, vec_capacity}
-use Rattle.hib_split.proofs.bench.unlock_regions.Given as goal
+use Rattle.hib_split.proofs.locks.unlock_regions.Given as goal
 
 abbrev pub invariant-rest : goal.invariant-rest
 invariant-rest g l = record {

@@ -1,6 +1,6 @@
 use Rattle.std.proofs.Common.{map, sym, ◌∙◌, arith}
-use Rattle.hib_split.proofs.Locks.{moved}
-use Rattle.hib_split.proofs.bench.unlock_regions.Goals as goal
+use Rattle.hib_split.proofs.Moved.{moved}
+use Rattle.hib_split.proofs.locks.unlock_regions.Goals as goal
 
 pub rest-preserved : goal.rest-preserved
 rest-preserved g c = record {
