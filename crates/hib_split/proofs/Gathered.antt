@@ -1,5 +1,5 @@
 -- The lists of parts are gathered in the order of parts.
-use Rattle.std.proofs.Common.{◌≡◌, ◌<◌, ◌≤◌, ◌+◌, ◌==◌, ◌⊎◌, inl, inr, ℕ, zero, suc, Bool, true, false, cond, ◌&&◌, ◌||◌, nat_lt, List, [], ◌∷◌, ◌++◌, length, map, reverse, take, get_or, None, Option, Ok, Err, Result, OnOk, refl, sym, ap, ◌∙◌, subst, append-nil, arith}
+use Rattle.std.proofs.Common.{◌≡◌, ◌<◌, ◌≤◌, ◌+◌, ◌==◌, ◌⊎◌, inl, inr, ℕ, zero, suc, Bool, true, false, cond, ◌&&◌, ◌||◌, nat_lt, List, [], ◌∷◌, ◌++◌, length, map, reverse, take, get_or, None, Option, refl, sym, ap, ◌∙◌, subst, append-nil, arith}
 use Rattle.std.proofs.lemmas.Bool.{true≢false}
 use Rattle.std.proofs.lemmas.Bool.Decides.{nat_tests}
 use Rattle.std.proofs.lemmas.Grind.{flat_map-append}
@@ -368,7 +368,3 @@ listed script told ls ks ms js n e q g h = record {
 
 pub listed_none : (script : Script) (told : Option Tables) (ls ms : List Kept) → ls ≡ [] → ms ≡ [] → AreListed script told (map past ls) (map past ms)
 listed_none script told ls ms e q = listed script told ls [] ms [] 0 e q (gather_skip script told Part.Registry (Part.Own 0) [] refl (gather_begins script told)) (λ s. tt)
-
-pub ok_more : {T E : Type 0} (r : Result T E) (P Q : Type 0) → OnOk r P → (P → Q) → OnOk r Q
-ok_more (Ok x) P Q p f = f p
-ok_more (Err e) P Q p f = p

@@ -12,5 +12,6 @@ mod split;
 mod strange;
 mod threads;
 
-pub use alone::{Split, run_alone};
+pub use alone::run_alone;
+pub use rest::Split;
 pub use split::work_split;

@@ -1,4 +1,4 @@
-// What workers leave: the caller steps the sessions to their ends, and puts the lists together.
+// What comes of a run: the caller steps the sessions to their ends from where workers left them, and puts the lists together.
 ghost use Rattle.std.specs.Prelude.{◌≡◌, ◌≢◌, ◌<◌, ◌≤◌, ◌+◌, ℕ, [], length, map, false, None, vec_len, vec_capacity, IfSome, IsSome};
 ghost use Rattle.std.specs.List.{filter, range_with_len};
 ghost use Rattle.hib_base.specs.declared.entries.Part.{Part};
@@ -10,15 +10,29 @@ ghost use Rattle.hib_split_law.specs.Apart.{store_ask_count};
 ghost use Rattle.hib_split_law.specs.Merged.{AreOwnLegal, list_of, of_part_in};
 ghost use Rattle.hib_split.specs.Alone.{AreAtEnds, AreListed, IsToldBy};
 
-use crate::alone::Split;
 use crate::gathering::{add_own_lists, add_shared};
 use crate::strange::Strange;
-use hib_base::{Script, Seq, SessionNo};
+use hib_base::{EntityNo, Script, Seq, SessionNo};
 use hib_core::Name;
 use hib_journal::Journal;
+use hib_merge::Lists;
 use hib_outside::Keeper;
 use hib_parts::{Parts, StorePart, Worker};
 use std::alloc::Global;
+
+/// What comes of a run of the sessions over the parts.
+pub struct Split<K: Keeper> {
+    /// The keeper that the parts were opened with.
+    pub keeper: K,
+    /// The list of each part, in the order of parts: the own entries of each session come last, in the order of sessions.
+    pub lists: Lists,
+    /// The list of each session, at the place of its number.
+    pub mine: Lists,
+    /// The entity whose region was asked for and the one that was found instead, if that came.
+    pub strange: Option<(EntityNo, EntityNo)>,
+    /// Whether memory ran out.
+    pub out_of_memory: bool,
+}
 
 /// The worker of a session, or if none was put aside one that has done nothing.
 fn taken<N: Name>(alloc: Global, aside: &mut Vec<Option<Worker<N>>>, number: SessionNo) -> Worker<N>
@@ -135,7 +149,8 @@ fn has_run_out<K: Keeper, N: Name>(refused: bool, store: &StorePart<K, N>) -> bo
     refused || store.refused()
 }
 
-/// Steps the sessions to their ends, unless memory ran out in a worker, and puts the lists together. There is room for them.
+/// Steps the sessions to their ends, from where the workers that were put aside left them, unless memory ran out in one. The lists are
+/// put together. There is room for them.
 pub fn go_on<K: Keeper, N: Name>(
     alloc: Global,
     script: &Script,

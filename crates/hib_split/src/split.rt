@@ -10,9 +10,9 @@ ghost use Rattle.hib_split_law.specs.Apart.{store_ask_count};
 ghost use Rattle.hib_split_law.specs.Merged.{list_of, of_part_in};
 ghost use Rattle.hib_split.specs.Alone.{AreAtEnds, AreListed, IsToldBy};
 
-use crate::alone::{Split, rooms, run_alone, without_room};
+use crate::alone::{rooms, run_alone, without_room};
 use crate::bench::{Left, room_for_threads};
-use crate::rest::{go_on, stop};
+use crate::rest::{Split, go_on, stop};
 use crate::threads::on_threads;
 use hib_base::Script;
 use hib_core::Name;
@@ -42,7 +42,6 @@ pub fn work_split<R: Threads + Wait + Sync, K: Keeper, N: Name + Send + Sync, G:
     requires workers { (1 ≤ workers) × (workers ≤ 64) }
     requires script { script.now ≡ N.script }
     requires store { parts.store.list ≡ [] }
-    requires going { parts.store.refused ≡ false }
     requires entities { map (λ r. r.entity) parts.regions.items
         ≡ filter (λ n. is_cached N.script n) (range_with_len 0 (length N.script.mapping)) }
     ensures listed { AreListed N.script N.from.tables (map past result.lists)
