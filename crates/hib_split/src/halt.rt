@@ -1,4 +1,6 @@
 // Why a worker stops.
+ghost use Rattle.std.specs.Prelude.{◌≡◌};
+
 use crate::strange::Strange;
 use std::alloc::AllocError;
 
