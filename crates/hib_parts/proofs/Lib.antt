@@ -6,4 +6,3 @@ pub mod Stores
 pub mod Registries
 pub mod ResultSteps
 pub mod Regions
-pub mod Gathered

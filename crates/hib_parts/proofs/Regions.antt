@@ -1,5 +1,5 @@
 -- The regions of the cached entities, one after the other.
-use Rattle.std.proofs.Common.{◌≡◌, ◌<◌, ◌+◌, ◌-◌, ℕ, Bool, true, false, List, [], ◌∷◌, ◌++◌, map, Some, refl, sym, ap, ◌∙◌, subst}
+use Rattle.std.proofs.Common.{◌≡◌, ◌<◌, ◌+◌, ◌-◌, ℕ, zero, suc, Bool, true, false, List, [], ◌∷◌, ◌++◌, map, set, get_or, Some, refl, sym, ap, ◌∙◌, subst}
 use Rattle.std.proofs.lemmas.List.{map-append}
 use Rattle.std.proofs.lemmas.List.Elements.{All-nil, All-cons, All-append}
 use Rattle.std.specs.List.{All, filter, range_with_len}
@@ -45,3 +45,9 @@ regions_skip p i n xs ys whole l h q e = subst (λ zs. entities zs ++ filter p (
 
 pub empty_same : (xs ys : List RegionState) → AreEmpty xs → ys ≡ xs → AreEmpty ys
 empty_same xs ys h e = subst AreEmpty (sym e) h
+
+-- the entities stay where a region does
+pub same_entities : {R : Type 0} (f : R → ℕ) (xs : List R) (i : ℕ) (x y : R) → x ≡ get_or xs i x → f y ≡ f x → map f (set xs i y) ≡ map f xs
+same_entities f [] i x y e q = refl
+same_entities f (z ∷ xs) zero x y e q = ap (λ n. n ∷ map f xs) (q ∙ ap f e)
+same_entities f (z ∷ xs) (suc i) x y e q = ap (λ ns. f z ∷ ns) (same_entities f xs i x y e q)

@@ -1,5 +1,3 @@
 pub mod Listed
 pub mod Copied
 pub mod Stored
-pub mod Gathered
-pub mod Alone

@@ -4,10 +4,8 @@
 //! list into which they are merged is said by `hib_split_law`.
 #![tactic(auto)]
 
-mod alone;
 mod copied;
 mod entering;
-mod gathering;
 mod parts;
 mod region;
 mod registry;
@@ -17,11 +15,11 @@ mod store;
 mod turns;
 mod worker;
 
-pub use alone::{Split, run_alone};
 pub use parts::Parts;
 pub use region::RegionPart;
 pub use registry::RegistryPart;
 pub use results::ResultsPart;
 pub use stamps::StampsPart;
 pub use store::StorePart;
+pub use turns::{step_own, step_region, step_registry, step_results, step_stamps, step_store};
 pub use worker::Worker;

@@ -33,8 +33,9 @@ fn tick_of(part: Tick, session: Tick) -> Result<Tick, AllocError>
     }
 }
 
-/// One act of a session on the registry.
-fn step_registry<N: Name>(
+/// One act of a session on the registry: the act that is due in it is answered at the tick that is due, one more than the greater of
+/// the last ticks of both, and its entry goes to both lists. Where memory runs out, or no tick is left, both lists are as before.
+pub fn step_registry<N: Name>(
     alloc: Global,
     script: &Script,
     registry: &mut RegistryPart<N>,
@@ -45,14 +46,15 @@ fn step_registry<N: Name>(
     ensures number { worker.new.number ≡ worker.old.number }
     ensures less { OnOk result (worker.new.left < worker.old.left) }
     ensures kept { OnErr result (IsKept worker.old worker.new) }
+    ensures same { OnErr result (registry.new ≡ registry.old) }
 {
     let now = tick_of(registry.last(), worker.last())?;
     registry.serve(alloc, worker, script, now)?;
     Ok(())
 }
 
-/// One act of a session on the store.
-fn step_store<K: Keeper, N: Name>(
+/// The same on the store. At an error the keeper may have been asked all the same.
+pub fn step_store<K: Keeper, N: Name>(
     alloc: Global,
     script: &Script,
     store: &mut StorePart<K, N>,
@@ -64,14 +66,15 @@ fn step_store<K: Keeper, N: Name>(
     ensures number { worker.new.number ≡ worker.old.number }
     ensures less { OnOk result (worker.new.left < worker.old.left) }
     ensures kept { OnErr result (IsKept worker.old worker.new) }
+    ensures same { OnErr result (store.new.list ≡ store.old.list) }
 {
     let now = tick_of(store.last(), worker.last())?;
     store.serve(alloc, worker, script, now)?;
     Ok(())
 }
 
-/// One act of a session on the stamps.
-fn step_stamps<N: Name>(
+/// The same on the stamps.
+pub fn step_stamps<N: Name>(
     alloc: Global,
     script: &Script,
     stamps: &mut StampsPart<N>,
@@ -82,14 +85,15 @@ fn step_stamps<N: Name>(
     ensures number { worker.new.number ≡ worker.old.number }
     ensures less { OnOk result (worker.new.left < worker.old.left) }
     ensures kept { OnErr result (IsKept worker.old worker.new) }
+    ensures same { OnErr result (stamps.new ≡ stamps.old) }
 {
     let now = tick_of(stamps.last(), worker.last())?;
     stamps.serve(alloc, worker, script, now)?;
     Ok(())
 }
 
-/// One act of a session on the results.
-fn step_results<N: Name>(
+/// The same on the results.
+pub fn step_results<N: Name>(
     alloc: Global,
     script: &Script,
     results: &mut ResultsPart<N>,
@@ -100,14 +104,15 @@ fn step_results<N: Name>(
     ensures number { worker.new.number ≡ worker.old.number }
     ensures less { OnOk result (worker.new.left < worker.old.left) }
     ensures kept { OnErr result (IsKept worker.old worker.new) }
+    ensures same { OnErr result (results.new ≡ results.old) }
 {
     let now = tick_of(results.last(), worker.last())?;
     results.serve(alloc, worker, script, now)?;
     Ok(())
 }
 
-/// One act of a session on this region.
-fn step_region<N: Name>(
+/// The same on this region.
+pub fn step_region<N: Name>(
     alloc: Global,
     script: &Script,
     region: &mut RegionPart<N>,
@@ -119,14 +124,15 @@ fn step_region<N: Name>(
     ensures number { worker.new.number ≡ worker.old.number }
     ensures less { OnOk result (worker.new.left < worker.old.left) }
     ensures kept { OnErr result (IsKept worker.old worker.new) }
+    ensures same { OnErr result (region.new ≡ region.old) }
 {
     let now = tick_of(region.last(), worker.last())?;
     region.serve(alloc, worker, script, now)?;
     Ok(())
 }
 
-/// One act of a session that is its own.
-fn step_own<N: Name>(
+/// One act of a session that is its own: the session answers it at the tick after its last one. At an error its list is as before.
+pub fn step_own<N: Name>(
     alloc: Global,
     script: &Script,
     worker: &mut Worker<N>,

@@ -1,4 +1,4 @@
-use Rattle.hib_parts.proofs.Gathered.{same_entities}
+use Rattle.hib_parts.proofs.Regions.{same_entities}
 use Rattle.hib_parts.proofs.turns.step_regions.Goals as goal
 
 pub returns-clause-entities : goal.returns-clause-entities

@@ -1,0 +1,84 @@
+// A run of the sessions on several threads, over parts under locks of their own.
+ghost use Rattle.std.specs.Prelude.{◌≡◌, ◌≢◌, ◌≤◌, ℕ, [], length, map, false, None, IfSome};
+ghost use Rattle.std.specs.List.{filter, range_with_len};
+ghost use Rattle.hib_base.specs.declared.entries.Part.{Part};
+ghost use Rattle.hib_journal.specs.Kept.{past};
+ghost use Rattle.hib_journal.specs.Lists.{of_part};
+ghost use Rattle.hib_journal.specs.Next.{is_cached};
+ghost use Rattle.hib_engines.specs.Counts.{RoseWithin};
+ghost use Rattle.hib_split_law.specs.Apart.{store_ask_count};
+ghost use Rattle.hib_split_law.specs.Merged.{list_of, of_part_in};
+ghost use Rattle.hib_split.specs.Alone.{AreAtEnds, AreListed, IsToldBy};
+
+use crate::alone::{rooms, run_alone, without_room};
+use crate::bench::{Left, room_for_threads};
+use crate::rest::{Split, go_on, stop};
+use crate::threads::on_threads;
+use hib_base::Script;
+use hib_core::Name;
+use hib_outside::{Gate, Keeper};
+use hib_parts::Parts;
+use std::alloc::Global;
+use std::sync::Wait;
+use std::thread::Threads;
+
+/// Runs each session to its end on so many workers, each part behind a lock of its own. With one worker it is `run_alone`: no
+/// thread is started, no lock is taken, and the gate isn't asked. With more, each takes the next session that nobody has taken, and
+/// makes its steps one after the other: before a step it passes the gate, with the number of the session's entries so far, and for a
+/// step it takes the lock of the part that is due, or none for an act of the session's own. The tick of a step is one more than the
+/// greater of the last ticks of its part and of its session. After the workers have ended, the caller steps the sessions to their ends.
+///
+/// What stands behind a lock is known by its type alone, so the region that a lock gave is compared with the one that was asked for.
+/// If they differ, `strange` says so, the rest isn't run, and there are no lists. Where memory runs out, or no tick is left, the
+/// steps so far stand. It may wait for other threads.
+pub fn work_split<R: Threads + Wait + Sync, K: Keeper, N: Name + Send + Sync, G: Gate>(
+    rt: &R,
+    alloc: Global,
+    parts: Parts<K, N>,
+    script: &Script,
+    workers: u32,
+    gate: &G,
+) -> Split<K>
+    requires workers { (1 ≤ workers) × (workers ≤ 64) }
+    requires script { script.now ≡ N.script }
+    requires store { parts.store.list ≡ [] }
+    requires entities { map (λ r. r.entity) parts.regions.items
+        ≡ filter (λ n. is_cached N.script n) (range_with_len 0 (length N.script.mapping)) }
+    ensures listed { AreListed N.script N.from.tables (map past result.lists)
+        (map past result.mine) }
+    ensures over { result.strange ≡ None → result.out_of_memory ≡ false
+        → AreAtEnds N.script (length N.script.sessions) (map past result.mine) }
+    ensures told { result.strange ≡ None
+        → IsToldBy N.from (of_part_in Part.Store (map past result.lists)) (K.tables result.keeper)
+        (K.faults result.keeper) }
+    ensures asked { result.strange ≡ None → result.out_of_memory ≡ false
+        → RoseWithin N.from.asked (store_ask_count (of_part_in Part.Store (map past result.lists)))
+        (K.asked result.keeper) }
+    ensures own { result.out_of_memory ≡ false → (s : ℕ)
+        → of_part_in (Part.Own s) (map past result.lists)
+        ≡ of_part (Part.Own s) (list_of s (map past result.mine)) }
+    ensures strange { IfSome result.strange (λ p. p.0 ≢ p.1) }
+    ensures alone { workers ≡ 1 → result.strange ≡ None }
+{
+    if workers == 1 {
+        return run_alone(alloc, parts, script);
+    }
+    let regions = parts.regions.len();
+    let sessions = script.sessions.len();
+    let Ok((lists, mine)) = rooms(alloc, regions, sessions) else {
+        return without_room(alloc, parts);
+    };
+    let Ok(room) = room_for_threads(alloc, regions, sessions) else {
+        return without_room(alloc, parts);
+    };
+    let Left {
+        parts,
+        aside,
+        strange,
+        refused,
+    } = on_threads(rt, alloc, parts, script, room, workers, gate);
+    match strange {
+        Some(strange) => stop(alloc, parts, &strange, refused),
+        None => go_on(alloc, script, parts, aside, refused, lists, mine),
+    }
+}

@@ -1,0 +1,128 @@
+// Workers: threads that step sessions over parts behind locks, each a session at a time.
+ghost use Rattle.std.specs.Prelude.{◌≡◌, ◌≤◌, ◌+◌, [], map, vec_len, vec_capacity, IfNone};
+ghost use denote.Param.Send.{IsSync};
+
+use crate::bench::{Bench, Left, Room};
+use crate::halt::Halt;
+use hib_base::{Query, Script};
+use hib_core::{Name, Stepped};
+use hib_outside::{Gate, Keeper};
+use hib_parts::{Parts, Worker};
+use std::alloc::Global;
+use std::sync::Wait;
+use std::thread;
+use std::thread::Threads;
+
+/// Puts each part behind a lock of its own, for as long as the workers take. There is room for what that needs.
+pub fn on_threads<R: Threads + Wait + Sync, K: Keeper, N: Name + Send + Sync, G: Gate>(
+    rt: &R,
+    alloc: Global,
+    parts: Parts<K, N>,
+    script: &Script,
+    room: Room<N>,
+    workers: u32,
+    gate: &G,
+) -> Left<K, N>
+    requires script { script.now ≡ N.script }
+    requires locks { (room.locks.items ≡ []) × (vec_len room.locks ≡ 0) }
+    requires lock_room { vec_len parts.regions ≤ vec_capacity room.locks }
+    requires regions { (room.regions.items ≡ []) × (vec_len room.regions ≡ 0) }
+    requires room { vec_len parts.regions ≤ vec_capacity room.regions }
+    ensures entities { IfNone result.strange
+        (map (λ r. r.entity) result.parts.regions.items ≡ map (λ r. r.entity) parts.regions.items) }
+    ensures len { IfNone result.strange (vec_len result.parts.regions ≡ vec_len parts.regions) }
+{
+    let Room {
+        locks,
+        regions,
+        aside,
+    } = room;
+    let bench = Bench::open(parts, script, locks, aside);
+    take_turns(rt, alloc, &bench, script, workers, gate);
+    bench.close(regions)
+}
+
+/// What threads may share, proofs may say so of.
+fn may_be_shared<T: Sync>()
+    ensures { IsSync T.row }
+{}
+
+/// Has the workers take turns.
+fn take_turns<R: Threads + Wait + Sync, K: Keeper, N: Name + Send + Sync, G: Gate>(
+    rt: &R,
+    alloc: Global,
+    bench: &Bench<K, N>,
+    script: &Script,
+    workers: u32,
+    gate: &G,
+)
+    requires { script.now ≡ N.script }
+{
+    may_be_shared::<Query>();
+    let work = move ||
+        requires { script.now ≡ N.script }
+    { serve(rt, alloc, bench, script, gate) };
+    spread(rt, workers, &work);
+}
+
+/// Starts so many threads that do this work, and waits for their ends. One that can't be started is done without.
+fn spread<R: Threads + Wait + Sync, F: Fn() + Sync>(rt: &R, workers: u32, work: &F)
+    requires { F.pre work.now }
+{
+    thread::scope(thread::scope_env(), rt, |scope| {
+        for _ in 0..workers {
+            let _ = scope.spawn(move || work());
+        }
+    });
+}
+
+/// A worker: takes sessions until none is left, or it has to stop.
+fn serve<R: Wait, K: Keeper, N: Name, G: Gate>(
+    rt: &R,
+    alloc: Global,
+    bench: &Bench<K, N>,
+    script: &Script,
+    gate: &G,
+)
+    requires { script.now ≡ N.script }
+{
+    for _ in rt.forever() {
+        let Some(number) = bench.take_session() else {
+            break;
+        };
+        let mut worker = Worker::begin(alloc, number);
+        let ran = run_session(rt, alloc, bench, script, &mut worker, gate);
+        bench.put_aside(rt, worker);
+        if let Err(halt) = ran {
+            bench.note(rt, halt);
+            break;
+        }
+    }
+}
+
+/// Steps a session to its end. No lock is held before a step, nor while the gate holds the worker. Once memory has run out in another
+/// worker, no further step is made.
+fn run_session<R: Wait, K: Keeper, N: Name, G: Gate>(
+    rt: &R,
+    alloc: Global,
+    bench: &Bench<K, N>,
+    script: &Script,
+    worker: &mut Worker<N>,
+    gate: &G,
+) -> Result<(), Halt>
+    requires { script.now ≡ N.script }
+{
+    let number = worker.number();
+    let mut place: u32 = 0;
+    for _ in rt.forever() {
+        gate.pass(number, place);
+        if bench.refused() {
+            return Err(Halt::NoMemory);
+        }
+        match bench.step(rt, alloc, script, worker)? {
+            Stepped::Did => place = place.saturating_add(1),
+            Stepped::Done => break,
+        }
+    }
+    Ok(())
+}
