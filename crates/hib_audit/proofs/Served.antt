@@ -1,19 +1,18 @@
 -- The engines stand for the journal with one more entry of a session.
-use Rattle.std.specs.Prelude.{is_some}
-use Rattle.std.proofs.Common.{◌≡◌, ℕ, ◌==◌, Bool, true, false, not, cond, ◌||◌, List, ◌∷◌, length, Some, None, Option, refl, sym, ap, ◌∙◌, subst}
-use Rattle.std.proofs.lemmas.Bool.{true≢false, false≢true}
+use Rattle.std.proofs.Common.{◌≡◌, ℕ, ◌==◌, Bool, true, false, cond, List, ◌∷◌, length, Some, None, Option, refl, sym, ap, ◌∙◌, subst}
+use Rattle.std.proofs.lemmas.Bool.{false≢true}
+use Rattle.std.proofs.lemmas.Option.{none-some}
 use Rattle.hib_base.specs.Tables.{Tables}
-use Rattle.hib_journal.specs.Types.{Strategy, Script, Part, Act, Reply}
-use Rattle.hib_journal.specs.Sessions.{Journal, own, changes, changes_in, is_restart, same_part}
-use Rattle.hib_journal.specs.Held.{held}
-use Rattle.hib_journal.specs.Next.{strategy, is_in}
+use Rattle.hib_journal.specs.Types.{Script, Part, Act, Reply}
+use Rattle.hib_journal.specs.Sessions.{Journal, own, changes, same_part}
+use Rattle.hib_journal.specs.Next.{strategy}
 use Rattle.hib_journal.specs.Slot.{key_in}
-use Rattle.hib_journal.specs.Legal.{part_of, is_outside, fault_of, set_unless, row_of}
+use Rattle.hib_journal.specs.Legal.{part_of, fault_of}
 use Rattle.hib_journal.specs.Lists.{entry_at, IsLate}
-use Rattle.hib_journal.specs.Runs.{is_fault}
 use Rattle.hib_session.specs.Session.{own_reply}
+use Rattle.hib_session.proofs.OwnReplies.{own_is, begins_only}
 use Rattle.hib_engines.specs.declared.region.Region.{Region}
-use Rattle.hib_engines.specs.Registry.{Opened, without, IsRegistry, own_after}
+use Rattle.hib_engines.specs.Registry.{IsRegistry, own_after}
 use Rattle.hib_engines.specs.Region.{is_regional, entity_in, acts_on, IsPlaced, Suits}
 use Rattle.hib_engines.specs.Laws.{Laws}
 use Rattle.hib_engines.specs.Served.{is_for, IsServed, HasQuery}
@@ -21,20 +20,16 @@ use Rattle.hib_engines.specs.Stamps.{AreStamps}
 use Rattle.hib_engines.specs.Results.{AreResults}
 use Rattle.hib_engines.specs.Store.{IsStored, IsStoreServed}
 use Rattle.hib_engines.proofs.RegionServed.{named}
-use Rattle.hib_engines.proofs.RegistryServed.{end_stands}
+use Rattle.hib_engines.proofs.OwnActs.{is_own, IsOwnAct, own_act, registry_own}
 use Rattle.hib_engines.proofs.StampsServed.{stamps_stay}
 use Rattle.hib_engines.proofs.ResultsServed.{results_stay}
 use Rattle.hib_engines.proofs.Stored.{store_stays}
 use Rattle.hib_engines.proofs.Elsewhere.{registry_kept, region_kept}
 use Rattle.hib_engines.specs.Regions.{region_of, IsAtRegion}
 use Rattle.hib_audit.specs.Standing.{EnginesState, AreStanding, IsReady, IsAnswered}
-use Rattle.hib_engines.proofs.Bridge.{self_by, bridged_own, inside_stops}
-use Rattle.hib_audit.proofs.Replies.{reply_any, reply_stored, own_is}
+use Rattle.hib_engines.proofs.Bridge.{bridged_own, inside_stops, not_outside}
+use Rattle.hib_audit.proofs.Replies.{reply_any, reply_stored}
 use Rattle.hib_engines.proofs.RegionList.{no_region, of_region, regions_at}
-
-not_outside : (a : Act) → is_outside a ≡ false → is_restart a ≡ false
-not_outside Act.Restart p = absurd (true≢false p)
-not_outside _ p = refl
 
 -- the engines that an entry of a session isn't of stand for the journal with it
 pub record AreKept (script : Script) (start : Tables) (h : Journal) (s now : ℕ) (a : Act) (r : Reply) (x : EnginesState) : Type 0 where
@@ -59,33 +54,27 @@ regions_kept script start h s now a r x ys w f e n = subst (λ zs. IsPlaced scri
 
 -- ---- the engines' answers
 
-pub store_answered : Laws → (script : Script) (start : Tables) (h : Journal) (s now : ℕ) (a : Act) (r : Reply) (x y : EnginesState) → IsReady script start h s now a x → part_of a s ≡ Part.Store →
-    IsStoreServed script (Some start) h now s a r y.store → y.registry ≡ x.registry → y.stamps ≡ x.stamps → y.regions ≡ x.regions → y.results ≡ x.results → IsAnswered script start h (Some s) now a r y
-store_answered l script start h s now a r x y k p v b c d e = record {
-  reply = reply_stored script start h s now a r k.standing.bridged k.live k.due.stored (ap (same_part Part.Store) p) v.reply;
-  standing = record {
-    store = v.stands;
-    bridged = bridged_own script h s now a r k.standing.bridged k.live k.due;
-    registry = subst (λ z. IsRegistry z (entry_at now (Some s) a r ∷ h)) (sym b) (w.registry (ap (same_part Part.Registry) p));
-    stamps = subst (λ z. AreStamps script (entry_at now (Some s) a r ∷ h) z) (sym c) (w.stamps (ap (same_part Part.Stamps) p));
-    regions = regions_kept script start h s now a r x y.regions w (no_region a s Part.Store p (λ n. refl)) d;
-    entities = ap length d ∙ k.standing.entities;
-    results = subst (λ z. AreResults script (entry_at now (Some s) a r ∷ h) z) (sym e) (w.results (ap (same_part Part.Results) p));
-  };
+stored_standing : Laws → (script : Script) (start : Tables) (h : Journal) (s now : ℕ) (a : Act) (r : Reply) (x y : EnginesState) → IsReady script start h s now a x → part_of a s ≡ Part.Store →
+    IsStored (Some start) (entry_at now (Some s) a r ∷ h) y.store → y.registry ≡ x.registry → y.stamps ≡ x.stamps → y.regions ≡ x.regions → y.results ≡ x.results → AreStanding script start (entry_at now (Some s) a r ∷ h) y
+stored_standing l script start h s now a r x y k p v b c d e = record {
+  store = v;
+  bridged = bridged_own script h s now a r k.standing.bridged k.live k.due;
+  registry = subst (λ z. IsRegistry z (entry_at now (Some s) a r ∷ h)) (sym b) (w.registry (ap (same_part Part.Registry) p));
+  stamps = subst (λ z. AreStamps script (entry_at now (Some s) a r ∷ h) z) (sym c) (w.stamps (ap (same_part Part.Stamps) p));
+  regions = regions_kept script start h s now a r x y.regions w (no_region a s Part.Store p (λ n. refl)) d;
+  entities = ap length d ∙ k.standing.entities;
+  results = subst (λ z. AreResults script (entry_at now (Some s) a r ∷ h) z) (sym e) (w.results (ap (same_part Part.Results) p));
 }
   where
     w : AreKept script start h s now a r x
     w = kept l script start h s now a r x k
 
-some_none : (r : Reply) → ◌≡◌ {A = Option Reply} (Some r) None → ⊥
-some_none r p = cc
-
-begins_only : (script : Script) (mine : Journal) (a : Act) (s : ℕ) → same_part Part.Registry (part_of a s) ≡ true → own_reply script mine a ≡ None → is_outside a ≡ false → a ≡ Act.Begin
-begins_only script mine Act.Begin s p o i = refl
-begins_only script mine Act.End s p o i = absurd (some_none _ o)
-begins_only script mine (Act.Kill n) s p o i = absurd (true≢false i)
-begins_only script mine Act.Restart s p o i = absurd (true≢false i)
-begins_only script mine _ s p o i = absurd (false≢true p)
+pub store_answered : Laws → (script : Script) (start : Tables) (h : Journal) (s now : ℕ) (a : Act) (r : Reply) (x y : EnginesState) → IsReady script start h s now a x → part_of a s ≡ Part.Store →
+    IsStoreServed script (Some start) h now s a r y.store → y.registry ≡ x.registry → y.stamps ≡ x.stamps → y.regions ≡ x.regions → y.results ≡ x.results → IsAnswered script start h (Some s) now a r y
+store_answered l script start h s now a r x y k p v b c d e = record {
+  reply = reply_stored script start h s now a r k.standing.bridged k.live k.due.stored (ap (same_part Part.Store) p) v.reply;
+  standing = stored_standing l script start h s now a r x y k p v.stands b c d e;
+}
 
 pub registry_answered : Laws → (script : Script) (start : Tables) (h : Journal) (s now : ℕ) (a : Act) (r : Reply) (x y : EnginesState) → IsReady script start h s now a x → part_of a s ≡ Part.Registry →
     own_reply script (own s h) a ≡ None → (IsRegistry x.registry h → IsLate Part.Registry now h → a ≡ Act.Begin → IsServed (λ m. IsRegistry y.registry m) script h (Some s) now a r) →
@@ -185,60 +174,7 @@ region_answered l script start h s now n a r x y k p served at b c d e = record 
     v : IsServed (λ m. IsPlaced script n m (region_of y.regions n)) script h (Some s) now a r
     v = served (k.standing.regions n) (subst (λ q. IsLate q now h) p k.late) key (subst (λ i. Suits (strategy script i) a) here.1 k.due.suits)
 
--- what is a session's own no engine is asked
-pub own_is_none : (script : Script) (mine : Journal) (a : Act) (s n : ℕ) → part_of a s ≡ Part.Own n → own_reply script mine a ≡ None → ⊥
-own_is_none script mine (Act.Find k) s n p o = some_none _ o
-own_is_none script mine (Act.Persist k r) s n p o = some_none _ o
-own_is_none script mine (Act.Set k cells) s n p o = some_none _ o
-own_is_none script mine (Act.Remove k) s n p o = some_none _ o
-own_is_none script mine Act.Clear s n p o = some_none _ o
-own_is_none script mine _ s n p o = false≢true (ap (same_part (Part.Own n)) p ∙ self_by n)
-
 -- ---- a session's own answers
-
--- a session answers no fault
-abbrev is_calm : Option Reply → Bool
-is_calm None = true
-is_calm (Some r) = not (is_fault r)
-
-calm_persist : (b : Bool) → is_calm (Some (cond b Reply.Known Reply.New)) ≡ true
-calm_persist true = refl
-calm_persist false = refl
-
-calm_set : (b : Bool) (g : Strategy) → is_calm (Some (cond b (set_unless g) Reply.Unknown)) ≡ true
-calm_set false g = refl
-calm_set true Strategy.ReadOnly = refl
-calm_set true _ = refl
-
-calm_remove : (b : Bool) → is_calm (Some (cond b Reply.Removed Reply.Unknown)) ≡ true
-calm_remove true = refl
-calm_remove false = refl
-
-own_calm : (script : Script) (mine : Journal) (a : Act) → is_calm (own_reply script mine a) ≡ true
-own_calm script mine (Act.Persist k r) = calm_persist (is_some (held mine k) || is_in k (changes_in mine))
-own_calm script mine (Act.Set k cells) = calm_set (is_some (row_of (held mine k))) (strategy script k.entity)
-own_calm script mine (Act.Remove k) = calm_remove (is_some (row_of (held mine k)))
-own_calm script mine _ = refl
-
-is_false : (b : Bool) → not b ≡ true → b ≡ false
-is_false true p = absurd (false≢true p)
-is_false false p = refl
-
-pub own_no_fault : (script : Script) (mine : Journal) (a : Act) (r : Reply) → own_reply script mine a ≡ Some r → is_fault r ≡ false
-own_no_fault script mine a r p = is_false (is_fault r) (subst (λ o. is_calm o ≡ true) p (own_calm script mine a))
-
--- the acts that have such a reply
-abbrev is_own : Act → Bool
-is_own Act.End = true
-is_own (Act.Find k) = true
-is_own (Act.Persist k r) = true
-is_own (Act.Set k cells) = true
-is_own (Act.Remove k) = true
-is_own Act.Clear = true
-is_own _ = false
-
-none_some : (r : Reply) → ◌≡◌ {A = Option Reply} None (Some r) → ⊥
-none_some r p = cc
 
 own_has : (script : Script) (mine : Journal) (a : Act) (r : Reply) → own_reply script mine a ≡ Some r → is_own a ≡ true
 own_has script mine Act.End r p = refl
@@ -247,32 +183,7 @@ own_has script mine (Act.Persist k x) r p = refl
 own_has script mine (Act.Set k cells) r p = refl
 own_has script mine (Act.Remove k) r p = refl
 own_has script mine Act.Clear r p = refl
-own_has script mine _ r p = absurd (none_some r p)
-
--- such an act is of no engine but the registry, and of that only at an End
-record IsOwnAct (a : Act) (s : ℕ) : Type 0 where
-  pub store : is_for Part.Store a s ≡ false
-  pub stamps : is_for Part.Stamps a s ≡ false
-  pub results : is_for Part.Results a s ≡ false
-  pub region : is_regional a ≡ true → ⊥
-
-own_act : (a : Act) (s : ℕ) → is_own a ≡ true → IsOwnAct a s
-own_act Act.End s p = record { store = refl; stamps = refl; results = refl; region = λ g. false≢true g }
-own_act (Act.Find k) s p = record { store = refl; stamps = refl; results = refl; region = λ g. false≢true g }
-own_act (Act.Persist k r) s p = record { store = refl; stamps = refl; results = refl; region = λ g. false≢true g }
-own_act (Act.Set k cells) s p = record { store = refl; stamps = refl; results = refl; region = λ g. false≢true g }
-own_act (Act.Remove k) s p = record { store = refl; stamps = refl; results = refl; region = λ g. false≢true g }
-own_act Act.Clear s p = record { store = refl; stamps = refl; results = refl; region = λ g. false≢true g }
-own_act _ s p = absurd (false≢true p)
-
-registry_own : (h : Journal) (s now : ℕ) (a : Act) (r : Reply) (x : Opened) → is_own a ≡ true → IsRegistry x h → IsLate (part_of a s) now h → IsRegistry (own_after s a x) (entry_at now (Some s) a r ∷ h)
-registry_own h s now Act.End r x p k t = end_stands h s now r x (without s x) k t refl
-registry_own h s now (Act.Find j) r x p k t = registry_kept h (Some s) now (Act.Find j) r x k refl
-registry_own h s now (Act.Persist j row) r x p k t = registry_kept h (Some s) now (Act.Persist j row) r x k refl
-registry_own h s now (Act.Set j cells) r x p k t = registry_kept h (Some s) now (Act.Set j cells) r x k refl
-registry_own h s now (Act.Remove j) r x p k t = registry_kept h (Some s) now (Act.Remove j) r x k refl
-registry_own h s now Act.Clear r x p k t = registry_kept h (Some s) now Act.Clear r x k refl
-registry_own h s now _ r x p k t = absurd (false≢true p)
+own_has script mine _ r p = absurd (none-some r p)
 
 pub own_answered : Laws → (script : Script) (start : Tables) (h : Journal) (s now : ℕ) (a : Act) (r : Reply) (x y : EnginesState) → IsReady script start h s now a x →
     own_reply script (own s h) a ≡ Some r → y ≡ record x { registry = own_after s a x.registry } → IsAnswered script start h (Some s) now a r y
@@ -325,26 +236,11 @@ failing_store (Act.Load k) s p = refl
 failing_store (Act.List q) s p = refl
 failing_store _ s p = absurd (false≢true p)
 
-stored_standing : Laws → (script : Script) (start : Tables) (h : Journal) (s now : ℕ) (a : Act) (r : Reply) (x y : EnginesState) → IsReady script start h s now a x → part_of a s ≡ Part.Store →
-    IsStored (Some start) (entry_at now (Some s) a r ∷ h) y.store → y.registry ≡ x.registry → y.stamps ≡ x.stamps → y.regions ≡ x.regions → y.results ≡ x.results → AreStanding script start (entry_at now (Some s) a r ∷ h) y
-stored_standing l script start h s now a r x y k p v b c d e = record {
-  store = v;
-  bridged = bridged_own script h s now a r k.standing.bridged k.live k.due;
-  registry = subst (λ z. IsRegistry z (entry_at now (Some s) a r ∷ h)) (sym b) (w.registry (ap (same_part Part.Registry) p));
-  stamps = subst (λ z. AreStamps script (entry_at now (Some s) a r ∷ h) z) (sym c) (w.stamps (ap (same_part Part.Stamps) p));
-  regions = regions_kept script start h s now a r x y.regions w (no_region a s Part.Store p (λ n. refl)) d;
-  entities = ap length d ∙ k.standing.entities;
-  results = subst (λ z. AreResults script (entry_at now (Some s) a r ∷ h) z) (sym e) (w.results (ap (same_part Part.Results) p));
-}
-  where
-    w : AreKept script start h s now a r x
-    w = kept l script start h s now a r x k
-
 failing_or : (h : Journal) (s : ℕ) (a : Act) (r : Reply) → fault_of (changes s h) a ≡ Some r → (a ≡ Act.Commit → ⊥) → is_failing a ≡ true
 failing_or h s (Act.Load k) r f n = refl
 failing_or h s (Act.List q) r f n = refl
 failing_or h s Act.Commit r f n = absurd (n refl)
-failing_or h s _ r f n = absurd (none_some r f)
+failing_or h s _ r f n = absurd (none-some r f)
 
 pub failed_still : Laws → (script : Script) (start : Tables) (h : Journal) (s now : ℕ) (a : Act) (r : Reply) (x : EnginesState) → IsReady script start h s now a x → fault_of (changes s h) a ≡ Some r →
     (a ≡ Act.Commit → ⊥) → AreStanding script start (entry_at now (Some s) a r ∷ h) x
@@ -353,7 +249,7 @@ failed_still l script start h s now a r x k f n = let p : is_failing a ≡ true 
 
 -- a commit that failed leaves what a kill does
 commit_fault : (b : Bool) (f r : Reply) → cond b None (Some f) ≡ Some r → r ≡ f
-commit_fault true f r p = absurd (none_some r p)
+commit_fault true f r p = absurd (none-some r p)
 commit_fault false f r p = same p
   where
     same : ◌≡◌ {A = Option Reply} (Some f) (Some r) → r ≡ f

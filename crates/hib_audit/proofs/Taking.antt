@@ -9,13 +9,14 @@ use Rattle.hib_journal.specs.Next.{is_cached}
 use Rattle.hib_journal.specs.Legal.{IsReply, IsStep, due_by, may_come, part_of, is_outside, reply_of, fault_of}
 use Rattle.hib_journal.specs.Lists.{entry_at, IsLate}
 use Rattle.hib_journal.specs.Runs.{is_fault}
-use Rattle.hib_session.specs.declared.session.Session.{Session}
 use Rattle.hib_session.specs.Session.{IsTaken, own_reply}
 use Rattle.hib_engines.specs.Region.{is_regional, acts_on}
 use Rattle.hib_session.specs.Sessions.{AreSessions}
 use Rattle.hib_audit.specs.Standing.{EnginesState, AreStanding, AreWritten, noted, IsReady, IsAnswered, IsJudged, IsComing, IsPartOf, IsSessionOf, AuditorState, Knows}
 use Rattle.hib_engines.proofs.Allowed.{is_due}
-use Rattle.hib_audit.proofs.Replies.{own_is, own_unfailing, fault_is}
+use Rattle.hib_session.proofs.OwnReplies.{own_is}
+use Rattle.hib_session.proofs.Killed.{none_killed}
+use Rattle.hib_audit.proofs.Replies.{own_unfailing, fault_is}
 use Rattle.hib_engines.proofs.RegionList.{entity_within}
 use Rattle.hib_audit.proofs.Members.{due_within, due_lives}
 use Rattle.hib_audit.proofs.Kept.{written_outside}
@@ -216,13 +217,10 @@ evict_cached script h k a e m = by_test (is_cached script k.entity) refl (subst 
 pub evict_late : (script : Script) (h : Journal) (k : Key) (e : Entry) → IsComing script h e → e.act ≡ Act.Evict k → IsLate (Part.Region k.entity) e.tick h
 evict_late script h k e c a = subst (λ (o : Act). IsLate (part_of o (unwrap_or e.session 0)) e.tick h) a (late_of script h e c)
 
-none_dead : (xs : List Session) → AreKilled (λ s. false) xs xs
-none_dead xs = Rattle.hib_session.proofs.Killed.none_killed xs
-
 pub knows_evict : (script : Script) (start : Tables) (h : Journal) (k : Key) (e : Entry) (x y : AuditorState) → Knows script start h x → IsComing script h e → e.session ≡ None → e.act ≡ Act.Evict k →
     IsAnswered script start h None e.tick e.act e.reply y.engines → y.sessions ≡ x.sessions → y.written ≡ x.written → y.ticks ≡ noted e x.ticks → Knows script start (e ∷ h) y
 knows_evict script start h k e x y w c p a v ss ws q = knows_outside script start h e x y w c p v
-    (subst (λ xs. AreKilled (λ s. killed_by s e.act (is_open s h)) x.sessions xs) (sym ss) (subst (λ (o : Act). AreKilled (λ s. killed_by s o (is_open s h)) x.sessions x.sessions) (sym a) (none_dead x.sessions))) ws q
+    (subst (λ xs. AreKilled (λ s. killed_by s e.act (is_open s h)) x.sessions xs) (sym ss) (subst (λ (o : Act). AreKilled (λ s. killed_by s o (is_open s h)) x.sessions x.sessions) (sym a) (none_killed x.sessions))) ws q
     (subst (λ (o : Act). IsPartOf script (part_of o 0)) (sym a) (entity_within script (Act.Evict k) refl (evict_cached script h k e.act a c.comes)))
 
 pub evict_sure : (cs : List Rattle.hib_journal.specs.Types.Change) (k : Key) (a : Act) (q : Reply) → a ≡ Act.Evict k → fault_of cs a ≡ Some q → ⊥

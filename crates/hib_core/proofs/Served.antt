@@ -1,17 +1,18 @@
 -- The parts stand for the journal with one more entry.
-use Rattle.std.proofs.Common.{◌≡◌, ◌≢◌, ℕ, suc, ◌+◌, ◌≤◌, ◌==◌, Bool, true, false, List, [], ◌∷◌, length, Some, None, Option, Result, Ok, Err, IfOk, OnOk, refl, sym, ap, ◌∙◌, subst, arith, inl, inr}
-use Rattle.std.proofs.lemmas.Bool.{true≢false, false≢true}
+use Rattle.std.proofs.Common.{◌≡◌, ℕ, suc, ◌+◌, ◌≤◌, ◌==◌, Bool, true, false, List, [], ◌∷◌, length, Some, None, Result, Ok, Err, IfOk, OnOk, refl, sym, ap, ◌∙◌, subst, arith, inl, inr}
 use Rattle.std.specs.Prelude.{cond}
 use Rattle.hib_base.proofs.Tables.{Tested, tested}
 use Rattle.hib_journal.specs.Types.{Script, Part, Act, Reply, Entry}
-use Rattle.hib_journal.specs.Sessions.{Journal, own, is_restart, last_tick, same_part}
+use Rattle.hib_journal.specs.Sessions.{Journal, own, last_tick, same_part}
 use Rattle.hib_journal.specs.Next.{strategy}
 use Rattle.hib_journal.specs.Slot.{key_in}
-use Rattle.hib_journal.specs.Legal.{part_of, is_outside}
+use Rattle.hib_journal.specs.Legal.{part_of}
 use Rattle.hib_journal.specs.Lists.{IsLate}
 use Rattle.hib_journal.specs.Runs.{IsNumbered, asks, is_fault, fault_count}
 use Rattle.hib_store.specs.Stores.{changes_of}
 use Rattle.hib_session.specs.Session.{own_reply}
+use Rattle.hib_session.proofs.OwnReplies.{begins_only}
+pub use Rattle.hib_session.proofs.OwnReplies.{own_is_none}
 use Rattle.hib_engines.specs.declared.region.Region.{Region}
 use Rattle.hib_engines.specs.Registry.{IsRegistry}
 use Rattle.hib_engines.specs.Region.{is_regional, entity_in, acts_on, IsPlaced, Suits}
@@ -27,7 +28,7 @@ use Rattle.hib_engines.proofs.Stored.{store_stays}
 use Rattle.hib_engines.proofs.Elsewhere.{registry_kept, region_kept}
 use Rattle.hib_engines.specs.Regions.{region_of, IsAtRegion}
 use Rattle.hib_core.specs.Standing.{Origin, RoseBy, RoseWithin, entry_of, IsStore, PartsState, AreParts, IsStill, IsReady, IsAnswered, IsAskedFor}
-use Rattle.hib_engines.proofs.Bridge.{self_by, bridged_own, inside_stops, deferred_of}
+use Rattle.hib_engines.proofs.Bridge.{bridged_own, inside_stops, not_outside, deferred_of}
 use Rattle.hib_engines.proofs.RegionList.{no_region, of_region, regions_at}
 use Rattle.hib_core.proofs.Stored.{store_of, store_still, rose_more, rose_if, reply_any, reply_stored, asks_same}
 
@@ -47,10 +48,6 @@ last_le p (e ∷ h) n = by_test (tested (p e)) (last_le p h n.1)
 
 pub late : (p : Part) (h : Journal) → IsNumbered h → IsLate p (length h + 1) h
 late p h m = omega (arith, last_le (λ d. same_part p d.part) h m)
-
-pub not_outside : (a : Act) → is_outside a ≡ false → is_restart a ≡ false
-not_outside Act.Restart p = absurd (true≢false p)
-not_outside _ p = refl
 
 -- the stamps and the results of the parts
 
@@ -114,19 +111,6 @@ store_answered l script from h s now a r x y m k p v later fault b c d e = recor
   where
     w : AreKept script from h s a r x
     w = kept l script from h s a r x k
-
-some_none : (r : Reply) → ◌≡◌ {A = Option Reply} (Some r) None → ⊥
-some_none r p = cc
-
-part_region : (n : ℕ) (p : Part) → Part.Region n ≡ p → same_part p (Part.Region n) ≡ true
-part_region n p e = subst (λ q. same_part q (Part.Region n) ≡ true) e (self_by n)
-
-begins_only : (script : Script) (mine : Journal) (a : Act) (s : ℕ) → same_part Part.Registry (part_of a s) ≡ true → own_reply script mine a ≡ None → is_outside a ≡ false → a ≡ Act.Begin
-begins_only script mine Act.Begin s p o i = refl
-begins_only script mine Act.End s p o i = absurd (some_none _ o)
-begins_only script mine (Act.Kill n) s p o i = absurd (true≢false i)
-begins_only script mine Act.Restart s p o i = absurd (true≢false i)
-begins_only script mine _ s p o i = absurd (false≢true p)
 
 pub registry_answered : Laws → (script : Script) (from : Origin) (h : Journal) (s now : ℕ) (a : Act) (r : Reply) (x y : PartsState) → now ≡ length h + 1 → IsReady script from h s a x → part_of a s ≡ Part.Registry →
     own_reply script (own s h) a ≡ None → (IsRegistry x.registry h → IsLate Part.Registry now h → a ≡ Act.Begin → IsServed (λ m. IsRegistry y.registry m) script h (Some s) now a r) →
@@ -213,15 +197,6 @@ region_answered l script from h s now n a r x y m k p served at f b c d e = reco
     v = subst (λ i. IsServed (λ m. IsPlaced script n m (region_of y.regions n)) script h (Some s) i a r) m
         (served (k.parts.regions n) (subst (λ i. IsLate (Part.Region n) i h) (sym m) (late (Part.Region n) h k.numbered)) key
         (subst (λ i. Suits (strategy script i) a) here.1 k.due.suits))
-
--- what is a session's own no part is asked
-pub own_is_none : (script : Script) (mine : Journal) (a : Act) (s n : ℕ) → part_of a s ≡ Part.Own n → own_reply script mine a ≡ None → ⊥
-own_is_none script mine (Act.Find k) s n p o = some_none _ o
-own_is_none script mine (Act.Persist k r) s n p o = some_none _ o
-own_is_none script mine (Act.Set k cells) s n p o = some_none _ o
-own_is_none script mine (Act.Remove k) s n p o = some_none _ o
-own_is_none script mine Act.Clear s n p o = some_none _ o
-own_is_none script mine _ s n p o = false≢true (ap (same_part (Part.Own n)) p ∙ self_by n)
 
 -- ---- the keeper, and want of memory
 

@@ -7,11 +7,10 @@ use Rattle.hib_base.specs.Tables.{Tables}
 use Rattle.hib_base.proofs.Tables.{Tested, tested}
 use Rattle.hib_journal.specs.Types.{Change, Commit, Script, Part, Act, Reply}
 use Rattle.hib_journal.specs.Sessions.{Journal, own, was_killed, committed, changes, changes_in, deferred}
-use Rattle.hib_journal.specs.Legal.{IsReply, IsReplyBy, reply_by, reply_of, is_of_store}
+use Rattle.hib_journal.specs.Legal.{IsReply, IsReplyBy, reply_by, is_of_store}
 use Rattle.hib_journal.specs.Lists.{entry_at, stored, IsReplyOf, IsStoreReply}
 use Rattle.hib_journal.specs.Runs.{told_committed, asks, is_fault, fault_count}
 use Rattle.hib_store.specs.Stores.{StoreState}
-use Rattle.hib_session.specs.Session.{own_reply}
 use Rattle.hib_engines.specs.Served.{is_for}
 use Rattle.hib_engines.specs.Store.{IsStored}
 use Rattle.hib_engines.specs.Due.{AreStored}
@@ -96,34 +95,3 @@ reply_stored script told h s now _ r b live d p w = absurd (false≢true p)
 pub asks_same : (h : Journal) (s : ℕ) (a : Act) (cs : List Change) → cs ≡ deferred (own s h) → AreStored (own s h) a → asks cs a ≡ asks (changes_in (own s h)) a
 asks_same h s (Act.Load k) cs e d = ap (λ x. asks x (Act.Load k)) (e ∙ d)
 asks_same h s _ cs e d = refl
-
--- a session's own reply
-pub own_is : (script : Script) (h : Journal) (s now : ℕ) (a : Act) (r : Reply) → own_reply script (own s h) a ≡ Some r → (start : Tables) → r ≡ reply_of script start h s now a
-own_is script h s now Act.End r p start = same p
-  where
-    same : {x : Reply} → Some x ≡ Some r → r ≡ x
-    same e = cc
-own_is script h s now (Act.Find k) r p start = same p
-  where
-    same : {x : Reply} → Some x ≡ Some r → r ≡ x
-    same e = cc
-own_is script h s now (Act.Persist k y) r p start = same p
-  where
-    same : {x : Reply} → Some x ≡ Some r → r ≡ x
-    same e = cc
-own_is script h s now (Act.Set k cs) r p start = same p
-  where
-    same : {x : Reply} → Some x ≡ Some r → r ≡ x
-    same e = cc
-own_is script h s now (Act.Remove k) r p start = same p
-  where
-    same : {x : Reply} → Some x ≡ Some r → r ≡ x
-    same e = cc
-own_is script h s now Act.Clear r p start = same p
-  where
-    same : {x : Reply} → Some x ≡ Some r → r ≡ x
-    same e = cc
-own_is script h s now _ r p start = absurd (no p)
-  where
-    no : ◌≡◌ {A = Option Reply} None (Some r) → ⊥
-    no x = cc

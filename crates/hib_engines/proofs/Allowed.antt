@@ -1,6 +1,6 @@
 -- What a session says of the act that is due in it is what the engines want to know.
-use Rattle.std.proofs.Common.{◌≡◌, ◌⊎◌, ℕ, Bool, true, false, not, List, [], ◌∷◌, length, ◌<◌, refl, ap, ◌∙◌, ◌&&◌, inl, inr}
-use Rattle.std.proofs.lemmas.Bool.{true≢false, false≢true, ltb-true}
+use Rattle.std.proofs.Common.{◌≡◌, ◌⊎◌, ℕ, true, false, not, List, [], ◌∷◌, length, ◌<◌, refl, ap, ◌∙◌, inl, inr}
+use Rattle.std.proofs.lemmas.Bool.{true≢false, false≢true, ltb-true, and_parts}
 use Rattle.std.proofs.lemmas.List.Elements.{All-nil, All-cons}
 use Rattle.std.specs.Prelude.{nat_lt}
 use Rattle.std.specs.List.{All, list_all}
@@ -19,13 +19,9 @@ stored mine (Act.List q) f = f refl
 stored mine Act.Commit f = f refl
 stored mine _ f = tt
 
-both : (b c : Bool) → (b && c) ≡ true → (b ≡ true) × (c ≡ true)
-both true c p = (refl, p)
-both false c p = absurd (false≢true p)
-
 all_below : (n : ℕ) (ts : List ℕ) → list_all (λ t. nat_lt t n) ts ≡ true → All (λ t. t < n) ts
 all_below n [] p = All-nil (λ t. t < n)
-all_below n (t ∷ ts) p = let q = both (nat_lt t n) (list_all (λ u. nat_lt u n) ts) p in All-cons (λ u. u < n) t ts (ltb-true t n q.0) (all_below n ts q.1)
+all_below n (t ∷ ts) p = let q = and_parts (nat_lt t n) (list_all (λ u. nat_lt u n) ts) p in All-cons (λ u. u < n) t ts (ltb-true t n q.0) (all_below n ts q.1)
 
 some_below : (script : Script) (ts : List ℕ) → are_tables script ts ≡ true → All (λ t. t < length script.mapping) ts
 some_below script [] p = absurd (false≢true p)

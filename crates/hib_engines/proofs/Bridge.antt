@@ -1,12 +1,12 @@
 -- What the store defers and stores is what the sessions write and commit, after one more entry.
 use Rattle.std.specs.Option.{option_map_or}
 use Rattle.std.proofs.Common.{◌≡◌, ℕ, ◌==◌, inl, inr, Bool, true, false, cond, ◌||◌, List, [], ◌∷◌, Some, None, Option, refl, sym, ap, ◌∙◌, subst, arith}
-use Rattle.std.proofs.lemmas.Bool.{true≢false, false≢true, eqb-true}
+use Rattle.std.proofs.lemmas.Bool.{true≢false, false≢true, eqb-true, or_parts}
 use Rattle.std.proofs.lemmas.Bool.Decides.{nat_tests}
 use Rattle.hib_base.specs.Tables.{Tables, after_changes}
 use Rattle.hib_base.proofs.Tables.{Tested, tested}
 use Rattle.hib_journal.specs.Types.{Key, Change, Commit, Script, Act, Reply, Entry}
-use Rattle.hib_journal.specs.Sessions.{Journal, own, is_session, is_open, open_after, was_killed, killed_by, committed, committer, changes, deferred, deferred_after}
+use Rattle.hib_journal.specs.Sessions.{Journal, own, is_session, is_restart, is_open, open_after, was_killed, killed_by, committed, committer, changes, deferred, deferred_after}
 use Rattle.hib_journal.specs.Held.{is_begin}
 use Rattle.hib_journal.specs.Legal.{is_outside}
 use Rattle.hib_journal.specs.Lists.{entry_at, stops, unsaved, unsaved_after, stored, stored_by}
@@ -24,19 +24,19 @@ pub own_other : (h : Journal) (s n now : ℕ) (a : Act) (r : Reply) → (s == n)
 own_other h s n now a r d = rw d refl
 
 -- a session that lives has lived before
-pub either : (b c : Bool) → (b || c) ≡ false → (b ≡ false) × (c ≡ false)
-either true c p = absurd (true≢false p)
-either false c p = (refl, p)
-
 pub lived : (n : ℕ) (e : Entry) (h : Journal) → was_killed n (e ∷ h) ≡ false → was_killed n h ≡ false
-lived n e h p = (either (killed_by n e.act (is_open n h)) (was_killed n h) p).1
+lived n e h p = (or_parts (killed_by n e.act (is_open n h)) (was_killed n h) p).1
+
+pub not_outside : (a : Act) → is_outside a ≡ false → is_restart a ≡ false
+not_outside Act.Restart p = absurd (true≢false p)
+not_outside _ p = refl
 
 pub inside_stops : (a : Act) → is_outside a ≡ false → stops a ≡ false
 inside_stops (Act.Kill m) p = absurd (true≢false p)
 inside_stops Act.Restart p = absurd (true≢false p)
 inside_stops _ p = refl
 
-unsaved_own : (n : ℕ) (by : Option ℕ) (a : Act) (cs : List Change) → stops a ≡ false → unsaved_after n by a cs ≡ cond (is_session n by) (deferred_after a cs) cs
+pub unsaved_own : (n : ℕ) (by : Option ℕ) (a : Act) (cs : List Change) → stops a ≡ false → unsaved_after n by a cs ≡ cond (is_session n by) (deferred_after a cs) cs
 unsaved_own n by (Act.Kill m) cs p = absurd (true≢false p)
 unsaved_own n by Act.Restart cs p = absurd (true≢false p)
 unsaved_own n by _ cs p = refl
@@ -127,20 +127,20 @@ bridged_kill h m now r b = record {
     changed n (inr p) = rw p (b.changes n)
 
     closed : (n : ℕ) → ((m == n) || was_killed n h) ≡ false → cond (m == n) false (is_open n h) ≡ false → Tested (m == n) → deferred (own n h) ≡ []
-    closed n w o (inl p) = absurd (true≢false (sym p ∙ (either (m == n) (was_killed n h) w).0))
-    closed n w o (inr p) = b.closed n (either (m == n) (was_killed n h) w).1 (sym (ap (λ c. cond c false (is_open n h)) p) ∙ o)
+    closed n w o (inl p) = absurd (true≢false (sym p ∙ (or_parts (m == n) (was_killed n h) w).0))
+    closed n w o (inr p) = b.closed n (or_parts (m == n) (was_killed n h) w).1 (sym (ap (λ c. cond c false (is_open n h)) p) ∙ o)
 
 pub bridged_restart : (h : Journal) (now : ℕ) (r : Reply) → IsBridged h → IsBridged (entry_at now None Act.Restart r ∷ h)
 bridged_restart h now r b = record {
   rows = b.rows;
   changes = λ n. changed n (tested (is_open n h || was_killed n h));
-  closed = λ n w o. let u : (is_open n h ≡ false) × (was_killed n h ≡ false) = either (is_open n h) (was_killed n h) w in b.closed n u.1 u.0;
+  closed = λ n w o. let u : (is_open n h ≡ false) × (was_killed n h ≡ false) = or_parts (is_open n h) (was_killed n h) w in b.closed n u.1 u.0;
 }
   where
     changed : (n : ℕ) → Tested (is_open n h || was_killed n h) → [] ≡ cond (is_open n h || was_killed n h) [] (deferred (own n h))
     changed n (inl p) = sym (ap (λ k. cond k [] (deferred (own n h))) p)
     changed n (inr p) =
-        let u : (is_open n h ≡ false) × (was_killed n h ≡ false) = either (is_open n h) (was_killed n h) p in
+        let u : (is_open n h ≡ false) × (was_killed n h ≡ false) = or_parts (is_open n h) (was_killed n h) p in
         sym (ap (λ k. cond k [] (deferred (own n h))) p ∙ b.closed n u.1 u.0)
 
 pub bridged_evict : (h : Journal) (k : Key) (now : ℕ) (r : Reply) → IsBridged h → IsBridged (entry_at now None (Act.Evict k) r ∷ h)

@@ -14,3 +14,4 @@ pub mod Elsewhere
 pub mod Bridge
 pub mod Allowed
 pub mod RegionList
+pub mod OwnActs

@@ -1,13 +1,13 @@
 -- What the store answers is due, and afterwards it stands for the list with the entry.
 use Rattle.std.specs.Prelude.{unwrap_or}
 use Rattle.std.proofs.Common.{◌≡◌, ◌≢◌, ◌⊎◌, inl, inr, ℕ, ◌+◌, ◌≤◌, ◌==◌, Bool, true, false, cond, not, List, [], ◌∷◌, ◌++◌, Some, None, Option, IfSome, refl, sym, ap, ◌∙◌, subst, slice_get, eq-eqb, arith}
-use Rattle.std.proofs.lemmas.Bool.{true≢false, false≢true, eqb-true}
+use Rattle.std.proofs.lemmas.Bool.{true≢false, false≢true, eqb-true, not-false, false_from_ne_true}
 use Rattle.std.specs.Option.{option_map, option_map_or}
 use Rattle.hib_base.specs.Tables.{Tables, row_at, after_changes, commit_answer}
 use Rattle.hib_base.proofs.Tables.{Tested, tested}
 use Rattle.hib_journal.specs.Types.{Key, Row, Change, Commit, Query, Part, Act, Reply, Script}
 use Rattle.hib_journal.specs.Sessions.{Journal, is_session, deferred_after, committer, is_empty}
-use Rattle.hib_journal.specs.Lists.{entry_at, stops, unsaved, unsaved_after, stored, stored_by, IsStoreReply}
+use Rattle.hib_journal.specs.Lists.{entry_at, stops, unsaved, stored, stored_by, IsStoreReply}
 use Rattle.hib_journal.specs.Runs.{is_fault, asks}
 use Rattle.hib_journal.specs.Query.{gives}
 use Rattle.hib_store.specs.Stores.{StoreState, changes_of, is_in, IsView, IsListed, tables_answered}
@@ -15,14 +15,10 @@ use Rattle.hib_store.specs.declared.asking.Loaded.{Loaded}
 use Rattle.hib_store.specs.declared.store.Listed.{Listed}
 use Rattle.hib_engines.specs.Counts.{RoseWithin}
 use Rattle.hib_engines.specs.Served.{is_for}
+use Rattle.hib_engines.proofs.Bridge.{unsaved_own}
 use Rattle.hib_engines.specs.Store.{IsStored, IsStoreServed, reply_of_loaded, reply_of_listed}
 
 -- the list with one entry more
-
-unsaved_own : (n : ℕ) (by : Option ℕ) (a : Act) (cs : List Change) → stops a ≡ false → unsaved_after n by a cs ≡ cond (is_session n by) (deferred_after a cs) cs
-unsaved_own n by (Act.Kill m) cs p = absurd (true≢false p)
-unsaved_own n by Act.Restart cs p = absurd (true≢false p)
-unsaved_own n by _ cs p = refl
 
 more : (l : Journal) (now s : ℕ) (a : Act) (r : Reply) (old new : StoreState) → stops a ≡ false → ((n : ℕ) → changes_of old n ≡ unsaved n l) → changes_of new s ≡ deferred_after a (changes_of old s) →
     ((n : ℕ) → n ≢ s → changes_of new n ≡ changes_of old n) → (n : ℕ) → changes_of new n ≡ unsaved n (entry_at now (Some s) a r ∷ l)
@@ -56,14 +52,6 @@ keeps_all told l now s a r old new k i d f t w = keeps told l now s a r old new 
 
 -- ---- a load
 
-not_false : (b : Bool) → not b ≡ false → b ≡ true
-not_false true p = refl
-not_false false p = absurd (true≢false p)
-
-not_true : (b : Bool) → (b ≡ true → ⊥) → b ≡ false
-not_true true f = absurd (f refl)
-not_true false f = refl
-
 fault_if : (b : Bool) (r : Reply) → b ≡ false → cond b None (Some r) ≡ Some r
 fault_if true r p = absurd (true≢false p)
 fault_if false r p = refl
@@ -82,10 +70,10 @@ load_reply script told l now s k loaded store kept view mine = by_told told load
   where
     by_told : (told : Option Tables) (loaded : Loaded) → store.tables ≡ option_map (λ start. stored start l) told → IsView store.tables (unsaved s l) k loaded →
         (is_in k (unsaved s l) ≡ true → (t : Tables) → loaded ≡ Loaded.Row (row_at (after_changes (unsaved s l) t) k)) → IsStoreReply script told l (entry_at now (Some s) (Act.Load k) (reply_of_loaded loaded))
-    by_told None (Loaded.Row row) rows v m = (refl, λ q. inl (ap (λ x. Reply.Row x) (row_is row (row_at (after_changes (unsaved s l) (stored [] l)) k) (m (not_false (is_in k (unsaved s l)) q) (stored [] l)))))
-    by_told None Loaded.Fault rows v m = (refl, λ q. absurd (no_row (row_at (after_changes (unsaved s l) []) k) (m (not_false (is_in k (unsaved s l)) q) [])))
+    by_told None (Loaded.Row row) rows v m = (refl, λ q. inl (ap (λ x. Reply.Row x) (row_is row (row_at (after_changes (unsaved s l) (stored [] l)) k) (m (not-false (is_in k (unsaved s l)) q) (stored [] l)))))
+    by_told None Loaded.Fault rows v m = (refl, λ q. absurd (no_row (row_at (after_changes (unsaved s l) []) k) (m (not-false (is_in k (unsaved s l)) q) [])))
     by_told (Some start) (Loaded.Row row) rows v m = inl (ap (λ x. Reply.Row x) (subst (λ t. IsView t (unsaved s l) k (Loaded.Row row)) rows v))
-    by_told (Some start) Loaded.Fault rows v m = inr (fault_if (is_in k (unsaved s l)) Reply.Fault (not_true (is_in k (unsaved s l)) (λ p. no_row (row_at (after_changes (unsaved s l) []) k) (m p []))))
+    by_told (Some start) Loaded.Fault rows v m = inr (fault_if (is_in k (unsaved s l)) Reply.Fault (false_from_ne_true (is_in k (unsaved s l)) (λ p. no_row (row_at (after_changes (unsaved s l) []) k) (m p []))))
 
 load_commits : (k : Key) (loaded : Loaded) (s : ℕ) → committer (Act.Load k) (reply_of_loaded loaded) (Some s) ≡ None
 load_commits k loaded s = refl
@@ -196,14 +184,14 @@ commit_reply script told l now s c store kept answer none = by_told told kept.ro
         (unsaved s l ≡ [] → c ≡ Commit.Committed) → IsStoreReply script told l (entry_at now (Some s) Act.Commit (Reply.Commit c))
     by_told None rows a n = (
       refl,
-      λ q. let e : unsaved s l ≡ [] = empty_nil (unsaved s l) (not_false (is_empty (unsaved s l)) q) in
+      λ q. let e : unsaved s l ≡ [] = empty_nil (unsaved s l) (not-false (is_empty (unsaved s l)) q) in
           inl (ap (λ x. Reply.Commit x) (n e ∙ ap (λ cs. commit_answer cs (stored [] l)) (sym e))),
     )
     by_told (Some start) rows a n = by_answer (fault_or c)
       where
         by_answer : (c ≡ Commit.Fault) ⊎ (c ≢ Commit.Fault) → IsStoreReply script (Some start) l (entry_at now (Some s) Act.Commit (Reply.Commit c))
         by_answer (inr f) = inl (ap (λ x. Reply.Commit x) (subst (λ t. IfSome t (λ m. c ≡ commit_answer (unsaved s l) m)) rows (a f)))
-        by_answer (inl p) = inr (fault_if (is_empty (unsaved s l)) (Reply.Commit Commit.Fault) (not_true (is_empty (unsaved s l)) (λ q. committed_fault (sym (n (empty_nil (unsaved s l) q)) ∙ p)))
+        by_answer (inl p) = inr (fault_if (is_empty (unsaved s l)) (Reply.Commit Commit.Fault) (false_from_ne_true (is_empty (unsaved s l)) (λ q. committed_fault (sym (n (empty_nil (unsaved s l) q)) ∙ p)))
             ∙ ap (λ x. Some (Reply.Commit x)) (sym p))
 
 commit_keeps : (told : Option Tables) (l : Journal) (now s : ℕ) (c : Commit) (old new : StoreState) → IsStored told l old →

@@ -1,10 +1,11 @@
 // The engine of the registry: which sessions have a transaction open.
-ghost use Rattle.std.specs.Prelude.{◌≡◌, ◌↔◌, ◌∷◌, ◌++◌, ◌<◌, ◌==◌, [], ℕ, IsTrue, None, Some, OnErr, OnOk, IfOk, false};
-ghost use Rattle.std.specs.List.{list_any};
+ghost use Rattle.std.specs.Prelude.{◌≡◌, ◌↔◌, ◌∷◌, ◌++◌, ◌<◌, ◌==◌, [], ℕ, nat_eq, IsTrue, None, Some, OnErr, OnOk, IfOk, false};
+ghost use Rattle.std.specs.List.{list_any, IsDistinct};
 ghost use Rattle.hib_base.specs.declared.entries.Act.{Act};
 ghost use Rattle.hib_base.specs.declared.replies.Reply.{Reply};
 ghost use Rattle.hib_base.specs.declared.scripts.Script.{Script as Said};
 ghost use Rattle.hib_journal.specs.Types.{Part};
+ghost use Rattle.hib_journal.specs.Held.{is_begin};
 ghost use Rattle.hib_journal.specs.Sessions.{Journal};
 ghost use Rattle.hib_journal.specs.Lists.{entry_at, IsLate};
 ghost use Rattle.hib_journal.specs.Runs.{is_fault};
@@ -98,16 +99,18 @@ impl Registry {
         Ok(Reply::Began { floor })
     }
 
-    /// Answers the Begin of a session at this tick. At an error nothing has changed.
+    /// Answers the Begin of a session at this tick. Another act is answered Done and changes nothing, since none is asked of the
+    /// registry. At an error nothing has changed.
     pub fn serve(&mut self, session: SessionNo, act: &Act, now: Tick) -> Result<Reply, AllocError>
         ensures answered { IfOk result (λ r. (script : Said) (l : Journal) → IsRegistry self.old l → IsLate Part.Registry now l → act.now ≡ Act.Begin
             → IsServed (λ m. IsRegistry self.new m) script l (Some session) now act.now r) }
+        ensures other { IfOk result (λ r. is_begin act.now ≡ false
+            → (r ≡ Reply.Done) × (self.new ≡ self.old)) }
         ensures calm { IfOk result (λ r. is_fault r ≡ false) }
         ensures err { OnErr result (self.new ≡ self.old) }
     {
         match act {
             Act::Begin => self.begin(session, now),
-            // No other act is asked of the registry.
             _ => Ok(Reply::Done),
         }
     }
@@ -119,9 +122,10 @@ impl Registry {
         self.times.contains_key(&session)
     }
 
-    /// The open sessions, in no order.
+    /// The open sessions, each once, in no order.
     pub fn open_sessions(&self) -> &[SessionNo]
-        ensures { (s : ℕ) → list_any (λ n. n == s) result.now ≡ holds s self.now }
+        ensures which { (s : ℕ) → list_any (λ n. n == s) result.now ≡ holds s self.now }
+        ensures once { IsDistinct nat_eq result.now }
     {
         self.times.keys().as_slice()
     }

@@ -6,3 +6,4 @@ pub mod Open
 pub mod Slots
 pub mod Due
 pub mod Shapes
+pub mod Untouched

@@ -2,7 +2,7 @@
 use Rattle.std.specs.Prelude.{option_and_then, unwrap_or}
 use Rattle.std.specs.Option.{option_map_or}
 use Rattle.std.proofs.Common.{◌≡◌, ℕ, ◌⊎◌, inl, inr, Bool, true, false, cond, not, ◌&&◌, ◌||◌, ◌==◌, List, [], ◌∷◌, Some, None, Option, refl, sym, ◌∙◌, subst}
-use Rattle.std.proofs.lemmas.Bool.{true≢false, false≢true, and_parts, or_parts, or_right, not-true, ne_eqb}
+use Rattle.std.proofs.lemmas.Bool.{true≢false, false≢true, and_parts, or_parts, or_right, not-true, ne_eqb, or_left}
 use Rattle.std.proofs.Common.{eq-eqb}
 use Rattle.std.specs.List.{list_any, list_all}
 use Rattle.hib_journal.specs.Types.{Key, Row, Change, Commit, Strategy, Script, Act, Reply, Entry}
@@ -245,10 +245,7 @@ module _ (script : Script) (start : Tables) (k : Key) (h : Journal) (e : Entry) 
         goes_up k (changes s h) (committed start h) r applied st m in
         let same : row_at (committed start (e ∷ h)) k ≡ row_at (after_changes (changes s h) (committed start h)) k = rw c refl in
         Commits.Changes r m i (left_same z.0 z.1) (λ x q. u.newer x (sym same ∙ q))
-        (λ q. rw n (or_left_true (commits (deletes_key k) h e) (was_deleted k h) (commits_here (deletes_key k) ∙ u.gone (sym same ∙ q))))
-      where
-        or_left_true : (a b : Bool) → a ≡ true → (a || b) ≡ true
-        or_left_true a b x = rw x
+        (λ q. rw n (or_left (commits (deletes_key k) h e) (was_deleted k h) (commits_here (deletes_key k) ∙ u.gone (sym same ∙ q))))
 
     row_of_commit : (commits (inserts_key k) h e && was_deleted k h) ≡ false → (d : Option Change) → first_on k (changes s h) ≡ d →
         Meets k d (row_at (committed start h) k) → IsReady k h s d → Commits s (view_of script start k h) (view_of script start k (e ∷ h))

@@ -1,6 +1,6 @@
 -- What a list of changes that applies does to the row of one key.
 use Rattle.std.proofs.Common.{◌≡◌, ℕ, ◌+◌, inl, inr, Bool, true, false, cond, ◌||◌, ◌==◌, ltb, List, [], ◌∷◌, Some, None, Option, refl, ap, sym, ◌∙◌, subst, arith}
-use Rattle.std.proofs.lemmas.Bool.{true≢false, false≢true, eqb-true, ltb-false, le-ltb, or_right}
+use Rattle.std.proofs.lemmas.Bool.{true≢false, false≢true, eqb-true, ltb-false, le-ltb, or_right, or_left}
 use Rattle.std.specs.List.{list_any}
 use Rattle.hib_journal.specs.Types.{Key, Row, Change, Commit}
 use Rattle.hib_base.specs.Keys.{same_key}
@@ -181,10 +181,7 @@ goes_up k (c ∷ cs) t r e s n = by_key (tested (same_key (key_of c) k))
         let here : row_at (after_change c t) k ≡ None = rw m (row_at_change (Change.Delete j v) t k p) in
         let after : row_at (after_changes cs (after_change c t)) k ≡ None = g here in
         let del : deletes_key k c ≡ true = rw m p in
-        record { newer = λ d a. none_some (sym after ∙ a); gone = λ a. or_left_true (deletes_key k c) (list_any (deletes_key k) cs) del }
-      where
-        or_left_true : (a b : Bool) → a ≡ true → (a || b) ≡ true
-        or_left_true a b h = rw h
+        record { newer = λ d a. none_some (sym after ∙ a); gone = λ a. or_left (deletes_key k c) (list_any (deletes_key k) cs) del }
 
     by_key : Tested (same_key (key_of c) k) →
         ((d : Row) → row_at (after_change c t) k ≡ Some d → IsUp k cs d (row_at (after_changes cs (after_change c t)) k)) →

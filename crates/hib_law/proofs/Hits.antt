@@ -26,7 +26,8 @@ use Rattle.hib_journal.proofs.Open.{begun_open}
 use Rattle.hib_law.proofs.Stamped.{IsAtLeast, stamp_last, stamp_kept}
 use Rattle.hib_law.proofs.Orderly.{Doer, doer}
 use Rattle.hib_law.proofs.QueryRules.{owed, owed_by, MayKeep, MayCheck, AllowedQuery, allowed_query}
-use Rattle.hib_law.proofs.Given.{touches, untouched, touched_one, gives_same, in_tables, in_changed, declared_reads}
+use Rattle.hib_journal.proofs.Untouched.{touches, gives_same}
+use Rattle.hib_law.proofs.Given.{untouched, touched_one, in_tables, in_changed, declared_reads}
 use Rattle.hib_law.proofs.Basics.{none_some, some_same}
 use Rattle.hib_law.proofs.Past.{later_in_session, nil_cons, IsPast, past_refl, past_step, past_trans, legal_past, past_tick, at_each_since, up_own}
 

@@ -2,7 +2,7 @@
 use Rattle.std.specs.Prelude.{is_some, option_and_then}
 use Rattle.std.specs.Option.{option_map_or}
 use Rattle.std.proofs.Common.{◌≡◌, ℕ, inl, inr, Bool, true, false, cond, not, ◌&&◌, List, [], ◌∷◌, ◌++◌, slice_get, Some, None, Option, refl}
-use Rattle.std.proofs.lemmas.Bool.{false≢true, and_parts}
+use Rattle.std.proofs.lemmas.Bool.{and_parts, not-true}
 use Rattle.std.specs.List.{flat_map}
 use Rattle.hib_journal.specs.Types.{Key, Row, Change, Strategy, Mode, Statement, Script, Act, Reply, Checked, Entry}
 use Rattle.hib_base.specs.Tables.{Tables, first_on, last_on, row_left}
@@ -16,13 +16,9 @@ use Rattle.hib_base.proofs.Tables.{Tested, tested}
 use Rattle.hib_journal.proofs.Plans.{Good, Runs, Allows, allows_join, runs_each, runs_if, AllRight, good_left, allowed_first}
 use Rattle.hib_journal.proofs.Steps.{next_act, next_is, steps_in_order}
 
-not_true : (b : Bool) → not b ≡ true → b ≡ false
-not_true true e = absurd (false≢true e)
-not_true false e = refl
-
 -- what a block's test says of what is not in the changes
 pub not_in_test : (x y b : Bool) → (x && (y && not b)) ≡ true → b ≡ false
-not_in_test x y b e = not_true b (and_parts y (not b) (and_parts x (y && not b) e).1).1
+not_in_test x y b e = not-true b (and_parts y (not b) (and_parts x (y && not b) e).1).1
 
 -- the acts of a find, of a list without its flush, of a flush, and of what completes a key; and the other acts within a transaction
 abbrev pub is_find_act : Act → Bool

@@ -5,6 +5,7 @@ mod adapters;
 mod failing;
 mod gate;
 mod keeper;
+pub mod keyed;
 mod listener;
 mod mem_keeper;
 mod mem_streams;

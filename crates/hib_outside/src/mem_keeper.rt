@@ -8,7 +8,7 @@ ghost use Rattle.hib_outside.specs.Keeps.{tables_seeded, tables_after, rows_of};
 ghost use Rattle.hib_outside.specs.Verdicts.{verdict, IsPlace};
 ghost use Rattle.hib_outside.specs.declared.keeper.KeepFault.{KeepFault};
 
-use crate::{Applied, Failing, KeepFault, Keeper, Numbers, shelf};
+use crate::{Applied, Failing, KeepFault, Keeper, Numbers, keyed, shelf};
 use hib_base::{Change, EntityNo, Key, Mapping, Row, Rows, Seq};
 use std::alloc::Global;
 
@@ -95,7 +95,7 @@ impl Keeper for MemKeeper {
             return Err(KeepFault::Failed);
         }
         self.asked = self.asked.saturating_add(1);
-        match shelf::row_of(self.rows.as_slice(), &key) {
+        match keyed::row_of(self.rows.as_slice(), &key) {
             Some(row) => Ok(Some(row.copy(alloc)?)),
             None => Ok(None),
         }

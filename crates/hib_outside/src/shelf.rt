@@ -1,95 +1,19 @@
-// Rows in order of keys, and what is done to them in place.
+// What is done to rows in order of keys: changes, one by one and in batches, and copies.
 ghost use Rattle.std.specs.Map.{lookup};
-ghost use Rattle.std.specs.Prelude.{◌≡◌, ◌+◌, ◌≤◌, ◌<◌, ℕ, true, length, take, List, [], cond, Some, None, MatchResult, IfOk, IfSome, OnOk, vec_len, vec_capacity, option_copied};
-ghost use Rattle.hib_base.specs.Keys.{same_key, is_before};
+ghost use Rattle.std.specs.Prelude.{◌≡◌, ◌+◌, ◌≤◌, ◌<◌, ℕ, true, length, take, [], cond, Some, None, IfOk, IfSome, OnOk, vec_len, vec_capacity, option_copied};
+ghost use Rattle.hib_base.specs.Keys.{same_key};
 ghost use Rattle.hib_base.specs.declared.numbers.Key.{Key as KeyOf};
-ghost use Rattle.hib_base.specs.Tables.{in_order, row_at, with_row, without_row, row_left, same_version, after_change, after_changes, unless_there, with_absent};
+ghost use Rattle.hib_base.specs.Tables.{in_order, row_at, row_left, same_version, after_change, after_changes, unless_there, with_absent};
 ghost use Rattle.hib_base.specs.Start.{widened_entry, widened};
-ghost use Rattle.hib_outside.specs.Places.{place_in};
 ghost use Rattle.hib_outside.specs.Keeps.{rows_of, is_listed};
 ghost use Rattle.hib_outside.specs.Verdicts.{refused_at, verdict, IsPlace};
 ghost use Rattle.hib_outside.specs.Lasts.{change_at, HasLasts};
 
 use crate::Applied;
+use crate::keyed::{put, row_of, take_out};
 use hib_base::{Change, EntityDef, EntityNo, Key, Row, Rows, Seq, entity_columns};
 use indexmap::IndexMap;
 use std::alloc::{AllocError, Global};
-
-fn is_same(a: &Key, b: &Key) -> bool
-    ensures { result ≡ same_key a.now b.now }
-{
-    a == b
-}
-
-fn comes_before(a: &Key, b: &Key) -> bool
-    ensures { result ≡ is_before a.now b.now }
-{
-    a.entity.0 < b.entity.0 || (a.entity.0 == b.entity.0 && a.id < b.id)
-}
-
-/// The place of a key's row, or else the place where it belongs. A search by halves.
-fn find(rows: &[(Key, Row)], key: &Key) -> Result<usize, usize>
-    requires { in_order rows.now ≡ true }
-    ensures place { result ≡ place_in rows.now key.now }
-    ensures within { MatchResult result (λ i. i < length rows.now) (λ i. i ≤ length rows.now) }
-{
-    let mut low = 0;
-    let mut high = rows.len();
-    while low < high {
-        let middle = low + (high - low) / 2;
-        let here = &rows[middle].0;
-        if is_same(here, key) {
-            return Ok(middle);
-        }
-        if comes_before(here, key) {
-            low = middle + 1;
-        } else {
-            high = middle;
-        }
-    }
-    Err(low)
-}
-
-/// The row of a key.
-pub fn row_of<'a>(rows: &'a [(Key, Row)], key: &Key) -> Option<&'a Row>
-    requires { in_order rows.now ≡ true }
-    ensures { option_copied result ≡ row_at rows.now key.now }
-{
-    match find(rows, key) {
-        Ok(at) => Some(&rows[at].1),
-        Err(_) => None,
-    }
-}
-
-/// Gives a key a row. There is room for one more.
-fn put(rows: &mut Vec<(Key, Row)>, key: Key, row: Row)
-    requires ordered { in_order rows.old.items ≡ true }
-    requires room { vec_len rows.old < vec_capacity rows.old }
-    ensures rows { rows.new.items ≡ with_row rows.old.items key row }
-    ensures len { vec_len rows.new ≤ vec_len rows.old + 1 }
-    ensures capacity { vec_capacity rows.new ≡ vec_capacity rows.old }
-{
-    match find(rows.as_slice(), &key) {
-        Ok(at) => rows[at] = (key, row),
-        Err(at) => {
-            if rows.insert(at, (key, row)).is_err() {
-                unreachable!();
-            }
-        }
-    }
-}
-
-/// Takes a key's row out.
-fn take_out(rows: &mut Vec<(Key, Row)>, key: &Key)
-    requires { in_order rows.old.items ≡ true }
-    ensures rows { rows.new.items ≡ without_row rows.old.items key.now }
-    ensures len { vec_len rows.new ≤ vec_len rows.old }
-    ensures capacity { vec_capacity rows.new ≡ vec_capacity rows.old }
-{
-    if let Ok(at) = find(rows.as_slice(), key) {
-        rows.remove(at);
-    }
-}
 
 /// The row that a change leaves.
 fn row_left_by(change: &Change) -> Option<&Row>

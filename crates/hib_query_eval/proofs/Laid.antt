@@ -10,7 +10,7 @@ use Rattle.hib_outside.specs.Keeps.{is_listed, rows_of}
 use Rattle.hib_outside.proofs.Orders.{is_before_total, is_first_trans, rest_in_order, row_at_before, in_order_changes, in_order_with_absent}
 use Rattle.hib_journal.specs.Query.{reads, gives, mentions}
 use Rattle.hib_journal.specs.Room.{key}
-use Rattle.hib_query_eval.proofs.Untouched.{rows_in, gives_alike}
+use Rattle.hib_journal.proofs.Untouched.{rows_in, gives_alike}
 use Rattle.hib_journal.specs.Types.{Key, Row, Change, Query}
 use Rattle.hib_query_eval.specs.Reads.{read_by}
 

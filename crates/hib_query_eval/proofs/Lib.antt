@@ -6,7 +6,6 @@ pub mod Derived
 pub mod Found
 pub mod Indexed
 pub mod Spans
-pub mod Untouched
 pub mod Laid
 pub mod Views
 pub mod Searched

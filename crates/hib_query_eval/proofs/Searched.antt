@@ -14,7 +14,7 @@ use Rattle.hib_query_eval.specs.Covers.{Covers, HasAll, HasMet}
 use Rattle.hib_query_eval.specs.Places.{IsIndexOf, has_id}
 use Rattle.hib_query_eval.specs.Views.{is_changed}
 use Rattle.hib_query_eval.proofs.Spans.{gained, still}
-use Rattle.hib_query_eval.proofs.Untouched.{touches, row_same, holds_same}
+use Rattle.hib_journal.proofs.Untouched.{touches, row_same, holds_same}
 use Rattle.hib_query_eval.proofs.Views.{row_unchanged}
 
 pub id_itself : (n : ℕ) (xs : List ℕ) → has_id n (n ∷ xs) ≡ true

@@ -1,15 +1,15 @@
 // Rows and the places of their cells, as changes are done to them.
 ghost use Rattle.std.specs.Prelude.{◌≡◌, ◌<◌, ◌^◌, ℕ, ◌&&◌, ◌||◌, not, true, is_none, is_some, IfOk, OnOk, option_copied};
 ghost use Rattle.hib_base.specs.Keys.{same_key};
-ghost use Rattle.hib_base.specs.Tables.{in_order, row_left, same_version, refusal, after_change};
+ghost use Rattle.hib_base.specs.Tables.{in_order, row_left, same_version, refusal, tables_with, after_change};
 ghost use Rattle.hib_journal.specs.Types.{Cell as CellSpec};
 ghost use Rattle.hib_journal.specs.Room.{key as key_at};
 ghost use Rattle.hib_query_eval.specs.Applies.{applies};
 ghost use Rattle.hib_query_eval.specs.Places.{has_place, has_cell, IsIndexOf};
 
-use crate::keyed;
 use crate::places::{self, Place};
 use hib_base::{Change, Key, Row};
+use hib_outside::keyed;
 use std::alloc::{AllocError, Global};
 use std::collections::BTreeSet;
 
@@ -78,6 +78,31 @@ fn add_new(
     }
 }
 
+/// Gives a key a copy of a row, or none.
+fn set_row(
+    alloc: Global,
+    rows: &mut Vec<(Key, Row)>,
+    key: &Key,
+    row: Option<&Row>,
+) -> Result<(), AllocError>
+    requires { in_order rows.old.items ≡ true }
+    ensures { OnOk result
+        (rows.new.items ≡ tables_with rows.old.items key.now (option_copied row.entry)) }
+{
+    match row {
+        Some(row) => {
+            let row = row.copy(alloc)?;
+            rows.reserve(1)?;
+            keyed::put(rows, *key, row);
+            Ok(())
+        }
+        None => {
+            keyed::take_out(rows, key);
+            Ok(())
+        }
+    }
+}
+
 /// Does a change to rows and to the places of their cells, if it applies; says whether it does.
 pub fn change_one(
     alloc: Global,
@@ -99,7 +124,7 @@ pub fn change_one(
     drop_old(alloc, places, &key, found)?;
     let left = row_left(change);
     add_new(alloc, places, &key, left)?;
-    keyed::set_row(alloc, rows, &key, left)?;
+    set_row(alloc, rows, &key, left)?;
     Ok(true)
 }
 

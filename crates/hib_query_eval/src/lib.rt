@@ -6,7 +6,6 @@ mod cells;
 mod changing;
 mod conditions;
 mod index;
-mod keyed;
 mod laws;
 mod listing;
 mod orders;

@@ -5,8 +5,8 @@ ghost use Rattle.hib_journal.specs.Types.{Key as KeySpec};
 ghost use Rattle.hib_query_eval.specs.Found.{row_in};
 ghost use Rattle.hib_query_eval.specs.Views.{has_key, is_changed};
 
-use crate::keyed;
 use hib_base::{Change, Key, Row, Rows, Seq};
+use hib_outside::keyed;
 use std::alloc::{AllocError, Global};
 use std::collections::BTreeSet;
 use std::marker::Model;
@@ -91,7 +91,18 @@ impl<'a> View<'a> {
     pub fn entry_of(&self, key: &Key) -> Option<&(Key, Row)>
         ensures { option_copied result ≡ row_in self.now key.now }
     {
-        keyed::entry_of(self.part(key), key)
+        entry_of(self.part(key), key)
+    }
+}
+
+/// A key with its row.
+fn entry_of<'a>(rows: &'a [(Key, Row)], key: &Key) -> Option<&'a (Key, Row)>
+    requires { in_order rows.now ≡ true }
+    ensures { option_copied result ≡ row_in rows.now key.now }
+{
+    match keyed::find(rows, key) {
+        Ok(at) => Some(&rows[at]),
+        Err(_) => None,
     }
 }
 

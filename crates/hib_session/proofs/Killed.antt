@@ -1,6 +1,6 @@
 -- Sessions of which some are killed.
 use Rattle.std.proofs.Common.{◌≡◌, ℕ, zero, suc, ◌+◌, ◌≤◌, ◌<◌, ◌==◌, Bool, true, false, ◌||◌, List, [], ◌∷◌, ◌++◌, length, get_or, take, Some, refl, sym, ap, ◌∙◌, subst, arith, inl, inr}
-use Rattle.std.proofs.lemmas.Bool.{true≢false, eqb-true, eq-eqb}
+use Rattle.std.proofs.lemmas.Bool.{true≢false, eqb-true, eq-eqb, or_parts}
 use Rattle.std.proofs.lemmas.List.{get_or-set_same, get_or-set_other, length-set}
 use Rattle.std.proofs.lemmas.Option.{slice_get_within, get_or_from_slice_get, slice_get-get_or}
 use Rattle.std.specs.Prelude.{slice_get, slice_set}
@@ -12,10 +12,6 @@ use Rattle.hib_session.specs.Killed.{IsAsBefore, AreKilled}
 
 self_by : (n : ℕ) → (n == n) ≡ true
 self_by n = eq-eqb n n refl
-
-either : (p q : Bool) → (p || q) ≡ false → (p ≡ false) × (q ≡ false)
-either true q e = absurd (true≢false e)
-either false q e = (refl, e)
 
 pub none_killed : (xs : List Session) → AreKilled (λ s. false) xs xs
 none_killed xs = record { all = refl; each = λ s y p. record { before = y; there = p; number = refl; killed = refl; same = λ q. refl } }
@@ -76,7 +72,7 @@ then_killed p q xs ys zs w v = record { all = v.all ∙ w.all; each = λ s z e. 
           there = c.there;
           number = b.number ∙ c.number;
           killed = b.killed ∙ (ap (λ o. q s || o) c.killed ∙ or_assoc (q s) (p s) (is_killed c.before));
-          same = λ t. let u : (q s ≡ false) × (p s ≡ false) = either (q s) (p s) t in b.same u.0 ∙ c.same u.1;
+          same = λ t. let u : (q s ≡ false) × (p s ≡ false) = or_parts (q s) (p s) t in b.same u.0 ∙ c.same u.1;
         }
 
 -- no number is among none

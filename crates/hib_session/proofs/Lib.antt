@@ -9,3 +9,5 @@ pub mod Taking
 pub mod Few
 pub mod Killed
 pub mod Together
+pub mod OwnReplies
+pub mod Asked

@@ -9,7 +9,7 @@ use Rattle.hib_outside.specs.Keeps.{is_listed, rows_of}
 use Rattle.hib_outside.proofs.Orders.{in_order_changes}
 use Rattle.hib_journal.specs.Query.{reads, gives, mentions}
 use Rattle.hib_journal.specs.Room.{key}
-use Rattle.hib_query_eval.proofs.Untouched.{gives_alike}
+use Rattle.hib_journal.proofs.Untouched.{gives_alike}
 use Rattle.hib_query_eval.proofs.Laid.{kept, row_at_kept, in_order_kept, same_tables, row_at_with_absent}
 use Rattle.hib_store.specs.Types.{Key, Change, Commit, Query}
 use Rattle.hib_store.specs.Stores.{AreOf, IsIndexed, IsListed, if_applied, index_left, tables_answered}

@@ -39,7 +39,7 @@ returns-clause-sessions g c =
     subst (λ (j : Journal). AreSessions g.N.Name.script j ys) (sym grown)
     (sessions_outside g.N.Name.script h (length h + 1) Act.Restart Reply.Done xs ys c.requires.sessions
     (killed_as (λ s. list_any (λ n. n == s) c.open_sessions.result.now) (λ s. is_open s h) xs ys
-    (λ s l. c.open_sessions.ensures s ∙ (ap (λ (ps : Opened). holds s ps) here ∙ holds_open x.registry h s c.requires.run.parts.registry)) c.kill_all.ensures))
+    (λ s l. c.open_sessions.ensures.which s ∙ (ap (λ (ps : Opened). holds s ps) here ∙ holds_open x.registry h s c.requires.run.parts.registry)) c.kill_all.ensures))
 
 pub returns-clause-asked : goal.returns-clause-asked
 returns-clause-asked g c = λ w.

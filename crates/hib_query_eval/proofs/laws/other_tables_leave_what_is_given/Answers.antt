@@ -1,4 +1,4 @@
-use Rattle.hib_query_eval.proofs.Untouched.{gives_after}
+use Rattle.hib_journal.proofs.Untouched.{gives_after}
 use Rattle.hib_query_eval.proofs.laws.other_tables_leave_what_is_given.Goals as goal
 
 pub returns : goal.returns

@@ -1,5 +1,5 @@
 use Rattle.std.proofs.Common.{sym, ◌∙◌}
-use Rattle.hib_query_eval.proofs.Untouched.{gives_after}
+use Rattle.hib_journal.proofs.Untouched.{gives_after}
 use Rattle.hib_query_eval.proofs.reading.touching.Goals as goal
 
 pub returns-else-is_touched : goal.returns-else-is_touched

@@ -20,4 +20,4 @@ returns c =
     let y : AuditorState = record { engines = c.restart.new.self; sessions = c.kill_all.new.sessions.items; written = c.self.inside.written.items; ticks = c.note.new.self } in
     knows_restart script (start_rows script) h e x y k c.requires.coming c.requires.by c.requires.act (c.is_done.ensures.0 c.if-not-is_done.false) (c.restart.ensures script (start_rows script) h e.tick)
     (killed_as (λ s. list_any (λ n. n == s) c.open_sessions.result.now) (λ s. is_open s h) x.sessions y.sessions
-    (λ s l. c.open_sessions.ensures s ∙ (ap (λ (ps : Opened). holds s ps) c.registry.ensures ∙ holds_open x.engines.registry h s k.engines.registry)) c.kill_all.ensures) refl c.note.ensures
+    (λ s l. c.open_sessions.ensures.which s ∙ (ap (λ (ps : Opened). holds s ps) c.registry.ensures ∙ holds_open x.engines.registry h s k.engines.registry)) c.kill_all.ensures) refl c.note.ensures

@@ -1,7 +1,7 @@
 use Rattle.std.proofs.Common.{◌≡◌, ◌-◌, ◌≤◌, length, take, drop}
 use Rattle.hib_outside.specs.Places.{place_in}
 use Rattle.hib_outside.proofs.Places.{further}
-use Rattle.hib_outside.proofs.shelf.find.Given as goal
+use Rattle.hib_outside.proofs.keyed.find.Given as goal
 
 -- the place among the rows from `low` on gives the place among all, and so does the place among those before `high`
 abbrev pub invariant-loop-low : goal.invariant-loop-low

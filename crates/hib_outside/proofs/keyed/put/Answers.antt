@@ -1,5 +1,5 @@
 use Rattle.hib_outside.proofs.Places.{with_row_ok, with_row_err}
-use Rattle.hib_outside.proofs.shelf.put.Goals as goal
+use Rattle.hib_outside.proofs.keyed.put.Goals as goal
 
 pub returns-in-Ok-clause-rows : goal.returns-in-Ok-clause-rows
 returns-in-Ok-clause-rows c =

@@ -1,5 +1,5 @@
 use Rattle.hib_outside.proofs.Places.{without_row_ok, without_row_err}
-use Rattle.hib_outside.proofs.shelf.take_out.Goals as goal
+use Rattle.hib_outside.proofs.keyed.take_out.Goals as goal
 
 pub returns-in-Ok-clause-rows : goal.returns-in-Ok-clause-rows
 returns-in-Ok-clause-rows c =

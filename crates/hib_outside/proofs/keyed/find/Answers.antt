@@ -1,6 +1,6 @@
 use Rattle.std.proofs.Common.{◌+◌, ◌-◌, ◌/◌, ◌<◌, length, sym, ◌∙◌, arith}
 use Rattle.hib_outside.proofs.Searches.{place_found, place_after, place_ahead, place_between, comes_after}
-use Rattle.hib_outside.proofs.shelf.find.Goals as goal
+use Rattle.hib_outside.proofs.keyed.find.Goals as goal
 
 pub returns-then-is_same-clause-place : goal.returns-then-is_same-clause-place
 returns-then-is_same-clause-place c =

@@ -1,6 +1,6 @@
 use Rattle.std.proofs.Common.{Some, ap, ◌∙◌}
 use Rattle.hib_query_eval.proofs.Found.{row_in_ok, row_in_err}
-use Rattle.hib_query_eval.proofs.keyed.entry_of.Goals as goal
+use Rattle.hib_query_eval.proofs.view.entry_of.Goals as goal
 
 pub returns-in-Ok : goal.returns-in-Ok
 returns-in-Ok c =
