@@ -32,7 +32,8 @@ fn first_bad(
 ) -> Result<Audit, AllocError>
     requires known { Knows script.now (start_rows script.now) [] auditor.old }
     requires few { length entries.now < 2 ^ 32 }
-    ensures { IfOk result (λ a. auditor.new.engines.store.faults ≡ 0 → IsVerdict script.now (start_rows script.now) (reverse entries.now) a) }
+    ensures { IfOk result (λ a. auditor.new.engines.store.faults ≡ 0
+        → IsVerdict script.now (start_rows script.now) (reverse entries.now) a) }
 {
     for at in 0..entries.len() {
         if let Some(kind) = auditor.pass(alloc, script, &entries[..at], &entries[at])? {
@@ -50,7 +51,8 @@ pub fn audit(alloc: Global, script: &Script, journal: &Journal) -> Result<Audit,
     requires few { length (past journal.now) < 2 ^ 32 }
 
     // It is legal exactly if the audit says so, and then it obeys the law.
-    ensures legal { IfOk result (λ a. (a ≡ Audit.Legal) ↔ IsLegal script.now (Some (start_rows script.now)) (past journal.now)) }
+    ensures legal { IfOk result (λ a. (a ≡ Audit.Legal)
+        ↔ IsLegal script.now (Some (start_rows script.now)) (past journal.now)) }
     ensures law { IfOk result (IsLawful script.now (start_rows script.now) (past journal.now)) }
 
     // The entry that is named is the first that isn't legal, and the point the first that it breaks.

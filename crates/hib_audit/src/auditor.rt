@@ -31,7 +31,12 @@ impl Model for Auditor {
 
     ghost Value = { AuditorState };
 
-    ghost view = { λ a. record { engines = a.engines; sessions = a.sessions.items; written = a.written.items; ticks = a.ticks } };
+    ghost view = { λ a. record {
+      engines = a.engines;
+      sessions = a.sessions.items;
+      written = a.written.items;
+      ticks = a.ticks;
+    } };
 }
 
 /// Whether the reply of an entry of a session, whose act is due, is one that may be. If it is, the engines stand for the journal with
@@ -47,10 +52,15 @@ fn answers(
 ) -> Result<bool, AllocError>
     requires late { entry.now.tick ≤ 2 ^ 62 }
     requires mapping { length script.now.mapping < 2 ^ 16 }
-    requires ready { IsReady script.now (start_rows script.now) (reverse before.now) (number_of session.now) entry.now.tick entry.now.act engines.old }
-    requires follows { Follows script.now session.now (own (number_of session.now) (reverse before.now)) }
-    requires written { HasWritten (changes (number_of session.now) (reverse before.now)) written.now }
-    ensures { IfOk result (λ b. IsJudged b script.now (start_rows script.now) (reverse before.now) (Some (number_of session.now)) entry.now.tick entry.now.act entry.now.reply engines.new) }
+    requires ready { IsReady script.now (start_rows script.now) (reverse before.now)
+        (number_of session.now) entry.now.tick entry.now.act engines.old }
+    requires follows { Follows script.now session.now
+        (own (number_of session.now) (reverse before.now)) }
+    requires written { HasWritten (changes (number_of session.now) (reverse before.now))
+        written.now }
+    ensures { IfOk result (λ b. IsJudged b script.now (start_rows script.now) (reverse before.now)
+        (Some (number_of session.now)) entry.now.tick entry.now.act entry.now.reply
+        engines.new) }
 {
     let _ = before;
     if written.may_fail(&entry.act, &entry.reply) {
@@ -104,7 +114,8 @@ impl Auditor {
         requires known { Knows script.now (start_rows script.now) (reverse before.now) self.old }
         requires coming { IsComing script.now (reverse before.now) entry.now }
         requires by { entry.now.session ≡ Some number }
-        ensures { IfOk result (λ b. IsTakenOr b script.now (start_rows script.now) (reverse before.now) entry.now self.new) }
+        ensures { IfOk result (λ b. IsTakenOr b script.now (start_rows script.now)
+            (reverse before.now) entry.now self.new) }
     {
         let at = number.0 as usize;
         let session = &self.sessions[at];
@@ -131,7 +142,8 @@ impl Auditor {
         requires coming { IsComing script.now (reverse before.now) entry.now }
         requires by { entry.now.session ≡ None }
         requires act { entry.now.act ≡ Act.Kill session }
-        ensures { IsTakenOr result script.now (start_rows script.now) (reverse before.now) entry.now self.new }
+        ensures { IsTakenOr result script.now (start_rows script.now)
+            (reverse before.now) entry.now self.new }
     {
         let _ = script;
         let _ = before;
@@ -150,7 +162,8 @@ impl Auditor {
         requires coming { IsComing script.now (reverse before.now) entry.now }
         requires by { entry.now.session ≡ None }
         requires act { entry.now.act ≡ Act.Restart }
-        ensures { IsTakenOr result script.now (start_rows script.now) (reverse before.now) entry.now self.new }
+        ensures { IsTakenOr result script.now (start_rows script.now)
+            (reverse before.now) entry.now self.new }
     {
         let _ = script;
         let _ = before;
@@ -176,7 +189,8 @@ impl Auditor {
         requires coming { IsComing script.now (reverse before.now) entry.now }
         requires by { entry.now.session ≡ None }
         requires act { entry.now.act ≡ Act.Evict key }
-        ensures { IfOk result (λ b. IsTakenOr b script.now (start_rows script.now) (reverse before.now) entry.now self.new) }
+        ensures { IfOk result (λ b. IsTakenOr b script.now (start_rows script.now)
+            (reverse before.now) entry.now self.new) }
     {
         let _ = script;
         let _ = before;
@@ -200,7 +214,8 @@ impl Auditor {
     ) -> Result<bool, AllocError>
         requires known { Knows script.now (start_rows script.now) (reverse before.now) self.old }
         requires coming { IsComing script.now (reverse before.now) entry.now }
-        ensures { IfOk result (λ b. IsTakenOr b script.now (start_rows script.now) (reverse before.now) entry.now self.new) }
+        ensures { IfOk result (λ b. IsTakenOr b script.now (start_rows script.now)
+            (reverse before.now) entry.now self.new) }
     {
         if let Some(number) = entry.session {
             return self.take_session(alloc, script, number, before, entry);
@@ -223,7 +238,8 @@ impl Auditor {
         entry: &Entry,
     ) -> Result<Option<AuditKind>, AllocError>
         requires { Knows script.now (start_rows script.now) (reverse before.now) self.old }
-        ensures { IfOk result (λ o. IsPassed script.now (start_rows script.now) (reverse before.now) entry.now o self.new) }
+        ensures { IfOk result (λ o. IsPassed script.now (start_rows script.now)
+            (reverse before.now) entry.now o self.new) }
     {
         if !self.ticks.is_after(entry) {
             return Ok(Some(AuditKind::Tick));

@@ -42,14 +42,21 @@ impl Model for Engines {
 
     ghost Value = { EnginesState };
 
-    ghost view = { λ e. record { store = e.store; registry = e.registry; stamps = e.stamps; regions = e.regions.items; results = e.results } };
+    ghost view = { λ e. record {
+      store = e.store;
+      registry = e.registry;
+      stamps = e.stamps;
+      regions = e.regions.items;
+      results = e.results;
+    } };
 }
 
 impl Engines {
     /// The engines of a script over its rows, before any act.
     pub fn open(alloc: Global, script: &Script) -> Result<Engines, AllocError>
         requires { IsBuilt script.now }
-        ensures { IfOk result (λ e. AreStanding script.now (start script.now.mapping [] script.now.rows) [] e) }
+        ensures { IfOk result (λ e. AreStanding script.now
+            (start script.now.mapping [] script.now.rows) [] e) }
     {
         laws();
         let regions = open_regions(alloc, script)?;
@@ -94,8 +101,10 @@ impl Engines {
 
     /// A session was killed: it isn't open any more, and what it has written and not committed is dropped. It takes no memory.
     pub fn kill(&mut self, session: SessionNo)
-        ensures { (script : Said) (from : Tables) (h : Journal) (now : ℕ) → AreStanding script from h self.old → IsLate Part.Registry now h
-            → AreStanding script from (entry_at now None (Act.Kill session) Reply.Done ∷ h) self.new }
+        ensures { (script : Said) (from : Tables) (h : Journal) (now : ℕ)
+            → AreStanding script from h self.old → IsLate Part.Registry now h
+            → AreStanding script from (entry_at now None (Act.Kill session) Reply.Done ∷ h)
+            self.new }
     {
         laws();
         self.registry.kill(session);
@@ -105,7 +114,8 @@ impl Engines {
     /// A restart: no session is open, no table has a stamp, no region holds anything, no result is kept, and what sessions have
     /// written and not committed is dropped. It takes no memory.
     pub fn restart(&mut self)
-        ensures { (script : Said) (from : Tables) (h : Journal) (now : ℕ) → AreStanding script from h self.old → IsLate Part.Registry now h
+        ensures { (script : Said) (from : Tables) (h : Journal) (now : ℕ)
+            → AreStanding script from h self.old → IsLate Part.Registry now h
             → AreStanding script from (entry_at now None Act.Restart Reply.Done ∷ h) self.new }
     {
         laws();
@@ -125,7 +135,8 @@ impl Engines {
         now: Tick,
     ) -> Result<Reply, AllocError>
         requires { now ≤ 2 ^ 62 }
-        ensures served { IfOk result (λ r. (script : Said) (from : Tables) (h : Journal) (k : Key) → AreStanding script from h self.old → act.now ≡ Act.Evict k → k.entity ≡ entity
+        ensures served { IfOk result (λ r. (script : Said) (from : Tables) (h : Journal) (k : Key)
+            → AreStanding script from h self.old → act.now ≡ Act.Evict k → k.entity ≡ entity
             → is_cached script k.entity ≡ true → IsLate (Part.Region entity) now h
             → IsAnswered script from h None now act.now r self.new) }
         ensures calm { IfOk result (λ r. is_fault r ≡ false) }
@@ -137,8 +148,10 @@ impl Engines {
     /// An act of a session was answered by a fault. Of a commit the store drops what the session has written, as at a kill. A load and
     /// a list leave it as it is. It takes no memory.
     pub fn fail(&mut self, session: SessionNo, act: &Act)
-        ensures { (script : Said) (from : Tables) (h : Journal) (now : ℕ) (r : Reply) → IsReady script from h session now act.now self.old
-            → fault_of (changes session h) act.now ≡ Some r → AreStanding script from (entry_at now (Some session) act.now r ∷ h) self.new }
+        ensures { (script : Said) (from : Tables) (h : Journal) (now : ℕ) (r : Reply)
+            → IsReady script from h session now act.now self.old
+            → fault_of (changes session h) act.now ≡ Some r
+            → AreStanding script from (entry_at now (Some session) act.now r ∷ h) self.new }
     {
         laws();
         if let Act::Commit = act {
@@ -148,7 +161,8 @@ impl Engines {
 
     /// What an act of a session's own does to the engines: End closes the session.
     fn note_own(&mut self, session: SessionNo, act: &Act)
-        ensures { self.new ≡ record self.old { registry = own_after session act.now self.old.registry } }
+        ensures { self.new ≡ record self.old
+            { registry = own_after session act.now self.old.registry } }
     {
         match act {
             Act::End => self.registry.end(session),
@@ -169,8 +183,10 @@ impl Engines {
         requires tables { AreWithin (length self.old.stamps) act.now }
         requires entities { length self.old.stamps ≡ length script.now.mapping }
         requires mapping { length script.now.mapping < 2 ^ 16 }
-        ensures answered { IfOk result (λ r. (from : Tables) (h : Journal) → IsReady script.now from h session now act.now self.old
-            → own_reply script.now (own session h) act.now ≡ None → IsAnswered script.now from h (Some session) now act.now r self.new) }
+        ensures answered { IfOk result (λ r. (from : Tables) (h : Journal)
+            → IsReady script.now from h session now act.now self.old
+            → own_reply script.now (own session h) act.now ≡ None
+            → IsAnswered script.now from h (Some session) now act.now r self.new) }
         ensures sure { IfOk result (λ r. self.new.store.faults ≡ 0 → is_fault r ≡ false) }
     {
         laws();
@@ -199,9 +215,13 @@ impl Engines {
         requires tables { AreWithin (length self.old.stamps) act.now }
         requires entities { length self.old.stamps ≡ length script.now.mapping }
         requires mapping { length script.now.mapping < 2 ^ 16 }
-        ensures answered { IfOk result (λ r. (from : Tables) (h : Journal) → Follows script.now session.now (own (number_of session.now) h)
-            → IsReady script.now from h (number_of session.now) now act.now self.old → IsAnswered script.now from h (Some (number_of session.now)) now act.now r self.new) }
-        ensures sure { IfOk result (λ r. self.new.store.faults ≡ 0 → (mine : Journal) → Follows script.now session.now mine → is_fault r ≡ false) }
+        ensures answered { IfOk result (λ r. (from : Tables) (h : Journal)
+            → Follows script.now session.now (own (number_of session.now) h)
+            → IsReady script.now from h (number_of session.now) now act.now self.old
+            → IsAnswered script.now from h
+            (Some (number_of session.now)) now act.now r self.new) }
+        ensures sure { IfOk result (λ r. self.new.store.faults ≡ 0 → (mine : Journal)
+            → Follows script.now session.now mine → is_fault r ≡ false) }
     {
         laws();
         let number = session.number();

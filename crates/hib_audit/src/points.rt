@@ -42,8 +42,10 @@ fn session_act(
     number: SessionNo,
 ) -> Result<Option<Act>, AllocError>
     requires { AreSessions script.now (reverse before.now) sessions.now }
-    ensures due { IfOk result (λ o. (a : Act) → o ≡ due_by script.now (reverse before.now) (Some number) a) }
-    ensures allowed { IfOk result (λ o. IfSome o (IsAllowed script.now number (own number (reverse before.now)))) }
+    ensures due { IfOk result (λ o. (a : Act)
+        → o ≡ due_by script.now (reverse before.now) (Some number) a) }
+    ensures allowed { IfOk result (λ o. IfSome o
+        (IsAllowed script.now number (own number (reverse before.now)))) }
 {
     let _ = before;
     match sessions.get(number.0 as usize) {
@@ -75,7 +77,8 @@ pub fn due_act(
 ) -> Result<Option<Act>, AllocError>
     requires { AreSessions script.now (reverse before.now) sessions.now }
     ensures due { IfOk result (λ o. o ≡ Legal.due script.now (reverse before.now) entry.now) }
-    ensures allowed { IfOk result (λ o. IfSome o (IsAllowedFor script.now (reverse before.now) entry.now.session)) }
+    ensures allowed { IfOk result (λ o. IfSome o
+        (IsAllowedFor script.now (reverse before.now) entry.now.session)) }
 {
     match entry.session {
         Some(number) => session_act(alloc, script, sessions, before, number),
@@ -86,7 +89,8 @@ pub fn due_act(
 /// Whether an act may come: a kill is of an open session, and an eviction of a cached entity.
 fn comes(script: &Script, registry: &Registry, before: &[Entry], act: &Act) -> bool
     requires { IsRegistry registry.now (reverse before.now) }
-    ensures { may_come script.now (reverse before.now) (Some act.now) ≡ cond result (Some act.now) None }
+    ensures { may_come script.now (reverse before.now) (Some act.now)
+        ≡ cond result (Some act.now) None }
 {
     let _ = before;
     match act {

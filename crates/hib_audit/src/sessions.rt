@@ -37,7 +37,8 @@ pub fn advance(
     requires inside { is_outside entry.now.act ≡ false }
     requires by { entry.now.session ≡ Some number }
     requires taken { IsTaken script.now number (own number (reverse before.now)) entry.now }
-    ensures { OnOk result (AreSessions script.now (entry.now ∷ reverse before.now) sessions.new.items) }
+    ensures { OnOk result (AreSessions script.now
+        (entry.now ∷ reverse before.now) sessions.new.items) }
 {
     let _ = before;
     sessions[number.0 as usize].advance(alloc, script, entry)
@@ -55,7 +56,8 @@ pub fn note_written(
     requires written { AreWritten script.now (reverse before.now) written.old.items }
     requires there { number < length written.old.items }
     requires by { entry.now.session ≡ Some number }
-    ensures { OnOk result (AreWritten script.now (entry.now ∷ reverse before.now) written.new.items) }
+    ensures { OnOk result (AreWritten script.now
+        (entry.now ∷ reverse before.now) written.new.items) }
 {
     let _ = script;
     let _ = before;

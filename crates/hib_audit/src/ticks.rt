@@ -65,7 +65,8 @@ fn zeros(alloc: Global, count: usize) -> Result<Vec<Tick>, AllocError>
 impl Ticks {
     /// No entry came yet.
     pub fn open(alloc: Global, script: &Script) -> Result<Ticks, AllocError>
-        ensures { IfOk result (λ t. t ≡ no_ticks (length script.now.mapping) (length script.now.sessions)) }
+        ensures { IfOk result (λ t. t ≡ no_ticks (length script.now.mapping)
+            (length script.now.sessions)) }
     {
         let regions = zeros(alloc, script.mapping.len())?;
         let own = zeros(alloc, script.sessions.len())?;

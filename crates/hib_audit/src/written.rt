@@ -30,7 +30,8 @@ impl Model for Written {
 
 /// Adds a key.
 fn add(keys: &mut HashSet<Key>, key: Key) -> Result<(), AllocError>
-    ensures { OnOk result ((k : Rattle.hib_journal.specs.Types.Key) → has_key k keys.new.keys ≡ cond (same_key key k) true (has_key k keys.old.keys)) }
+    ensures { OnOk result ((k : Rattle.hib_journal.specs.Types.Key)
+        → has_key k keys.new.keys ≡ cond (same_key key k) true (has_key k keys.old.keys)) }
 {
     keys.insert(key)?;
     Ok(())
@@ -56,7 +57,8 @@ impl Written {
     /// Whether a fault may be the answer to an act: to a Load of a key that isn't changed, to a List, and to a Commit of some
     /// changes.
     pub fn may_fail(&self, act: &Act, reply: &Reply) -> bool
-        ensures { (cs : List Change) → HasWritten cs self.now → IsTrue result ↔ (fault_of cs act.now ≡ Some reply.now) }
+        ensures { (cs : List Change) → HasWritten cs self.now → IsTrue result
+            ↔ (fault_of cs act.now ≡ Some reply.now) }
     {
         match act {
             Act::Load { key } => !self.has(*key) && is_fault(reply),
@@ -68,7 +70,8 @@ impl Written {
 
     /// Takes an act of the session.
     pub fn note(&mut self, alloc: Global, act: &Act) -> Result<(), AllocError>
-        ensures { OnOk result ((cs : List Change) → HasWritten cs self.old → HasWritten (changes_after act.now cs) self.new) }
+        ensures { OnOk result ((cs : List Change) → HasWritten cs self.old
+            → HasWritten (changes_after act.now cs) self.new) }
     {
         match act {
             Act::Begin => {

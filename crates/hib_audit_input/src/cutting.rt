@@ -26,10 +26,12 @@ fn is_mark(line: &[u8]) -> bool
 /// Where the first line that is exactly `journal` cuts a text; or the number of lines, if there is none.
 #[tactic(auto, using(hib_lex::proofs::Texts::length_fits))]
 pub fn cut_of(text: &[u8]) -> Result<Cut, usize>
-    ensures within { IfOk result (λ c. (c.before ≤ length text.now) × (c.behind ≤ length text.now)) }
+    ensures within { IfOk result (λ c. (c.before ≤ length text.now)
+        × (c.behind ≤ length text.now)) }
     ensures lines { IfOk result (λ c. c.lines ≡ length (lines_of (take c.before text.now))) }
     ensures short { IfOk result (λ c. c.lines ≤ c.before) }
-    ensures cut { IfOk result (λ c. cut (lines_of text.now) ≡ Some (lines_of (take c.before text.now), lines_of (drop c.behind text.now))) }
+    ensures cut { IfOk result (λ c. cut (lines_of text.now)
+        ≡ Some (lines_of (take c.before text.now), lines_of (drop c.behind text.now))) }
     ensures none { IfErr result (λ n. cut (lines_of text.now) ≡ None) }
     ensures count { IfErr result (λ n. n ≡ length (lines_of text.now)) }
     ensures few { IfErr result (λ n. n ≤ length text.now + 1) }

@@ -66,7 +66,8 @@ fn read_cut(alloc: Global, before: &[u8], behind: &[u8], lines: usize) -> Result
     requires small { length before.now < 2 ^ 31 }
     requires few { lines ≤ length before.now + 1 }
     requires count { lines ≡ length (lines_of before.now) }
-    ensures script { IfOk result (λ i. script_of_lines (lines_of before.now) ≡ Ok (outline_of i.script)) }
+    ensures script { IfOk result (λ i. script_of_lines (lines_of before.now)
+        ≡ Ok (outline_of i.script)) }
     ensures lines { IfOk result (λ i. AreLines i.script (lines_of behind.now) i.journal.list) }
     ensures valid { IfOk result (λ i. is_valid i.script ≡ true) }
     ensures refused { IfErr result (IsBadCut (lines_of before.now) (lines_of behind.now)) }

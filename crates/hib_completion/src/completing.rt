@@ -13,7 +13,8 @@ use std::alloc::{AllocError, Global};
 
 /// The row that may be put back after a key's last change.
 fn put_back(done: bool, last: Option<&Change>) -> Option<&Row>
-    ensures { option_copied result ≡ cond done (option_and_then row_left (option_copied last.entry)) None }
+    ensures { option_copied result
+        ≡ cond done (option_and_then row_left (option_copied last.entry)) None }
 {
     if !done {
         return None;
@@ -29,7 +30,8 @@ fn insert_completed(
     row: Option<&Row>,
     floor: Tick,
 ) -> Result<Option<Act>, AllocError>
-    ensures { IfOk result (λ a. acts_of a ≡ complete_insert strategy key (option_copied row.entry) floor) }
+    ensures { IfOk result (λ a. acts_of a
+        ≡ complete_insert strategy key (option_copied row.entry) floor) }
 {
     match (strategy, row) {
         (Strategy::ReadOnly | Strategy::ReadWrite, Some(row)) => {
@@ -61,7 +63,8 @@ fn update_completed(
     lock: Tick,
     row: Option<&Row>,
 ) -> Result<Option<Act>, AllocError>
-    ensures { IfOk result (λ a. acts_of a ≡ complete_update strategy key lock (option_copied row.entry)) }
+    ensures { IfOk result (λ a. acts_of a
+        ≡ complete_update strategy key lock (option_copied row.entry)) }
 {
     match strategy {
         Strategy::ReadWrite => {
@@ -83,7 +86,9 @@ fn key_completed(
     floor: Tick,
     row: Option<&Row>,
 ) -> Result<Option<Act>, AllocError>
-    ensures { IfOk result (λ a. acts_of a ≡ complete_by (option_copied first.entry) strategy key lock floor (option_copied row.entry)) }
+    ensures { IfOk result (λ a. acts_of a
+        ≡ complete_by (option_copied first.entry) strategy key lock floor
+        (option_copied row.entry)) }
 {
     match first {
         None => Ok(None),
@@ -126,7 +131,8 @@ fn all_completed(
     floor: Tick,
 ) -> Result<Acts, AllocError>
     ensures { IfOk result (λ q. StandsFor changes.now touched.now
-        → q ≡ keys_acts mapping.now changes.now locks.now.entries done floor (keys_of changes.now)) }
+        → q ≡ keys_acts mapping.now changes.now locks.now.entries done floor
+        (keys_of changes.now)) }
 {
     let mut acts = Seq::new(alloc);
     for place in 0..touched.firsts.len() {
@@ -147,7 +153,8 @@ fn keys_completed(
     done: bool,
     floor: Tick,
 ) -> Result<Acts, AllocError>
-    ensures { IfOk result (λ q. q ≡ keys_acts mapping.now changes.now locks.now.entries done floor (keys_of changes.now)) }
+    ensures { IfOk result (λ q. q ≡ keys_acts mapping.now changes.now locks.now.entries done floor
+        (keys_of changes.now)) }
 {
     let touched = Touched::of(alloc, changes)?;
     all_completed(alloc, mapping, changes, &touched, locks, done, floor)
@@ -165,7 +172,8 @@ pub fn acts(
     mode: Mode,
     floor: Tick,
 ) -> Result<Acts, AllocError>
-    ensures { IfOk result (λ q. q ≡ completes mapping.now changes.now locks.now.entries committed mode floor) }
+    ensures { IfOk result (λ q. q ≡ completes mapping.now changes.now locks.now.entries committed
+        mode floor) }
 {
     let done = committed && mode.puts();
     let mut acts = keys_completed(alloc, mapping, changes, locks, done, floor)?;

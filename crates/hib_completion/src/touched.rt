@@ -18,16 +18,20 @@ pub fn change_of<'a>(
     places: &IndexMap<Key, usize>,
     key: &Key,
 ) -> Option<&'a Change>
-    ensures { option_copied result ≡ at_place changes.now (lookup (same_key key.now) places.now.entries) }
+    ensures { option_copied result
+        ≡ at_place changes.now (lookup (same_key key.now) places.now.entries) }
 {
     changes.get(*places.get(key)?)
 }
 
 /// A key has its first change at this place, unless it has one before.
 fn note_first(firsts: &mut IndexMap<Key, usize>, key: Key, place: usize) -> Result<(), AllocError>
-    ensures keys { OnOk result (keys_in firsts.new.entries ≡ with_key key (keys_in firsts.old.entries)) }
-    ensures each { OnOk result ((k : KeyOf) → lookup (same_key k) firsts.new.entries
-        ≡ or_place (lookup (same_key k) firsts.old.entries) (cond (same_key key k) (Some place) None)) }
+    ensures keys { OnOk result (keys_in firsts.new.entries
+        ≡ with_key key (keys_in firsts.old.entries)) }
+    ensures each { OnOk result ((k : KeyOf)
+        → lookup (same_key k) firsts.new.entries
+        ≡ or_place (lookup (same_key k) firsts.old.entries)
+        (cond (same_key key k) (Some place) None)) }
 {
     if !firsts.contains_key(&key) {
         firsts.insert(key, place)?;
@@ -38,7 +42,8 @@ fn note_first(firsts: &mut IndexMap<Key, usize>, key: Key, place: usize) -> Resu
 /// The place of the first change of each key; the keys stand in the order of these.
 fn firsts_of(alloc: Global, changes: &[Change]) -> Result<IndexMap<Key, usize>, AllocError>
     ensures keys { IfOk result (λ m. keys_in m.entries ≡ keys_of changes.now) }
-    ensures each { IfOk result (λ m. (k : KeyOf) → at_place changes.now (lookup (same_key k) m.entries) ≡ first_on k changes.now) }
+    ensures each { IfOk result (λ m. (k : KeyOf)
+        → at_place changes.now (lookup (same_key k) m.entries) ≡ first_on k changes.now) }
 {
     let mut firsts = IndexMap::new(alloc);
     for place in 0..changes.len() {
@@ -58,7 +63,8 @@ fn note_last(lasts: &mut IndexMap<Key, usize>, key: Key, place: usize) -> Result
 
 /// The place of the last change of each key.
 fn lasts_of(alloc: Global, changes: &[Change]) -> Result<IndexMap<Key, usize>, AllocError>
-    ensures { IfOk result (λ m. (k : KeyOf) → at_place changes.now (lookup (same_key k) m.entries) ≡ last_on k changes.now) }
+    ensures { IfOk result (λ m. (k : KeyOf)
+        → at_place changes.now (lookup (same_key k) m.entries) ≡ last_on k changes.now) }
 {
     let mut lasts = IndexMap::new(alloc);
     for place in 0..changes.len() {

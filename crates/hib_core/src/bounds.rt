@@ -12,9 +12,11 @@ use hib_session::entries_are_few;
 /// A legal journal has few entries beside the kills, evictions and restarts; if a script has at most 1,000 sessions of 5,000
 /// statements each, fewer than 2^49.
 pub fn runs_are_short()
-    ensures short { (script : Script) (told : Option Tables) (h : Journal) → IsLegal script told h → length h ≤ most_in script.sessions + outside_count h }
-    ensures limit { (script : Script) → length script.sessions ≤ 1000 → ((i : ℕ) (d : SessionDef) → slice_get script.sessions i ≡ Some d → length d.statements ≤ 5000)
-        → most_in script.sessions ≤ 500300030000000 }
+    ensures short { (script : Script) (told : Option Tables) (h : Journal) → IsLegal script told h
+        → length h ≤ most_in script.sessions + outside_count h }
+    ensures limit { (script : Script) → length script.sessions ≤ 1000
+        → ((i : ℕ) (d : SessionDef) → slice_get script.sessions i ≡ Some d
+        → length d.statements ≤ 5000) → most_in script.sessions ≤ 500300030000000 }
 {
     steps_are_in_order();
     entries_are_few();

@@ -21,7 +21,15 @@ pub trait Name {
 impl Name for Brand {
     ghost use Rattle.std.specs.Prelude.{[], None};
 
-    ghost script = { record { timeout = 0; results = 0; mapping = []; rows = []; queries = []; sessions = []; schedule = [] } };
+    ghost script = { record {
+      timeout = 0;
+      results = 0;
+      mapping = [];
+      rows = [];
+      queries = [];
+      sessions = [];
+      schedule = [];
+    } };
 
     ghost from = { record { tables = None; faults = 0; asked = 0 } };
 

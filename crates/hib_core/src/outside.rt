@@ -60,11 +60,15 @@ pub fn kill<K: Keeper, N: Name>(
     requires sessions { AreSessions N.script (past journal.old) sessions.old.items }
     ensures run { IsRun N.script N.from (past journal.new) parts.new }
     ensures sessions { AreSessions N.script (past journal.new) sessions.new.items }
-    ensures asked { IsAsked N.from (past journal.old) parts.old → IsAsked N.from (past journal.new) parts.new }
-    ensures played { OnOk result (Leads (play_order N.script (Order.Kill number)) played (past journal.old) (past journal.new)) }
+    ensures asked { IsAsked N.from (past journal.old) parts.old
+        → IsAsked N.from (past journal.new) parts.new }
+    ensures played { OnOk result (Leads (play_order N.script (Order.Kill number)) played
+        (past journal.old) (past journal.new)) }
     ensures outside { outside_count (past journal.new) ≤ outside_count (past journal.old) + 1 }
-    ensures closed { is_open number (past journal.old) ≡ false → (IsOk result) × (past journal.new ≡ past journal.old) }
-    ensures grown { OnOk result (is_open number (past journal.old) ≡ true → HasGrown (past journal.old) (past journal.new)) }
+    ensures closed { is_open number (past journal.old) ≡ false → (IsOk result)
+        × (past journal.new ≡ past journal.old) }
+    ensures grown { OnOk result (is_open number (past journal.old) ≡ true
+        → HasGrown (past journal.old) (past journal.new)) }
     ensures same { OnErr result (past journal.new ≡ past journal.old) }
     ensures parts { OnErr result (parts.new ≡ parts.old) }
     ensures err { OnErr result (sessions.new.items ≡ sessions.old.items) }
@@ -91,9 +95,12 @@ pub fn evict<K: Keeper, N: Name>(
     requires cached { is_cached N.script key.entity ≡ true }
     requires run { IsRun N.script N.from (past journal.old) parts.old }
     ensures run { IsRun N.script N.from (past journal.new) parts.new }
-    ensures sessions { (xs : List Session) → AreSessions N.script (past journal.old) xs → AreSessions N.script (past journal.new) xs }
-    ensures asked { IsAsked N.from (past journal.old) parts.old → IsAsked N.from (past journal.new) parts.new }
-    ensures played { OnOk result (Leads (play_order N.script (Order.Evict key)) played (past journal.old) (past journal.new)) }
+    ensures sessions { (xs : List Session) → AreSessions N.script (past journal.old) xs
+        → AreSessions N.script (past journal.new) xs }
+    ensures asked { IsAsked N.from (past journal.old) parts.old
+        → IsAsked N.from (past journal.new) parts.new }
+    ensures played { OnOk result (Leads (play_order N.script (Order.Evict key)) played
+        (past journal.old) (past journal.new)) }
     ensures grown { OnOk result (HasGrown (past journal.old) (past journal.new)) }
     ensures outside { outside_count (past journal.new) ≤ outside_count (past journal.old) + 1 }
     ensures same { OnErr result (past journal.new ≡ past journal.old) }
@@ -120,8 +127,10 @@ pub fn restart<K: Keeper, N: Name>(
     requires sessions { AreSessions N.script (past journal.old) sessions.old.items }
     ensures run { IsRun N.script N.from (past journal.new) parts.new }
     ensures sessions { AreSessions N.script (past journal.new) sessions.new.items }
-    ensures asked { IsAsked N.from (past journal.old) parts.old → IsAsked N.from (past journal.new) parts.new }
-    ensures played { OnOk result (Leads (play_order N.script Order.Restart) played (past journal.old) (past journal.new)) }
+    ensures asked { IsAsked N.from (past journal.old) parts.old
+        → IsAsked N.from (past journal.new) parts.new }
+    ensures played { OnOk result (Leads (play_order N.script Order.Restart) played
+        (past journal.old) (past journal.new)) }
     ensures grown { OnOk result (HasGrown (past journal.old) (past journal.new)) }
     ensures outside { outside_count (past journal.new) ≤ outside_count (past journal.old) + 1 }
     ensures same { OnErr result (past journal.new ≡ past journal.old) }

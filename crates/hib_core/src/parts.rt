@@ -45,13 +45,20 @@ impl<K: Keeper> Model for Parts<K> {
 
     ghost Value = { PartsState };
 
-    ghost view = { λ p. record { store = p.store; registry = p.registry; stamps = p.stamps; regions = p.regions.items; results = p.results } };
+    ghost view = { λ p. record {
+      store = p.store;
+      registry = p.registry;
+      stamps = p.stamps;
+      regions = p.regions.items;
+      results = p.results;
+    } };
 }
 
 impl<K: Keeper> Parts<K> {
     /// A session was killed: it isn't open any more, and what it has written and not committed is dropped. It takes no memory.
     pub fn kill(&mut self, session: SessionNo)
-        ensures stands { (script : Said) (from : Origin) (h : Journal) → AreParts script from h self.old → IsNumbered h
+        ensures stands { (script : Said) (from : Origin) (h : Journal)
+            → AreParts script from h self.old → IsNumbered h
             → AreParts script from (outside_entry h (Act.Kill session) Reply.Done ∷ h) self.new }
         ensures asked { self.new.store.asked ≡ self.old.store.asked }
     {
@@ -63,7 +70,8 @@ impl<K: Keeper> Parts<K> {
     /// A restart: no session is open, no table has a stamp, no region holds anything, no result is kept, and what sessions have
     /// written and not committed is dropped. It takes no memory.
     pub fn restart(&mut self)
-        ensures stands { (script : Said) (from : Origin) (h : Journal) → AreParts script from h self.old → IsNumbered h
+        ensures stands { (script : Said) (from : Origin) (h : Journal)
+            → AreParts script from h self.old → IsNumbered h
             → AreParts script from (outside_entry h Act.Restart Reply.Done ∷ h) self.new }
         ensures asked { self.new.store.asked ≡ self.old.store.asked }
     {
@@ -84,9 +92,12 @@ impl<K: Keeper> Parts<K> {
         now: Tick,
     ) -> Result<Reply, AllocError>
         requires { now ≤ 2 ^ 62 }
-        ensures answered { IfOk result (λ r. (script : Said) (l : Journal) (by : Option ℕ) → IsPlaced script entity l (region_of self.old.regions entity) → IsLate (Part.Region entity) now l
-            → entity_in act.now ≡ Some entity → Suits (strategy script entity) act.now
-            → IsServed (λ m. IsPlaced script entity m (region_of self.new.regions entity)) script l by now act.now r) }
+        ensures answered { IfOk result (λ r. (script : Said) (l : Journal) (by : Option ℕ)
+            → IsPlaced script entity l (region_of self.old.regions entity)
+            → IsLate (Part.Region entity) now l → entity_in act.now ≡ Some entity
+            → Suits (strategy script entity) act.now
+            → IsServed (λ m. IsPlaced script entity m (region_of self.new.regions entity))
+            script l by now act.now r) }
         ensures others { OnOk result (IsAtRegion entity self.old.regions self.new.regions) }
         ensures calm { IfOk result (λ r. is_fault r ≡ false) }
         ensures still { OnOk result (reads act.now ≡ true → self.new.regions ≡ self.old.regions) }
@@ -98,7 +109,8 @@ impl<K: Keeper> Parts<K> {
 
     /// What an act of a session's own does to the parts: End closes the session.
     pub fn note_own(&mut self, session: SessionNo, act: &Act)
-        ensures { self.new ≡ record self.old { registry = own_after session act.now self.old.registry } }
+        ensures { self.new ≡ record self.old
+            { registry = own_after session act.now self.old.registry } }
     {
         match act {
             Act::End => self.registry.end(session),
@@ -121,15 +133,20 @@ impl<K: Keeper> Parts<K> {
         requires tables { AreWithin (length self.old.stamps) act.now }
         requires entities { length self.old.stamps ≡ length script.now.mapping }
         requires mapping { length script.now.mapping < 2 ^ 16 }
-        ensures answered { IfOk result (λ r. (from : Origin) (h : Journal) → now ≡ length h + 1 → IsReady script.now from h session act.now self.old
-            → own_reply script.now (own session h) act.now ≡ None → IsAnswered script.now from h session act.now r self.new) }
-        ensures asked { IfOk result (λ _. (from : Origin) (h : Journal) → IsReady script.now from h session act.now self.old
+        ensures answered { IfOk result (λ r. (from : Origin) (h : Journal) → now ≡ length h + 1
+            → IsReady script.now from h session act.now self.old
+            → own_reply script.now (own session h) act.now ≡ None
+            → IsAnswered script.now from h session act.now r self.new) }
+        ensures asked { IfOk result (λ _. (from : Origin) (h : Journal)
+            → IsReady script.now from h session act.now self.old
             → IsAskedFor h session act.now self.old self.new) }
-        ensures fault { IfOk result (λ r. is_fault r ≡ true → Rose self.old.store.faults self.new.store.faults) }
+        ensures fault { IfOk result (λ r. is_fault r ≡ true
+            → Rose self.old.store.faults self.new.store.faults) }
         // So they are after an act that brings something to the session.
         ensures still { OnOk result (brings act.now ≡ true → IsStill self.old self.new) }
         ensures left { OnErr result (IsStill self.old self.new) }
-        ensures err { OnErr result ((from : Origin) (h : Journal) → AreParts script.now from h self.old → AreParts script.now from h self.new) }
+        ensures err { OnErr result ((from : Origin) (h : Journal)
+            → AreParts script.now from h self.old → AreParts script.now from h self.new) }
     {
         laws();
         match part_of(act, session) {

@@ -51,9 +51,20 @@ impl<K: Keeper, N: Name> Model for Core<K, N> {
 
     ghost Value = { CoreState };
 
-    ghost view = { λ f. record { journal = f.journal; parts = f.parts; sessions = f.sessions.items; refused = f.refused } };
+    ghost view = { λ f. record {
+      journal = f.journal;
+      parts = f.parts;
+      sessions = f.sessions.items;
+      refused = f.refused;
+    } };
 
-    ghost invariant = { λ f. (f.script ≡ N.script) × IsStanding N.script N.from (record { journal = f.journal; parts = f.parts; sessions = f.sessions.items; refused = f.refused }) };
+    ghost invariant = { λ f. (f.script ≡ N.script)
+        × IsStanding N.script N.from (record {
+          journal = f.journal;
+          parts = f.parts;
+          sessions = f.sessions.items;
+          refused = f.refused;
+        }) };
 }
 
 impl<K: Keeper, N: Name> Core<K, N> {
@@ -62,13 +73,18 @@ impl<K: Keeper, N: Name> Core<K, N> {
     pub fn open(alloc: Global, script: Script, keeper: K) -> Result<Core<K, N>, OpenFault<K>>
         requires script { script ≡ N.script }
         requires valid { is_valid N.script ≡ true }
-        requires from { record { tables = told_start N.script (K.tables keeper); faults = K.faults keeper; asked = K.asked keeper } ≡ N.from }
+        requires from { record {
+          tables = told_start N.script (K.tables keeper);
+          faults = K.faults keeper;
+          asked = K.asked keeper;
+        } ≡ N.from }
         ensures empty { IfOk result (λ f. past f.journal ≡ []) }
         ensures going { IfOk result (λ f. f.refused ≡ false) }
         ensures back { IfErr result (λ e. K.tables (handed_back e) ≡ K.tables keeper) }
         ensures back_faults { IfErr result (λ e. K.faults keeper ≤ K.faults (handed_back e)) }
         ensures back_asked { IfErr result (λ e. K.asked (handed_back e) ≡ K.asked keeper) }
-        ensures fault { IfErr result (λ e. is_store_fault e ≡ true → Rose (K.faults keeper) (K.faults (handed_back e))) }
+        ensures fault { IfErr result (λ e. is_store_fault e ≡ true
+            → Rose (K.faults keeper) (K.faults (handed_back e))) }
     {
         laws();
         law();
@@ -113,19 +129,29 @@ impl<K: Keeper, N: Name> Core<K, N> {
     /// entry is added and nothing has changed, but the answer of `refused` and the keeper's counts; so a later call may succeed.
     pub fn step(&mut self, alloc: Global, number: SessionNo) -> Result<Stepped, AllocError>
         requires known { number < length N.script.sessions }
-        ensures did { result ≡ Ok Stepped.Did → Does N.script number (past self.old.journal) (past self.new.journal) self.old.sessions self.new.sessions }
-        ensures done { result ≡ Ok Stepped.Done → IsOver N.script number (past self.old.journal) (past self.new.journal) }
+        ensures did { result ≡ Ok Stepped.Did
+            → Does N.script number (past self.old.journal)
+            (past self.new.journal) self.old.sessions self.new.sessions }
+        ensures done { result ≡ Ok Stepped.Done
+            → IsOver N.script number (past self.old.journal) (past self.new.journal) }
         ensures law { Obeys N.script N.from.tables (past self.new.journal) }
-        ensures killed { was_killed number (past self.old.journal) ≡ true → result ≡ Ok Stepped.Done }
-        ensures inside { outside_count (past self.new.journal) ≡ outside_count (past self.old.journal) }
-        ensures fault { (e : Entry) → past self.new.journal ≡ e ∷ past self.old.journal → is_fault e.reply ≡ true → Rose self.old.parts.store.faults self.new.parts.store.faults }
+        ensures killed { was_killed number (past self.old.journal) ≡ true
+            → result ≡ Ok Stepped.Done }
+        ensures inside { outside_count (past self.new.journal)
+            ≡ outside_count (past self.old.journal) }
+        ensures fault { (e : Entry) → past self.new.journal ≡ e ∷ past self.old.journal
+            → is_fault e.reply ≡ true → Rose self.old.parts.store.faults
+            self.new.parts.store.faults }
         ensures going { OnOk result (self.new.refused ≡ self.old.refused) }
         ensures same { OnErr result (past self.new.journal ≡ past self.old.journal) }
         ensures parts { OnErr result (IsStill self.old.parts self.new.parts) }
         ensures after { AreSessions N.script (past self.new.journal) self.new.sessions }
-        ensures others { (s : ℕ) → (number == s) ≡ false → slice_get self.new.sessions s ≡ slice_get self.old.sessions s }
-        ensures asks { self.new.refused ≡ false → IsAsked N.from (past self.new.journal) self.new.parts }
-        ensures asked { OnErr result (self.old.refused ≡ false → IsAskedOnceMore N.from (past self.new.journal) self.new.parts) }
+        ensures others { (s : ℕ) → (number == s) ≡ false
+            → slice_get self.new.sessions s ≡ slice_get self.old.sessions s }
+        ensures asks { self.new.refused ≡ false
+            → IsAsked N.from (past self.new.journal) self.new.parts }
+        ensures asked { OnErr result (self.old.refused ≡ false
+            → IsAskedOnceMore N.from (past self.new.journal) self.new.parts) }
         ensures refused { OnErr result (self.new.refused ≡ true) }
     {
         match turn::<K, N>(
@@ -193,8 +219,10 @@ impl<K: Keeper, N: Name> Core<K, N> {
     pub fn idle_step(&self, alloc: Global, number: SessionNo) -> Result<Stepped, AllocError>
         requires known { number < length N.script.sessions }
         ensures none { result ≢ Ok Stepped.Did }
-        ensures done { result ≡ Ok Stepped.Done → has_next N.script (past self.now.journal) number ≡ false }
-        ensures killed { was_killed number (past self.now.journal) ≡ true → result ≡ Ok Stepped.Done }
+        ensures done { result ≡ Ok Stepped.Done
+            → has_next N.script (past self.now.journal) number ≡ false }
+        ensures killed { was_killed number (past self.now.journal) ≡ true
+            → result ≡ Ok Stepped.Done }
         ensures law { Obeys N.script N.from.tables (past self.now.journal) }
         ensures sessions { AreSessions N.script (past self.now.journal) self.now.sessions }
     {
@@ -242,16 +270,25 @@ impl<K: Keeper, N: Name> Core<K, N> {
     /// Kills a session, if it is open: no act of it is due from then on, and its locks stay until their time is over. If
     /// memory runs out nothing has changed but the answer of `refused`.
     pub fn kill(&mut self, number: SessionNo) -> Result<(), AllocError>
-        ensures played { OnOk result (Leads (play_order N.script (Order.Kill number)) played (past self.old.journal) (past self.new.journal)) }
-        ensures closed { is_open number (past self.old.journal) ≡ false → (IsOk result) × (past self.new.journal ≡ past self.old.journal) }
-        ensures grown { OnOk result (is_open number (past self.old.journal) ≡ true → HasGrown (past self.old.journal) (past self.new.journal)) }
-        ensures outside { outside_count (past self.new.journal) ≤ outside_count (past self.old.journal) + 1 }
+        ensures played { OnOk result (Leads (play_order N.script (Order.Kill number)) played
+            (past self.old.journal) (past self.new.journal)) }
+        ensures closed { is_open number (past self.old.journal) ≡ false → (IsOk result)
+            × (past self.new.journal ≡ past self.old.journal) }
+        ensures grown { OnOk result (is_open number (past self.old.journal) ≡ true
+            → HasGrown (past self.old.journal) (past self.new.journal)) }
+        ensures outside { outside_count (past self.new.journal)
+            ≤ outside_count (past self.old.journal) + 1 }
         ensures law { Obeys N.script N.from.tables (past self.new.journal) }
         ensures going { OnOk result (self.new.refused ≡ self.old.refused) }
         ensures same { OnErr result (past self.new.journal ≡ past self.old.journal) }
-        ensures asks { self.new.refused ≡ false → IsAsked N.from (past self.new.journal) self.new.parts }
-        ensures asked { OnErr result (self.old.refused ≡ false → IsAskedOnceMore N.from (past self.new.journal) self.new.parts) }
-        ensures err { OnErr result (self.new ≡ record self.old { journal = self.new.journal; refused = true }) }
+        ensures asks { self.new.refused ≡ false
+            → IsAsked N.from (past self.new.journal) self.new.parts }
+        ensures asked { OnErr result (self.old.refused ≡ false
+            → IsAskedOnceMore N.from (past self.new.journal) self.new.parts) }
+        ensures err { OnErr result (self.new ≡ record self.old {
+          journal = self.new.journal;
+          refused = true;
+        }) }
     {
         let killed = outside::kill::<K, N>(
             number,
@@ -268,15 +305,22 @@ impl<K: Keeper, N: Name> Core<K, N> {
     /// Evicts a row of a cached entity from its region. If memory runs out nothing has changed but the answer of `refused`.
     pub fn evict(&mut self, alloc: Global, key: Key) -> Result<(), AllocError>
         requires cached { is_cached N.script key.entity ≡ true }
-        ensures played { OnOk result (Leads (play_order N.script (Order.Evict key)) played (past self.old.journal) (past self.new.journal)) }
+        ensures played { OnOk result (Leads (play_order N.script (Order.Evict key)) played
+            (past self.old.journal) (past self.new.journal)) }
         ensures grown { OnOk result (HasGrown (past self.old.journal) (past self.new.journal)) }
-        ensures outside { outside_count (past self.new.journal) ≤ outside_count (past self.old.journal) + 1 }
+        ensures outside { outside_count (past self.new.journal)
+            ≤ outside_count (past self.old.journal) + 1 }
         ensures law { Obeys N.script N.from.tables (past self.new.journal) }
         ensures going { OnOk result (self.new.refused ≡ self.old.refused) }
         ensures same { OnErr result (past self.new.journal ≡ past self.old.journal) }
-        ensures asks { self.new.refused ≡ false → IsAsked N.from (past self.new.journal) self.new.parts }
-        ensures asked { OnErr result (self.old.refused ≡ false → IsAskedOnceMore N.from (past self.new.journal) self.new.parts) }
-        ensures err { OnErr result (self.new ≡ record self.old { journal = self.new.journal; refused = true }) }
+        ensures asks { self.new.refused ≡ false
+            → IsAsked N.from (past self.new.journal) self.new.parts }
+        ensures asked { OnErr result (self.old.refused ≡ false
+            → IsAskedOnceMore N.from (past self.new.journal) self.new.parts) }
+        ensures err { OnErr result (self.new ≡ record self.old {
+          journal = self.new.journal;
+          refused = true;
+        }) }
     {
         let evicted = outside::evict::<K, N>(alloc, key, &mut self.parts, &mut self.journal);
         if evicted.is_err() {
@@ -288,15 +332,22 @@ impl<K: Keeper, N: Name> Core<K, N> {
     /// A restart: the sessions that are open are killed, and nothing is cached, locked, stamped or kept any more. If memory
     /// runs out nothing has changed but the answer of `refused`.
     pub fn restart(&mut self) -> Result<(), AllocError>
-        ensures played { OnOk result (Leads (play_order N.script Order.Restart) played (past self.old.journal) (past self.new.journal)) }
+        ensures played { OnOk result (Leads (play_order N.script Order.Restart) played
+            (past self.old.journal) (past self.new.journal)) }
         ensures grown { OnOk result (HasGrown (past self.old.journal) (past self.new.journal)) }
-        ensures outside { outside_count (past self.new.journal) ≤ outside_count (past self.old.journal) + 1 }
+        ensures outside { outside_count (past self.new.journal)
+            ≤ outside_count (past self.old.journal) + 1 }
         ensures law { Obeys N.script N.from.tables (past self.new.journal) }
         ensures going { OnOk result (self.new.refused ≡ self.old.refused) }
         ensures same { OnErr result (past self.new.journal ≡ past self.old.journal) }
-        ensures asks { self.new.refused ≡ false → IsAsked N.from (past self.new.journal) self.new.parts }
-        ensures asked { OnErr result (self.old.refused ≡ false → IsAskedOnceMore N.from (past self.new.journal) self.new.parts) }
-        ensures err { OnErr result (self.new ≡ record self.old { journal = self.new.journal; refused = true }) }
+        ensures asks { self.new.refused ≡ false
+            → IsAsked N.from (past self.new.journal) self.new.parts }
+        ensures asked { OnErr result (self.old.refused ≡ false
+            → IsAskedOnceMore N.from (past self.new.journal) self.new.parts) }
+        ensures err { OnErr result (self.new ≡ record self.old {
+          journal = self.new.journal;
+          refused = true;
+        }) }
     {
         let restarted = outside::restart::<K, N>(
             &mut self.sessions,
@@ -315,12 +366,14 @@ impl<K: Keeper, N: Name> Core<K, N> {
         ensures journal { result.2 ≡ self.journal }
         ensures legal { IsLegal N.script N.from.tables (past result.2) }
         ensures law { Obeys N.script N.from.tables (past result.2) }
-        ensures short { length (past result.2) ≤ most_in N.script.sessions + outside_count (past result.2) }
+        ensures short { length (past result.2)
+            ≤ most_in N.script.sessions + outside_count (past result.2) }
         ensures numbered { IsNumbered (past result.2) }
         ensures rows { K.tables result.0 ≡ told_committed N.from.tables (past result.2) }
         ensures faults { RoseBy N.from.faults (fault_count (past result.2)) (K.faults result.0) }
         ensures count { K.asked result.0 ≡ self.parts.store.asked }
-        ensures asked { self.refused ≡ false → RoseWithin N.from.asked (ask_count (past result.2)) (K.asked result.0) }
+        ensures asked { self.refused ≡ false
+            → RoseWithin N.from.asked (ask_count (past result.2)) (K.asked result.0) }
     {
         runs_are_short();
         let Core {

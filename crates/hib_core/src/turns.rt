@@ -39,8 +39,10 @@ pub enum Stepped {
 /// The act that is due in a session.
 fn due_act(alloc: Global, script: &Script, session: &Session) -> Result<Option<Act>, AllocError>
     requires queries { HasQueries script.now }
-    ensures act { IfOk result (λ a. (mine : Past) → Follows script.now session.now mine → a ≡ next script.now (number_of session.now) mine) }
-    ensures due { IfOk result (λ a. (mine : Past) → Follows script.now session.now mine → IfSome a (IsDue script.now mine)) }
+    ensures act { IfOk result (λ a. (mine : Past) → Follows script.now session.now mine
+        → a ≡ next script.now (number_of session.now) mine) }
+    ensures due { IfOk result (λ a. (mine : Past) → Follows script.now session.now mine
+        → IfSome a (IsDue script.now mine)) }
     ensures killed { IfOk result (λ a. is_killed session.now ≡ true → a ≡ None) }
 {
     let act = session.next_act(alloc, script)?;
@@ -56,7 +58,9 @@ fn is_some(act: Option<Act>) -> bool
 /// Whether an act is due in a session.
 fn is_due(alloc: Global, script: &Script, session: &Session) -> Result<bool, AllocError>
     requires queries { HasQueries script.now }
-    ensures due { IfOk result (λ b. (mine : Past) → Follows script.now session.now mine → is_killed session.now ≡ false → b ≡ is_some (next script.now (number_of session.now) mine)) }
+    ensures due { IfOk result (λ b. (mine : Past) → Follows script.now session.now mine
+        → is_killed session.now ≡ false
+        → b ≡ is_some (next script.now (number_of session.now) mine)) }
     ensures killed { is_killed session.now ≡ true → result ≡ Ok false }
 {
     if session.was_killed() {
@@ -99,7 +103,8 @@ fn answer<K: Keeper>(
     requires tables { AreWithin (length parts.old.stamps) act.now }
     requires entities { length parts.old.stamps ≡ length script.now.mapping }
     requires mapping { length script.now.mapping < 2 ^ 16 }
-    ensures answered { IfOk result (λ r. (from : Origin) (h : Past) → now ≡ length h + 1 → Follows script.now session.now (own (number_of session.now) h)
+    ensures answered { IfOk result (λ r. (from : Origin) (h : Past) → now ≡ length h + 1
+        → Follows script.now session.now (own (number_of session.now) h)
         → IsReady script.now from h (number_of session.now) act.now parts.old
         → IsTold script.now from h (number_of session.now) act.now r parts.old parts.new) }
     ensures still { OnOk result (brings act.now ≡ true → IsStill parts.old parts.new) }
@@ -162,7 +167,9 @@ fn answered<K: Keeper, N: Name>(
     ensures same { past journal.new ≡ past journal.old }
     ensures room { OnOk result (0 < journal.new.spare) }
     ensures tick { IfOk result (λ t. t.0 ≡ length (past journal.old) + 1) }
-    ensures answers { IfOk result (λ t. Answers N.script N.from (number_of session.now) act.now (past journal.old) (entry_of (past journal.old) (number_of session.now) act.now t.1) parts.old parts.new) }
+    ensures answers { IfOk result (λ t. Answers N.script N.from (number_of session.now) act.now
+        (past journal.old) (entry_of (past journal.old) (number_of session.now) act.now t.1)
+        parts.old parts.new) }
     ensures still { OnOk result (brings act.now ≡ true → IsStill parts.old parts.new) }
     ensures err { OnErr result (IsStill parts.old parts.new) }
 {
@@ -186,13 +193,17 @@ fn enter(
     ensures number { number_of session.new ≡ number_of session.old }
     ensures killed { is_killed session.new ≡ is_killed session.old }
     ensures grown { OnOk result (past journal.new ≡ entry ∷ past journal.old) }
-    ensures follows { OnOk result ((mine : Past) → Follows script.now session.old mine → IsTaken script.now (number_of session.old) mine entry
+    ensures follows { OnOk result ((mine : Past) → Follows script.now session.old mine
+        → IsTaken script.now (number_of session.old) mine entry
         → Follows script.now session.new (entry ∷ mine)) }
-    ensures less { OnOk result ((mine : Past) → Follows script.now session.old mine → IsTaken script.now (number_of session.old) mine entry
+    ensures less { OnOk result ((mine : Past) → Follows script.now session.old mine
+        → IsTaken script.now (number_of session.old) mine entry
         → left_in script.now session.new < left_in script.now session.old) }
     ensures same { OnErr result (past journal.new ≡ past journal.old) }
-    ensures still { OnErr result ((mine : Past) → Follows script.now session.old mine → Follows script.now session.new mine) }
-    ensures room { (mine : Past) → Follows script.now session.old mine → IsTaken script.now (number_of session.old) mine entry
+    ensures still { OnErr result ((mine : Past) → Follows script.now session.old mine
+        → Follows script.now session.new mine) }
+    ensures room { (mine : Past) → Follows script.now session.old mine
+        → IsTaken script.now (number_of session.old) mine entry
         → is_ready script.now session.old ≡ true → brings entry.act ≡ false → IsOk result }
 {
     session.advance(alloc, script, &entry)?;
@@ -215,8 +226,10 @@ fn serve<K: Keeper, N: Name>(
     requires ready { is_ready script.now session.old ≡ true }
     ensures number { number_of session.new ≡ number_of session.old }
     ensures killed { is_killed session.new ≡ is_killed session.old }
-    ensures ok { OnOk result (Serves N.script N.from act (past journal.old) (past journal.new) parts.old parts.new session.old session.new) }
-    ensures err { OnErr result (Leaves N.script (past journal.old) (past journal.new) parts.old parts.new session.old session.new) }
+    ensures ok { OnOk result (Serves N.script N.from act (past journal.old)
+        (past journal.new) parts.old parts.new session.old session.new) }
+    ensures err { OnErr result (Leaves N.script (past journal.old)
+        (past journal.new) parts.old parts.new session.old session.new) }
 {
     let (tick, reply) = answered::<K, N>(alloc, script, session, &act, parts, journal)?;
     let number = session.number();
@@ -245,11 +258,16 @@ fn take_turn<K: Keeper, N: Name>(
     requires member { IsMember N.script (past journal.old) session.old }
     ensures number { number_of session.new ≡ number_of session.old }
     ensures killed { is_killed session.new ≡ is_killed session.old }
-    ensures did { result ≡ Ok Stepped.Did → Moves N.script N.from (past journal.old) (past journal.new) parts.old parts.new session.old session.new }
-    ensures done { result ≡ Ok Stepped.Done → has_next N.script (past journal.old) (number_of session.old) ≡ false }
+    ensures did { result ≡ Ok Stepped.Did
+        → Moves N.script N.from (past journal.old)
+        (past journal.new) parts.old parts.new session.old session.new }
+    ensures done { result ≡ Ok Stepped.Done
+        → has_next N.script (past journal.old) (number_of session.old) ≡ false }
     ensures quiet { result ≡ Ok Stepped.Done → parts.new ≡ parts.old }
     ensures dead { is_killed session.old ≡ true → result ≡ Ok Stepped.Done }
-    ensures still { result ≢ Ok Stepped.Did → Leaves N.script (past journal.old) (past journal.new) parts.old parts.new session.old session.new }
+    ensures still { result ≢ Ok Stepped.Did
+        → Leaves N.script (past journal.old)
+        (past journal.new) parts.old parts.new session.old session.new }
 {
     if session.was_killed() {
         return Ok(Stepped::Done);
@@ -277,15 +295,21 @@ pub fn turn<K: Keeper, N: Name>(
     requires sessions { AreSessions N.script (past journal.old) sessions.old.items }
     ensures run { IsRun N.script N.from (past journal.new) parts.new }
     ensures sessions { AreSessions N.script (past journal.new) sessions.new.items }
-    ensures did { result ≡ Ok Stepped.Did → Does N.script number (past journal.old) (past journal.new) sessions.old.items sessions.new.items }
-    ensures done { result ≡ Ok Stepped.Done → IsOver N.script number (past journal.old) (past journal.new) }
+    ensures did { result ≡ Ok Stepped.Did
+        → Does N.script number (past journal.old)
+        (past journal.new) sessions.old.items sessions.new.items }
+    ensures done { result ≡ Ok Stepped.Done
+        → IsOver N.script number (past journal.old) (past journal.new) }
     ensures same { OnErr result (past journal.new ≡ past journal.old) }
     ensures err { OnErr result (IsStill parts.old parts.new) }
-    ensures asked { OnOk result (IsAsked N.from (past journal.old) parts.old → IsAsked N.from (past journal.new) parts.new) }
-    ensures fault { (e : Entry) → past journal.new ≡ e ∷ past journal.old → is_fault e.reply ≡ true → Rose parts.old.store.faults parts.new.store.faults }
+    ensures asked { OnOk result (IsAsked N.from (past journal.old) parts.old
+        → IsAsked N.from (past journal.new) parts.new) }
+    ensures fault { (e : Entry) → past journal.new ≡ e ∷ past journal.old → is_fault e.reply ≡ true
+        → Rose parts.old.store.faults parts.new.store.faults }
     ensures inside { outside_count (past journal.new) ≡ outside_count (past journal.old) }
     ensures dead { was_killed number (past journal.old) ≡ true → result ≡ Ok Stepped.Done }
-    ensures others { (s : ℕ) → (number == s) ≡ false → slice_get sessions.new.items s ≡ slice_get sessions.old.items s }
+    ensures others { (s : ℕ) → (number == s) ≡ false
+        → slice_get sessions.new.items s ≡ slice_get sessions.old.items s }
 {
     let session = &mut sessions[number.0 as usize];
     take_turn::<K, N>(alloc, script, session, parts, journal)

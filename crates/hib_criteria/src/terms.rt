@@ -116,7 +116,8 @@ fn joined(
     frame: Frame,
     frames: Frames,
 ) -> Result<Option<Draft>, AllocError>
-    ensures { IfOk result (λ d. d ≡ lines.at (lines.with_node form node) (frame ∷ frames) Place.Condition) }
+    ensures { IfOk result (λ d. d ≡ lines.at (lines.with_node form node)
+        (frame ∷ frames) Place.Condition) }
 {
     form.nodes.push(node)?;
     let frames = onto(alloc, frame, frames.as_slice())?;

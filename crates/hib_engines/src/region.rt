@@ -73,8 +73,10 @@ impl Region {
         floor: Tick,
         now: Tick,
     ) -> Result<Put, AllocError>
-        ensures answer { IfOk result (λ p. p ≡ Rattle.hib_engines.specs.Region.put self.old id row time floor) }
-        ensures state { OnOk result (self.new ≡ Rattle.hib_engines.specs.Region.after_put self.old id row time floor now) }
+        ensures answer { IfOk result (λ p. p
+            ≡ Rattle.hib_engines.specs.Region.put self.old id row time floor) }
+        ensures state { OnOk result (self.new
+            ≡ Rattle.hib_engines.specs.Region.after_put self.old id row time floor now) }
         ensures err { OnErr result (self.new ≡ self.old) }
     {
         match self {
@@ -94,8 +96,10 @@ impl Region {
         now: Tick,
     ) -> Result<Locked, AllocError>
         requires { now ≤ 2 ^ 62 }
-        ensures answer { IfOk result (λ l. l ≡ Rattle.hib_engines.specs.Region.lock self.old id floor now) }
-        ensures state { OnOk result (self.new ≡ Rattle.hib_engines.specs.Region.after_lock self.old id version floor now) }
+        ensures answer { IfOk result (λ l. l
+            ≡ Rattle.hib_engines.specs.Region.lock self.old id floor now) }
+        ensures state { OnOk result (self.new
+            ≡ Rattle.hib_engines.specs.Region.after_lock self.old id version floor now) }
         ensures err { OnErr result (self.new ≡ self.old) }
     {
         match self {
@@ -111,8 +115,10 @@ impl Region {
     /// A lock is given back.
     fn unlock(&mut self, id: u64, lock: Tick, now: Tick) -> Result<Unlocked, AllocError>
         requires { now ≤ 2 ^ 62 }
-        ensures answer { IfOk result (λ u. u ≡ Rattle.hib_engines.specs.Region.unlock self.old id lock) }
-        ensures state { OnOk result (self.new ≡ Rattle.hib_engines.specs.Region.after_unlock self.old id lock now) }
+        ensures answer { IfOk result (λ u. u
+            ≡ Rattle.hib_engines.specs.Region.unlock self.old id lock) }
+        ensures state { OnOk result (self.new
+            ≡ Rattle.hib_engines.specs.Region.after_unlock self.old id lock now) }
         ensures err { OnErr result (self.new ≡ self.old) }
     {
         match self {
@@ -129,8 +135,10 @@ impl Region {
         floor: Tick,
         now: Tick,
     ) -> Result<Inserted, AllocError>
-        ensures answer { IfOk result (λ i. i ≡ Rattle.hib_engines.specs.Region.insert self.old id floor) }
-        ensures state { OnOk result (self.new ≡ Rattle.hib_engines.specs.Region.after_insert self.old id row floor now) }
+        ensures answer { IfOk result (λ i. i
+            ≡ Rattle.hib_engines.specs.Region.insert self.old id floor) }
+        ensures state { OnOk result (self.new
+            ≡ Rattle.hib_engines.specs.Region.after_insert self.old id row floor now) }
         ensures err { OnErr result (self.new ≡ self.old) }
     {
         match self {
@@ -149,8 +157,10 @@ impl Region {
         now: Tick,
     ) -> Result<Updated, AllocError>
         requires { now ≤ 2 ^ 62 }
-        ensures answer { IfOk result (λ u. u ≡ Rattle.hib_engines.specs.Region.update self.old id lock) }
-        ensures state { OnOk result (self.new ≡ Rattle.hib_engines.specs.Region.after_update self.old id lock row now) }
+        ensures answer { IfOk result (λ u. u
+            ≡ Rattle.hib_engines.specs.Region.update self.old id lock) }
+        ensures state { OnOk result (self.new
+            ≡ Rattle.hib_engines.specs.Region.after_update self.old id lock row now) }
         ensures err { OnErr result (self.new ≡ self.old) }
     {
         match self {
@@ -273,8 +283,10 @@ impl Region {
     /// Answers an act that is asked of the region, at this tick. At an error nothing has changed.
     pub fn serve(&mut self, alloc: Global, act: &Act, now: Tick) -> Result<Reply, AllocError>
         requires { now ≤ 2 ^ 62 }
-        ensures answered { IfOk result (λ r. (script : Said) (l : Journal) (n : ℕ) (by : Option ℕ) → IsPlaced script n l self.old → IsLate (Part.Region n) now l
-            → entity_in act.now ≡ Some n → Suits (strategy script n) act.now → IsServed (λ m. IsPlaced script n m self.new) script l by now act.now r) }
+        ensures answered { IfOk result (λ r. (script : Said) (l : Journal) (n : ℕ) (by : Option ℕ)
+            → IsPlaced script n l self.old → IsLate (Part.Region n) now l
+            → entity_in act.now ≡ Some n → Suits (strategy script n) act.now
+            → IsServed (λ m. IsPlaced script n m self.new) script l by now act.now r) }
         ensures calm { IfOk result (λ r. is_fault r ≡ false) }
         // A get changes nothing.
         ensures still { OnOk result (reads act.now ≡ true → self.new ≡ self.old) }

@@ -16,7 +16,8 @@ use std::alloc::{AllocError, Global};
 
 /// The regions of a script's entities, which are empty. Fails for want of memory alone.
 pub fn open_regions(alloc: Global, script: &Script) -> Result<Vec<Region>, AllocError>
-    ensures { IfOk result (λ v. v.items ≡ map (λ d. empty d.strategy d.capacity script.now.timeout) script.now.mapping) }
+    ensures { IfOk result (λ v. v.items
+        ≡ map (λ d. empty d.strategy d.capacity script.now.timeout) script.now.mapping) }
 {
     let mut regions = Vec::new(alloc);
     for entity in script.mapping.as_slice() {
@@ -44,9 +45,12 @@ pub fn serve_region(
     now: Tick,
 ) -> Result<Reply, AllocError>
     requires { now ≤ 2 ^ 62 }
-    ensures answered { IfOk result (λ r. (script : Said) (l : Journal) (by : Option ℕ) → IsPlaced script entity l (region_of regions.old.items entity) → IsLate (Part.Region entity) now l
-        → entity_in act.now ≡ Some entity → Suits (strategy script entity) act.now
-        → IsServed (λ m. IsPlaced script entity m (region_of regions.new.items entity)) script l by now act.now r) }
+    ensures answered { IfOk result (λ r. (script : Said) (l : Journal) (by : Option ℕ)
+        → IsPlaced script entity l (region_of regions.old.items entity)
+        → IsLate (Part.Region entity) now l → entity_in act.now ≡ Some entity
+        → Suits (strategy script entity) act.now
+        → IsServed (λ m. IsPlaced script entity m (region_of regions.new.items entity)) script l
+        by now act.now r) }
     ensures others { OnOk result (IsAtRegion entity regions.old.items regions.new.items) }
     ensures calm { IfOk result (λ r. is_fault r ≡ false) }
     ensures still { OnOk result (reads act.now ≡ true → regions.new.items ≡ regions.old.items) }

@@ -85,8 +85,10 @@ impl Registry {
 
     /// A session begins: the least time among the open sessions is its floor. At an error nothing has changed.
     fn begin(&mut self, session: SessionNo, now: Tick) -> Result<Reply, AllocError>
-        ensures reply { IfOk result (λ r. Each (λ t. t < now) self.old → r ≡ Reply.Began (floor_in self.old now)) }
-        ensures state { OnOk result (Each (λ t. t < now) self.old → self.new ≡ without session self.old ++ (session, now) ∷ []) }
+        ensures reply { IfOk result (λ r. Each (λ t. t < now) self.old
+            → r ≡ Reply.Began (floor_in self.old now)) }
+        ensures state { OnOk result (Each (λ t. t < now) self.old
+            → self.new ≡ without session self.old ++ (session, now) ∷ []) }
         ensures calm { IfOk result (λ r. is_fault r ≡ false) }
         ensures err { OnErr result (self.new ≡ self.old) }
     {
@@ -102,7 +104,8 @@ impl Registry {
     /// Answers the Begin of a session at this tick. Another act is answered Done and changes nothing, since none is asked of the
     /// registry. At an error nothing has changed.
     pub fn serve(&mut self, session: SessionNo, act: &Act, now: Tick) -> Result<Reply, AllocError>
-        ensures answered { IfOk result (λ r. (script : Said) (l : Journal) → IsRegistry self.old l → IsLate Part.Registry now l → act.now ≡ Act.Begin
+        ensures answered { IfOk result (λ r. (script : Said) (l : Journal) → IsRegistry self.old l
+            → IsLate Part.Registry now l → act.now ≡ Act.Begin
             → IsServed (λ m. IsRegistry self.new m) script l (Some session) now act.now r) }
         ensures other { IfOk result (λ r. is_begin act.now ≡ false
             → (r ≡ Reply.Done) × (self.new ≡ self.old)) }
@@ -133,8 +136,9 @@ impl Registry {
     /// A session ends. It takes no memory.
     pub fn end(&mut self, session: SessionNo)
         ensures gone { self.new ≡ without session self.old }
-        ensures stands { (l : Journal) (now : ℕ) (r : Reply) → IsRegistry self.old l → IsLate Part.Registry now l
-            → IsRegistry self.new (entry_at now (Some session) Act.End r ∷ l) }
+        ensures stands { (l : Journal) (now : ℕ) (r : Reply) → IsRegistry self.old l
+            → IsLate Part.Registry now l → IsRegistry self.new
+            (entry_at now (Some session) Act.End r ∷ l) }
     {
         if let Some(time) = self.times.swap_remove(&session) {
             self.begun.remove(&time.0);
@@ -144,8 +148,9 @@ impl Registry {
     /// A session was killed. It takes no memory.
     pub fn kill(&mut self, session: SessionNo)
         ensures gone { self.new ≡ without session self.old }
-        ensures stands { (l : Journal) (now : ℕ) → IsRegistry self.old l → IsLate Part.Registry now l
-            → IsRegistry self.new (entry_at now None (Act.Kill session) Reply.Done ∷ l) }
+        ensures stands { (l : Journal) (now : ℕ) → IsRegistry self.old l
+            → IsLate Part.Registry now l → IsRegistry self.new
+            (entry_at now None (Act.Kill session) Reply.Done ∷ l) }
     {
         self.end(session);
     }
@@ -153,8 +158,9 @@ impl Registry {
     /// A restart: no session is open any more. It takes no memory.
     pub fn restart(&mut self)
         ensures gone { self.new ≡ [] }
-        ensures stands { (l : Journal) (now : ℕ) → IsRegistry self.old l → IsLate Part.Registry now l
-            → IsRegistry self.new (entry_at now None Act.Restart Reply.Done ∷ l) }
+        ensures stands { (l : Journal) (now : ℕ) → IsRegistry self.old l
+            → IsLate Part.Registry now l → IsRegistry self.new
+            (entry_at now None Act.Restart Reply.Done ∷ l) }
     {
         self.begun.clear();
         self.times.clear();

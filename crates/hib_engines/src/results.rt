@@ -51,8 +51,11 @@ impl ResultsEngine {
 
     /// What is kept of a query.
     fn look(&mut self, alloc: Global, query: QueryNo) -> Result<Reply, AllocError>
-        ensures reply { IfOk result (λ r. r ≡ option_map_or (λ k. Reply.Found k.0 k.1) (result_of query self.old.kept) Reply.Absent) }
-        ensures state { OnOk result (self.new ≡ record self.old { kept = used query self.old.kept }) }
+        ensures reply { IfOk result (λ r. r
+            ≡ option_map_or (λ k. Reply.Found k.0 k.1)
+            (result_of query self.old.kept) Reply.Absent) }
+        ensures state { OnOk result (self.new
+            ≡ record self.old { kept = used query self.old.kept }) }
         ensures err { OnErr result (self.new ≡ self.old) }
     {
         let reply = match self.results.peek(query) {
@@ -75,7 +78,8 @@ impl ResultsEngine {
         list: &Listing,
     ) -> Result<Reply, AllocError>
         ensures reply { IfOk result (λ r. r ≡ Reply.Kept (dropped_for query self.old)) }
-        ensures state { OnOk result (self.new ≡ record self.old { kept = with_result query (time, list.now) self.old }) }
+        ensures state { OnOk result (self.new
+            ≡ record self.old { kept = with_result query (time, list.now) self.old }) }
         ensures err { OnErr result (self.new ≡ self.old) }
     {
         let list = copy_cells(alloc, list)?;
@@ -85,8 +89,10 @@ impl ResultsEngine {
 
     /// Answers an act that is asked of the results. At an error nothing has changed.
     pub fn serve(&mut self, alloc: Global, act: &Act) -> Result<Reply, AllocError>
-        ensures answered { IfOk result (λ r. (script : Said) (l : Journal) (by : Option ℕ) (now : ℕ) → AreResults script l self.old → is_for Part.Results act.now (unwrap_or by 0) ≡ true
-            → HasQuery script act.now → IsServed (λ m. AreResults script m self.new) script l by now act.now r) }
+        ensures answered { IfOk result (λ r. (script : Said) (l : Journal) (by : Option ℕ) (now : ℕ)
+            → AreResults script l self.old → is_for Part.Results act.now (unwrap_or by 0) ≡ true
+            → HasQuery script act.now → IsServed
+            (λ m. AreResults script m self.new) script l by now act.now r) }
         ensures calm { IfOk result (λ r. is_fault r ≡ false) }
         ensures err { OnErr result (self.new ≡ self.old) }
     {

@@ -75,7 +75,8 @@ impl StampsEngine {
     ) -> Result<Reply, AllocError>
         requires few { length script.now.mapping < 2 ^ 16 }
         requires tables { length self.now ≡ length script.now.mapping }
-        ensures { IfOk result (λ r. r ≡ Reply.Check (checked time (tables_in script.now query) self.now)) }
+        ensures { IfOk result (λ r. r ≡ Reply.Check
+            (checked time (tables_in script.now query) self.now)) }
     {
         let tables = tables_of(alloc, script, query)?;
         Ok(Reply::Check(self.stamps.check(tables.as_slice(), time)))
@@ -93,7 +94,9 @@ impl StampsEngine {
         requires tables { AreWithin (length self.old) act.now }
         requires entities { length self.old ≡ length script.now.mapping }
         requires mapping { length script.now.mapping < 2 ^ 16 }
-        ensures answered { IfOk result (λ r. (l : Journal) (by : Option ℕ) → AreStamps script.now l self.old → is_for Part.Stamps act.now (unwrap_or by 0) ≡ true
+        ensures answered { IfOk result (λ r. (l : Journal) (by : Option ℕ)
+            → AreStamps script.now l self.old
+            → is_for Part.Stamps act.now (unwrap_or by 0) ≡ true
             → IsServed (λ m. AreStamps script.now m self.new) script.now l by now act.now r) }
         ensures calm { IfOk result (λ r. is_fault r ≡ false) }
         ensures length { length self.new ≡ length self.old }

@@ -67,14 +67,16 @@ impl<K: Keeper> StoreEngine<K> {
         rows: &[(Key, Row)],
         entities: u16,
     ) -> Result<StoreEngine<K>, OpenFault<K>>
-        ensures tables { IfOk result (λ s. s.tables ≡ option_map (λ m. start mapping.now m rows.now) (K.tables keeper)) }
+        ensures tables { IfOk result (λ s. s.tables
+            ≡ option_map (λ m. start mapping.now m rows.now) (K.tables keeper)) }
         ensures faults { IfOk result (λ s. K.faults keeper ≤ s.faults) }
         ensures asked { IfOk result (λ s. s.asked ≡ K.asked keeper) }
         ensures written { IfOk result (λ s. s.written ≡ []) }
         ensures back { IfErr result (λ e. K.tables (handed_back e) ≡ K.tables keeper) }
         ensures back_faults { IfErr result (λ e. K.faults keeper ≤ K.faults (handed_back e)) }
         ensures back_asked { IfErr result (λ e. K.asked (handed_back e) ≡ K.asked keeper) }
-        ensures fault { IfErr result (λ e. is_store_fault e ≡ true → Rose (K.faults keeper) (K.faults (handed_back e))) }
+        ensures fault { IfErr result (λ e. is_store_fault e ≡ true
+            → Rose (K.faults keeper) (K.faults (handed_back e))) }
     {
         let store = Store::open(alloc, keeper, mapping, rows, entities)?;
         Ok(StoreEngine { store })
@@ -92,10 +94,14 @@ impl<K: Keeper> StoreEngine<K> {
 
     /// The session's view of a key.
     fn load(&mut self, alloc: Global, session: SessionNo, key: Key) -> Result<Reply, AllocError>
-        ensures answered { IfOk result (λ r. (script : Said) (told : Option Tables) (l : Journal) (now : ℕ) → IsStored told l self.old
-            → IsStoreServed script told l now session (Act.Load key) r self.new) }
-        ensures asked { IfOk result (λ _. RoseWithin self.old.asked (cond (asks (changes_of self.old session) (Act.Load key)) 1 0) self.new.asked) }
-        ensures fault { IfOk result (λ r. is_fault r ≡ true → Rose self.old.faults self.new.faults) }
+        ensures answered { IfOk result
+            (λ r. (script : Said) (told : Option Tables) (l : Journal) (now : ℕ)
+            → IsStored told l self.old → IsStoreServed script told l now session
+            (Act.Load key) r self.new) }
+        ensures asked { IfOk result (λ _. RoseWithin self.old.asked
+            (cond (asks (changes_of self.old session) (Act.Load key)) 1 0) self.new.asked) }
+        ensures fault { IfOk result (λ r. is_fault r ≡ true
+            → Rose self.old.faults self.new.faults) }
         ensures faults { self.old.faults ≤ self.new.faults }
         ensures still { IsCounted self.old self.new }
     {
@@ -111,10 +117,13 @@ impl<K: Keeper> StoreEngine<K> {
         session: SessionNo,
         query: QueryNo,
     ) -> Result<Reply, AllocError>
-        ensures answered { IfOk result (λ r. (told : Option Tables) (l : Journal) (now : ℕ) → IsStored told l self.old → HasQuery script.now (Act.List query)
+        ensures answered { IfOk result (λ r. (told : Option Tables) (l : Journal) (now : ℕ)
+            → IsStored told l self.old → HasQuery script.now (Act.List query)
             → IsStoreServed script.now told l now session (Act.List query) r self.new) }
-        ensures asked { IfOk result (λ _. RoseWithin self.old.asked (cond (asks (changes_of self.old session) (Act.List query)) 1 0) self.new.asked) }
-        ensures fault { IfOk result (λ r. is_fault r ≡ true → Rose self.old.faults self.new.faults) }
+        ensures asked { IfOk result (λ _. RoseWithin self.old.asked
+            (cond (asks (changes_of self.old session) (Act.List query)) 1 0) self.new.asked) }
+        ensures fault { IfOk result (λ r. is_fault r ≡ true
+            → Rose self.old.faults self.new.faults) }
         ensures faults { self.old.faults ≤ self.new.faults }
         ensures still { IsCounted self.old self.new }
     {
@@ -133,8 +142,10 @@ impl<K: Keeper> StoreEngine<K> {
         session: SessionNo,
         change: &Change,
     ) -> Result<Reply, AllocError>
-        ensures answered { IfOk result (λ r. (script : Said) (told : Option Tables) (l : Journal) (now : ℕ) → IsStored told l self.old
-            → IsStoreServed script told l now session (Act.Write change.now) r self.new) }
+        ensures answered { IfOk result
+            (λ r. (script : Said) (told : Option Tables) (l : Journal) (now : ℕ)
+            → IsStored told l self.old → IsStoreServed script told l now session
+            (Act.Write change.now) r self.new) }
         ensures calm { IfOk result (λ r. is_fault r ≡ false) }
         ensures faults { self.new.faults ≡ self.old.faults }
         ensures asked { self.new.asked ≡ self.old.asked }
@@ -147,10 +158,13 @@ impl<K: Keeper> StoreEngine<K> {
 
     /// A session's changes are applied, all or none.
     fn commit(&mut self, alloc: Global, session: SessionNo) -> Result<Reply, AllocError>
-        ensures answered { IfOk result (λ r. (script : Said) (told : Option Tables) (l : Journal) (now : ℕ) → IsStored told l self.old
-            → IsStoreServed script told l now session Act.Commit r self.new) }
+        ensures answered { IfOk result
+            (λ r. (script : Said) (told : Option Tables) (l : Journal) (now : ℕ)
+            → IsStored told l self.old → IsStoreServed script told l now session Act.Commit r
+            self.new) }
         ensures asked { self.new.asked ≡ self.old.asked }
-        ensures fault { IfOk result (λ r. is_fault r ≡ true → Rose self.old.faults self.new.faults) }
+        ensures fault { IfOk result (λ r. is_fault r ≡ true
+            → Rose self.old.faults self.new.faults) }
         ensures faults { self.old.faults ≤ self.new.faults }
         ensures err { OnErr result (IsCounted self.old self.new) }
     {
@@ -160,8 +174,9 @@ impl<K: Keeper> StoreEngine<K> {
 
     /// A session's changes are dropped.
     fn rollback(&mut self, session: SessionNo) -> Reply
-        ensures answered { (script : Said) (told : Option Tables) (l : Journal) (now : ℕ) → IsStored told l self.old
-            → IsStoreServed script told l now session Act.Rollback result self.new }
+        ensures answered { (script : Said) (told : Option Tables) (l : Journal) (now : ℕ)
+            → IsStored told l self.old → IsStoreServed script told l now session Act.Rollback result
+            self.new }
         ensures calm { is_fault result ≡ false }
         ensures faults { self.new.faults ≡ self.old.faults }
         ensures asked { self.new.asked ≡ self.old.asked }
@@ -179,10 +194,14 @@ impl<K: Keeper> StoreEngine<K> {
         session: SessionNo,
         act: &Act,
     ) -> Result<Reply, AllocError>
-        ensures answered { IfOk result (λ r. (told : Option Tables) (l : Journal) (now : ℕ) → IsStored told l self.old → is_for Part.Store act.now session ≡ true
-            → HasQuery script.now act.now → IsStoreServed script.now told l now session act.now r self.new) }
-        ensures asked { IfOk result (λ _. RoseWithin self.old.asked (cond (asks (changes_of self.old session) act.now) 1 0) self.new.asked) }
-        ensures fault { IfOk result (λ r. is_fault r ≡ true → Rose self.old.faults self.new.faults) }
+        ensures answered { IfOk result (λ r. (told : Option Tables) (l : Journal) (now : ℕ)
+            → IsStored told l self.old → is_for Part.Store act.now session ≡ true
+            → HasQuery script.now act.now → IsStoreServed script.now told l now session act.now
+            r self.new) }
+        ensures asked { IfOk result (λ _. RoseWithin self.old.asked
+            (cond (asks (changes_of self.old session) act.now) 1 0) self.new.asked) }
+        ensures fault { IfOk result (λ r. is_fault r ≡ true
+            → Rose self.old.faults self.new.faults) }
         ensures faults { self.old.faults ≤ self.new.faults }
         // A load and a list change nothing but the keeper's counts.
         ensures still { OnOk result (reads act.now ≡ true → IsCounted self.old self.new) }

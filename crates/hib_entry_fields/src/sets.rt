@@ -16,7 +16,8 @@ fn set_at<'a>(
     entity: EntityNo,
     bytes: &'a [u8],
 ) -> Result<Option<((u16, Cell), &'a [u8])>, AllocError>
-    ensures { IfOk result (λ o. option_map (λ x. (x.0, x.1.now)) o ≡ format.set_at script.now entity bytes.now) }
+    ensures { IfOk result (λ o. option_map (λ x. (x.0, x.1.now)) o
+        ≡ format.set_at script.now entity bytes.now) }
 {
     let (name, rest) = next(bytes);
     match cell_at(alloc, after_one(rest))? {
@@ -32,7 +33,8 @@ pub fn sets_of(
     entity: EntityNo,
     bytes: &[u8],
 ) -> Result<Sets, AllocError>
-    ensures { IfOk result (λ s. s ≡ format.sets_from script.now entity (length bytes.now) bytes.now) }
+    ensures { IfOk result (λ s. s ≡ format.sets_from script.now entity
+        (length bytes.now) bytes.now) }
 {
     let mut sets = Vec::new(alloc);
     let mut rest = bytes;

@@ -45,7 +45,8 @@ impl IdentityMap {
     /// Adds the instance of a key that has none, after the others. At an error nothing has changed.
     pub fn add(&mut self, key: Key, held: Held) -> Result<(), AllocError>
         requires { look_in self.old.held key ≡ None }
-        ensures ok { OnOk result (self.new ≡ record self.old { held = add_in key held self.old.held }) }
+        ensures ok { OnOk result (self.new
+            ≡ record self.old { held = add_in key held self.old.held }) }
         ensures err { OnErr result (self.new ≡ self.old) }
     {
         insert_new(&mut self.entries, key, held)
@@ -53,7 +54,8 @@ impl IdentityMap {
 
     /// The instance of a key comes after the others, and the one that the key had leaves. At an error nothing has changed.
     pub fn arrive(&mut self, key: &Key, held: Held) -> Result<(), AllocError>
-        ensures ok { OnOk result (self.new ≡ record self.old { held = add_in key.now held (drop_in key.now self.old.held) }) }
+        ensures ok { OnOk result (self.new
+            ≡ record self.old { held = add_in key.now held (drop_in key.now self.old.held) }) }
         ensures err { OnErr result (self.new ≡ self.old) }
     {
         arrive_at(&mut self.entries, key, held)
@@ -90,7 +92,8 @@ impl IdentityMap {
 
     /// Sets cells of the instance of a key, if there is one. It takes no memory.
     pub fn set_cells(&mut self, alloc: Global, key: Key, sets: Sets)
-        ensures { self.new ≡ record self.old { held = change_in key (with_sets sets) self.old.held } }
+        ensures { self.new ≡ record self.old
+            { held = change_in key (with_sets sets) self.old.held } }
     {
         cells_at(alloc, &mut self.entries, key, sets);
     }
@@ -104,7 +107,8 @@ impl IdentityMap {
 
     /// Notes that a key was removed, as the last one. At an error nothing has changed.
     pub fn note_removal(&mut self, key: Key) -> Result<(), AllocError>
-        ensures ok { OnOk result (self.new ≡ record self.old { removals = remove_last key self.old.removals }) }
+        ensures ok { OnOk result (self.new
+            ≡ record self.old { removals = remove_last key self.old.removals }) }
         ensures err { OnErr result (self.new ≡ self.old) }
     {
         move_last(&mut self.removals, key)
@@ -158,7 +162,8 @@ fn insert_new(entries: &mut IndexMap<Key, Held>, key: Key, held: Held) -> Result
 
 // Puts a key at the end, in place of where it was.
 fn arrive_at(entries: &mut IndexMap<Key, Held>, key: &Key, held: Held) -> Result<(), AllocError>
-    ensures ok { OnOk result (entries.new.entries ≡ add_in key.now held (drop_in key.now entries.old.entries)) }
+    ensures ok { OnOk result (entries.new.entries
+        ≡ add_in key.now held (drop_in key.now entries.old.entries)) }
     ensures err { OnErr result (entries.new.entries ≡ entries.old.entries) }
 {
     entries.reserve(1)?;

@@ -46,7 +46,8 @@ pub fn is_entry(script: &Script, entry: &Entry) -> bool
 
 fn session_named(script: &Script, names: &SessionNames, name: &Option<String>) -> Option<SessionNo>
     requires { is_valid script.now ≡ true }
-    ensures { result ≡ option_map (fields.session_of script.now) (option_map string_bytes name.now) }
+    ensures { result ≡ option_map (fields.session_of script.now)
+        (option_map string_bytes name.now) }
 {
     match name {
         None => None,
@@ -127,7 +128,8 @@ fn is_session_name(
     session: Option<SessionNo>,
     name: &Option<String>,
 ) -> Result<bool, AllocError>
-    ensures { IfOk result (λ b. b ≡ format.same_names (option_map (session_text script.now) session) (option_map string_bytes name.now)) }
+    ensures { IfOk result (λ b. b ≡ format.same_names (option_map (session_text script.now) session)
+        (option_map string_bytes name.now)) }
 {
     match (session, name) {
         (None, None) => Ok(true),
@@ -164,7 +166,8 @@ fn is_entry_of(
     entry: &Entry,
     line: &Line,
 ) -> Result<bool, AllocError>
-    ensures { IfOk result (λ b. b ≡ entries.is_known script.now entry.now && format.same_texts (texts script.now entry.now) line.now) }
+    ensures { IfOk result (λ b. b ≡ entries.is_known script.now entry.now && format.same_texts
+        (texts script.now entry.now) line.now) }
 {
     if is_known(script, entry) {
         is_texts_of(alloc, script, entry, line)
@@ -181,8 +184,13 @@ fn entry_of(
     line: &Line,
 ) -> Result<Option<Entry>, AllocError>
     requires { is_valid script.now ≡ true }
-    ensures found { IfOk result (λ o. IfSome o (λ e. (format.guess script.now line.now ≡ Some e) × (entries.is_known script.now e && format.same_texts (texts script.now e) line.now ≡ true))) }
-    ensures none { IfOk result (λ o. IfNone o ((e : Entry) → format.guess script.now line.now ≡ Some e → entries.is_known script.now e && format.same_texts (texts script.now e) line.now ≡ false)) }
+    ensures found { IfOk result (λ o. IfSome o (λ e. (format.guess script.now line.now ≡ Some e)
+        × (entries.is_known script.now e && format.same_texts (texts script.now e) line.now
+        ≡ true))) }
+    ensures none { IfOk result (λ o. IfNone o ((e : Entry)
+        → format.guess script.now line.now ≡ Some e
+        → entries.is_known script.now e && format.same_texts (texts script.now e) line.now
+        ≡ false)) }
 {
     let Some(entry) = guess(alloc, script, names, line)? else {
         return Ok(None);

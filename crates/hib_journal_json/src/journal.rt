@@ -102,11 +102,15 @@ pub fn read(
     // Each line before the refused one is an entry's, and that one is none's.
     ensures refused { IfErr result (IsRefused script.now (lines_of text.now) first) }
     // Whichever entries the lines are are read.
-    ensures only { (es : List Entry) → AreLines script.now (lines_of text.now) es → MatchResult result (λ j. j.list ≡ es) (λ f. f ≡ NoMemory) }
+    ensures only { (es : List Entry) → AreLines script.now (lines_of text.now) es
+        → MatchResult result (λ j. j.list ≡ es) (λ f. f ≡ NoMemory) }
     // Whichever line is the first that is none's is refused.
-    ensures first_bad { (n : ℕ) → IsFirstBad script.now (lines_of text.now) n → MatchResult result (λ _. ⊥) (IsRefusedAs (refused_at first n)) }
+    ensures first_bad { (n : ℕ) → IsFirstBad script.now (lines_of text.now) n
+        → MatchResult result (λ _. ⊥) (IsRefusedAs (refused_at first n)) }
     // What `write` wrote is read back.
-    ensures again { (es : List Entry) → AreEntries script.now es → text.now ≡ json_lines script.now es → MatchResult result (λ j. j.list ≡ es) (λ f. f ≡ NoMemory) }
+    ensures again { (es : List Entry) → AreEntries script.now es
+        → text.now ≡ json_lines script.now es
+        → MatchResult result (λ j. j.list ≡ es) (λ f. f ≡ NoMemory) }
 {
     let mut journal = Journal::open(alloc);
     read_lines(alloc, script, text, first, &mut journal)?;

@@ -14,7 +14,9 @@ fn digit(n: u8) -> u8
 }
 
 fn put_code(out: &mut Vec<u8>, byte: u8) -> Result<(), AllocError>
-    ensures { OnOk result (out.new.items ≡ out.old.items ++ (92 ∷ 117 ∷ 48 ∷ 48 ∷ digit_char (byte / 16) ∷ digit_char (byte % 16) ∷ [])) }
+    ensures { OnOk result (out.new.items
+        ≡ out.old.items ++ (92 ∷ 117 ∷ 48 ∷ 48 ∷ digit_char (byte / 16) ∷ digit_char
+        (byte % 16) ∷ [])) }
 {
     out.extend_from_slice(b"\\u00")?;
     out.push(digit(byte / 16))?;

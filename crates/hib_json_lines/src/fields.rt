@@ -33,7 +33,13 @@ impl Model for Line {
 
     ghost Value = { LineText };
 
-    ghost view = { λ l. record { act = string_bytes l.act; part = string_bytes l.part; reply = string_bytes l.reply; session = option_map string_bytes l.session; tick = l.tick } };
+    ghost view = { λ l. record {
+      act = string_bytes l.act;
+      part = string_bytes l.part;
+      reply = string_bytes l.reply;
+      session = option_map string_bytes l.session;
+      tick = l.tick;
+    } };
 }
 
 // The object of an entry.
@@ -57,7 +63,8 @@ fn object(alloc: Global, line: &Line) -> Result<Value, AllocError>
 /// stand in any order and with any spacing; of one that stands twice the later counts. Fails for want of memory alone.
 pub fn read_line(alloc: Global, text: &str) -> Result<Option<Line>, AllocError>
     ensures found { IfOk result (λ o. IfSome o (λ l. read text.now ≡ Some (object_of l))) }
-    ensures none { IfOk result (λ o. IfNone o ((l : LineText) → read text.now ≡ Some (object_of l) → ⊥)) }
+    ensures none { IfOk result (λ o. IfNone o ((l : LineText) → read text.now ≡ Some (object_of l)
+        → ⊥)) }
 {
     let value = match Value::from_str(alloc, text) {
         Ok(value) => value,
@@ -118,7 +125,8 @@ fn text_in(alloc: Global, value: &Value, key: &str) -> Result<Option<String>, Al
 }
 
 fn session_in(alloc: Global, value: &Value) -> Result<Option<Option<String>>, AllocError>
-    ensures { IfOk result (λ o. option_map (λ s. option_map string_bytes s) o ≡ session_at (view value.now)) }
+    ensures { IfOk result (λ o. option_map (λ s. option_map string_bytes s) o
+        ≡ session_at (view value.now)) }
 {
     match value.get("session") {
         Some(Value::Null) => Ok(Some(None)),

@@ -41,7 +41,8 @@ fn put_reply_member(
     script: &Script,
     reply: &Reply,
 ) -> Result<(), AllocError>
-    ensures { OnOk result (out.new.items ≡ out.old.items ++ (codes ",\"reply\":" ++ quoted (reply_text script.now reply.now))) }
+    ensures { OnOk result (out.new.items
+        ≡ out.old.items ++ (codes ",\"reply\":" ++ quoted (reply_text script.now reply.now))) }
 {
     let mut text = Vec::new(alloc);
     put_reply(alloc, &mut text, script, reply)?;
@@ -55,7 +56,8 @@ fn put_name(
     script: &Script,
     session: SessionNo,
 ) -> Result<(), AllocError>
-    ensures { OnOk result (out.new.items ≡ out.old.items ++ quoted (session_text script.now session)) }
+    ensures { OnOk result (out.new.items
+        ≡ out.old.items ++ quoted (session_text script.now session)) }
 {
     let mut text = Vec::new(alloc);
     put_session(&mut text, script, session)?;
@@ -82,7 +84,8 @@ fn put_session_member(
     script: &Script,
     session: Option<SessionNo>,
 ) -> Result<(), AllocError>
-    ensures { OnOk result (out.new.items ≡ out.old.items ++ (codes ",\"session\":" ++ session_value script.now session)) }
+    ensures { OnOk result (out.new.items
+        ≡ out.old.items ++ (codes ",\"session\":" ++ session_value script.now session)) }
 {
     out.extend_from_slice(b",\"session\":")?;
     put_session_value(alloc, out, script, session)
@@ -96,7 +99,8 @@ pub fn put_line(
     script: &Script,
     entry: &Entry,
 ) -> Result<(), AllocError>
-    ensures { OnOk result (out.new.items ≡ out.old.items ++ (json_line script.now entry.now ++ codes "\n")) }
+    ensures { OnOk result (out.new.items
+        ≡ out.old.items ++ (json_line script.now entry.now ++ codes "\n")) }
 {
     put_act_member(alloc, out, script, &entry.act)?;
     put_part_member(alloc, out, entry.part)?;

@@ -22,8 +22,10 @@ fn send_lines<W: Sink>(
     script: &Script,
     entries: &[Entry],
 ) -> Result<(), WriteStop>
-    ensures sent { OnOk result (IsSent (W.taken out.old) (W.taken out.new) (gathered.old.items ++ json_lines script.now entries.now) gathered.new.items) }
-    ensures front { OnErr result (TakesFront (W.taken out.old) (W.taken out.new) (gathered.old.items ++ json_lines script.now entries.now)) }
+    ensures sent { OnOk result (IsSent (W.taken out.old) (W.taken out.new)
+        (gathered.old.items ++ json_lines script.now entries.now) gathered.new.items) }
+    ensures front { OnErr result (TakesFront (W.taken out.old) (W.taken out.new)
+        (gathered.old.items ++ json_lines script.now entries.now)) }
     ensures calm { OnOk result (W.faults out.new ≡ W.faults out.old) }
     ensures cause { result ≡ Err WriteStop.Failed → Rose (W.faults out.old) (W.faults out.new) }
 {
@@ -42,8 +44,10 @@ pub fn send<W: Sink>(
     journal: &Journal,
     out: &mut W,
 ) -> Result<(), WriteStop>
-    ensures whole { OnOk result (Appends (W.taken out.old) (W.taken out.new) (json_lines script.now journal.now.list)) }
-    ensures front { OnErr result (TakesFront (W.taken out.old) (W.taken out.new) (json_lines script.now journal.now.list)) }
+    ensures whole { OnOk result (Appends (W.taken out.old) (W.taken out.new)
+        (json_lines script.now journal.now.list)) }
+    ensures front { OnErr result (TakesFront (W.taken out.old) (W.taken out.new)
+        (json_lines script.now journal.now.list)) }
     ensures cause { result ≡ Err WriteStop.Failed → Rose (W.faults out.old) (W.faults out.new) }
 {
     let mut gathered = Vec::new(alloc);

@@ -72,8 +72,10 @@ fn refused(at: usize, change: &Change, found: &Option<Row>) -> Option<Applied>
 fn make<T: RowTable>(table: &mut T, alloc: Global, change: &Change) -> Result<(), Error>
     requires range { IsKeepable change.now }
     requires inside { IfSome (T.told table.old) (λ t. t.in_transaction ≡ true) }
-    requires meets { IfSome (T.told table.old) (λ t. Meets change.now (row_at t.now (key_of change.now))) }
-    ensures ok { OnOk result (T.told table.new ≡ changed (after_change change.now) (T.told table.old)) }
+    requires meets { IfSome (T.told table.old)
+        (λ t. Meets change.now (row_at t.now (key_of change.now))) }
+    ensures ok { OnOk result (T.told table.new
+        ≡ changed (after_change change.now) (T.told table.old)) }
     ensures before { rolled_back (T.told table.new) ≡ rolled_back (T.told table.old) }
 {
     match change {
@@ -92,9 +94,11 @@ fn apply_one<T: RowTable>(
 ) -> Result<Option<Applied>, Error>
     requires range { IsKeepable change.now }
     requires inside { IfSome (T.told table.old) (λ t. t.in_transaction ≡ true) }
-    ensures refused { IfOk result (λ r. IfSome (T.told table.old) (λ t. r ≡ refused_at at change.now (row_at t.now (key_of change.now)))) }
+    ensures refused { IfOk result (λ r. IfSome (T.told table.old)
+        (λ t. r ≡ refused_at at change.now (row_at t.now (key_of change.now)))) }
     ensures place { (n : ℕ) → at < n → IfOk result (λ r. IfSome r (λ a. IsPlace a n)) }
-    ensures made { IfOk result (λ r. r ≡ None → T.told table.new ≡ changed (after_change change.now) (T.told table.old)) }
+    ensures made { IfOk result (λ r. r ≡ None
+        → T.told table.new ≡ changed (after_change change.now) (T.told table.old)) }
     ensures before { rolled_back (T.told table.new) ≡ rolled_back (T.told table.old) }
 {
     let found = read(table, alloc, change.key())?;
@@ -109,9 +113,11 @@ fn apply_one<T: RowTable>(
 fn apply_all<T: RowTable>(table: &mut T, alloc: Global, batch: &[Change]) -> Result<Applied, Error>
     requires range { All IsKeepable batch.now }
     requires inside { IfSome (T.told table.old) (λ t. t.in_transaction ≡ true) }
-    ensures verdict { IfOk result (λ a. IfSome (T.told table.old) (λ t. a ≡ verdict t.now batch.now 0)) }
+    ensures verdict { IfOk result (λ a. IfSome (T.told table.old)
+        (λ t. a ≡ verdict t.now batch.now 0)) }
     ensures place { IfOk result (λ a. IsPlace a (length batch.now)) }
-    ensures made { IfOk result (λ a. a ≡ Done → T.told table.new ≡ changed (after_changes batch.now) (T.told table.old)) }
+    ensures made { IfOk result (λ a. a ≡ Done
+        → T.told table.new ≡ changed (after_changes batch.now) (T.told table.old)) }
     ensures before { rolled_back (T.told table.new) ≡ rolled_back (T.told table.old) }
 {
     for at in 0..batch.len() {
@@ -131,10 +137,13 @@ fn apply_within<T: RowTable>(
 ) -> Result<Applied, Error>
     requires range { All IsKeepable batch.now }
     requires rest { IsAtRest (T.told table.old) }
-    ensures verdict { IfOk result (λ a. IfSome (T.told table.old) (λ t. a ≡ verdict t.now batch.now 0)) }
+    ensures verdict { IfOk result (λ a. IfSome (T.told table.old)
+        (λ t. a ≡ verdict t.now batch.now 0)) }
     ensures place { IfOk result (λ a. IsPlace a (length batch.now)) }
-    ensures made { IfOk result (λ a. a ≡ Done → T.told table.new ≡ made (after_changes batch.now) (T.told table.old)) }
-    ensures refused { IfOk result (λ a. a ≢ Done → rolled_back (T.told table.new) ≡ T.told table.old) }
+    ensures made { IfOk result (λ a. a ≡ Done
+        → T.told table.new ≡ made (after_changes batch.now) (T.told table.old)) }
+    ensures refused { IfOk result (λ a. a ≢ Done
+        → rolled_back (T.told table.new) ≡ T.told table.old) }
     ensures err { OnErr result (rolled_back (T.told table.new) ≡ T.told table.old) }
 {
     table.begin()?;
@@ -149,9 +158,11 @@ fn apply_within<T: RowTable>(
 pub fn apply<T: RowTable>(table: &mut T, alloc: Global, batch: &[Change]) -> Result<Applied, Error>
     requires range { All IsKeepable batch.now }
     requires rest { IsAtRest (T.told table.old) }
-    ensures verdict { IfOk result (λ a. IfSome (T.told table.old) (λ t. a ≡ verdict t.now batch.now 0)) }
+    ensures verdict { IfOk result (λ a. IfSome (T.told table.old)
+        (λ t. a ≡ verdict t.now batch.now 0)) }
     ensures place { IfOk result (λ a. IsPlace a (length batch.now)) }
-    ensures tables { IfOk result (λ a. T.told table.new ≡ made (after_applied a batch.now) (T.told table.old)) }
+    ensures tables { IfOk result (λ a. T.told table.new
+        ≡ made (after_applied a batch.now) (T.told table.old)) }
     ensures err { OnErr result (T.told table.new ≡ T.told table.old) }
 {
     match apply_within(table, alloc, batch) {
@@ -167,7 +178,9 @@ pub fn apply<T: RowTable>(table: &mut T, alloc: Global, batch: &[Change]) -> Res
 fn seed_one<T: RowTable>(table: &mut T, alloc: Global, entry: &(Key, Row)) -> Result<(), Error>
     requires range { IsKeepableEntry entry.now }
     requires inside { IfSome (T.told table.old) (λ t. t.in_transaction ≡ true) }
-    ensures ok { OnOk result (T.told table.new ≡ changed (λ t. unless_there t entry.now.0 entry.now.1 (row_at t entry.now.0)) (T.told table.old)) }
+    ensures ok { OnOk result (T.told table.new
+        ≡ changed (λ t. unless_there t entry.now.0 entry.now.1 (row_at t entry.now.0))
+        (T.told table.old)) }
     ensures before { rolled_back (T.told table.new) ≡ rolled_back (T.told table.old) }
 {
     if read(table, alloc, entry.0)?.is_none() {
@@ -180,7 +193,8 @@ fn seed_one<T: RowTable>(table: &mut T, alloc: Global, entry: &(Key, Row)) -> Re
 fn seed_all<T: RowTable>(table: &mut T, alloc: Global, rows: &[(Key, Row)]) -> Result<(), Error>
     requires range { All IsKeepableEntry rows.now }
     requires inside { IfSome (T.told table.old) (λ t. t.in_transaction ≡ true) }
-    ensures ok { OnOk result (T.told table.new ≡ changed (λ t. with_absent t rows.now) (T.told table.old)) }
+    ensures ok { OnOk result (T.told table.new
+        ≡ changed (λ t. with_absent t rows.now) (T.told table.old)) }
     ensures before { rolled_back (T.told table.new) ≡ rolled_back (T.told table.old) }
 {
     for at in 0..rows.len() {
@@ -199,7 +213,8 @@ fn seed_within<T: RowTable>(
     requires few { length mapping.now ≤ 2 ^ 16 }
     requires range { All IsKeepableEntry rows.now }
     requires rest { IsAtRest (T.told table.old) }
-    ensures ok { OnOk result (T.told table.new ≡ made (λ t. start mapping.now t rows.now) (T.told table.old)) }
+    ensures ok { OnOk result (T.told table.new
+        ≡ made (λ t. start mapping.now t rows.now) (T.told table.old)) }
     ensures err { OnErr result (rolled_back (T.told table.new) ≡ T.told table.old) }
 {
     table.begin()?;
@@ -220,7 +235,8 @@ pub fn seed<T: RowTable>(
     requires few { length mapping.now ≤ 2 ^ 16 }
     requires range { All IsKeepableEntry rows.now }
     requires rest { IsAtRest (T.told table.old) }
-    ensures ok { OnOk result (T.told table.new ≡ made (λ t. start mapping.now t rows.now) (T.told table.old)) }
+    ensures ok { OnOk result (T.told table.new
+        ≡ made (λ t. start mapping.now t rows.now) (T.told table.old)) }
     ensures err { OnErr result (T.told table.new ≡ T.told table.old) }
 {
     let seeded = seed_within(table, alloc, mapping, rows);

@@ -117,7 +117,8 @@ impl<T: RowTable + Send> Keeper for SqlKeeper<T> {
 
     ghost asked = { λ k. k.asked };
 
-    ghost ordered = { λ k. tables_in_order T.RowTable.tells T.RowTable.told T.RowTable.ordered k.table };
+    ghost ordered = { λ k. tables_in_order T.RowTable.tells T.RowTable.told T.RowTable.ordered
+        k.table };
 
     fn seed(
         &mut self,
@@ -125,7 +126,9 @@ impl<T: RowTable + Send> Keeper for SqlKeeper<T> {
         mapping: &Mapping,
         rows: &[(Key, Row)],
     ) -> Result<(), KeepFault>
-        ensures tables { tables_in T.RowTable.tells T.RowTable.told self.new.table ≡ tables_seeded result mapping.now rows.now (tables_in T.RowTable.tells T.RowTable.told self.old.table) }
+        ensures tables { tables_in T.RowTable.tells T.RowTable.told self.new.table
+            ≡ tables_seeded result mapping.now rows.now
+            (tables_in T.RowTable.tells T.RowTable.told self.old.table) }
         ensures asked { self.new.asked ≡ self.old.asked }
         ensures cause { FailsByCause self.old.faults self.new.faults result }
         ensures counts { Counts self.old.faults self.new.faults result }
@@ -144,8 +147,11 @@ impl<T: RowTable + Send> Keeper for SqlKeeper<T> {
     }
 
     fn read(&mut self, alloc: Global, key: Key) -> Result<Option<Row>, KeepFault>
-        ensures row { IfOk result (λ row. IfSome (tables_in T.RowTable.tells T.RowTable.told self.old.table) (λ m. row ≡ row_at m key)) }
-        ensures same { tables_in T.RowTable.tells T.RowTable.told self.new.table ≡ tables_in T.RowTable.tells T.RowTable.told self.old.table }
+        ensures row { IfOk result (λ row. IfSome
+            (tables_in T.RowTable.tells T.RowTable.told self.old.table)
+            (λ m. row ≡ row_at m key)) }
+        ensures same { tables_in T.RowTable.tells T.RowTable.told self.new.table
+            ≡ tables_in T.RowTable.tells T.RowTable.told self.old.table }
         ensures asked { (self.old.asked ≤ self.new.asked) × (self.new.asked ≤ self.old.asked + 1) }
         ensures counted { self.new.asked ≡ one_more self.old.asked }
         ensures cause { FailsByCause self.old.faults self.new.faults result }
@@ -166,8 +172,11 @@ impl<T: RowTable + Send> Keeper for SqlKeeper<T> {
     }
 
     fn list(&mut self, alloc: Global, entities: &[EntityNo]) -> Result<Rows, KeepFault>
-        ensures rows { IfOk result (λ rows. IfSome (tables_in T.RowTable.tells T.RowTable.told self.old.table) (λ m. rows ≡ rows_of entities.now m)) }
-        ensures same { tables_in T.RowTable.tells T.RowTable.told self.new.table ≡ tables_in T.RowTable.tells T.RowTable.told self.old.table }
+        ensures rows { IfOk result (λ rows. IfSome
+            (tables_in T.RowTable.tells T.RowTable.told self.old.table)
+            (λ m. rows ≡ rows_of entities.now m)) }
+        ensures same { tables_in T.RowTable.tells T.RowTable.told self.new.table
+            ≡ tables_in T.RowTable.tells T.RowTable.told self.old.table }
         ensures asked { (self.old.asked ≤ self.new.asked) × (self.new.asked ≤ self.old.asked + 1) }
         ensures counted { self.new.asked ≡ one_more self.old.asked }
         ensures cause { FailsByCause self.old.faults self.new.faults result }
@@ -185,9 +194,13 @@ impl<T: RowTable + Send> Keeper for SqlKeeper<T> {
     }
 
     fn apply(&mut self, alloc: Global, batch: &[Change]) -> Result<Applied, KeepFault>
-        ensures verdict { IfOk result (λ a. IfSome (tables_in T.RowTable.tells T.RowTable.told self.old.table) (λ m. a ≡ verdict m batch.now 0)) }
+        ensures verdict { IfOk result (λ a. IfSome
+            (tables_in T.RowTable.tells T.RowTable.told self.old.table)
+            (λ m. a ≡ verdict m batch.now 0)) }
         ensures place { IfOk result (λ a. IsPlace a (length batch.now)) }
-        ensures tables { tables_in T.RowTable.tells T.RowTable.told self.new.table ≡ tables_after result batch.now (tables_in T.RowTable.tells T.RowTable.told self.old.table) }
+        ensures tables { tables_in T.RowTable.tells T.RowTable.told self.new.table
+            ≡ tables_after result batch.now
+            (tables_in T.RowTable.tells T.RowTable.told self.old.table) }
         ensures asked { self.new.asked ≡ self.old.asked }
         ensures cause { FailsByCause self.old.faults self.new.faults result }
         ensures counts { Counts self.old.faults self.new.faults result }

@@ -20,7 +20,8 @@ fn widen_one<T: RowTable>(
 ) -> Result<(), Error>
     requires inside { IfSome (T.told table.old) (λ t. t.in_transaction ≡ true) }
     requires there { IfSome (T.told table.old) (λ t. is_some (row_at t.now entry.now.0) ≡ true) }
-    ensures ok { OnOk result (T.told table.new ≡ changed (λ t. with_wide columns.now t entry.now) (T.told table.old)) }
+    ensures ok { OnOk result (T.told table.new
+        ≡ changed (λ t. with_wide columns.now t entry.now) (T.told table.old)) }
     ensures before { rolled_back (T.told table.new) ≡ rolled_back (T.told table.old) }
 {
     if !is_narrow(columns, &entry.1.cells) {
@@ -42,7 +43,8 @@ fn widen_rows<T: RowTable>(
 ) -> Result<(), Error>
     requires inside { IfSome (T.told table.old) (λ t. t.in_transaction ≡ true) }
     requires there { IfSome (T.told table.old) (λ t. are_there rows.now t.now ≡ true) }
-    ensures ok { OnOk result (T.told table.new ≡ changed (λ t. with_all_wide columns.now t rows.now) (T.told table.old)) }
+    ensures ok { OnOk result (T.told table.new
+        ≡ changed (λ t. with_all_wide columns.now t rows.now) (T.told table.old)) }
     ensures before { rolled_back (T.told table.new) ≡ rolled_back (T.told table.old) }
 {
     for at in 0..rows.len() {
@@ -59,7 +61,8 @@ fn widen_entity<T: RowTable>(
     columns: &[ColumnDef],
 ) -> Result<(), Error>
     requires inside { IfSome (T.told table.old) (λ t. t.in_transaction ≡ true) }
-    ensures ok { OnOk result (T.told table.new ≡ changed (widened_one entity columns.now) (T.told table.old)) }
+    ensures ok { OnOk result (T.told table.new
+        ≡ changed (widened_one entity columns.now) (T.told table.old)) }
     ensures before { rolled_back (T.told table.new) ≡ rolled_back (T.told table.old) }
 {
     if !has_defaults(columns) {

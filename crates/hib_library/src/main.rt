@@ -89,7 +89,11 @@ fn sell_in<N: Name, K: Keeper + Drop, L: Listener>(
 ) -> Result<Option<Sold<L>>, AllocError>
     requires script { script ≡ N.script }
     requires valid { is_valid N.script ≡ true }
-    requires from { record { tables = told_start N.script (K.tables keeper); faults = K.faults keeper; asked = K.asked keeper } ≡ N.from }
+    requires from { record {
+      tables = told_start N.script (K.tables keeper);
+      faults = K.faults keeper;
+      asked = K.asked keeper;
+    } ≡ N.from }
     requires told { tells L.heard L.left listeners.items ≡ N.told }
 {
     let Ok(mut factory) = Factory::<K, N, L>::open(alloc, script, keeper, listeners) else {

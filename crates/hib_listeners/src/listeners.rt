@@ -41,7 +41,8 @@ fn keep<L>(list: &mut Vec<L>, kept: usize, at: usize) -> usize
     requires order { kept ≤ at }
     requires within { at < length list.old.items }
     ensures count { result ≡ kept + 1 }
-    ensures front { (d : L) → take (kept + 1) list.new.items ≡ take kept list.old.items ++ slice_index_or list.old.items at d ∷ [] }
+    ensures front { (d : L) → take (kept + 1) list.new.items
+        ≡ take kept list.old.items ++ slice_index_or list.old.items at d ∷ [] }
     ensures rest { drop (at + 1) list.new.items ≡ drop (at + 1) list.old.items }
     ensures len { length list.new.items ≡ length list.old.items }
 {
@@ -51,7 +52,8 @@ fn keep<L>(list: &mut Vec<L>, kept: usize, at: usize) -> usize
 
 // All are told in order, until one has no memory; those that leave are dropped. Whether all have heard the entry.
 fn tell_all<L: Listener>(list: &mut Vec<L>, alloc: Global, entry: &Entry) -> bool
-    ensures { AreTold entry.now result (tells L.heard L.left list.old.items) (tells L.heard L.left list.new.items) }
+    ensures { AreTold entry.now result (tells L.heard L.left list.old.items)
+        (tells L.heard L.left list.new.items) }
 {
     let mut is_told = true;
     let mut kept = 0;
@@ -90,7 +92,8 @@ impl<L: Listener> Listeners<L> {
     /// runs out, those before the one that had none have heard the entry, and it and those after it haven't; all
     /// others that stay are there in their order.
     pub fn tell(&mut self, alloc: Global, entry: &Entry) -> Result<(), AllocError>
-        ensures { AreTold entry.now (is_ok result) (tells L.heard L.left self.old) (tells L.heard L.left self.new) }
+        ensures { AreTold entry.now (is_ok result) (tells L.heard L.left self.old)
+            (tells L.heard L.left self.new) }
     {
         if tell_all(&mut self.list, alloc, entry) {
             Ok(())

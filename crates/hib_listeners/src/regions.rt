@@ -64,7 +64,9 @@ fn declare(
 ) -> Result<(), AllocError>
     requires { IsIndex index.old.items (entities places.old.items) }
     ensures index { OnOk result (IsIndex index.new.items (entities places.new.items)) }
-    ensures places { OnOk result (places.new.items ≡ places.old.items ++ cond (is_cached_by def.now.strategy) (region_counts (length index.old.items) [] ∷ []) []) }
+    ensures places { OnOk result (places.new.items
+        ≡ places.old.items ++ cond (is_cached_by def.now.strategy)
+        (region_counts (length index.old.items) [] ∷ []) []) }
     ensures len { OnOk result (length index.new.items ≡ length index.old.items + 1) }
 {
     if def.strategy == Strategy::Uncached {

@@ -42,7 +42,8 @@ impl<W: Sink + Send + Drop> Listener for Trace<W> {
         ensures heard { None ≡ heard_after result entry.now None }
         ensures left { None ≡ left_after result None }
         ensures leaves { IsDue result None None }
-        ensures line { result ≡ Stay → Appends (W.taken self.old.sink) (W.taken self.new.sink) (codes "entry " ++ decimal (one_more self.old.count) ++ codes "\n") }
+        ensures line { result ≡ Stay → Appends (W.taken self.old.sink) (W.taken self.new.sink)
+            (codes "entry " ++ decimal (one_more self.old.count) ++ codes "\n") }
         ensures cause { result ≡ Leave → Rose (W.faults self.old.sink) (W.faults self.new.sink) }
         ensures silent { result ≡ NoMemory → self.new ≡ self.old }
         ensures count { result ≡ Stay → self.new.count ≡ one_more self.old.count }

@@ -58,7 +58,8 @@ fn push_author(
     draws: &mut Draws,
     rows: &mut Vec<(Key, Row)>,
 ) -> Result<(), AllocError>
-    ensures made { OnOk result (rows.new.items ≡ rows.old.items ++ (author_row place draws.old).made) }
+    ensures made { OnOk result (rows.new.items
+        ≡ rows.old.items ++ (author_row place draws.old).made) }
     ensures state { OnOk result (draws.new ≡ (author_row place draws.old).state) }
 {
     let name = numbered(alloc, b"author ", place)?;
@@ -73,7 +74,8 @@ fn push_book(
     draws: &mut Draws,
     rows: &mut Vec<(Key, Row)>,
 ) -> Result<(), AllocError>
-    ensures made { OnOk result (rows.new.items ≡ rows.old.items ++ (book_row place draws.old).made) }
+    ensures made { OnOk result (rows.new.items
+        ≡ rows.old.items ++ (book_row place draws.old).made) }
     ensures state { OnOk result (draws.new ≡ (book_row place draws.old).state) }
 {
     let title = numbered(alloc, b"book ", place)?;
@@ -96,7 +98,8 @@ fn push_customer(
     draws: &mut Draws,
     rows: &mut Vec<(Key, Row)>,
 ) -> Result<(), AllocError>
-    ensures made { OnOk result (rows.new.items ≡ rows.old.items ++ (customer_row place draws.old).made) }
+    ensures made { OnOk result (rows.new.items
+        ≡ rows.old.items ++ (customer_row place draws.old).made) }
     ensures state { OnOk result (draws.new ≡ (customer_row place draws.old).state) }
 {
     let name = numbered(alloc, b"customer ", place)?;
@@ -112,7 +115,8 @@ fn push_shelf(
     draws: &mut Draws,
     rows: &mut Vec<(Key, Row)>,
 ) -> Result<(), AllocError>
-    ensures made { OnOk result (rows.new.items ≡ rows.old.items ++ (shelf_row place draws.old).made) }
+    ensures made { OnOk result (rows.new.items
+        ≡ rows.old.items ++ (shelf_row place draws.old).made) }
     ensures state { OnOk result (draws.new ≡ (shelf_row place draws.old).state) }
 {
     let label = numbered(alloc, b"shelf ", place)?;
@@ -127,7 +131,8 @@ fn push_authors(
     draws: &mut Draws,
     rows: &mut Vec<(Key, Row)>,
 ) -> Result<(), AllocError>
-    ensures made { OnOk result (rows.new.items ≡ rows.old.items ++ (many author_row 10 draws.old).made) }
+    ensures made { OnOk result (rows.new.items
+        ≡ rows.old.items ++ (many author_row 10 draws.old).made) }
     ensures state { OnOk result (draws.new ≡ (many author_row 10 draws.old).state) }
 {
     for i in 0..10 {
@@ -141,7 +146,8 @@ fn push_books(
     draws: &mut Draws,
     rows: &mut Vec<(Key, Row)>,
 ) -> Result<(), AllocError>
-    ensures made { OnOk result (rows.new.items ≡ rows.old.items ++ (many book_row 60 draws.old).made) }
+    ensures made { OnOk result (rows.new.items
+        ≡ rows.old.items ++ (many book_row 60 draws.old).made) }
     ensures state { OnOk result (draws.new ≡ (many book_row 60 draws.old).state) }
 {
     for i in 0..60 {
@@ -155,7 +161,8 @@ fn push_customers(
     draws: &mut Draws,
     rows: &mut Vec<(Key, Row)>,
 ) -> Result<(), AllocError>
-    ensures made { OnOk result (rows.new.items ≡ rows.old.items ++ (many customer_row 30 draws.old).made) }
+    ensures made { OnOk result (rows.new.items
+        ≡ rows.old.items ++ (many customer_row 30 draws.old).made) }
     ensures state { OnOk result (draws.new ≡ (many customer_row 30 draws.old).state) }
 {
     for i in 0..30 {
@@ -169,7 +176,8 @@ fn push_shelves(
     draws: &mut Draws,
     rows: &mut Vec<(Key, Row)>,
 ) -> Result<(), AllocError>
-    ensures made { OnOk result (rows.new.items ≡ rows.old.items ++ (many shelf_row 12 draws.old).made) }
+    ensures made { OnOk result (rows.new.items
+        ≡ rows.old.items ++ (many shelf_row 12 draws.old).made) }
     ensures state { OnOk result (draws.new ≡ (many shelf_row 12 draws.old).state) }
 {
     for i in 0..12 {

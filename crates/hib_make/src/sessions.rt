@@ -19,7 +19,8 @@ fn push_found(
 ) -> Result<(), AllocError>
     requires some { 0 < count }
     requires few { count < 1000 }
-    ensures made { OnOk result (statements.new.items ≡ statements.old.items ++ (one_found entity count draws.old).made) }
+    ensures made { OnOk result (statements.new.items
+        ≡ statements.old.items ++ (one_found entity count draws.old).made) }
     ensures state { OnOk result (draws.new ≡ (one_found entity count draws.old).state) }
 {
     let id = 1 + draws.draw(count);
@@ -36,7 +37,8 @@ fn push_changed(
     cell: Cell,
     statements: &mut Vec<Statement>,
 ) -> Result<(), AllocError>
-    ensures { OnOk result (statements.new.items ≡ statements.old.items ++ changed key.now column cell) }
+    ensures { OnOk result (statements.new.items
+        ≡ statements.old.items ++ changed key.now column cell) }
 {
     let cells = vec![in alloc; (column, cell)]?;
     statements.push(Statement::Find { key: *key })?;
@@ -52,7 +54,8 @@ fn push_stock(
     draws: &mut Draws,
     statements: &mut Vec<Statement>,
 ) -> Result<(), AllocError>
-    ensures made { OnOk result (statements.new.items ≡ statements.old.items ++ (stock_set draws.old).made) }
+    ensures made { OnOk result (statements.new.items
+        ≡ statements.old.items ++ (stock_set draws.old).made) }
     ensures state { OnOk result (draws.new ≡ (stock_set draws.old).state) }
 {
     let id = 1 + draws.draw(60);
@@ -65,7 +68,8 @@ fn push_credit(
     draws: &mut Draws,
     statements: &mut Vec<Statement>,
 ) -> Result<(), AllocError>
-    ensures made { OnOk result (statements.new.items ≡ statements.old.items ++ (credit_set draws.old).made) }
+    ensures made { OnOk result (statements.new.items
+        ≡ statements.old.items ++ (credit_set draws.old).made) }
     ensures state { OnOk result (draws.new ≡ (credit_set draws.old).state) }
 {
     let id = 1 + draws.draw(30);
@@ -78,7 +82,8 @@ fn push_full(
     draws: &mut Draws,
     statements: &mut Vec<Statement>,
 ) -> Result<(), AllocError>
-    ensures made { OnOk result (statements.new.items ≡ statements.old.items ++ (full_set draws.old).made) }
+    ensures made { OnOk result (statements.new.items
+        ≡ statements.old.items ++ (full_set draws.old).made) }
     ensures state { OnOk result (draws.new ≡ (full_set draws.old).state) }
 {
     let id = 1 + draws.draw(12);
@@ -95,7 +100,8 @@ fn push_placed(
 ) -> Result<(), AllocError>
     requires session { session < 1000 }
     requires place { place < 1000 }
-    ensures made { OnOk result (statements.new.items ≡ statements.old.items ++ (order_placed session place draws.old).made) }
+    ensures made { OnOk result (statements.new.items
+        ≡ statements.old.items ++ (order_placed session place draws.old).made) }
     ensures state { OnOk result (draws.new ≡ (order_placed session place draws.old).state) }
 {
     let customer = draws.draw(30);
@@ -110,7 +116,8 @@ fn push_placed(
 }
 
 fn push_listed(draws: &mut Draws, statements: &mut Vec<Statement>) -> Result<(), AllocError>
-    ensures made { OnOk result (statements.new.items ≡ statements.old.items ++ (one_listed draws.old).made) }
+    ensures made { OnOk result (statements.new.items
+        ≡ statements.old.items ++ (one_listed draws.old).made) }
     ensures state { OnOk result (draws.new ≡ (one_listed draws.old).state) }
 {
     let query = QueryNo(draws.draw(4) as u16);
@@ -128,7 +135,8 @@ fn push_by(
 ) -> Result<(), AllocError>
     requires session { session < 1000 }
     requires place { place < 1000 }
-    ensures made { OnOk result (statements.new.items ≡ statements.old.items ++ (step_by session place choice draws.old).made) }
+    ensures made { OnOk result (statements.new.items
+        ≡ statements.old.items ++ (step_by session place choice draws.old).made) }
     ensures state { OnOk result (draws.new ≡ (step_by session place choice draws.old).state) }
 {
     match choice {
@@ -152,7 +160,8 @@ fn push_step(
 ) -> Result<(), AllocError>
     requires session { session < 1000 }
     requires place { place < 1000 }
-    ensures made { OnOk result (statements.new.items ≡ statements.old.items ++ (step session place draws.old).made) }
+    ensures made { OnOk result (statements.new.items
+        ≡ statements.old.items ++ (step session place draws.old).made) }
     ensures state { OnOk result (draws.new ≡ (step session place draws.old).state) }
 {
     let choice = draws.draw(10);
@@ -168,7 +177,8 @@ fn push_steps(
 ) -> Result<(), AllocError>
     requires session { session < 1000 }
     requires few { count < 1000 }
-    ensures made { OnOk result (statements.new.items ≡ statements.old.items ++ (many (step session) count draws.old).made) }
+    ensures made { OnOk result (statements.new.items
+        ≡ statements.old.items ++ (many (step session) count draws.old).made) }
     ensures state { OnOk result (draws.new ≡ (many (step session) count draws.old).state) }
 {
     for i in 0..count {
@@ -195,7 +205,8 @@ fn push_session(
     sessions: &mut Vec<SessionDef>,
 ) -> Result<(), AllocError>
     requires { number < 1000 }
-    ensures made { OnOk result (sessions.new.items ≡ sessions.old.items ++ (session number draws.old).made) }
+    ensures made { OnOk result (sessions.new.items
+        ≡ sessions.old.items ++ (session number draws.old).made) }
     ensures state { OnOk result (draws.new ≡ (session number draws.old).state) }
 {
     let name = numbered(alloc, b"s", number)?;
@@ -215,7 +226,8 @@ fn push_sessions(
     draws: &mut Draws,
     sessions: &mut Vec<SessionDef>,
 ) -> Result<(), AllocError>
-    ensures made { OnOk result (sessions.new.items ≡ sessions.old.items ++ (many session 40 draws.old).made) }
+    ensures made { OnOk result (sessions.new.items
+        ≡ sessions.old.items ++ (many session 40 draws.old).made) }
     ensures state { OnOk result (draws.new ≡ (many session 40 draws.old).state) }
 {
     for i in 0..40 {
@@ -246,7 +258,8 @@ fn push_run(draws: &mut Draws, orders: &mut Vec<Order>) -> Result<(), AllocError
 }
 
 fn push_runs(draws: &mut Draws, orders: &mut Vec<Order>) -> Result<(), AllocError>
-    ensures { OnOk result (orders.new.items ≡ orders.old.items ++ (many (λ k x. run x) 400 draws.old).made) }
+    ensures { OnOk result (orders.new.items
+        ≡ orders.old.items ++ (many (λ k x. run x) 400 draws.old).made) }
 {
     for _place in 0..400u32 {
         push_run(draws, orders)?;

@@ -100,7 +100,8 @@ fn parts_kind(
     strategy_word: &Token,
     capacity: &Token,
 ) -> Option<Kind>
-    ensures { result ≡ lines.parts_kind mapping.now followed name.now strategy_word.now capacity.now }
+    ensures { result ≡ lines.parts_kind mapping.now followed name.now strategy_word.now
+        capacity.now }
 {
     if mapping.len() >= MOST_ENTITIES {
         return Some(Kind::ManyEntities);
@@ -168,7 +169,8 @@ fn is_plain_default(kind: &Token, word: &Token, cell: &Token) -> bool
 }
 
 fn is_reference_default(kind: &Token, target: &Token, word: &Token, cell: &Token) -> bool
-    ensures { result ≡ lines.is_reference kind.now target.now && lines.is_default word.now cell.now }
+    ensures { result ≡ lines.is_reference kind.now target.now && lines.is_default word.now
+        cell.now }
 {
     is_reference(kind, target) && is_default(word, cell)
 }

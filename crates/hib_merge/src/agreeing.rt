@@ -18,7 +18,8 @@ fn torn_lists(
     mine: &[Journal],
     entries: &[Entry],
 ) -> Result<Option<(Option<Entry>, Option<Entry>)>, AllocError>
-    ensures { IfOk result (λ o. MatchOption o (AreSameBelow (length mine.now) mine.now entries.now) (λ t. IsSessionTorn mine.now entries.now t.0 t.1)) }
+    ensures { IfOk result (λ o. MatchOption o (AreSameBelow (length mine.now) mine.now entries.now)
+        (λ t. IsSessionTorn mine.now entries.now t.0 t.1)) }
 {
     let owns = own_lists(alloc, entries, mine.len())?;
     for s in 0..mine.len() {
@@ -43,7 +44,9 @@ fn is_known(count: usize, entry: &Entry) -> bool
 
 /// The first entry that is of none of the first sessions, or none.
 fn first_unknown(count: usize, entries: &[Entry]) -> Option<&Entry>
-    ensures { MatchOption result (list_all (Rattle.hib_merge.specs.Tearing.is_known count) entries.now ≡ true) (λ e. IsFirstUnknown count entries.now e.now) }
+    ensures { MatchOption result (list_all
+        (Rattle.hib_merge.specs.Tearing.is_known count) entries.now ≡ true)
+        (λ e. IsFirstUnknown count entries.now e.now) }
 {
     for entry in entries {
         if !is_known(count, entry) {
@@ -55,7 +58,8 @@ fn first_unknown(count: usize, entries: &[Entry]) -> Option<&Entry>
 
 /// Where the lists part, or the first entry with another tick.
 fn first_torn(alloc: Global, merged: &Journal, mine: &Lists) -> Result<Option<Torn>, AllocError>
-    ensures { IfOk result (λ o. MatchOption o (IsWhole mine.now merged.now) (IsTorn mine.now merged.now)) }
+    ensures { IfOk result (λ o. MatchOption o (IsWhole mine.now merged.now)
+        (IsTorn mine.now merged.now)) }
 {
     let _count = merged.len();
     let entries = merged.as_slice();
@@ -78,7 +82,8 @@ fn first_torn(alloc: Global, merged: &Journal, mine: &Lists) -> Result<Option<To
 /// entry of none of the sessions. If the lists don't part, it is the first entry with another tick.
 /// Fails for want of memory alone.
 pub fn agree(alloc: Global, merged: &Journal, mine: &Lists) -> Result<Option<Torn>, AllocError>
-    ensures torn { IfOk result (λ o. MatchOption o (IsWhole mine.now merged.now) (IsTorn mine.now merged.now)) }
+    ensures torn { IfOk result (λ o. MatchOption o (IsWhole mine.now merged.now)
+        (IsTorn mine.now merged.now)) }
     ensures exact { IfOk result (λ o. IsNone o ↔ IsWhole mine.now merged.now) }
 {
     first_torn(alloc, merged, mine)

@@ -34,7 +34,8 @@ fn is_same(entry: &Entry, other: &Entry) -> bool
 
 /// The first place at which two lists differ, or none if they are the same.
 pub fn difference(entries: &[Entry], others: &[Entry]) -> Option<usize>
-    ensures { MatchOption result (entries.now ≡ others.now) (λ place. PartAt entries.now others.now place) }
+    ensures { MatchOption result (entries.now ≡ others.now)
+        (λ place. PartAt entries.now others.now place) }
 {
     for (place, entry) in entries.iter().enumerate() {
         if place >= others.len() {

@@ -40,7 +40,8 @@ impl LastTicks {
 
     /// Another tick of a number.
     pub fn set(&mut self, number: u32, tick: Tick) -> Result<(), AllocError>
-        ensures { OnOk result ((n : ℕ) → tick_in self.new n ≡ cond (n == number) tick (tick_in self.old n)) }
+        ensures { OnOk result ((n : ℕ)
+            → tick_in self.new n ≡ cond (n == number) tick (tick_in self.old n)) }
     {
         self.ticks.insert(number, tick)?;
         Ok(())

@@ -27,7 +27,9 @@ fn place_at(
     entry: &Entry,
 ) -> Result<(), AllocError>
     ensures all { OnOk result (length lists.new.items ≡ length lists.old.items) }
-    ensures placed { OnOk result ((s : ℕ) → s < length lists.old.items → list_at s lists.new.items ≡ list_at s lists.old.items ++ cond (at == s) (entry.now ∷ []) []) }
+    ensures placed { OnOk result ((s : ℕ) → s < length lists.old.items
+        → list_at s lists.new.items ≡ list_at s lists.old.items ++ cond (at == s)
+        (entry.now ∷ []) []) }
 {
     if at >= lists.len() {
         return Ok(());
@@ -38,7 +40,9 @@ fn place_at(
 /// Adds an equal entry to the list of its session, if there is one.
 fn place(alloc: Global, lists: &mut Vec<Journal>, entry: &Entry) -> Result<(), AllocError>
     ensures all { OnOk result (length lists.new.items ≡ length lists.old.items) }
-    ensures placed { OnOk result ((s : ℕ) → s < length lists.old.items → list_at s lists.new.items ≡ list_at s lists.old.items ++ cond (is_by s entry.now) (entry.now ∷ []) []) }
+    ensures placed { OnOk result ((s : ℕ) → s < length lists.old.items
+        → list_at s lists.new.items ≡ list_at s lists.old.items ++ cond (is_by s entry.now)
+        (entry.now ∷ []) []) }
 {
     match entry.session {
         Some(session) => place_at(alloc, lists, session.0 as usize, entry),

@@ -84,7 +84,8 @@ impl Ticks {
     fn due(&self, entry: &Entry) -> Tick
         requires part { part_last self.now entry.now.part < 2 ^ 62 }
         requires session { session_last self.now entry.now.session < 2 ^ 62 }
-        ensures { result ≡ due (part_last self.now entry.now.part) (session_last self.now entry.now.session) }
+        ensures { result ≡ due (part_last self.now entry.now.part)
+            (session_last self.now entry.now.session) }
     {
         match next(self.of_part(entry.part), self.of_session(entry.session)) {
             Some(tick) => tick,
@@ -94,7 +95,8 @@ impl Ticks {
     }
 
     fn note_part(&mut self, part: Part, tick: Tick) -> Result<(), AllocError>
-        ensures parts { OnOk result ((p : AnyPart) → part_last self.new p ≡ cond (same_part p part) tick (part_last self.old p)) }
+        ensures parts { OnOk result ((p : AnyPart)
+            → part_last self.new p ≡ cond (same_part p part) tick (part_last self.old p)) }
         ensures sessions { self.new.sessions ≡ self.old.sessions }
     {
         match part {
@@ -110,7 +112,10 @@ impl Ticks {
 
     fn note_session(&mut self, session: Option<SessionNo>, tick: Tick) -> Result<(), AllocError>
         ensures parts { (p : AnyPart) → part_last self.new p ≡ part_last self.old p }
-        ensures sessions { OnOk result ((s : Option ℕ) → session_last self.new s ≡ cond (Rattle.hib_journal.specs.Sessions.same_session s session) tick (session_last self.old s)) }
+        ensures sessions { OnOk result ((s : Option ℕ)
+            → session_last self.new s ≡ cond
+            (Rattle.hib_journal.specs.Sessions.same_session s session) tick
+            (session_last self.old s)) }
     {
         match session {
             Some(number) => self.sessions.set(number.0, tick),
@@ -120,7 +125,8 @@ impl Ticks {
 
     /// Takes the tick of an entry.
     fn note(&mut self, entry: &Entry) -> Result<(), AllocError>
-        ensures { OnOk result ((h : Journal) → AreLast self.old h → AreLast self.new (entry.now ∷ h)) }
+        ensures { OnOk result ((h : Journal) → AreLast self.old h
+            → AreLast self.new (entry.now ∷ h)) }
     {
         self.note_part(entry.part, entry.tick)?;
         self.note_session(entry.session, entry.tick)
@@ -130,7 +136,8 @@ impl Ticks {
 /// The first entry whose tick isn't the one that is due, with that one; or none if each is.
 pub fn torn_tick(alloc: Global, entries: &[Entry]) -> Result<Option<Torn>, AllocError>
     requires { length entries.now ≤ 2 ^ 62 }
-    ensures { IfOk result (λ o. MatchOption o (AreDue (reverse entries.now)) (IsTickTorn entries.now)) }
+    ensures { IfOk result (λ o. MatchOption o (AreDue (reverse entries.now))
+        (IsTickTorn entries.now)) }
 {
     let mut ticks = Ticks::new(alloc);
     for entry in entries {

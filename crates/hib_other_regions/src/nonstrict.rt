@@ -48,7 +48,8 @@ impl NonstrictRegion {
     /// Stores a loaded row with the stamp `now`, unless there is one. The oldest item leaves a full region. At an
     /// error nothing has changed.
     pub fn put(&mut self, id: u64, row: Row, now: Tick) -> Result<Put, AllocError>
-        ensures answer { IfOk result (λ put. put ≡ put_item (oldest_in self.old) (item_in self.old id)) }
+        ensures answer { IfOk result (λ put. put
+            ≡ put_item (oldest_in self.old) (item_in self.old id)) }
         ensures state { OnOk result (self.new ≡ after_put id row now self.old) }
         ensures err { OnErr result (self.new ≡ self.old) }
     {
@@ -66,7 +67,8 @@ impl NonstrictRegion {
 
     /// Removes an identifier, and answers whether it was there. It takes no memory.
     pub fn remove(&mut self, id: u64) -> bool
-        ensures answer { removed_reply result ≡ cond (is_some (item_in self.old id)) Reply.Dropped Reply.Absent }
+        ensures answer { removed_reply result
+            ≡ cond (is_some (item_in self.old id)) Reply.Dropped Reply.Absent }
         ensures state { self.new ≡ after_remove id self.old }
     {
         self.items.remove(id)

@@ -37,7 +37,8 @@ impl<R: Read> Source for StdSource<R> {
         ensures bound { ReadsAtMost result buf.new }
         ensures bytes { ReadConsumes None None result buf.new }
         ensures cause { HasCause self.old.faults self.new.faults result }
-        ensures count { self.new.faults ≡ cond (is_err result) (one_more self.old.faults) self.old.faults }
+        ensures count { self.new.faults
+            ≡ cond (is_err result) (one_more self.old.faults) self.old.faults }
     {
         match self.inner.read(buf) {
             Ok(count) => Ok(count),
@@ -79,7 +80,8 @@ impl<W: Write> Sink for StdSink<W> {
         ensures some { 0 < length bytes.now → IfOk result (λ n. 0 < n) }
         ensures bytes { WriteAppends None None result bytes.now }
         ensures cause { HasCause self.old.faults self.new.faults result }
-        ensures count { self.new.faults ≡ cond (is_err result) (one_more self.old.faults) self.old.faults }
+        ensures count { self.new.faults
+            ≡ cond (is_err result) (one_more self.old.faults) self.old.faults }
     {
         match self.inner.write(bytes) {
             Ok(count) if count > 0 || bytes.is_empty() => Ok(count),

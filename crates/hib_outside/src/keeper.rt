@@ -79,7 +79,8 @@ pub trait Keeper: Send {
         mapping: &Mapping,
         rows: &[(Key, Row)],
     ) -> Result<(), KeepFault>
-        ensures tables { tables self.new ≡ tables_seeded result mapping.now rows.now (tables self.old) }
+        ensures tables { tables self.new
+            ≡ tables_seeded result mapping.now rows.now (tables self.old) }
         ensures asked { asked self.new ≡ asked self.old }
         ensures cause { FailsByCause (faults self.old) (faults self.new) result };
 
@@ -92,14 +93,16 @@ pub trait Keeper: Send {
 
     /// All rows of these entities, in order of keys.
     fn list(&mut self, alloc: Global, entities: &[EntityNo]) -> Result<Rows, KeepFault>
-        ensures rows { IfOk result (λ rows. IfSome (tables self.old) (λ m. rows ≡ rows_of entities.now m)) }
+        ensures rows { IfOk result (λ rows. IfSome (tables self.old)
+            (λ m. rows ≡ rows_of entities.now m)) }
         ensures same { tables self.new ≡ tables self.old }
         ensures asked { (asked self.old ≤ asked self.new) × (asked self.new ≤ asked self.old + 1) }
         ensures cause { FailsByCause (faults self.old) (faults self.new) result };
 
     /// Applies changes in order: all of them if it answers Done, else none.
     fn apply(&mut self, alloc: Global, batch: &[Change]) -> Result<Applied, KeepFault>
-        ensures verdict { IfOk result (λ a. IfSome (tables self.old) (λ m. a ≡ verdict m batch.now 0)) }
+        ensures verdict { IfOk result (λ a. IfSome (tables self.old)
+            (λ m. a ≡ verdict m batch.now 0)) }
         ensures place { IfOk result (λ a. IsPlace a (length batch.now)) }
         ensures tables { tables self.new ≡ tables_after result batch.now (tables self.old) }
         ensures asked { asked self.new ≡ asked self.old }

@@ -63,10 +63,13 @@ impl Keeper for MemKeeper {
         mapping: &Mapping,
         rows: &[(Key, Row)],
     ) -> Result<(), KeepFault>
-        ensures tables { Some self.new.rows.items ≡ tables_seeded result mapping.now rows.now (Some self.old.rows.items) }
+        ensures tables { Some self.new.rows.items
+            ≡ tables_seeded result mapping.now rows.now (Some self.old.rows.items) }
         ensures asked { self.new.asked ≡ self.old.asked }
-        ensures cause { FailsByCause (failed_calls self.old.failing.fail self.old.failing.calls) (failed_calls self.new.failing.fail self.new.failing.calls) result }
-        ensures fails { (result ≡ Err KeepFault.Failed) ↔ (is_due self.old.failing.fail self.old.failing.calls ≡ true) }
+        ensures cause { FailsByCause (failed_calls self.old.failing.fail self.old.failing.calls)
+            (failed_calls self.new.failing.fail self.new.failing.calls) result }
+        ensures fails { (result ≡ Err KeepFault.Failed)
+            ↔ (is_due self.old.failing.fail self.old.failing.calls ≡ true) }
         ensures calls { self.new.failing.calls ≡ next_call self.old.failing.calls }
         ensures fail { self.new.failing.fail ≡ self.old.failing.fail }
     {
@@ -85,9 +88,13 @@ impl Keeper for MemKeeper {
         ensures row { IfOk result (λ row. row ≡ row_at self.old.rows.items key) }
         ensures same { self.new.rows.items ≡ self.old.rows.items }
         ensures asked { (self.old.asked ≤ self.new.asked) × (self.new.asked ≤ self.old.asked + 1) }
-        ensures counted { self.new.asked ≡ cond (is_due self.old.failing.fail self.old.failing.calls) self.old.asked (one_more self.old.asked) }
-        ensures cause { FailsByCause (failed_calls self.old.failing.fail self.old.failing.calls) (failed_calls self.new.failing.fail self.new.failing.calls) result }
-        ensures fails { (result ≡ Err KeepFault.Failed) ↔ (is_due self.old.failing.fail self.old.failing.calls ≡ true) }
+        ensures counted { self.new.asked
+            ≡ cond (is_due self.old.failing.fail self.old.failing.calls) self.old.asked
+            (one_more self.old.asked) }
+        ensures cause { FailsByCause (failed_calls self.old.failing.fail self.old.failing.calls)
+            (failed_calls self.new.failing.fail self.new.failing.calls) result }
+        ensures fails { (result ≡ Err KeepFault.Failed)
+            ↔ (is_due self.old.failing.fail self.old.failing.calls ≡ true) }
         ensures calls { self.new.failing.calls ≡ next_call self.old.failing.calls }
         ensures fail { self.new.failing.fail ≡ self.old.failing.fail }
     {
@@ -105,9 +112,13 @@ impl Keeper for MemKeeper {
         ensures rows { IfOk result (λ rows. rows ≡ rows_of entities.now self.old.rows.items) }
         ensures same { self.new.rows.items ≡ self.old.rows.items }
         ensures asked { (self.old.asked ≤ self.new.asked) × (self.new.asked ≤ self.old.asked + 1) }
-        ensures counted { self.new.asked ≡ cond (is_due self.old.failing.fail self.old.failing.calls) self.old.asked (one_more self.old.asked) }
-        ensures cause { FailsByCause (failed_calls self.old.failing.fail self.old.failing.calls) (failed_calls self.new.failing.fail self.new.failing.calls) result }
-        ensures fails { (result ≡ Err KeepFault.Failed) ↔ (is_due self.old.failing.fail self.old.failing.calls ≡ true) }
+        ensures counted { self.new.asked
+            ≡ cond (is_due self.old.failing.fail self.old.failing.calls) self.old.asked
+            (one_more self.old.asked) }
+        ensures cause { FailsByCause (failed_calls self.old.failing.fail self.old.failing.calls)
+            (failed_calls self.new.failing.fail self.new.failing.calls) result }
+        ensures fails { (result ≡ Err KeepFault.Failed)
+            ↔ (is_due self.old.failing.fail self.old.failing.calls ≡ true) }
         ensures calls { self.new.failing.calls ≡ next_call self.old.failing.calls }
         ensures fail { self.new.failing.fail ≡ self.old.failing.fail }
     {
@@ -123,10 +134,13 @@ impl Keeper for MemKeeper {
     fn apply(&mut self, alloc: Global, batch: &[Change]) -> Result<Applied, KeepFault>
         ensures verdict { IfOk result (λ a. a ≡ verdict self.old.rows.items batch.now 0) }
         ensures place { IfOk result (λ a. IsPlace a (length batch.now)) }
-        ensures tables { Some self.new.rows.items ≡ tables_after result batch.now (Some self.old.rows.items) }
+        ensures tables { Some self.new.rows.items
+            ≡ tables_after result batch.now (Some self.old.rows.items) }
         ensures asked { self.new.asked ≡ self.old.asked }
-        ensures cause { FailsByCause (failed_calls self.old.failing.fail self.old.failing.calls) (failed_calls self.new.failing.fail self.new.failing.calls) result }
-        ensures fails { (result ≡ Err KeepFault.Failed) ↔ (is_due self.old.failing.fail self.old.failing.calls ≡ true) }
+        ensures cause { FailsByCause (failed_calls self.old.failing.fail self.old.failing.calls)
+            (failed_calls self.new.failing.fail self.new.failing.calls) result }
+        ensures fails { (result ≡ Err KeepFault.Failed)
+            ↔ (is_due self.old.failing.fail self.old.failing.calls ≡ true) }
         ensures calls { self.new.failing.calls ≡ next_call self.old.failing.calls }
         ensures fail { self.new.failing.fail ≡ self.old.failing.fail }
     {

@@ -45,10 +45,14 @@ impl Source for MemSource {
     /// Fills the buffer as far as there are bytes left. It fails exactly at the calls that are to fail.
     fn read(&mut self, buf: &mut [u8]) -> Result<usize, Failed>
         ensures bound { ReadsAtMost result buf.new }
-        ensures bytes { ReadConsumes (Some (drop self.old.at self.old.bytes)) (Some (drop self.new.at self.new.bytes)) result buf.new }
-        ensures cause { HasCause (failed_calls self.old.failing.fail self.old.failing.calls) (failed_calls self.new.failing.fail self.new.failing.calls) result }
-        ensures fails { IsErr result ↔ (is_due self.old.failing.fail self.old.failing.calls ≡ true) }
-        ensures count { IfOk result (λ n. n ≡ min (length buf.old) (length (drop self.old.at self.old.bytes))) }
+        ensures bytes { ReadConsumes (Some (drop self.old.at self.old.bytes))
+            (Some (drop self.new.at self.new.bytes)) result buf.new }
+        ensures cause { HasCause (failed_calls self.old.failing.fail self.old.failing.calls)
+            (failed_calls self.new.failing.fail self.new.failing.calls) result }
+        ensures fails { IsErr result ↔ (is_due self.old.failing.fail self.old.failing.calls
+            ≡ true) }
+        ensures count { IfOk result (λ n. n
+            ≡ min (length buf.old) (length (drop self.old.at self.old.bytes))) }
         ensures calls { self.new.failing.calls ≡ next_call self.old.failing.calls }
         ensures fail { self.new.failing.fail ≡ self.old.failing.fail }
     {
@@ -112,13 +116,16 @@ impl Sink for MemSink {
     fn write(&mut self, bytes: &[u8]) -> Result<usize, Failed>
         ensures bound { WritesAtMost result bytes.now }
         ensures some { 0 < length bytes.now → IfOk result (λ n. 0 < n) }
-        ensures bytes { WriteAppends (Some self.old.bytes.items) (Some self.new.bytes.items) result bytes.now }
+        ensures bytes { WriteAppends (Some self.old.bytes.items)
+            (Some self.new.bytes.items) result bytes.now }
         ensures cause { HasCause self.old.failures self.new.failures result }
-        ensures fails { IsErr result ↔ ((is_due self.old.failing.fail self.old.failing.calls ≡ true) ⊎ ((0 < length bytes.now) × (self.old.room ≡ 0))) }
+        ensures fails { IsErr result ↔ ((is_due self.old.failing.fail self.old.failing.calls ≡ true)
+            ⊎ ((0 < length bytes.now) × (self.old.room ≡ 0))) }
         ensures count { IfOk result (λ n. n ≡ min (length bytes.now) self.old.room) }
         ensures room { IfOk result (λ n. self.new.room + n ≡ self.old.room) }
         ensures full { OnErr result (self.new.room ≡ self.old.room) }
-        ensures failures { self.new.failures ≡ cond (is_err result) (one_more self.old.failures) self.old.failures }
+        ensures failures { self.new.failures
+            ≡ cond (is_err result) (one_more self.old.failures) self.old.failures }
         ensures calls { self.new.failing.calls ≡ next_call self.old.failing.calls }
         ensures fail { self.new.failing.fail ≡ self.old.failing.fail }
     {

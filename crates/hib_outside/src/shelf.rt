@@ -31,7 +31,8 @@ fn last_change<'a>(
     lasts: &IndexMap<Key, usize>,
     key: &Key,
 ) -> Option<&'a Change>
-    ensures { option_copied result ≡ change_at batch.now (lookup (same_key key.now) lasts.now.entries) }
+    ensures { option_copied result
+        ≡ change_at batch.now (lookup (same_key key.now) lasts.now.entries) }
 {
     batch.get(*lasts.get(key)?)
 }
@@ -53,7 +54,8 @@ fn row_after<'a>(
     key: &Key,
 ) -> Option<&'a Row>
     requires { in_order rows.now ≡ true }
-    ensures { (n : ℕ) → HasLasts batch.now n lasts.now.entries → option_copied result ≡ row_at (after_changes (take n batch.now) rows.now) key.now }
+    ensures { (n : ℕ) → HasLasts batch.now n lasts.now.entries
+        → option_copied result ≡ row_at (after_changes (take n batch.now) rows.now) key.now }
 {
     match last_change(batch, lasts, key) {
         Some(change) => row_left_by(change),
@@ -82,7 +84,8 @@ fn refused(at: usize, change: &Change, found: Option<&Row>) -> Option<Applied>
 
 /// The answer to a change that expects another version than the row has.
 fn unless_expected(at: usize, expected: Option<u32>, found: Option<u32>) -> Option<Applied>
-    ensures value { result ≡ cond (same_version expected found) None (Some (Applied.Stale at found true)) }
+    ensures value { result ≡ cond (same_version expected found) None
+        (Some (Applied.Stale at found true)) }
     ensures place { (n : ℕ) → at < n → IfSome result (λ a. IsPlace a n) }
 {
     match (expected, found) {
@@ -230,7 +233,8 @@ pub fn change_all(rows: &mut Vec<(Key, Row)>, changes: Vec<Change>)
 fn add_one(rows: &mut Vec<(Key, Row)>, key: Key, row: Row)
     requires ordered { in_order rows.old.items ≡ true }
     requires room { vec_len rows.old < vec_capacity rows.old }
-    ensures rows { rows.new.items ≡ unless_there rows.old.items key row (row_at rows.old.items key) }
+    ensures rows { rows.new.items ≡ unless_there rows.old.items key row
+        (row_at rows.old.items key) }
     ensures len { vec_len rows.new ≤ vec_len rows.old + 1 }
     ensures capacity { vec_capacity rows.new ≡ vec_capacity rows.old }
 {

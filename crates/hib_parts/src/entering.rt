@@ -55,10 +55,13 @@ pub fn enter_both<N: Name>(
     requires own_room { 0 < worker.old.spare }
     requires acts { acts.1 ≡ acts.0 }
     requires replies { replies.1 ≡ replies.0 }
-    requires due { IsDueEntry N.script worker.old.number worker.old.list (entry_at now (Some worker.old.number) acts.0 replies.0) }
+    requires due { IsDueEntry N.script worker.old.number worker.old.list
+        (entry_at now (Some worker.old.number) acts.0 replies.0) }
     ensures number { worker.new.number ≡ worker.old.number }
-    ensures mine { OnOk result (worker.new.list ≡ entry_at now (Some worker.old.number) acts.0 replies.0 ∷ worker.old.list) }
-    ensures list { OnOk result (past list.new ≡ entry_at now (Some worker.old.number) acts.0 replies.0 ∷ past list.old) }
+    ensures mine { OnOk result (worker.new.list
+        ≡ entry_at now (Some worker.old.number) acts.0 replies.0 ∷ worker.old.list) }
+    ensures list { OnOk result (past list.new
+        ≡ entry_at now (Some worker.old.number) acts.0 replies.0 ∷ past list.old) }
     ensures less { OnOk result (worker.new.left < worker.old.left) }
     ensures kept { OnErr result (IsKept worker.old worker.new) }
     ensures same { OnErr result (past list.new ≡ past list.old) }
@@ -87,14 +90,18 @@ pub fn enter_answer<N: Name>(
     requires room { 0 < list.old.spare }
     requires own_room { 0 < worker.old.spare }
     requires acts { acts.1 ≡ acts.0 }
-    requires due { IsDueEntry N.script worker.old.number worker.old.list (entry_at now (Some worker.old.number) acts.0 reply) }
+    requires due { IsDueEntry N.script worker.old.number worker.old.list
+        (entry_at now (Some worker.old.number) acts.0 reply) }
     ensures number { worker.new.number ≡ worker.old.number }
-    ensures mine { OnOk result (worker.new.list ≡ entry_at now (Some worker.old.number) acts.0 reply ∷ worker.old.list) }
-    ensures list { OnOk result (past list.new ≡ entry_at now (Some worker.old.number) acts.0 reply ∷ past list.old) }
+    ensures mine { OnOk result (worker.new.list
+        ≡ entry_at now (Some worker.old.number) acts.0 reply ∷ worker.old.list) }
+    ensures list { OnOk result (past list.new
+        ≡ entry_at now (Some worker.old.number) acts.0 reply ∷ past list.old) }
     ensures less { OnOk result (worker.new.left < worker.old.left) }
     ensures kept { OnErr result (IsKept worker.old worker.new) }
     ensures same { OnErr result (past list.new ≡ past list.old) }
-    ensures brings { worker.old.ready ≡ true → is_small reply ≡ true → brings acts.0 ≡ false → IsOk result }
+    ensures brings { worker.old.ready ≡ true → is_small reply ≡ true → brings acts.0 ≡ false
+        → IsOk result }
 {
     let twin = copied(alloc, &reply)?;
     enter_both(alloc, script, worker, list, acts, (reply, twin), now)

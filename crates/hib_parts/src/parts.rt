@@ -45,7 +45,9 @@ fn built(script: &Script)
 fn open_regions<N: Name>(alloc: Global, script: &Script) -> Result<Vec<RegionPart<N>>, AllocError>
     requires script { script.now ≡ N.script }
     requires built { IsBuilt N.script }
-    ensures entities { IfOk result (λ v. map (λ r. r.entity) v.items ≡ filter (λ n. is_cached script.now n) (range_with_len 0 (length script.now.mapping))) }
+    ensures entities { IfOk result
+        (λ v. map (λ r. r.entity) v.items
+        ≡ filter (λ n. is_cached script.now n) (range_with_len 0 (length script.now.mapping))) }
     ensures empty { IfOk result (λ v. All (λ r. r.list ≡ []) v.items) }
 {
     let mut regions = Vec::new(alloc);
@@ -64,18 +66,25 @@ impl<K: Keeper, N: Name> Parts<K, N> {
     pub fn open(alloc: Global, script: &Script, keeper: K) -> Result<Parts<K, N>, OpenFault<K>>
         requires script { script.now ≡ N.script }
         requires valid { is_valid N.script ≡ true }
-        requires from { record { tables = told_start N.script (K.tables keeper); faults = K.faults keeper; asked = K.asked keeper } ≡ N.from }
+        requires from { record {
+          tables = told_start N.script (K.tables keeper);
+          faults = K.faults keeper;
+          asked = K.asked keeper;
+        } ≡ N.from }
         ensures registry { IfOk result (λ p. p.registry ≡ []) }
         ensures store { IfOk result (λ p. p.store.list ≡ []) }
         ensures going { IfOk result (λ p. p.store.refused ≡ false) }
         ensures stamps { IfOk result (λ p. p.stamps ≡ []) }
         ensures results { IfOk result (λ p. p.results ≡ []) }
-        ensures entities { IfOk result (λ p. map (λ r. r.entity) p.regions.items ≡ filter (λ n. is_cached N.script n) (range_with_len 0 (length N.script.mapping))) }
+        ensures entities { IfOk result
+            (λ p. map (λ r. r.entity) p.regions.items
+            ≡ filter (λ n. is_cached N.script n) (range_with_len 0 (length N.script.mapping))) }
         ensures regions { IfOk result (λ p. All (λ r. r.list ≡ []) p.regions.items) }
         ensures back { IfErr result (λ e. K.tables (handed_back e) ≡ K.tables keeper) }
         ensures back_faults { IfErr result (λ e. K.faults keeper ≤ K.faults (handed_back e)) }
         ensures back_asked { IfErr result (λ e. K.asked (handed_back e) ≡ K.asked keeper) }
-        ensures fault { IfErr result (λ e. is_store_fault e ≡ true → Rose (K.faults keeper) (K.faults (handed_back e))) }
+        ensures fault { IfErr result (λ e. is_store_fault e ≡ true
+            → Rose (K.faults keeper) (K.faults (handed_back e))) }
     {
         built(script);
         let Ok(regions) = open_regions::<N>(alloc, script) else {

@@ -36,7 +36,9 @@ impl<N: Name> Model for RegionPart<N> {
 
     ghost view = { λ p. record { entity = p.entity; list = past p.list } };
 
-    ghost invariant = { λ p. IsBuilt N.script × IsPartList N.script N.from.tables (Part.Region p.entity) (past p.list) p.last × IsPlaced N.script p.entity (past p.list) p.region };
+    ghost invariant = { λ p. IsBuilt N.script
+        × IsPartList N.script N.from.tables (Part.Region p.entity) (past p.list) p.last
+        × IsPlaced N.script p.entity (past p.list) p.region };
 }
 
 impl<N: Name> RegionPart<N> {
@@ -96,7 +98,8 @@ impl<N: Name> RegionPart<N> {
         requires later { IsLater now self.old.list worker.old.list }
         ensures entity { self.new.entity ≡ self.old.entity }
         ensures number { worker.new.number ≡ worker.old.number }
-        ensures entered { OnOk result (IsEntered now self.old.list self.new.list worker.old worker.new) }
+        ensures entered { OnOk result (IsEntered now self.old.list self.new.list worker.old
+            worker.new) }
         ensures kept { OnErr result (IsKept worker.old worker.new) }
         ensures same { OnErr result (self.new ≡ self.old) }
     {

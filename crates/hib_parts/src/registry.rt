@@ -38,7 +38,9 @@ impl<N: Name> Model for RegistryPart<N> {
 
     ghost view = { λ p. past p.list };
 
-    ghost invariant = { λ p. IsBuilt N.script × IsPartList N.script N.from.tables Part.Registry (past p.list) p.last × IsRegistry p.registry (past p.list) };
+    ghost invariant = { λ p. IsBuilt N.script
+        × IsPartList N.script N.from.tables Part.Registry (past p.list) p.last
+        × IsRegistry p.registry (past p.list) };
 }
 
 impl<N: Name> RegistryPart<N> {

@@ -45,12 +45,15 @@ impl<N: Name> Model for ResultsPart<N> {
 
     ghost view = { λ p. past p.list };
 
-    ghost invariant = { λ p. IsBuilt N.script × IsPartList N.script N.from.tables Part.Results (past p.list) p.last × AreResults N.script (past p.list) p.results };
+    ghost invariant = { λ p. IsBuilt N.script
+        × IsPartList N.script N.from.tables Part.Results (past p.list) p.last
+        × AreResults N.script (past p.list) p.results };
 }
 
 /// What a look is answered.
 fn found_reply(alloc: Global, results: &Results, query: QueryNo) -> Result<Reply, AllocError>
-    ensures { IfOk result (λ r. r ≡ option_map_or (λ k. Reply.Found k.0 k.1) (result_of query results.now.kept) Reply.Absent) }
+    ensures { IfOk result (λ r. r ≡ option_map_or (λ k. Reply.Found k.0 k.1)
+        (result_of query results.now.kept) Reply.Absent) }
 {
     match results.peek(query) {
         Some((time, list)) => Ok(Reply::Found {
@@ -74,9 +77,12 @@ fn look_twice(
     results: &mut Results,
     query: QueryNo,
 ) -> Result<(Reply, Reply), AllocError>
-    ensures reply { IfOk result (λ r. r.0 ≡ option_map_or (λ k. Reply.Found k.0 k.1) (result_of query results.old.kept) Reply.Absent) }
+    ensures reply { IfOk result (λ r. r.0
+        ≡ option_map_or (λ k. Reply.Found k.0 k.1)
+        (result_of query results.old.kept) Reply.Absent) }
     ensures twin { IfOk result (λ r. r.1 ≡ r.0) }
-    ensures state { OnOk result (results.new ≡ record results.old { kept = used query results.old.kept }) }
+    ensures state { OnOk result (results.new
+        ≡ record results.old { kept = used query results.old.kept }) }
     ensures err { OnErr result (results.new ≡ results.old) }
 {
     let reply = found_reply(alloc, results, query)?;
@@ -102,7 +108,8 @@ fn keep_twice(
 ) -> Result<(Reply, Reply), AllocError>
     ensures reply { IfOk result (λ r. r.0 ≡ Reply.Kept (dropped_for query results.old)) }
     ensures twin { IfOk result (λ r. r.1 ≡ r.0) }
-    ensures state { OnOk result (results.new ≡ record results.old { kept = with_result query (time, list.now) results.old }) }
+    ensures state { OnOk result (results.new
+        ≡ record results.old { kept = with_result query (time, list.now) results.old }) }
     ensures err { OnErr result (results.new ≡ results.old) }
 {
     let list = copy_cells(alloc, list)?;
@@ -116,8 +123,10 @@ fn answer_twice(
     results: &mut Results,
     act: &Act,
 ) -> Result<(Reply, Reply), AllocError>
-    ensures answered { IfOk result (λ r. (script : Said) (l : Entries) (by : Option ℕ) (now : ℕ) → AreResults script l results.old → is_for Part.Results act.now (unwrap_or by 0) ≡ true
-        → HasQuery script act.now → IsServed (λ m. AreResults script m results.new) script l by now act.now r.0) }
+    ensures answered { IfOk result (λ r. (script : Said) (l : Entries) (by : Option ℕ) (now : ℕ)
+        → AreResults script l results.old → is_for Part.Results act.now (unwrap_or by 0) ≡ true
+        → HasQuery script act.now → IsServed
+        (λ m. AreResults script m results.new) script l by now act.now r.0) }
     ensures twin { IfOk result (λ r. r.1 ≡ r.0) }
     ensures err { OnErr result (results.new ≡ results.old) }
 {

@@ -36,7 +36,9 @@ impl<N: Name> Model for StampsPart<N> {
 
     ghost view = { λ p. past p.list };
 
-    ghost invariant = { λ p. IsBuilt N.script × IsPartList N.script N.from.tables Part.Stamps (past p.list) p.last × AreStamps N.script (past p.list) p.stamps };
+    ghost invariant = { λ p. IsBuilt N.script
+        × IsPartList N.script N.from.tables Part.Stamps (past p.list) p.last
+        × AreStamps N.script (past p.list) p.stamps };
 }
 
 impl<N: Name> StampsPart<N> {

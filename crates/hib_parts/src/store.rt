@@ -45,9 +45,17 @@ impl<K: Keeper, N: Name> Model for StorePart<K, N> {
 
     ghost Value = { StoredState };
 
-    ghost view = { λ p. record { list = past p.list; refused = p.refused; tables = p.store.tables; faults = p.store.faults; asked = p.store.asked } };
+    ghost view = { λ p. record {
+      list = past p.list;
+      refused = p.refused;
+      tables = p.store.tables;
+      faults = p.store.faults;
+      asked = p.store.asked;
+    } };
 
-    ghost invariant = { λ p. IsBuilt N.script × IsPartList N.script N.from.tables Part.Store (past p.list) p.last × IsKeeping N.from (past p.list) p.store p.refused };
+    ghost invariant = { λ p. IsBuilt N.script
+        × IsPartList N.script N.from.tables Part.Store (past p.list) p.last
+        × IsKeeping N.from (past p.list) p.store p.refused };
 }
 
 /// One act of a session on the store: its entry goes to both lists, or where memory runs out to neither.
@@ -65,7 +73,8 @@ fn serve_store<K: Keeper, N: Name>(
     requires later { IsLater now (past list.old) worker.old.list }
     requires stands { IsStored N.from.tables (past list.old) store.old }
     ensures number { worker.new.number ≡ worker.old.number }
-    ensures entered { OnOk result (IsStoreEntered N.script N.from.tables now (past list.old) (past list.new) store.old store.new worker.old worker.new) }
+    ensures entered { OnOk result (IsStoreEntered N.script N.from.tables now (past list.old)
+        (past list.new) store.old store.new worker.old worker.new) }
     ensures kept { OnErr result (IsKept worker.old worker.new) }
     ensures same { OnErr result (past list.new ≡ past list.old) }
     ensures counted { OnErr result (IsCounted store.old store.new) }
@@ -83,13 +92,18 @@ impl<K: Keeper, N: Name> StorePart<K, N> {
     pub fn open(alloc: Global, script: &Script, keeper: K) -> Result<StorePart<K, N>, OpenFault<K>>
         requires script { script.now ≡ N.script }
         requires built { IsBuilt N.script }
-        requires from { record { tables = told_start N.script (K.tables keeper); faults = K.faults keeper; asked = K.asked keeper } ≡ N.from }
+        requires from { record {
+          tables = told_start N.script (K.tables keeper);
+          faults = K.faults keeper;
+          asked = K.asked keeper;
+        } ≡ N.from }
         ensures list { IfOk result (λ p. p.list ≡ []) }
         ensures going { IfOk result (λ p. p.refused ≡ false) }
         ensures back { IfErr result (λ e. K.tables (handed_back e) ≡ K.tables keeper) }
         ensures back_faults { IfErr result (λ e. K.faults keeper ≤ K.faults (handed_back e)) }
         ensures back_asked { IfErr result (λ e. K.asked (handed_back e) ≡ K.asked keeper) }
-        ensures fault { IfErr result (λ e. is_store_fault e ≡ true → Rose (K.faults keeper) (K.faults (handed_back e))) }
+        ensures fault { IfErr result (λ e. is_store_fault e ≡ true
+            → Rose (K.faults keeper) (K.faults (handed_back e))) }
     {
         let entities = script.mapping.len() as u16;
         let store = StoreEngine::open(
@@ -145,7 +159,8 @@ impl<K: Keeper, N: Name> StorePart<K, N> {
         requires due { IsDueOn N.script Part.Store worker.old }
         requires later { IsLater now self.old.list worker.old.list }
         ensures number { worker.new.number ≡ worker.old.number }
-        ensures entered { OnOk result (IsEntered now self.old.list self.new.list worker.old worker.new) }
+        ensures entered { OnOk result (IsEntered now self.old.list self.new.list worker.old
+            worker.new) }
         ensures going { OnOk result (self.new.refused ≡ self.old.refused) }
         ensures kept { OnErr result (IsKept worker.old worker.new) }
         ensures same { OnErr result (self.new.list ≡ self.old.list) }
@@ -170,9 +185,11 @@ impl<K: Keeper, N: Name> StorePart<K, N> {
         ensures list { past result.1 ≡ self.list }
         ensures legal { IsPartLegal N.script N.from.tables (past result.1) }
         ensures part { AreOf Part.Store (past result.1) }
-        ensures rows { K.tables result.0 ≡ option_map (λ start. stored start (past result.1)) N.from.tables }
+        ensures rows { K.tables result.0
+            ≡ option_map (λ start. stored start (past result.1)) N.from.tables }
         ensures faults { RoseBy N.from.faults (fault_count (past result.1)) (K.faults result.0) }
-        ensures asked { self.refused ≡ false → RoseWithin N.from.asked (store_ask_count (past result.1)) (K.asked result.0) }
+        ensures asked { self.refused ≡ false
+            → RoseWithin N.from.asked (store_ask_count (past result.1)) (K.asked result.0) }
     {
         let StorePart {
             store,

@@ -151,7 +151,8 @@ pub fn step_own<N: Name>(
 /// The place of an entity's region, or none.
 fn place_of<N: Name>(regions: &[RegionPart<N>], entity: EntityNo) -> Option<usize>
     ensures there { IfSome result (λ i. i < length regions.now) }
-    ensures entity { IfSome result (λ i. (x : RegionState) → slice_get regions.now i ≡ Some x → x.entity ≡ entity) }
+    ensures entity { IfSome result (λ i. (x : RegionState) → slice_get regions.now i ≡ Some x
+        → x.entity ≡ entity) }
 {
     for (place, region) in regions.iter().enumerate() {
         if region.entity() == entity {
@@ -171,7 +172,8 @@ fn step_regions<N: Name>(
 ) -> Result<(), AllocError>
     requires script { script.now ≡ N.script }
     requires due { IsDueOn N.script (Part.Region entity) worker.old }
-    ensures entities { map (λ r. r.entity) regions.new.items ≡ map (λ r. r.entity) regions.old.items }
+    ensures entities { map (λ r. r.entity) regions.new.items
+        ≡ map (λ r. r.entity) regions.old.items }
     ensures number { worker.new.number ≡ worker.old.number }
     ensures less { OnOk result (worker.new.left < worker.old.left) }
     ensures kept { OnErr result (IsKept worker.old worker.new) }
@@ -195,7 +197,8 @@ impl<K: Keeper, N: Name> Parts<K, N> {
         requires script { script.now ≡ N.script }
         requires due { IsDueOn N.script part worker.old }
         ensures going { OnOk result (self.new.store.refused ≡ self.old.store.refused) }
-        ensures entities { map (λ r. r.entity) self.new.regions.items ≡ map (λ r. r.entity) self.old.regions.items }
+        ensures entities { map (λ r. r.entity) self.new.regions.items
+            ≡ map (λ r. r.entity) self.old.regions.items }
         ensures number { worker.new.number ≡ worker.old.number }
         ensures less { OnOk result (worker.new.left < worker.old.left) }
         ensures kept { OnErr result (IsKept worker.old worker.new) }
@@ -222,10 +225,12 @@ impl<K: Keeper, N: Name> Parts<K, N> {
     ) -> Result<Stepped, AllocError>
         requires script { script.now ≡ N.script }
         ensures going { OnOk result (self.new.store.refused ≡ self.old.store.refused) }
-        ensures entities { map (λ r. r.entity) self.new.regions.items ≡ map (λ r. r.entity) self.old.regions.items }
+        ensures entities { map (λ r. r.entity) self.new.regions.items
+            ≡ map (λ r. r.entity) self.old.regions.items }
         ensures number { worker.new.number ≡ worker.old.number }
         ensures did { result ≡ Ok Stepped.Did → worker.new.left < worker.old.left }
-        ensures done { result ≡ Ok Stepped.Done → next N.script worker.new.number worker.new.list ≡ None }
+        ensures done { result ≡ Ok Stepped.Done
+            → next N.script worker.new.number worker.new.list ≡ None }
         ensures kept { OnErr result (IsKept worker.old worker.new) }
     {
         let Some(act) = worker.next(alloc, script)? else {
@@ -245,7 +250,8 @@ impl<K: Keeper, N: Name> Parts<K, N> {
     ) -> Result<(), AllocError>
         requires script { script.now ≡ N.script }
         ensures going { OnOk result (self.new.store.refused ≡ self.old.store.refused) }
-        ensures entities { map (λ r. r.entity) self.new.regions.items ≡ map (λ r. r.entity) self.old.regions.items }
+        ensures entities { map (λ r. r.entity) self.new.regions.items
+            ≡ map (λ r. r.entity) self.old.regions.items }
         ensures number { worker.new.number ≡ worker.old.number }
         ensures over { OnOk result (next N.script worker.new.number worker.new.list ≡ None) }
     {

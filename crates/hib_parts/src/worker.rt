@@ -63,7 +63,8 @@ impl<N: Name> Model for Worker<N> {
       left = left_in N.script w.session;
     } };
 
-    ghost invariant = { λ w. IsOwnList N.script (number_of w.session) (past w.list) w.last × Follows N.script w.session (past w.list) };
+    ghost invariant = { λ w. IsOwnList N.script (number_of w.session) (past w.list) w.last
+        × Follows N.script w.session (past w.list) };
 }
 
 impl<N: Name> Worker<N> {

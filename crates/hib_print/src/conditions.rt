@@ -45,7 +45,8 @@ fn print_test(
     word: &[u8],
     path: Path,
 ) -> Result<(), AllocError>
-    ensures { OnOk result (Adds printer.old printer.new (Token.Left ∷ Token.Word word.now ∷ subject script.now entity path ∷ [])) }
+    ensures { OnOk result (Adds printer.old printer.new
+        (Token.Left ∷ Token.Word word.now ∷ subject script.now entity path ∷ [])) }
 {
     printer.left()?;
     printer.word(word)?;
@@ -61,7 +62,8 @@ fn print_compared(
     path: Path,
     cell: &Cell,
 ) -> Result<(), AllocError>
-    ensures { OnOk result (Adds printer.old printer.new (condition_tokens script.now entity (Cond.Test op path cell.now))) }
+    ensures { OnOk result (Adds printer.old printer.new
+        (condition_tokens script.now entity (Cond.Test op path cell.now))) }
 {
     print_test(printer, script, entity, op_word(op), path)?;
     printer.cell(alloc, cell)?;
@@ -76,7 +78,8 @@ fn print_among(
     path: Path,
     cells: &[Cell],
 ) -> Result<(), AllocError>
-    ensures { OnOk result (Adds printer.old printer.new (condition_tokens script.now entity (Cond.Among path cells.now))) }
+    ensures { OnOk result (Adds printer.old printer.new
+        (condition_tokens script.now entity (Cond.Among path cells.now))) }
 {
     print_test(printer, script, entity, b"in", path)?;
     printer.cells(alloc, cells)?;
@@ -99,7 +102,8 @@ pub fn print_condition(
     entity: EntityNo,
     condition: &Cond,
 ) -> Result<(), AllocError>
-    ensures { OnOk result (Adds printer.old printer.new (condition_tokens script.now entity condition.now)) }
+    ensures { OnOk result (Adds printer.old printer.new
+        (condition_tokens script.now entity condition.now)) }
 {
     match condition {
         Cond::And(first, second) => {

@@ -72,7 +72,8 @@ fn print_column(
     script: &Script,
     column: &ColumnDef,
 ) -> Result<(), AllocError>
-    ensures { OnOk result (AddsLines printer.old printer.new (column_line script.now column.now ∷ [])) }
+    ensures { OnOk result (AddsLines printer.old printer.new
+        (column_line script.now column.now ∷ [])) }
 {
     printer.words(b"column", column.name.as_slice())?;
     print_type(printer, script, column.kind)?;
@@ -86,7 +87,8 @@ fn print_columns(
     script: &Script,
     columns: &[ColumnDef],
 ) -> Result<(), AllocError>
-    ensures { OnOk result (AddsLines printer.old printer.new (map (λ d. column_line script.now d) columns.now)) }
+    ensures { OnOk result (AddsLines printer.old printer.new
+        (map (λ d. column_line script.now d) columns.now)) }
 {
     for column in columns {
         print_column(alloc, printer, script, column)?;
@@ -100,7 +102,8 @@ pub fn print_mapping(
     printer: &mut Printer,
     script: &Script,
 ) -> Result<(), AllocError>
-    ensures { OnOk result (AddsLines printer.old printer.new (flat_map (λ e. entity_lines script.now e) script.now.mapping)) }
+    ensures { OnOk result (AddsLines printer.old printer.new
+        (flat_map (λ e. entity_lines script.now e) script.now.mapping)) }
 {
     for entity in script.mapping.as_slice() {
         print_entity(alloc, printer, entity)?;
@@ -138,7 +141,8 @@ fn print_row(
 
 /// The lines of the first rows.
 pub fn print_rows(alloc: Global, printer: &mut Printer, script: &Script) -> Result<(), AllocError>
-    ensures { OnOk result (AddsLines printer.old printer.new (map (λ x. row_line script.now x) script.now.rows)) }
+    ensures { OnOk result (AddsLines printer.old printer.new
+        (map (λ x. row_line script.now x) script.now.rows)) }
 {
     for row in script.rows.as_slice() {
         print_row(alloc, printer, script, row)?;

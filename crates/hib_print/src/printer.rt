@@ -32,7 +32,8 @@ impl Printer {
 
     // The space before a token that isn't a closing parenthesis.
     fn space(&mut self) -> Result<(), AllocError>
-        ensures text { OnOk result (self.new.text.items ≡ self.old.text.items ++ cond self.old.glued [] (codes " ")) }
+        ensures text { OnOk result (self.new.text.items
+            ≡ self.old.text.items ++ cond self.old.glued [] (codes " ")) }
         ensures glued { OnOk result (self.new.glued ≡ false) }
     {
         if !self.glued {
@@ -77,7 +78,8 @@ impl Printer {
 
     /// The version of a row, as a word.
     pub fn version(&mut self, alloc: Global, version: u32) -> Result<(), AllocError>
-        ensures { OnOk result (Adds self.old self.new (Token.Word (version_text (Some version)) ∷ [])) }
+        ensures { OnOk result (Adds self.old self.new
+            (Token.Word (version_text (Some version)) ∷ [])) }
     {
         self.space()?;
         put_labelled(alloc, &mut self.text, b"v", u64::from(version))
@@ -149,7 +151,8 @@ impl Printer {
         word: &[u8],
         key: Key,
     ) -> Result<(), AllocError>
-        ensures { OnOk result (Adds self.old self.new (Token.Word word.now ∷ key_tokens script.now key)) }
+        ensures { OnOk result (Adds self.old self.new
+            (Token.Word word.now ∷ key_tokens script.now key)) }
     {
         self.word(word)?;
         self.word(entity_name(script, key.entity))?;
@@ -158,7 +161,8 @@ impl Printer {
 
     /// A word, and what it is about.
     pub fn words(&mut self, word: &[u8], name: &[u8]) -> Result<(), AllocError>
-        ensures { OnOk result (Adds self.old self.new (Token.Word word.now ∷ Token.Word name.now ∷ [])) }
+        ensures { OnOk result (Adds self.old self.new
+            (Token.Word word.now ∷ Token.Word name.now ∷ [])) }
     {
         self.word(word)?;
         self.word(name)

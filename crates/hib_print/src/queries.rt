@@ -17,7 +17,8 @@ fn print_from(
     cached: bool,
     entity: EntityNo,
 ) -> Result<(), AllocError>
-    ensures { OnOk result (Adds printer.old printer.new (cached_tokens cached ++ from_tokens script.now entity)) }
+    ensures { OnOk result (Adds printer.old printer.new
+        (cached_tokens cached ++ from_tokens script.now entity)) }
 {
     if cached {
         printer.word(b"cached")?;
@@ -32,7 +33,8 @@ fn print_where(
     entity: EntityNo,
     condition: &Option<Cond>,
 ) -> Result<(), AllocError>
-    ensures { OnOk result (Adds printer.old printer.new (where_tokens script.now entity condition.now)) }
+    ensures { OnOk result (Adds printer.old printer.new
+        (where_tokens script.now entity condition.now)) }
 {
     match condition {
         None => Ok(()),
@@ -64,7 +66,8 @@ fn print_sorts(
     entity: EntityNo,
     sorts: &[Sort],
 ) -> Result<(), AllocError>
-    ensures { OnOk result (Adds printer.old printer.new (flat_map (λ x. sort_tokens script.now entity x) sorts.now)) }
+    ensures { OnOk result (Adds printer.old printer.new
+        (flat_map (λ x. sort_tokens script.now entity x) sorts.now)) }
 {
     for sort in sorts {
         print_sort(printer, script, entity, *sort)?;
@@ -78,7 +81,8 @@ fn print_order(
     entity: EntityNo,
     sorts: &[Sort],
 ) -> Result<(), AllocError>
-    ensures { OnOk result (Adds printer.old printer.new (order_tokens script.now entity sorts.now)) }
+    ensures { OnOk result (Adds printer.old printer.new
+        (order_tokens script.now entity sorts.now)) }
 {
     if sorts.is_empty() {
         return Ok(());
@@ -121,7 +125,8 @@ fn print_query(
     script: &Script,
     query: &Query,
 ) -> Result<(), AllocError>
-    ensures { OnOk result (AddsLines printer.old printer.new (query_line script.now query.now ∷ [])) }
+    ensures { OnOk result (AddsLines printer.old printer.new
+        (query_line script.now query.now ∷ [])) }
 {
     printer.words(b"query", query.name.as_slice())?;
     print_from(printer, script, query.cached, query.entity)?;
@@ -138,7 +143,8 @@ pub fn print_queries(
     printer: &mut Printer,
     script: &Script,
 ) -> Result<(), AllocError>
-    ensures { OnOk result (AddsLines printer.old printer.new (map (λ q. query_line script.now q) script.now.queries)) }
+    ensures { OnOk result (AddsLines printer.old printer.new
+        (map (λ q. query_line script.now q) script.now.queries)) }
 {
     for query in script.queries.as_slice() {
         print_query(alloc, printer, script, query)?;

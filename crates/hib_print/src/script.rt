@@ -19,7 +19,8 @@ fn print_counted(
     word: &[u8],
     n: u64,
 ) -> Result<(), AllocError>
-    ensures { OnOk result (AddsLines printer.old printer.new ((Token.Word word.now ∷ natural n ∷ []) ∷ [])) }
+    ensures { OnOk result (AddsLines printer.old printer.new
+        ((Token.Word word.now ∷ natural n ∷ []) ∷ [])) }
 {
     printer.counted(alloc, word, n)?;
     printer.end_line()

@@ -16,7 +16,8 @@ fn print_persist(
     key: Key,
     cells: &[Cell],
 ) -> Result<(), AllocError>
-    ensures { OnOk result (Adds printer.old printer.new (statement_line script.now (Statement.Persist key cells.now))) }
+    ensures { OnOk result (Adds printer.old printer.new
+        (statement_line script.now (Statement.Persist key cells.now))) }
 {
     printer.keyed(alloc, script, b"persist", key)?;
     printer.cells(alloc, cells)
@@ -29,7 +30,8 @@ fn print_sets(
     entity: EntityNo,
     sets: &[(u16, Cell)],
 ) -> Result<(), AllocError>
-    ensures { OnOk result (Adds printer.old printer.new (flat_map (λ x. set_tokens script.now entity x) sets.now)) }
+    ensures { OnOk result (Adds printer.old printer.new
+        (flat_map (λ x. set_tokens script.now entity x) sets.now)) }
 {
     for set in sets {
         printer.word(column_name(script, entity, set.0))?;
@@ -45,7 +47,8 @@ fn print_set(
     key: Key,
     sets: &[(u16, Cell)],
 ) -> Result<(), AllocError>
-    ensures { OnOk result (Adds printer.old printer.new (statement_line script.now (Statement.Set key sets.now))) }
+    ensures { OnOk result (Adds printer.old printer.new
+        (statement_line script.now (Statement.Set key sets.now))) }
 {
     let entity = key.entity;
     printer.keyed(alloc, script, b"set", key)?;
@@ -97,7 +100,8 @@ fn print_statements(
     script: &Script,
     statements: &[Statement],
 ) -> Result<(), AllocError>
-    ensures { OnOk result (AddsLines printer.old printer.new (map (λ t. statement_line script.now t) statements.now)) }
+    ensures { OnOk result (AddsLines printer.old printer.new
+        (map (λ t. statement_line script.now t) statements.now)) }
 {
     for statement in statements {
         print_tokens(alloc, printer, script, statement)?;
@@ -112,7 +116,8 @@ fn print_session(
     script: &Script,
     session: &SessionDef,
 ) -> Result<(), AllocError>
-    ensures { OnOk result (AddsLines printer.old printer.new (session_lines script.now session.now)) }
+    ensures { OnOk result (AddsLines printer.old printer.new
+        (session_lines script.now session.now)) }
 {
     printer.words(b"session", session.name.as_slice())?;
     printer.end_line()?;
@@ -126,7 +131,8 @@ pub fn print_sessions(
     printer: &mut Printer,
     script: &Script,
 ) -> Result<(), AllocError>
-    ensures { OnOk result (AddsLines printer.old printer.new (flat_map (λ d. session_lines script.now d) script.now.sessions)) }
+    ensures { OnOk result (AddsLines printer.old printer.new
+        (flat_map (λ d. session_lines script.now d) script.now.sessions)) }
 {
     for session in script.sessions.as_slice() {
         print_session(alloc, printer, script, session)?;
@@ -159,7 +165,8 @@ fn print_orders(
     script: &Script,
     orders: &[Order],
 ) -> Result<(), AllocError>
-    ensures { OnOk result (AddsLines printer.old printer.new (map (λ x. order_line script.now x) orders.now)) }
+    ensures { OnOk result (AddsLines printer.old printer.new
+        (map (λ x. order_line script.now x) orders.now)) }
 {
     for order in orders {
         print_order(alloc, printer, script, *order)?;
@@ -174,7 +181,8 @@ pub fn print_schedule(
     printer: &mut Printer,
     script: &Script,
 ) -> Result<(), AllocError>
-    ensures { OnOk result (AddsLines printer.old printer.new (schedule_lines script.now script.now.schedule)) }
+    ensures { OnOk result (AddsLines printer.old printer.new
+        (schedule_lines script.now script.now.schedule)) }
 {
     let orders = script.schedule.as_slice();
     if orders.is_empty() {

@@ -9,19 +9,22 @@ ghost use Rattle.hib_query_cache.specs.Standing.{IsResults, results_after, IsAns
 
 /// If nothing is kept, results stand for the empty journal.
 pub fn no_results_stand_for_no_entry()
-    ensures { (queries capacity : ℕ) → 0 < capacity → IsResults queries (record { capacity = capacity; kept = [] }) [] }
+    ensures { (queries capacity : ℕ) → 0 < capacity
+        → IsResults queries (record { capacity = capacity; kept = [] }) [] }
 {}
 
 /// If results stand for a journal, what an act that they answer leaves stands for the journal with the act's entry.
 pub fn results_follow()
-    ensures { (queries : ℕ) (r : Ranked) (h : Journal) (e : Entry) → IsResults queries r h → IsAnswered queries r e.act e.reply
+    ensures { (queries : ℕ) (r : Ranked) (h : Journal) (e : Entry) → IsResults queries r h
+        → IsAnswered queries r e.act e.reply
         → IsResults queries (results_after e.act e.reply r) (e ∷ h) }
 {}
 
 /// Acts of other parts, but for a restart, leave every result and the order.
 pub fn other_acts_leave_results()
     ensures { (queries : ℕ) (r : Ranked) (h : Journal) (e : Entry) (s : ℕ) → IsResults queries r h
-        → same_part (part_of e.act s) Part.Results ≡ false → is_restart e.act ≡ false → IsResults queries r (e ∷ h) }
+        → same_part (part_of e.act s) Part.Results ≡ false → is_restart e.act ≡ false
+        → IsResults queries r (e ∷ h) }
 {}
 
 /// If results stand for a journal, the result of a query is the one that the journal tells.

@@ -40,8 +40,10 @@ impl Results {
 
     /// The time and the list that are kept of a query, or none. If one is kept, it is the most recently used now.
     pub fn look(&mut self, query: QueryNo) -> Option<(&Tick, &Listing)>
-        ensures* order { sem 𝓛 (EndsAs self.entry (record self.old { kept = used query self.old.kept })) }
-        ensures value { option_map (λ p. (p.0.now, p.1.now)) result ≡ result_of query self.old.kept }
+        ensures* order { sem 𝓛 (EndsAs self.entry
+            (record self.old { kept = used query self.old.kept })) }
+        ensures value { option_map (λ p. (p.0.now, p.1.now)) result
+            ≡ result_of query self.old.kept }
     {
         let (time, list) = self.cache.get(&query.0)?;
         Some((time, list))
@@ -64,7 +66,8 @@ impl Results {
         time: Tick,
         list: Listing,
     ) -> Result<Option<QueryNo>, AllocError>
-        ensures kept { OnOk result (self.new ≡ record self.old { kept = with_result query (time, list) self.old }) }
+        ensures kept { OnOk result (self.new
+            ≡ record self.old { kept = with_result query (time, list) self.old }) }
         ensures dropped { IfOk result (λ gone. gone ≡ dropped_for query self.old) }
         ensures err { OnErr result (self.new ≡ self.old) }
     {

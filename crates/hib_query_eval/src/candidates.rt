@@ -17,7 +17,8 @@ use std::collections::BTreeSet;
 
 /// The first value of the types above a cell's.
 fn above_kind(alloc: Global, cell: &Cell) -> Value
-    ensures { (v : ValueSpec) → kind (Some cell.now) < kind (cell_in v) → is_le (value_cmp result v) ≡ true }
+    ensures { (v : ValueSpec) → kind (Some cell.now) < kind (cell_in v)
+        → is_le (value_cmp result v) ≡ true }
 {
     match cell {
         Cell::Int(_) => Value::Text(Vec::new(alloc)),
@@ -28,7 +29,8 @@ fn above_kind(alloc: Global, cell: &Cell) -> Value
 
 /// A value that is above all of the types below a cell's.
 fn below_kind(alloc: Global, cell: &Cell) -> Value
-    ensures { (v : ValueSpec) → 0 < kind (cell_in v) → kind (cell_in v) < kind (Some cell.now) → is_lt (value_cmp result v) ≡ false }
+    ensures { (v : ValueSpec) → 0 < kind (cell_in v) → kind (cell_in v) < kind (Some cell.now)
+        → is_lt (value_cmp result v) ≡ false }
 {
     match cell {
         Cell::Int(_) => Value::Least,
@@ -46,9 +48,11 @@ fn add_same(
     cell: &Cell,
     ids: &mut Vec<u64>,
 ) -> Result<(), AllocError>
-    ensures kept { OnOk result ((i : ℕ) → has_id i ids.old.items ≡ true → has_id i ids.new.items ≡ true) }
-    ensures found { OnOk result ((i : ℕ) (d : CellSpec) → i < 2 ^ 64 → has_place places.now.keys entity column i d ≡ true
-        → passes Op.Eq d cell.now ≡ true → has_id i ids.new.items ≡ true) }
+    ensures kept { OnOk result ((i : ℕ) → has_id i ids.old.items ≡ true
+        → has_id i ids.new.items ≡ true) }
+    ensures found { OnOk result ((i : ℕ) (d : CellSpec) → i < 2 ^ 64
+        → has_place places.now.keys entity column i d ≡ true → passes Op.Eq d cell.now ≡ true
+        → has_id i ids.new.items ≡ true) }
 {
     let from = places::value_of(alloc, cell)?;
     let to = places::value_of(alloc, cell)?;
@@ -64,9 +68,11 @@ fn add_below(
     cell: &Cell,
     ids: &mut Vec<u64>,
 ) -> Result<(), AllocError>
-    ensures kept { OnOk result ((i : ℕ) → has_id i ids.old.items ≡ true → has_id i ids.new.items ≡ true) }
-    ensures found { OnOk result ((i : ℕ) (d : CellSpec) → i < 2 ^ 64 → has_place places.now.keys entity column i d ≡ true
-        → passes Op.Lt d cell.now ≡ true → has_id i ids.new.items ≡ true) }
+    ensures kept { OnOk result ((i : ℕ) → has_id i ids.old.items ≡ true
+        → has_id i ids.new.items ≡ true) }
+    ensures found { OnOk result ((i : ℕ) (d : CellSpec) → i < 2 ^ 64
+        → has_place places.now.keys entity column i d ≡ true → passes Op.Lt d cell.now ≡ true
+        → has_id i ids.new.items ≡ true) }
 {
     let to = places::value_of(alloc, cell)?;
     places::add_between(places, entity, column, Value::Least, to, ids)
@@ -81,9 +87,11 @@ fn add_above(
     cell: &Cell,
     ids: &mut Vec<u64>,
 ) -> Result<(), AllocError>
-    ensures kept { OnOk result ((i : ℕ) → has_id i ids.old.items ≡ true → has_id i ids.new.items ≡ true) }
-    ensures found { OnOk result ((i : ℕ) (d : CellSpec) → i < 2 ^ 64 → has_place places.now.keys entity column i d ≡ true
-        → passes Op.Gt d cell.now ≡ true → has_id i ids.new.items ≡ true) }
+    ensures kept { OnOk result ((i : ℕ) → has_id i ids.old.items ≡ true
+        → has_id i ids.new.items ≡ true) }
+    ensures found { OnOk result ((i : ℕ) (d : CellSpec) → i < 2 ^ 64
+        → has_place places.now.keys entity column i d ≡ true → passes Op.Gt d cell.now ≡ true
+        → has_id i ids.new.items ≡ true) }
 {
     let from = places::value_of(alloc, cell)?;
     places::add_between(places, entity, column, from, Value::Greatest, ids)
@@ -98,9 +106,11 @@ fn add_not_above(
     cell: &Cell,
     ids: &mut Vec<u64>,
 ) -> Result<(), AllocError>
-    ensures kept { OnOk result ((i : ℕ) → has_id i ids.old.items ≡ true → has_id i ids.new.items ≡ true) }
-    ensures found { OnOk result ((i : ℕ) (d : CellSpec) → i < 2 ^ 64 → has_place places.now.keys entity column i d ≡ true
-        → passes Op.Le d cell.now ≡ true → has_id i ids.new.items ≡ true) }
+    ensures kept { OnOk result ((i : ℕ) → has_id i ids.old.items ≡ true
+        → has_id i ids.new.items ≡ true) }
+    ensures found { OnOk result ((i : ℕ) (d : CellSpec) → i < 2 ^ 64
+        → has_place places.now.keys entity column i d ≡ true → passes Op.Le d cell.now ≡ true
+        → has_id i ids.new.items ≡ true) }
 {
     let to = places::value_of(alloc, cell)?;
     places::add_between(places, entity, column, Value::Least, to, ids)?;
@@ -117,9 +127,11 @@ fn add_not_below(
     cell: &Cell,
     ids: &mut Vec<u64>,
 ) -> Result<(), AllocError>
-    ensures kept { OnOk result ((i : ℕ) → has_id i ids.old.items ≡ true → has_id i ids.new.items ≡ true) }
-    ensures found { OnOk result ((i : ℕ) (d : CellSpec) → i < 2 ^ 64 → has_place places.now.keys entity column i d ≡ true
-        → passes Op.Ge d cell.now ≡ true → has_id i ids.new.items ≡ true) }
+    ensures kept { OnOk result ((i : ℕ) → has_id i ids.old.items ≡ true
+        → has_id i ids.new.items ≡ true) }
+    ensures found { OnOk result ((i : ℕ) (d : CellSpec) → i < 2 ^ 64
+        → has_place places.now.keys entity column i d ≡ true → passes Op.Ge d cell.now ≡ true
+        → has_id i ids.new.items ≡ true) }
 {
     let from = places::value_of(alloc, cell)?;
     places::add_between(places, entity, column, from, Value::Greatest, ids)?;
@@ -137,8 +149,9 @@ fn compared(
     op: Op,
     cell: &Cell,
 ) -> Result<Option<Vec<u64>>, AllocError>
-    ensures { IfOk result (λ o. IfSome o (λ ids. (i : ℕ) (d : CellSpec) → i < 2 ^ 64 → has_place places.now.keys entity column i d ≡ true
-        → passes op d cell.now ≡ true → has_id i ids.items ≡ true)) }
+    ensures { IfOk result (λ o. IfSome o (λ ids. (i : ℕ) (d : CellSpec) → i < 2 ^ 64
+        → has_place places.now.keys entity column i d ≡ true → passes op d cell.now ≡ true
+        → has_id i ids.items ≡ true)) }
 {
     let mut ids = Vec::new(alloc);
     match op {
@@ -160,7 +173,8 @@ fn among(
     column: usize,
     cells: &[Cell],
 ) -> Result<Vec<u64>, AllocError>
-    ensures { IfOk result (λ ids. (i : ℕ) (d : CellSpec) → i < 2 ^ 64 → has_place places.now.keys entity column i d ≡ true
+    ensures { IfOk result (λ ids. (i : ℕ) (d : CellSpec) → i < 2 ^ 64
+        → has_place places.now.keys entity column i d ≡ true
         → list_any (λ c. same_cell d c) cells.now ≡ true → has_id i ids.items ≡ true) }
 {
     let mut ids = Vec::new(alloc);
@@ -185,7 +199,9 @@ fn shorter(first: Option<Vec<u64>>, second: Option<Vec<u64>>) -> Option<Vec<u64>
 
 /// The identifiers of both lists, if there are two.
 fn joined(first: Option<Vec<u64>>, second: Option<Vec<u64>>) -> Result<Option<Vec<u64>>, AllocError>
-    ensures { IfOk result (λ o. IfSome o (λ ids. MatchOption first ⊥ (λ a. MatchOption second ⊥ (λ b. ids.items ≡ a.items ++ b.items)))) }
+    ensures { IfOk result (λ o. IfSome o
+        (λ ids. MatchOption first ⊥ (λ a. MatchOption second ⊥
+        (λ b. ids.items ≡ a.items ++ b.items)))) }
 {
     let (Some(mut first), Some(second)) = (first, second) else {
         return Ok(None);
@@ -203,7 +219,8 @@ fn referring(
     column: usize,
     targets: &[u64],
 ) -> Result<Option<Vec<u64>>, AllocError>
-    ensures { IfOk result (λ o. IfSome o (λ ids. Refer places.now.keys entity column targets.now ids.items)) }
+    ensures { IfOk result (λ o. IfSome o
+        (λ ids. Refer places.now.keys entity column targets.now ids.items)) }
 {
     let mut ids = Vec::new(alloc);
     for target in targets {
@@ -224,7 +241,8 @@ fn compared_at(
     op: Op,
     cell: &Cell,
 ) -> Result<Option<Vec<u64>>, AllocError>
-    ensures { IfOk result (λ o. IfSome o (λ ids. Covers places.now.keys entity (Cond.Test op path.now cell.now) ids.items)) }
+    ensures { IfOk result (λ o. IfSome o
+        (λ ids. Covers places.now.keys entity (Cond.Test op path.now cell.now) ids.items)) }
 {
     let column = usize::from(path.column);
     let Some(target) = path.target else {
@@ -245,7 +263,8 @@ fn among_at(
     path: &Path,
     cells: &[Cell],
 ) -> Result<Option<Vec<u64>>, AllocError>
-    ensures { IfOk result (λ o. IfSome o (λ ids. Covers places.now.keys entity (Cond.Among path.now cells.now) ids.items)) }
+    ensures { IfOk result (λ o. IfSome o
+        (λ ids. Covers places.now.keys entity (Cond.Among path.now cells.now) ids.items)) }
 {
     let column = usize::from(path.column);
     let Some(target) = path.target else {
@@ -264,7 +283,8 @@ pub fn candidates(
     entity: EntityNo,
     condition: &Cond,
 ) -> Result<Option<Vec<u64>>, AllocError>
-    ensures { IfOk result (λ o. IfSome o (λ ids. Covers places.now.keys entity condition.now ids.items)) }
+    ensures { IfOk result (λ o. IfSome o
+        (λ ids. Covers places.now.keys entity condition.now ids.items)) }
 {
     match condition {
         Cond::And(first, second) => {

@@ -52,8 +52,10 @@ fn drop_old(
     key: &Key,
     row: Option<&Row>,
 ) -> Result<(), AllocError>
-    ensures { OnOk result ((e c i : ℕ) (d : CellSpec) → has_place places.new.keys e c i d
-        ≡ (not (same_key key.now (key_at e i) && has_cell (option_copied row.entry) c d) && has_place places.old.keys e c i d)) }
+    ensures { OnOk result ((e c i : ℕ) (d : CellSpec)
+        → has_place places.new.keys e c i d
+        ≡ (not (same_key key.now (key_at e i) && has_cell (option_copied row.entry) c d)
+        && has_place places.old.keys e c i d)) }
 {
     match row {
         Some(row) => places::drop_cells(alloc, places, key, row),
@@ -69,8 +71,10 @@ fn add_new(
     row: Option<&Row>,
 ) -> Result<(), AllocError>
     ensures fit { is_some (option_copied row.entry) ≡ true → key.now.id < 2 ^ 64 }
-    ensures added { OnOk result ((e c i : ℕ) (d : CellSpec) → has_place places.new.keys e c i d
-        ≡ ((same_key key.now (key_at e i) && has_cell (option_copied row.entry) c d) || has_place places.old.keys e c i d)) }
+    ensures added { OnOk result ((e c i : ℕ) (d : CellSpec)
+        → has_place places.new.keys e c i d
+        ≡ ((same_key key.now (key_at e i) && has_cell (option_copied row.entry) c d)
+        || has_place places.old.keys e c i d)) }
 {
     match row {
         Some(row) => places::add_cells(alloc, places, key, row),
@@ -113,7 +117,8 @@ pub fn change_one(
     requires ordered { in_order rows.old.items ≡ true }
     requires indexed { IsIndexOf places.old.keys rows.old.items }
     ensures applied { IfOk result (λ done. done ≡ is_none (refusal change.now rows.old.items)) }
-    ensures rows { IfOk result (λ done. done ≡ true → rows.new.items ≡ after_change change.now rows.old.items) }
+    ensures rows { IfOk result (λ done. done ≡ true
+        → rows.new.items ≡ after_change change.now rows.old.items) }
     ensures indexed { IfOk result (λ done. done ≡ true → IsIndexOf places.new.keys rows.new.items) }
 {
     let key = change.key();

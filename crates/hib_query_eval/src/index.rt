@@ -31,7 +31,8 @@ impl Model for Index {
 
     ghost view = { λ i. i.rows.items };
 
-    ghost invariant = { λ i. (in_order i.rows.items ≡ true) × IsIndexOf i.places.keys i.rows.items };
+    ghost invariant = { λ i. (in_order i.rows.items ≡ true)
+        × IsIndexOf i.places.keys i.rows.items };
 }
 
 impl Index {
@@ -48,8 +49,10 @@ impl Index {
     /// The index after changes one after the other; none exactly if they don't apply so. At none and at an error the index
     /// is dropped.
     pub fn apply(self, alloc: Global, changes: &[Change]) -> Result<Option<Index>, AllocError>
-        ensures { IfOk result (λ applied. MatchOption applied (commit_answer changes.now self ≢ Commit.Committed)
-            (λ index. (commit_answer changes.now self ≡ Commit.Committed) × (index ≡ after_changes changes.now self))) }
+        ensures { IfOk result (λ applied. MatchOption applied
+            (commit_answer changes.now self ≢ Commit.Committed)
+            (λ index. (commit_answer changes.now self ≡ Commit.Committed)
+            × (index ≡ after_changes changes.now self))) }
     {
         let Index {
             mut rows,

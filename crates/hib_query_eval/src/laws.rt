@@ -7,6 +7,7 @@ ghost use Rattle.hib_journal.specs.Query.{gives, reads};
 
 /// Changes of other tables than a query reads leave what the query gives.
 pub fn other_tables_leave_what_is_given()
-    ensures { (q : Query) (changes : List Change) (t : Tables) → list_any (λ c. reads q (key_of c).entity) changes ≡ false
+    ensures { (q : Query) (changes : List Change) (t : Tables)
+        → list_any (λ c. reads q (key_of c).entity) changes ≡ false
         → gives q (after_changes changes t) ≡ gives q t }
 {}

@@ -24,7 +24,8 @@ pub fn gives(alloc: Global, query: &Query, rows: &Rows) -> Result<Listing, Alloc
 
 /// What a query selects of the rows that meet its condition.
 pub fn selected(alloc: Global, query: &Query, met: &Vec<&(Key, Row)>) -> Result<Listing, AllocError>
-    ensures { IfOk result (λ l. l ≡ selected query.now (map (λ r. r.now) met.now.items) query.now.select) }
+    ensures { IfOk result (λ l. l ≡ selected query.now
+        (map (λ r. r.now) met.now.items) query.now.select) }
 {
     match query.select {
         Select::Count => count(alloc, met.len()),
@@ -93,7 +94,8 @@ fn identifiers(alloc: Global, rows: &[&(Key, Row)]) -> Result<Listing, AllocErro
 
 /// The cells of a column.
 fn cells_of(alloc: Global, column: u16, rows: &[&(Key, Row)]) -> Result<Listing, AllocError>
-    ensures { IfOk result (λ l. l ≡ map (λ a. unwrap_or (slice_get a.now.1.cells column) (Cell.Bool false)) rows.now) }
+    ensures { IfOk result (λ l. l ≡ map
+        (λ a. unwrap_or (slice_get a.now.1.cells column) (Cell.Bool false)) rows.now) }
 {
     let mut list = Seq::new(alloc);
     for row in rows {

@@ -74,14 +74,18 @@ fn place_of(
 }
 
 fn add_place(places: &mut BTreeSet<Place>, place: Place) -> Result<(), AllocError>
-    ensures { OnOk result ((e c i : ℕ) (d : CellSpec) → has_place places.new.keys e c i d ≡ (is_place e c i d place || has_place places.old.keys e c i d)) }
+    ensures { OnOk result ((e c i : ℕ) (d : CellSpec)
+        → has_place places.new.keys e c i d
+        ≡ (is_place e c i d place || has_place places.old.keys e c i d)) }
 {
     places.insert(place)?;
     Ok(())
 }
 
 fn drop_place(places: &mut BTreeSet<Place>, place: Place)
-    ensures { (e c i : ℕ) (d : CellSpec) → has_place places.new.keys e c i d ≡ (not (is_place e c i d place) && has_place places.old.keys e c i d) }
+    ensures { (e c i : ℕ) (d : CellSpec)
+        → has_place places.new.keys e c i d
+        ≡ (not (is_place e c i d place) && has_place places.old.keys e c i d) }
 {
     places.remove(&place);
 }
@@ -94,8 +98,10 @@ pub fn add_cells(
     row: &Row,
 ) -> Result<(), AllocError>
     ensures fit { key.now.id < 2 ^ 64 }
-    ensures added { OnOk result ((e c i : ℕ) (d : CellSpec) → has_place places.new.keys e c i d
-        ≡ ((same_key key.now (key_at e i) && has_cell (Some row.now) c d) || has_place places.old.keys e c i d)) }
+    ensures added { OnOk result ((e c i : ℕ) (d : CellSpec)
+        → has_place places.new.keys e c i d
+        ≡ ((same_key key.now (key_at e i) && has_cell (Some row.now) c d) || has_place
+        places.old.keys e c i d)) }
 {
     let id = key.id;
     for column in 0..row.cells.len() {
@@ -112,8 +118,10 @@ pub fn drop_cells(
     key: &Key,
     row: &Row,
 ) -> Result<(), AllocError>
-    ensures { OnOk result ((e c i : ℕ) (d : CellSpec) → has_place places.new.keys e c i d
-        ≡ (not (same_key key.now (key_at e i) && has_cell (Some row.now) c d) && has_place places.old.keys e c i d)) }
+    ensures { OnOk result ((e c i : ℕ) (d : CellSpec)
+        → has_place places.new.keys e c i d
+        ≡ (not (same_key key.now (key_at e i) && has_cell (Some row.now) c d) && has_place
+        places.old.keys e c i d)) }
 {
     for column in 0..row.cells.len() {
         let place = place_of(alloc, key.entity, key.id, column, row.cells.at(column))?;
@@ -132,7 +140,9 @@ pub fn add_between(
     ids: &mut Vec<u64>,
 ) -> Result<(), AllocError>
     requires { is_gt (value_cmp from to) ≡ false }
-    ensures { OnOk result (ids.new.items ≡ ids.old.items ++ map (λ p. p.id) (filter (is_within entity column from to) places.now.keys)) }
+    ensures { OnOk result (ids.new.items
+        ≡ ids.old.items ++ map (λ p. p.id)
+        (filter (is_within entity column from to) places.now.keys)) }
 {
     let first = Place {
         entity,

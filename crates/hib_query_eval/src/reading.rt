@@ -66,7 +66,8 @@ pub fn is_stepped(condition: &Cond, changes: &[Change]) -> bool
 
 /// The changes, or none if they touch no table that a query reads.
 pub fn touching<'a>(query: &Query, changes: &'a [Change]) -> &'a [Change]
-    ensures { (t : Tables) → gives query.now (after_changes result.now t) ≡ gives query.now (after_changes changes.now t) }
+    ensures { (t : Tables) → gives query.now (after_changes result.now t)
+        ≡ gives query.now (after_changes changes.now t) }
 {
     if is_touched(query, changes) {
         changes

@@ -20,7 +20,8 @@ use std::collections::BTreeSet;
 
 /// The row of an identifier, if it meets a query's condition.
 fn met_at<'a>(query: &Query, view: &'a View<'_>, id: u64) -> Option<&'a (Key, Row)>
-    ensures { option_copied result ≡ if_met query.now view.now (row_in view.now (key_at query.now.entity id)) }
+    ensures { option_copied result
+        ≡ if_met query.now view.now (row_in view.now (key_at query.now.entity id)) }
 {
     let entry = view.entry_of(&Key {
         entity: query.entity,
@@ -56,8 +57,10 @@ fn found<'a>(
 
 /// Adds the identifiers of the rows of an entity that are changed.
 fn add_changed(ids: &mut Vec<u64>, entity: EntityNo, changes: &[Change]) -> Result<(), AllocError>
-    ensures kept { OnOk result ((i : ℕ) → has_id i ids.old.items ≡ true → has_id i ids.new.items ≡ true) }
-    ensures changed { OnOk result ((i : ℕ) → is_changed (key_at entity i) changes.now ≡ true → has_id i ids.new.items ≡ true) }
+    ensures kept { OnOk result ((i : ℕ) → has_id i ids.old.items ≡ true
+        → has_id i ids.new.items ≡ true) }
+    ensures changed { OnOk result ((i : ℕ) → is_changed (key_at entity i) changes.now ≡ true
+        → has_id i ids.new.items ≡ true) }
 {
     for change in changes {
         let key = change.key();
@@ -99,7 +102,8 @@ fn narrowed(
     places: &BTreeSet<Place>,
     changes: &[Change],
 ) -> Result<Option<Vec<u64>>, AllocError>
-    ensures { IfOk result (λ o. IfSome o (λ ids. (t : Tables) → IsIndexOf places.now.keys t → HasMet query.now (after_changes changes.now t) ids.items)) }
+    ensures { IfOk result (λ o. IfSome o (λ ids. (t : Tables) → IsIndexOf places.now.keys t
+        → HasMet query.now (after_changes changes.now t) ids.items)) }
 {
     let Some(condition) = &query.condition else {
         return Ok(None);
@@ -140,7 +144,8 @@ fn searched(
     changes: &[Change],
 ) -> Result<Option<Vec<u64>>, AllocError>
     requires { IsIndexOf places.now.keys rows.now }
-    ensures all { IfOk result (λ o. IfSome o (λ ids. HasMet query.now (after_changes changes.now rows.now) ids.items)) }
+    ensures all { IfOk result (λ o. IfSome o
+        (λ ids. HasMet query.now (after_changes changes.now rows.now) ids.items)) }
     ensures none { result ≡ Ok None → changes.now ≡ [] }
 {
     match narrowed(alloc, query, places, changes)? {

@@ -113,7 +113,8 @@ fn is_in(keys: &BTreeSet<Key>, key: &Key) -> bool
 }
 
 fn add_key(keys: &mut BTreeSet<Key>, key: Key) -> Result<(), AllocError>
-    ensures { OnOk result ((k : KeySpec) → has_key keys.new.keys k ≡ has_key (key ∷ keys.old.keys) k) }
+    ensures { OnOk result ((k : KeySpec)
+        → has_key keys.new.keys k ≡ has_key (key ∷ keys.old.keys) k) }
 {
     keys.insert(key)?;
     Ok(())

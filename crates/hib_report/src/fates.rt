@@ -86,7 +86,10 @@ impl Fate {
 /// Notes an entry of a session, if there is one.
 fn note_own(fates: &mut Vec<Fate>, restart: usize, place: usize, entry: &Entry)
     ensures all { length fates.new.items ≡ length fates.old.items }
-    ensures each { (s : ℕ) → slice_get fates.new.items s ≡ option_map (λ f. cond (is_by s entry.now) (own_noted restart place entry.now.act entry.now.reply f) f) (slice_get fates.old.items s) }
+    ensures each { (s : ℕ) → slice_get fates.new.items s
+        ≡ option_map (λ f. cond (is_by s entry.now)
+        (own_noted restart place entry.now.act entry.now.reply f) f)
+        (slice_get fates.old.items s) }
 {
     let Some(session) = entry.session else {
         return;
@@ -100,7 +103,8 @@ fn note_own(fates: &mut Vec<Fate>, restart: usize, place: usize, entry: &Entry)
 /// Notes a kill of a session by name, if an act is one.
 fn note_kill(fates: &mut Vec<Fate>, act: &Act)
     ensures all { length fates.new.items ≡ length fates.old.items }
-    ensures each { (s : ℕ) → slice_get fates.new.items s ≡ option_map (λ f. cond (kills s act.now) (kill_noted f) f) (slice_get fates.old.items s) }
+    ensures each { (s : ℕ) → slice_get fates.new.items s
+        ≡ option_map (λ f. cond (kills s act.now) (kill_noted f) f) (slice_get fates.old.items s) }
 {
     let Act::Kill { session } = act else {
         return;
@@ -134,7 +138,8 @@ impl Fates {
     /// Of the first sessions, that many, after these entries.
     pub fn of(alloc: Global, sessions: usize, entries: &[Entry]) -> Result<Fates, AllocError>
         ensures all { IfOk result (λ x. length x.fates.items ≡ sessions) }
-        ensures each { IfOk result (λ x. (s : ℕ) (f : Fate) → slice_get x.fates.items s ≡ Some f → IsFateOf x.restart (length entries.now) s f (reverse entries.now)) }
+        ensures each { IfOk result (λ x. (s : ℕ) (f : Fate) → slice_get x.fates.items s ≡ Some f
+            → IsFateOf x.restart (length entries.now) s f (reverse entries.now)) }
     {
         let fresh = Fate {
             opened: None,

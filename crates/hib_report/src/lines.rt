@@ -48,7 +48,8 @@ pub fn put_entry(
     script: &Script,
     entry: &Entry,
 ) -> Result<(), AllocError>
-    ensures { OnOk result (out.new.items ≡ out.old.items ++ (line_text script.now entry.now ++ codes "\n")) }
+    ensures { OnOk result (out.new.items
+        ≡ out.old.items ++ (line_text script.now entry.now ++ codes "\n")) }
 {
     put_line(alloc, out, script, entry)?;
     out.extend_from_slice(b"\n")

@@ -130,7 +130,8 @@ pub fn put_counts(
     script: &Script,
     journal: &Journal,
 ) -> Result<(), AllocError>
-    ensures { OnOk result (out.new.items ≡ out.old.items ++ counts_text script.now (counted script.now journal.now.list)) }
+    ensures { OnOk result (out.new.items
+        ≡ out.old.items ++ counts_text script.now (counted script.now journal.now.list)) }
 {
     let counts = Statistics::of_journal(alloc, script, journal)?;
     put_statistics(alloc, out, script, &counts)

@@ -28,7 +28,11 @@ pub fn put_ends(
     script: &Script,
     journal: &Journal,
 ) -> Result<(), AllocError>
-    ensures { OnOk result (out.new.items ≡ out.old.items ++ sessions_text script.now (reverse journal.now.list) ++ unsound_text script.now (reverse journal.now.list) ++ counts_text script.now (counted script.now journal.now.list)) }
+    ensures { OnOk result (out.new.items
+        ≡ out.old.items ++ sessions_text script.now
+        (reverse journal.now.list) ++ unsound_text script.now
+        (reverse journal.now.list) ++ counts_text script.now
+        (counted script.now journal.now.list)) }
 {
     let entries = journal.as_slice();
     put_sessions(alloc, out, script, entries)?;

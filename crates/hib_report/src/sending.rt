@@ -53,7 +53,8 @@ const PIECE: usize = 65_536;
 pub fn send<W: Sink>(out: &mut W, gathered: &mut Vec<u8>) -> Result<(), Failed>
     ensures whole { OnOk result (Appends (W.taken out.old) (W.taken out.new) gathered.old.items) }
     ensures empty { OnOk result (gathered.new.items ≡ []) }
-    ensures front { OnErr result (TakesFront (W.taken out.old) (W.taken out.new) gathered.old.items) }
+    ensures front { OnErr result (TakesFront (W.taken out.old)
+        (W.taken out.new) gathered.old.items) }
     ensures cause { HasCause (W.faults out.old) (W.faults out.new) result }
 {
     write_all(out, gathered.as_slice())?;
@@ -63,8 +64,10 @@ pub fn send<W: Sink>(out: &mut W, gathered: &mut Vec<u8>) -> Result<(), Failed>
 
 /// Sends what is gathered if it is a piece of 65,536 bytes or more. If the sink fails a front of it was taken.
 pub fn send_piece<W: Sink>(out: &mut W, gathered: &mut Vec<u8>) -> Result<(), Failed>
-    ensures sent { OnOk result (IsSent (W.taken out.old) (W.taken out.new) gathered.old.items gathered.new.items) }
-    ensures front { OnErr result (TakesFront (W.taken out.old) (W.taken out.new) gathered.old.items) }
+    ensures sent { OnOk result (IsSent (W.taken out.old)
+        (W.taken out.new) gathered.old.items gathered.new.items) }
+    ensures front { OnErr result (TakesFront (W.taken out.old)
+        (W.taken out.new) gathered.old.items) }
     ensures cause { HasCause (W.faults out.old) (W.faults out.new) result }
 {
     if gathered.len() < PIECE {
@@ -81,8 +84,10 @@ fn send_lines<W: Sink>(
     script: &Script,
     entries: &[Entry],
 ) -> Result<(), WriteStop>
-    ensures sent { OnOk result (IsSent (W.taken out.old) (W.taken out.new) (gathered.old.items ++ lines_text script.now entries.now) gathered.new.items) }
-    ensures front { OnErr result (TakesFront (W.taken out.old) (W.taken out.new) (gathered.old.items ++ lines_text script.now entries.now)) }
+    ensures sent { OnOk result (IsSent (W.taken out.old) (W.taken out.new)
+        (gathered.old.items ++ lines_text script.now entries.now) gathered.new.items) }
+    ensures front { OnErr result (TakesFront (W.taken out.old) (W.taken out.new)
+        (gathered.old.items ++ lines_text script.now entries.now)) }
     ensures calm { OnOk result (W.faults out.new ≡ W.faults out.old) }
     ensures cause { result ≡ Err WriteStop.Failed → Rose (W.faults out.old) (W.faults out.new) }
 {
@@ -101,8 +106,10 @@ pub fn write<W: Sink>(
     journal: &Journal,
     out: &mut W,
 ) -> Result<(), WriteStop>
-    ensures whole { OnOk result (Appends (W.taken out.old) (W.taken out.new) (report script.now journal.now.list)) }
-    ensures front { OnErr result (TakesFront (W.taken out.old) (W.taken out.new) (report script.now journal.now.list)) }
+    ensures whole { OnOk result (Appends (W.taken out.old) (W.taken out.new)
+        (report script.now journal.now.list)) }
+    ensures front { OnErr result (TakesFront (W.taken out.old) (W.taken out.new)
+        (report script.now journal.now.list)) }
     ensures cause { result ≡ Err WriteStop.Failed → Rose (W.faults out.old) (W.faults out.new) }
 {
     let mut gathered = Vec::new(alloc);

@@ -26,7 +26,9 @@ fn put_session(
     killed: bool,
     outcome: Outcome,
 ) -> Result<(), AllocError>
-    ensures { OnOk result (out.new.items ≡ out.old.items ++ (def.now.name ++ codes " " ++ end_text killed outcome ++ codes "\n")) }
+    ensures { OnOk result (out.new.items
+        ≡ out.old.items ++ (def.now.name ++ codes " " ++ end_text killed outcome ++ codes
+        "\n")) }
 {
     out.extend_from_slice(def.name.as_slice())?;
     out.extend_from_slice(b" ")?;
@@ -40,7 +42,8 @@ fn put_fates(
     sessions: &[SessionDef],
     entries: &[Entry],
 ) -> Result<(), AllocError>
-    ensures { OnOk result (out.new.items ≡ out.old.items ++ fates_text (reverse entries.now) 0 sessions.now) }
+    ensures { OnOk result (out.new.items
+        ≡ out.old.items ++ fates_text (reverse entries.now) 0 sessions.now) }
 {
     let ended = Fates::of(alloc, sessions.len(), entries)?;
     for (session, def) in sessions.iter().enumerate() {
@@ -57,7 +60,8 @@ pub fn put_sessions(
     script: &Script,
     entries: &[Entry],
 ) -> Result<(), AllocError>
-    ensures { OnOk result (out.new.items ≡ out.old.items ++ sessions_text script.now (reverse entries.now)) }
+    ensures { OnOk result (out.new.items
+        ≡ out.old.items ++ sessions_text script.now (reverse entries.now)) }
 {
     put_labelled(alloc, out, b"sessions ", script.sessions.len() as u64)?;
     out.extend_from_slice(b"\n")?;

@@ -42,7 +42,8 @@ fn add_key(keys: &mut BTreeSet<Key>, key: Key) -> Result<(), AllocError>
 
 // Adds the key that an entry names, if it is one of a read-write entity.
 fn add_named(keys: &mut BTreeSet<Key>, script: &Script, entry: &Entry) -> Result<(), AllocError>
-    ensures { OnOk result (keys.new.keys ≡ with_named script.now (named entry.now.act) keys.old.keys) }
+    ensures { OnOk result (keys.new.keys
+        ≡ with_named script.now (named entry.now.act) keys.old.keys) }
 {
     match named(&entry.act) {
         Some(key) if is_read_write(script, key.entity) => add_key(keys, key),
@@ -59,7 +60,8 @@ struct Passed {
 
 fn pass(alloc: Global, script: &Script, entries: &[Entry]) -> Result<Passed, AllocError>
     ensures keys { IfOk result (λ p. p.keys.keys ≡ keys_in script.now (reverse entries.now)) }
-    ensures watch { IfOk result (λ p. Watches p.watch.courses.entries p.watch.written.entries (reverse entries.now)) }
+    ensures watch { IfOk result (λ p. Watches p.watch.courses.entries p.watch.written.entries
+        (reverse entries.now)) }
 {
     let mut keys = BTreeSet::new(alloc);
     let mut watch = Watch::new(alloc);
@@ -72,7 +74,8 @@ fn pass(alloc: Global, script: &Script, entries: &[Entry]) -> Result<Passed, All
 
 // The keys that are not sound, in order.
 fn unsound_of(alloc: Global, passed: &Passed) -> Result<Vec<Key>, AllocError>
-    ensures { IfOk result (λ v. (past : Journal) → Watches passed.now.watch.courses.entries passed.now.watch.written.entries past
+    ensures { IfOk result (λ v. (past : Journal)
+        → Watches passed.now.watch.courses.entries passed.now.watch.written.entries past
         → v.items ≡ filter (λ k. not (is_sound k past)) passed.now.keys.keys) }
 {
     let mut found = Vec::new(alloc);
@@ -98,7 +101,8 @@ fn put_keys(
     script: &Script,
     keys: &[Key],
 ) -> Result<(), AllocError>
-    ensures { OnOk result (out.new.items ≡ out.old.items ++ flat_map (λ k. key_text script.now k ++ codes "\n") keys.now) }
+    ensures { OnOk result (out.new.items
+        ≡ out.old.items ++ flat_map (λ k. key_text script.now k ++ codes "\n") keys.now) }
 {
     for key in keys {
         put_key(alloc, out, script, *key)?;
@@ -114,7 +118,8 @@ pub fn put_unsound(
     script: &Script,
     entries: &[Entry],
 ) -> Result<(), AllocError>
-    ensures { OnOk result (out.new.items ≡ out.old.items ++ unsound_text script.now (reverse entries.now)) }
+    ensures { OnOk result (out.new.items
+        ≡ out.old.items ++ unsound_text script.now (reverse entries.now)) }
 {
     let keys = unsound(alloc, script, entries)?;
     put_labelled(alloc, out, b"unsound ", keys.len() as u64)?;

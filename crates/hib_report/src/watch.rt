@@ -99,7 +99,9 @@ fn course_of(courses: &Courses, key: Key) -> Course
 }
 
 fn set_course(courses: &mut Courses, key: Key, course: Course) -> Result<(), AllocError>
-    ensures { OnOk result ((k : Key) → course_at courses.new.entries k ≡ cond (same_key key k) course (course_at courses.old.entries k)) }
+    ensures { OnOk result ((k : Key)
+        → course_at courses.new.entries k
+        ≡ cond (same_key key k) course (course_at courses.old.entries k)) }
 {
     courses.insert(key, course)?;
     Ok(())
@@ -108,7 +110,9 @@ fn set_course(courses: &mut Courses, key: Key, course: Course) -> Result<(), All
 /// A commit has inserted these keys.
 #[tactic(auto, using(crate::proofs::Watched::reused_twice))]
 fn insert_all(courses: &mut Courses, keys: &[Key]) -> Result<(), AllocError>
-    ensures { OnOk result ((k : Key) → course_at courses.new.entries k ≡ reused_if (names_key k keys.now) (course_at courses.old.entries k)) }
+    ensures { OnOk result ((k : Key)
+        → course_at courses.new.entries k
+        ≡ reused_if (names_key k keys.now) (course_at courses.old.entries k)) }
 {
     for key in keys {
         let course = course_of(courses, *key).inserted();
@@ -119,7 +123,9 @@ fn insert_all(courses: &mut Courses, keys: &[Key]) -> Result<(), AllocError>
 
 /// A commit has deleted these keys.
 fn delete_all(courses: &mut Courses, keys: &[Key]) -> Result<(), AllocError>
-    ensures { OnOk result ((k : Key) → course_at courses.new.entries k ≡ deleted_if (names_key k keys.now) (course_at courses.old.entries k)) }
+    ensures { OnOk result ((k : Key)
+        → course_at courses.new.entries k
+        ≡ deleted_if (names_key k keys.now) (course_at courses.old.entries k)) }
 {
     for key in keys {
         let mut course = course_of(courses, *key);
@@ -155,8 +161,10 @@ fn upset_key(entry: &Entry) -> Option<Key>
 
 /// Notes what an entry answers of a key. A restart lets all be forgotten.
 fn note_answer(courses: &mut Courses, entry: &Entry) -> Result<(), AllocError>
-    ensures { OnOk result ((k : Key) → course_at courses.new.entries k
-        ≡ cond (is_restart entry.now.act) fresh (calm_if (leaves_calm (touch k entry.now)) (course_at courses.old.entries k))) }
+    ensures { OnOk result ((k : Key)
+        → course_at courses.new.entries k
+        ≡ cond (is_restart entry.now.act) fresh
+        (calm_if (leaves_calm (touch k entry.now)) (course_at courses.old.entries k))) }
 {
     if matches!(entry.act, Act::Restart) {
         courses.clear();
@@ -170,7 +178,9 @@ fn note_answer(courses: &mut Courses, entry: &Entry) -> Result<(), AllocError>
 
 /// A lock on a key ran out before its time.
 fn upset(courses: &mut Courses, key: &Key) -> Result<(), AllocError>
-    ensures { OnOk result ((k : Key) → course_at courses.new.entries k ≡ calm_if (not_named k (Some key.now)) (course_at courses.old.entries k)) }
+    ensures { OnOk result ((k : Key)
+        → course_at courses.new.entries k
+        ≡ calm_if (not_named k (Some key.now)) (course_at courses.old.entries k)) }
 {
     let course = course_of(courses, *key).upset();
     set_course(courses, *key, course)
@@ -198,7 +208,9 @@ fn commit_all(
     written: &Writers,
     session: SessionNo,
 ) -> Result<(), AllocError>
-    ensures { OnOk result ((k : Key) → course_at courses.new.entries k ≡ committed_by (Some session) written.now.entries k (course_at courses.old.entries k)) }
+    ensures { OnOk result ((k : Key)
+        → course_at courses.new.entries k
+        ≡ committed_by (Some session) written.now.entries k (course_at courses.old.entries k)) }
 {
     match written.get(&session.0) {
         Some(own) => {
@@ -211,8 +223,10 @@ fn commit_all(
 
 /// Notes what an entry commits.
 fn note_commit(courses: &mut Courses, written: &Writers, entry: &Entry) -> Result<(), AllocError>
-    ensures { OnOk result ((k : Key) → course_at courses.new.entries k
-        ≡ committed_by (committer entry.now.act entry.now.reply entry.now.session) written.now.entries k (course_at courses.old.entries k)) }
+    ensures { OnOk result ((k : Key)
+        → course_at courses.new.entries k
+        ≡ committed_by (committer entry.now.act entry.now.reply entry.now.session)
+        written.now.entries k (course_at courses.old.entries k)) }
 {
     match committer(entry) {
         Some(session) => commit_all(courses, written, session),
@@ -223,7 +237,8 @@ fn note_commit(courses: &mut Courses, written: &Writers, entry: &Entry) -> Resul
 /// What a session has written, taken out.
 fn take_written(alloc: Global, written: &mut Writers, session: SessionNo) -> Written
     ensures taken { result ≡ written_at written.old.entries session }
-    ensures rest { (s : ℕ) → written_at written.new.entries s ≡ cond (session == s) nothing_written (written_at written.old.entries s) }
+    ensures rest { (s : ℕ) → written_at written.new.entries s
+        ≡ cond (session == s) nothing_written (written_at written.old.entries s) }
 {
     match written.swap_remove(&session.0) {
         Some(own) => own,
@@ -238,7 +253,10 @@ fn note_change(
     session: SessionNo,
     change: &Change,
 ) -> Result<(), AllocError>
-    ensures { OnOk result ((s : ℕ) → written_at written.new.entries s ≡ cond (session == s) (change_noted change.now (written_at written.old.entries s)) (written_at written.old.entries s)) }
+    ensures { OnOk result ((s : ℕ)
+        → written_at written.new.entries s
+        ≡ cond (session == s) (change_noted change.now (written_at written.old.entries s))
+        (written_at written.old.entries s)) }
 {
     let mut own = take_written(alloc, written, session);
     own.note(change)?;
@@ -253,7 +271,10 @@ fn note_act(
     session: SessionNo,
     act: &Act,
 ) -> Result<(), AllocError>
-    ensures { OnOk result ((s : ℕ) → written_at written.new.entries s ≡ cond (session == s) (act_noted act.now (written_at written.old.entries s)) (written_at written.old.entries s)) }
+    ensures { OnOk result ((s : ℕ)
+        → written_at written.new.entries s
+        ≡ cond (session == s) (act_noted act.now (written_at written.old.entries s))
+        (written_at written.old.entries s)) }
 {
     match act {
         Act::Begin => {
@@ -267,7 +288,10 @@ fn note_act(
 
 /// Notes what an entry writes.
 fn note_written(alloc: Global, written: &mut Writers, entry: &Entry) -> Result<(), AllocError>
-    ensures { OnOk result ((s : ℕ) → written_at written.new.entries s ≡ cond (is_by s entry.now) (act_noted entry.now.act (written_at written.old.entries s)) (written_at written.old.entries s)) }
+    ensures { OnOk result ((s : ℕ)
+        → written_at written.new.entries s
+        ≡ cond (is_by s entry.now) (act_noted entry.now.act (written_at written.old.entries s))
+        (written_at written.old.entries s)) }
 {
     match entry.session {
         Some(session) => note_act(alloc, written, session, &entry.act),
@@ -295,7 +319,8 @@ impl Watch {
 
     /// Notes an entry, the next one of the journal.
     pub fn note(&mut self, alloc: Global, entry: &Entry) -> Result<(), AllocError>
-        ensures { OnOk result ((past : Journal) → Watches self.old.courses.entries self.old.written.entries past
+        ensures { OnOk result ((past : Journal)
+            → Watches self.old.courses.entries self.old.written.entries past
             → Watches self.new.courses.entries self.new.written.entries (entry.now ∷ past)) }
     {
         note_answer(&mut self.courses, entry)?;
@@ -306,7 +331,8 @@ impl Watch {
     /// Whether a key is sound after the entries that were noted.
     #[tactic(auto, unfolding(hib_journal::specs::Sound::is_sound))]
     pub fn is_sound(&self, key: &Key) -> bool
-        ensures { (past : Journal) → Watches self.now.courses.entries self.now.written.entries past → result ≡ is_sound key.now past }
+        ensures { (past : Journal) → Watches self.now.courses.entries self.now.written.entries past
+            → result ≡ is_sound key.now past }
     {
         let course = course_of(&self.courses, *key);
         course.calm && !course.reused

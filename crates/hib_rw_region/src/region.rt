@@ -32,7 +32,11 @@ impl Model for RwRegion {
 
     ghost Value = { RegionState };
 
-    ghost view = { λ r. record { capacity = r.capacity; timeout = r.timeout; slots = r.slots.entries } };
+    ghost view = { λ r. record {
+      capacity = r.capacity;
+      timeout = r.timeout;
+      slots = r.slots.entries;
+    } };
 }
 
 impl RwRegion {
@@ -72,7 +76,8 @@ impl RwRegion {
     // The room for a new key: none, or with the key that leaves for it, if one has to.
     fn room(&self, floor: Tick) -> Option<Option<u64>>
         ensures room { result ≡ room_in self.now floor }
-        ensures apart { (id : ℕ) → kept_in self.now id ≡ None → option_map_or (λ v. v == id) (option_flatten result) false ≡ false }
+        ensures apart { (id : ℕ) → kept_in self.now id ≡ None
+            → option_map_or (λ v. v == id) (option_flatten result) false ≡ false }
     {
         if self.slots.len() < self.capacity as usize {
             return Some(None);
@@ -104,7 +109,8 @@ impl RwRegion {
     ) -> Result<Option<Option<u64>>, AllocError>
         requires { kept_in self.old id ≡ None }
         ensures room { IfOk result (λ room. room ≡ room_in self.old floor) }
-        ensures state { OnOk result (self.new ≡ new_item id row now (room_in self.old floor) self.old) }
+        ensures state { OnOk result (self.new
+            ≡ new_item id row now (room_in self.old floor) self.old) }
         ensures err { OnErr result (self.new ≡ self.old) }
     {
         let room = self.room(floor);
@@ -124,7 +130,8 @@ impl RwRegion {
         floor: Tick,
         now: Tick,
     ) -> Result<Put, AllocError>
-        ensures answer { IfOk result (λ put. put ≡ Regions.put (slot_in self.old id) (room_in self.old floor) time row.version) }
+        ensures answer { IfOk result (λ put. put
+            ≡ Regions.put (slot_in self.old id) (room_in self.old floor) time row.version) }
         ensures state { OnOk result (self.new ≡ after_put id row time floor now self.old) }
         ensures err { OnErr result (self.new ≡ self.old) }
     {
@@ -163,7 +170,9 @@ impl RwRegion {
         now: Tick,
     ) -> Result<Locked, AllocError>
         requires { now ≤ 2 ^ 62 }
-        ensures answer { IfOk result (λ locked. locked ≡ Regions.lock self.old.timeout (slot_in self.old id) (room_in self.old floor) now) }
+        ensures answer { IfOk result (λ locked. locked
+            ≡ Regions.lock self.old.timeout (slot_in self.old id)
+            (room_in self.old floor) now) }
         ensures state { OnOk result (self.new ≡ after_lock id version floor now self.old) }
         ensures err { OnErr result (self.new ≡ self.old) }
     {
@@ -190,7 +199,8 @@ impl RwRegion {
     // A lock was to be given back that isn't there: for as long as it was good, nothing is put.
     fn expire(&mut self, id: u64, now: Tick) -> Result<(), AllocError>
         requires { now ≤ 2 ^ 62 }
-        ensures ok { OnOk result (self.new ≡ with_slot id (barred now (now + self.old.timeout)) self.old) }
+        ensures ok { OnOk result (self.new
+            ≡ with_slot id (barred now (now + self.old.timeout)) self.old) }
         ensures err { OnErr result (self.new ≡ self.old) }
         ensures there { has_entry (slot_in self.old id) ≡ true → IsOk result }
     {
@@ -202,7 +212,8 @@ impl RwRegion {
     /// good for the timeout. At an error nothing has changed; there is none if the key has a slot.
     pub fn unlock(&mut self, id: u64, lock: Tick, now: Tick) -> Result<Unlocked, AllocError>
         requires { now ≤ 2 ^ 62 }
-        ensures answer { IfOk result (λ unlocked. unlocked ≡ Regions.unlock (slot_in self.old id) lock) }
+        ensures answer { IfOk result (λ unlocked. unlocked
+            ≡ Regions.unlock (slot_in self.old id) lock) }
         ensures state { OnOk result (self.new ≡ after_unlock id lock now self.old) }
         ensures err { OnErr result (self.new ≡ self.old) }
         ensures there { has_entry (slot_in self.old id) ≡ true → IsOk result }
@@ -225,7 +236,8 @@ impl RwRegion {
         now: Tick,
     ) -> Result<Updated, AllocError>
         requires { now ≤ 2 ^ 62 }
-        ensures answer { IfOk result (λ updated. updated ≡ Regions.after_update (slot_in self.old id) lock) }
+        ensures answer { IfOk result (λ updated. updated
+            ≡ Regions.after_update (slot_in self.old id) lock) }
         ensures state { OnOk result (self.new ≡ updated id lock row now self.old) }
         ensures err { OnErr result (self.new ≡ self.old) }
         ensures there { has_entry (slot_in self.old id) ≡ true → IsOk result }
@@ -248,7 +260,8 @@ impl RwRegion {
         floor: Tick,
         now: Tick,
     ) -> Result<Inserted, AllocError>
-        ensures answer { IfOk result (λ put. put ≡ Regions.after_insert (slot_in self.old id) (room_in self.old floor)) }
+        ensures answer { IfOk result (λ put. put
+            ≡ Regions.after_insert (slot_in self.old id) (room_in self.old floor)) }
         ensures state { OnOk result (self.new ≡ inserted id row floor now self.old) }
         ensures err { OnErr result (self.new ≡ self.old) }
     {

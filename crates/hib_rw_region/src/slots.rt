@@ -93,7 +93,8 @@ pub fn lock(slots: &mut IndexMap<u64, Slot>, id: u64, now: Tick, timeout: u32) -
     requires late { now ≤ 2 ^ 62 }
     requires few { holders_in (shown_in (lookup (nat_eq id) slots.old.entries)) < now }
     ensures there { is_some result ≡ is_some (lookup (nat_eq id) slots.old.entries) }
-    ensures id { (n : ℕ) → result ≡ Some n → n ≡ (Regions.lock timeout (shown_in (lookup (nat_eq id) slots.old.entries)) None now).id }
+    ensures id { (n : ℕ) → result ≡ Some n
+        → n ≡ (Regions.lock timeout (shown_in (lookup (nat_eq id) slots.old.entries)) None now).id }
     ensures slots { slots.new.entries ≡ changed id (locked timeout now) slots.old.entries }
 {
     let index = slots.get_index_of(&id)?;

@@ -32,8 +32,10 @@ const MOST_QUERIES: usize = 1_000;
 
 /// The line `hib 1`.
 pub fn header_line(draft: &mut Draft, tokens: &[Token]) -> Result<(), LineError>
-    ensures step { OnOk result (lines.header_line (reader_of draft.old) tokens.now ≡ Ok (reader_of draft.new)) }
-    ensures fault { IfErr result (lines.IsFault (lines.header_line (reader_of draft.old) tokens.now)) }
+    ensures step { OnOk result (lines.header_line (reader_of draft.old) tokens.now
+        ≡ Ok (reader_of draft.new)) }
+    ensures fault { IfErr result (lines.IsFault
+        (lines.header_line (reader_of draft.old) tokens.now)) }
 {
     if is_header(tokens) {
         behind(Part::Header, draft);
@@ -45,15 +47,19 @@ pub fn header_line(draft: &mut Draft, tokens: &[Token]) -> Result<(), LineError>
 
 /// `timeout N`.
 pub fn timeout_line(draft: &mut Draft, tokens: &[Token]) -> Result<(), LineError>
-    ensures step { OnOk result (lines.timeout_line (reader_of draft.old) tokens.now ≡ Ok (reader_of draft.new)) }
-    ensures fault { IfErr result (lines.IsFault (lines.timeout_line (reader_of draft.old) tokens.now)) }
+    ensures step { OnOk result (lines.timeout_line (reader_of draft.old) tokens.now
+        ≡ Ok (reader_of draft.new)) }
+    ensures fault { IfErr result (lines.IsFault
+        (lines.timeout_line (reader_of draft.old) tokens.now)) }
 {
     with_timeout(draft, number_line(MOST_TIMEOUT, tokens))
 }
 
 fn with_timeout(draft: &mut Draft, timeout: Result<u32, Kind>) -> Result<(), LineError>
-    ensures step { OnOk result (lines.with_timeout (reader_of draft.old) timeout ≡ Ok (reader_of draft.new)) }
-    ensures fault { IfErr result (lines.IsFault (lines.with_timeout (reader_of draft.old) timeout)) }
+    ensures step { OnOk result (lines.with_timeout (reader_of draft.old) timeout
+        ≡ Ok (reader_of draft.new)) }
+    ensures fault { IfErr result (lines.IsFault
+        (lines.with_timeout (reader_of draft.old) timeout)) }
 {
     match timeout {
         Ok(timeout) => {
@@ -67,15 +73,19 @@ fn with_timeout(draft: &mut Draft, timeout: Result<u32, Kind>) -> Result<(), Lin
 
 /// `results N`.
 pub fn results_line(draft: &mut Draft, tokens: &[Token]) -> Result<(), LineError>
-    ensures step { OnOk result (lines.results_line (reader_of draft.old) tokens.now ≡ Ok (reader_of draft.new)) }
-    ensures fault { IfErr result (lines.IsFault (lines.results_line (reader_of draft.old) tokens.now)) }
+    ensures step { OnOk result (lines.results_line (reader_of draft.old) tokens.now
+        ≡ Ok (reader_of draft.new)) }
+    ensures fault { IfErr result (lines.IsFault
+        (lines.results_line (reader_of draft.old) tokens.now)) }
 {
     with_results(draft, number_line(MOST_RESULTS, tokens))
 }
 
 fn with_results(draft: &mut Draft, results: Result<u32, Kind>) -> Result<(), LineError>
-    ensures step { OnOk result (lines.with_results (reader_of draft.old) results ≡ Ok (reader_of draft.new)) }
-    ensures fault { IfErr result (lines.IsFault (lines.with_results (reader_of draft.old) results)) }
+    ensures step { OnOk result (lines.with_results (reader_of draft.old) results
+        ≡ Ok (reader_of draft.new)) }
+    ensures fault { IfErr result (lines.IsFault
+        (lines.with_results (reader_of draft.old) results)) }
 {
     match results {
         Ok(results) => {
@@ -105,8 +115,10 @@ pub fn entity_line(
     followed: bool,
     tokens: &[Token],
 ) -> Result<(), LineError>
-    ensures step { OnOk result (lines.entity_line (reader_of draft.old) followed tokens.now ≡ Ok (reader_of draft.new)) }
-    ensures fault { IfErr result (lines.IsFault (lines.entity_line (reader_of draft.old) followed tokens.now)) }
+    ensures step { OnOk result (lines.entity_line (reader_of draft.old) followed tokens.now
+        ≡ Ok (reader_of draft.new)) }
+    ensures fault { IfErr result (lines.IsFault
+        (lines.entity_line (reader_of draft.old) followed tokens.now)) }
 {
     if !is_entity_line(tokens) {
         return Err(LineError::Fault(Kind::Words));
@@ -121,8 +133,10 @@ fn new_entity(
     tokens: &[Token],
     kind: Option<Kind>,
 ) -> Result<(), LineError>
-    ensures step { OnOk result (lines.new_entity (reader_of draft.old) tokens.now kind ≡ Ok (reader_of draft.new)) }
-    ensures fault { IfErr result (lines.IsFault (lines.new_entity (reader_of draft.old) tokens.now kind)) }
+    ensures step { OnOk result (lines.new_entity (reader_of draft.old) tokens.now kind
+        ≡ Ok (reader_of draft.new)) }
+    ensures fault { IfErr result (lines.IsFault
+        (lines.new_entity (reader_of draft.old) tokens.now kind)) }
 {
     if let Some(kind) = kind {
         return Err(LineError::Fault(kind));
@@ -134,8 +148,10 @@ fn new_entity(
 
 /// A column's line, of the entity whose columns are read.
 pub fn column_line(alloc: Global, draft: &mut Draft, tokens: &[Token]) -> Result<(), LineError>
-    ensures step { OnOk result (lines.column_line (reader_of draft.old) draft.old.entity tokens.now ≡ Ok (reader_of draft.new)) }
-    ensures fault { IfErr result (lines.IsFault (lines.column_line (reader_of draft.old) draft.old.entity tokens.now)) }
+    ensures step { OnOk result (lines.column_line (reader_of draft.old) draft.old.entity tokens.now
+        ≡ Ok (reader_of draft.new)) }
+    ensures fault { IfErr result (lines.IsFault
+        (lines.column_line (reader_of draft.old) draft.old.entity tokens.now)) }
 {
     let Some(entity) = draft.entity.take() else {
         return Err(LineError::Fault(Kind::Line));
@@ -153,7 +169,8 @@ fn more_columns(
     tokens: &[Token],
 ) -> Result<EntityDef, LineError>
     ensures step { IfOk result (λ e. lines.more_columns mapping.now entity tokens.now ≡ Ok e) }
-    ensures fault { IfErr result (lines.IsFault (lines.more_columns mapping.now entity tokens.now)) }
+    ensures fault { IfErr result (lines.IsFault
+        (lines.more_columns mapping.now entity tokens.now)) }
 {
     if !is_column_line(tokens) {
         return Err(LineError::Fault(Kind::Words));
@@ -167,7 +184,8 @@ fn more_columns(
 
 /// A row's line.
 pub fn row_line(alloc: Global, draft: &mut Draft, tokens: &[Token]) -> Result<(), LineError>
-    ensures step { OnOk result (lines.row_line (reader_of draft.old) tokens.now ≡ Ok (reader_of draft.new)) }
+    ensures step { OnOk result (lines.row_line (reader_of draft.old) tokens.now
+        ≡ Ok (reader_of draft.new)) }
     ensures fault { IfErr result (lines.IsFault (lines.row_line (reader_of draft.old) tokens.now)) }
 {
     match row(alloc, &draft.script.mapping, &draft.rows, tokens) {
@@ -178,7 +196,8 @@ pub fn row_line(alloc: Global, draft: &mut Draft, tokens: &[Token]) -> Result<()
 }
 
 fn with_row(draft: &mut Draft, row: (Key, Row)) -> Result<(), LineError>
-    ensures step { OnOk result (lines.with_row (reader_of draft.old) (Ok row) ≡ Ok (reader_of draft.new)) }
+    ensures step { OnOk result (lines.with_row (reader_of draft.old) (Ok row)
+        ≡ Ok (reader_of draft.new)) }
     ensures fault { IfErr result (lines.IsFault (lines.with_row (reader_of draft.old) (Ok row))) }
 {
     if !has_room(draft.rows.len(), MOST_ROWS) {
@@ -191,8 +210,10 @@ fn with_row(draft: &mut Draft, row: (Key, Row)) -> Result<(), LineError>
 
 /// A query's line.
 pub fn query_line(alloc: Global, draft: &mut Draft, tokens: &[Token]) -> Result<(), LineError>
-    ensures step { OnOk result (lines.query_line (reader_of draft.old) tokens.now ≡ Ok (reader_of draft.new)) }
-    ensures fault { IfErr result (lines.IsFault (lines.query_line (reader_of draft.old) tokens.now)) }
+    ensures step { OnOk result (lines.query_line (reader_of draft.old) tokens.now
+        ≡ Ok (reader_of draft.new)) }
+    ensures fault { IfErr result (lines.IsFault
+        (lines.query_line (reader_of draft.old) tokens.now)) }
 {
     let is_taken = is_query_taken(draft, tokens);
     match check(alloc, &draft.script.mapping, tokens) {
@@ -235,8 +256,10 @@ fn is_of_form(kind: Kind) -> bool
 
 #[tactic(auto, using(crate::proofs::Queries::one_more_said, crate::proofs::Queries::as_many_said))]
 fn with_query(draft: &mut Draft, is_taken: bool, query: Query) -> Result<(), LineError>
-    ensures step { OnOk result (lines.with_query (reader_of draft.old) is_taken (Ok (said query)) ≡ Ok (reader_of draft.new)) }
-    ensures fault { IfErr result (lines.IsFault (lines.with_query (reader_of draft.old) is_taken (Ok (said query)))) }
+    ensures step { OnOk result (lines.with_query (reader_of draft.old) is_taken (Ok (said query))
+        ≡ Ok (reader_of draft.new)) }
+    ensures fault { IfErr result (lines.IsFault
+        (lines.with_query (reader_of draft.old) is_taken (Ok (said query)))) }
 {
     if is_taken {
         return Err(LineError::Fault(Kind::Taken));

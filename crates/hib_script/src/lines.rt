@@ -22,8 +22,10 @@ pub fn after_line(
     followed: bool,
     tokens: &[Token],
 ) -> Result<(), LineError>
-    ensures step { OnOk result (lines.after_line (reader_of draft.old) followed tokens.now ≡ Ok (reader_of draft.new)) }
-    ensures fault { IfErr result (lines.IsFault (lines.after_line (reader_of draft.old) followed tokens.now)) }
+    ensures step { OnOk result (lines.after_line (reader_of draft.old) followed tokens.now
+        ≡ Ok (reader_of draft.new)) }
+    ensures fault { IfErr result (lines.IsFault
+        (lines.after_line (reader_of draft.old) followed tokens.now)) }
 {
     let place = mem::replace(&mut draft.place, Place::Start);
     match place {
@@ -48,8 +50,10 @@ fn behind_part(
     followed: bool,
     tokens: &[Token],
 ) -> Result<(), LineError>
-    ensures step { OnOk result (lines.behind_part (reader_of draft.old) last followed tokens.now ≡ Ok (reader_of draft.new)) }
-    ensures fault { IfErr result (lines.IsFault (lines.behind_part (reader_of draft.old) last followed tokens.now)) }
+    ensures step { OnOk result (lines.behind_part (reader_of draft.old) last followed tokens.now
+        ≡ Ok (reader_of draft.new)) }
+    ensures fault { IfErr result (lines.IsFault
+        (lines.behind_part (reader_of draft.old) last followed tokens.now)) }
 {
     if begins(tokens, b"column") {
         return column_line(alloc, draft, tokens);
@@ -71,8 +75,10 @@ fn part_line(
     followed: bool,
     tokens: &[Token],
 ) -> Result<(), LineError>
-    ensures step { OnOk result (lines.part_line (reader_of draft.old) part followed tokens.now ≡ Ok (reader_of draft.new)) }
-    ensures fault { IfErr result (lines.IsFault (lines.part_line (reader_of draft.old) part followed tokens.now)) }
+    ensures step { OnOk result (lines.part_line (reader_of draft.old) part followed tokens.now
+        ≡ Ok (reader_of draft.new)) }
+    ensures fault { IfErr result (lines.IsFault
+        (lines.part_line (reader_of draft.old) part followed tokens.now)) }
 {
     match part {
         Part::Header => Err(LineError::Fault(Kind::Line)),

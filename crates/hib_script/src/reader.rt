@@ -71,8 +71,10 @@ fn is_column_next(lines: &[Line], i: usize) -> bool
 
 /// Takes one more line into a draft.
 fn step(alloc: Global, draft: &mut Draft, followed: bool, line: &Line) -> Result<(), ScriptError>
-    ensures step { OnOk result (order.step (reader_of draft.old) followed line.now ≡ Ok (reader_of draft.new)) }
-    ensures refused { IfErr result (order.IsWhere (order.step (reader_of draft.old) followed line.now)) }
+    ensures step { OnOk result (order.step (reader_of draft.old) followed line.now
+        ≡ Ok (reader_of draft.new)) }
+    ensures refused { IfErr result
+        (order.IsWhere (order.step (reader_of draft.old) followed line.now)) }
 {
     match after_line(alloc, draft, followed, line.tokens.as_slice()) {
         Ok(()) => Ok(()),
@@ -83,8 +85,10 @@ fn step(alloc: Global, draft: &mut Draft, followed: bool, line: &Line) -> Result
 
 /// The script of a draft at the end of a text of so many lines.
 fn ended(count: u32, draft: Draft) -> Result<Script, ScriptError>
-    ensures script { IfOk result (λ s. order.ended_at count (reader_of draft) draft.place ≡ Ok (outline_of s)) }
-    ensures refused { IfErr result (order.IsWhere (order.ended_at count (reader_of draft) draft.place)) }
+    ensures script { IfOk result (λ s. order.ended_at count (reader_of draft) draft.place
+        ≡ Ok (outline_of s)) }
+    ensures refused { IfErr result
+        (order.IsWhere (order.ended_at count (reader_of draft) draft.place)) }
 {
     match draft.place {
         Place::Start => Err(refused(1, Kind::Header)),

@@ -27,8 +27,10 @@ const MOST_ORDERS: usize = 20_000;
 
 /// `session NAME`.
 pub fn session_line(alloc: Global, draft: &mut Draft, tokens: &[Token]) -> Result<(), LineError>
-    ensures step { OnOk result (lines.session_line (reader_of draft.old) tokens.now ≡ Ok (reader_of draft.new)) }
-    ensures fault { IfErr result (lines.IsFault (lines.session_line (reader_of draft.old) tokens.now)) }
+    ensures step { OnOk result (lines.session_line (reader_of draft.old) tokens.now
+        ≡ Ok (reader_of draft.new)) }
+    ensures fault { IfErr result (lines.IsFault
+        (lines.session_line (reader_of draft.old) tokens.now)) }
 {
     match tokens {
         [_, name] => named_session(alloc, draft, name),
@@ -37,8 +39,12 @@ pub fn session_line(alloc: Global, draft: &mut Draft, tokens: &[Token]) -> Resul
 }
 
 fn named_session(alloc: Global, draft: &mut Draft, name: &Token) -> Result<(), LineError>
-    ensures step { OnOk result (cond (is_a_word name.now) (lines.new_session (reader_of draft.old) (word_of name.now)) (Err Kind.Words) ≡ Ok (reader_of draft.new)) }
-    ensures fault { IfErr result (lines.IsFault (cond (is_a_word name.now) (lines.new_session (reader_of draft.old) (word_of name.now)) (Err Kind.Words))) }
+    ensures step { OnOk result (cond (is_a_word name.now)
+        (lines.new_session (reader_of draft.old) (word_of name.now)) (Err Kind.Words)
+        ≡ Ok (reader_of draft.new)) }
+    ensures fault { IfErr result (lines.IsFault
+        (cond (is_a_word name.now) (lines.new_session (reader_of draft.old) (word_of name.now))
+        (Err Kind.Words))) }
 {
     if is_word(name) {
         new_session(alloc, draft, name)
@@ -48,8 +54,10 @@ fn named_session(alloc: Global, draft: &mut Draft, name: &Token) -> Result<(), L
 }
 
 fn new_session(alloc: Global, draft: &mut Draft, name: &Token) -> Result<(), LineError>
-    ensures step { OnOk result (lines.new_session (reader_of draft.old) (word_of name.now) ≡ Ok (reader_of draft.new)) }
-    ensures fault { IfErr result (lines.IsFault (lines.new_session (reader_of draft.old) (word_of name.now))) }
+    ensures step { OnOk result (lines.new_session (reader_of draft.old) (word_of name.now)
+        ≡ Ok (reader_of draft.new)) }
+    ensures fault { IfErr result (lines.IsFault
+        (lines.new_session (reader_of draft.old) (word_of name.now))) }
 {
     let bytes = word_bytes(name);
     if is_reserved(bytes) {
@@ -76,8 +84,10 @@ pub fn in_session(
     session: SessionDef,
     tokens: &[Token],
 ) -> Result<(), LineError>
-    ensures step { OnOk result (lines.in_session (reader_of draft.old) session tokens.now ≡ Ok (reader_of draft.new)) }
-    ensures fault { IfErr result (lines.IsFault (lines.in_session (reader_of draft.old) session tokens.now)) }
+    ensures step { OnOk result (lines.in_session (reader_of draft.old) session tokens.now
+        ≡ Ok (reader_of draft.new)) }
+    ensures fault { IfErr result (lines.IsFault
+        (lines.in_session (reader_of draft.old) session tokens.now)) }
 {
     if begins(tokens, b"end") {
         end_line(alloc, draft, session, tokens)
@@ -93,8 +103,10 @@ fn statement_line(
     session: SessionDef,
     tokens: &[Token],
 ) -> Result<(), LineError>
-    ensures step { OnOk result (lines.statement_line (reader_of draft.old) session tokens.now ≡ Ok (reader_of draft.new)) }
-    ensures fault { IfErr result (lines.IsFault (lines.statement_line (reader_of draft.old) session tokens.now)) }
+    ensures step { OnOk result (lines.statement_line (reader_of draft.old) session tokens.now
+        ≡ Ok (reader_of draft.new)) }
+    ensures fault { IfErr result (lines.IsFault
+        (lines.statement_line (reader_of draft.old) session tokens.now)) }
 {
     match statement(alloc, &draft.script.mapping, &draft.script.queries, tokens) {
         Ok(statement) => with_statement(draft, session, statement),
@@ -108,8 +120,10 @@ fn with_statement(
     mut session: SessionDef,
     statement: Statement,
 ) -> Result<(), LineError>
-    ensures step { OnOk result (lines.with_statement (reader_of draft.old) session (Ok statement) ≡ Ok (reader_of draft.new)) }
-    ensures fault { IfErr result (lines.IsFault (lines.with_statement (reader_of draft.old) session (Ok statement))) }
+    ensures step { OnOk result (lines.with_statement (reader_of draft.old) session (Ok statement)
+        ≡ Ok (reader_of draft.new)) }
+    ensures fault { IfErr result (lines.IsFault
+        (lines.with_statement (reader_of draft.old) session (Ok statement))) }
 {
     if draft.statements >= MOST_STATEMENTS {
         return Err(LineError::Fault(Kind::Many));
@@ -145,8 +159,10 @@ fn end_line(
     session: SessionDef,
     tokens: &[Token],
 ) -> Result<(), LineError>
-    ensures step { OnOk result (lines.end_line (reader_of draft.old) session tokens.now ≡ Ok (reader_of draft.new)) }
-    ensures fault { IfErr result (lines.IsFault (lines.end_line (reader_of draft.old) session tokens.now)) }
+    ensures step { OnOk result (lines.end_line (reader_of draft.old) session tokens.now
+        ≡ Ok (reader_of draft.new)) }
+    ensures fault { IfErr result (lines.IsFault
+        (lines.end_line (reader_of draft.old) session tokens.now)) }
 {
     if !is_alone(tokens) {
         return Err(LineError::Fault(Kind::Words));
@@ -168,8 +184,10 @@ fn with_session(alloc: Global, draft: &mut Draft, session: SessionDef) -> Result
 
 /// `schedule`.
 pub fn schedule_line(draft: &mut Draft, tokens: &[Token]) -> Result<(), LineError>
-    ensures step { OnOk result (lines.schedule_line (reader_of draft.old) tokens.now ≡ Ok (reader_of draft.new)) }
-    ensures fault { IfErr result (lines.IsFault (lines.schedule_line (reader_of draft.old) tokens.now)) }
+    ensures step { OnOk result (lines.schedule_line (reader_of draft.old) tokens.now
+        ≡ Ok (reader_of draft.new)) }
+    ensures fault { IfErr result (lines.IsFault
+        (lines.schedule_line (reader_of draft.old) tokens.now)) }
 {
     if is_alone(tokens) {
         at(Place::Schedule, draft);
@@ -181,8 +199,10 @@ pub fn schedule_line(draft: &mut Draft, tokens: &[Token]) -> Result<(), LineErro
 
 /// A line within the schedule: an order or `end`.
 pub fn in_schedule(draft: &mut Draft, tokens: &[Token]) -> Result<(), LineError>
-    ensures step { OnOk result (lines.in_schedule (reader_of draft.old) tokens.now ≡ Ok (reader_of draft.new)) }
-    ensures fault { IfErr result (lines.IsFault (lines.in_schedule (reader_of draft.old) tokens.now)) }
+    ensures step { OnOk result (lines.in_schedule (reader_of draft.old) tokens.now
+        ≡ Ok (reader_of draft.new)) }
+    ensures fault { IfErr result (lines.IsFault
+        (lines.in_schedule (reader_of draft.old) tokens.now)) }
 {
     if begins(tokens, b"end") {
         return schedule_end(draft, tokens);
@@ -192,8 +212,10 @@ pub fn in_schedule(draft: &mut Draft, tokens: &[Token]) -> Result<(), LineError>
 }
 
 fn schedule_end(draft: &mut Draft, tokens: &[Token]) -> Result<(), LineError>
-    ensures step { OnOk result (lines.schedule_end (reader_of draft.old) tokens.now ≡ Ok (reader_of draft.new)) }
-    ensures fault { IfErr result (lines.IsFault (lines.schedule_end (reader_of draft.old) tokens.now)) }
+    ensures step { OnOk result (lines.schedule_end (reader_of draft.old) tokens.now
+        ≡ Ok (reader_of draft.new)) }
+    ensures fault { IfErr result (lines.IsFault
+        (lines.schedule_end (reader_of draft.old) tokens.now)) }
 {
     if is_alone(tokens) {
         behind(Part::Schedule, draft);
@@ -204,7 +226,8 @@ fn schedule_end(draft: &mut Draft, tokens: &[Token]) -> Result<(), LineError>
 }
 
 fn with_order(draft: &mut Draft, order: Result<Order, Kind>) -> Result<(), LineError>
-    ensures step { OnOk result (lines.with_order (reader_of draft.old) order ≡ Ok (reader_of draft.new)) }
+    ensures step { OnOk result (lines.with_order (reader_of draft.old) order
+        ≡ Ok (reader_of draft.new)) }
     ensures fault { IfErr result (lines.IsFault (lines.with_order (reader_of draft.old) order)) }
 {
     let order = match order {

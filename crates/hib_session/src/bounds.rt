@@ -10,5 +10,7 @@ ghost use Rattle.hib_session.specs.Bound.{most_entries};
 /// A session that does the acts of its plan, each once and in order, has few entries, whatever it is answered.
 #[tactic(auto, using(crate::proofs::Few::entries_few))]
 pub fn entries_are_few()
-    ensures { (script : Script) (s : ℕ) (mine : Journal) → InOrder (plan_of script s) mine → length mine ≤ most_entries (length (option_map_or (λ d. d.statements) (slice_get script.sessions s) [])) }
+    ensures { (script : Script) (s : ℕ) (mine : Journal) → InOrder (plan_of script s) mine
+        → length mine ≤ most_entries (length
+        (option_map_or (λ d. d.statements) (slice_get script.sessions s) [])) }
 {}

@@ -82,7 +82,8 @@ fn is_end(statement: &Statement) -> bool
 
 /// The statements of a session.
 fn statements_of(script: &Script, number: SessionNo) -> &[Statement]
-    ensures { result.now ≡ option_map_or (λ d. d.statements) (slice_get script.now.sessions number) [] }
+    ensures { result.now ≡ option_map_or (λ d. d.statements)
+        (slice_get script.now.sessions number) [] }
 {
     match script.sessions.as_slice().get(number.0 as usize) {
         Some(def) => def.statements.as_slice(),
@@ -101,7 +102,8 @@ fn is_over(list: &[Statement], place: usize) -> bool
 }
 
 fn answering(script: &Script, memory: &Memory, mode: Mode, stage: Stage) -> Stage
-    ensures decided { (mine : Journal) → Recalls memory.now mine → result ≡ decided script.now mode mine stage }
+    ensures decided { (mine : Journal) → Recalls memory.now mine
+        → result ≡ decided script.now mode mine stage }
     ensures less { is_answering stage ≡ true → rank result < rank stage }
 {
     match stage {
@@ -182,7 +184,8 @@ impl Control {
     pub fn start(alloc: Global, number: SessionNo) -> Control
         ensures number { result.number ≡ number }
         ensures stands { (script : Script) → Stands script result [] }
-        ensures settled { (script : Script) → Rattle.hib_session.specs.Control.is_settled script result ≡ true }
+        ensures settled { (script : Script)
+            → Rattle.hib_session.specs.Control.is_settled script result ≡ true }
     {
         Control {
             number,
@@ -230,9 +233,12 @@ impl Control {
         requires empty { self.old.queue ≡ [] }
         requires idle { self.old.stage ≡ Stage.Idle }
         requires begun { self.old.begins ≡ false }
-        requires there { self.old.place < length (option_map_or (λ d. d.statements) (slice_get script.now.sessions self.old.number) []) }
+        requires there { self.old.place
+            < length (option_map_or (λ d. d.statements)
+            (slice_get script.now.sessions self.old.number) []) }
         ensures number { self.new.number ≡ self.old.number }
-        ensures stands { (mine : Journal) → Knows memory.now mine → Stands script.now self.old mine → Stands script.now self.new mine }
+        ensures stands { (mine : Journal) → Knows memory.now mine → Stands script.now self.old mine
+            → Stands script.now self.new mine }
         ensures weight { OnOk result (weight script.now self.new < weight script.now self.old) }
         ensures err { OnErr result (self.new ≡ self.old) }
     {
@@ -251,7 +257,8 @@ impl Control {
     fn go_on(&mut self, alloc: Global, script: &Script, memory: &Memory) -> Result<(), AllocError>
         requires { Rattle.hib_session.specs.Control.is_settled script.now self.old ≡ false }
         ensures number { self.new.number ≡ self.old.number }
-        ensures stands { (mine : Journal) → Knows memory.now mine → Stands script.now self.old mine → Stands script.now self.new mine }
+        ensures stands { (mine : Journal) → Knows memory.now mine → Stands script.now self.old mine
+            → Stands script.now self.new mine }
         ensures weight { OnOk result (weight script.now self.new < weight script.now self.old) }
         ensures err { OnErr result (self.new ≡ self.old) }
     {
@@ -270,8 +277,10 @@ impl Control {
         memory: &Memory,
     ) -> Result<(), AllocError>
         ensures number { self.new.number ≡ self.old.number }
-        ensures stands { (mine : Journal) → Knows memory.now mine → Stands script.now self.old mine → Stands script.now self.new mine }
-        ensures settled { OnOk result (Rattle.hib_session.specs.Control.is_settled script.now self.new ≡ true) }
+        ensures stands { (mine : Journal) → Knows memory.now mine → Stands script.now self.old mine
+            → Stands script.now self.new mine }
+        ensures settled { OnOk result (Rattle.hib_session.specs.Control.is_settled script.now
+            self.new ≡ true) }
         ensures weight { weight script.now self.new ≤ weight script.now self.old }
     {
         while !self.is_settled(script) {
@@ -287,8 +296,10 @@ impl Control {
         script: &Script,
         memory: &Memory,
     ) -> Result<Option<Act>, AllocError>
-        ensures { IfOk result (λ a. (mine : Journal) → Knows memory.now mine → Stands script.now self.now mine
-            → Rattle.hib_session.specs.Control.is_settled script.now self.now ≡ true → a ≡ next script.now self.now.number mine) }
+        ensures { IfOk result (λ a. (mine : Journal) → Knows memory.now mine
+            → Stands script.now self.now mine
+            → Rattle.hib_session.specs.Control.is_settled script.now self.now ≡ true
+            → a ≡ next script.now self.now.number mine) }
     {
         if !self.queue.is_empty() {
             let act = self.queue.first().copy(alloc)?;
@@ -318,7 +329,8 @@ impl Control {
     /// Whether what the entry of the next act needs is there: copies for a write, and for an end of the transaction the acts
     /// that follow.
     pub fn is_made(&self, copies: &Option<Written>, ending: &Option<Ending>) -> bool
-        ensures { result ≡ Rattle.hib_session.specs.Ahead.is_made self.now.queue self.now.stage copies.now ending.now }
+        ensures { result ≡ Rattle.hib_session.specs.Ahead.is_made self.now.queue self.now.stage
+            copies.now ending.now }
     {
         if !self.queue.is_empty() {
             return are_there(self.queue.first(), copies);
@@ -332,7 +344,8 @@ impl Control {
     /// Copies for the entry of the write that is due, if one is.
     pub fn copies(&self, alloc: Global) -> Result<Option<Written>, AllocError>
         ensures copies { IfOk result (λ w. Copies self.now.queue w) }
-        ensures made { IfOk result (λ w. (a : Act) (rest : List Act) → self.now.queue ≡ a ∷ rest → has_copies w a ≡ true) }
+        ensures made { IfOk result (λ w. (a : Act) (rest : List Act) → self.now.queue ≡ a ∷ rest
+            → has_copies w a ≡ true) }
     {
         if self.queue.is_empty() {
             return Ok(None);
@@ -348,7 +361,8 @@ impl Control {
         script: &Script,
         memory: &Memory,
     ) -> Result<Option<Ending>, AllocError>
-        ensures acts { IfOk result (λ e. (mine : Journal) → Recalls memory.now mine → Ends script.now self.now.mode mine e) }
+        ensures acts { IfOk result (λ e. (mine : Journal) → Recalls memory.now mine
+            → Ends script.now self.now.mode mine e) }
         ensures made { IfOk result (λ e. self.now.queue ≡ [] → has_ending self.now.stage e ≡ true) }
     {
         if !self.queue.is_empty() {
@@ -375,10 +389,16 @@ impl Control {
         entry: &Entry,
         ending: Option<Ending>,
     ) -> Result<(Acts, Stage), AllocError>
-        ensures less { IfOk result (λ r. self.now.queue ≡ [] → is_due self.now.stage ≡ true → rank r.1 < rank self.now.stage) }
-        ensures follows { IfOk result (λ r. (done : Journal) (go : Journal → Plan) → self.now.queue ≡ [] → is_due self.now.stage ≡ true → Recalls memory.now (entry.now ∷ done) → Ends script.now self.now.mode (entry.now ∷ done) ending →
-            queued script.now self.now.mode r.0 r.1 (entry.now ∷ done) go ≡ after (staged script.now self.now.mode self.now.stage done go) entry.now) }
-        ensures room { (self.now.queue ≡ [] → asks_rows self.now.stage ≡ false) → (self.now.queue ≡ [] → has_ending self.now.stage ending ≡ true) → IsOk result }
+        ensures less { IfOk result (λ r. self.now.queue ≡ [] → is_due self.now.stage ≡ true
+            → rank r.1 < rank self.now.stage) }
+        ensures follows { IfOk result (λ r. (done : Journal) (go : Journal → Plan)
+            → self.now.queue ≡ [] → is_due self.now.stage ≡ true
+            → Recalls memory.now (entry.now ∷ done)
+            → Ends script.now self.now.mode (entry.now ∷ done) ending
+            → queued script.now self.now.mode r.0 r.1 (entry.now ∷ done) go
+            ≡ after (staged script.now self.now.mode self.now.stage done go) entry.now) }
+        ensures room { (self.now.queue ≡ [] → asks_rows self.now.stage ≡ false)
+            → (self.now.queue ≡ [] → has_ending self.now.stage ending ≡ true) → IsOk result }
     {
         if !self.queue.is_empty() {
             return Ok((Seq::new(alloc), self.stage));
@@ -390,11 +410,18 @@ impl Control {
     /// It takes no memory.
     pub fn step(&mut self, queue: Acts, stage: Stage)
         ensures number { self.new.number ≡ self.old.number }
-        ensures stands { (script : Script) (entry : Entry) (done : Journal) → ((go : Journal → Plan) → self.old.queue ≡ [] → is_due self.old.stage ≡ true →
-            queued script self.old.mode queue stage (entry ∷ done) go ≡ after (staged script self.old.mode self.old.stage done go) entry) → Stands script self.old done
-            → Rattle.hib_session.specs.Control.is_settled script self.old ≡ true → Stands script self.new (entry ∷ done) }
-        ensures weight { (script : Script) → (self.old.queue ≡ [] → is_due self.old.stage ≡ true → rank stage < rank self.old.stage) → Rattle.hib_session.specs.Control.is_settled script self.old ≡ true
-            → Rattle.hib_session.specs.Control.is_over script self.old ≡ false → weight script self.new < weight script self.old }
+        ensures stands { (script : Script) (entry : Entry) (done : Journal)
+            → ((go : Journal → Plan) → self.old.queue ≡ [] → is_due self.old.stage ≡ true
+            → queued script self.old.mode queue stage (entry ∷ done) go
+            ≡ after (staged script self.old.mode self.old.stage done go) entry)
+            → Stands script self.old done → Rattle.hib_session.specs.Control.is_settled script
+            self.old ≡ true → Stands script self.new (entry ∷ done) }
+        ensures weight { (script : Script)
+            → (self.old.queue ≡ [] → is_due self.old.stage ≡ true
+            → rank stage < rank self.old.stage)
+            → Rattle.hib_session.specs.Control.is_settled script self.old ≡ true
+            → Rattle.hib_session.specs.Control.is_over script self.old ≡ false
+            → weight script self.new < weight script self.old }
     {
         if !self.queue.is_empty() {
             self.queue.take_first();

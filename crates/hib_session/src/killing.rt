@@ -17,7 +17,8 @@ pub fn kill_at(sessions: &mut Vec<Session>, place: usize)
 
 /// Kills the sessions of these numbers, which are their places. It takes no memory.
 pub fn kill_all(sessions: &mut Vec<Session>, numbers: &[SessionNo])
-    ensures { AreKilled (λ s. list_any (λ n. n == s) numbers.now) sessions.old.items sessions.new.items }
+    ensures { AreKilled (λ s. list_any (λ n. n == s) numbers.now) sessions.old.items
+        sessions.new.items }
 {
     for number in numbers {
         kill_at(sessions, number.0 as usize);

@@ -60,7 +60,8 @@ impl Model for Memory {
       fresh = m.fresh.keys;
       locks = m.locks.entries;
       outcome = m.outcome;
-      room = (nat_lt 0 (spare_of m.marks) && m.changes.room) && (nat_lt 0 (spare m.fresh) && nat_lt 0 (spare_of m.locks));
+      room = (nat_lt 0 (spare_of m.marks) && m.changes.room)
+          && (nat_lt 0 (spare m.fresh) && nat_lt 0 (spare_of m.locks));
     } };
 }
 
@@ -153,7 +154,8 @@ impl Memory {
 
     /// Whether a key is held or in the changes.
     pub fn knows(&self, key: Key) -> bool
-        ensures { result ≡ (is_some (held_in self.now.instances.held key) || is_in key self.now.changes) }
+        ensures { result ≡ (is_some (held_in self.now.instances.held key) || is_in key
+            self.now.changes) }
     {
         // The key is passed twice, which a struct by value is not in a proved body.
         let Key { entity, id } = key;
@@ -162,21 +164,24 @@ impl Memory {
 
     /// Whether the region of a key is asked for it.
     pub fn reads(&self, script: &Script, mode: Mode, key: Key) -> bool
-        ensures { (mine : Journal) → Knows self.now mine → result ≡ may_read script.now mode key mine }
+        ensures { (mine : Journal) → Knows self.now mine
+            → result ≡ may_read script.now mode key mine }
     {
         is_cached(script.mapping.as_slice(), key.entity) && mode.reads() && !self.has_changed(key)
     }
 
     /// Whether a loaded row of a key is put into its region.
     pub fn puts(&self, script: &Script, mode: Mode, key: Key) -> bool
-        ensures { (mine : Journal) → Recalls self.now mine → result ≡ may_put script.now mode key mine }
+        ensures { (mine : Journal) → Recalls self.now mine
+            → result ≡ may_put script.now mode key mine }
     {
         is_cached(script.mapping.as_slice(), key.entity) && mode.puts() && !self.has_changed(key)
     }
 
     /// Whether a query may use its results.
     pub fn frees(&self, script: &Script, query: QueryNo, by_mode: bool) -> bool
-        ensures { (mine : Journal) → Recalls self.now mine → result ≡ is_free script.now query by_mode mine }
+        ensures { (mine : Journal) → Recalls self.now mine
+            → result ≡ is_free script.now query by_mode mine }
     {
         is_kept(script, query) && by_mode && !is_touched(script, query, self.changes.as_slice())
     }
@@ -188,7 +193,8 @@ impl Memory {
         script: &Script,
         query: QueryNo,
     ) -> Result<bool, AllocError>
-        ensures { IfOk result (λ b. (mine : Journal) → Knows self.now mine → b ≡ is_in_tables (tables_of script.now query) (pending mine)) }
+        ensures { IfOk result (λ b. (mine : Journal) → Knows self.now mine
+            → b ≡ is_in_tables (tables_of script.now query) (pending mine)) }
     {
         let changes = plan(alloc, &self.instances)?;
         Ok(is_touched(script, query, changes.as_slice()))
@@ -231,7 +237,8 @@ impl Memory {
 
     /// Adds the write of a change, and what comes before it.
     fn add_write(&self, script: &Script, acts: &mut Acts, change: Change) -> Result<(), AllocError>
-        ensures { OnOk result (acts.new ≡ acts.old ++ (before_in script.now self.now change ++ Act.Write change ∷ [])) }
+        ensures { OnOk result (acts.new
+            ≡ acts.old ++ (before_in script.now self.now change ++ Act.Write change ∷ [])) }
     {
         if let Some(act) = self.before(script, &change) {
             acts.push(act)?;
@@ -262,7 +269,8 @@ impl Memory {
 
     /// The acts of a flush.
     pub fn flush(&self, alloc: Global, script: &Script) -> Result<Acts, AllocError>
-        ensures { IfOk result (λ q. (mine : Journal) → Knows self.now mine → q ≡ flush_of script.now mine (pending mine)) }
+        ensures { IfOk result (λ q. (mine : Journal) → Knows self.now mine
+            → q ≡ flush_of script.now mine (pending mine)) }
     {
         let changes = plan(alloc, &self.instances)?;
         let acts = self.flush_acts(alloc, script, changes)?;
@@ -277,7 +285,8 @@ impl Memory {
         mode: Mode,
         committed: bool,
     ) -> Result<Acts, AllocError>
-        ensures { IfOk result (λ q. (mine : Journal) → Recalls self.now mine → q ≡ completion script.now mode committed mine) }
+        ensures { IfOk result (λ q. (mine : Journal) → Recalls self.now mine
+            → q ≡ completion script.now mode committed mine) }
     {
         let mut acts = acts(
             alloc,

@@ -49,12 +49,14 @@ impl Memory {
     /// A row that was read arrives, in the place of an instance of the same key.
     fn read(&mut self, alloc: Global, key: &Key, row: &Row) -> Result<(), AllocError>
         requires { self.old.room ≡ true }
-        ensures ok { OnOk result (self.new ≡ record self.old {
-          instances = with_pairs self.old.instances (arrive_in key.now (managed row.now) self.old.instances.held);
-          marks = with_value key.now false self.old.marks;
-          fresh = with_key key.now self.old.fresh;
-          room = self.new.room;
-        }) }
+        ensures ok { OnOk result (self.new
+            ≡ record self.old {
+              instances = with_pairs self.old.instances
+                  (arrive_in key.now (managed row.now) self.old.instances.held);
+              marks = with_value key.now false self.old.marks;
+              fresh = with_key key.now self.old.fresh;
+              room = self.new.room;
+            }) }
         ensures err { OnErr result (self.new ≡ self.old) }
     {
         let held = read_held(alloc, row)?;
@@ -67,11 +69,13 @@ impl Memory {
     /// A new row arrives, in the place of an instance of the same key.
     fn make(&mut self, alloc: Global, key: &Key, row: &Row) -> Result<(), AllocError>
         requires { self.old.room ≡ true }
-        ensures ok { OnOk result (self.new ≡ record self.old {
-          instances = with_pairs self.old.instances (arrive_in key.now (made row.now) self.old.instances.held);
-          marks = with_value key.now true self.old.marks;
-          room = self.new.room;
-        }) }
+        ensures ok { OnOk result (self.new
+            ≡ record self.old {
+              instances = with_pairs self.old.instances
+                  (arrive_in key.now (made row.now) self.old.instances.held);
+              marks = with_value key.now true self.old.marks;
+              room = self.new.room;
+            }) }
         ensures err { OnErr result (self.new ≡ self.old) }
     {
         let held = made_held(alloc, row)?;
@@ -82,7 +86,13 @@ impl Memory {
 
     /// A transaction begins. It takes no memory.
     fn begin(&mut self, alloc: Global, entry: &Entry)
-        ensures { self.new ≡ record self.old { time = entry.now.tick; floor = floor_after Act.Begin entry.now.reply self.old.floor; changes = []; fresh = []; room = self.new.room } }
+        ensures { self.new ≡ record self.old {
+          time = entry.now.tick;
+          floor = floor_after Act.Begin entry.now.reply self.old.floor;
+          changes = [];
+          fresh = [];
+          room = self.new.room;
+        } }
     {
         self.time = entry.tick;
         if let Reply::Began { floor } = &entry.reply {
@@ -94,7 +104,11 @@ impl Memory {
 
     /// The identity map is emptied. It takes no memory.
     fn clear(&mut self, alloc: Global)
-        ensures { self.new ≡ record self.old { instances = with_pairs self.old.instances []; marks = []; room = self.new.room } }
+        ensures { self.new ≡ record self.old {
+          instances = with_pairs self.old.instances [];
+          marks = [];
+          room = self.new.room;
+        } }
     {
         self.instances.clear();
         self.marks = IndexMap::new(alloc);
@@ -103,7 +117,8 @@ impl Memory {
     /// A commit was answered. It takes no memory.
     fn commit(&mut self, alloc: Global, reply: &Reply)
         ensures { self.new ≡ record self.old {
-          instances = with_pairs self.old.instances (unless_broken (is_break Act.Commit reply.now) self.old.instances.held);
+          instances = with_pairs self.old.instances
+              (unless_broken (is_break Act.Commit reply.now) self.old.instances.held);
           marks = unless_broken (is_break Act.Commit reply.now) self.old.marks;
           outcome = outcome_after Act.Commit reply.now self.old.outcome;
           room = self.new.room;
@@ -126,7 +141,8 @@ impl Memory {
     fn insert(&mut self, change: Change, key: &Key, base: Row)
         requires { self.old.room ≡ true }
         ensures { self.new ≡ record self.old {
-          instances = with_pairs self.old.instances (change_in key.now (written base) self.old.instances.held);
+          instances = with_pairs self.old.instances
+              (change_in key.now (written base) self.old.instances.held);
           marks = with_value key.now false self.old.marks;
           fresh = with_key key.now self.old.fresh;
           changes = self.old.changes ++ change ∷ [];
@@ -143,7 +159,8 @@ impl Memory {
     fn update(&mut self, change: Change, key: &Key, base: Row)
         requires { self.old.room ≡ true }
         ensures { self.new ≡ record self.old {
-          instances = with_pairs self.old.instances (change_in key.now (written base) self.old.instances.held);
+          instances = with_pairs self.old.instances
+              (change_in key.now (written base) self.old.instances.held);
           fresh = with_key key.now self.old.fresh;
           changes = self.old.changes ++ change ∷ [];
           room = self.new.room;
@@ -189,9 +206,14 @@ impl Memory {
 
     /// A row was removed: its instance leaves if it was never written, and else is marked.
     fn remove(&mut self, key: &Key) -> Result<(), AllocError>
-        ensures ok { OnOk result (self.new ≡ record self.old {
-          instances = record { held = remove_in (marked_in key.now self.old.marks) key.now self.old.instances.held; removals = remove_last key.now self.old.instances.removals };
-        }) }
+        ensures ok { OnOk result (self.new
+            ≡ record self.old {
+              instances = record {
+                held = remove_in
+                    (marked_in key.now self.old.marks) key.now self.old.instances.held;
+                removals = remove_last key.now self.old.instances.removals;
+              };
+            }) }
         ensures err { OnErr result (self.new ≡ self.old) }
     {
         self.instances.note_removal(*key)?;
@@ -205,9 +227,11 @@ impl Memory {
 
     /// Cells of a row were set.
     fn set(&mut self, alloc: Global, key: &Key, sets: &Sets) -> Result<(), AllocError>
-        ensures ok { OnOk result (self.new ≡ record self.old {
-          instances = with_pairs self.old.instances (change_in key.now (with_sets sets.now) self.old.instances.held);
-        }) }
+        ensures ok { OnOk result (self.new
+            ≡ record self.old {
+              instances = with_pairs self.old.instances
+                  (change_in key.now (with_sets sets.now) self.old.instances.held);
+            }) }
         ensures err { OnErr result (self.new ≡ self.old) }
     {
         let sets = copy_sets(alloc, sets)?;
@@ -218,7 +242,10 @@ impl Memory {
     /// A lock was given.
     fn lock(&mut self, key: Key, lock: Tick)
         requires { self.old.room ≡ true }
-        ensures { self.new ≡ record self.old { locks = with_value key lock self.old.locks; room = self.new.room } }
+        ensures { self.new ≡ record self.old {
+          locks = with_value key lock self.old.locks;
+          room = self.new.room;
+        } }
     {
         put(&mut self.locks, key, lock);
     }
@@ -257,9 +284,11 @@ impl Memory {
         copies: Option<Written>,
     ) -> Result<(), AllocError>
         requires { self.old.room ≡ true }
-        ensures ok { OnOk result (Fits copies entry.now.act → self.new ≡ with_room self.new.room (noted self.old entry.now)) }
+        ensures ok { OnOk result (Fits copies entry.now.act
+            → self.new ≡ with_room self.new.room (noted self.old entry.now)) }
         ensures err { OnErr result (self.new ≡ self.old) }
-        ensures room { brings entry.now.act ≡ false → has_copies copies entry.now.act ≡ true → IsOk result }
+        ensures room { brings entry.now.act ≡ false → has_copies copies entry.now.act ≡ true
+            → IsOk result }
     {
         match &entry.act {
             Act::Write(change) => self.write_copied(alloc, change, copies),
@@ -314,9 +343,11 @@ impl Memory {
         entry: &Entry,
         copies: Option<Written>,
     ) -> Result<(), AllocError>
-        ensures ok { OnOk result (Fits copies entry.now.act → self.new ≡ with_room self.new.room (noted self.old entry.now)) }
+        ensures ok { OnOk result (Fits copies entry.now.act
+            → self.new ≡ with_room self.new.room (noted self.old entry.now)) }
         ensures err { OnErr result (self.new ≡ with_room self.new.room self.old) }
-        ensures room { self.old.room ≡ true → brings entry.now.act ≡ false → has_copies copies entry.now.act ≡ true → IsOk result }
+        ensures room { self.old.room ≡ true → brings entry.now.act ≡ false
+            → has_copies copies entry.now.act ≡ true → IsOk result }
     {
         self.reserve()?;
         self.take(alloc, entry, copies)

@@ -58,7 +58,8 @@ fn touches(query: &Query, entities: usize, changes: &[Change]) -> bool
 
 // By a test of each change.
 fn touches_named(script: &Script, query: QueryNo, changes: &[Change]) -> bool
-    ensures { result ≡ touching_in (length script.now.mapping) (slice_get script.now.queries query) changes.now }
+    ensures { result ≡ touching_in (length script.now.mapping)
+        (slice_get script.now.queries query) changes.now }
 {
     match script.queries.as_slice().get(query.0 as usize) {
         Some(query) => touches(query, script.mapping.len(), changes),

@@ -128,9 +128,12 @@ impl Session {
     pub fn ready(&mut self, alloc: Global, script: &Script) -> Result<(), AllocError>
         ensures number { number_of self.new ≡ number_of self.old }
         ensures killed { is_killed self.new ≡ is_killed self.old }
-        ensures follows { (mine : Journal) → Follows script.now self.old mine → Follows script.now self.new mine }
-        ensures ready { OnOk result (Rattle.hib_session.specs.Session.is_ready script.now self.new ≡ true) }
-        ensures still { Rattle.hib_session.specs.Session.is_ready script.now self.old ≡ true → (IsOk result) × (self.new ≡ self.old) }
+        ensures follows { (mine : Journal) → Follows script.now self.old mine
+            → Follows script.now self.new mine }
+        ensures ready { OnOk result (Rattle.hib_session.specs.Session.is_ready script.now self.new
+            ≡ true) }
+        ensures still { Rattle.hib_session.specs.Session.is_ready script.now self.old ≡ true
+            → (IsOk result) × (self.new ≡ self.old) }
         ensures left { left_in script.now self.new ≤ left_in script.now self.old }
     {
         if self.is_ready(script) {
@@ -147,7 +150,9 @@ impl Session {
 
     /// The act that is due of a session that was not killed.
     fn due(&self, alloc: Global, script: &Script) -> Result<Option<Act>, AllocError>
-        ensures { IfOk result (λ a. (mine : Journal) → Knows self.now.memory mine → Stands script.now self.now.control mine → a ≡ next script.now (number_of self.now) mine) }
+        ensures { IfOk result (λ a. (mine : Journal) → Knows self.now.memory mine
+            → Stands script.now self.now.control mine
+            → a ≡ next script.now (number_of self.now) mine) }
     {
         if self.control.is_settled(script) {
             let act = self.control.next_act(alloc, script, &self.memory)?;
@@ -161,12 +166,16 @@ impl Session {
 
     /// The act that is due, or none if the session is at its end or was killed. Fails for want of memory alone.
     pub fn next_act(&self, alloc: Global, script: &Script) -> Result<Option<Act>, AllocError>
-        ensures act { IfOk result (λ a. (mine : Journal) → Follows script.now self.now mine → a ≡ next script.now (number_of self.now) mine) }
+        ensures act { IfOk result (λ a. (mine : Journal) → Follows script.now self.now mine
+            → a ≡ next script.now (number_of self.now) mine) }
         ensures killed { IfOk result (λ a. is_killed self.now ≡ true → a ≡ None) }
 
         // What is known of the act, and that no transaction is open at the end of a session whose last statement ends one.
-        ensures allowed { IfOk result (λ a. (mine : Journal) → Follows script.now self.now mine → IfSome a (IsAllowed script.now (number_of self.now) mine)) }
-        ensures ended { IfOk result (λ a. (mine : Journal) → Follows script.now self.now mine → a ≡ None → is_closed script.now (number_of self.now) ≡ true → is_begun mine ≡ false) }
+        ensures allowed { IfOk result (λ a. (mine : Journal) → Follows script.now self.now mine
+            → IfSome a (IsAllowed script.now (number_of self.now) mine)) }
+        ensures ended { IfOk result (λ a. (mine : Journal) → Follows script.now self.now mine
+            → a ≡ None → is_closed script.now (number_of self.now) ≡ true
+            → is_begun mine ≡ false) }
     {
         if self.killed {
             return Ok(None);
@@ -177,7 +186,8 @@ impl Session {
 
     /// The answer to a find of what is held.
     fn found(&self, alloc: Global, key: Key) -> Result<Reply, AllocError>
-        ensures { IfOk result (λ r. (mine : Journal) → Knows self.now.memory mine → r ≡ Reply.Row (Rattle.hib_journal.specs.Legal.row_of (held mine key))) }
+        ensures { IfOk result (λ r. (mine : Journal) → Knows self.now.memory mine
+            → r ≡ Reply.Row (Rattle.hib_journal.specs.Legal.row_of (held mine key))) }
     {
         match self.memory.find(key) {
             Some(held) => {
@@ -190,14 +200,17 @@ impl Session {
 
     /// The answer to a persist.
     fn persisted(&self, key: Key) -> Reply
-        ensures { (mine : Journal) → Knows self.now.memory mine → result ≡ cond (is_some (held mine key) || is_in key (changes_in mine)) Reply.Known Reply.New }
+        ensures { (mine : Journal) → Knows self.now.memory mine
+            → result ≡ cond (is_some (held mine key) || is_in key (changes_in mine)) Reply.Known
+            Reply.New }
     {
         persist_reply(self.memory.knows(key))
     }
 
     /// Whether the session sees a row of a key.
     fn shows(&self, key: Key) -> bool
-        ensures { (mine : Journal) → Knows self.now.memory mine → result ≡ is_some (Rattle.hib_journal.specs.Legal.row_of (held mine key)) }
+        ensures { (mine : Journal) → Knows self.now.memory mine
+            → result ≡ is_some (Rattle.hib_journal.specs.Legal.row_of (held mine key)) }
     {
         match self.memory.find(key) {
             Some(held) => is_shown(held),
@@ -208,7 +221,8 @@ impl Session {
     /// The answer to a set.
     fn set(&self, script: &Script, key: Key) -> Reply
         ensures { (mine : Journal) → Knows self.now.memory mine
-            → result ≡ cond (is_some (Rattle.hib_journal.specs.Legal.row_of (held mine key))) (set_unless (strategy script.now key.entity)) Reply.Unknown }
+            → result ≡ cond (is_some (Rattle.hib_journal.specs.Legal.row_of (held mine key)))
+            (set_unless (strategy script.now key.entity)) Reply.Unknown }
     {
         let entity = key.entity;
         if self.shows(key) {
@@ -221,7 +235,8 @@ impl Session {
     /// The answer to a remove.
     fn removed(&self, key: Key) -> Reply
         ensures { (mine : Journal) → Knows self.now.memory mine
-            → result ≡ cond (is_some (Rattle.hib_journal.specs.Legal.row_of (held mine key))) Reply.Removed Reply.Unknown }
+            → result ≡ cond (is_some (Rattle.hib_journal.specs.Legal.row_of (held mine key)))
+            Reply.Removed Reply.Unknown }
     {
         if self.shows(key) {
             Reply::Removed
@@ -237,7 +252,8 @@ impl Session {
         script: &Script,
         act: &Act,
     ) -> Result<Option<Reply>, AllocError>
-        ensures { IfOk result (λ r. (mine : Journal) → Follows script.now self.now mine → r ≡ own_reply script.now mine act.now) }
+        ensures { IfOk result (λ r. (mine : Journal) → Follows script.now self.now mine
+            → r ≡ own_reply script.now mine act.now) }
     {
         match act {
             Act::End => Ok(Some(Reply::Ended {
@@ -258,7 +274,8 @@ impl Session {
     /// The answer to the act that is due, if that is an act of the session's own or End. None if it is another, or if
     /// no act is due. Fails for want of memory alone.
     pub fn reply(&self, alloc: Global, script: &Script) -> Result<Option<Reply>, AllocError>
-        ensures reply { IfOk result (λ r. (mine : Journal) → Follows script.now self.now mine → r ≡ reply_due script.now mine (next script.now (number_of self.now) mine)) }
+        ensures reply { IfOk result (λ r. (mine : Journal) → Follows script.now self.now mine
+            → r ≡ reply_due script.now mine (next script.now (number_of self.now) mine)) }
         ensures killed { IfOk result (λ r. is_killed self.now ≡ true → r ≡ None) }
     {
         match self.next_act(alloc, script)? {
@@ -278,13 +295,18 @@ impl Session {
     ) -> Result<(), AllocError>
         ensures number { number_of self.new ≡ number_of self.old }
         ensures killed { is_killed self.new ≡ is_killed self.old }
-        ensures follows { OnOk result ((mine : Journal) → Follows script.now self.old mine → IsTaken script.now (number_of self.old) mine entry.now
+        ensures follows { OnOk result ((mine : Journal) → Follows script.now self.old mine
+            → IsTaken script.now (number_of self.old) mine entry.now
             → Follows script.now self.new (entry.now ∷ mine)) }
-        ensures less { OnOk result ((mine : Journal) → Follows script.now self.old mine → IsTaken script.now (number_of self.old) mine entry.now
+        ensures less { OnOk result ((mine : Journal) → Follows script.now self.old mine
+            → IsTaken script.now (number_of self.old) mine entry.now
             → left_in script.now self.new < left_in script.now self.old) }
-        ensures err { OnErr result ((mine : Journal) → Follows script.now self.old mine → Follows script.now self.new mine) }
-        ensures room { (mine : Journal) → Follows script.now self.old mine → IsTaken script.now (number_of self.old) mine entry.now
-            → Rattle.hib_session.specs.Session.is_ready script.now self.old ≡ true → brings entry.now.act ≡ false → IsOk result }
+        ensures err { OnErr result ((mine : Journal) → Follows script.now self.old mine
+            → Follows script.now self.new mine) }
+        ensures room { (mine : Journal) → Follows script.now self.old mine
+            → IsTaken script.now (number_of self.old) mine entry.now
+            → Rattle.hib_session.specs.Session.is_ready script.now self.old ≡ true
+            → brings entry.now.act ≡ false → IsOk result }
     {
         self.ready(alloc, script)?;
         let copies = mem::replace(&mut self.copies, None);

@@ -155,7 +155,8 @@ fn completed(
     committed: bool,
     ending: Option<Ending>,
 ) -> Result<Acts, AllocError>
-    ensures acts { IfOk result (λ q. (mine : Journal) → Recalls memory.now mine → Ends script.now mode mine ending → q ≡ completion script.now mode committed mine) }
+    ensures acts { IfOk result (λ q. (mine : Journal) → Recalls memory.now mine
+        → Ends script.now mode mine ending → q ≡ completion script.now mode committed mine) }
     ensures room { is_some ending ≡ true → IsOk result }
 {
     match ending {
@@ -175,8 +176,10 @@ pub fn answered(
     ending: Option<Ending>,
 ) -> Result<(Acts, Stage), AllocError>
     ensures less { is_due stage ≡ true → IfOk result (λ r. rank r.1 < rank stage) }
-    ensures follows { IfOk result (λ r. (done : Journal) (go : Journal → Plan) → is_due stage ≡ true → Recalls memory.now (entry.now ∷ done) → Ends script.now mode (entry.now ∷ done) ending →
-        queued script.now mode r.0 r.1 (entry.now ∷ done) go ≡ after (staged script.now mode stage done go) entry.now) }
+    ensures follows { IfOk result (λ r. (done : Journal) (go : Journal → Plan) → is_due stage ≡ true
+        → Recalls memory.now (entry.now ∷ done) → Ends script.now mode (entry.now ∷ done) ending
+        → queued script.now mode r.0 r.1 (entry.now ∷ done) go
+        ≡ after (staged script.now mode stage done go) entry.now) }
     ensures room { asks_rows stage ≡ false → has_ending stage ending ≡ true → IsOk result }
 {
     match stage {
@@ -205,7 +208,8 @@ pub fn answered(
 }
 
 fn is_versioned(script: &Script, entity: EntityNo) -> bool
-    ensures { result ≡ option_map_or (λ d. d.versioned) (slice_get script.now.mapping entity) false }
+    ensures { result ≡ option_map_or (λ d. d.versioned)
+        (slice_get script.now.mapping entity) false }
 {
     match script.mapping.as_slice().get(entity.0 as usize) {
         Some(def) => def.versioned,
@@ -250,8 +254,9 @@ fn list_taken(
     memory: &Memory,
     query: QueryNo,
 ) -> Result<(Acts, Stage), AllocError>
-    ensures { IfOk result (λ r. (mine : Journal) (mode : Mode) (go : Journal → Plan) → Knows memory.now mine →
-        queued script.now mode r.0 r.1 mine go ≡ list script.now mode query mine go) }
+    ensures { IfOk result (λ r. (mine : Journal) (mode : Mode) (go : Journal → Plan)
+        → Knows memory.now mine → queued script.now mode r.0 r.1 mine go
+        ≡ list script.now mode query mine go) }
 {
     if memory.must_flush(alloc, script, query)? {
         return Ok((memory.flush(alloc, script)?, Stage::Answering(query)));
@@ -266,7 +271,8 @@ fn persist_taken(
     key: Key,
     cells: &Cells,
 ) -> Result<Acts, AllocError>
-    ensures { IfOk result (λ q. q ≡ Act.Persist key (record { version = first_version script.now key.entity; cells = cells.now }) ∷ []) }
+    ensures { IfOk result (λ q. q ≡ Act.Persist key
+        (record { version = first_version script.now key.entity; cells = cells.now }) ∷ []) }
 {
     let version = version_at_first(script, key.entity);
     let row = Row {
@@ -284,8 +290,9 @@ pub fn taken(
     mode: Mode,
     statement: &Statement,
 ) -> Result<(Acts, Stage), AllocError>
-    ensures { IfOk result (λ r. (mine : Journal) (go : Journal → Plan) → Knows memory.now mine →
-        queued script.now (mode_after statement.now mode) r.0 r.1 mine go ≡ block script.now mode statement.now mine go) }
+    ensures { IfOk result (λ r. (mine : Journal) (go : Journal → Plan) → Knows memory.now mine
+        → queued script.now (mode_after statement.now mode) r.0 r.1 mine go
+        ≡ block script.now mode statement.now mine go) }
 {
     match statement {
         Statement::Find { key } => find_taken(alloc, script, memory, mode, *key),

@@ -43,7 +43,8 @@ pub fn listeners_asked(
     host: &HostRuntime,
     command: &Option<Command>,
 ) -> Result<Vec<ErrorTrace>, AllocError>
-    ensures { IfOk result (λ v. length v.items ≡ cond (option_map_or (λ c. is_traced (asked_of c)) command.now false) 1 0) }
+    ensures { IfOk result (λ v. length v.items
+        ≡ cond (option_map_or (λ c. is_traced (asked_of c)) command.now false) 1 0) }
 {
     let mut listeners = Vec::new(host.alloc());
     if let Some(command) = command {
@@ -63,7 +64,8 @@ pub fn call<R: Threads + Wait + Sync, K: Keeper>(
     command: &Option<Command>,
     keeper: K,
 ) -> (Status, K)
-    ensures usage { result.0 ≢ Status.NoMemory → ((result.0 ≡ Status.Usage) ↔ (way_asked words.now ≡ None)) }
+    ensures usage { result.0 ≢ Status.NoMemory
+        → ((result.0 ≡ Status.Usage) ↔ (way_asked words.now ≡ None)) }
     ensures idle { way_asked words.now ≡ None → K.tables result.1 ≡ K.tables keeper }
     ensures store { result.0 ≡ Status.StoreFault → Rose (K.faults keeper) (K.faults result.1) }
 {

@@ -75,7 +75,8 @@ pub fn pack(alloc: Global, cells: &Cells) -> Result<Bytes, AllocError>
 
 /// The first cell of bytes, and how many bytes it takes; none if they begin with no cell.
 fn take_cell(alloc: Global, bytes: &[u8]) -> Result<Option<(Cell, usize)>, AllocError>
-    ensures { IfOk result (λ found. MatchOption found (taken bytes.now ≡ None) (λ f. (f.1 ≤ length bytes.now) × (taken bytes.now ≡ Some (f.0, drop f.1 bytes.now)))) }
+    ensures { IfOk result (λ found. MatchOption found (taken bytes.now ≡ None)
+        (λ f. (f.1 ≤ length bytes.now) × (taken bytes.now ≡ Some (f.0, drop f.1 bytes.now)))) }
 {
     if bytes.len() == 0 {
         return Ok(None);

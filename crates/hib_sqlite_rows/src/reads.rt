@@ -28,7 +28,8 @@ fn cells_at(alloc: Global, row: &SqlRow, at: usize) -> Result<Cells, Error>
 
 /// The row that an answer of two columns shows.
 fn row_of(alloc: Global, row: &SqlRow) -> Result<Row, Error>
-    ensures { IfOk result (λ r. (it : KeptRow) → IsPackable it.cells → row.now ≡ shown it → r ≡ it) }
+    ensures { IfOk result (λ r. (it : KeptRow) → IsPackable it.cells → row.now ≡ shown it
+        → r ≡ it) }
 {
     Ok(Row {
         version: row.get(0)?,
@@ -38,7 +39,8 @@ fn row_of(alloc: Global, row: &SqlRow) -> Result<Row, Error>
 
 /// The row that an answer of three columns shows, with its key.
 fn entry_of(alloc: Global, entity: EntityNo, row: &SqlRow) -> Result<(Key, Row), Error>
-    ensures { IfOk result (λ e. (it : KeptKey × KeptRow) → it.0.entity ≡ entity → IsPackable it.1.cells → row.now ≡ shown_entry it → e ≡ it) }
+    ensures { IfOk result (λ e. (it : KeptKey × KeptRow) → it.0.entity ≡ entity
+        → IsPackable it.1.cells → row.now ≡ shown_entry it → e ≡ it) }
 {
     let id = row.get(0)?;
     Ok((
@@ -71,7 +73,8 @@ fn add_entries(
     entity: EntityNo,
     rows: &[SqlRow],
 ) -> Result<(), Error>
-    ensures { OnOk result ((t : Tables) → ShowsEntity rows.now t entity → list.new.items ≡ list.old.items ++ rows_in entity t) }
+    ensures { OnOk result ((t : Tables) → ShowsEntity rows.now t entity
+        → list.new.items ≡ list.old.items ++ rows_in entity t) }
 {
     for row in rows {
         list.push(entry_of(alloc, entity, row)?)?;
@@ -82,7 +85,8 @@ fn add_entries(
 /// The numbers of entities, each once, the least first.
 fn distinct(alloc: Global, entities: &[EntityNo]) -> Result<Vec<u16>, AllocError>
     ensures rising { IfOk result (λ numbers. IsStrictlyIncreasing numbers.items) }
-    ensures same { IfOk result (λ numbers. (n : ℕ) → Contains numbers.items n ↔ Contains entities.now n) }
+    ensures same { IfOk result (λ numbers. (n : ℕ) → Contains numbers.items n
+        ↔ Contains entities.now n) }
 {
     let mut numbers = Vec::with_capacity(alloc, entities.len())?;
     for entity in entities {
@@ -95,7 +99,8 @@ fn distinct(alloc: Global, entities: &[EntityNo]) -> Result<Vec<u16>, AllocError
 
 /// All rows of these entities, in order of keys. At an error nothing has changed, or the transaction is undone.
 pub fn list<T: RowTable>(table: &mut T, alloc: Global, entities: &[EntityNo]) -> Result<Rows, Error>
-    ensures rows { IfOk result (λ rows. IfSome (T.told table.old) (λ t. rows ≡ rows_of entities.now t.now)) }
+    ensures rows { IfOk result (λ rows. IfSome (T.told table.old)
+        (λ t. rows ≡ rows_of entities.now t.now)) }
     ensures same { OnOk result (T.told table.new ≡ T.told table.old) }
     ensures err { OnErr result (LeavesOrUndoes (T.told table.old) (T.told table.new)) }
 {

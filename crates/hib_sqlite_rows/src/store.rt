@@ -24,7 +24,8 @@ impl<S: Alter + Drop> StoreTable<S> {
     /// The table of a connection that has begun no transaction. It is made if it isn't there.
     /// Fails within a transaction, if SQLite fails, or for want of memory; then the connection is closed.
     pub fn over(mut conn: Connection<S>) -> Result<StoreTable<S>, Error>
-        ensures { IfOk result (λ t. HasCleanDisk (state S.Store t.conn) → (count : ℕ) × Executes create_text [] (state S.Store conn) (state S.Store t.conn) (Ok count)) }
+        ensures { IfOk result (λ t. HasCleanDisk (state S.Store t.conn) → (count : ℕ)
+            × Executes create_text [] (state S.Store conn) (state S.Store t.conn) (Ok count)) }
     {
         if !conn.is_autocommit() {
             return Err(Error::SqliteFailure(ErrorCode::TransactionState));
@@ -50,20 +51,27 @@ impl<S: Alter> RowTable for StoreTable<S> {
 
     fn select(&mut self, key: Key) -> Result<Vec<SqlRow>, Error>
         requires { key.id < 2 ^ 63 }
-        ensures { HasCleanDisk (state S.Store self.new.conn) → IfOk result (λ rows. Shown read_text (bound_key key) (state S.Store self.old.conn) (state S.Store self.new.conn) rows.items) }
+        ensures { HasCleanDisk (state S.Store self.new.conn)
+            → IfOk result (λ rows. Shown read_text (bound_key key) (state S.Store self.old.conn)
+            (state S.Store self.new.conn) rows.items) }
     {
         statements::select(&mut self.conn, key)
     }
 
     fn select_entity(&mut self, entity: EntityNo) -> Result<Vec<SqlRow>, Error>
-        ensures { HasCleanDisk (state S.Store self.new.conn) → IfOk result (λ rows. Shown list_text (Int (pos entity) ∷ []) (state S.Store self.old.conn) (state S.Store self.new.conn) rows.items) }
+        ensures { HasCleanDisk (state S.Store self.new.conn)
+            → IfOk result (λ rows. Shown list_text (Int (pos entity) ∷ [])
+            (state S.Store self.old.conn) (state S.Store self.new.conn) rows.items) }
     {
         statements::select_entity(&mut self.conn, entity)
     }
 
     fn insert(&mut self, alloc: Global, key: Key, row: &Row) -> Result<(), Error>
         requires { IsInRange key row.now }
-        ensures { HasCleanDisk (state S.Store self.new.conn) → OnOk result ((count : ℕ) × Executes insert_text (bound_row key row.now.version (packed row.now.cells)) (state S.Store self.old.conn) (state S.Store self.new.conn) (Ok count)) }
+        ensures { HasCleanDisk (state S.Store self.new.conn)
+            → OnOk result ((count : ℕ) × Executes insert_text
+            (bound_row key row.now.version (packed row.now.cells)) (state S.Store self.old.conn)
+            (state S.Store self.new.conn) (Ok count)) }
     {
         let body = pack(alloc, &row.cells)?;
         statements::insert(&mut self.conn, key, row.version, body.as_slice())?;
@@ -72,7 +80,10 @@ impl<S: Alter> RowTable for StoreTable<S> {
 
     fn update(&mut self, alloc: Global, key: Key, row: &Row) -> Result<(), Error>
         requires { IsInRange key row.now }
-        ensures { HasCleanDisk (state S.Store self.new.conn) → OnOk result ((count : ℕ) × Executes update_text (bound_row key row.now.version (packed row.now.cells)) (state S.Store self.old.conn) (state S.Store self.new.conn) (Ok count)) }
+        ensures { HasCleanDisk (state S.Store self.new.conn)
+            → OnOk result ((count : ℕ) × Executes update_text
+            (bound_row key row.now.version (packed row.now.cells)) (state S.Store self.old.conn)
+            (state S.Store self.new.conn) (Ok count)) }
     {
         let body = pack(alloc, &row.cells)?;
         statements::update(&mut self.conn, key, row.version, body.as_slice())?;
@@ -81,21 +92,27 @@ impl<S: Alter> RowTable for StoreTable<S> {
 
     fn delete(&mut self, key: Key) -> Result<(), Error>
         requires { key.id < 2 ^ 63 }
-        ensures { HasCleanDisk (state S.Store self.new.conn) → OnOk result ((count : ℕ) × Executes delete_text (bound_key key) (state S.Store self.old.conn) (state S.Store self.new.conn) (Ok count)) }
+        ensures { HasCleanDisk (state S.Store self.new.conn)
+            → OnOk result ((count : ℕ) × Executes delete_text (bound_key key)
+            (state S.Store self.old.conn) (state S.Store self.new.conn) (Ok count)) }
     {
         statements::delete(&mut self.conn, key)?;
         Ok(())
     }
 
     fn begin(&mut self) -> Result<(), Error>
-        ensures { HasCleanDisk (state S.Store self.new.conn) → OnOk result ((count : ℕ) × Executes begin_text [] (state S.Store self.old.conn) (state S.Store self.new.conn) (Ok count)) }
+        ensures { HasCleanDisk (state S.Store self.new.conn)
+            → OnOk result ((count : ℕ) × Executes begin_text [] (state S.Store self.old.conn)
+            (state S.Store self.new.conn) (Ok count)) }
     {
         statements::begin(&mut self.conn)?;
         Ok(())
     }
 
     fn commit(&mut self) -> Result<(), Error>
-        ensures { HasCleanDisk (state S.Store self.new.conn) → OnOk result ((count : ℕ) × Executes commit_text [] (state S.Store self.old.conn) (state S.Store self.new.conn) (Ok count)) }
+        ensures { HasCleanDisk (state S.Store self.new.conn)
+            → OnOk result ((count : ℕ) × Executes commit_text [] (state S.Store self.old.conn)
+            (state S.Store self.new.conn) (Ok count)) }
     {
         statements::commit(&mut self.conn)?;
         Ok(())

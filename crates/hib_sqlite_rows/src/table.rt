@@ -20,13 +20,15 @@ pub trait RowTable {
     /// The version and the body of a key's row, or nothing.
     fn select(&mut self, key: Key) -> Result<Vec<SqlRow>, Error>
         requires { key.id < 2 ^ 63 }
-        ensures rows { IfOk result (λ rows. IfSome (told self.old) (λ t. ShowsKey rows.items t.now key)) }
+        ensures rows { IfOk result (λ rows. IfSome (told self.old)
+            (λ t. ShowsKey rows.items t.now key)) }
         ensures same { OnOk result (told self.new ≡ told self.old) }
         ensures err { OnErr result (LeavesOrUndoes (told self.old) (told self.new)) };
 
     /// Number, version and body of each row of an entity, in order of numbers.
     fn select_entity(&mut self, entity: EntityNo) -> Result<Vec<SqlRow>, Error>
-        ensures rows { IfOk result (λ rows. IfSome (told self.old) (λ t. ShowsEntity rows.items t.now entity)) }
+        ensures rows { IfOk result (λ rows. IfSome (told self.old)
+            (λ t. ShowsEntity rows.items t.now entity)) }
         ensures same { OnOk result (told self.new ≡ told self.old) }
         ensures err { OnErr result (LeavesOrUndoes (told self.old) (told self.new)) };
 
@@ -35,7 +37,8 @@ pub trait RowTable {
         requires range { IsInRange key row.now }
         requires inside { IfSome (told self.old) (λ t. t.in_transaction ≡ true) }
         requires absent { IfSome (told self.old) (λ t. row_at t.now key ≡ None) }
-        ensures ok { OnOk result (told self.new ≡ changed (λ t. with_row t key row.now) (told self.old)) }
+        ensures ok { OnOk result (told self.new
+            ≡ changed (λ t. with_row t key row.now) (told self.old)) }
         ensures err { OnErr result (LeavesOrUndoes (told self.old) (told self.new)) };
 
     /// Puts, within a transaction, a row in the place of the one at its key.
@@ -43,14 +46,16 @@ pub trait RowTable {
         requires range { IsInRange key row.now }
         requires inside { IfSome (told self.old) (λ t. t.in_transaction ≡ true) }
         requires there { IfSome (told self.old) (λ t. row_at t.now key ≢ None) }
-        ensures ok { OnOk result (told self.new ≡ changed (λ t. with_row t key row.now) (told self.old)) }
+        ensures ok { OnOk result (told self.new
+            ≡ changed (λ t. with_row t key row.now) (told self.old)) }
         ensures err { OnErr result (LeavesOrUndoes (told self.old) (told self.new)) };
 
     /// Takes out, within a transaction, the row of a key.
     fn delete(&mut self, key: Key) -> Result<(), Error>
         requires range { key.id < 2 ^ 63 }
         requires inside { IfSome (told self.old) (λ t. t.in_transaction ≡ true) }
-        ensures ok { OnOk result (told self.new ≡ changed (λ t. without_row t key) (told self.old)) }
+        ensures ok { OnOk result (told self.new
+            ≡ changed (λ t. without_row t key) (told self.old)) }
         ensures err { OnErr result (LeavesOrUndoes (told self.old) (told self.new)) };
 
     /// Begins a transaction.

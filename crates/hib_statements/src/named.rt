@@ -25,13 +25,15 @@ impl Model for NamedSessions {
 
     ghost view = { λ n. n.sessions };
 
-    ghost invariant = { λ n. (w : List ℕ) → place_of w n.places.entries ≡ position (λ s. bytes_eq s.name w) n.sessions };
+    ghost invariant = { λ n. (w : List ℕ)
+        → place_of w n.places.entries ≡ position (λ s. bytes_eq s.name w) n.sessions };
 }
 
 /// A name has this place. It takes no memory.
 fn put(places: &mut IndexMap<Vec<u8>, usize>, name: Vec<u8>, place: usize)
     requires { 0 < spare places.old }
-    ensures { places.new.entries ≡ insert_entry (λ a b. bytes_eq a.items b.items) places.old.entries name place }
+    ensures { places.new.entries ≡ insert_entry
+        (λ a b. bytes_eq a.items b.items) places.old.entries name place }
 {
     places.insert(name, place).unwrap();
 }
@@ -40,7 +42,8 @@ fn put(places: &mut IndexMap<Vec<u8>, usize>, name: Vec<u8>, place: usize)
 fn note(places: &mut IndexMap<Vec<u8>, usize>, name: Vec<u8>, place: usize)
     requires { 0 < spare places.old }
     ensures { (w : List ℕ) → place_of w places.new.entries
-        ≡ or_place (place_of w places.old.entries) (cond (bytes_eq name.items w) (Some place) None) }
+        ≡ or_place (place_of w places.old.entries)
+        (cond (bytes_eq name.items w) (Some place) None) }
 {
     if !places.contains_key(name.as_slice()) {
         put(places, name, place);

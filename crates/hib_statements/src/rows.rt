@@ -37,7 +37,8 @@ pub fn row(
     line: &[Token],
 ) -> Result<(Key, Row), StatementError>
     ensures said { IfOk result (λ x. told_rows.row_of mapping.now rows.now line.now ≡ Ok x) }
-    ensures fault { IfErr result (told_rows.IsWhyNot (told_rows.row_of mapping.now rows.now line.now)) }
+    ensures fault { IfErr result (told_rows.IsWhyNot
+        (told_rows.row_of mapping.now rows.now line.now)) }
 {
     match line {
         [_, name, id, rest @ ..] => row_parts(alloc, mapping.as_slice(), rows, name, id, rest),
@@ -53,8 +54,10 @@ fn row_parts(
     id: &Token,
     rest: &[Token],
 ) -> Result<(Key, Row), StatementError>
-    ensures said { IfOk result (λ x. told_rows.row_parts mapping.now rows.now name.now id.now rest.now ≡ Ok x) }
-    ensures fault { IfErr result (told_rows.IsWhyNot (told_rows.row_parts mapping.now rows.now name.now id.now rest.now)) }
+    ensures said { IfOk result (λ x. told_rows.row_parts mapping.now rows.now name.now id.now
+        rest.now ≡ Ok x) }
+    ensures fault { IfErr result (told_rows.IsWhyNot
+        (told_rows.row_parts mapping.now rows.now name.now id.now rest.now)) }
 {
     if !is_key(name, id) {
         return Err(StatementError::Fault(Kind::Words));
@@ -76,7 +79,8 @@ fn judged(row: Result<(Key, Row), Kind>) -> Result<(Key, Row), StatementError>
 
 /// Whether the entity of a name is versioned, if there is one.
 fn versioning(mapping: &[EntityDef], name: &Token) -> Option<bool>
-    ensures { result ≡ told_rows.versioning_in mapping.now (entity_at mapping.now (word_of name.now)) }
+    ensures { result ≡ told_rows.versioning_in mapping.now
+        (entity_at mapping.now (word_of name.now)) }
 {
     match entity_number(mapping, word_bytes(name)) {
         Some(entity) => entity_versioning(mapping, entity),
@@ -109,7 +113,8 @@ fn told_in(
 }
 
 fn told_of_unknown(alloc: Global, tokens: &[Token]) -> Result<Option<Told>, AllocError>
-    ensures { IfOk result (λ t. t ≡ told_rows.or_plain tokens.now (told_rows.versioned_told tokens.now)) }
+    ensures { IfOk result (λ t. t ≡ told_rows.or_plain tokens.now
+        (told_rows.versioned_told tokens.now)) }
 {
     match versioned_told(alloc, tokens)? {
         Some(told) => Ok(Some(told)),

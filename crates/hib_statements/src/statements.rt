@@ -23,8 +23,10 @@ pub fn statement(
     queries: &Queries,
     line: &[Token],
 ) -> Result<Statement, StatementError>
-    ensures said { IfOk result (λ s. lines.statement_of mapping.now (lines.names_of queries.now) line.now ≡ Ok s) }
-    ensures fault { IfErr result (lines.IsWhy (lines.statement_of mapping.now (lines.names_of queries.now) line.now)) }
+    ensures said { IfOk result (λ s. lines.statement_of mapping.now
+        (lines.names_of queries.now) line.now ≡ Ok s) }
+    ensures fault { IfErr result (lines.IsWhy
+        (lines.statement_of mapping.now (lines.names_of queries.now) line.now)) }
 {
     if begins(line, b"persist") {
         return persist(alloc, mapping.as_slice(), line);
@@ -210,8 +212,10 @@ fn persist_parts(
     id: &Token,
     values: &[Token],
 ) -> Result<Statement, StatementError>
-    ensures said { IfOk result (λ s. lines.persist_parts mapping.now name.now id.now values.now ≡ Ok s) }
-    ensures fault { IfErr result (lines.IsWhy (lines.persist_parts mapping.now name.now id.now values.now)) }
+    ensures said { IfOk result (λ s. lines.persist_parts mapping.now name.now id.now values.now
+        ≡ Ok s) }
+    ensures fault { IfErr result (lines.IsWhy
+        (lines.persist_parts mapping.now name.now id.now values.now)) }
 {
     if !is_key(name, id) {
         return Err(StatementError::Fault(Kind::Words));
@@ -278,7 +282,8 @@ fn set_parts(
     rest: &[Token],
 ) -> Result<Statement, StatementError>
     ensures said { IfOk result (λ s. lines.set_parts mapping.now name.now id.now rest.now ≡ Ok s) }
-    ensures fault { IfErr result (lines.IsWhy (lines.set_parts mapping.now name.now id.now rest.now)) }
+    ensures fault { IfErr result (lines.IsWhy
+        (lines.set_parts mapping.now name.now id.now rest.now)) }
 {
     if !is_key(name, id) {
         return Err(StatementError::Fault(Kind::Words));

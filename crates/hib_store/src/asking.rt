@@ -28,7 +28,8 @@ pub fn read<K: Keeper>(alloc: Global, keeper: &mut K, key: Key) -> Result<Loaded
     ensures view { IfOk result (IsView (K.tables keeper.old) [] key) }
     ensures fault { result ≡ Ok Loaded.Fault → Rose (K.faults keeper.old) (K.faults keeper.new) }
     ensures faults { K.faults keeper.old ≤ K.faults keeper.new }
-    ensures asked { (K.asked keeper.old ≤ K.asked keeper.new) × (K.asked keeper.new ≤ K.asked keeper.old + 1) }
+    ensures asked { (K.asked keeper.old ≤ K.asked keeper.new)
+        × (K.asked keeper.new ≤ K.asked keeper.old + 1) }
     ensures tables { K.tables keeper.new ≡ K.tables keeper.old }
 {
     match keeper.read(alloc, key) {
@@ -44,10 +45,12 @@ pub fn list<K: Keeper>(
     keeper: &mut K,
     query: &Query,
 ) -> Result<Option<Rows>, AllocError>
-    ensures rows { IfOk result (λ found. IfSome found (λ rows. IfSome (K.tables keeper.old) (λ m. rows ≡ read_by query.now m))) }
+    ensures rows { IfOk result (λ found. IfSome found
+        (λ rows. IfSome (K.tables keeper.old) (λ m. rows ≡ read_by query.now m))) }
     ensures fault { result ≡ Ok None → Rose (K.faults keeper.old) (K.faults keeper.new) }
     ensures faults { K.faults keeper.old ≤ K.faults keeper.new }
-    ensures asked { (K.asked keeper.old ≤ K.asked keeper.new) × (K.asked keeper.new ≤ K.asked keeper.old + 1) }
+    ensures asked { (K.asked keeper.old ≤ K.asked keeper.new)
+        × (K.asked keeper.new ≤ K.asked keeper.old + 1) }
     ensures tables { K.tables keeper.new ≡ K.tables keeper.old }
 {
     let tables = queries::tables_of(alloc, query)?;
@@ -67,7 +70,8 @@ fn index<K: Keeper>(
     ensures rows { IfOk result (λ index. IsIndexed entities index (K.tables keeper.old)) }
     ensures fault { result ≡ Ok None → Rose (K.faults keeper.old) (K.faults keeper.new) }
     ensures faults { K.faults keeper.old ≤ K.faults keeper.new }
-    ensures asked { (K.asked keeper.old ≤ K.asked keeper.new) × (K.asked keeper.new ≤ K.asked keeper.old + 1) }
+    ensures asked { (K.asked keeper.old ≤ K.asked keeper.new)
+        × (K.asked keeper.new ≤ K.asked keeper.old + 1) }
     ensures tables { K.tables keeper.new ≡ K.tables keeper.old }
 {
     let all = queries::entities_below(alloc, entities)?;
@@ -89,11 +93,14 @@ pub fn make_index<K: Keeper>(
     index: &mut Option<Index>,
     entities: u16,
 ) -> Result<(), AllocError>
-    ensures rows { IsIndexed entities index.old (K.tables keeper.old) → IsIndexed entities index.new (K.tables keeper.old) }
+    ensures rows { IsIndexed entities index.old (K.tables keeper.old)
+        → IsIndexed entities index.new (K.tables keeper.old) }
     ensures stands { IsSome index.old → (keeper.new ≡ keeper.old) × (index.new ≡ index.old) }
-    ensures fault { OnOk result (index.new ≡ None → Rose (K.faults keeper.old) (K.faults keeper.new)) }
+    ensures fault { OnOk result (index.new ≡ None
+        → Rose (K.faults keeper.old) (K.faults keeper.new)) }
     ensures faults { K.faults keeper.old ≤ K.faults keeper.new }
-    ensures asked { (K.asked keeper.old ≤ K.asked keeper.new) × (K.asked keeper.new ≤ K.asked keeper.old + 1) }
+    ensures asked { (K.asked keeper.old ≤ K.asked keeper.new)
+        × (K.asked keeper.new ≤ K.asked keeper.old + 1) }
     ensures tables { K.tables keeper.new ≡ K.tables keeper.old }
 {
     if index.is_none() {
@@ -109,12 +116,14 @@ pub fn apply<K: Keeper>(
     keeper: &mut K,
     changes: &[Change],
 ) -> Result<Commit, AllocError>
-    ensures answer { IfOk result (λ answer. answer ≢ Commit.Fault → IfSome (K.tables keeper.old) (λ m. answer ≡ commit_answer changes.now m)) }
+    ensures answer { IfOk result (λ answer. answer ≢ Commit.Fault
+        → IfSome (K.tables keeper.old) (λ m. answer ≡ commit_answer changes.now m)) }
     ensures named { IfOk result (λ answer. names_change changes.now answer ≡ true) }
     ensures fault { result ≡ Ok Commit.Fault → Rose (K.faults keeper.old) (K.faults keeper.new) }
     ensures faults { K.faults keeper.old ≤ K.faults keeper.new }
     ensures asked { K.asked keeper.new ≡ K.asked keeper.old }
-    ensures tables { K.tables keeper.new ≡ tables_committed result changes.now (K.tables keeper.old) }
+    ensures tables { K.tables keeper.new
+        ≡ tables_committed result changes.now (K.tables keeper.old) }
 {
     match keeper.apply(alloc, changes) {
         Ok(applied) => Ok(answer(changes, applied)),

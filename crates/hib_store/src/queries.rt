@@ -22,7 +22,9 @@ pub fn tables_of(alloc: Global, query: &Query) -> Result<Vec<EntityNo>, AllocErr
 
 /// Adds the entities to which a condition steps.
 fn add_steps(tables: &mut Vec<EntityNo>, condition: &Cond) -> Result<(), AllocError>
-    ensures { OnOk result ((n : ℕ) → is_listed n tables.new.items ≡ (is_listed n tables.old.items || mentions n condition.now)) }
+    ensures { OnOk result ((n : ℕ)
+        → is_listed n tables.new.items
+        ≡ (is_listed n tables.old.items || mentions n condition.now)) }
 {
     match condition {
         Cond::And(a, b) | Cond::Or(a, b) => {
@@ -37,7 +39,9 @@ fn add_steps(tables: &mut Vec<EntityNo>, condition: &Cond) -> Result<(), AllocEr
 
 /// Adds the entity of a target, unless it is there.
 fn add_target(tables: &mut Vec<EntityNo>, target: Option<Target>) -> Result<(), AllocError>
-    ensures { OnOk result ((n : ℕ) → is_listed n tables.new.items ≡ (is_listed n tables.old.items || option_map_or (λ g. g.entity == n) target false)) }
+    ensures { OnOk result ((n : ℕ)
+        → is_listed n tables.new.items
+        ≡ (is_listed n tables.old.items || option_map_or (λ g. g.entity == n) target false)) }
 {
     if let Some(target) = target {
         if !tables.contains(&target.entity) {
@@ -48,8 +52,10 @@ fn add_target(tables: &mut Vec<EntityNo>, target: Option<Target>) -> Result<(), 
 }
 
 fn steps_below(target: Option<Target>, entities: u16) -> bool
-    ensures only { result ≡ true → (n : ℕ) → option_map_or (λ g. g.entity == n) target false ≡ true → n < entities }
-    ensures others { ((n : ℕ) → option_map_or (λ g. g.entity == n) target false ≡ true → n < entities) → result ≡ true }
+    ensures only { result ≡ true → (n : ℕ) → option_map_or (λ g. g.entity == n) target false ≡ true
+        → n < entities }
+    ensures others { ((n : ℕ) → option_map_or (λ g. g.entity == n) target false ≡ true
+        → n < entities) → result ≡ true }
 {
     match target {
         Some(target) => target.entity.0 < entities,

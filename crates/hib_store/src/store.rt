@@ -98,7 +98,8 @@ impl<K: Keeper> Store<K> {
         rows: &[(Key, Row)],
         entities: u16,
     ) -> Result<Store<K>, OpenFault<K>>
-        ensures tables { IfOk result (λ s. s.tables ≡ option_map (λ m. start mapping.now m rows.now) (K.tables keeper)) }
+        ensures tables { IfOk result (λ s. s.tables
+            ≡ option_map (λ m. start mapping.now m rows.now) (K.tables keeper)) }
         ensures faults { IfOk result (λ s. K.faults keeper ≤ s.faults) }
         ensures asked { IfOk result (λ s. s.asked ≡ K.asked keeper) }
         ensures written { IfOk result (λ s. s.written ≡ []) }
@@ -108,7 +109,8 @@ impl<K: Keeper> Store<K> {
         ensures back { IfErr result (λ e. K.tables (handed_back e) ≡ K.tables keeper) }
         ensures back_faults { IfErr result (λ e. K.faults keeper ≤ K.faults (handed_back e)) }
         ensures back_asked { IfErr result (λ e. K.asked (handed_back e) ≡ K.asked keeper) }
-        ensures fault { IfErr result (λ e. is_store_fault e ≡ true → Rose (K.faults keeper) (K.faults (handed_back e))) }
+        ensures fault { IfErr result (λ e. is_store_fault e ≡ true
+            → Rose (K.faults keeper) (K.faults (handed_back e))) }
     {
         match keeper.seed(alloc, mapping, rows) {
             Ok(()) => Ok(Store::over(alloc, keeper, entities)),
@@ -153,9 +155,11 @@ impl<K: Keeper> Store<K> {
         ensures last { IfOk result (λ loaded. IfSome (last_on key (changes_of self.old session))
             (λ change. loaded ≡ Loaded.Row (row_left change))) }
         ensures own { is_in key (changes_of self.old session) ≡ true → (t : Tables)
-            → IfOk result (λ loaded. loaded ≡ Loaded.Row (row_at (after_changes (changes_of self.old session) t) key)) }
+            → IfOk result (λ loaded. loaded
+            ≡ Loaded.Row (row_at (after_changes (changes_of self.old session) t) key)) }
         ensures quiet { is_in key (changes_of self.old session) ≡ true → self.new ≡ self.old }
-        ensures no_fault { is_in key (changes_of self.old session) ≡ true → result ≢ Ok Loaded.Fault }
+        ensures no_fault { is_in key (changes_of self.old session) ≡ true
+            → result ≢ Ok Loaded.Fault }
         ensures fault { result ≡ Ok Loaded.Fault → Rose self.old.faults self.new.faults }
         ensures faults { self.old.faults ≤ self.new.faults }
         ensures asked { (self.old.asked ≤ self.new.asked) × (self.new.asked ≤ self.old.asked + 1) }
@@ -182,17 +186,21 @@ impl<K: Keeper> Store<K> {
         session: SessionNo,
         query: &Query,
     ) -> Result<Listed, AllocError>
-        ensures listed { IfOk result (IsListed self.old.tables (changes_of self.old session) query.now) }
+        ensures listed { IfOk result (IsListed self.old.tables
+            (changes_of self.old session) query.now) }
         ensures fault { result ≡ Ok Listed.Fault → Rose self.old.faults self.new.faults }
         ensures faults { self.old.faults ≤ self.new.faults }
         ensures asked { (self.old.asked ≤ self.new.asked) × (self.new.asked ≤ self.old.asked + 1) }
         ensures tables { self.new.tables ≡ self.old.tables }
         ensures written { self.new.written ≡ self.old.written }
         ensures entities { self.new.entities ≡ self.old.entities }
-        ensures stands { ReadsBelow self.old.entities query.now → IfOk result (λ listed. listed ≢ Listed.Fault → self.new.indexed ≡ true) }
-        ensures quiet { ReadsBelow self.old.entities query.now → self.old.indexed ≡ true → self.new ≡ self.old }
+        ensures stands { ReadsBelow self.old.entities query.now
+            → IfOk result (λ listed. listed ≢ Listed.Fault → self.new.indexed ≡ true) }
+        ensures quiet { ReadsBelow self.old.entities query.now → self.old.indexed ≡ true
+            → self.new ≡ self.old }
         ensures kept { self.old.indexed ≡ true → self.new.indexed ≡ true }
-        ensures others { ¬ ReadsBelow self.old.entities query.now → self.new.indexed ≡ self.old.indexed }
+        ensures others { ¬ ReadsBelow self.old.entities query.now
+            → self.new.indexed ≡ self.old.indexed }
     {
         let changes = written::changes_of(&self.written, session);
         if !queries::reads_below(query, self.entities) {
@@ -212,7 +220,8 @@ impl<K: Keeper> Store<K> {
         session: SessionNo,
         change: Change,
     ) -> Result<(), AllocError>
-        ensures own { OnOk result (changes_of self.new session ≡ changes_of self.old session ++ change ∷ []) }
+        ensures own { OnOk result (changes_of self.new session
+            ≡ changes_of self.old session ++ change ∷ []) }
         ensures others { (s : ℕ) → s ≢ session → changes_of self.new s ≡ changes_of self.old s }
         ensures err { OnErr result (self.new ≡ self.old) }
         ensures tables { self.new.tables ≡ self.old.tables }
@@ -255,12 +264,15 @@ impl<K: Keeper> Store<K> {
     pub fn commit(&mut self, alloc: Global, session: SessionNo) -> Result<Commit, AllocError>
         ensures answer { IfOk result (λ answer. answer ≢ Commit.Fault → IfSome self.old.tables
             (λ m. answer ≡ commit_answer (changes_of self.old session) m)) }
-        ensures named { IfOk result (λ answer. names_change (changes_of self.old session) answer ≡ true) }
-        ensures none { changes_of self.old session ≡ [] → (result ≡ Ok Commit.Committed) × (self.new ≡ self.old) }
+        ensures named { IfOk result (λ answer. names_change (changes_of self.old session) answer
+            ≡ true) }
+        ensures none { changes_of self.old session ≡ [] → (result ≡ Ok Commit.Committed)
+            × (self.new ≡ self.old) }
         ensures fault { result ≡ Ok Commit.Fault → Rose self.old.faults self.new.faults }
         ensures faults { self.old.faults ≤ self.new.faults }
         ensures asked { self.new.asked ≡ self.old.asked }
-        ensures tables { self.new.tables ≡ tables_committed result (changes_of self.old session) self.old.tables }
+        ensures tables { self.new.tables
+            ≡ tables_committed result (changes_of self.old session) self.old.tables }
         ensures own { OnOk result (changes_of self.new session ≡ []) }
         ensures others { (s : ℕ) → s ≢ session → changes_of self.new s ≡ changes_of self.old s }
         ensures err { OnErr result (self.new.written ≡ self.old.written) }

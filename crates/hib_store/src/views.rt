@@ -33,8 +33,9 @@ pub fn answered(
     query: &Query,
     changes: &[Change],
 ) -> Result<Listed, AllocError>
-    ensures listed { (n : ℕ) (told : Option Tables) → IfSome told (λ m. in_order m ≡ true) → IsIndexed n index.now told
-        → ((k : ℕ) → reads query.now k ≡ true → k < n) → IfOk result (IsListed told changes.now query.now) }
+    ensures listed { (n : ℕ) (told : Option Tables) → IfSome told (λ m. in_order m ≡ true)
+        → IsIndexed n index.now told → ((k : ℕ) → reads query.now k ≡ true → k < n)
+        → IfOk result (IsListed told changes.now query.now) }
     ensures fault { result ≡ Ok Listed.Fault → index.now ≡ None }
     ensures stands { IfOk result (λ listed. listed ≢ Listed.Fault → IsSome index.now) }
 {
@@ -51,7 +52,8 @@ fn after(
     commit: &Commit,
     changes: &[Change],
 ) -> Result<Option<Index>, AllocError>
-    ensures { MatchResult result (λ left. left ≡ index_left commit.now changes.now index) (λ _. commit.now ≡ Commit.Committed) }
+    ensures { MatchResult result (λ left. left ≡ index_left commit.now changes.now index)
+        (λ _. commit.now ≡ Commit.Committed) }
 {
     match commit {
         Commit::Committed => index.apply(alloc, changes),
@@ -68,7 +70,8 @@ pub fn left(
     commit: &Commit,
     changes: &[Change],
 ) -> Option<Index>
-    ensures rows { IfSome result (λ left. MatchOption index ⊥ (λ rows. index_left commit.now changes.now rows ≡ Some left)) }
+    ensures rows { IfSome result (λ left. MatchOption index ⊥
+        (λ rows. index_left commit.now changes.now rows ≡ Some left)) }
     ensures stands { StandsAfter commit.now (is_some index) (is_some result) }
 {
     let index = index?;

@@ -29,8 +29,10 @@ fn add_first(
     change: Change,
 ) -> Result<(), AllocError>
     requires { changes_in written.old.entries session ≡ [] }
-    ensures ok { OnOk result ((s : ℕ) → changes_in written.new.entries s
-        ≡ cond (session == s) (changes_in written.old.entries s ++ change ∷ []) (changes_in written.old.entries s)) }
+    ensures ok { OnOk result ((s : ℕ)
+        → changes_in written.new.entries s
+        ≡ cond (session == s) (changes_in written.old.entries s ++ change ∷ [])
+        (changes_in written.old.entries s)) }
     ensures err { OnErr result (written.new.entries ≡ written.old.entries) }
 {
     let mut changes = Changes::new(alloc);
@@ -46,8 +48,10 @@ pub fn add_change(
     session: SessionNo,
     change: Change,
 ) -> Result<(), AllocError>
-    ensures ok { OnOk result ((s : ℕ) → changes_in written.new.entries s
-        ≡ cond (session == s) (changes_in written.old.entries s ++ change ∷ []) (changes_in written.old.entries s)) }
+    ensures ok { OnOk result ((s : ℕ)
+        → changes_in written.new.entries s
+        ≡ cond (session == s) (changes_in written.old.entries s ++ change ∷ [])
+        (changes_in written.old.entries s)) }
     ensures err { OnErr result (written.new.entries ≡ written.old.entries) }
 {
     let Some(index) = written.get_index_of(&session) else {
@@ -58,7 +62,8 @@ pub fn add_change(
 
 /// Drops the changes of a session. It takes no memory.
 pub fn drop_session(written: &mut Written, session: SessionNo)
-    ensures { (s : ℕ) → changes_in written.new.entries s ≡ cond (session == s) [] (changes_in written.old.entries s) }
+    ensures { (s : ℕ) → changes_in written.new.entries s
+        ≡ cond (session == s) [] (changes_in written.old.entries s) }
 {
     written.swap_remove(&session);
 }

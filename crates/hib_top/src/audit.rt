@@ -88,7 +88,8 @@ fn status_of(audit: Audit) -> Status
 /// Writes what is said of a journal.
 fn tell_verdict<W: Sink>(alloc: Global, judged: Judged, out: &mut W) -> Status
     ensures said { IsSaid result judged.audit }
-    ensures text { IsWritten result (verdict_text judged.count judged.audit) (W.taken out.old) (W.taken out.new) }
+    ensures text { IsWritten result (verdict_text judged.count judged.audit) (W.taken out.old)
+        (W.taken out.new) }
     ensures write { result ≡ Status.WriteFault → Rose (W.faults out.old) (W.faults out.new) }
 {
     let Ok(text) = verdict(alloc, judged) else {
@@ -102,12 +103,15 @@ fn tell_verdict<W: Sink>(alloc: Global, judged: Judged, out: &mut W) -> Status
 
 /// Reads a text, judges its journal and writes what is said.
 fn audit_source<S: Source, W: Sink>(alloc: Global, source: &mut S, out: &mut W) -> Status
-    ensures judges { Judges result (S.left source.old) (S.left source.new) (W.taken out.old) (W.taken out.new) }
+    ensures judges { Judges result (S.left source.old) (S.left source.new) (W.taken out.old)
+        (W.taken out.new) }
     ensures read { result ≡ Status.ReadFault → Rose (S.faults source.old) (S.faults source.new) }
     ensures write { result ≡ Status.WriteFault → Rose (W.faults out.old) (W.faults out.new) }
-    ensures long { result ≡ Status.TooLong → IfSome (S.left source.old) (λ bytes. AUDIT_LIMIT < length bytes) }
+    ensures long { result ≡ Status.TooLong
+        → IfSome (S.left source.old) (λ bytes. AUDIT_LIMIT < length bytes) }
     ensures taken { ReadsFew (AUDIT_LIMIT + 4096) (S.left source.old) (S.left source.new) }
-    ensures complete { HasJournal (S.left source.old) → (Rose (S.faults source.old) (S.faults source.new) → ⊥)
+    ensures complete { HasJournal (S.left source.old)
+        → (Rose (S.faults source.old) (S.faults source.new) → ⊥)
         → (Rose (W.faults out.old) (W.faults out.new) → ⊥) → IsCompleted result }
 {
     let text = match read_all(alloc, source, AUDIT_LIMIT) {
@@ -131,16 +135,21 @@ pub fn audit<S: Source, W: Sink, K: Keeper, L: Listener>(
     keeper: K,
     listeners: Vec<L>,
 ) -> Ended<K, L>
-    ensures run { Audits result.status (S.left source.old) (S.left source.new) (K.tables keeper) (K.tables result.keeper) result.journal (W.taken out.old) (W.taken out.new) }
-    ensures read { result.status ≡ Status.ReadFault → Rose (S.faults source.old) (S.faults source.new) }
+    ensures run { Audits result.status (S.left source.old) (S.left source.new) (K.tables keeper)
+        (K.tables result.keeper) result.journal (W.taken out.old) (W.taken out.new) }
+    ensures read { result.status ≡ Status.ReadFault
+        → Rose (S.faults source.old) (S.faults source.new) }
     ensures write { result.status ≡ Status.WriteFault → Rose (W.faults out.old) (W.faults out.new) }
-    ensures long { result.status ≡ Status.TooLong → IfSome (S.left source.old) (λ bytes. AUDIT_LIMIT < length bytes) }
+    ensures long { result.status ≡ Status.TooLong
+        → IfSome (S.left source.old) (λ bytes. AUDIT_LIMIT < length bytes) }
     ensures keeper { result.keeper ≡ keeper }
     ensures empty { past result.journal ≡ [] }
     ensures taken { ReadsFew (AUDIT_LIMIT + 4096) (S.left source.old) (S.left source.new) }
-    ensures complete { HasJournal (S.left source.old) → (Rose (S.faults source.old) (S.faults source.new) → ⊥)
+    ensures complete { HasJournal (S.left source.old)
+        → (Rose (S.faults source.old) (S.faults source.new) → ⊥)
         → (Rose (W.faults out.old) (W.faults out.new) → ⊥) → IsCompleted result.status }
-    ensures listeners { AreHandedBack (is_short result.status) result.journal.list (tells L.heard L.left listeners.items) (tells L.heard L.left result.listeners.items) }
+    ensures listeners { AreHandedBack (is_short result.status) result.journal.list
+        (tells L.heard L.left listeners.items) (tells L.heard L.left result.listeners.items) }
 {
     let status = audit_source(alloc, source, out);
     stop(alloc, status, keeper, listeners)

@@ -32,22 +32,32 @@ fn serve_alone<S: Source, W: Sink, K: Keeper, L: Listener>(
     listeners: Vec<L>,
 ) -> Ended<K, L>
     requires { is_alone way ≡ true }
-    ensures run { Comes way result.status (S.left script.old) (S.left script.new) (K.tables keeper) (K.tables result.keeper) result.journal (W.taken out.old) (W.taken out.new) }
+    ensures run { Comes way result.status (S.left script.old) (S.left script.new) (K.tables keeper)
+        (K.tables result.keeper) result.journal (W.taken out.old) (W.taken out.new) }
     ensures usage { result.status ≢ Status.Usage }
-    ensures unread { is_read (Some way) ≡ false → (S.left script.new ≡ S.left script.old) × (S.faults script.new ≡ S.faults script.old) }
-    ensures read { result.status ≡ Status.ReadFault → Rose (S.faults script.old) (S.faults script.new) }
+    ensures unread { is_read (Some way) ≡ false → (S.left script.new ≡ S.left script.old)
+        × (S.faults script.new ≡ S.faults script.old) }
+    ensures read { result.status ≡ Status.ReadFault
+        → Rose (S.faults script.old) (S.faults script.new) }
     ensures write { result.status ≡ Status.WriteFault → Rose (W.faults out.old) (W.faults out.new) }
-    ensures long { result.status ≡ Status.TooLong → IfSome (S.left script.old) (λ bytes. limit_of (Some way) < length bytes) }
-    ensures store { result.status ≡ Status.StoreFault → Rose (K.faults keeper) (K.faults result.keeper) }
-    ensures faults { RoseBy (K.faults keeper) (fault_count (past result.journal)) (K.faults result.keeper) }
-    ensures asked { result.status ≢ Status.NoMemory → RoseWithin (K.asked keeper) (ask_count (past result.journal)) (K.asked result.keeper) }
+    ensures long { result.status ≡ Status.TooLong
+        → IfSome (S.left script.old) (λ bytes. limit_of (Some way) < length bytes) }
+    ensures store { result.status ≡ Status.StoreFault
+        → Rose (K.faults keeper) (K.faults result.keeper) }
+    ensures faults { RoseBy (K.faults keeper) (fault_count (past result.journal))
+        (K.faults result.keeper) }
+    ensures asked { result.status ≢ Status.NoMemory
+        → RoseWithin (K.asked keeper) (ask_count (past result.journal)) (K.asked result.keeper) }
     // If memory runs out it may have been asked once more, without an entry.
-    ensures once { RoseWithin (K.asked keeper) (ask_count (past result.journal) + 1) (K.asked result.keeper) }
+    ensures once { RoseWithin (K.asked keeper) (ask_count (past result.journal) + 1)
+        (K.asked result.keeper) }
     // At most one piece of 4,096 bytes beyond the limit is read.
     ensures taken { ReadsFew (limit_of (Some way) + 4096) (S.left script.old) (S.left script.new) }
-    ensures complete { HasInput (Some way) (S.left script.old) (Rose (S.faults script.old) (S.faults script.new))
+    ensures complete { HasInput (Some way) (S.left script.old)
+        (Rose (S.faults script.old) (S.faults script.new))
         → (Rose (W.faults out.old) (W.faults out.new) → ⊥) → IsCompleted result.status }
-    ensures listeners { AreHandedBack (is_short result.status) result.journal.list (tells L.heard L.left listeners.items) (tells L.heard L.left result.listeners.items) }
+    ensures listeners { AreHandedBack (is_short result.status) result.journal.list
+        (tells L.heard L.left listeners.items) (tells L.heard L.left result.listeners.items) }
 {
     match way {
         Way::Run(Turns::Scheduled, telling) => play(alloc, telling, script, out, keeper, listeners),
@@ -71,22 +81,32 @@ fn serve<R: Threads + Wait + Sync, S: Source, W: Sink, K: Keeper, G: Gate, L: Li
     listeners: Vec<L>,
 ) -> Ended<K, L>
     requires { HasFew way }
-    ensures run { Comes way result.status (S.left script.old) (S.left script.new) (K.tables keeper) (K.tables result.keeper) result.journal (W.taken out.old) (W.taken out.new) }
+    ensures run { Comes way result.status (S.left script.old) (S.left script.new) (K.tables keeper)
+        (K.tables result.keeper) result.journal (W.taken out.old) (W.taken out.new) }
     ensures usage { result.status ≢ Status.Usage }
-    ensures unread { is_read (Some way) ≡ false → (S.left script.new ≡ S.left script.old) × (S.faults script.new ≡ S.faults script.old) }
-    ensures read { result.status ≡ Status.ReadFault → Rose (S.faults script.old) (S.faults script.new) }
+    ensures unread { is_read (Some way) ≡ false → (S.left script.new ≡ S.left script.old)
+        × (S.faults script.new ≡ S.faults script.old) }
+    ensures read { result.status ≡ Status.ReadFault
+        → Rose (S.faults script.old) (S.faults script.new) }
     ensures write { result.status ≡ Status.WriteFault → Rose (W.faults out.old) (W.faults out.new) }
-    ensures long { result.status ≡ Status.TooLong → IfSome (S.left script.old) (λ bytes. limit_of (Some way) < length bytes) }
-    ensures store { result.status ≡ Status.StoreFault → Rose (K.faults keeper) (K.faults result.keeper) }
-    ensures faults { RoseBy (K.faults keeper) (fault_count (past result.journal)) (K.faults result.keeper) }
-    ensures asked { result.status ≢ Status.NoMemory → RoseWithin (K.asked keeper) (ask_count (past result.journal)) (K.asked result.keeper) }
+    ensures long { result.status ≡ Status.TooLong
+        → IfSome (S.left script.old) (λ bytes. limit_of (Some way) < length bytes) }
+    ensures store { result.status ≡ Status.StoreFault
+        → Rose (K.faults keeper) (K.faults result.keeper) }
+    ensures faults { RoseBy (K.faults keeper) (fault_count (past result.journal))
+        (K.faults result.keeper) }
+    ensures asked { result.status ≢ Status.NoMemory
+        → RoseWithin (K.asked keeper) (ask_count (past result.journal)) (K.asked result.keeper) }
     // If memory runs out it may have been asked once more, without an entry.
-    ensures once { RoseWithin (K.asked keeper) (ask_count (past result.journal) + 1) (K.asked result.keeper) }
+    ensures once { RoseWithin (K.asked keeper) (ask_count (past result.journal) + 1)
+        (K.asked result.keeper) }
     // At most one piece of 4,096 bytes beyond the limit is read.
     ensures taken { ReadsFew (limit_of (Some way) + 4096) (S.left script.old) (S.left script.new) }
-    ensures complete { HasInput (Some way) (S.left script.old) (Rose (S.faults script.old) (S.faults script.new))
+    ensures complete { HasInput (Some way) (S.left script.old)
+        (Rose (S.faults script.old) (S.faults script.new))
         → (Rose (W.faults out.old) (W.faults out.new) → ⊥) → IsCompleted result.status }
-    ensures listeners { AreHandedBack (is_short result.status) result.journal.list (tells L.heard L.left listeners.items) (tells L.heard L.left result.listeners.items) }
+    ensures listeners { AreHandedBack (is_short result.status) result.journal.list
+        (tells L.heard L.left listeners.items) (tells L.heard L.left result.listeners.items) }
 {
     match way {
         Way::Run(Turns::OnWorkers(workers), telling) => work(

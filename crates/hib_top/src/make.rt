@@ -26,15 +26,23 @@ pub fn make<W: Sink, K: Keeper, L: Listener>(
     keeper: K,
     listeners: Vec<L>,
 ) -> Ended<K, L>
-    ensures run { Runs Turns.Scheduled (Telling.Summary seed) result.status (made seed) (K.tables keeper) (K.tables result.keeper) result.journal (W.taken out.old) (W.taken out.new) }
+    ensures run { Runs Turns.Scheduled (Telling.Summary seed) result.status (made seed)
+        (K.tables keeper) (K.tables result.keeper) result.journal (W.taken out.old)
+        (W.taken out.new) }
     ensures write { result.status ≡ Status.WriteFault → Rose (W.faults out.old) (W.faults out.new) }
-    ensures store { result.status ≡ Status.StoreFault → Rose (K.faults keeper) (K.faults result.keeper) }
-    ensures faults { RoseBy (K.faults keeper) (fault_count (past result.journal)) (K.faults result.keeper) }
-    ensures asked { result.status ≢ Status.NoMemory → RoseWithin (K.asked keeper) (ask_count (past result.journal)) (K.asked result.keeper) }
+    ensures store { result.status ≡ Status.StoreFault
+        → Rose (K.faults keeper) (K.faults result.keeper) }
+    ensures faults { RoseBy (K.faults keeper) (fault_count (past result.journal))
+        (K.faults result.keeper) }
+    ensures asked { result.status ≢ Status.NoMemory
+        → RoseWithin (K.asked keeper) (ask_count (past result.journal)) (K.asked result.keeper) }
     // If memory runs out it may have been asked once more, without an entry.
-    ensures once { RoseWithin (K.asked keeper) (ask_count (past result.journal) + 1) (K.asked result.keeper) }
-    ensures complete { (Rose (W.faults out.old) (W.faults out.new) → ⊥) → IsCompleted result.status }
-    ensures listeners { AreHandedBack (is_short result.status) result.journal.list (tells L.heard L.left listeners.items) (tells L.heard L.left result.listeners.items) }
+    ensures once { RoseWithin (K.asked keeper) (ask_count (past result.journal) + 1)
+        (K.asked result.keeper) }
+    ensures complete { (Rose (W.faults out.old) (W.faults out.new) → ⊥)
+        → IsCompleted result.status }
+    ensures listeners { AreHandedBack (is_short result.status) result.journal.list
+        (tells L.heard L.left listeners.items) (tells L.heard L.left result.listeners.items) }
 {
     match hib_make::make(alloc, seed) {
         Ok(script) => play_script(
@@ -77,12 +85,15 @@ pub fn print<W: Sink, K: Keeper, L: Listener>(
     keeper: K,
     listeners: Vec<L>,
 ) -> Ended<K, L>
-    ensures run { Prints result.status (printed (made seed)) (K.tables keeper) (K.tables result.keeper) result.journal (W.taken out.old) (W.taken out.new) }
+    ensures run { Prints result.status (printed (made seed)) (K.tables keeper)
+        (K.tables result.keeper) result.journal (W.taken out.old) (W.taken out.new) }
     ensures write { result.status ≡ Status.WriteFault → Rose (W.faults out.old) (W.faults out.new) }
     ensures keeper { result.keeper ≡ keeper }
     ensures empty { past result.journal ≡ [] }
-    ensures complete { (Rose (W.faults out.old) (W.faults out.new) → ⊥) → IsCompleted result.status }
-    ensures listeners { AreHandedBack (is_short result.status) result.journal.list (tells L.heard L.left listeners.items) (tells L.heard L.left result.listeners.items) }
+    ensures complete { (Rose (W.faults out.old) (W.faults out.new) → ⊥)
+        → IsCompleted result.status }
+    ensures listeners { AreHandedBack (is_short result.status) result.journal.list
+        (tells L.heard L.left listeners.items) (tells L.heard L.left result.listeners.items) }
 {
     let status = print_made(alloc, seed, out);
     stop(alloc, status, keeper, listeners)

@@ -44,7 +44,8 @@ pub struct Ended<K, L> {
 
 /// Writes the report of a run, piece by piece.
 fn tell_report<W: Sink>(alloc: Global, script: &Script, journal: &Journal, out: &mut W) -> Status
-    ensures report { IsWritten result (report script.now journal.now.list) (W.taken out.old) (W.taken out.new) }
+    ensures report { IsWritten result (report script.now journal.now.list) (W.taken out.old)
+        (W.taken out.new) }
     ensures write { result ≡ Status.WriteFault → Rose (W.faults out.old) (W.faults out.new) }
     ensures after { IsAfterRun result }
 {
@@ -57,7 +58,8 @@ fn tell_report<W: Sink>(alloc: Global, script: &Script, journal: &Journal, out: 
 
 /// The number that a script was made from, and the summary of its run.
 fn sum(alloc: Global, seed: u32, script: &Script, journal: &Journal) -> Result<Vec<u8>, AllocError>
-    ensures { IfOk result (λ v. v.items ≡ codes "seed " ++ decimal seed ++ codes "\n" ++ summary script.now journal.now.list) }
+    ensures { IfOk result (λ v. v.items
+        ≡ codes "seed " ++ decimal seed ++ codes "\n" ++ summary script.now journal.now.list) }
 {
     let mut text = b"seed ".to_vec(alloc)?;
     let number = seed.to_string(alloc)?;
@@ -88,7 +90,8 @@ fn tell_sum<W: Sink>(
     journal: &Journal,
     out: &mut W,
 ) -> Status
-    ensures text { IsWritten result (told_by (Telling.Summary seed) script.now journal.now.list) (W.taken out.old) (W.taken out.new) }
+    ensures text { IsWritten result (told_by (Telling.Summary seed) script.now journal.now.list)
+        (W.taken out.old) (W.taken out.new) }
     ensures write { result ≡ Status.WriteFault → Rose (W.faults out.old) (W.faults out.new) }
     ensures after { IsAfterRun result }
 {
@@ -101,7 +104,8 @@ fn tell_sum<W: Sink>(
 /// Writes the journal of a run as JSON lines, piece by piece. Each entry is tested before the first is written, so that what is
 /// written is read back as the journal; an entry that isn't well formed is answered as want of memory.
 fn tell_lines<W: Sink>(alloc: Global, script: &Script, journal: &Journal, out: &mut W) -> Status
-    ensures lines { IsWritten result (json_lines script.now journal.now.list) (W.taken out.old) (W.taken out.new) }
+    ensures lines { IsWritten result (json_lines script.now journal.now.list) (W.taken out.old)
+        (W.taken out.new) }
     ensures read_back { AreReadBack Telling.JsonLines result script.now journal.now.list }
     ensures write { result ≡ Status.WriteFault → Rose (W.faults out.old) (W.faults out.new) }
     ensures after { IsAfterRun result }
@@ -124,7 +128,8 @@ fn tell<W: Sink>(
     journal: &Journal,
     out: &mut W,
 ) -> Status
-    ensures report { IsWritten result (told_by telling script.now journal.now.list) (W.taken out.old) (W.taken out.new) }
+    ensures report { IsWritten result (told_by telling script.now journal.now.list)
+        (W.taken out.old) (W.taken out.new) }
     ensures read_back { AreReadBack telling result script.now journal.now.list }
     ensures write { result ≡ Status.WriteFault → Rose (W.faults out.old) (W.faults out.new) }
     ensures after { IsAfterRun result }
@@ -145,8 +150,10 @@ pub fn tell_end<W: Sink>(
     out: &mut W,
 ) -> Status
     ensures after { IsAfter end result }
-    ensures run { (turns : Turns) (script : Script) (kept rows : Option Tables) → CameTo turns end script kept (told_start script kept) rows (past journal.now)
-        → Runs turns telling result script kept rows journal.now (W.taken out.old) (W.taken out.new) }
+    ensures run { (turns : Turns) (script : Script) (kept rows : Option Tables)
+        → CameTo turns end script kept (told_start script kept) rows (past journal.now)
+        → Runs turns telling result script kept rows journal.now (W.taken out.old)
+        (W.taken out.new) }
     ensures write { result ≡ Status.WriteFault → Rose (W.faults out.old) (W.faults out.new) }
 {
     match end {
@@ -167,14 +174,20 @@ pub fn play_script<W: Sink, K: Keeper, L: Listener>(
     listeners: Vec<L>,
 ) -> Ended<K, L>
     requires { is_valid script ≡ true }
-    ensures run { Runs Turns.Scheduled telling result.status script (K.tables keeper) (K.tables result.keeper) result.journal (W.taken out.old) (W.taken out.new) }
+    ensures run { Runs Turns.Scheduled telling result.status script (K.tables keeper)
+        (K.tables result.keeper) result.journal (W.taken out.old) (W.taken out.new) }
     ensures write { result.status ≡ Status.WriteFault → Rose (W.faults out.old) (W.faults out.new) }
-    ensures store { result.status ≡ Status.StoreFault → Rose (K.faults keeper) (K.faults result.keeper) }
-    ensures faults { RoseBy (K.faults keeper) (fault_count (past result.journal)) (K.faults result.keeper) }
-    ensures asked { result.status ≢ Status.NoMemory → RoseWithin (K.asked keeper) (ask_count (past result.journal)) (K.asked result.keeper) }
+    ensures store { result.status ≡ Status.StoreFault
+        → Rose (K.faults keeper) (K.faults result.keeper) }
+    ensures faults { RoseBy (K.faults keeper) (fault_count (past result.journal))
+        (K.faults result.keeper) }
+    ensures asked { result.status ≢ Status.NoMemory
+        → RoseWithin (K.asked keeper) (ask_count (past result.journal)) (K.asked result.keeper) }
     // If memory runs out it may have been asked once more, without an entry.
-    ensures once { RoseWithin (K.asked keeper) (ask_count (past result.journal) + 1) (K.asked result.keeper) }
-    ensures listeners { AreHandedBack (is_short result.status) result.journal.list (tells L.heard L.left listeners.items) (tells L.heard L.left result.listeners.items) }
+    ensures once { RoseWithin (K.asked keeper) (ask_count (past result.journal) + 1)
+        (K.asked result.keeper) }
+    ensures listeners { AreHandedBack (is_short result.status) result.journal.list
+        (tells L.heard L.left listeners.items) (tells L.heard L.left result.listeners.items) }
 {
     let Ran {
         end,
@@ -193,11 +206,15 @@ pub fn play_script<W: Sink, K: Keeper, L: Listener>(
 
 /// The script that the source has, or how a call ends that finds none.
 pub fn read_script<S: Source>(alloc: Global, source: &mut S) -> Result<Script, Status>
-    ensures script { IfOk result (λ script. HasRead (S.left source.old) (S.left source.new) script) }
+    ensures script { IfOk result (λ script. HasRead (S.left source.old)
+        (S.left source.new) script) }
     ensures valid { IfOk result (λ script. is_valid script ≡ true) }
-    ensures none { IfErr result (λ status. HasNoScript (S.left source.old) (S.left source.new) status) }
-    ensures read { result ≡ Err Status.ReadFault → Rose (S.faults source.old) (S.faults source.new) }
-    ensures long { result ≡ Err Status.TooLong → IfSome (S.left source.old) (λ bytes. LIMIT < length bytes) }
+    ensures none { IfErr result (λ status. HasNoScript (S.left source.old)
+        (S.left source.new) status) }
+    ensures read { result ≡ Err Status.ReadFault
+        → Rose (S.faults source.old) (S.faults source.new) }
+    ensures long { result ≡ Err Status.TooLong
+        → IfSome (S.left source.old) (λ bytes. LIMIT < length bytes) }
     ensures taken { ReadsFew (LIMIT + 4096) (S.left source.old) (S.left source.new) }
 {
     let text = match read_all(alloc, source, LIMIT) {
@@ -223,7 +240,8 @@ pub fn stop<K: Keeper, L: Listener>(
     ensures status { result.status ≡ status }
     ensures empty { past result.journal ≡ [] }
     ensures keeper { result.keeper ≡ keeper }
-    ensures listeners { AreHandedBack (is_short result.status) result.journal.list (tells L.heard L.left listeners.items) (tells L.heard L.left result.listeners.items) }
+    ensures listeners { AreHandedBack (is_short result.status) result.journal.list
+        (tells L.heard L.left listeners.items) (tells L.heard L.left result.listeners.items) }
 {
     nothing_was_told();
     Ended {
@@ -243,21 +261,31 @@ pub fn play<S: Source, W: Sink, K: Keeper, L: Listener>(
     keeper: K,
     listeners: Vec<L>,
 ) -> Ended<K, L>
-    ensures run { Plays Turns.Scheduled telling result.status (S.left source.old) (S.left source.new) (K.tables keeper) (K.tables result.keeper) result.journal (W.taken out.old) (W.taken out.new) }
-    ensures read { result.status ≡ Status.ReadFault → Rose (S.faults source.old) (S.faults source.new) }
+    ensures run { Plays Turns.Scheduled telling result.status (S.left source.old)
+        (S.left source.new) (K.tables keeper) (K.tables result.keeper) result.journal
+        (W.taken out.old) (W.taken out.new) }
+    ensures read { result.status ≡ Status.ReadFault
+        → Rose (S.faults source.old) (S.faults source.new) }
     ensures write { result.status ≡ Status.WriteFault → Rose (W.faults out.old) (W.faults out.new) }
-    ensures long { result.status ≡ Status.TooLong → IfSome (S.left source.old) (λ bytes. LIMIT < length bytes) }
+    ensures long { result.status ≡ Status.TooLong
+        → IfSome (S.left source.old) (λ bytes. LIMIT < length bytes) }
     ensures usage { result.status ≢ Status.Usage }
-    ensures store { result.status ≡ Status.StoreFault → Rose (K.faults keeper) (K.faults result.keeper) }
-    ensures faults { RoseBy (K.faults keeper) (fault_count (past result.journal)) (K.faults result.keeper) }
-    ensures asked { result.status ≢ Status.NoMemory → RoseWithin (K.asked keeper) (ask_count (past result.journal)) (K.asked result.keeper) }
+    ensures store { result.status ≡ Status.StoreFault
+        → Rose (K.faults keeper) (K.faults result.keeper) }
+    ensures faults { RoseBy (K.faults keeper) (fault_count (past result.journal))
+        (K.faults result.keeper) }
+    ensures asked { result.status ≢ Status.NoMemory
+        → RoseWithin (K.asked keeper) (ask_count (past result.journal)) (K.asked result.keeper) }
     // If memory runs out it may have been asked once more, without an entry.
-    ensures once { RoseWithin (K.asked keeper) (ask_count (past result.journal) + 1) (K.asked result.keeper) }
+    ensures once { RoseWithin (K.asked keeper) (ask_count (past result.journal) + 1)
+        (K.asked result.keeper) }
     // A script is run to its end if source and sink don't fail, unless memory runs out or the keeper doesn't take its rows.
-    ensures complete { HasScript (S.left source.old) → (Rose (S.faults source.old) (S.faults source.new) → ⊥)
+    ensures complete { HasScript (S.left source.old)
+        → (Rose (S.faults source.old) (S.faults source.new) → ⊥)
         → (Rose (W.faults out.old) (W.faults out.new) → ⊥) → IsCompleted result.status }
     ensures taken { ReadsFew (LIMIT + 4096) (S.left source.old) (S.left source.new) }
-    ensures listeners { AreHandedBack (is_short result.status) result.journal.list (tells L.heard L.left listeners.items) (tells L.heard L.left result.listeners.items) }
+    ensures listeners { AreHandedBack (is_short result.status) result.journal.list
+        (tells L.heard L.left listeners.items) (tells L.heard L.left result.listeners.items) }
 {
     match read_script(alloc, source) {
         Ok(script) => play_script(alloc, telling, script, out, keeper, listeners),

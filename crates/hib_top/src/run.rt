@@ -56,7 +56,8 @@ fn not_run<K: Keeper, L: Listener>(
     ensures end { result.end ≡ end }
     ensures empty { past result.journal ≡ [] }
     ensures keeper { result.keeper ≡ keeper }
-    ensures listeners { AreHandedBack (is_stopped end) result.journal.list (tells L.heard L.left listeners.items) (tells L.heard L.left result.listeners.items) }
+    ensures listeners { AreHandedBack (is_stopped end) result.journal.list
+        (tells L.heard L.left listeners.items) (tells L.heard L.left result.listeners.items) }
 {
     nothing_was_told();
     Ran {
@@ -76,7 +77,8 @@ pub fn unopened<K: Keeper, L: Listener>(
     ensures end { result.end ≡ unopened fault }
     ensures empty { past result.journal ≡ [] }
     ensures keeper { result.keeper ≡ handed_back fault }
-    ensures listeners { AreHandedBack false result.journal.list (tells L.heard L.left listeners.items) (tells L.heard L.left result.listeners.items) }
+    ensures listeners { AreHandedBack false result.journal.list
+        (tells L.heard L.left listeners.items) (tells L.heard L.left result.listeners.items) }
 {
     match fault {
         OpenFault::NoMemory(keeper) => not_run(alloc, End::Unopened, keeper, listeners),
@@ -93,14 +95,23 @@ fn named<N: Name, K: Keeper, L: Listener>(
 ) -> Ran<K, L>
     requires script { script ≡ N.script }
     requires valid { is_valid N.script ≡ true }
-    requires from { record { tables = told_start N.script (K.tables keeper); faults = K.faults keeper; asked = K.asked keeper } ≡ N.from }
+    requires from { record {
+      tables = told_start N.script (K.tables keeper);
+      faults = K.faults keeper;
+      asked = K.asked keeper;
+    } ≡ N.from }
     requires told { tells L.heard L.left listeners.items ≡ N.told }
-    ensures came { CameTo Turns.Scheduled result.end N.script (K.tables keeper) N.from.tables (K.tables result.keeper) (past result.journal) }
-    ensures faults { RoseBy N.from.faults (fault_count (past result.journal)) (K.faults result.keeper) }
-    ensures asked { result.end ≢ End.Stopped → RoseWithin N.from.asked (ask_count (past result.journal)) (K.asked result.keeper) }
-    ensures once { RoseWithin N.from.asked (ask_count (past result.journal) + 1) (K.asked result.keeper) }
+    ensures came { CameTo Turns.Scheduled result.end N.script (K.tables keeper) N.from.tables
+        (K.tables result.keeper) (past result.journal) }
+    ensures faults { RoseBy N.from.faults (fault_count (past result.journal))
+        (K.faults result.keeper) }
+    ensures asked { result.end ≢ End.Stopped
+        → RoseWithin N.from.asked (ask_count (past result.journal)) (K.asked result.keeper) }
+    ensures once { RoseWithin N.from.asked (ask_count (past result.journal) + 1)
+        (K.asked result.keeper) }
     ensures store { result.end ≡ End.Unseeded → Rose (K.faults keeper) (K.faults result.keeper) }
-    ensures listeners { AreHandedBack (is_stopped result.end) result.journal.list N.told (tells L.heard L.left result.listeners.items) }
+    ensures listeners { AreHandedBack (is_stopped result.end) result.journal.list N.told
+        (tells L.heard L.left result.listeners.items) }
 {
     lists_are_given();
     entries_are_formed();
@@ -133,12 +144,17 @@ pub fn run<K: Keeper, L: Listener>(
     listeners: Vec<L>,
 ) -> Ran<K, L>
     requires { is_valid script ≡ true }
-    ensures came { CameTo Turns.Scheduled result.end script (K.tables keeper) (told_start script (K.tables keeper)) (K.tables result.keeper) (past result.journal) }
-    ensures faults { RoseBy (K.faults keeper) (fault_count (past result.journal)) (K.faults result.keeper) }
-    ensures asked { result.end ≢ End.Stopped → RoseWithin (K.asked keeper) (ask_count (past result.journal)) (K.asked result.keeper) }
-    ensures once { RoseWithin (K.asked keeper) (ask_count (past result.journal) + 1) (K.asked result.keeper) }
+    ensures came { CameTo Turns.Scheduled result.end script (K.tables keeper)
+        (told_start script (K.tables keeper)) (K.tables result.keeper) (past result.journal) }
+    ensures faults { RoseBy (K.faults keeper) (fault_count (past result.journal))
+        (K.faults result.keeper) }
+    ensures asked { result.end ≢ End.Stopped
+        → RoseWithin (K.asked keeper) (ask_count (past result.journal)) (K.asked result.keeper) }
+    ensures once { RoseWithin (K.asked keeper) (ask_count (past result.journal) + 1)
+        (K.asked result.keeper) }
     ensures store { result.end ≡ End.Unseeded → Rose (K.faults keeper) (K.faults result.keeper) }
-    ensures listeners { AreHandedBack (is_stopped result.end) result.journal.list (tells L.heard L.left listeners.items) (tells L.heard L.left result.listeners.items) }
+    ensures listeners { AreHandedBack (is_stopped result.end) result.journal.list
+        (tells L.heard L.left listeners.items) (tells L.heard L.left result.listeners.items) }
 {
     named::<Brand, K, L>(alloc, script, keeper, listeners)
 }

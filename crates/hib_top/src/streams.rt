@@ -57,12 +57,14 @@ pub fn read_all<S: Source>(alloc: Global, source: &mut S, limit: usize) -> Resul
     requires { limit ≤ AUDIT_LIMIT }
     ensures bytes { IfOk result (λ v. IfSome (S.left source.old) (λ bytes. bytes ≡ v.items)) }
     ensures few { IfOk result (λ v. length v.items ≤ limit) }
-    ensures long { result ≡ Err ReadStop.TooLong → IfSome (S.left source.old) (λ bytes. limit < length bytes) }
+    ensures long { result ≡ Err ReadStop.TooLong
+        → IfSome (S.left source.old) (λ bytes. limit < length bytes) }
     ensures taken { ReadsFew (limit + 4096) (S.left source.old) (S.left source.new) }
     ensures end { IfOk result (λ _. IsAtEnd (S.left source.new)) }
     ensures calm { OnOk result (S.faults source.new ≡ S.faults source.old) }
     ensures later { S.faults source.old ≤ S.faults source.new }
-    ensures failed { result ≡ Err ReadStop.Failed → Rose (S.faults source.old) (S.faults source.new) }
+    ensures failed { result ≡ Err ReadStop.Failed
+        → Rose (S.faults source.old) (S.faults source.new) }
 {
     let mut text = Vec::new(alloc);
     let mut piece = [0u8; 4096];

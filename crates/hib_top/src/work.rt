@@ -39,14 +39,23 @@ fn named<N: Name + Send + Sync, R: Threads + Wait + Sync, K: Keeper, L: Listener
     requires workers { (1 ≤ workers) × (workers ≤ 64) }
     requires script { script ≡ N.script }
     requires valid { is_valid N.script ≡ true }
-    requires from { record { tables = told_start N.script (K.tables keeper); faults = K.faults keeper; asked = K.asked keeper } ≡ N.from }
+    requires from { record {
+      tables = told_start N.script (K.tables keeper);
+      faults = K.faults keeper;
+      asked = K.asked keeper;
+    } ≡ N.from }
     requires told { tells L.heard L.left listeners.items ≡ N.told }
-    ensures came { CameTo (Turns.OnWorkers workers) result.end N.script (K.tables keeper) N.from.tables (K.tables result.keeper) (past result.journal) }
-    ensures faults { RoseBy N.from.faults (fault_count (past result.journal)) (K.faults result.keeper) }
-    ensures asked { result.end ≢ End.Stopped → RoseWithin N.from.asked (ask_count (past result.journal)) (K.asked result.keeper) }
-    ensures once { RoseWithin N.from.asked (ask_count (past result.journal) + 1) (K.asked result.keeper) }
+    ensures came { CameTo (Turns.OnWorkers workers) result.end N.script
+        (K.tables keeper) N.from.tables (K.tables result.keeper) (past result.journal) }
+    ensures faults { RoseBy N.from.faults (fault_count (past result.journal))
+        (K.faults result.keeper) }
+    ensures asked { result.end ≢ End.Stopped
+        → RoseWithin N.from.asked (ask_count (past result.journal)) (K.asked result.keeper) }
+    ensures once { RoseWithin N.from.asked (ask_count (past result.journal) + 1)
+        (K.asked result.keeper) }
     ensures store { result.end ≡ End.Unseeded → Rose (K.faults keeper) (K.faults result.keeper) }
-    ensures listeners { AreHandedBack (is_stopped result.end) result.journal.list N.told (tells L.heard L.left result.listeners.items) }
+    ensures listeners { AreHandedBack (is_stopped result.end) result.journal.list N.told
+        (tells L.heard L.left result.listeners.items) }
 {
     lists_are_given();
     entries_are_formed();
@@ -87,12 +96,17 @@ fn run<R: Threads + Wait + Sync, K: Keeper, L: Listener, G: Gate>(
 ) -> Ran<K, L>
     requires workers { (1 ≤ workers) × (workers ≤ 64) }
     requires valid { is_valid script ≡ true }
-    ensures came { CameTo (Turns.OnWorkers workers) result.end script (K.tables keeper) (told_start script (K.tables keeper)) (K.tables result.keeper) (past result.journal) }
-    ensures faults { RoseBy (K.faults keeper) (fault_count (past result.journal)) (K.faults result.keeper) }
-    ensures asked { result.end ≢ End.Stopped → RoseWithin (K.asked keeper) (ask_count (past result.journal)) (K.asked result.keeper) }
-    ensures once { RoseWithin (K.asked keeper) (ask_count (past result.journal) + 1) (K.asked result.keeper) }
+    ensures came { CameTo (Turns.OnWorkers workers) result.end script (K.tables keeper)
+        (told_start script (K.tables keeper)) (K.tables result.keeper) (past result.journal) }
+    ensures faults { RoseBy (K.faults keeper) (fault_count (past result.journal))
+        (K.faults result.keeper) }
+    ensures asked { result.end ≢ End.Stopped
+        → RoseWithin (K.asked keeper) (ask_count (past result.journal)) (K.asked result.keeper) }
+    ensures once { RoseWithin (K.asked keeper) (ask_count (past result.journal) + 1)
+        (K.asked result.keeper) }
     ensures store { result.end ≡ End.Unseeded → Rose (K.faults keeper) (K.faults result.keeper) }
-    ensures listeners { AreHandedBack (is_stopped result.end) result.journal.list (tells L.heard L.left listeners.items) (tells L.heard L.left result.listeners.items) }
+    ensures listeners { AreHandedBack (is_stopped result.end) result.journal.list
+        (tells L.heard L.left listeners.items) (tells L.heard L.left result.listeners.items) }
 {
     named::<Brand, R, K, L, G>(rt, alloc, script, keeper, workers, gate, listeners)
 }
@@ -111,14 +125,20 @@ fn work_script<R: Threads + Wait + Sync, W: Sink, K: Keeper, L: Listener, G: Gat
 ) -> Ended<K, L>
     requires workers { (1 ≤ workers) × (workers ≤ 64) }
     requires valid { is_valid script ≡ true }
-    ensures run { Runs (Turns.OnWorkers workers) telling result.status script (K.tables keeper) (K.tables result.keeper) result.journal (W.taken out.old) (W.taken out.new) }
+    ensures run { Runs (Turns.OnWorkers workers) telling result.status script (K.tables keeper)
+        (K.tables result.keeper) result.journal (W.taken out.old) (W.taken out.new) }
     ensures write { result.status ≡ Status.WriteFault → Rose (W.faults out.old) (W.faults out.new) }
-    ensures store { result.status ≡ Status.StoreFault → Rose (K.faults keeper) (K.faults result.keeper) }
-    ensures faults { RoseBy (K.faults keeper) (fault_count (past result.journal)) (K.faults result.keeper) }
-    ensures asked { result.status ≢ Status.NoMemory → RoseWithin (K.asked keeper) (ask_count (past result.journal)) (K.asked result.keeper) }
+    ensures store { result.status ≡ Status.StoreFault
+        → Rose (K.faults keeper) (K.faults result.keeper) }
+    ensures faults { RoseBy (K.faults keeper) (fault_count (past result.journal))
+        (K.faults result.keeper) }
+    ensures asked { result.status ≢ Status.NoMemory
+        → RoseWithin (K.asked keeper) (ask_count (past result.journal)) (K.asked result.keeper) }
     // If memory runs out it may have been asked once more, without an entry.
-    ensures once { RoseWithin (K.asked keeper) (ask_count (past result.journal) + 1) (K.asked result.keeper) }
-    ensures listeners { AreHandedBack (is_short result.status) result.journal.list (tells L.heard L.left listeners.items) (tells L.heard L.left result.listeners.items) }
+    ensures once { RoseWithin (K.asked keeper) (ask_count (past result.journal) + 1)
+        (K.asked result.keeper) }
+    ensures listeners { AreHandedBack (is_short result.status) result.journal.list
+        (tells L.heard L.left listeners.items) (tells L.heard L.left result.listeners.items) }
 {
     let Ran {
         end,
@@ -148,21 +168,31 @@ pub fn work<R: Threads + Wait + Sync, S: Source, W: Sink, K: Keeper, L: Listener
     listeners: Vec<L>,
 ) -> Ended<K, L>
     requires { (1 ≤ workers) × (workers ≤ 64) }
-    ensures run { Plays (Turns.OnWorkers workers) telling result.status (S.left source.old) (S.left source.new) (K.tables keeper) (K.tables result.keeper) result.journal (W.taken out.old) (W.taken out.new) }
-    ensures read { result.status ≡ Status.ReadFault → Rose (S.faults source.old) (S.faults source.new) }
+    ensures run { Plays (Turns.OnWorkers workers) telling result.status (S.left source.old)
+        (S.left source.new) (K.tables keeper) (K.tables result.keeper) result.journal
+        (W.taken out.old) (W.taken out.new) }
+    ensures read { result.status ≡ Status.ReadFault
+        → Rose (S.faults source.old) (S.faults source.new) }
     ensures write { result.status ≡ Status.WriteFault → Rose (W.faults out.old) (W.faults out.new) }
-    ensures long { result.status ≡ Status.TooLong → IfSome (S.left source.old) (λ bytes. LIMIT < length bytes) }
+    ensures long { result.status ≡ Status.TooLong
+        → IfSome (S.left source.old) (λ bytes. LIMIT < length bytes) }
     ensures usage { result.status ≢ Status.Usage }
-    ensures store { result.status ≡ Status.StoreFault → Rose (K.faults keeper) (K.faults result.keeper) }
-    ensures faults { RoseBy (K.faults keeper) (fault_count (past result.journal)) (K.faults result.keeper) }
-    ensures asked { result.status ≢ Status.NoMemory → RoseWithin (K.asked keeper) (ask_count (past result.journal)) (K.asked result.keeper) }
+    ensures store { result.status ≡ Status.StoreFault
+        → Rose (K.faults keeper) (K.faults result.keeper) }
+    ensures faults { RoseBy (K.faults keeper) (fault_count (past result.journal))
+        (K.faults result.keeper) }
+    ensures asked { result.status ≢ Status.NoMemory
+        → RoseWithin (K.asked keeper) (ask_count (past result.journal)) (K.asked result.keeper) }
     // If memory runs out it may have been asked once more, without an entry.
-    ensures once { RoseWithin (K.asked keeper) (ask_count (past result.journal) + 1) (K.asked result.keeper) }
+    ensures once { RoseWithin (K.asked keeper) (ask_count (past result.journal) + 1)
+        (K.asked result.keeper) }
     // A script is run to its end if source and sink don't fail, unless memory runs out or the keeper doesn't take its rows.
-    ensures complete { HasScript (S.left source.old) → (Rose (S.faults source.old) (S.faults source.new) → ⊥)
+    ensures complete { HasScript (S.left source.old)
+        → (Rose (S.faults source.old) (S.faults source.new) → ⊥)
         → (Rose (W.faults out.old) (W.faults out.new) → ⊥) → IsCompleted result.status }
     ensures taken { ReadsFew (LIMIT + 4096) (S.left source.old) (S.left source.new) }
-    ensures listeners { AreHandedBack (is_short result.status) result.journal.list (tells L.heard L.left listeners.items) (tells L.heard L.left result.listeners.items) }
+    ensures listeners { AreHandedBack (is_short result.status) result.journal.list
+        (tells L.heard L.left listeners.items) (tells L.heard L.left result.listeners.items) }
 {
     match read_script(alloc, source) {
         Ok(script) => work_script(

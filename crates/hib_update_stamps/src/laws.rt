@@ -21,8 +21,9 @@ pub fn stamps_follow()
 
 /// Acts of other parts, but for a restart, leave every stamp.
 pub fn other_acts_leave_stamps()
-    ensures { (timeout : ℕ) (stamps : Stamped) (h : Journal) (e : Entry) (s : ℕ) → IsStamps timeout stamps h
-        → same_part (part_of e.act s) Part.Stamps ≡ false → is_restart e.act ≡ false → IsStamps timeout stamps (e ∷ h) }
+    ensures { (timeout : ℕ) (stamps : Stamped) (h : Journal) (e : Entry) (s : ℕ)
+        → IsStamps timeout stamps h → same_part (part_of e.act s) Part.Stamps ≡ false
+        → is_restart e.act ≡ false → IsStamps timeout stamps (e ∷ h) }
 {}
 
 /// If stamps stand for a journal, a check of tables that have a place answers what the journal says.

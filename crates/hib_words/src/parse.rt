@@ -51,7 +51,8 @@ fn matches_for<'a>(
     verb: Verb,
     words: &'a [String],
 ) -> Result<Option<ArgMatches<'a>>, AllocError>
-    ensures { IfOk result (HoldsGiven (form_of verb) (options_in (form_of verb) (drop 1 (map string_bytes words.entry.now)))) }
+    ensures { IfOk result (HoldsGiven (form_of verb)
+        (options_in (form_of verb) (drop 1 (map string_bytes words.entry.now)))) }
 {
     if !all_fit_after_first(words) {
         return Ok(None);
@@ -72,7 +73,9 @@ pub fn parse<'a>(
     verb: Verb,
     words: &'a [String],
 ) -> Result<Option<Found<'a>>, AllocError>
-    ensures { IfOk result (λ r. option_map chosen_of r ≡ option_map chosen_in (options_in (form_of verb) (drop 1 (map string_bytes words.entry.now)))) }
+    ensures { IfOk result (λ r. option_map chosen_of r
+        ≡ option_map chosen_in (options_in (form_of verb)
+        (drop 1 (map string_bytes words.entry.now)))) }
 {
     let Some(matches) = matches_for(alloc, verb, words)? else {
         return Ok(None);
