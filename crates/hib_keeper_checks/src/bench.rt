@@ -1,8 +1,9 @@
 // The lines of the input: each block of them is over the keeper that its first line opens.
 use crate::{play, words};
 use hib_base::{Change, EntityNo, Key, Mapping, Row, Seq};
-use hib_keeper_sqlite::{in_memory, open_file};
+use hib_keeper_sqlite::{SqliteKeeper, in_memory, open_file};
 use hib_outside::Keeper;
+use sqlite::{File, FileStore};
 use std::alloc::{AllocError, Global};
 use std::{fs, io};
 
@@ -113,53 +114,28 @@ fn call<K: Keeper>(
     call_read(out, alloc, keeper, rest)
 }
 
-/// What is done over a keeper, whatever its type.
-trait Task {
-    /// Does it, and answers how many lines were taken.
-    fn run<K: Keeper>(&mut self, rt: &HostRuntime, keeper: &mut K) -> io::Result<usize>;
+/// Closes a keeper over a file, if it is open, so that the file stands alone.
+fn close(keeper: SqliteKeeper<FileStore<File>>) {
+    if let Some(connection) = keeper.into_connection() {
+        let _ = connection.close();
+    }
 }
 
-/// Does something over a keeper over a file, and closes it.
-fn over_file<T: Task>(rt: &HostRuntime, path: &str, task: &mut T) -> io::Result<usize> {
+/// Reads a row by another keeper over a file.
+fn read_beside(
+    rt: &HostRuntime,
+    alloc: Global,
+    out: &mut String,
+    path: &str,
+    rest: &mut &str,
+) -> io::Result<()> {
     match open_file(rt, path) {
         Ok(mut keeper) => {
-            let taken = task.run(rt, &mut keeper);
-            if let Some(connection) = keeper.into_connection() {
-                let _ = connection.close();
-            }
-            taken
+            let read = call_read(out, alloc, &mut keeper, rest);
+            close(keeper);
+            read
         }
-        Err(_) => Ok(0),
-    }
-}
-
-/// A row is read.
-#[derive(Drop)]
-struct Reading<'a, 'b> {
-    alloc: Global,
-    out: &'a mut String,
-    key: &'b str,
-}
-
-impl Task for Reading<'_, '_> {
-    fn run<K: Keeper>(&mut self, rt: &HostRuntime, keeper: &mut K) -> io::Result<usize> {
-        let _ = rt;
-        let mut rest = self.key;
-        call_read(self.out, self.alloc, keeper, &mut rest)?;
-        Ok(0)
-    }
-}
-
-/// A block of lines is done.
-#[derive(Drop)]
-struct Block<'a, 'b> {
-    bench: &'a mut Bench,
-    lines: &'b [String],
-}
-
-impl Task for Block<'_, '_> {
-    fn run<K: Keeper>(&mut self, rt: &HostRuntime, keeper: &mut K) -> io::Result<usize> {
-        serve(rt, self.bench, self.lines, keeper)
+        Err(_) => add(out, "refused"),
     }
 }
 
@@ -183,6 +159,22 @@ fn serve<K: Keeper>(
 fn over_memory(rt: &HostRuntime, bench: &mut Bench, lines: &[String]) -> io::Result<usize> {
     match in_memory(bench.alloc) {
         Ok(mut keeper) => serve(rt, bench, lines, &mut keeper),
+        Err(_) => Ok(0),
+    }
+}
+
+fn over_file(
+    rt: &HostRuntime,
+    bench: &mut Bench,
+    path: &str,
+    lines: &[String],
+) -> io::Result<usize> {
+    match open_file(rt, path) {
+        Ok(mut keeper) => {
+            let taken = serve(rt, bench, lines, &mut keeper);
+            close(keeper);
+            taken
+        }
         Err(_) => Ok(0),
     }
 }
@@ -212,7 +204,7 @@ pub fn open(
     println!(rt; "{line}: ok")?;
     match word {
         "memory" => over_memory(rt, bench, lines),
-        "file" => over_file(rt, rest, &mut Block { bench, lines }),
+        "file" => over_file(rt, bench, rest, lines),
         _ => {
             fs::create_dir(rt, rest)?;
             Ok(0)
@@ -263,13 +255,7 @@ impl Bench {
     ) -> io::Result<()> {
         if word == "beside" {
             let path = words::next(rest);
-            let mut reading = Reading {
-                alloc: self.alloc,
-                out,
-                key: *rest,
-            };
-            over_file(rt, path, &mut reading)?;
-            return Ok(());
+            return read_beside(rt, self.alloc, out, path, rest);
         }
         call(out, self.alloc, keeper, word, rest, &self.next)?;
         self.next = nothing(self.alloc);

@@ -137,7 +137,11 @@ fn after_crash<D: Crash + Drop + Send>(alloc: Global, keeper: DiskKeeper<D>, don
         return Left::Nothing;
     };
     match open(alloc, files) {
-        Some(mut again) => judge(alloc, &mut again, done),
+        Some(mut again) => {
+            let left = judge(alloc, &mut again, done);
+            let _files = crashed(again);
+            left
+        }
         None => Left::Broken,
     }
 }
