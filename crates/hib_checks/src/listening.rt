@@ -1,9 +1,7 @@
 // What listeners hear, by direct calls: whether each has heard the entries that it is to hear, and who is left.
-use crate::words::words_of;
-use crate::world::{empty_keeper, sink_of, sink_with, source_of};
 use hib_base::{Act, Entry, Part, Reply, Seq, Tick};
 use hib_listeners::{Limited, Listeners, Recorder, Trace};
-use hib_outside::{Heard, Listener, MemSink, MemSource};
+use hib_outside::{Heard, Listener, MemKeeper, MemSink, MemSource};
 use hib_top::{Status, play_words};
 use std::alloc::{AllocError, Global};
 
@@ -50,16 +48,6 @@ struct Forgetful {
     told: u64,
 }
 
-impl Forgetful {
-    /// It was told nothing yet.
-    fn new(alloc: Global) -> Forgetful {
-        Forgetful {
-            recorder: Recorder::new(alloc),
-            told: 0,
-        }
-    }
-}
-
 impl Listener for Forgetful {
     ghost use Rattle.std.specs.Prelude.{Some, None};
 
@@ -80,82 +68,60 @@ impl Listener for Forgetful {
     }
 }
 
-/// Adds a recorder.
-fn add_recorder(alloc: Global, several: &mut Several) -> Result<(), AllocError> {
-    several.push(Box::new(alloc, Recorder::new(alloc))?)?;
-    Ok(())
-}
-
-/// Adds a recorder that leaves after some entries.
-fn add_limited(alloc: Global, several: &mut Several, limited: Limited) -> Result<(), AllocError> {
-    several.push(Box::new(alloc, limited)?)?;
-    Ok(())
-}
-
-/// Adds a recorder that has no memory for the second entry.
-fn add_forgetful(alloc: Global, several: &mut Several) -> Result<(), AllocError> {
-    several.push(Box::new(alloc, Forgetful::new(alloc))?)?;
-    Ok(())
-}
-
-/// A recorder and one limited to three entries.
-fn recorder_and_limited(alloc: Global) -> Result<Several, AllocError> {
-    let mut several: Several = Vec::new(alloc);
-    add_recorder(alloc, &mut several)?;
-    add_limited(alloc, &mut several, Limited::new(alloc, 3))?;
-    Ok(several)
-}
-
-/// Those that are left after the entries with the ticks from 1 to the last, and how often memory ran out.
-fn left_after(alloc: Global, several: Several, last: u32) -> (Several, u64) {
-    let mut listeners = Listeners::open(several);
-    let refused = tell(alloc, &mut listeners, last);
-    (listeners.close(), refused)
-}
-
-/// Whether so many are left after the entries to the last, all of which have heard all, and memory never ran out.
-fn leaves(alloc: Global, several: Several, last: u32, count: usize) -> bool {
-    let (left, refused) = left_after(alloc, several, last);
-    refused == 0 && left.len() == count && left.iter().all(|one| heard_to(one, last as usize))
-}
-
 /// Whether of a recorder and one limited to three entries, which are told eight, the recorder alone is left and has heard all.
 pub fn drops_the_limited(alloc: Global) -> Result<bool, AllocError> {
-    Ok(leaves(alloc, recorder_and_limited(alloc)?, 8, 1))
+    let mut several: Several = Vec::new(alloc);
+    several.push(Box::new(alloc, Recorder::new(alloc))?)?;
+    several.push(Box::new(alloc, Limited::new(alloc, 3))?)?;
+    let mut listeners = Listeners::open(several);
+    let refused = tell(alloc, &mut listeners, 8);
+    let left = listeners.close();
+    Ok(refused == 0 && left.len() == 1 && left.iter().all(|one| heard_to(one, 8)))
 }
 
 /// Whether of three listeners the second leaves at the first entry, and the others hear the next.
 pub fn drops_the_second(alloc: Global) -> Result<bool, AllocError> {
     let mut several: Several = Vec::new(alloc);
-    add_recorder(alloc, &mut several)?;
-    add_limited(alloc, &mut several, Limited::new(alloc, 1))?;
-    add_limited(alloc, &mut several, Limited::new(alloc, 9))?;
-    Ok(leaves(alloc, several, 2, 2))
+    several.push(Box::new(alloc, Recorder::new(alloc))?)?;
+    several.push(Box::new(alloc, Limited::new(alloc, 1))?)?;
+    several.push(Box::new(alloc, Limited::new(alloc, 9))?)?;
+    let mut listeners = Listeners::open(several);
+    let refused = tell(alloc, &mut listeners, 2);
+    let left = listeners.close();
+    Ok(refused == 0 && left.len() == 2 && left.iter().all(|one| heard_to(one, 2)))
 }
 
 /// Whether of three listeners of which the second has no memory for the second entry the first alone has heard two.
 pub fn stops_at_the_second(alloc: Global) -> Result<bool, AllocError> {
     let mut several: Several = Vec::new(alloc);
-    add_recorder(alloc, &mut several)?;
-    add_forgetful(alloc, &mut several)?;
-    add_recorder(alloc, &mut several)?;
-    let (left, refused) = left_after(alloc, several, 2);
-    Ok(match left.as_slice() {
-        [first, others @ ..] => {
-            refused == 1
-                && others.len() == 2
-                && heard_to(first, 2)
-                && others.iter().all(|one| heard_to(one, 1))
-        }
-        [] => false,
-    })
+    several.push(Box::new(alloc, Recorder::new(alloc))?)?;
+    several.push(Box::new(
+        alloc,
+        Forgetful {
+            recorder: Recorder::new(alloc),
+            told: 0,
+        },
+    )?)?;
+    several.push(Box::new(alloc, Recorder::new(alloc))?)?;
+    let mut listeners = Listeners::open(several);
+    let refused = tell(alloc, &mut listeners, 2);
+    let left = listeners.close();
+    let [first, others @ ..] = left.as_slice() else {
+        return Ok(false);
+    };
+    Ok(
+        refused == 1
+            && others.len() == 2
+            && heard_to(first, 2)
+            && others.iter().all(|one| heard_to(one, 1)),
+    )
 }
 
 /// Whether a trace writes a line for each entry, until its sink fails.
 pub fn writes_lines(alloc: Global) -> Result<bool, AllocError> {
     let mut fail = Seq::new(alloc);
     fail.push(3)?;
-    let mut trace = Trace::new(sink_with(alloc, 100, fail)?);
+    let mut trace = Trace::new(MemSink::new(alloc, 100, fail)?);
     let first = trace.hear(alloc, &entry(1));
     let second = trace.hear(alloc, &entry(2));
     let third = trace.hear(alloc, &entry(3));
@@ -179,15 +145,27 @@ commit
 end
 ";
 
+fn play_word(alloc: Global) -> Result<Vec<String>, AllocError> {
+    let mut words = Vec::new(alloc);
+    words.push(String::from_str(alloc, "play")?)?;
+    Ok(words)
+}
+
+fn persists(alloc: Global) -> Result<MemSource, AllocError> {
+    let text = PERSISTS.to_vec(alloc)?;
+    Ok(MemSource::new(Seq::from_vec(text), Seq::new(alloc)))
+}
+
 /// Whether the run is done, and one listener comes back, which has heard eight entries.
 fn hears_eight(
     alloc: Global,
-    words: &[String],
+    words: &Vec<String>,
     source: &mut MemSource,
     sink: &mut MemSink,
     several: Several,
 ) -> bool {
-    let ended = play_words(alloc, words, source, sink, empty_keeper(alloc), several);
+    let keeper = MemKeeper::new(alloc, Seq::new(alloc));
+    let ended = play_words(alloc, words, source, sink, keeper, several);
     let left = ended.listeners.as_slice();
     ended.status == Status::Done && left.len() == 1 && left.iter().all(|one| heard_to(one, 8))
 }
@@ -195,9 +173,11 @@ fn hears_eight(
 /// Whether of a recorder and one limited to three entries, which hear a run of eight, the recorder alone comes back, and has
 /// heard all.
 pub fn hears_a_run(alloc: Global) -> Result<bool, AllocError> {
-    let words = words_of(alloc, &["play"])?;
-    let mut source = source_of(alloc, PERSISTS)?;
-    let mut sink = sink_of(alloc, 100_000)?;
-    let several = recorder_and_limited(alloc)?;
-    Ok(hears_eight(alloc, words.as_slice(), &mut source, &mut sink, several))
+    let words = play_word(alloc)?;
+    let mut source = persists(alloc)?;
+    let mut sink = MemSink::new(alloc, 100000, Seq::new(alloc))?;
+    let mut several: Several = Vec::new(alloc);
+    several.push(Box::new(alloc, Recorder::new(alloc))?)?;
+    several.push(Box::new(alloc, Limited::new(alloc, 3))?)?;
+    Ok(hears_eight(alloc, &words, &mut source, &mut sink, several))
 }
