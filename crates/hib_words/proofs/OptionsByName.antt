@@ -71,6 +71,12 @@ trace_name Work = refl
 trace_name Make = refl
 trace_name Audit = refl
 
+split_name : IsFlagName (word_of name.Split)
+split_name Play = refl
+split_name Work = refl
+split_name Make = refl
+split_name Audit = refl
+
 text_name : IsFlagName (word_of name.Text)
 text_name Play = refl
 text_name Work = refl
@@ -96,24 +102,27 @@ seed_name Make = (refl, refl)
 seed_name Audit = (refl, refl)
 
 pub all_read : (v : Verb) (r : Option Given) (m : ArgMatches) → HoldsGiven (form_of v) r (Some m)
-    → (journal trace text : Bool) (file workers seed : Option (Bor Text))
-    → ReadsFlag m (word_of name.Journal) journal → ReadsFlag m (word_of name.Trace) trace → ReadsFlag m (word_of name.Text) text
+    → (journal trace split text : Bool) (file workers seed : Option (Bor Text))
+    → ReadsFlag m (word_of name.Journal) journal → ReadsFlag m (word_of name.Trace) trace → ReadsFlag m (word_of name.Split) split
+    → ReadsFlag m (word_of name.Text) text
     → ReadsValue m (word_of name.File) file → ReadsValue m (word_of name.Workers) workers → ReadsValue m (word_of name.Seed) seed
     → ◌≡◌ {A = Option Chosen} (Some (record {
       journal = journal;
       trace = trace;
+      split = split;
       text = text;
       file = option_map (λ s. s.now) file;
       workers = option_map (λ s. s.now) workers;
       seed = option_map (λ s. s.now) seed;
     })) (option_map chosen_in r)
-all_read v None m h journal trace text file workers seed j t x f w n = cc
-all_read v (Some given) m h journal trace text file workers seed j t x f w n =
+all_read v None m h journal trace split text file workers seed j t p x f w n = cc
+all_read v (Some given) m h journal trace split text file workers seed j t p x f w n =
     let flag = λ (id : Text) (b : Bool) (is : IsFlagName id) (reads : ReadsFlag m id b). flag_read (form_of v) given m h.0 h.1 id b (not_valued _ (is v)) reads in
     let value = λ (id : Text) (o : Option (Bor Text)) (is : IsValueName id) (reads : ReadsValue m id o). value_read (form_of v) given m h.0 h.1 id o (not_flagged _ (is v).0) (is v).1 reads in
     λ i. Some (record {
       journal = flag (word_of name.Journal) journal journal_name j i;
       trace = flag (word_of name.Trace) trace trace_name t i;
+      split = flag (word_of name.Split) split split_name p i;
       text = flag (word_of name.Text) text text_name x i;
       file = value (word_of name.File) file file_name f i;
       workers = value (word_of name.Workers) workers workers_name w i;

@@ -48,21 +48,46 @@ plays_7 : at (codes "play --trace --file a --journal") ≡ Some (play (settings 
 unfolding options_from
 plays_7 = refl
 
-works_1 : at (codes "work --workers 1") ≡ Some (work 1 plain)
+works_1 : at (codes "work --workers 1") ≡ Some (work 1 false plain)
 unfolding options_from
 works_1 = refl
 
-works_2 : at (codes "work --workers=64") ≡ Some (work 64 plain)
+works_2 : at (codes "work --workers=64") ≡ Some (work 64 false plain)
 unfolding options_from
 works_2 = refl
 
-works_3 : at (codes "work --journal --workers 2 --trace") ≡ Some (work 2 (settings true true None))
+works_3 : at (codes "work --journal --workers 2 --trace") ≡ Some (work 2 false (settings true true None))
 unfolding options_from
 works_3 = refl
 
-works_4 : at (codes "work --file=a --workers=10") ≡ Some (work 10 (settings false false (Some (codes "a"))))
+works_4 : at (codes "work --file=a --workers=10") ≡ Some (work 10 false (settings false false (Some (codes "a"))))
 unfolding options_from
 works_4 = refl
+
+splits_1 : at (codes "work --workers 1 --split") ≡ Some (work 1 true plain)
+unfolding options_from
+splits_1 = refl
+
+splits_2 : at (codes "work --split --workers=64") ≡ Some (work 64 true plain)
+unfolding options_from
+splits_2 = refl
+
+splits_3 : at (codes "work --split --journal --workers 2 --trace") ≡ Some (work 2 true (settings true true None))
+unfolding options_from
+splits_3 = refl
+
+splits_4 : at (codes "work --journal --workers 2 --split --file a") ≡ Some (work 2 true (settings true false (Some (codes "a"))))
+unfolding options_from
+splits_4 = refl
+
+splits_5 : at (codes "work --trace --file=a --workers 10 --split") ≡ Some (work 10 true (settings false true (Some (codes "a"))))
+unfolding options_from
+splits_5 = refl
+
+-- a word that an option waits for is its value
+splits_6 : at (codes "work --file split --workers 2") ≡ Some (work 2 false (settings false false (Some (codes "split"))))
+unfolding options_from
+splits_6 = refl
 
 makes_1 : at (codes "make --seed 0") ≡ Some (make 0 false)
 unfolding options_from
@@ -93,7 +118,7 @@ no_words = refl
 commands : are_none (
     codes "" ∷ codes "help" ∷ codes "--help" ∷ codes "--version" ∷ codes "PLAY" ∷ codes "pla" ∷ codes "plays" ∷
     codes " play" ∷ codes "collect" ∷ codes "bulk" ∷ codes "nodes" ∷ codes "-- play" ∷ codes "--journal play" ∷
-    codes "x play" ∷ []) ≡ true
+    codes "--split work --workers 1" ∷ codes "split --workers 1" ∷ codes "x play" ∷ []) ≡ true
 unfolding options_from
 commands = refl
 
@@ -102,7 +127,9 @@ others : are_none (
     codes "play x" ∷ codes "play " ∷ codes "play play" ∷ codes "play -" ∷ codes "play -j" ∷ codes "play -h" ∷
     codes "play --help" ∷ codes "play --version" ∷ codes "play --journa" ∷ codes "play --j" ∷
     codes "play --Journal" ∷ codes "play ---journal" ∷ codes "play --seed 1" ∷ codes "play --workers 1" ∷
-    codes "work --worker 1" ∷ codes "work --workers 1 --split" ∷ codes "work --workers 1 --text" ∷
+    codes "play --split" ∷ codes "play --journal --split" ∷ codes "make --seed 1 --split" ∷ codes "audit --split" ∷
+    codes "work --workers 1 --spli" ∷ codes "work --workers 1 --Split" ∷ codes "work --workers 1 -s" ∷
+    codes "work --workers 1 split" ∷ codes "work --worker 1" ∷ codes "work --workers 1 --text" ∷
     codes "make --seed 1 --journal" ∷ codes "make --seed 1 x" ∷ codes "audit --journal" ∷ codes "audit x" ∷
     codes "audit audit" ∷ []) ≡ true
 unfolding options_from
@@ -113,6 +140,7 @@ twice : are_none (
     codes "play --journal --journal" ∷ codes "play --trace --journal --trace" ∷ codes "play --file a --file a" ∷
     codes "play --file=a --file=b" ∷ codes "play --file a --file=a" ∷ codes "play --file --file" ∷
     codes "work --workers 1 --workers 1" ∷ codes "work --workers=1 --journal --workers=2" ∷
+    codes "work --workers 1 --split --split" ∷ codes "work --split --workers 1 --split" ∷
     codes "make --seed 1 --seed 1" ∷ codes "make --text --seed 1 --text" ∷ []) ≡ true
 unfolding options_from
 twice = refl
@@ -120,7 +148,9 @@ twice = refl
 -- a flag takes no value
 flags : are_none (
     codes "play --journal=x" ∷ codes "play --journal=" ∷ codes "play --trace=true" ∷ codes "play --trace true" ∷
-    codes "make --seed 1 --text=" ∷ codes "play --=journal" ∷ codes "play --=" ∷ []) ≡ true
+    codes "make --seed 1 --text=" ∷ codes "play --=journal" ∷ codes "play --=" ∷
+    codes "work --workers 1 --split=" ∷ codes "work --workers 1 --split=true" ∷
+    codes "work --workers 1 --split true" ∷ []) ≡ true
 unfolding options_from
 flags = refl
 
@@ -129,6 +159,7 @@ values : are_none (
     codes "play --file" ∷ codes "play --journal --file" ∷ codes "play --file=" ∷ codes "play --file " ∷
     codes "play --file= --journal" ∷ codes "play --file -" ∷ codes "play --file -a" ∷ codes "play --file=-a" ∷
     codes "play --file=-" ∷ codes "play --file --trace" ∷ codes "play --file --trace a" ∷ codes "work --workers" ∷
+    codes "work --workers --split" ∷ codes "work --workers --split 1" ∷ codes "work --workers 1 --file --split" ∷
     codes "work --workers=" ∷ codes "work --workers " ∷ codes "make --seed" ∷ codes "make --seed=" ∷
     codes "make --seed " ∷ codes "make --text" ∷ []) ≡ true
 unfolding options_from
@@ -138,13 +169,15 @@ values = refl
 hyphens : are_none (
     codes "play --" ∷ codes "play -- --journal" ∷ codes "play --journal --" ∷ codes "play --journal -- --trace" ∷
     codes "play --file -- a" ∷ codes "play --file a --" ∷ codes "play --file=-- a" ∷ codes "work -- --workers 1" ∷
-    codes "work --workers -- 1" ∷ codes "work --workers 1 --" ∷ codes "make --seed 1 -- --text" ∷ codes "audit --" ∷ []) ≡ true
+    codes "work --workers -- 1" ∷ codes "work --workers 1 --" ∷ codes "work --workers 1 -- --split" ∷
+    codes "make --seed 1 -- --text" ∷ codes "audit --" ∷ []) ≡ true
 unfolding options_from
 hyphens = refl
 
 -- a number with a sign, with a leading zero, with other bytes, beyond its ends, or of twenty digits
 numbers : are_none (
-    codes "work" ∷ codes "work --workers 0" ∷ codes "work --workers 65" ∷ codes "work --workers=65" ∷
+    codes "work" ∷ codes "work --split" ∷ codes "work --split --workers 0" ∷ codes "work --workers 0" ∷
+    codes "work --workers 65" ∷ codes "work --workers=65" ∷
     codes "work --workers 00" ∷ codes "work --workers 01" ∷ codes "work --workers=064" ∷ codes "work --workers +1" ∷
     codes "work --workers=-1" ∷ codes "work --workers 1a" ∷ codes "work --workers 1.0" ∷
     codes "work --workers 0x1" ∷ codes "work --workers 99999999999999999999" ∷

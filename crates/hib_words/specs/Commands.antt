@@ -29,6 +29,7 @@ word_of name.Journal = codes "journal"
 word_of name.File = codes "file"
 word_of name.Trace = codes "trace"
 word_of name.Workers = codes "workers"
+word_of name.Split = codes "split"
 word_of name.Seed = codes "seed"
 word_of name.Text = codes "text"
 
@@ -40,7 +41,7 @@ is_valued _ = false
 
 abbrev pub options_of : Verb → List OptionName
 options_of Play = name.Journal ∷ name.File ∷ name.Trace ∷ []
-options_of Work = name.Workers ∷ name.Journal ∷ name.File ∷ name.Trace ∷ []
+options_of Work = name.Workers ∷ name.Split ∷ name.Journal ∷ name.File ∷ name.Trace ∷ []
 options_of Make = name.Seed ∷ name.Text ∷ []
 options_of Audit = []
 
@@ -80,6 +81,7 @@ number_between low high text = if is_numeral text then in_range low high (digits
 pub record Chosen : Type 0 where
   pub journal : Bool
   pub trace : Bool
+  pub split : Bool
   pub text : Bool
   pub file : Option Text
   pub workers : Option Text
@@ -89,6 +91,7 @@ abbrev pub chosen_in : Given → Chosen
 chosen_in given = record {
   journal = is_given (word_of name.Journal) given;
   trace = is_given (word_of name.Trace) given;
+  split = is_given (word_of name.Split) given;
   text = is_given (word_of name.Text) given;
   file = value_of (word_of name.File) given;
   workers = value_of (word_of name.Workers) given;
@@ -101,10 +104,10 @@ pub record Settings : Type 0 where
   pub trace : Bool
   pub file : Option Text
 
--- what a command line asks for
+-- what a command line asks for; of work the number of workers, and whether each part stands behind a lock of its own
 pub data Asked : Type 0 where
   play : Settings → Asked
-  work : ℕ → Settings → Asked
+  work : ℕ → Bool → Settings → Asked
   make : ℕ → Bool → Asked
   audit : Asked
 
@@ -116,7 +119,8 @@ settings_in chosen = if option_map_or is_value chosen.file true
 -- what a verb asks for with these options; none if a number is missing or out of its range, or a value is none
 abbrev pub asked : Verb → Chosen → Option Asked
 asked Play chosen = option_map play (settings_in chosen)
-asked Work chosen = option_and_then (λ n. option_map (work n) (settings_in chosen)) (option_and_then (number_between 1 64) chosen.workers)
+asked Work chosen = option_and_then (λ n. option_map (work n chosen.split) (settings_in chosen))
+    (option_and_then (number_between 1 64) chosen.workers)
 asked Make chosen = option_map (λ n. make n chosen.text) (option_and_then (number_between 0 4294967295) chosen.seed)
 asked Audit chosen = Some audit
 
@@ -133,6 +137,6 @@ settings_of o = record { journal = o.journal; trace = o.trace; file = option_map
 
 abbrev pub asked_of : Command → Asked
 asked_of (variant.Play options) = play (settings_of options)
-asked_of (variant.Work workers options) = work workers (settings_of options)
+asked_of (variant.Work workers split options) = work workers split (settings_of options)
 asked_of (variant.Make seed text) = make seed text
 asked_of variant.Audit = audit

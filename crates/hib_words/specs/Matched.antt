@@ -29,6 +29,7 @@ abbrev pub chosen_of : Found → Chosen
 chosen_of found = record {
   journal = found.journal;
   trace = found.trace;
+  split = found.split;
   text = found.text;
   file = option_map (λ s. s.now) found.file;
   workers = option_map (λ s. s.now) found.workers;

@@ -19,13 +19,13 @@ topic_of _ = None
 -- the path of the file that it works on
 abbrev pub file_of : Asked → Option Text
 file_of (play s) = s.file
-file_of (work n s) = s.file
+file_of (work n p s) = s.file
 file_of (make n t) = None
 file_of audit = None
 
 -- its steps are told on standard error
 abbrev pub is_traced : Asked → Bool
 is_traced (play s) = s.trace
-is_traced (work n s) = s.trace
+is_traced (work n p s) = s.trace
 is_traced (make n t) = false
 is_traced audit = false

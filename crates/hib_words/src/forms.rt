@@ -31,6 +31,8 @@ pub enum OptionName {
     Trace,
     /// How many workers run the sessions.
     Workers,
+    /// Each part stands behind a lock of its own.
+    Split,
     /// The number that a script is made from.
     Seed,
     /// The script that was made, in place of a run of it.
@@ -39,8 +41,9 @@ pub enum OptionName {
 
 const PLAY_OPTIONS: [OptionName; 3] = [OptionName::Journal, OptionName::File, OptionName::Trace];
 
-const WORK_OPTIONS: [OptionName; 4] = [
+const WORK_OPTIONS: [OptionName; 5] = [
     OptionName::Workers,
+    OptionName::Split,
     OptionName::Journal,
     OptionName::File,
     OptionName::Trace,
@@ -97,6 +100,7 @@ impl OptionName {
             OptionName::File => "file",
             OptionName::Trace => "trace",
             OptionName::Workers => "workers",
+            OptionName::Split => "split",
             OptionName::Seed => "seed",
             OptionName::Text => "text",
         }
@@ -121,6 +125,7 @@ impl OptionName {
             OptionName::File => "Keeps the store in the SQLite file PATH, and not in memory",
             OptionName::Trace => "Tells each step on standard error",
             OptionName::Workers => "Runs the sessions on N workers, 1 to 64",
+            OptionName::Split => "Puts each part behind a lock of its own, and not all behind one",
             OptionName::Seed => "Makes the script from N, 0 to 4294967295",
             OptionName::Text => "Writes the script that was made, and runs nothing",
         }

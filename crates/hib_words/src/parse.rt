@@ -17,6 +17,8 @@ pub struct Found<'a> {
     pub journal: bool,
     /// `--trace` is among them.
     pub trace: bool,
+    /// `--split` is among them.
+    pub split: bool,
     /// `--text` is among them.
     pub text: bool,
     /// The value of `--file`.
@@ -82,6 +84,7 @@ pub fn parse<'a>(
     };
     let journal = matches.get_flag("journal");
     let trace = matches.get_flag("trace");
+    let split = matches.get_flag("split");
     let text = matches.get_flag("text");
     let file = matches.get_str("file");
     let workers = matches.get_str("workers");
@@ -89,6 +92,7 @@ pub fn parse<'a>(
     Ok(Some(Found {
         journal,
         trace,
+        split,
         text,
         file,
         workers,

@@ -19,13 +19,16 @@ A script may also be made from a number, to be looked at or run:
   hib make --seed 7 --text > made.hib
 On workers the sessions run side by side, each at its own pace; the schedule isn't used:
   hib work --workers 4 < made.hib
+With --split a step locks only the part that it asks, so steps of other parts needn't wait for one
+that takes long, as over a file. Only such a run may end with status 7:
+  hib work --workers 4 --split < made.hib
 A journal may be kept, and judged later, behind its script and a line 'journal':
   hib play --journal < made.hib > lines
   (cat made.hib; echo journal; cat lines) | hib audit
 
 The words --help and --version stand alone: beside another word they are no command.
 
-Exit status, which a line on standard error explains where it isn't 0:
+Exit status, which a line on standard error explains if it isn't 0:
   0  all was done, and the text was written whole
   1  the journal that was audited isn't legal; the verdict was written
   2  the words are no command
@@ -33,6 +36,8 @@ Exit status, which a line on standard error explains where it isn't 0:
   4  reading failed; nothing was written
   5  writing failed; a first part of the text may be written
   6  the input has more than 1,048,576 bytes, or 67,108,864 of an audit; nothing was written
+  7  with --split, lists or ticks of the sessions don't fit together, or a lock gave the region of
+     another entity; nothing was written
   8  memory ran out; a first part of the text may be written
   9  the store didn't take the script's rows; nothing was run
 
@@ -108,6 +113,7 @@ impl OptionName {
             OptionName::File => true,
             OptionName::Trace => true,
             OptionName::Workers => true,
+            OptionName::Split => true,
             OptionName::Seed => true,
             OptionName::Text => true,
         }

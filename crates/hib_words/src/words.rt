@@ -22,6 +22,8 @@ pub enum Command {
     Work {
         /// How many there are, 1 to 64.
         workers: u32,
+        /// Each part stands behind a lock of its own.
+        split: bool,
         /// What it works on, and what it writes.
         options: Options,
     },
@@ -56,6 +58,7 @@ impl Command {
             Command::Play { options } => options.path(),
             Command::Work {
                 workers: _,
+                split: _,
                 options,
             } => options.path(),
             _ => None,
@@ -70,6 +73,7 @@ impl Command {
             Command::Play { options } => options.trace,
             Command::Work {
                 workers: _,
+                split: _,
                 options,
             } => options.trace,
             _ => false,
@@ -167,7 +171,11 @@ fn work(alloc: Global, found: &Found<'_>) -> Result<Option<Command>, AllocError>
     let Some(options) = options_from(alloc, found)? else {
         return Ok(None);
     };
-    Ok(Some(Command::Work { workers, options }))
+    Ok(Some(Command::Work {
+        workers,
+        split: found.split,
+        options,
+    }))
 }
 
 fn make(found: &Found<'_>) -> Option<Command>
