@@ -18,7 +18,8 @@ fn put_act_member(
     script: &Script,
     act: &Act,
 ) -> Result<(), AllocError>
-    ensures { OnOk result (out.new.items ≡ out.old.items ++ (codes "{\"act\":" ++ quoted (act_text script.now act.now))) }
+    ensures { OnOk result (out.new.items
+        ≡ out.old.items ++ (codes "{\"act\":" ++ quoted (act_text script.now act.now))) }
 {
     let mut text = Vec::new(alloc);
     put_act(alloc, &mut text, script, act)?;
@@ -27,7 +28,8 @@ fn put_act_member(
 }
 
 fn put_part_member(alloc: Global, out: &mut Vec<u8>, part: Part) -> Result<(), AllocError>
-    ensures { OnOk result (out.new.items ≡ out.old.items ++ (codes ",\"part\":" ++ quoted (part_text part))) }
+    ensures { OnOk result (out.new.items
+        ≡ out.old.items ++ (codes ",\"part\":" ++ quoted (part_text part))) }
 {
     let mut text = Vec::new(alloc);
     put_part(&mut text, part)?;
