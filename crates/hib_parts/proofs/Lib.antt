@@ -6,3 +6,5 @@ pub mod Stores
 pub mod Registries
 pub mod ResultSteps
 pub mod Regions
+pub mod Placing
+pub mod Run

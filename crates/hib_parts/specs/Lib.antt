@@ -1,3 +1,4 @@
 pub mod Listed
 pub mod Copied
 pub mod Stored
+pub mod Run

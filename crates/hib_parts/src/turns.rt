@@ -1,9 +1,10 @@
 // The steps of one session after the other, with no thread and no lock.
-ghost use Rattle.std.specs.Prelude.{◌≡◌, ◌<◌, ◌≤◌, ◌^◌, None, Ok, Some, IfOk, IfSome, OnOk, OnErr, length, map, slice_get};
+ghost use Rattle.std.specs.Prelude.{◌≡◌, ◌<◌, ◌≤◌, ◌^◌, None, Ok, Some, IfOk, IfSome, OnOk, OnErr, [], length, map, slice_get};
 ghost use Rattle.hib_base.specs.declared.entries.Part.{Part};
 ghost use Rattle.hib_journal.specs.Next.{next};
 ghost use Rattle.hib_clock.specs.Due.{due};
-ghost use Rattle.hib_parts.specs.Listed.{IsDueOn, IsKept, RegionState};
+ghost use Rattle.hib_parts.specs.Listed.{IsDueOn, IsEnteredDue, IsKept, IsOwnEntered, RegionState, last_of};
+ghost use Rattle.hib_parts.specs.Run.{GoesOn, IsFirst, IsStepOn, list_on};
 
 use crate::parts::Parts;
 use crate::region::RegionPart;
@@ -44,6 +45,7 @@ pub fn step_registry<N: Name>(
     requires script { script.now ≡ N.script }
     requires due { IsDueOn N.script Part.Registry worker.old }
     ensures number { worker.new.number ≡ worker.old.number }
+    ensures entered { OnOk result (IsEnteredDue registry.old registry.new worker.old worker.new) }
     ensures less { OnOk result (worker.new.left < worker.old.left) }
     ensures kept { OnErr result (IsKept worker.old worker.new) }
     ensures same { OnErr result (registry.new ≡ registry.old) }
@@ -64,6 +66,8 @@ pub fn step_store<K: Keeper, N: Name>(
     requires due { IsDueOn N.script Part.Store worker.old }
     ensures going { OnOk result (store.new.refused ≡ store.old.refused) }
     ensures number { worker.new.number ≡ worker.old.number }
+    ensures entered { OnOk result (IsEnteredDue store.old.list store.new.list worker.old
+        worker.new) }
     ensures less { OnOk result (worker.new.left < worker.old.left) }
     ensures kept { OnErr result (IsKept worker.old worker.new) }
     ensures same { OnErr result (store.new.list ≡ store.old.list) }
@@ -83,6 +87,7 @@ pub fn step_stamps<N: Name>(
     requires script { script.now ≡ N.script }
     requires due { IsDueOn N.script Part.Stamps worker.old }
     ensures number { worker.new.number ≡ worker.old.number }
+    ensures entered { OnOk result (IsEnteredDue stamps.old stamps.new worker.old worker.new) }
     ensures less { OnOk result (worker.new.left < worker.old.left) }
     ensures kept { OnErr result (IsKept worker.old worker.new) }
     ensures same { OnErr result (stamps.new ≡ stamps.old) }
@@ -102,6 +107,7 @@ pub fn step_results<N: Name>(
     requires script { script.now ≡ N.script }
     requires due { IsDueOn N.script Part.Results worker.old }
     ensures number { worker.new.number ≡ worker.old.number }
+    ensures entered { OnOk result (IsEnteredDue results.old results.new worker.old worker.new) }
     ensures less { OnOk result (worker.new.left < worker.old.left) }
     ensures kept { OnErr result (IsKept worker.old worker.new) }
     ensures same { OnErr result (results.new ≡ results.old) }
@@ -122,6 +128,8 @@ pub fn step_region<N: Name>(
     requires due { IsDueOn N.script (Part.Region region.old.entity) worker.old }
     ensures entity { region.new.entity ≡ region.old.entity }
     ensures number { worker.new.number ≡ worker.old.number }
+    ensures entered { OnOk result (IsEnteredDue region.old.list region.new.list worker.old
+        worker.new) }
     ensures less { OnOk result (worker.new.left < worker.old.left) }
     ensures kept { OnErr result (IsKept worker.old worker.new) }
     ensures same { OnErr result (region.new ≡ region.old) }
@@ -140,6 +148,8 @@ pub fn step_own<N: Name>(
     requires script { script.now ≡ N.script }
     requires due { IsDueOn N.script (Part.Own worker.old.number) worker.old }
     ensures number { worker.new.number ≡ worker.old.number }
+    ensures entered { OnOk result (IsOwnEntered (due 0 (last_of worker.old.list)) worker.old
+        worker.new) }
     ensures less { OnOk result (worker.new.left < worker.old.left) }
     ensures kept { OnErr result (IsKept worker.old worker.new) }
 {
@@ -148,11 +158,12 @@ pub fn step_own<N: Name>(
     Ok(())
 }
 
-/// The place of an entity's region, or none.
+/// The place of an entity's region, the first one if there are more, or none.
 fn place_of<N: Name>(regions: &[RegionPart<N>], entity: EntityNo) -> Option<usize>
     ensures there { IfSome result (λ i. i < length regions.now) }
     ensures entity { IfSome result (λ i. (x : RegionState) → slice_get regions.now i ≡ Some x
         → x.entity ≡ entity) }
+    ensures first { IfSome result (λ i. IsFirst entity i regions.now) }
 {
     for (place, region) in regions.iter().enumerate() {
         if region.entity() == entity {
@@ -174,6 +185,9 @@ fn step_regions<N: Name>(
     requires due { IsDueOn N.script (Part.Region entity) worker.old }
     ensures entities { map (λ r. r.entity) regions.new.items
         ≡ map (λ r. r.entity) regions.old.items }
+    ensures entered { OnOk result (IsStepOn (Part.Region entity)
+        (list_on [] [] [] [] regions.old.items) (list_on [] [] [] [] regions.new.items) worker.old
+        worker.new) }
     ensures number { worker.new.number ≡ worker.old.number }
     ensures less { OnOk result (worker.new.left < worker.old.left) }
     ensures kept { OnErr result (IsKept worker.old worker.new) }
@@ -199,6 +213,11 @@ impl<K: Keeper, N: Name> Parts<K, N> {
         ensures going { OnOk result (self.new.store.refused ≡ self.old.store.refused) }
         ensures entities { map (λ r. r.entity) self.new.regions.items
             ≡ map (λ r. r.entity) self.old.regions.items }
+        ensures entered { OnOk result (IsStepOn part
+            (list_on self.old.registry self.old.store.list self.old.stamps self.old.results
+            self.old.regions.items)
+            (list_on self.new.registry self.new.store.list self.new.stamps self.new.results
+            self.new.regions.items) worker.old worker.new) }
         ensures number { worker.new.number ≡ worker.old.number }
         ensures less { OnOk result (worker.new.left < worker.old.left) }
         ensures kept { OnErr result (IsKept worker.old worker.new) }
@@ -231,6 +250,11 @@ impl<K: Keeper, N: Name> Parts<K, N> {
         ensures did { result ≡ Ok Stepped.Did → worker.new.left < worker.old.left }
         ensures done { result ≡ Ok Stepped.Done
             → next N.script worker.new.number worker.new.list ≡ None }
+        ensures run { OnOk result (GoesOn
+            (list_on self.old.registry self.old.store.list self.old.stamps self.old.results
+            self.old.regions.items) worker.old
+            (list_on self.new.registry self.new.store.list self.new.stamps self.new.results
+            self.new.regions.items) worker.new) }
         ensures kept { OnErr result (IsKept worker.old worker.new) }
     {
         let Some(act) = worker.next(alloc, script)? else {
@@ -238,6 +262,7 @@ impl<K: Keeper, N: Name> Parts<K, N> {
         };
         let part = part_of(&act, worker.number());
         self.step_on(alloc, script, worker, part)?;
+        worker.legal();
         Ok(Stepped::Did)
     }
 
@@ -253,6 +278,11 @@ impl<K: Keeper, N: Name> Parts<K, N> {
         ensures entities { map (λ r. r.entity) self.new.regions.items
             ≡ map (λ r. r.entity) self.old.regions.items }
         ensures number { worker.new.number ≡ worker.old.number }
+        ensures run { OnOk result (GoesOn
+            (list_on self.old.registry self.old.store.list self.old.stamps self.old.results
+            self.old.regions.items) worker.old
+            (list_on self.new.registry self.new.store.list self.new.stamps self.new.results
+            self.new.regions.items) worker.new) }
         ensures over { OnOk result (next N.script worker.new.number worker.new.list ≡ None) }
     {
         'steps: loop {

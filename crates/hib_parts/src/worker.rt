@@ -104,6 +104,14 @@ impl<N: Name> Worker<N> {
         &self.list
     }
 
+    /// Its entries are its own, and legal by themselves. It does nothing.
+    pub(crate) fn legal(&self)
+        ensures legal { IsOwnLegal N.script self.now.number self.now.list }
+        ensures by { AreBy self.now.number self.now.list }
+    {
+        let _ = &self.list;
+    }
+
     /// The act that is due, or none at the end of the session.
     pub fn next(&self, alloc: Global, script: &Script) -> Result<Option<Act>, AllocError>
         requires { script.now ≡ N.script }

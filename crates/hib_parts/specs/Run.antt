@@ -1,0 +1,57 @@
+-- A run on one worker: the lists of parts and those of sessions are those of one journal.
+use Rattle.std.specs.Prelude.{◌≡◌, ◌==◌, ℕ, Bool, true, false, not, cond, take, List, [], ◌∷◌}
+use Rattle.std.specs.List.{list_all}
+use Rattle.hib_clock.specs.Due
+use Rattle.hib_journal.specs.Types.{Part, Entry}
+use Rattle.hib_journal.specs.Sessions.{Journal, own, same_part}
+use Rattle.hib_journal.specs.Lists.{of_part}
+use Rattle.hib_split_law.specs.Apart.{is_own, HaveSessions}
+use Rattle.hib_split_law.specs.Merged.{IsInTurn, AreDue}
+use Rattle.hib_parts.specs.Listed.{RegionState, WorkerState, last_of}
+
+abbrev pub is_other : ℕ → RegionState → Bool
+is_other n r = not (r.entity == n)
+
+-- no region before a place is the entity's
+abbrev pub IsFirst : ℕ → ℕ → List RegionState → Type 0
+IsFirst n place regions = list_all (is_other n) (take place regions) ≡ true
+
+-- the list of an entity's region, the first one if there are more
+abbrev pub list_in : ℕ → List RegionState → Journal
+list_in n [] = []
+list_in n (r ∷ regions) = cond (r.entity == n) r.list (list_in n regions)
+
+-- the list of each part that sessions share, and none of a session's own
+abbrev pub list_on : (registry store stamps results : Journal) → List RegionState → Part → Journal
+list_on registry store stamps results regions Part.Registry = registry
+list_on registry store stamps results regions Part.Store = store
+list_on registry store stamps results regions Part.Stamps = stamps
+list_on registry store stamps results regions Part.Results = results
+list_on registry store stamps results regions (Part.Region n) = list_in n regions
+list_on registry store stamps results regions (Part.Own s) = []
+
+-- one entry at the tick that is due was added to the list of a session and to that of this part, or to no other list if the part is
+-- the session's own
+pub record IsStepOn (p : Part) (old new : Part → Journal) (w v : WorkerState) : Type 0 where
+  pub entry : Entry
+  pub tick : entry.tick ≡ Due.due (last_of (old p)) (last_of w.list)
+  pub parts : (q : Part) → is_own q ≡ false → new q ≡ cond (same_part q p) (entry ∷ old q) (old q)
+  pub mine : v.list ≡ entry ∷ w.list
+
+-- the lists of sessions: this one's, and those of the others
+abbrev pub with_own : WorkerState → (ℕ → Journal) → ℕ → Journal
+with_own w others s = cond (w.number == s) w.list (others s)
+
+-- the lists of parts and of sessions are those of one journal, in which each entry is a session's, in turn and at the tick that is due
+pub record AreOfRun (lists : Part → Journal) (mine : ℕ → Journal) : Type 0 where
+  pub journal : Journal
+  pub parts : (p : Part) → is_own p ≡ false → of_part p journal ≡ lists p
+  pub own_parts : (s : ℕ) → of_part (Part.Own s) journal ≡ of_part (Part.Own s) (mine s)
+  pub sessions : (s : ℕ) → own s journal ≡ mine s
+  pub have_sessions : HaveSessions journal
+  pub in_turn : IsInTurn journal
+  pub due : AreDue journal
+
+-- what a session did leaves lists of one journal such lists, whatever the other sessions have done before
+pub record GoesOn (old : Part → Journal) (w : WorkerState) (new : Part → Journal) (v : WorkerState) : Type 0 where
+  pub on : (others : ℕ → Journal) → AreOfRun old (with_own w others) → AreOfRun new (with_own v others)
