@@ -274,7 +274,7 @@ own_each script told n mine ks ls k own entries h r w e q g f s t =
         part_same (Part.Own s) (map past ks) (past own) (ap (of_part (Part.Own s)) here ∙ none_of (Part.Own n) (Part.Own s) (of_part (Part.Own n) (list_of n (map past mine))) (all_own (Part.Own n) (list_of n (map past mine))) b)
         ∙ f s (less (λ i. true≢false (sym (ap (λ m. same_part (Part.Own m) (Part.Own n)) i ∙ same_self (Part.Own n)) ∙ b)))
 
-list_past : (s : ℕ) (ls : List Journal) → length ls ≤ s → list_of s ls ≡ []
+pub list_past : (s : ℕ) (ls : List Journal) → length ls ≤ s → list_of s ls ≡ []
 list_past zero [] h = refl
 list_past (suc s) [] h = refl
 list_past zero (x ∷ ls) h = absurd (omega arith)
@@ -302,16 +302,16 @@ own_done script told n mine ls h g f s = by (tested (nat_lt s n))
 
 -- ---- the lists of sessions
 
-list_below : (s : ℕ) (ls : List Journal) (l : Journal) → s < length ls → list_of s (ls ++ l ∷ []) ≡ list_of s ls
+pub list_below : (s : ℕ) (ls : List Journal) (l : Journal) → s < length ls → list_of s (ls ++ l ∷ []) ≡ list_of s ls
 list_below s [] l h = absurd (omega arith)
 list_below zero (x ∷ ls) l h = refl
 list_below (suc s) (x ∷ ls) l h = list_below s ls l (omega arith)
 
-list_here : (ls : List Journal) (l : Journal) → list_of (length ls) (ls ++ l ∷ []) ≡ l
+pub list_here : (ls : List Journal) (l : Journal) → list_of (length ls) (ls ++ l ∷ []) ≡ l
 list_here [] l = refl
 list_here (x ∷ ls) l = list_here ls l
 
-list_beyond : (s : ℕ) (ls : List Journal) (l : Journal) → length ls < s → list_of s (ls ++ l ∷ []) ≡ []
+pub list_beyond : (s : ℕ) (ls : List Journal) (l : Journal) → length ls < s → list_of s (ls ++ l ∷ []) ≡ []
 list_beyond zero [] l h = absurd (omega arith)
 list_beyond (suc s) [] l h = refl
 list_beyond zero (x ∷ ls) l h = absurd (omega arith)

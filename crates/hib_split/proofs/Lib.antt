@@ -2,3 +2,5 @@ pub mod Gathered
 pub mod Moved
 pub mod Captured
 pub mod Crossing
+pub mod Shared
+pub mod Whole

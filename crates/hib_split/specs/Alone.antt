@@ -8,9 +8,10 @@ use Rattle.hib_journal.specs.Next.{next}
 use Rattle.hib_journal.specs.Lists.{stored}
 use Rattle.hib_journal.specs.Runs.{fault_count}
 use Rattle.hib_engines.specs.Counts.{RoseBy}
-use Rattle.hib_split_law.specs.Merged.{list_of, ArePartsLegal, AreOwnLegal}
+use Rattle.hib_split_law.specs.Merged.{list_of, ArePartsLegal, AreOwnLegal, IsMerged, Agrees, AreDue}
 use Rattle.hib_merge.specs.Merging.{AreRising, IsInOne}
 use Rattle.hib_core.specs.Standing.{Origin}
+use Rattle.hib_parts.specs.Run.{AreOfRun}
 
 -- the lists of parts and those of sessions are legal, each by itself, and those of parts can be merged
 pub record AreListed (script : Script) (told : Option Tables) (lists mine : List Journal) : Type 0 where
@@ -27,3 +28,11 @@ AreAtEnds script n mine = (s : ℕ) → s < n → next script s (list_of s mine)
 pub record IsToldBy (from : Origin) (l : Journal) (tables : Option Tables) (failed : ℕ) : Type 0 where
   pub rows : tables ≡ option_map (λ start. stored start l) from.tables
   pub faults : RoseBy from.faults (fault_count l) failed
+
+-- the lists of sessions agree with what those of parts are merged into, and each tick in it is the one that is due
+abbrev pub AreWhole : List Journal → List Journal → Type 0
+AreWhole lists mine = (h : Journal) → IsMerged lists h → Agrees mine h × AreDue h
+
+-- the lists of parts, and those of the sessions so far, are those of one run
+abbrev pub AreOfOne : (Part → Journal) → List Journal → Type 0
+AreOfOne lists mine = AreOfRun lists (λ s. list_of s mine)

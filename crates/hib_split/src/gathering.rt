@@ -1,15 +1,16 @@
 // The lists of parts put together, in the order of parts.
-ghost use Rattle.std.specs.Prelude.{◌≡◌, ◌≤◌, ◌+◌, ◌==◌, ◌∷◌, ℕ, [], cond, map, reverse, false, vec_len, vec_capacity, IfOk, OnOk};
+ghost use Rattle.std.specs.Prelude.{◌≡◌, ◌≤◌, ◌+◌, ◌==◌, ◌∷◌, ◌++◌, ℕ, [], cond, map, reverse, false, vec_len, vec_capacity, IfOk, OnOk};
 ghost use Rattle.hib_base.specs.declared.entries.Part.{Part};
 ghost use Rattle.hib_journal.specs.Kept.{past};
 ghost use Rattle.hib_journal.specs.Lists.{of_part};
 ghost use Rattle.hib_journal.specs.Sessions.{same_part};
 ghost use Rattle.hib_engines.specs.Counts.{RoseWithin};
-ghost use Rattle.hib_split_law.specs.Apart.{IsPartLegal, store_ask_count};
+ghost use Rattle.hib_split_law.specs.Apart.{IsPartLegal, is_own, store_ask_count};
 ghost use Rattle.hib_split_law.specs.Merged.{AreOwnLegal, list_of, of_part_in};
 ghost use Rattle.hib_split.specs.Alone.{IsToldBy};
 ghost use Rattle.hib_split.specs.Gathered.{AscendFrom, IsGathered};
 ghost use Rattle.hib_parts.specs.Listed.{AreOf};
+ghost use Rattle.hib_parts.specs.Run.{list_on};
 
 use hib_base::{Entry, Part, SessionNo};
 use hib_core::Name;
@@ -48,6 +49,8 @@ fn add_four<N: Name>(
     ensures gathered { IsGathered N.script N.from.tables (Part.Region 0)
         (map past lists.new.items) }
     ensures stored { of_part_in Part.Store (map past lists.new.items) ≡ past store }
+    ensures parts { (p : Part) → is_own p ≡ false → of_part_in p (map past lists.new.items)
+        ≡ list_on (past registry) (past store) (past stamps) (past results) [] p }
     ensures len { vec_len lists.new ≡ vec_len lists.old + 4 }
     ensures capacity { vec_capacity lists.new ≡ vec_capacity lists.old }
 {
@@ -66,6 +69,9 @@ fn add_regions<N: Name>(lists: &mut Vec<Journal>, regions: Vec<RegionPart<N>>)
     ensures gathered { IsGathered N.script N.from.tables (Part.Own 0) (map past lists.new.items) }
     ensures store { of_part_in Part.Store (map past lists.new.items)
         ≡ of_part_in Part.Store (map past lists.old.items) }
+    ensures parts { (p : Part) → of_part_in p (map past lists.new.items)
+        ≡ of_part_in p (map past lists.old.items)
+        ++ list_on [] [] [] [] (reverse regions.items) p }
 {
     let mut regions = regions;
     'regions: while let Some(region) = regions.pop() {
@@ -84,6 +90,8 @@ pub fn add_shared<K: Keeper, N: Name>(lists: &mut Vec<Journal>, parts: Parts<K, 
     ensures asked { parts.store.refused ≡ false
         → RoseWithin N.from.asked
         (store_ask_count (of_part_in Part.Store (map past lists.new.items))) (K.asked result) }
+    ensures parts { (p : Part) → is_own p ≡ false → of_part_in p (map past lists.new.items)
+        ≡ list_on parts.registry parts.store.list parts.stamps parts.results parts.regions.items p }
 {
     let Parts {
         registry,
@@ -149,6 +157,8 @@ pub fn add_own_lists<N: Name>(
         × IsGathered N.script N.from.tables (Part.Own n) (map past lists.new.items) }
     ensures store { of_part_in Part.Store (map past lists.new.items)
         ≡ of_part_in Part.Store (map past lists.old.items) }
+    ensures shared { (p : Part) → is_own p ≡ false
+        → of_part_in p (map past lists.new.items) ≡ of_part_in p (map past lists.old.items) }
     ensures own { OnOk result
         ((s : ℕ) → of_part_in (Part.Own s) (map past lists.new.items)
         ≡ of_part (Part.Own s) (list_of s (map past mine.now))) }

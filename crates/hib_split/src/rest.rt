@@ -8,7 +8,8 @@ ghost use Rattle.hib_journal.specs.Next.{is_cached, next};
 ghost use Rattle.hib_engines.specs.Counts.{RoseWithin};
 ghost use Rattle.hib_split_law.specs.Apart.{store_ask_count};
 ghost use Rattle.hib_split_law.specs.Merged.{AreOwnLegal, list_of, of_part_in};
-ghost use Rattle.hib_split.specs.Alone.{AreAtEnds, AreListed, IsToldBy};
+ghost use Rattle.hib_parts.specs.Run.{GoesOn, list_on};
+ghost use Rattle.hib_split.specs.Alone.{AreAtEnds, AreListed, AreOfOne, AreWhole, IsToldBy};
 
 use crate::gathering::{add_own_lists, add_shared};
 use crate::strange::Strange;
@@ -36,7 +37,9 @@ pub struct Split<K: Keeper> {
 
 /// The worker of a session, or if none was put aside one that has done nothing.
 fn taken<N: Name>(alloc: Global, aside: &mut Vec<Option<Worker<N>>>, number: SessionNo) -> Worker<N>
-    ensures { result.number ≡ number }
+    ensures number { result.number ≡ number }
+    ensures none { aside.old.items ≡ [] → aside.new.items ≡ [] }
+    ensures fresh { aside.old.items ≡ [] → result.list ≡ [] }
 {
     let place = number.0 as usize;
     if place >= aside.len() {
@@ -69,6 +72,11 @@ fn step_to_end<K: Keeper, N: Name>(
     ensures number { worker.new.number ≡ worker.old.number }
     ensures over { result ≡ false → next N.script worker.new.number worker.new.list ≡ None }
     ensures before { result ≡ false → before ≡ false }
+    ensures run { result ≡ false → GoesOn
+        (list_on parts.old.registry parts.old.store.list parts.old.stamps parts.old.results
+        parts.old.regions.items) worker.old
+        (list_on parts.new.registry parts.new.store.list parts.new.stamps parts.new.results
+        parts.new.regions.items) worker.new }
 {
     if before {
         return true;
@@ -104,6 +112,13 @@ fn end_session<K: Keeper, N: Name>(
     ensures place { length mine.new.items ≡ number + 1 }
     ensures len { vec_len mine.new ≡ vec_len mine.old + 1 }
     ensures capacity { vec_capacity mine.new ≡ vec_capacity mine.old }
+    ensures none { aside.old.items ≡ [] → aside.new.items ≡ [] }
+    ensures run { result ≡ false → aside.old.items ≡ [] → (before ≡ false → AreOfOne
+        (list_on parts.old.registry parts.old.store.list parts.old.stamps parts.old.results
+        parts.old.regions.items) (map past mine.old.items))
+        → AreOfOne
+        (list_on parts.new.registry parts.new.store.list parts.new.stamps parts.new.results
+        parts.new.regions.items) (map past mine.new.items) }
 {
     let mut session = taken(alloc, aside, number);
     let refused = step_to_end(alloc, script, parts, &mut session, before);
@@ -132,6 +147,12 @@ fn end_sessions<K: Keeper, N: Name>(
     ensures legal { AreOwnLegal N.script (map past mine.new.items) }
     ensures over { result ≡ false
         → AreAtEnds N.script (length N.script.sessions) (map past mine.new.items) }
+    ensures run { result ≡ false → aside.old.items ≡ [] → AreOfOne
+        (list_on parts.old.registry parts.old.store.list parts.old.stamps parts.old.results
+        parts.old.regions.items) (map past mine.old.items)
+        → AreOfOne
+        (list_on parts.new.registry parts.new.store.list parts.new.stamps parts.new.results
+        parts.new.regions.items) (map past mine.new.items) }
 {
     parts.registry.built();
     let mut refused = before;
@@ -179,6 +200,10 @@ pub fn go_on<K: Keeper, N: Name>(
     ensures own { result.out_of_memory ≡ false → (s : ℕ)
         → of_part_in (Part.Own s) (map past result.lists)
         ≡ of_part (Part.Own s) (list_of s (map past result.mine)) }
+    ensures whole { result.out_of_memory ≡ false → aside.items ≡ [] → AreOfOne
+        (list_on parts.registry parts.store.list parts.stamps parts.results
+        parts.regions.items) []
+        → AreWhole (map past result.lists) (map past result.mine) }
     ensures strange { result.strange ≡ None }
 {
     let mut parts = parts;

@@ -1,6 +1,6 @@
 // A run of the sessions on several threads, over parts under locks of their own.
 ghost use Rattle.std.specs.Prelude.{◌≡◌, ◌≢◌, ◌≤◌, ℕ, [], length, map, false, None, IfSome};
-ghost use Rattle.std.specs.List.{filter, range_with_len};
+ghost use Rattle.std.specs.List.{All, filter, range_with_len};
 ghost use Rattle.hib_base.specs.declared.entries.Part.{Part};
 ghost use Rattle.hib_journal.specs.Kept.{past};
 ghost use Rattle.hib_journal.specs.Lists.{of_part};
@@ -8,7 +8,7 @@ ghost use Rattle.hib_journal.specs.Next.{is_cached};
 ghost use Rattle.hib_engines.specs.Counts.{RoseWithin};
 ghost use Rattle.hib_split_law.specs.Apart.{store_ask_count};
 ghost use Rattle.hib_split_law.specs.Merged.{list_of, of_part_in};
-ghost use Rattle.hib_split.specs.Alone.{AreAtEnds, AreListed, IsToldBy};
+ghost use Rattle.hib_split.specs.Alone.{AreAtEnds, AreListed, AreWhole, IsToldBy};
 
 use crate::alone::{rooms, run_alone, without_room};
 use crate::bench::{Left, room_for_threads};
@@ -58,6 +58,9 @@ pub fn work_split<R: Threads + Wait + Sync, K: Keeper, N: Name + Send + Sync, G:
         → of_part_in (Part.Own s) (map past result.lists)
         ≡ of_part (Part.Own s) (list_of s (map past result.mine)) }
     ensures strange { IfSome result.strange (λ p. p.0 ≢ p.1) }
+    ensures whole { workers ≡ 1 → result.out_of_memory ≡ false → parts.registry ≡ []
+        → parts.stamps ≡ [] → parts.results ≡ [] → All (λ r. r.list ≡ []) parts.regions.items
+        → AreWhole (map past result.lists) (map past result.mine) }
     ensures alone { workers ≡ 1 → result.strange ≡ None }
 {
     if workers == 1 {

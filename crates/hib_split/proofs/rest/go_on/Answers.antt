@@ -1,10 +1,15 @@
-use Rattle.std.proofs.Common.{◌≡◌, ◌≤◌, ◌+◌, ℕ, List, length, sym, ◌∙◌, subst}
+use Rattle.std.proofs.Common.{◌≡◌, ◌≤◌, ◌+◌, ℕ, List, length, map, false, is_err, sym, ◌∙◌, subst}
+use Rattle.std.proofs.lemmas.Bool.{true≢false}
 use Rattle.std.specs.Vec.{vec_len, vec_capacity}
 use Rattle.hib_journal.specs.Next.{is_cached}
+use Rattle.hib_journal.specs.Kept.{past}
+use Rattle.hib_parts.specs.Run.{list_on}
 use Rattle.hib_split.specs.Gathered.{AscendFrom}
 use Rattle.hib_split.proofs.Gathered.{ascend_picked, listed}
+use Rattle.hib_split.proofs.Whole.{lists_whole, none_yet, ok_then}
 use Rattle.hib_split.proofs.Moved.{as_many}
 use Rattle.hib_split.proofs.rest.go_on.Goals as goal
+use Rattle.hib_split.proofs.rest.go_on.Goals.{then-ran_out, else-ran_out}
 
 pub add_shared-keeper-requires-clause-ascend : goal.add_shared-keeper-requires-clause-ascend
 add_shared-keeper-requires-clause-ascend g c κs within =
@@ -22,3 +27,17 @@ pub returns-clause-listed : goal.returns-clause-listed
 returns-clause-listed g c =
     let h = c.add_own_lists-own.ensures.gathered in
     listed g.N.Name.script g.N.Name.from.tables c.from_vec.result c.add_own_lists-own.new.lists.items c.from_vec-2.result c.end_sessions-ran_out.new.mine.items h.0 c.from_vec.ensures c.from_vec-2.ensures h.1 c.end_sessions-ran_out.ensures.legal
+
+pub returns-clause-whole : goal.returns-clause-whole
+returns-clause-whole g c = λ f a x.
+    let ended : c.end_sessions-ran_out.result ≡ false = elim c.if-ran_out.branch [
+      | then-ran_out w ↦ absurd (true≢false (sym w.if-ran_out.true ∙ (sym w.result-is ∙ f)))
+      | else-ran_out w ↦ w.if-ran_out.false
+    ] in
+    let well : is_err c.add_own_lists-own.result ≡ false = elim c.if-ran_out.branch [
+      | then-ran_out w ↦ absurd (true≢false (sym w.if-ran_out.true ∙ (sym w.result-is ∙ f)))
+      | else-ran_out w ↦ sym w.is_err.ensures.value ∙ (sym w.result-is ∙ f)
+    ] in
+    let old = (list_on c.args.parts.registry c.args.parts.store.list c.args.parts.stamps c.args.parts.results c.args.parts.regions.items) in
+    lists_whole (list_on c.end_sessions-ran_out.new.parts.registry c.end_sessions-ran_out.new.parts.store.list c.end_sessions-ran_out.new.parts.stamps c.end_sessions-ran_out.new.parts.results c.end_sessions-ran_out.new.parts.regions.items) c.from_vec.result c.add_own_lists-own.new.lists.items c.from_vec-2.result c.end_sessions-ran_out.new.mine.items c.as_slice.result.now (map past c.add_shared-keeper.new.lists.items)
+    c.from_vec.ensures c.from_vec-2.ensures c.as_slice.ensures.value (c.end_sessions-ran_out.ensures.run ended a (none_yet old c.args.mine.items c.requires.mine x)) c.add_shared-keeper.ensures.parts c.add_own_lists-own.ensures.shared (ok_then c.add_own_lists-own.result _ well c.add_own_lists-own.ensures.own)
