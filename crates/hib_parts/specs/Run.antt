@@ -7,6 +7,7 @@ use Rattle.hib_journal.specs.Sessions.{Journal, own, same_part}
 use Rattle.hib_journal.specs.Lists.{of_part}
 use Rattle.hib_split_law.specs.Apart.{is_own, HaveSessions}
 use Rattle.hib_split_law.specs.Merged.{IsInTurn, AreDue}
+use Rattle.hib_parts.specs.declared.parts.Parts.{Parts}
 use Rattle.hib_parts.specs.Listed.{RegionState, WorkerState, last_of}
 
 abbrev pub is_other : ℕ → RegionState → Bool
@@ -29,6 +30,9 @@ list_on registry store stamps results regions Part.Stamps = stamps
 list_on registry store stamps results regions Part.Results = results
 list_on registry store stamps results regions (Part.Region n) = list_in n regions
 list_on registry store stamps results regions (Part.Own s) = []
+
+abbrev pub part_lists : {K N : Type 0} → Parts K N → Part → Journal
+part_lists parts = list_on parts.registry parts.store.list parts.stamps parts.results parts.regions.items
 
 -- one entry at the tick that is due was added to the list of a session and to that of this part, or to no other list if the part is
 -- the session's own

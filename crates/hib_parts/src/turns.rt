@@ -4,7 +4,7 @@ ghost use Rattle.hib_base.specs.declared.entries.Part.{Part};
 ghost use Rattle.hib_journal.specs.Next.{next};
 ghost use Rattle.hib_clock.specs.Due.{due};
 ghost use Rattle.hib_parts.specs.Listed.{IsDueOn, IsEnteredDue, IsKept, IsOwnEntered, RegionState, last_of};
-ghost use Rattle.hib_parts.specs.Run.{GoesOn, IsFirst, IsStepOn, list_on};
+ghost use Rattle.hib_parts.specs.Run.{GoesOn, IsFirst, IsStepOn, list_on, part_lists};
 
 use crate::parts::Parts;
 use crate::region::RegionPart;
@@ -213,11 +213,8 @@ impl<K: Keeper, N: Name> Parts<K, N> {
         ensures going { OnOk result (self.new.store.refused ≡ self.old.store.refused) }
         ensures entities { map (λ r. r.entity) self.new.regions.items
             ≡ map (λ r. r.entity) self.old.regions.items }
-        ensures entered { OnOk result (IsStepOn part
-            (list_on self.old.registry self.old.store.list self.old.stamps self.old.results
-            self.old.regions.items)
-            (list_on self.new.registry self.new.store.list self.new.stamps self.new.results
-            self.new.regions.items) worker.old worker.new) }
+        ensures entered { OnOk result (IsStepOn part (part_lists self.old) (part_lists self.new)
+            worker.old worker.new) }
         ensures number { worker.new.number ≡ worker.old.number }
         ensures less { OnOk result (worker.new.left < worker.old.left) }
         ensures kept { OnErr result (IsKept worker.old worker.new) }
@@ -250,11 +247,8 @@ impl<K: Keeper, N: Name> Parts<K, N> {
         ensures did { result ≡ Ok Stepped.Did → worker.new.left < worker.old.left }
         ensures done { result ≡ Ok Stepped.Done
             → next N.script worker.new.number worker.new.list ≡ None }
-        ensures run { OnOk result (GoesOn
-            (list_on self.old.registry self.old.store.list self.old.stamps self.old.results
-            self.old.regions.items) worker.old
-            (list_on self.new.registry self.new.store.list self.new.stamps self.new.results
-            self.new.regions.items) worker.new) }
+        ensures run { OnOk result (GoesOn (part_lists self.old) worker.old (part_lists self.new)
+            worker.new) }
         ensures kept { OnErr result (IsKept worker.old worker.new) }
     {
         let Some(act) = worker.next(alloc, script)? else {
@@ -278,11 +272,8 @@ impl<K: Keeper, N: Name> Parts<K, N> {
         ensures entities { map (λ r. r.entity) self.new.regions.items
             ≡ map (λ r. r.entity) self.old.regions.items }
         ensures number { worker.new.number ≡ worker.old.number }
-        ensures run { OnOk result (GoesOn
-            (list_on self.old.registry self.old.store.list self.old.stamps self.old.results
-            self.old.regions.items) worker.old
-            (list_on self.new.registry self.new.store.list self.new.stamps self.new.results
-            self.new.regions.items) worker.new) }
+        ensures run { OnOk result (GoesOn (part_lists self.old) worker.old (part_lists self.new)
+            worker.new) }
         ensures over { OnOk result (next N.script worker.new.number worker.new.list ≡ None) }
     {
         'steps: loop {

@@ -10,7 +10,7 @@ ghost use Rattle.hib_split_law.specs.Merged.{AreOwnLegal, list_of, of_part_in};
 ghost use Rattle.hib_split.specs.Alone.{IsToldBy};
 ghost use Rattle.hib_split.specs.Gathered.{AscendFrom, IsGathered};
 ghost use Rattle.hib_parts.specs.Listed.{AreOf};
-ghost use Rattle.hib_parts.specs.Run.{list_on};
+ghost use Rattle.hib_parts.specs.Run.{list_on, part_lists};
 
 use hib_base::{Entry, Part, SessionNo};
 use hib_core::Name;
@@ -91,7 +91,7 @@ pub fn add_shared<K: Keeper, N: Name>(lists: &mut Vec<Journal>, parts: Parts<K, 
         → RoseWithin N.from.asked
         (store_ask_count (of_part_in Part.Store (map past lists.new.items))) (K.asked result) }
     ensures parts { (p : Part) → is_own p ≡ false → of_part_in p (map past lists.new.items)
-        ≡ list_on parts.registry parts.store.list parts.stamps parts.results parts.regions.items p }
+        ≡ part_lists parts p }
 {
     let Parts {
         registry,

@@ -8,7 +8,7 @@ ghost use Rattle.hib_journal.specs.Next.{is_cached, next};
 ghost use Rattle.hib_engines.specs.Counts.{RoseWithin};
 ghost use Rattle.hib_split_law.specs.Apart.{store_ask_count};
 ghost use Rattle.hib_split_law.specs.Merged.{AreOwnLegal, list_of, of_part_in};
-ghost use Rattle.hib_parts.specs.Run.{GoesOn, list_on};
+ghost use Rattle.hib_parts.specs.Run.{GoesOn, part_lists};
 ghost use Rattle.hib_split.specs.Alone.{AreAtEnds, AreListed, AreOfOne, AreWhole, IsToldBy};
 
 use crate::gathering::{add_own_lists, add_shared};
@@ -72,11 +72,8 @@ fn step_to_end<K: Keeper, N: Name>(
     ensures number { worker.new.number ≡ worker.old.number }
     ensures over { result ≡ false → next N.script worker.new.number worker.new.list ≡ None }
     ensures before { result ≡ false → before ≡ false }
-    ensures run { result ≡ false → GoesOn
-        (list_on parts.old.registry parts.old.store.list parts.old.stamps parts.old.results
-        parts.old.regions.items) worker.old
-        (list_on parts.new.registry parts.new.store.list parts.new.stamps parts.new.results
-        parts.new.regions.items) worker.new }
+    ensures run { result ≡ false → GoesOn (part_lists parts.old) worker.old
+        (part_lists parts.new) worker.new }
 {
     if before {
         return true;
@@ -113,12 +110,9 @@ fn end_session<K: Keeper, N: Name>(
     ensures len { vec_len mine.new ≡ vec_len mine.old + 1 }
     ensures capacity { vec_capacity mine.new ≡ vec_capacity mine.old }
     ensures none { aside.old.items ≡ [] → aside.new.items ≡ [] }
-    ensures run { result ≡ false → aside.old.items ≡ [] → (before ≡ false → AreOfOne
-        (list_on parts.old.registry parts.old.store.list parts.old.stamps parts.old.results
-        parts.old.regions.items) (map past mine.old.items))
-        → AreOfOne
-        (list_on parts.new.registry parts.new.store.list parts.new.stamps parts.new.results
-        parts.new.regions.items) (map past mine.new.items) }
+    ensures run { result ≡ false → aside.old.items ≡ []
+        → (before ≡ false → AreOfOne (part_lists parts.old) (map past mine.old.items))
+        → AreOfOne (part_lists parts.new) (map past mine.new.items) }
 {
     let mut session = taken(alloc, aside, number);
     let refused = step_to_end(alloc, script, parts, &mut session, before);
@@ -147,12 +141,9 @@ fn end_sessions<K: Keeper, N: Name>(
     ensures legal { AreOwnLegal N.script (map past mine.new.items) }
     ensures over { result ≡ false
         → AreAtEnds N.script (length N.script.sessions) (map past mine.new.items) }
-    ensures run { result ≡ false → aside.old.items ≡ [] → AreOfOne
-        (list_on parts.old.registry parts.old.store.list parts.old.stamps parts.old.results
-        parts.old.regions.items) (map past mine.old.items)
-        → AreOfOne
-        (list_on parts.new.registry parts.new.store.list parts.new.stamps parts.new.results
-        parts.new.regions.items) (map past mine.new.items) }
+    ensures run { result ≡ false → aside.old.items ≡ []
+        → AreOfOne (part_lists parts.old) (map past mine.old.items)
+        → AreOfOne (part_lists parts.new) (map past mine.new.items) }
 {
     parts.registry.built();
     let mut refused = before;
@@ -200,10 +191,8 @@ pub fn go_on<K: Keeper, N: Name>(
     ensures own { result.out_of_memory ≡ false → (s : ℕ)
         → of_part_in (Part.Own s) (map past result.lists)
         ≡ of_part (Part.Own s) (list_of s (map past result.mine)) }
-    ensures whole { result.out_of_memory ≡ false → aside.items ≡ [] → AreOfOne
-        (list_on parts.registry parts.store.list parts.stamps parts.results
-        parts.regions.items) []
-        → AreWhole (map past result.lists) (map past result.mine) }
+    ensures whole { result.out_of_memory ≡ false → aside.items ≡ []
+        → AreOfOne (part_lists parts) [] → AreWhole (map past result.lists) (map past result.mine) }
     ensures strange { result.strange ≡ None }
 {
     let mut parts = parts;

@@ -2,7 +2,7 @@ use Rattle.std.proofs.Common.{ℕ, sym, ap, ◌∙◌, subst}
 use Rattle.hib_journal.specs.Kept.{past}
 use Rattle.hib_journal.specs.Next.{next}
 use Rattle.hib_split_law.specs.Apart.{IsOwnLegal}
-use Rattle.hib_parts.specs.Run.{list_on}
+use Rattle.hib_parts.specs.Run.{part_lists}
 use Rattle.hib_split.proofs.Gathered.{mine_legal, mine_over}
 use Rattle.hib_split.proofs.Whole.{session_run}
 use Rattle.hib_split.proofs.rest.end_session.Goals as goal
@@ -22,7 +22,7 @@ returns-clause-over g c = λ f.
 
 pub returns-clause-run : goal.returns-clause-run
 returns-clause-run g c = λ f a x.
-    session_run (list_on c.args.parts.now.registry c.args.parts.now.store.list c.args.parts.now.stamps c.args.parts.now.results c.args.parts.now.regions.items)
-    (list_on c.step_to_end-refused.new.parts.registry c.step_to_end-refused.new.parts.store.list c.step_to_end-refused.new.parts.stamps c.step_to_end-refused.new.parts.results c.step_to_end-refused.new.parts.regions.items)
+    session_run (part_lists c.args.parts.now)
+    (part_lists c.step_to_end-refused.new.parts)
     c.args.mine.now.items c.push_reserved.new.self.items c.close-list.result.1 c.args.number c.taken-session.result c.step_to_end-refused.new.worker c.requires.place c.push_reserved.ensures.items c.taken-session.ensures.number
     (c.taken-session.ensures.fresh a) c.step_to_end-refused.ensures.number c.close-list.ensures.list (c.step_to_end-refused.ensures.run f) (x (c.step_to_end-refused.ensures.before f))

@@ -2,7 +2,7 @@ use Rattle.std.proofs.Common.{◌≡◌, ◌≤◌, ◌+◌, ◌-◌, false, [],
 use Rattle.std.specs.Vec.{vec_len, vec_capacity}
 use Rattle.hib_journal.specs.Kept.{past}
 use Rattle.hib_split_law.specs.Merged.{AreOwnLegal}
-use Rattle.hib_parts.specs.Run.{list_on}
+use Rattle.hib_parts.specs.Run.{part_lists}
 use Rattle.hib_split.specs.Alone.{AreAtEnds, AreOfOne}
 use Rattle.hib_split.proofs.rest.end_sessions.Given as goal
 
@@ -13,7 +13,7 @@ invariant-loop-number g l = record {
   legal : AreOwnLegal g.N.Name.script (map past l.mine.items);
   over : l.refused ≡ false → AreAtEnds g.N.Name.script l.number (map past l.mine.items);
   none : l.fn.aside.items ≡ [] → l.aside.items ≡ [];
-  run : l.refused ≡ false → l.fn.aside.items ≡ [] → AreOfOne (list_on l.fn.parts.registry l.fn.parts.store.list l.fn.parts.stamps l.fn.parts.results l.fn.parts.regions.items) (map past l.fn.mine.items) → AreOfOne (list_on l.parts.registry l.parts.store.list l.parts.stamps l.parts.results l.parts.regions.items) (map past l.mine.items);
+  run : l.refused ≡ false → l.fn.aside.items ≡ [] → AreOfOne (part_lists l.fn.parts) (map past l.fn.mine.items) → AreOfOne (part_lists l.parts) (map past l.mine.items);
   place : length l.mine.items ≡ l.number;
   room : vec_len l.mine + (length l.script.sessions - l.number) ≤ vec_capacity l.mine;
 }

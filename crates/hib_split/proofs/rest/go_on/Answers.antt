@@ -3,7 +3,7 @@ use Rattle.std.proofs.lemmas.Bool.{true≢false}
 use Rattle.std.specs.Vec.{vec_len, vec_capacity}
 use Rattle.hib_journal.specs.Next.{is_cached}
 use Rattle.hib_journal.specs.Kept.{past}
-use Rattle.hib_parts.specs.Run.{list_on}
+use Rattle.hib_parts.specs.Run.{part_lists}
 use Rattle.hib_split.specs.Gathered.{AscendFrom}
 use Rattle.hib_split.proofs.Gathered.{ascend_picked, listed}
 use Rattle.hib_split.proofs.Whole.{lists_whole, none_yet, ok_then}
@@ -38,6 +38,6 @@ returns-clause-whole g c = λ f a x.
       | then-ran_out w ↦ absurd (true≢false (sym w.if-ran_out.true ∙ (sym w.result-is ∙ f)))
       | else-ran_out w ↦ sym w.is_err.ensures.value ∙ (sym w.result-is ∙ f)
     ] in
-    let old = (list_on c.args.parts.registry c.args.parts.store.list c.args.parts.stamps c.args.parts.results c.args.parts.regions.items) in
-    lists_whole (list_on c.end_sessions-ran_out.new.parts.registry c.end_sessions-ran_out.new.parts.store.list c.end_sessions-ran_out.new.parts.stamps c.end_sessions-ran_out.new.parts.results c.end_sessions-ran_out.new.parts.regions.items) c.from_vec.result c.add_own_lists-own.new.lists.items c.from_vec-2.result c.end_sessions-ran_out.new.mine.items c.as_slice.result.now (map past c.add_shared-keeper.new.lists.items)
+    let old = (part_lists c.args.parts) in
+    lists_whole (part_lists c.end_sessions-ran_out.new.parts) c.from_vec.result c.add_own_lists-own.new.lists.items c.from_vec-2.result c.end_sessions-ran_out.new.mine.items c.as_slice.result.now (map past c.add_shared-keeper.new.lists.items)
     c.from_vec.ensures c.from_vec-2.ensures c.as_slice.ensures.value (c.end_sessions-ran_out.ensures.run ended a (none_yet old c.args.mine.items c.requires.mine x)) c.add_shared-keeper.ensures.parts c.add_own_lists-own.ensures.shared (ok_then c.add_own_lists-own.result _ well c.add_own_lists-own.ensures.own)
