@@ -5,7 +5,7 @@ ghost use Rattle.hib_parts.specs.Copied.{is_small};
 use hib_base::Reply;
 use std::alloc::{AllocError, Global};
 
-/// An equal reply, where the reply owns no memory.
+/// An equal reply, if the reply owns no memory.
 fn small_copy(reply: &Reply) -> Option<Reply>
     ensures { result ≡ cond (is_small reply.now) (Some reply.now) None }
 {
@@ -40,7 +40,7 @@ fn small_copy(reply: &Reply) -> Option<Reply>
     }
 }
 
-/// An equal reply. It takes memory only where the reply owns some.
+/// An equal reply. It takes memory only if the reply owns some.
 pub fn copied(alloc: Global, reply: &Reply) -> Result<Reply, AllocError>
     ensures copy { IfOk result (λ r. r ≡ reply.now) }
     ensures small { is_small reply.now ≡ true → IsOk result }

@@ -85,7 +85,7 @@ impl<N: Name> RegionPart<N> {
     }
 
     /// One act of a session: the act that is due in it, which is on this region, is answered at this tick, which is after the last
-    /// ticks of both. Its entry goes to both lists. Where memory runs out both lists are as before.
+    /// ticks of both. Its entry goes to both lists. If memory runs out both lists are as before.
     pub fn serve(
         &mut self,
         alloc: Global,

@@ -58,7 +58,7 @@ impl<K: Keeper, N: Name> Model for StorePart<K, N> {
         × IsKeeping N.from (past p.list) p.store p.refused };
 }
 
-/// One act of a session on the store: its entry goes to both lists, or where memory runs out to neither.
+/// One act of a session on the store: its entry goes to both lists, or if memory runs out to neither.
 fn serve_store<K: Keeper, N: Name>(
     alloc: Global,
     script: &Script,
@@ -87,7 +87,7 @@ fn serve_store<K: Keeper, N: Name>(
 }
 
 impl<K: Keeper, N: Name> StorePart<K, N> {
-    /// The store over a keeper whose rows are widened to the script's mapping, and which takes each of the script's rows where its key
+    /// The store over a keeper whose rows are widened to the script's mapping, and which takes each of the script's rows if its key
     /// has none. At an error the keeper is handed back, with the rows that it had.
     pub fn open(alloc: Global, script: &Script, keeper: K) -> Result<StorePart<K, N>, OpenFault<K>>
         requires script { script.now ≡ N.script }
@@ -146,7 +146,7 @@ impl<K: Keeper, N: Name> StorePart<K, N> {
     }
 
     /// One act of a session: the act that is due in it, which is on the store, is answered at this tick, which is after the last
-    /// ticks of both. Its entry goes to both lists. Where memory runs out both lists are as before, the keeper was asked once at
+    /// ticks of both. Its entry goes to both lists. If memory runs out both lists are as before, the keeper was asked once at
     /// most, and `refused` says so from then on.
     pub fn serve(
         &mut self,

@@ -20,7 +20,7 @@ use hib_journal::part_of;
 use hib_outside::Keeper;
 use std::alloc::{AllocError, Global};
 
-/// The tick of a step: one more than the greater of the last ticks of its part and of its session. Where there is none behind that,
+/// The tick of a step: one more than the greater of the last ticks of its part and of its session. If there is none after that,
 /// want of memory is answered: no memory holds so many entries.
 fn tick_of(part: Tick, session: Tick) -> Result<Tick, AllocError>
     requires part { part ≤ 2 ^ 62 }
@@ -35,7 +35,7 @@ fn tick_of(part: Tick, session: Tick) -> Result<Tick, AllocError>
 }
 
 /// One act of a session on the registry: the act that is due in it is answered at the tick that is due, one more than the greater of
-/// the last ticks of both, and its entry goes to both lists. Where memory runs out, or no tick is left, both lists are as before.
+/// the last ticks of both, and its entry goes to both lists. If memory runs out, or no tick is left, both lists are as before.
 pub fn step_registry<N: Name>(
     alloc: Global,
     script: &Script,
@@ -231,8 +231,8 @@ impl<K: Keeper, N: Name> Parts<K, N> {
         }
     }
 
-    /// One step of a session: the act that is due in it, if one is, at the tick that is due. Where memory runs out no list has an
-    /// entry more.
+    /// One step of a session: the act that is due in it, if one is, at the tick that is due. If memory runs out no list has an
+    /// entry more. The lists of parts and of sessions are those of one journal, if they were before.
     pub fn step(
         &mut self,
         alloc: Global,
@@ -260,7 +260,8 @@ impl<K: Keeper, N: Name> Parts<K, N> {
         Ok(Stepped::Did)
     }
 
-    /// Steps a session to its end. Where memory runs out the steps so far stand.
+    /// Steps a session to its end. If memory runs out the steps so far stand. Else the lists of parts and of sessions are those of one
+    /// journal, if they were before.
     pub fn finish(
         &mut self,
         alloc: Global,

@@ -122,7 +122,7 @@ impl<N: Name> Worker<N> {
         Ok(act)
     }
 
-    /// The act that is due, where there is one.
+    /// The act that is due, if there is one.
     pub fn due(&self, alloc: Global, script: &Script) -> Result<Act, AllocError>
         requires script { script.now ≡ N.script }
         requires due { IsSome (next N.script self.now.number self.now.list) }
@@ -162,7 +162,7 @@ impl<N: Name> Worker<N> {
         Ok(())
     }
 
-    /// Takes the entry of the act that is due, where there is room for it. Of a session that is ready it answers Ok, unless the
+    /// Takes the entry of the act that is due, for which there is room. Of a session that is ready it answers Ok, unless the
     /// act brings something to the session. At an error its entries are as before.
     pub fn enter(&mut self, alloc: Global, script: &Script, entry: Entry) -> Result<(), AllocError>
         requires script { script.now ≡ N.script }
@@ -180,7 +180,7 @@ impl<N: Name> Worker<N> {
         Ok(())
     }
 
-    /// Takes the entry of the act that is due. Where memory runs out its entries are as before.
+    /// Takes the entry of the act that is due. If memory runs out its entries are as before.
     pub fn take(&mut self, alloc: Global, script: &Script, entry: Entry) -> Result<(), AllocError>
         requires script { script.now ≡ N.script }
         requires due { IsDueEntry N.script self.old.number self.old.list entry }
@@ -206,7 +206,7 @@ impl<N: Name> Worker<N> {
         }
     }
 
-    /// The act that is due, which is the session's own, is answered by the session at this tick, which is after its last one. Where
+    /// The act that is due, which is the session's own, is answered by the session at this tick, which is after its last one. If
     /// memory runs out its entries are as before.
     pub fn own(&mut self, alloc: Global, script: &Script, now: Tick) -> Result<(), AllocError>
         requires script { script.now ≡ N.script }

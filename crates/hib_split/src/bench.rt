@@ -41,7 +41,7 @@ pub struct Left<K: Keeper, N: Name> {
     pub parts: Parts<K, N>,
     /// The workers, each at the place of its session.
     pub aside: Vec<Option<Worker<N>>>,
-    /// Where a lock gave another region than the one that was asked for. Then regions may be missing.
+    /// The entity that was asked for and the one that was found, if a lock gave another region. Then regions may be missing.
     pub strange: Option<Strange>,
     /// Whether memory ran out in a worker.
     pub refused: bool,

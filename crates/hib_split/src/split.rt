@@ -29,7 +29,7 @@ use std::thread::Threads;
 /// greater of the last ticks of its part and of its session. After the workers have ended, the caller steps the sessions to their ends.
 ///
 /// What stands behind a lock is known by its type alone, so the region that a lock gave is compared with the one that was asked for.
-/// If they differ, `strange` says so, the rest isn't run, and there are no lists. Where memory runs out, or no tick is left, the
+/// If they differ, `strange` says so, the rest isn't run, and there are no lists. If memory runs out, or no tick is left, the
 /// steps so far stand. It may wait for other threads.
 pub fn work_split<R: Threads + Wait + Sync, K: Keeper, N: Name + Send + Sync, G: Gate>(
     rt: &R,
