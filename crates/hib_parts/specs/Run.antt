@@ -10,6 +10,7 @@ use Rattle.hib_split_law.specs.Merged.{IsInTurn, AreDue}
 use Rattle.hib_parts.specs.declared.parts.Parts.{Parts}
 use Rattle.hib_parts.specs.Listed.{RegionState, WorkerState, last_of}
 
+-- another entity's region
 abbrev pub is_other : ℕ → RegionState → Bool
 is_other n r = not (r.entity == n)
 
@@ -22,7 +23,7 @@ abbrev pub list_in : ℕ → List RegionState → Journal
 list_in n [] = []
 list_in n (r ∷ regions) = cond (r.entity == n) r.list (list_in n regions)
 
--- the list of each part that sessions share, and none of a session's own
+-- the list of a part, if these are those of the shared ones. A session's own acts have none
 abbrev pub list_on : (registry store stamps results : Journal) → List RegionState → Part → Journal
 list_on registry store stamps results regions Part.Registry = registry
 list_on registry store stamps results regions Part.Store = store
@@ -31,6 +32,7 @@ list_on registry store stamps results regions Part.Results = results
 list_on registry store stamps results regions (Part.Region n) = list_in n regions
 list_on registry store stamps results regions (Part.Own s) = []
 
+-- the list of each of these parts
 abbrev pub part_lists : {K N : Type 0} → Parts K N → Part → Journal
 part_lists parts = list_on parts.registry parts.store.list parts.stamps parts.results parts.regions.items
 
