@@ -149,12 +149,6 @@ gather_four script told r s m q a b c d e f g h =
 pub four_items : (v w x y z : List Kept) (r s m q : Kept) → v ≡ [] → w ≡ v ++ r ∷ [] → x ≡ w ++ s ∷ [] → y ≡ x ++ m ∷ [] → z ≡ y ++ q ∷ [] → map past z ≡ past r ∷ past s ∷ past m ∷ past q ∷ []
 four_items v w x y z r s m q a b c d e = ap (map past) (e ∙ ap (λ k. k ++ q ∷ []) (d ∙ ap (λ k. k ++ m ∷ []) (c ∙ ap (λ k. k ++ s ∷ []) (b ∙ ap (λ k. k ++ r ∷ []) a))))
 
-pub store_of_four : (r s m q : Journal) → AreOf Part.Registry r → AreOf Part.Store s → AreOf Part.Stamps m → AreOf Part.Results q → of_part_in Part.Store (r ∷ s ∷ m ∷ q ∷ []) ≡ s
-store_of_four r s m q a b c d =
-    ap (λ k. k ++ (of_part Part.Store s ++ (of_part Part.Store m ++ (of_part Part.Store q ++ [])))) (none_of Part.Registry Part.Store r a refl)
-    ∙ (ap (λ k. of_part Part.Store s ++ (k ++ (of_part Part.Store q ++ []))) (none_of Part.Stamps Part.Store m c refl)
-    ∙ (ap (λ k. of_part Part.Store s ++ (k ++ [])) (none_of Part.Results Part.Store q d refl) ∙ (append-nil (of_part Part.Store s) ∙ all_of Part.Store s b)))
-
 -- numbers of a range that are picked rise
 
 pub ascend_less : (n m : ℕ) (ms : List ℕ) → n ≤ m → AscendFrom m ms → AscendFrom n ms
@@ -199,9 +193,6 @@ adding_region script told f old new x ks ls j e h o k a =
     (adding_more script told (f x) (map f (reverse new)) (map past ks) (past j) o k
     (subst (λ es. IsAdding script told es (map past ks)) (ap (λ z. map f (reverse z)) e ∙ ap (map f) (reverse-append new (x ∷ []))) a))
 
-pub store_same : (n : ℕ) (ks ls : List Kept) (j : Kept) (whole : Journal) → ls ≡ ks ++ j ∷ [] → AreOf (Part.Region n) (past j) → of_part_in Part.Store (map past ks) ≡ whole → of_part_in Part.Store (map past ls) ≡ whole
-store_same n ks ls j whole h o e = ap (of_part_in Part.Store) (ap (map past) h ∙ map-append past ks (j ∷ [])) ∙ (part_same Part.Store (map past ks) (past j) (none_of (Part.Region n) Part.Store (past j) o refl) ∙ e)
-
 pub adding_done : {R : Type 0} (script : Script) (told : Option Tables) (f : R → ℕ) (rest : List R) (ls : List Journal) → IsAdding script told (map f (reverse rest)) ls → IsGathered script told (Part.Own 0) ls
 adding_done script told f rest ls a = gather_skip script told (Part.Region a.bound) (Part.Own 0) ls refl a.gathered
 
@@ -237,10 +228,6 @@ own_added script told n mine ks ls k own entries h r legal s e q g =
 
     listed : list_of n (map past mine) ≡ past k
     listed = get_or-map past mine n k [] h ∙ ap past (sym r)
-
-pub own_store : (n : ℕ) (ks ls : List Kept) (own : Kept) (l whole : Journal) → past own ≡ of_part (Part.Own n) l → ls ≡ ks ++ own ∷ [] → of_part_in Part.Store (map past ks) ≡ whole → of_part_in Part.Store (map past ls) ≡ whole
-own_store n ks ls own l whole e q h =
-    ap (of_part_in Part.Store) (ap (map past) q ∙ map-append past ks (own ∷ [])) ∙ (part_same Part.Store (map past ks) (past own) (ap (of_part Part.Store) e ∙ none_of (Part.Own n) Part.Store (of_part (Part.Own n) l) (all_own (Part.Own n) l) refl) ∙ h)
 
 same_own : (s n : ℕ) → same_part (Part.Own s) (Part.Own n) ≡ true → s ≡ n
 same_own s n e = numbers (same_is (Part.Own s) (Part.Own n) e)

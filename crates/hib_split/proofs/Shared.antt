@@ -107,6 +107,11 @@ shared_on r s m q x y z w regions rs ks ls a b c d e f g p o =
     same : list_on x y z w regions p ≡ list_on r s m q regions p
     same = ap (λ k. list_on k y z w regions p) a ∙ (ap (λ k. list_on r k z w regions p) b ∙ (ap (λ k. list_on r s k w regions p) c ∙ ap (λ k. list_on r s m k regions p) d))
 
+-- the store's among them
+pub store_listed : (x y z w : Journal) (rs : List RegionState) (ks ls : List Journal) → ((p : Part) → is_own p ≡ false → of_part_in p ks ≡ list_on x y z w [] p) → ((p : Part) → of_part_in p ls ≡ of_part_in p ks ++ list_on [] [] [] [] rs p) →
+    of_part_in Part.Store ls ≡ y
+store_listed x y z w rs ks ls f g = g Part.Store ∙ (append-nil (of_part_in Part.Store ks) ∙ f Part.Store refl)
+
 -- a session's own entries are of no shared part
 
 apart_own : (p : Part) (n : ℕ) → is_own p ≡ false → same_part p (Part.Own n) ≡ false

@@ -48,7 +48,6 @@ fn add_four<N: Name>(
     requires legal_results { IsPartLegal N.script N.from.tables (past results) }
     ensures gathered { IsGathered N.script N.from.tables (Part.Region 0)
         (map past lists.new.items) }
-    ensures stored { of_part_in Part.Store (map past lists.new.items) ≡ past store }
     ensures parts { (p : Part) → is_own p ≡ false → of_part_in p (map past lists.new.items)
         ≡ list_on (past registry) (past store) (past stamps) (past results) [] p }
     ensures len { vec_len lists.new ≡ vec_len lists.old + 4 }
@@ -67,8 +66,6 @@ fn add_regions<N: Name>(lists: &mut Vec<Journal>, regions: Vec<RegionPart<N>>)
     requires gathered { IsGathered N.script N.from.tables (Part.Region 0)
         (map past lists.old.items) }
     ensures gathered { IsGathered N.script N.from.tables (Part.Own 0) (map past lists.new.items) }
-    ensures store { of_part_in Part.Store (map past lists.new.items)
-        ≡ of_part_in Part.Store (map past lists.old.items) }
     ensures parts { (p : Part) → of_part_in p (map past lists.new.items)
         ≡ of_part_in p (map past lists.old.items)
         ++ list_on [] [] [] [] (reverse regions.items) p }
@@ -155,8 +152,6 @@ pub fn add_own_lists<N: Name>(
     requires gathered { IsGathered N.script N.from.tables (Part.Own 0) (map past lists.old.items) }
     ensures gathered { (n : ℕ)
         × IsGathered N.script N.from.tables (Part.Own n) (map past lists.new.items) }
-    ensures store { of_part_in Part.Store (map past lists.new.items)
-        ≡ of_part_in Part.Store (map past lists.old.items) }
     ensures shared { (p : Part) → is_own p ≡ false
         → of_part_in p (map past lists.new.items) ≡ of_part_in p (map past lists.old.items) }
     ensures own { OnOk result

@@ -4,7 +4,7 @@ use Rattle.hib_journal.specs.Sessions.{Journal}
 use Rattle.hib_journal.specs.Kept.{past}
 use Rattle.hib_split_law.specs.Merged.{of_part_in}
 use Rattle.hib_split.specs.Gathered.{IsGathered}
-use Rattle.hib_split.proofs.Gathered.{four_items, gather_four, store_of_four}
+use Rattle.hib_split.proofs.Gathered.{four_items, gather_four}
 use Rattle.hib_split.proofs.Shared.{four_parts}
 use Rattle.hib_split.proofs.gathering.add_four.Goals as goal
 
@@ -17,12 +17,6 @@ returns-clause-gathered g c =
     c.requires.empty c.push_reserved.ensures.items c.push_reserved-2.ensures.items c.push_reserved-3.ensures.items c.push_reserved-4.ensures.items))
     (gather_four script told (past c.args.registry) (past c.args.store) (past c.args.stamps) (past c.args.results) c.requires.registry c.requires.store c.requires.stamps c.requires.results
     c.requires.legal_registry c.requires.legal_store c.requires.legal_stamps c.requires.legal_results)
-
-pub returns-clause-stored : goal.returns-clause-stored
-returns-clause-stored g c =
-    ap (of_part_in Part.Store) (four_items c.args.lists.now.items c.push_reserved.new.self.items c.push_reserved-2.new.self.items c.push_reserved-3.new.self.items c.push_reserved-4.new.self.items c.args.registry c.args.store c.args.stamps c.args.results
-    c.requires.empty c.push_reserved.ensures.items c.push_reserved-2.ensures.items c.push_reserved-3.ensures.items c.push_reserved-4.ensures.items)
-    ∙ store_of_four (past c.args.registry) (past c.args.store) (past c.args.stamps) (past c.args.results) c.requires.registry c.requires.store c.requires.stamps c.requires.results
 
 pub returns-clause-parts : goal.returns-clause-parts
 returns-clause-parts g c = λ p o.

@@ -1,8 +1,7 @@
 use Rattle.std.proofs.Common.{◌<◌, ◌≤◌, length, map, reverse, arith}
-use Rattle.hib_journal.specs.Types.{Part}
 use Rattle.hib_journal.specs.Kept.{past}
 use Rattle.hib_split_law.specs.Merged.{of_part_in}
-use Rattle.hib_split.proofs.Gathered.{own_added, own_store, own_each, own_done}
+use Rattle.hib_split.proofs.Gathered.{own_added, own_each, own_done}
 use Rattle.hib_split.proofs.Shared.{own_shared}
 use Rattle.hib_split.proofs.gathering.add_own_lists.Goals as goal
 
@@ -13,8 +12,6 @@ loop-number-preserved g c =
     record {
       gathered = own_added g.N.Name.script g.N.Name.from.tables n c.args.mine.now c.loop-number.lists.items c.push.new.self.items c.index-mine-number.result c.in_ok-own.own c.as_slice.result.now there c.index-mine-number.is c.requires.mine
           c.as_slice.ensures c.in_ok-own.ensures c.in_ok-push.ensures.items c.loop-number.invariant.gathered;
-      store = own_store n c.loop-number.lists.items c.push.new.self.items c.in_ok-own.own (reverse c.as_slice.result.now) (of_part_in Part.Store (map past c.args.lists.now.items)) c.in_ok-own.ensures c.in_ok-push.ensures.items
-          c.loop-number.invariant.store;
       shared = own_shared n c.loop-number.lists.items c.push.new.self.items c.in_ok-own.own (reverse c.as_slice.result.now) (λ p. of_part_in p (map past c.args.lists.now.items)) c.in_ok-own.ensures c.in_ok-push.ensures.items
           c.loop-number.invariant.shared;
       own = own_each g.N.Name.script g.N.Name.from.tables n c.args.mine.now c.loop-number.lists.items c.push.new.self.items c.index-mine-number.result c.in_ok-own.own c.as_slice.result.now there c.index-mine-number.is c.as_slice.ensures

@@ -10,7 +10,6 @@ use Rattle.hib_split.proofs.gathering.add_own_lists.Given as goal
 abbrev pub invariant-loop-number : goal.invariant-loop-number
 invariant-loop-number g l = record {
   gathered : IsGathered g.N.Name.script g.N.Name.from.tables (Part.Own l.number) (map past l.lists.items);
-  store : of_part_in Part.Store (map past l.lists.items) ≡ of_part_in Part.Store (map past l.fn.lists.items);
   shared : (p : Part) → is_own p ≡ false → of_part_in p (map past l.lists.items) ≡ of_part_in p (map past l.fn.lists.items);
   own : (s : ℕ) → s < l.number → of_part_in (Part.Own s) (map past l.lists.items) ≡ of_part (Part.Own s) (list_of s (map past l.mine));
 }

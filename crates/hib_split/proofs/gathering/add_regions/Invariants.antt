@@ -11,7 +11,6 @@ abbrev pub invariant-regions : goal.invariant-regions
 invariant-regions g l = record {
   room : vec_len l.lists + vec_len l.regions ≤ vec_capacity l.lists;
   adding : IsAdding g.N.Name.script g.N.Name.from.tables (map (λ r. r.entity) (reverse l.regions.items)) (map past l.lists.items);
-  store : of_part_in Part.Store (map past l.lists.items) ≡ of_part_in Part.Store (map past l.fn.lists.items);
   parts : (p : Part) → of_part_in p (map past l.lists.items) ++ list_on [] [] [] [] (reverse l.regions.items) p ≡ of_part_in p (map past l.fn.lists.items) ++ list_on [] [] [] [] (reverse l.fn.regions.items) p;
 }
 

@@ -1,15 +1,22 @@
-use Rattle.std.proofs.Common.{◌≡◌, ◌≤◌, ◌+◌, ℕ, List, length, map, false, is_err, sym, ◌∙◌, subst}
+use Rattle.std.proofs.Common.{◌≡◌, ◌≤◌, ◌+◌, ℕ, List, length, map, false, is_err, refl, sym, ap, ◌∙◌, subst}
 use Rattle.std.proofs.lemmas.Bool.{true≢false}
 use Rattle.std.specs.Vec.{vec_len, vec_capacity}
 use Rattle.hib_journal.specs.Next.{is_cached}
-use Rattle.hib_journal.specs.Kept.{past}
+use Rattle.hib_journal.specs.Kept.{Kept, past}
+use Rattle.hib_journal.specs.Sessions.{Journal}
+use Rattle.hib_journal.specs.Types.{Part}
+use Rattle.hib_engines.specs.Counts.{RoseWithin}
+use Rattle.hib_split_law.specs.Apart.{store_ask_count}
+use Rattle.hib_split_law.specs.Merged.{of_part_in}
+use Rattle.hib_split.specs.Alone.{IsToldBy}
 use Rattle.hib_parts.specs.Run.{part_lists}
 use Rattle.hib_split.specs.Gathered.{AscendFrom}
 use Rattle.hib_split.proofs.Gathered.{ascend_picked, listed}
 use Rattle.hib_split.proofs.Whole.{lists_whole, none_yet, ok_then}
 use Rattle.hib_split.proofs.Moved.{as_many}
+use Rattle.hib_split.proofs.rest.go_on.Given.{Over}
 use Rattle.hib_split.proofs.rest.go_on.Goals as goal
-use Rattle.hib_split.proofs.rest.go_on.Goals.{then-ran_out, else-ran_out}
+use Rattle.hib_split.proofs.rest.go_on.Goals.{After-drop-aside, then-ran_out, else-ran_out}
 
 pub add_shared-keeper-requires-clause-ascend : goal.add_shared-keeper-requires-clause-ascend
 add_shared-keeper-requires-clause-ascend g c κs within =
@@ -28,16 +35,31 @@ returns-clause-listed g c =
     let h = c.add_own_lists-own.ensures.gathered in
     listed g.N.Name.script g.N.Name.from.tables c.from_vec.result c.add_own_lists-own.new.lists.items c.from_vec-2.result c.end_sessions-ran_out.new.mine.items h.0 c.from_vec.ensures c.from_vec-2.ensures h.1 c.end_sessions-ran_out.ensures.legal
 
+-- memory didn't run out in a session
+ended : (g : Over) (c : After-drop-aside g) → c.if-ran_out.result ≡ false → c.end_sessions-ran_out.result ≡ false
+ended g c f = elim c.if-ran_out.branch [
+  | then-ran_out w ↦ absurd (true≢false (sym w.if-ran_out.true ∙ (sym w.result-is ∙ f)))
+  | else-ran_out w ↦ w.if-ran_out.false
+]
+
+pub returns-clause-told : goal.returns-clause-told
+returns-clause-told g c =
+    let e : of_part_in Part.Store (map past c.from_vec.result) ≡ of_part_in Part.Store (map past c.add_shared-keeper.new.lists.items) =
+    ap (λ (ls : List Kept). of_part_in Part.Store (map past ls)) c.from_vec.ensures ∙ c.add_own_lists-own.ensures.shared Part.Store refl in
+    subst (λ (l : Journal). IsToldBy g.N.Name.from l (g.K.Keeper.tables c.add_shared-keeper.result) (g.K.Keeper.faults c.add_shared-keeper.result)) (sym e) c.add_shared-keeper.ensures.told
+
+pub returns-clause-asked : goal.returns-clause-asked
+returns-clause-asked g c = λ f.
+    let e : of_part_in Part.Store (map past c.from_vec.result) ≡ of_part_in Part.Store (map past c.add_shared-keeper.new.lists.items) =
+    ap (λ (ls : List Kept). of_part_in Part.Store (map past ls)) c.from_vec.ensures ∙ c.add_own_lists-own.ensures.shared Part.Store refl in
+    subst (λ (l : Journal). RoseWithin g.N.Name.from.asked (store_ask_count l) (g.K.Keeper.asked c.add_shared-keeper.result)) (sym e) (c.add_shared-keeper.ensures.asked (c.end_sessions-ran_out.ensures.going (ended g c f)))
+
 pub returns-clause-whole : goal.returns-clause-whole
 returns-clause-whole g c = λ f a x.
-    let ended : c.end_sessions-ran_out.result ≡ false = elim c.if-ran_out.branch [
-      | then-ran_out w ↦ absurd (true≢false (sym w.if-ran_out.true ∙ (sym w.result-is ∙ f)))
-      | else-ran_out w ↦ w.if-ran_out.false
-    ] in
     let well : is_err c.add_own_lists-own.result ≡ false = elim c.if-ran_out.branch [
       | then-ran_out w ↦ absurd (true≢false (sym w.if-ran_out.true ∙ (sym w.result-is ∙ f)))
       | else-ran_out w ↦ sym w.is_err.ensures.value ∙ (sym w.result-is ∙ f)
     ] in
     let old = (part_lists c.args.parts) in
     lists_whole (part_lists c.end_sessions-ran_out.new.parts) c.from_vec.result c.add_own_lists-own.new.lists.items c.from_vec-2.result c.end_sessions-ran_out.new.mine.items c.as_slice.result.now (map past c.add_shared-keeper.new.lists.items)
-    c.from_vec.ensures c.from_vec-2.ensures c.as_slice.ensures.value (c.end_sessions-ran_out.ensures.run ended a (none_yet old c.args.mine.items c.requires.mine x)) c.add_shared-keeper.ensures.parts c.add_own_lists-own.ensures.shared (ok_then c.add_own_lists-own.result _ well c.add_own_lists-own.ensures.own)
+    c.from_vec.ensures c.from_vec-2.ensures c.as_slice.ensures.value (c.end_sessions-ran_out.ensures.run (ended g c f) a (none_yet old c.args.mine.items c.requires.mine x)) c.add_shared-keeper.ensures.parts c.add_own_lists-own.ensures.shared (ok_then c.add_own_lists-own.result _ well c.add_own_lists-own.ensures.own)
