@@ -3,11 +3,14 @@
 //! A line is printed for each row, and at the end one for each thing that only direct calls can show.
 #![tactic(auto)]
 
+mod beside;
 mod check;
 mod evicting;
 mod gate;
 mod listening;
+mod merging;
 mod row;
+mod splitting;
 mod stale;
 mod words;
 mod working;
@@ -74,6 +77,27 @@ fn tell_working<R: Threads + Wait + Sync>(
         working::ends_made_sessions(rt, alloc)?,
     )?;
     tell(out, "workers-beside", working::runs_beside(rt, alloc)?)
+}
+
+/// Prints the lines of what is tried of parts under locks of their own.
+fn tell_splitting<R: Threads + Wait + Sync>(
+    rt: &R,
+    out: &impl Print,
+    alloc: Global,
+) -> io::Result<()> {
+    tell(
+        out,
+        "made-over-parts",
+        splitting::ends_made_sessions(rt, alloc)?,
+    )?;
+    tell(out, "parts-beside", splitting::runs_beside(rt, alloc)?)
+}
+
+/// Prints the lines of what is tried of merged lists.
+fn tell_merging(rt: &impl Print, alloc: Global) -> io::Result<()> {
+    tell(rt, "merged-lists", merging::comes_in_turn(alloc)?)?;
+    tell(rt, "cut-list", merging::misses_an_end(alloc)?)?;
+    tell(rt, "late-ticks", merging::finds_a_late_tick(alloc)?)
 }
 
 /// Prints a line that says nothing of a row.
@@ -159,5 +183,7 @@ fn main(rt: HostRuntime) -> io::Result<()> {
     try_rows(&rt, &rt, alloc)?;
     tell_calls(&rt, alloc)?;
     tell_listening(&rt, alloc)?;
-    tell_working(&rt, &rt, alloc)
+    tell_working(&rt, &rt, alloc)?;
+    tell_splitting(&rt, &rt, alloc)?;
+    tell_merging(&rt, alloc)
 }

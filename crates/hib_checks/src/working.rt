@@ -50,7 +50,7 @@ struct Came {
 }
 
 /// How many sessions a journal has at their ends.
-fn ends_in(journal: &Journal) -> usize {
+pub fn ends_in(journal: &Journal) -> usize {
     journal
         .as_slice()
         .iter()
@@ -59,7 +59,7 @@ fn ends_in(journal: &Journal) -> usize {
 }
 
 /// The text of the script of a number, as `make` writes it.
-fn made(alloc: Global, seed: &str) -> Result<Vec<u8>, AllocError> {
+pub fn made(alloc: Global, seed: &str) -> Result<Vec<u8>, AllocError> {
     let words = words_of(alloc, &["make", "--seed", seed, "--text"])?;
     let mut source = source_of(alloc, b"")?;
     let mut sink = sink_of(alloc, ROOM)?;
