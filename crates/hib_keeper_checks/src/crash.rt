@@ -1,8 +1,8 @@
 // A disk that stops at a call. Step by step a keeper is given rows, the disk stops, and is opened again.
 use hib_base::{Cell, Change, EntityNo, Key, Mapping, Row, Seq};
-use hib_keeper_sqlite::{SqliteKeeper, adopt};
+use hib_keeper_sqlite::adopt;
 use hib_outside::{Applied, Keeper};
-use sqlite::{Connection, FileStore, Files, Options};
+use sqlite::{Connection, Files, Options};
 use sqlite_disk::{Crash, Fuse, Memory};
 use std::alloc::Global;
 use std::io;
@@ -110,53 +110,56 @@ fn judge<K: Keeper>(alloc: Global, keeper: &mut K, done: i64) -> Left {
     }
 }
 
-/// A keeper over a database file and its log.
-type DiskKeeper<D> = SqliteKeeper<FileStore<D>>;
+/// What is known of a run over files that may stop.
+#[derive(Clone, Copy)]
+struct Course {
+    /// The last step that was answered with Done, once the run is over.
+    done: Option<i64>,
+    left: Left,
+}
 
-fn open<D: Crash + Drop>(alloc: Global, files: Files<D>) -> Option<DiskKeeper<D>> {
-    if !files.may_be_used() {
-        return None;
-    }
-    match Connection::open_files(alloc, files, Options::new(7)) {
-        Ok(conn) => adopt(conn).ok(),
-        Err(_) => None,
+impl Course {
+    /// Gives the rows their numbers at the first visit, and judges what they show at the next.
+    fn visit<K: Keeper>(&mut self, alloc: Global, keeper: &mut K) {
+        match self.done {
+            None => self.done = Some(last_done(alloc, keeper)),
+            Some(done) => self.left = judge(alloc, keeper, done),
+        }
     }
 }
 
-/// The keeper's files, after a crash.
-fn crashed<D: Crash + Drop>(keeper: DiskKeeper<D>) -> Option<Files<D>> {
+/// Opens a keeper over files, visits it, and takes its files after a crash. It has none if they couldn't be opened, or its table not
+/// be made.
+fn visit<D: Crash + Drop + Send>(
+    alloc: Global,
+    files: Files<D>,
+    course: &mut Course,
+) -> Option<Files<D>> {
+    if !files.may_be_used() {
+        return None;
+    }
+    let Ok(connection) = Connection::open_files(alloc, files, Options::new(7)) else {
+        return None;
+    };
+    let mut keeper = adopt(connection).ok()?;
+    course.visit(alloc, &mut keeper);
     let mut files = keeper.into_connection()?.into_store().close();
     files.log.crash();
     files.db.crash();
     Some(files)
 }
 
-/// Opens the keeper again after a crash, and judges what it shows.
-fn after_crash<D: Crash + Drop + Send>(alloc: Global, keeper: DiskKeeper<D>, done: i64) -> Left {
-    let Some(files) = crashed(keeper) else {
-        return Left::Nothing;
-    };
-    match open(alloc, files) {
-        Some(mut again) => {
-            let left = judge(alloc, &mut again, done);
-            let _files = crashed(again);
-            left
-        }
-        None => Left::Broken,
-    }
-}
-
 /// Runs over files that may stop, and judges what is left after a crash.
-fn after_run<D: Crash + Drop + Send>(alloc: Global, keeper: DiskKeeper<D>) -> Left {
-    let mut keeper = keeper;
-    let done = last_done(alloc, &mut keeper);
-    after_crash(alloc, keeper, done)
-}
-
-/// The same, of files that may stop as they are opened.
 fn after_stop<D: Crash + Drop + Send>(alloc: Global, files: Files<D>) -> Left {
-    match open(alloc, files) {
-        Some(keeper) => after_run(alloc, keeper),
+    let mut course = Course {
+        done: None,
+        left: Left::Broken,
+    };
+    match visit(alloc, files, &mut course) {
+        Some(files) => {
+            let _files = visit(alloc, files, &mut course);
+            course.left
+        }
         None => Left::Nothing,
     }
 }

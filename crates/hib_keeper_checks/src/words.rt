@@ -1,89 +1,65 @@
-// The words of a line.
-use hib_base::{Cell, Cells, ColumnDef, ColumnType, EntityDef, EntityNo, Key, Row, Seq, Strategy};
-use std::alloc::Global;
+// What the words of a line say.
+use hib_base::{Cell, Change, ColumnDef, ColumnType, EntityDef, EntityNo, Key, Seq, Strategy};
+use hib_entry_fields::{cells_at, next, number_of, row_at, version_of};
+use std::alloc::{AllocError, Global};
 
-/// Takes the first word off.
-pub fn next<'a>(rest: &mut &'a str) -> &'a str {
-    let (word, more) = rest.split_once(' ').unwrap_or((*rest, ""));
-    *rest = more;
-    word
+/// The entity after a space, and what follows it.
+fn entity_at(bytes: &[u8]) -> (EntityNo, &[u8]) {
+    let (number, rest) = next(bytes);
+    (
+        EntityNo(u16::try_from(number_of(number)).unwrap_or(0)),
+        rest,
+    )
 }
 
-/// The key that two words are.
-pub fn key(rest: &mut &str) -> Option<Key> {
-    let entity = next(rest).parse().ok()?;
-    let id = next(rest).parse().ok()?;
-    Some(Key {
-        entity: EntityNo(entity),
-        id,
-    })
+/// The key after a space, and what follows it.
+pub fn key_at(bytes: &[u8]) -> (Key, &[u8]) {
+    let (entity, rest) = entity_at(bytes);
+    let (number, rest) = next(rest);
+    let id = number_of(number);
+    (Key { entity, id }, rest)
 }
 
-/// A version, or - for none.
-pub fn version(rest: &mut &str) -> Option<Option<u32>> {
-    let word = next(rest);
-    if word == "-" {
-        return Some(None);
-    }
-    Some(Some(word.parse().ok()?))
-}
-
-/// A text behind a quote, so many bytes of x behind an x, a truth or a number.
-fn cell(alloc: Global, word: &str) -> Option<Cell> {
-    if word == "true" || word == "false" {
-        return Some(Cell::Bool(word == "true"));
-    }
-    if let Some(text) = word.strip_prefix("'") {
-        let bytes = text.as_bytes().to_vec(alloc).ok()?;
-        return Some(Cell::Text(Seq::from_vec(bytes)));
-    }
-    if let Some(count) = word.strip_prefix("x") {
-        let count = count.parse().ok()?;
-        return Some(Cell::Text(Seq::from_vec(vec![in alloc; b'x'; count].ok()?)));
-    }
-    Some(Cell::Int(word.parse().ok()?))
-}
-
-fn cells(alloc: Global, rest: &mut &str) -> Option<Cells> {
-    let mut cells = Seq::new(alloc);
-    for _ in 0..rest.len() {
+/// Entities, each after a space.
+pub fn entities(alloc: Global, bytes: &[u8]) -> Result<Vec<EntityNo>, AllocError> {
+    let mut entities = Vec::new(alloc);
+    let mut rest = bytes;
+    for _ in 0..bytes.len() {
         if rest.is_empty() {
             break;
         }
-        cells.push(cell(alloc, next(rest))?).ok()?;
+        let (entity, more) = entity_at(rest);
+        entities.push(entity)?;
+        rest = more;
     }
-    Some(cells)
+    Ok(entities)
 }
 
-/// A column whose default is this word; - is none.
-fn column(alloc: Global, word: &str) -> Option<ColumnDef> {
-    let default = if word == "-" {
-        None
-    } else {
-        Some(cell(alloc, word)?)
-    };
+fn column(alloc: Global, default: Option<Cell>) -> ColumnDef {
     let kind = match &default {
         Some(Cell::Text(_)) => ColumnType::Text,
         Some(Cell::Bool(_)) => ColumnType::Bool,
         _ => ColumnType::Int,
     };
-    Some(ColumnDef {
+    ColumnDef {
         name: Seq::new(alloc),
         kind,
         default,
-    })
+    }
 }
 
-/// An entity with a column for each word.
-pub fn entity(alloc: Global, rest: &mut &str) -> Option<EntityDef> {
+/// An entity with so many columns without a default, and one for each of the cells that follow.
+pub fn columns(alloc: Global, bytes: &[u8]) -> Result<EntityDef, AllocError> {
+    let (count, rest) = next(bytes);
+    let (defaults, _) = cells_at(alloc, rest)?;
     let mut columns = Seq::new(alloc);
-    for _ in 0..rest.len() {
-        if rest.is_empty() {
-            break;
-        }
-        columns.push(column(alloc, next(rest))?).ok()?;
+    for _ in 0..number_of(count) {
+        columns.push(column(alloc, None))?;
     }
-    Some(EntityDef {
+    for default in defaults.into_vec() {
+        columns.push(column(alloc, Some(default)))?;
+    }
+    Ok(EntityDef {
         name: Seq::new(alloc),
         strategy: Strategy::Uncached,
         versioned: true,
@@ -92,10 +68,26 @@ pub fn entity(alloc: Global, rest: &mut &str) -> Option<EntityDef> {
     })
 }
 
-/// A version and cells.
-pub fn row(alloc: Global, rest: &mut &str) -> Option<Row> {
-    Some(Row {
-        version: version(rest)?,
-        cells: cells(alloc, rest)?,
-    })
+/// An insert of a row.
+pub fn insert(alloc: Global, bytes: &[u8]) -> Result<Change, AllocError> {
+    let (key, rest) = key_at(bytes);
+    let (row, _) = row_at(alloc, rest)?;
+    Ok(Change::Insert { key, row })
+}
+
+/// An update, which expects the first of two versions.
+pub fn update(alloc: Global, bytes: &[u8]) -> Result<Change, AllocError> {
+    let (key, rest) = key_at(bytes);
+    let (version, rest) = next(rest);
+    let expected = version_of(version);
+    let (row, _) = row_at(alloc, rest)?;
+    Ok(Change::Update { key, expected, row })
+}
+
+/// A removal.
+pub fn delete(bytes: &[u8]) -> Change {
+    let (key, rest) = key_at(bytes);
+    let (version, _) = next(rest);
+    let expected = version_of(version);
+    Change::Delete { key, expected }
 }
