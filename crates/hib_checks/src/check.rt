@@ -188,7 +188,7 @@ fn is_legal<R: Threads + Wait + Sync>(
 /// Whether a row is a run whose journal is to be audited: by its schedule, to its end, from the script's rows.
 fn has_journal(row: &Row) -> bool {
     let is_done = row.number("status").unwrap_or(0) == 0;
-    row.text("words") == "play" && is_done && !row.has("kept") && !row.has("kept-cells")
+    row.text("words") == "play" && is_done && !row.has("kept")
 }
 
 /// What is wrong with the output, if anything.

@@ -1,5 +1,6 @@
 // A row: its name, and the lines that describe it.
-use hib_base::{Cell, Cells, EntityNo, Key, Rows, Seq};
+use hib_base::{EntityNo, Key, Rows, Seq};
+use hib_entry_fields::{number_of, piece, row_at};
 use std::alloc::{AllocError, Global};
 
 /// A line of a row's description: its first word, and the text after it.
@@ -34,7 +35,7 @@ fn has_form(word: &str, text: &str) -> bool {
         || (is_one_of(word, &["source-fails", "sink-fails", "keeper-fails"])
             && text.parse::<u32>().is_ok())
         || (word == "times" && repeated(text).is_some())
-        || (is_one_of(word, &["kept", "kept-cells"]) && kept_key(text).is_some())
+        || (word == "kept" && kept_id(text).0 > 0)
 }
 
 /// How often the lines after the number are repeated.
@@ -44,13 +45,10 @@ fn repeated(text: &str) -> Option<(u32, &str)> {
     Some((count, lines))
 }
 
-/// The identifier and the version of a row that the keeper has at first, and the text of its cells.
-fn kept_key(text: &str) -> Option<(u64, u32, &str)> {
-    let (id, rest) = text.split_once(' ')?;
-    let (version, cells) = rest.split_once(' ').unwrap_or((rest, ""));
-    let id = id.parse().ok()?;
-    let version = version.parse().ok()?;
-    Some((id, version, cells))
+/// The identifier of a row that the keeper has at first, and what follows it.
+fn kept_id(text: &str) -> (u64, &[u8]) {
+    let (id, rest) = piece(text.as_bytes());
+    (number_of(id), rest)
 }
 
 impl Row {
@@ -156,10 +154,8 @@ impl Row {
     pub fn kept(&self, alloc: Global) -> Result<Rows, AllocError> {
         let mut rows = Seq::new(alloc);
         for line in self.lines.as_slice() {
-            match line.word.as_str() {
-                "kept" => add_kept(alloc, &mut rows, line.text.as_str(), false)?,
-                "kept-cells" => add_kept(alloc, &mut rows, line.text.as_str(), true)?,
-                _ => {}
+            if line.word.as_str() == "kept" {
+                add_kept(alloc, &mut rows, line.text.as_str())?;
             }
         }
         Ok(rows)
@@ -230,46 +226,10 @@ fn fill(bytes: &mut Vec<u8>, text: &str) -> Result<(), AllocError> {
     Ok(())
 }
 
-/// Adds a row of the first entity: with one text in it, or with a cell for each word.
-fn add_kept(alloc: Global, rows: &mut Rows, text: &str, has_cells: bool) -> Result<(), AllocError> {
-    let Some((id, version, rest)) = kept_key(text) else {
-        return Ok(());
-    };
-    let mut cells = Seq::new(alloc);
-    if has_cells {
-        add_cells(alloc, &mut cells, rest)?;
-    } else {
-        cells.push(text_cell(alloc, rest)?)?;
-    }
-    let key = Key {
-        entity: EntityNo(0),
-        id,
-    };
-    let version = Some(version);
-    rows.push((key, hib_base::Row { version, cells }))
-}
-
-/// Adds a cell for each word.
-fn add_cells(alloc: Global, cells: &mut Cells, text: &str) -> Result<(), AllocError> {
-    for word in text.split(' ') {
-        if !word.is_empty() {
-            cells.push(cell(alloc, word)?)?;
-        }
-    }
-    Ok(())
-}
-
-fn text_cell(alloc: Global, text: &str) -> Result<Cell, AllocError> {
-    Ok(Cell::Text(Seq::from_vec(text.as_bytes().to_vec(alloc)?)))
-}
-
-/// A number, a truth, or else a text, which may stand after a quote.
-fn cell(alloc: Global, word: &str) -> Result<Cell, AllocError> {
-    if word == "true" || word == "false" {
-        return Ok(Cell::Bool(word == "true"));
-    }
-    match word.parse() {
-        Ok(number) => Ok(Cell::Int(number)),
-        Err(_) => text_cell(alloc, word.strip_prefix("'").unwrap_or(word)),
-    }
+/// Adds a row of the first entity.
+fn add_kept(alloc: Global, rows: &mut Rows, text: &str) -> Result<(), AllocError> {
+    let (id, rest) = kept_id(text);
+    let (row, _) = row_at(alloc, rest)?;
+    let entity = EntityNo(0);
+    rows.push((Key { entity, id }, row))
 }
