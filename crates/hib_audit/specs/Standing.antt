@@ -1,5 +1,5 @@
 -- What the audit keeps while it goes over a journal: its engines and sessions stand for the entries so far.
-use Rattle.std.specs.Prelude.{◌≡◌, ℕ, ◌<◌, ◌^◌, ◌==◌, ◌&&◌, nat_le, nat_lt, slice_set, Bool, false, true, not, List, ◌∷◌, length, slice_get, slice_index, replicate, Some, None, Option, unwrap_or}
+use Rattle.std.specs.Prelude.{◌≡◌, ℕ, ◌<◌, ◌^◌, ◌&&◌, nat_le, nat_lt, slice_set, Bool, false, true, not, List, ◌∷◌, length, slice_get, slice_index, replicate, Some, None, Option, unwrap_or}
 use Rattle.std.specs.List.{list_any}
 use Rattle.hib_base.specs.Keys.{same_key}
 use Rattle.hib_base.specs.Tables.{Tables}

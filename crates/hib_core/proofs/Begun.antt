@@ -4,7 +4,6 @@ use Rattle.std.proofs.lemmas.List.{length-map, length-replicate}
 use Rattle.std.specs.Option.{option_map}
 use Rattle.hib_base.specs.Tables.{Tables}
 use Rattle.hib_journal.specs.Types.{Script}
-use Rattle.hib_journal.specs.Next.{strategy}
 use Rattle.hib_journal.specs.Lists.{stored}
 use Rattle.hib_update_stamps.specs.Stamped.{unstamped}
 use Rattle.hib_query_cache.specs.Standing.{IsResults}

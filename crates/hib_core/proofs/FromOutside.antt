@@ -10,7 +10,6 @@ use Rattle.hib_journal.specs.Played.{play_order}
 use Rattle.hib_journal.specs.Legal.{IsLegal, IsReply, part_of, due, may_come, is_outside}
 use Rattle.hib_journal.specs.Lists.{IsLate}
 use Rattle.hib_journal.specs.Runs.{IsNumbered, asks, ask_count, is_fault, fault_count}
-use Rattle.hib_engines.specs.declared.region.Region.{Region}
 use Rattle.hib_engines.specs.Registry.{IsRegistry}
 use Rattle.hib_engines.specs.Region.{entity_in, IsPlaced, Suits}
 use Rattle.hib_engines.specs.Laws.{Laws}

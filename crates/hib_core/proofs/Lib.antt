@@ -11,3 +11,5 @@ pub mod Short
 pub mod Moved
 pub mod Hearing
 pub mod Evictions
+-- What may go from thread to thread.
+pub mod Crossing

@@ -5,7 +5,7 @@ use Rattle.std.proofs.lemmas.Bool.{true≢false, false≢true}
 use Rattle.std.specs.Option.{option_map}
 use Rattle.hib_base.specs.Tables.{Tables}
 use Rattle.hib_base.proofs.Tables.{Tested, tested}
-use Rattle.hib_journal.specs.Types.{Change, Commit, Script, Part, Act, Reply}
+use Rattle.hib_journal.specs.Types.{Change, Script, Part, Act, Reply}
 use Rattle.hib_journal.specs.Sessions.{Journal, own, was_killed, committed, changes, changes_in, deferred}
 use Rattle.hib_journal.specs.Legal.{IsReply, IsReplyBy, reply_by, is_of_store}
 use Rattle.hib_journal.specs.Lists.{entry_at, stored, IsReplyOf, IsStoreReply}

@@ -1,12 +1,11 @@
 // The factory: sessions over shared parts, the journal of their steps, and the listeners that hear of each.
-ghost use Rattle.std.specs.Prelude.{◌≡◌, ◌+◌, ◌<◌, ◌≤◌, ◌^◌, ◌==◌, ℕ, [], ◌∷◌, ◌++◌, length, slice_get, is_ok, not, OnOk, OnErr, IfOk, IfErr, IsOk, Ok, Some, List, true, false};
-ghost use Rattle.std.specs.List.{range_with_len};
+ghost use Rattle.std.specs.Prelude.{◌≡◌, ◌+◌, ◌<◌, ◌≤◌, ◌^◌, ◌==◌, ℕ, [], ◌∷◌, length, slice_get, is_ok, OnOk, OnErr, IfOk, IfErr, IsOk, Ok, Some, true, false};
 ghost use Rattle.hib_journal.specs.Kept.{past};
 ghost use Rattle.hib_base.specs.declared.scripts.Order.{Order};
 ghost use Rattle.hib_base.specs.Valid.{is_valid};
-ghost use Rattle.hib_journal.specs.Sessions.{Journal as Past, own, was_killed, is_open};
+ghost use Rattle.hib_journal.specs.Sessions.{was_killed, is_open};
 ghost use Rattle.hib_journal.specs.Next.{is_cached};
-ghost use Rattle.hib_journal.specs.Played.{has_next, play_steps, play_order, play_orders, play_sessions, is_played};
+ghost use Rattle.hib_journal.specs.Played.{play_steps, play_order, play_orders, is_played};
 ghost use Rattle.hib_journal.specs.Legal.{IsLegal};
 ghost use Rattle.hib_journal.specs.Runs.{IsNumbered, told_committed, is_fault, fault_count, ask_count};
 ghost use Rattle.hib_base.specs.declared.entries.Entry.{Entry};
@@ -17,29 +16,22 @@ ghost use Rattle.hib_store.specs.Stores.{handed_back, is_store_fault};
 ghost use Rattle.hib_core.specs.Bound.{most_in, outside_count};
 ghost use Rattle.hib_session.specs.Sessions.{AreSessions};
 ghost use Rattle.hib_core.specs.Factory.{Does, IsOver, IsAskedOnceMore, AreOver, IsSound, Hears};
-ghost use Rattle.hib_core.specs.Playing.{played, play_all, play_script, GoesOn, Leads, AreNamed};
-ghost use Rattle.hib_listeners.specs.Told.{Told, tells, AreTold};
+ghost use Rattle.hib_core.specs.Playing.{played, play_script, GoesOn, Leads, AreNamed};
+ghost use Rattle.hib_listeners.specs.Told.{tells};
 ghost use Rattle.hib_listeners.specs.Heard.{HaveHeard};
 
 use crate::names::Name;
+use crate::opening::OpenRefused;
 use crate::steps::Core;
+use crate::telling::tell;
 use crate::turns::Stepped;
 use hib_base::{Key, Order, Script, SessionNo};
 use hib_journal::Journal;
-use hib_listeners::{Listeners, nothing_was_told, telling_goes_on};
+use hib_listeners::{Listeners, nothing_was_told};
 use hib_outside::{Keeper, Listener};
 use hib_store::OpenFault;
 use std::alloc::{AllocError, Global};
 use std::marker::Model;
-
-/// Why a factory wasn't opened, with the listeners that were handed in.
-#[derive(Drop)]
-pub struct OpenRefused<K, L> {
-    /// Why, with the keeper.
-    pub fault: OpenFault<K>,
-    /// The listeners, untold.
-    pub listeners: Vec<L>,
-}
 
 /// Sessions over shared parts, with the journal of their steps, which is legal for the name's script from the name's rows, and
 /// the listeners that are told each entry in the step that adds it. After a listener had no memory for an entry, which stands, no
@@ -68,29 +60,8 @@ impl<K: Keeper, N: Name, L: Listener> Model for Factory<K, N, L> {
       deaf = f.deaf;
     } };
 
-    ghost invariant = { λ f. HaveHeard f.deaf f.core.journal.list N.told (tells L.heard L.left f.listeners) };
-}
-
-/// Tells the newest entry of a journal. If a listener has no memory for it, that is noted.
-fn tell<L: Listener>(
-    alloc: Global,
-    journal: &Journal,
-    listeners: &mut Listeners<L>,
-    deaf: &mut bool,
-) -> Result<(), AllocError>
-    requires hears { deaf.old ≡ false }
-    ensures deaf { deaf.new ≡ not (is_ok result) }
-    ensures told { (e : Entry) (h : Past) → past journal.now ≡ e ∷ h → AreTold e (is_ok result) (tells L.heard L.left listeners.old) (tells L.heard L.left listeners.new) }
-    ensures heard { (start : List Told) (e : Entry) (h : Past) (es : List Entry) → past journal.now ≡ e ∷ h → journal.now.list ≡ es ++ e ∷ []
-        → HaveHeard false es start (tells L.heard L.left listeners.old) → HaveHeard deaf.new journal.now.list start (tells L.heard L.left listeners.new) }
-{
-    telling_goes_on();
-    let Some(entry) = journal.last() else {
-        return Ok(());
-    };
-    let told = listeners.tell(alloc, entry);
-    *deaf = told.is_err();
-    told
+    ghost invariant = { λ f. HaveHeard f.deaf f.core.journal.list N.told (tells L.heard L.left
+        f.listeners) };
 }
 
 impl<K: Keeper, N: Name, L: Listener> Factory<K, N, L> {
@@ -105,7 +76,11 @@ impl<K: Keeper, N: Name, L: Listener> Factory<K, N, L> {
     ) -> Result<Factory<K, N, L>, OpenRefused<K, L>>
         requires script { script ≡ N.script }
         requires valid { is_valid N.script ≡ true }
-        requires from { record { tables = told_start N.script (K.tables keeper); faults = K.faults keeper; asked = K.asked keeper } ≡ N.from }
+        requires from { record {
+          tables = told_start N.script (K.tables keeper);
+          faults = K.faults keeper;
+          asked = K.asked keeper;
+        } ≡ N.from }
         requires told { tells L.heard L.left listeners.items ≡ N.told }
         ensures empty { IfOk result (λ f. past f.journal ≡ []) }
         ensures going { IfOk result (λ f. f.refused ≡ false) }
@@ -113,7 +88,8 @@ impl<K: Keeper, N: Name, L: Listener> Factory<K, N, L> {
         ensures back { IfErr result (λ e. K.tables (handed_back e.fault) ≡ K.tables keeper) }
         ensures back_faults { IfErr result (λ e. K.faults keeper ≤ K.faults (handed_back e.fault)) }
         ensures back_asked { IfErr result (λ e. K.asked (handed_back e.fault) ≡ K.asked keeper) }
-        ensures fault { IfErr result (λ e. is_store_fault e.fault ≡ true → Rose (K.faults keeper) (K.faults (handed_back e.fault))) }
+        ensures fault { IfErr result (λ e. is_store_fault e.fault ≡ true
+            → Rose (K.faults keeper) (K.faults (handed_back e.fault))) }
         ensures listeners { IfErr result (λ e. e.listeners ≡ listeners) }
     {
         nothing_was_told();
@@ -132,23 +108,37 @@ impl<K: Keeper, N: Name, L: Listener> Factory<K, N, L> {
     /// counts; so a later call may succeed. Only if a listener had none does the entry stand, and no call adds another.
     pub fn step(&mut self, alloc: Global, number: SessionNo) -> Result<Stepped, AllocError>
         requires known { number < length N.script.sessions }
-        ensures did { result ≡ Ok Stepped.Did → Does N.script number (past self.old.journal) (past self.new.journal) self.old.sessions self.new.sessions }
-        ensures done { result ≡ Ok Stepped.Done → IsOver N.script number (past self.old.journal) (past self.new.journal) }
+        ensures did { result ≡ Ok Stepped.Did
+            → Does N.script number (past self.old.journal) (past self.new.journal) self.old.sessions
+            self.new.sessions }
+        ensures done { result ≡ Ok Stepped.Done
+            → IsOver N.script number (past self.old.journal) (past self.new.journal) }
         ensures law { Obeys N.script N.from.tables (past self.new.journal) }
-        ensures killed { was_killed number (past self.old.journal) ≡ true → result ≡ Ok Stepped.Done }
-        ensures inside { outside_count (past self.new.journal) ≡ outside_count (past self.old.journal) }
-        ensures fault { (e : Entry) → past self.new.journal ≡ e ∷ past self.old.journal → is_fault e.reply ≡ true → Rose self.old.parts.store.faults self.new.parts.store.faults }
+        ensures killed { was_killed number (past self.old.journal) ≡ true
+            → result ≡ Ok Stepped.Done }
+        ensures inside { outside_count (past self.new.journal)
+            ≡ outside_count (past self.old.journal) }
+        ensures fault { (e : Entry) → past self.new.journal ≡ e ∷ past self.old.journal
+            → is_fault e.reply ≡ true
+            → Rose self.old.parts.store.faults self.new.parts.store.faults }
         ensures going { OnOk result (self.new.refused ≡ self.old.refused) }
-        ensures hears { Hears (past self.old.journal) (past self.new.journal) (is_ok result) self.old.told self.new.told }
-        ensures same { OnErr result (self.new.deaf ≡ self.old.deaf → past self.new.journal ≡ past self.old.journal) }
-        ensures parts { OnErr result (self.new.deaf ≡ self.old.deaf → IsStill self.old.parts self.new.parts) }
+        ensures hears { Hears (past self.old.journal) (past self.new.journal)
+            (is_ok result) self.old.told self.new.told }
+        ensures same { OnErr result (self.new.deaf ≡ self.old.deaf
+            → past self.new.journal ≡ past self.old.journal) }
+        ensures parts { OnErr result (self.new.deaf ≡ self.old.deaf
+            → IsStill self.old.parts self.new.parts) }
         ensures unheard { OnErr result (self.old.deaf ≡ false → self.new.deaf ≡ true
-            → Does N.script number (past self.old.journal) (past self.new.journal) self.old.sessions self.new.sessions) }
+            → Does N.script number (past self.old.journal) (past self.new.journal) self.old.sessions
+            self.new.sessions) }
         ensures deaf { self.old.deaf ≡ true → self.new ≡ self.old }
-        ensures sessions { OnErr result (AreSessions N.script (past self.new.journal) self.new.sessions) }
-        ensures others { (s : ℕ) → (number == s) ≡ false → slice_get self.new.sessions s ≡ slice_get self.old.sessions s }
+        ensures sessions { OnErr result
+            (AreSessions N.script (past self.new.journal) self.new.sessions) }
+        ensures others { (s : ℕ) → (number == s) ≡ false
+            → slice_get self.new.sessions s ≡ slice_get self.old.sessions s }
         ensures stands { OnErr result (GoesOn (past self.old.journal) (past self.new.journal)) }
-        ensures asked { OnErr result (self.old.refused ≡ false → IsAskedOnceMore N.from (past self.new.journal) self.new.parts) }
+        ensures asked { OnErr result (self.old.refused ≡ false
+            → IsAskedOnceMore N.from (past self.new.journal) self.new.parts) }
         ensures refused { OnErr result (self.new.refused ≡ true) }
     {
         if self.deaf {
@@ -230,12 +220,15 @@ impl<K: Keeper, N: Name, L: Listener> Factory<K, N, L> {
         number: SessionNo,
         steps: u32,
     ) -> Result<(), AllocError>
-        ensures played { OnOk result (Leads (play_steps N.script number steps) played (past self.old.journal) (past self.new.journal)) }
-        ensures inside { outside_count (past self.new.journal) ≡ outside_count (past self.old.journal) }
+        ensures played { OnOk result (Leads (play_steps N.script number steps) played
+            (past self.old.journal) (past self.new.journal)) }
+        ensures inside { outside_count (past self.new.journal)
+            ≡ outside_count (past self.old.journal) }
         ensures law { Obeys N.script N.from.tables (past self.new.journal) }
         ensures going { OnOk result (self.new.refused ≡ self.old.refused) }
         ensures stands { OnErr result (GoesOn (past self.old.journal) (past self.new.journal)) }
-        ensures asked { OnErr result (self.old.refused ≡ false → IsAskedOnceMore N.from (past self.new.journal) self.new.parts) }
+        ensures asked { OnErr result (self.old.refused ≡ false
+            → IsAskedOnceMore N.from (past self.new.journal) self.new.parts) }
         ensures refused { OnErr result (self.new.refused ≡ true) }
     {
         if number.0 as usize >= self.sessions() {
@@ -252,61 +245,29 @@ impl<K: Keeper, N: Name, L: Listener> Factory<K, N, L> {
         Ok(())
     }
 
-    /// Runs a session to its end. If memory runs out the steps so far stand.
-    pub fn run_session(&mut self, alloc: Global, number: SessionNo) -> Result<(), AllocError>
-        requires known { number < length N.script.sessions }
-        ensures played { OnOk result (Leads (play_all N.script number) played (past self.old.journal) (past self.new.journal)) }
-        ensures over { OnOk result (has_next N.script (past self.new.journal) number ≡ false) }
-        ensures others { OnOk result ((s : ℕ) → (number == s) ≡ false → own s (past self.new.journal) ≡ own s (past self.old.journal)) }
-        ensures stay { OnOk result ((s : ℕ) → (number == s) ≡ false → has_next N.script (past self.new.journal) s ≡ has_next N.script (past self.old.journal) s) }
-        ensures inside { outside_count (past self.new.journal) ≡ outside_count (past self.old.journal) }
-        ensures law { Obeys N.script N.from.tables (past self.new.journal) }
-        ensures going { OnOk result (self.new.refused ≡ self.old.refused) }
-        ensures stands { OnErr result (GoesOn (past self.old.journal) (past self.new.journal)) }
-        ensures asked { OnErr result (self.old.refused ≡ false → IsAskedOnceMore N.from (past self.new.journal) self.new.parts) }
-        ensures refused { OnErr result (self.new.refused ≡ true) }
-    {
-        'steps: loop {
-            match self.step(alloc, number)? {
-                Stepped::Did => {}
-                Stepped::Done => return Ok(()),
-            }
-        }
-    }
-
-    /// Runs each session to its end, the first one first. If memory runs out the steps so far stand.
-    pub fn finish(&mut self, alloc: Global) -> Result<(), AllocError>
-        ensures played { OnOk result (Leads (play_sessions N.script (range_with_len 0 (length N.script.sessions))) played (past self.old.journal) (past self.new.journal)) }
-        ensures over { OnOk result (AreOver N.script (past self.new.journal)) }
-        ensures inside { outside_count (past self.new.journal) ≡ outside_count (past self.old.journal) }
-        ensures law { Obeys N.script N.from.tables (past self.new.journal) }
-        ensures going { OnOk result (self.new.refused ≡ self.old.refused) }
-        ensures stands { OnErr result (GoesOn (past self.old.journal) (past self.new.journal)) }
-        ensures asked { OnErr result (self.old.refused ≡ false → IsAskedOnceMore N.from (past self.new.journal) self.new.parts) }
-        ensures refused { OnErr result (self.new.refused ≡ true) }
-    {
-        for number in 0..self.sessions() {
-            self.run_session(alloc, SessionNo(number as u32))?;
-        }
-        self.lawful();
-        Ok(())
-    }
-
     /// Kills a session, if it is open: no act of it is due from then on, and its locks stay until their time is over. What
     /// want of memory leaves is as after `step`.
     pub fn kill(&mut self, alloc: Global, number: SessionNo) -> Result<(), AllocError>
-        ensures played { OnOk result (Leads (play_order N.script (Order.Kill number)) played (past self.old.journal) (past self.new.journal)) }
+        ensures played { OnOk result (Leads (play_order N.script (Order.Kill number)) played
+            (past self.old.journal) (past self.new.journal)) }
         ensures closed { is_open number (past self.old.journal) ≡ false → IsOk result }
-        ensures outside { outside_count (past self.new.journal) ≤ outside_count (past self.old.journal) + 1 }
+        ensures outside { outside_count (past self.new.journal) ≤ outside_count
+            (past self.old.journal) + 1 }
         ensures law { Obeys N.script N.from.tables (past self.new.journal) }
         ensures going { OnOk result (self.new.refused ≡ self.old.refused) }
-        ensures hears { Hears (past self.old.journal) (past self.new.journal) (is_ok result) self.old.told self.new.told }
-        ensures same { OnErr result (self.new.deaf ≡ self.old.deaf → past self.new.journal ≡ past self.old.journal) }
-        ensures err { OnErr result (self.new.deaf ≡ self.old.deaf → self.new ≡ record self.old { journal = self.new.journal; refused = true }) }
-        ensures unheard { OnErr result (self.old.deaf ≡ false → self.new.deaf ≡ true → Leads (play_order N.script (Order.Kill number)) played (past self.old.journal) (past self.new.journal)) }
+        ensures hears { Hears (past self.old.journal) (past self.new.journal)
+            (is_ok result) self.old.told self.new.told }
+        ensures same { OnErr result (self.new.deaf ≡ self.old.deaf
+            → past self.new.journal ≡ past self.old.journal) }
+        ensures err { OnErr result (self.new.deaf ≡ self.old.deaf
+            → self.new ≡ record self.old { journal = self.new.journal; refused = true }) }
+        ensures unheard { OnErr result (self.old.deaf ≡ false → self.new.deaf ≡ true
+            → Leads (play_order N.script (Order.Kill number)) played (past self.old.journal)
+            (past self.new.journal)) }
         ensures deaf { self.old.deaf ≡ true → self.new ≡ self.old }
         ensures stands { OnErr result (GoesOn (past self.old.journal) (past self.new.journal)) }
-        ensures asked { OnErr result (self.old.refused ≡ false → IsAskedOnceMore N.from (past self.new.journal) self.new.parts) }
+        ensures asked { OnErr result (self.old.refused ≡ false
+            → IsAskedOnceMore N.from (past self.new.journal) self.new.parts) }
         ensures refused { OnErr result (self.new.refused ≡ true) }
     {
         if self.deaf {
@@ -327,17 +288,25 @@ impl<K: Keeper, N: Name, L: Listener> Factory<K, N, L> {
     /// Evicts a row of a cached entity from its region. What want of memory leaves is as after `step`.
     pub fn evict(&mut self, alloc: Global, key: Key) -> Result<(), AllocError>
         requires cached { is_cached N.script key.entity ≡ true }
-        ensures played { OnOk result (Leads (play_order N.script (Order.Evict key)) played (past self.old.journal) (past self.new.journal)) }
-        ensures outside { outside_count (past self.new.journal) ≤ outside_count (past self.old.journal) + 1 }
+        ensures played { OnOk result (Leads (play_order N.script (Order.Evict key)) played
+            (past self.old.journal) (past self.new.journal)) }
+        ensures outside { outside_count (past self.new.journal) ≤ outside_count
+            (past self.old.journal) + 1 }
         ensures law { Obeys N.script N.from.tables (past self.new.journal) }
         ensures going { OnOk result (self.new.refused ≡ self.old.refused) }
-        ensures hears { Hears (past self.old.journal) (past self.new.journal) (is_ok result) self.old.told self.new.told }
-        ensures same { OnErr result (self.new.deaf ≡ self.old.deaf → past self.new.journal ≡ past self.old.journal) }
-        ensures err { OnErr result (self.new.deaf ≡ self.old.deaf → self.new ≡ record self.old { journal = self.new.journal; refused = true }) }
-        ensures unheard { OnErr result (self.old.deaf ≡ false → self.new.deaf ≡ true → Leads (play_order N.script (Order.Evict key)) played (past self.old.journal) (past self.new.journal)) }
+        ensures hears { Hears (past self.old.journal) (past self.new.journal)
+            (is_ok result) self.old.told self.new.told }
+        ensures same { OnErr result (self.new.deaf ≡ self.old.deaf
+            → past self.new.journal ≡ past self.old.journal) }
+        ensures err { OnErr result (self.new.deaf ≡ self.old.deaf
+            → self.new ≡ record self.old { journal = self.new.journal; refused = true }) }
+        ensures unheard { OnErr result (self.old.deaf ≡ false → self.new.deaf ≡ true
+            → Leads (play_order N.script (Order.Evict key)) played (past self.old.journal)
+            (past self.new.journal)) }
         ensures deaf { self.old.deaf ≡ true → self.new ≡ self.old }
         ensures stands { OnErr result (GoesOn (past self.old.journal) (past self.new.journal)) }
-        ensures asked { OnErr result (self.old.refused ≡ false → IsAskedOnceMore N.from (past self.new.journal) self.new.parts) }
+        ensures asked { OnErr result (self.old.refused ≡ false
+            → IsAskedOnceMore N.from (past self.new.journal) self.new.parts) }
         ensures refused { OnErr result (self.new.refused ≡ true) }
     {
         if self.deaf {
@@ -356,17 +325,25 @@ impl<K: Keeper, N: Name, L: Listener> Factory<K, N, L> {
     /// A restart: the sessions that are open are killed, and nothing is cached, locked, stamped or kept any more. What want of
     /// memory leaves is as after `step`.
     pub fn restart(&mut self, alloc: Global) -> Result<(), AllocError>
-        ensures played { OnOk result (Leads (play_order N.script Order.Restart) played (past self.old.journal) (past self.new.journal)) }
-        ensures outside { outside_count (past self.new.journal) ≤ outside_count (past self.old.journal) + 1 }
+        ensures played { OnOk result (Leads (play_order N.script Order.Restart) played
+            (past self.old.journal) (past self.new.journal)) }
+        ensures outside { outside_count (past self.new.journal) ≤ outside_count
+            (past self.old.journal) + 1 }
         ensures law { Obeys N.script N.from.tables (past self.new.journal) }
         ensures going { OnOk result (self.new.refused ≡ self.old.refused) }
-        ensures hears { Hears (past self.old.journal) (past self.new.journal) (is_ok result) self.old.told self.new.told }
-        ensures same { OnErr result (self.new.deaf ≡ self.old.deaf → past self.new.journal ≡ past self.old.journal) }
-        ensures err { OnErr result (self.new.deaf ≡ self.old.deaf → self.new ≡ record self.old { journal = self.new.journal; refused = true }) }
-        ensures unheard { OnErr result (self.old.deaf ≡ false → self.new.deaf ≡ true → Leads (play_order N.script Order.Restart) played (past self.old.journal) (past self.new.journal)) }
+        ensures hears { Hears (past self.old.journal) (past self.new.journal)
+            (is_ok result) self.old.told self.new.told }
+        ensures same { OnErr result (self.new.deaf ≡ self.old.deaf
+            → past self.new.journal ≡ past self.old.journal) }
+        ensures err { OnErr result (self.new.deaf ≡ self.old.deaf
+            → self.new ≡ record self.old { journal = self.new.journal; refused = true }) }
+        ensures unheard { OnErr result (self.old.deaf ≡ false → self.new.deaf ≡ true
+            → Leads (play_order N.script Order.Restart) played (past self.old.journal)
+            (past self.new.journal)) }
         ensures deaf { self.old.deaf ≡ true → self.new ≡ self.old }
         ensures stands { OnErr result (GoesOn (past self.old.journal) (past self.new.journal)) }
-        ensures asked { OnErr result (self.old.refused ≡ false → IsAskedOnceMore N.from (past self.new.journal) self.new.parts) }
+        ensures asked { OnErr result (self.old.refused ≡ false
+            → IsAskedOnceMore N.from (past self.new.journal) self.new.parts) }
         ensures refused { OnErr result (self.new.refused ≡ true) }
     {
         if self.deaf {
@@ -385,13 +362,16 @@ impl<K: Keeper, N: Name, L: Listener> Factory<K, N, L> {
     /// Carries an order of the schedule out.
     fn obey(&mut self, alloc: Global, order: Order) -> Result<(), AllocError>
         requires sound { IsSound N.script order }
-        ensures played { OnOk result (Leads (play_order N.script order) played (past self.old.journal) (past self.new.journal)) }
-        ensures outside { outside_count (past self.new.journal) ≤ outside_count (past self.old.journal) + 1 }
+        ensures played { OnOk result (Leads (play_order N.script order) played
+            (past self.old.journal) (past self.new.journal)) }
+        ensures outside { outside_count (past self.new.journal) ≤ outside_count
+            (past self.old.journal) + 1 }
         ensures law { Obeys N.script N.from.tables (past self.new.journal) }
         ensures going { OnOk result (self.new.refused ≡ self.old.refused) }
         ensures stands { OnErr result (GoesOn (past self.old.journal) (past self.new.journal)) }
         ensures named { AreNamed (past self.old.journal) (past self.new.journal) }
-        ensures asked { OnErr result (self.old.refused ≡ false → IsAskedOnceMore N.from (past self.new.journal) self.new.parts) }
+        ensures asked { OnErr result (self.old.refused ≡ false
+            → IsAskedOnceMore N.from (past self.new.journal) self.new.parts) }
         ensures refused { OnErr result (self.new.refused ≡ true) }
     {
         let _ = &self.deaf;
@@ -405,13 +385,16 @@ impl<K: Keeper, N: Name, L: Listener> Factory<K, N, L> {
 
     /// Carries the orders of the schedule out, one after the other.
     fn follow_schedule(&mut self, alloc: Global) -> Result<(), AllocError>
-        ensures played { OnOk result (Leads (play_orders N.script N.script.schedule) played (past self.old.journal) (past self.new.journal)) }
-        ensures outside { outside_count (past self.new.journal) ≤ outside_count (past self.old.journal) + length N.script.schedule }
+        ensures played { OnOk result (Leads (play_orders N.script N.script.schedule) played
+            (past self.old.journal) (past self.new.journal)) }
+        ensures outside { outside_count (past self.new.journal) ≤ outside_count
+            (past self.old.journal) + length N.script.schedule }
         ensures law { OnErr result (Obeys N.script N.from.tables (past self.new.journal)) }
         ensures going { OnOk result (self.new.refused ≡ self.old.refused) }
         ensures stands { OnErr result (GoesOn (past self.old.journal) (past self.new.journal)) }
         ensures named { AreNamed (past self.old.journal) (past self.new.journal) }
-        ensures asked { OnErr result (self.old.refused ≡ false → IsAskedOnceMore N.from (past self.new.journal) self.new.parts) }
+        ensures asked { OnErr result (self.old.refused ≡ false
+            → IsAskedOnceMore N.from (past self.new.journal) self.new.parts) }
         ensures refused { OnErr result (self.new.refused ≡ true) }
     {
         for at in 0..self.orders() {
@@ -425,15 +408,19 @@ impl<K: Keeper, N: Name, L: Listener> Factory<K, N, L> {
     /// first. If memory runs out it stops there, and the steps so far stand. If memory ran out in no call before, the keeper was
     /// asked once more than the journal says at most. What it evicts has an identifier.
     pub fn play(&mut self, alloc: Global) -> Result<(), AllocError>
-        ensures played { OnOk result (past self.old.journal ≡ [] → is_played N.script (past self.new.journal) ≡ true) }
-        ensures leads { OnOk result (Leads (play_script N.script) played (past self.old.journal) (past self.new.journal)) }
+        ensures played { OnOk result (past self.old.journal ≡ []
+            → is_played N.script (past self.new.journal) ≡ true) }
+        ensures leads { OnOk result (Leads (play_script N.script) played (past self.old.journal)
+            (past self.new.journal)) }
         ensures over { OnOk result (AreOver N.script (past self.new.journal)) }
-        ensures outside { outside_count (past self.new.journal) ≤ outside_count (past self.old.journal) + length N.script.schedule }
+        ensures outside { outside_count (past self.new.journal) ≤ outside_count
+            (past self.old.journal) + length N.script.schedule }
         ensures law { Obeys N.script N.from.tables (past self.new.journal) }
         ensures going { OnOk result (self.new.refused ≡ self.old.refused) }
         ensures stands { OnErr result (GoesOn (past self.old.journal) (past self.new.journal)) }
         ensures named { AreNamed (past self.old.journal) (past self.new.journal) }
-        ensures asked { OnErr result (self.old.refused ≡ false → IsAskedOnceMore N.from (past self.new.journal) self.new.parts) }
+        ensures asked { OnErr result (self.old.refused ≡ false
+            → IsAskedOnceMore N.from (past self.new.journal) self.new.parts) }
         ensures refused { OnErr result (self.new.refused ≡ true) }
     {
         self.follow_schedule(alloc)?;
@@ -446,13 +433,16 @@ impl<K: Keeper, N: Name, L: Listener> Factory<K, N, L> {
         ensures journal { result.2 ≡ self.journal }
         ensures legal { IsLegal N.script N.from.tables (past result.2) }
         ensures law { Obeys N.script N.from.tables (past result.2) }
-        ensures short { length (past result.2) ≤ most_in N.script.sessions + outside_count (past result.2) }
+        ensures short { length (past result.2) ≤ most_in N.script.sessions
+            + outside_count (past result.2) }
         ensures numbered { IsNumbered (past result.2) }
         ensures rows { K.tables result.0 ≡ told_committed N.from.tables (past result.2) }
         ensures faults { RoseBy N.from.faults (fault_count (past result.2)) (K.faults result.0) }
         ensures count { K.asked result.0 ≡ self.parts.store.asked }
-        ensures asked { self.refused ≡ false → RoseWithin N.from.asked (ask_count (past result.2)) (K.asked result.0) }
-        ensures heard { HaveHeard self.deaf result.2.list N.told (tells L.heard L.left result.3.items) }
+        ensures asked { self.refused ≡ false
+            → RoseWithin N.from.asked (ask_count (past result.2)) (K.asked result.0) }
+        ensures heard { HaveHeard self.deaf result.2.list N.told
+            (tells L.heard L.left result.3.items) }
         ensures deaf { self.refused ≡ false → self.deaf ≡ false }
     {
         let Factory {

@@ -7,12 +7,15 @@ mod names;
 mod opening;
 mod outside;
 mod parts;
+mod running;
 mod steps;
+mod telling;
 mod turns;
 
 pub use bounds::runs_are_short;
-pub use factory::{Factory, OpenRefused};
+pub use factory::Factory;
 pub use names::Name;
+pub use opening::OpenRefused;
 pub use parts::Parts;
 pub use steps::Core;
 pub use turns::Stepped;

@@ -20,8 +20,10 @@ ghost use Rattle.std.specs.Prelude.{◌≡◌, ◌≤◌, ◌^◌, Some, length,
 /// Over rows that fit a valid script's mapping, each entry of a legal journal is well formed, if the ticks are early enough
 /// that a timeout can be added to each, and what is evicted from outside has an identifier.
 pub fn entries_are_formed()
-    ensures formed { (script : Script) (start : Tables) (h : Journal) → is_valid script ≡ true → AreFit script start →
-        length h ≤ 2 ^ 61 → AreEarly h → name_identifiers h ≡ true → IsLegal script (Some start) h → AreEntries script (reverse h) }
+    ensures formed { (script : Script) (start : Tables) (h : Journal)
+        → is_valid script ≡ true → AreFit script start → length h ≤ 2 ^ 61 → AreEarly h
+        → name_identifiers h ≡ true → IsLegal script (Some start) h
+        → AreEntries script (reverse h) }
 {}
 
 /// If the k-th entry has tick k, the ticks are early.
@@ -31,6 +33,7 @@ pub fn ticks_are_early()
 
 /// If the rows that a keeper kept, widened, fit a valid script's mapping, so do those at the start: they and the script's.
 pub fn starts_fit()
-    ensures start { (script : Script) (kept : Tables) → is_valid script ≡ true → AreFit script (widened script.mapping kept) →
-        AreFit script (start_with script.mapping kept script.rows) }
+    ensures start { (script : Script) (kept : Tables) → is_valid script ≡ true
+        → AreFit script (widened script.mapping kept)
+        → AreFit script (start_with script.mapping kept script.rows) }
 {}

@@ -24,72 +24,86 @@ ghost use Rattle.std.specs.Prelude.{◌≡◌, ℕ, IfSome, Option, Some, true};
 
 /// Each session's entries are the acts of its plan, each once and in order, whether the rows at the start are told or not.
 pub fn steps_are_in_order()
-    ensures steps { (script : Script) (told : Option Tables) (s : ℕ) (h : Journal) → IsLegal script told h → InOrder (plan_of script s) (own s h) }
+    ensures steps { (script : Script) (told : Option Tables) (s : ℕ) (h : Journal)
+        → IsLegal script told h → InOrder (plan_of script s) (own s h) }
 {}
 
 /// At every entry, of a read-write key that is sound there: the cached item is the committed row, and a hit answers it to a
 /// session that has no change on the key.
 pub fn rows_cohere()
-    ensures rows { (script : Script) (start : Tables) (k : Key) → strategy script k.entity ≡ Strategy.ReadWrite →
-        (h : Journal) → IsLegal script (Some start) h → IsKeyCoherent script start k h }
+    ensures rows { (script : Script) (start : Tables) (k : Key)
+        → strategy script k.entity ≡ Strategy.ReadWrite → (h : Journal)
+        → IsLegal script (Some start) h → IsKeyCoherent script start k h }
 {}
 
 /// At every entry, of any key: a hit answers a row that was committed since the restart, a load what the session has written,
 /// else the committed row, and a find of what the session holds just that.
 pub fn finds_are_answered()
-    ensures finds { (script : Script) (start : Tables) (h : Journal) → IsLegal script (Some start) h → AtEachEntry (IsFindAnswered start) h }
+    ensures finds { (script : Script) (start : Tables) (h : Journal)
+        → IsLegal script (Some start) h → AtEachEntry (IsFindAnswered start) h }
 {}
 
 /// A list from the cache is what its query gave over the committed rows at a moment since which only commits that are not
 /// stamped yet have changed its tables.
 pub fn hits_are_true()
-    ensures hits { (script : Script) (start : Tables) (h : Journal) → IsLegal script (Some start) h → AreHitsTrue script start h }
+    ensures hits { (script : Script) (start : Tables) (h : Journal)
+        → IsLegal script (Some start) h → AreHitsTrue script start h }
 {}
 
 /// Of a valid script, each list from the cache is what its query gave over the committed rows at the moment of the hit.
 pub fn lists_are_given()
-    ensures lists { (script : Script) (told : Option Tables) (h : Journal) → is_valid script ≡ true → IsLegal script told h →
-        IfSome told (λ start. AreListsGiven script start h) }
+    ensures lists { (script : Script) (told : Option Tables) (h : Journal)
+        → is_valid script ≡ true → IsLegal script told h
+        → IfSome told (λ start. AreListsGiven script start h) }
 {}
 
 /// Each refusal of the cache has its cause in the journal before it, with its number.
 pub fn misses_have_causes()
-    ensures misses { (script : Script) (start : Tables) (h : Journal) → IsLegal script (Some start) h → AtEachEntry (HasCause script) h }
+    ensures misses { (script : Script) (start : Tables) (h : Journal)
+        → IsLegal script (Some start) h → AtEachEntry (HasCause script) h }
 {}
 
 /// At every entry the item of any key of any region is a row that was committed since the restart.
 pub fn items_were_committed()
-    ensures items { (script : Script) (start : Tables) (k : Key) (h : Journal) → IsLegal script (Some start) h → AtEachPrefix (IsItemOld script start k) h }
+    ensures items { (script : Script) (start : Tables) (k : Key) (h : Journal)
+        → IsLegal script (Some start) h → AtEachPrefix (IsItemOld script start k) h }
 {}
 
 /// At every entry the item of a key of a read-only region is the row that the rows at the start or a committed insert gave it.
 pub fn read_only_items_were_given()
-    ensures given { (script : Script) (start : Tables) (k : Key) → strategy script k.entity ≡ Strategy.ReadOnly →
-        (h : Journal) → IsLegal script (Some start) h → AtEachPrefix (IsItemGiven start k) h }
+    ensures given { (script : Script) (start : Tables) (k : Key)
+        → strategy script k.entity ≡ Strategy.ReadOnly
+        → (h : Journal) → IsLegal script (Some start) h → AtEachPrefix (IsItemGiven start k) h }
 {}
 
 /// At every entry at which a read-write key is sound, its lock counts the sessions that hold it, each of which knows its id;
 /// and a session that gives back its lock is not refused.
 pub fn locks_are_kept()
-    ensures locks { (script : Script) (start : Tables) (k : Key) → strategy script k.entity ≡ Strategy.ReadWrite →
-        (h : Journal) → IsLegal script (Some start) h → AreLocksKept script k h }
+    ensures locks { (script : Script) (start : Tables) (k : Key)
+        → strategy script k.entity ≡ Strategy.ReadWrite
+        → (h : Journal) → IsLegal script (Some start) h → AreLocksKept script k h }
 {}
 
 /// At every entry, of a read-write key that is sound there: what an open session has seen of it is committed still, or the key's
 /// slot will refuse a put of it. The claims on rows follow from this.
 pub fn seen_rows_are_safe()
-    ensures safe { (script : Script) (start : Tables) (k : Key) → strategy script k.entity ≡ Strategy.ReadWrite →
-        (h : Journal) → IsLegal script (Some start) h → AtEachPrefix (AreSeenSafe script start k) h }
+    ensures safe { (script : Script) (start : Tables) (k : Key)
+        → strategy script k.entity ≡ Strategy.ReadWrite
+        → (h : Journal) → IsLegal script (Some start) h
+        → AtEachPrefix (AreSeenSafe script start k) h }
 {}
 
 /// At every entry the floor of an open session is no later than the time of any open session.
 pub fn floors_are_low()
-    ensures floors { (script : Script) (start : Tables) (h : Journal) → IsLegal script (Some start) h → AtEachPrefix AreFloorsLow h }
+    ensures floors { (script : Script) (start : Tables) (h : Journal)
+        → IsLegal script (Some start) h → AtEachPrefix AreFloorsLow h }
 {}
 
 /// The whole law: all of the above, of every legal journal over told rows. If the rows at the start aren't told, the order
 /// of the acts alone.
 pub fn law()
-    ensures law { (script : Script) (start : Tables) (h : Journal) → IsLegal script (Some start) h → Coheres script start h }
-    ensures obeyed { (script : Script) (told : Option Tables) (h : Journal) → IsLegal script told h → Obeys script told h }
+    ensures law { (script : Script) (start : Tables) (h : Journal)
+        → IsLegal script (Some start) h → Coheres script start h }
+    ensures obeyed { (script : Script) (told : Option Tables) (h : Journal)
+        → IsLegal script told h → Obeys script told h }
 {}

@@ -4,10 +4,11 @@ use Rattle.std.proofs.lemmas.Bool.{true≢false, false≢true}
 use Rattle.hib_base.specs.Tables.{Tables}
 use Rattle.hib_journal.specs.Types.{Script, Act, Reply, Part}
 use Rattle.hib_journal.specs.Sessions.{Journal}
-use Rattle.hib_journal.specs.Legal.{part_of, is_outside}
+use Rattle.hib_journal.specs.Legal.{part_of}
 use Rattle.hib_journal.specs.Lists.{entry_at, IsLate}
 use Rattle.hib_session.specs.Memory.{brings}
 use Rattle.hib_session.specs.Session.{own_reply}
+use Rattle.hib_session.proofs.OwnReplies.{begins_only}
 use Rattle.hib_engines.specs.Registry.{Opened, IsRegistry}
 use Rattle.hib_engines.specs.Served.{is_for, IsServed}
 use Rattle.hib_parts.specs.Listed.{WorkerState, IsPartList, IsDueAct, IsDueOn, IsLater}
@@ -19,22 +20,12 @@ use Rattle.hib_parts.proofs.Steps.{IsStep, act_same, fits, for_part, part_on}
 none_some : (r : Reply) → ◌≡◌ {A = Option Reply} None (Some r) → ⊥
 none_some r e = cc
 
-some_none : (r : Reply) → ◌≡◌ {A = Option Reply} (Some r) None → ⊥
-some_none r e = cc
-
 ends_only : (script : Script) (m : Journal) (a : Act) (s : ℕ) (r : Reply) → is_for Part.Registry a s ≡ true → own_reply script m a ≡ Some r → a ≡ Act.End
 ends_only script m Act.Begin s r p o = absurd (none_some r o)
 ends_only script m Act.End s r p o = refl
 ends_only script m (Act.Kill n) s r p o = absurd (none_some r o)
 ends_only script m Act.Restart s r p o = absurd (none_some r o)
 ends_only script m _ s r p o = absurd (false≢true p)
-
-begins_only : (script : Script) (m : Journal) (a : Act) (s : ℕ) → is_for Part.Registry a s ≡ true → own_reply script m a ≡ None → is_outside a ≡ false → a ≡ Act.Begin
-begins_only script m Act.Begin s p o i = refl
-begins_only script m Act.End s p o i = absurd (some_none _ o)
-begins_only script m (Act.Kill n) s p o i = absurd (true≢false i)
-begins_only script m Act.Restart s p o i = absurd (true≢false i)
-begins_only script m _ s p o i = absurd (false≢true p)
 
 pub end_due : (script : Script) (w : WorkerState) (a : Act) (r : Reply) → IsDueOn script Part.Registry w → IsDueAct script w a → own_reply script w.list a ≡ Some r → IsDueAct script w Act.End
 end_due script w a r on d o = subst (λ b. IsDueAct script w b) (ends_only script w.list a w.number r (for_part Part.Registry a w.number (part_on script Part.Registry w a on d)) o) d

@@ -1,50 +1,16 @@
 -- What of a factory may go from thread to thread: all of it, as its keeper, its name and its listeners may. A search that goes
 -- down through the whole runs out of steps, so it stands here part by part.
-use denote.Enum.Declared as E
 use denote.RattleType.{RattleType}
-use denote.Param.Send.{IsSend, IsSync, enum_send, sendable}
+use denote.Param.Send.{IsSend, IsSync, sendable}
 use Rattle.std.proofs.Crossing.{crosses}
-use Rattle.std.proofs.MapsCrossing.{crosses as maps}
-use Rattle.lru.proofs.list.List.TheSendSync.{the_send as nodes_send}
-use Rattle.lru.proofs.entry.Deed.TheSendSync.{the_send as deed_send}
-use Rattle.lru.proofs.key_ref.KeyRef.TheSendSync.{the_send as key_ref_send}
-use Rattle.hib_base.specs.contracts.numbers.Key as KeyT
-use Rattle.hib_base.specs.contracts.seq.Seq as SeqT
-use Rattle.hib_base.specs.contracts.rows.Cell as CellT
-use Rattle.hib_base.specs.contracts.rows.Row as RowT
-use Rattle.hib_base.specs.contracts.rows.Change as ChangeT
-use Rattle.hib_base.specs.contracts.entries.Act as ActT
-use Rattle.hib_base.specs.contracts.replies.Reply as ReplyT
-use Rattle.hib_base.specs.contracts.entries.Entry as EntryT
+use Rattle.hib_core.proofs.Crossing.{cell_send, row_send, journal_send, session_send, registry_send, stamps_send, results_send, region_send, engine_send}
 use Rattle.hib_base.specs.contracts.scripts.ColumnDef as ColumnT
 use Rattle.hib_base.specs.contracts.scripts.EntityDef as EntityT
 use Rattle.hib_base.specs.contracts.scripts.Query as QueryT
 use Rattle.hib_base.specs.contracts.scripts.Statement as StatementT
 use Rattle.hib_base.specs.contracts.scripts.SessionDef as SessionDefT
 use Rattle.hib_base.specs.contracts.scripts.Script as ScriptT
-use Rattle.hib_base.specs.contracts.instances.Held as HeldT
-use Rattle.hib_journal.specs.contracts.journal.Journal as JournalT
-use Rattle.hib_identity_map.specs.contracts.identity.IdentityMap as IdentityT
-use Rattle.hib_session.specs.contracts.control.Control as ControlT
-use Rattle.hib_session.specs.contracts.memory.Memory as MemoryT
-use Rattle.hib_session.specs.contracts.written.Written as WrittenT
-use Rattle.hib_session.specs.contracts.ahead.Ending as EndingT
-use Rattle.hib_session.specs.contracts.session.Session as SessionT
-use Rattle.hib_engines.specs.contracts.registry.Registry as RegistryT
-use Rattle.hib_engines.specs.contracts.stamps.StampsEngine as StampsT
-use Rattle.hib_query_cache.specs.contracts.results.Results as ResultsT
 use Rattle.hib_engines.specs.contracts.results.ResultsEngine as KeptT
-use Rattle.hib_soft_lock.specs.contracts.slot.Slot as SlotT
-use Rattle.hib_other_regions.specs.contracts.items.Items as ItemsT
-use Rattle.hib_other_regions.specs.contracts.read_only.ReadOnlyRegion as ReadOnlyT
-use Rattle.hib_other_regions.specs.contracts.nonstrict.NonstrictRegion as NonstrictT
-use Rattle.hib_rw_region.specs.contracts.region.RwRegion as ReadWriteT
-use Rattle.hib_engines.specs.contracts.region.Region as RegionT
-use Rattle.hib_query_eval.specs.contracts.places.Value as ValueT
-use Rattle.hib_query_eval.specs.contracts.places.Place as PlaceT
-use Rattle.hib_query_eval.specs.contracts.index.Index as IndexT
-use Rattle.hib_store.specs.contracts.store.Store as StoreT
-use Rattle.hib_engines.specs.contracts.store.StoreEngine as StoreEngineT
 use Rattle.hib_core.specs.contracts.parts.Parts as PartsT
 use Rattle.hib_core.specs.contracts.steps.Core as CoreT
 use Rattle.hib_core.specs.contracts.factory.Factory as FactoryT
@@ -55,34 +21,6 @@ use Rattle.hib_outside.specs.declared.keeper.Keeper as keeper
 use Rattle.hib_outside.specs.declared.listener.Listener as listener
 use Rattle.hib_core.specs.declared.names.Name as name
 use Rattle.hib_workers.specs.declared.desk.Handed as handed
-
-seq_send : (T : RattleType) → IsSend T → IsSend (SeqT.the_field T).row
-seq_send T s = search (sendable, crosses) depth 100 fits 100000
-
-key_send : IsSend KeyT.the_field.row
-key_send = search (sendable, crosses) depth 100 fits 100000
-
-cell_send : IsSend CellT.the_field.row
-cell_send = search (sendable, crosses) depth 100 fits 100000
-
-row_send : IsSend RowT.the_field.row
-row_send = search (sendable, crosses, cell_send) depth 100 fits 100000
-
-change_send : IsSend ChangeT.the_field.row
-change_send = search (sendable, crosses, row_send) depth 100 fits 100000
-
-ruleset parts = (sendable, crosses, seq_send, key_send, cell_send, row_send, change_send)
-
--- an act, variant by variant
-act_send : IsSend ActT.the_field.row
-act_send = enum_send (E.shape ActT.the_type)
-    (tt, (tt, ((search parts depth 40, tt), (tt, ((search parts depth 40, tt), ((search parts depth 40, (search parts depth 40, tt)), ((search parts depth 40, (search parts depth 40, tt)), ((search parts depth 40, tt), (tt, ((search parts depth 40, tt), ((search parts depth 40, tt), ((search parts depth 40, tt), (tt, (tt, ((search parts depth 40, tt), ((search parts depth 40, tt), ((search parts depth 40, (search parts depth 40, tt)), ((search parts depth 40, tt), ((search parts depth 40, (search parts depth 40, (search parts depth 40, tt))), ((search parts depth 40, (search parts depth 40, tt)), ((search parts depth 40, (search parts depth 40, (search parts depth 40, (search parts depth 40, tt)))), ((search parts depth 40, (search parts depth 40, (search parts depth 40, tt))), ((search parts depth 40, (search parts depth 40, tt)), ((search parts depth 40, (search parts depth 40, (search parts depth 40, tt))), ((search parts depth 40, (search parts depth 40, (search parts depth 40, tt))), ((search parts depth 40, tt), ((search parts depth 40, tt), tt)))))))))))))))))))))))))))
-
-reply_send : IsSend ReplyT.the_field.row
-reply_send = search (sendable, crosses, cell_send, row_send) depth 100 fits 100000
-
-entry_send : IsSend EntryT.the_field.row
-entry_send = search (sendable, crosses, act_send, reply_send) depth 100 fits 100000
 
 column_send : IsSend ColumnT.the_field.row
 column_send = search (sendable, crosses, cell_send) depth 100 fits 100000
@@ -96,80 +34,14 @@ statement_send = search (sendable, crosses, cell_send) depth 100 fits 100000
 session_def_send : IsSend SessionDefT.the_field.row
 session_def_send = search (sendable, crosses, statement_send) depth 100 fits 100000
 
-held_send : IsSend HeldT.the_field.row
-held_send = search (sendable, crosses, row_send) depth 100 fits 100000
-
-journal_send : IsSend JournalT.the_field.row
-journal_send = search (sendable, crosses, entry_send) depth 100 fits 100000
-
-identity_send : IsSend IdentityT.the_field.row
-identity_send = search (sendable, crosses, held_send) depth 100 fits 100000
-
-control_send : IsSend ControlT.the_field.row
-control_send = search (sendable, crosses, act_send) depth 100 fits 100000
-
-memory_send : IsSend MemoryT.the_field.row
-memory_send = search (sendable, crosses, identity_send, change_send) depth 100 fits 100000
-
-written_send : IsSend WrittenT.the_field.row
-written_send = search (sendable, crosses, row_send, change_send) depth 100 fits 100000
-
-ending_send : IsSend EndingT.the_field.row
-ending_send = search (sendable, crosses, act_send) depth 100 fits 100000
-
-session_send : IsSend SessionT.the_field.row
-session_send = search (sendable, crosses, control_send, memory_send, written_send, ending_send) depth 100 fits 100000
-
-registry_send : IsSend RegistryT.the_field.row
-registry_send = search (sendable, crosses, maps) depth 100 fits 100000
-
-stamps_send : IsSend StampsT.the_field.row
-stamps_send = search (sendable, crosses) depth 100 fits 100000
-
-results_send : IsSend ResultsT.the_field.row
-results_send = search (sendable, crosses, maps, nodes_send, deed_send, key_ref_send, cell_send) depth 100 fits 100000
-
 kept_send : IsSend KeptT.the_field.row
 kept_send = search (sendable, crosses, results_send) depth 100 fits 100000
-
-slot_send : IsSend SlotT.the_field.row
-slot_send = search (sendable, crosses, row_send) depth 100 fits 100000
-
-items_send : IsSend ItemsT.the_field.row
-items_send = search (sendable, crosses, row_send) depth 100 fits 100000
-
-read_only_send : IsSend ReadOnlyT.the_field.row
-read_only_send = search (sendable, crosses, items_send) depth 100 fits 100000
-
-nonstrict_send : IsSend NonstrictT.the_field.row
-nonstrict_send = search (sendable, crosses, items_send) depth 100 fits 100000
-
-read_write_send : IsSend ReadWriteT.the_field.row
-read_write_send = search (sendable, crosses, slot_send) depth 100 fits 100000
-
-region_send : IsSend RegionT.the_field.row
-region_send = search (sendable, crosses, read_only_send, nonstrict_send, read_write_send) depth 100 fits 100000
-
-value_send : IsSend ValueT.the_field.row
-value_send = search (sendable, crosses) depth 100 fits 100000
-
-place_send : IsSend PlaceT.the_field.row
-place_send = search (sendable, crosses, value_send) depth 100 fits 100000
-
-index_send : IsSend IndexT.the_field.row
-index_send = search (sendable, crosses, maps, place_send, key_send, row_send) depth 100 fits 100000
 
 script_send : IsSend QueryT.the_row → IsSend ScriptT.the_field.row
 script_send query = search (sendable, crosses, entity_send, row_send, session_def_send) depth 100 fits 100000
 
 -- a query's condition is a tree, of which this is known beforehand
 module _ (query : IsSend QueryT.the_row) (K : RattleType) (k : keeper.Ghosts K.Denot) (sk : IsSend K) where
-  store_send : IsSend (StoreT.the_field K k).row
-  store_send = search (sendable, crosses, change_send, index_send) depth 100 fits 100000
-
-  engine_send : IsSend (StoreEngineT.the_field K k).row
-  engine_send = search (sendable, crosses, store_send) depth 100 fits 100000
-
   parts_send : IsSend (PartsT.the_field K k).row
   parts_send = search (sendable, crosses, engine_send, registry_send, stamps_send, region_send, kept_send) depth 100 fits 100000
 

@@ -3,7 +3,7 @@ use Rattle.hib_journal.specs.Kept.{past}
 use Rattle.hib_listeners.specs.Told.{tells}
 use Rattle.hib_listeners.specs.Heard.{HaveHeard}
 use Rattle.hib_core.proofs.Hearing.{told_on}
-use Rattle.hib_core.proofs.factory.tell.Goals as goal
+use Rattle.hib_core.proofs.telling.tell.Goals as goal
 
 pub returns-clause-heard : goal.returns-clause-heard
 returns-clause-heard g c = λ start e h es p q heard.
