@@ -167,7 +167,7 @@ fn hears_eight(
     let keeper = MemKeeper::new(alloc, Seq::new(alloc));
     let ended = play_words(alloc, words, source, sink, keeper, several);
     let left = ended.listeners.as_slice();
-    ended.status == Status::Done && left.len() == 1 && left.iter().all(|one| heard_to(one, 8))
+    ended.status.is_done() && left.len() == 1 && left.iter().all(|one| heard_to(one, 8))
 }
 
 /// Whether of a recorder and one limited to three entries, which hear a run of eight, the recorder alone comes back, and has

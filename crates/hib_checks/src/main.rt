@@ -10,7 +10,6 @@ mod gate;
 mod listening;
 mod merging;
 mod row;
-mod splitting;
 mod stale;
 mod words;
 mod working;
@@ -74,9 +73,13 @@ fn tell_working<R: Threads + Wait + Sync>(
     tell(
         out,
         "made-on-workers",
-        working::ends_made_sessions(rt, alloc)?,
+        working::ends_made_sessions(rt, alloc, false)?,
     )?;
-    tell(out, "workers-beside", working::runs_beside(rt, alloc)?)
+    tell(
+        out,
+        "workers-beside",
+        working::runs_beside(rt, alloc, false)?,
+    )
 }
 
 /// Prints the lines of what is tried of parts under locks of their own.
@@ -88,9 +91,14 @@ fn tell_splitting<R: Threads + Wait + Sync>(
     tell(
         out,
         "made-over-parts",
-        splitting::ends_made_sessions(rt, alloc)?,
+        working::ends_made_sessions(rt, alloc, true)?,
     )?;
-    tell(out, "parts-beside", splitting::runs_beside(rt, alloc)?)
+    tell(
+        out,
+        "workers-over-parts",
+        working::runs_beside(rt, alloc, true)?,
+    )?;
+    tell(out, "parts-beside", working::uses_two_parts(rt, alloc)?)
 }
 
 /// Prints the lines of what is tried of merged lists.

@@ -1,12 +1,13 @@
 // Sessions on workers, through the top call: made scripts on several numbers of workers, and two workers that must run beside each
 // other.
+use crate::beside::{Meeting, Waiting};
 use crate::gate::Turnstile;
 use crate::words::words_of;
 use crate::world::{empty_keeper, sink_of, source_of};
 use hib_base::Act;
 use hib_journal::Journal;
 use hib_listeners::Recorder;
-use hib_outside::{Gate, MemKeeper, MemSink, MemSource};
+use hib_outside::{Gate, Keeper, MemSink, MemSource};
 use hib_top::{Ended, Status, play_words, top};
 use std::alloc::{AllocError, Global};
 use std::sync::Wait;
@@ -26,6 +27,19 @@ session b
 find Book 1
 find Book 2
 find Book 3
+commit
+end
+";
+
+/// A session that finds a row, and one that only commits.
+const READ: &str = "hib 1
+entity Book none versioned 0
+column title text
+session a
+find Book 1
+commit
+end
+session b
 commit
 end
 ";
@@ -50,7 +64,7 @@ struct Came {
 }
 
 /// How many sessions a journal has at their ends.
-pub fn ends_in(journal: &Journal) -> usize {
+fn ends_in(journal: &Journal) -> usize {
     journal
         .as_slice()
         .iter()
@@ -59,7 +73,7 @@ pub fn ends_in(journal: &Journal) -> usize {
 }
 
 /// The text of the script of a number, as `make` writes it.
-pub fn made(alloc: Global, seed: &str) -> Result<Vec<u8>, AllocError> {
+fn made(alloc: Global, seed: &str) -> Result<Vec<u8>, AllocError> {
     let words = words_of(alloc, &["make", "--seed", seed, "--text"])?;
     let mut source = source_of(alloc, b"")?;
     let mut sink = sink_of(alloc, ROOM)?;
@@ -79,10 +93,10 @@ fn ends_alone(
 }
 
 /// What came of a run with one listener.
-fn came_of(ended: &Ended<MemKeeper, Recorder>) -> Came {
+fn came_of<K>(ended: &Ended<K, Recorder>) -> Came {
     let entries = ended.journal.len();
     Came {
-        is_done: ended.status == Status::Done,
+        is_done: ended.status.is_done(),
         entries,
         ends: ends_in(&ended.journal),
         is_heard: ended
@@ -92,9 +106,12 @@ fn came_of(ended: &Ended<MemKeeper, Recorder>) -> Came {
     }
 }
 
-/// The words `work --workers N`.
-fn work_words(alloc: Global, workers: u32) -> Result<Vec<String>, AllocError> {
+/// The words `work --workers N`, with `--split` if each part is to have a lock of its own.
+fn work_words(alloc: Global, workers: u32, split: bool) -> Result<Vec<String>, AllocError> {
     let number = workers.to_string(alloc)?;
+    if split {
+        return words_of(alloc, &["work", "--workers", number.as_str(), "--split"]);
+    }
     words_of(alloc, &["work", "--workers", number.as_str()])
 }
 
@@ -105,59 +122,73 @@ fn recorder(alloc: Global) -> Result<Vec<Recorder>, AllocError> {
     Ok(listeners)
 }
 
-/// Runs a script by `work --workers N`.
-fn work<R: Threads + Wait + Sync, G: Gate>(
+/// Runs a script by these words over a keeper.
+fn work<R: Threads + Wait + Sync, K: Keeper + Drop, G: Gate>(
     rt: &R,
     alloc: Global,
     script: &[u8],
-    workers: u32,
+    words: &[String],
+    keeper: K,
     gate: &G,
 ) -> Result<Came, AllocError> {
-    let words = work_words(alloc, workers)?;
     let mut source = source_of(alloc, script)?;
     let mut sink = sink_of(alloc, ROOM)?;
     let listeners = recorder(alloc)?;
     let ended = top(
         rt,
         alloc,
-        words.as_slice(),
+        words,
         &mut source,
         &mut sink,
-        empty_keeper(alloc),
+        keeper,
         gate,
         listeners,
     );
     Ok(came_of(&ended))
 }
 
-/// Whether a script of so many sessions comes to its end on some workers, who make all steps: each session passes the gate before each
-/// of its steps, and once more before it has none.
+/// How often the sessions of a run pass the gate: before each step, and once more before there is none. With one worker and `--split`
+/// the gate isn't asked.
+fn passes(came: &Came, sessions: usize, workers: u32, split: bool) -> usize {
+    if split && workers == 1 {
+        return 0;
+    }
+    came.entries.saturating_add(sessions)
+}
+
+/// Whether a script of so many sessions comes to its end on some workers, who make all steps.
 fn is_right<R: Threads + Wait + Sync>(
     rt: &R,
     alloc: Global,
     script: &[u8],
     sessions: usize,
     workers: u32,
+    split: bool,
     gate: &Turnstile,
 ) -> Result<bool, AllocError> {
-    let came = work(rt, alloc, script, workers, gate)?;
-    Ok(
-        came.is_done
-            && came.is_heard
-            && came.ends == sessions
-            && gate.was_passed(came.entries.saturating_add(sessions)),
-    )
+    let words = work_words(alloc, workers, split)?;
+    let came = work(
+        rt,
+        alloc,
+        script,
+        words.as_slice(),
+        empty_keeper(alloc),
+        gate,
+    )?;
+    let passed = passes(&came, sessions, workers, split);
+    Ok(came.is_done && came.is_heard && came.ends == sessions && gate.was_passed(passed))
 }
 
 /// Whether the script of 7 comes to its end on each of several numbers of workers.
 pub fn ends_made_sessions<R: Threads + Wait + Sync>(
     rt: &R,
     alloc: Global,
+    split: bool,
 ) -> Result<bool, AllocError> {
     let script = made(alloc, "7")?;
     for workers in [1u32, 2, 4, 16, 64] {
         let gate = Turnstile::new(false);
-        if !is_right(rt, alloc, &script, MADE, workers, &gate)? {
+        if !is_right(rt, alloc, &script, MADE, workers, split, &gate)? {
             return Ok(false);
         }
     }
@@ -165,16 +196,36 @@ pub fn ends_made_sessions<R: Threads + Wait + Sync>(
 }
 
 /// Whether two workers run two sessions beside each other.
-pub fn runs_beside<R: Threads + Wait + Sync>(rt: &R, alloc: Global) -> Result<bool, AllocError> {
+pub fn runs_beside<R: Threads + Wait + Sync>(
+    rt: &R,
+    alloc: Global,
+    split: bool,
+) -> Result<bool, AllocError> {
     let gate = Turnstile::new(true);
-    Ok(is_right(rt, alloc, TWO.as_bytes(), 2, 2, &gate)? && gate.has_held())
+    Ok(is_right(rt, alloc, TWO.as_bytes(), 2, 2, split, &gate)? && gate.has_held())
+}
+
+/// Whether a session begins while another one waits for the store's answer: so no lock is round all parts.
+pub fn uses_two_parts<R: Threads + Wait + Sync>(rt: &R, alloc: Global) -> Result<bool, AllocError> {
+    let meeting = Meeting::new();
+    let words = work_words(alloc, 2, true)?;
+    let keeper = Waiting::new(&meeting);
+    let came = work(
+        rt,
+        alloc,
+        READ.as_bytes(),
+        words.as_slice(),
+        keeper,
+        &meeting,
+    )?;
+    Ok(came.is_done && came.ends == 2 && meeting.came())
 }
 
 /// Whether `work` has no form for the call that takes no lock.
 pub fn has_no_form_alone(alloc: Global) -> Result<bool, AllocError> {
-    let words = work_words(alloc, 2)?;
+    let words = work_words(alloc, 2, false)?;
     let mut source = source_of(alloc, b"")?;
     let mut sink = sink_of(alloc, 64)?;
     let status = ends_alone(alloc, words.as_slice(), &mut source, &mut sink);
-    Ok(status == Status::Usage && sink.bytes().is_empty())
+    Ok(matches!(status, Status::Usage) && sink.bytes().is_empty())
 }

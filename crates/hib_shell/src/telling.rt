@@ -33,7 +33,7 @@ fn print_text(rt: &impl Print, text: &str) -> Status
 pub fn told(rt: &impl Eprint, alloc: Global, status: Status) -> ExitCode
     ensures { exit_status result ≡ exit_number status }
 {
-    if status != Status::Done {
+    if !status.is_done() {
         if let Ok(line) = status_line(alloc, &status) {
             if let Ok(text) = String::from_utf8_lossy(alloc, line.as_slice()) {
                 let _ = eprint!(rt; "{text}");

@@ -4,3 +4,4 @@ pub mod Captured
 pub mod Crossing
 pub mod Shared
 pub mod Whole
+pub mod Failed

@@ -5,7 +5,7 @@ ghost use Rattle.hib_base.specs.declared.entries.Part.{Part};
 ghost use Rattle.hib_journal.specs.Kept.{past};
 ghost use Rattle.hib_journal.specs.Lists.{of_part};
 ghost use Rattle.hib_journal.specs.Next.{is_cached, next};
-ghost use Rattle.hib_engines.specs.Counts.{RoseWithin};
+ghost use Rattle.hib_engines.specs.Counts.{RoseBy, RoseWithin};
 ghost use Rattle.hib_split_law.specs.Apart.{store_ask_count};
 ghost use Rattle.hib_split_law.specs.Merged.{AreOwnLegal, list_of, of_part_in};
 ghost use Rattle.hib_parts.specs.Run.{GoesOn, part_lists};
@@ -213,6 +213,7 @@ pub fn go_on<K: Keeper, N: Name>(
 }
 
 /// The keeper, and no list: a lock gave another region than the one that was asked for.
+#[tactic(auto, using(crate::proofs::Failed::none_fewer))]
 pub fn stop<K: Keeper, N: Name>(
     alloc: Global,
     parts: Parts<K, N>,
@@ -223,6 +224,7 @@ pub fn stop<K: Keeper, N: Name>(
         (map past result.mine) }
     ensures own { (s : ℕ) → of_part_in (Part.Own s) (map past result.lists)
         ≡ of_part (Part.Own s) (list_of s (map past result.mine)) }
+    ensures failed { RoseBy N.from.faults 0 (K.faults result.keeper) }
     ensures strange { IfSome result.strange (λ p. p.0 ≢ p.1) }
     ensures stopped { IsSome result.strange }
 {

@@ -5,7 +5,7 @@ ghost use Rattle.hib_base.specs.declared.entries.Part.{Part};
 ghost use Rattle.hib_journal.specs.Kept.{past};
 ghost use Rattle.hib_journal.specs.Lists.{of_part};
 ghost use Rattle.hib_journal.specs.Next.{is_cached};
-ghost use Rattle.hib_engines.specs.Counts.{RoseWithin};
+ghost use Rattle.hib_engines.specs.Counts.{RoseBy, RoseWithin};
 ghost use Rattle.hib_split_law.specs.Apart.{store_ask_count};
 ghost use Rattle.hib_split_law.specs.Merged.{list_of, of_part_in};
 ghost use Rattle.hib_split.specs.Alone.{AreAtEnds, AreListed, AreWhole, IsToldBy};
@@ -31,6 +31,7 @@ use std::thread::Threads;
 /// What stands behind a lock is known by its type alone, so the region that a lock gave is compared with the one that was asked for.
 /// If they differ, `strange` says so, the rest isn't run, and there are no lists. If memory runs out, or no tick is left, the
 /// steps so far stand. It may wait for other threads.
+#[tactic(auto, using(crate::proofs::Failed::told_fewer))]
 pub fn work_split<R: Threads + Wait + Sync, K: Keeper, N: Name + Send + Sync, G: Gate>(
     rt: &R,
     alloc: Global,
@@ -57,6 +58,7 @@ pub fn work_split<R: Threads + Wait + Sync, K: Keeper, N: Name + Send + Sync, G:
     ensures own { result.out_of_memory ≡ false → (s : ℕ)
         → of_part_in (Part.Own s) (map past result.lists)
         ≡ of_part (Part.Own s) (list_of s (map past result.mine)) }
+    ensures failed { RoseBy N.from.faults 0 (K.faults result.keeper) }
     ensures strange { IfSome result.strange (λ p. p.0 ≢ p.1) }
     ensures whole { workers ≡ 1 → result.out_of_memory ≡ false → parts.registry ≡ []
         → parts.stamps ≡ [] → parts.results ≡ [] → All (λ r. r.list ≡ []) parts.regions.items

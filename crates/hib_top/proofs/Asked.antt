@@ -16,7 +16,7 @@ abbrev IsFew : ℕ → Type 0
 IsFew n = (1 ≤ n) × (n ≤ 64)
 
 abbrev AskedFew : Asked → Type 0
-AskedFew (work n s) = IsFew n
+AskedFew (work n split s) = IsFew n
 AskedFew _ = ⊤
 
 then_all : {A B : Type 0} (o : Option A) (f : A → Option B) (P : B → Type 0) → ((a : A) → IfSome (f a) P) → IfSome (option_and_then f o) P
@@ -48,9 +48,9 @@ number_few text = of_text text (is_numeral text)
 
 asked_few : (verb : Verb) (chosen : Chosen) → IfSome (asked verb chosen) AskedFew
 asked_few Play chosen = map_all (settings_in chosen) play AskedFew (λ s. tt)
-asked_few Work chosen = then_each (option_and_then (number_between 1 64) chosen.workers) (λ n. option_map (work n) (settings_in chosen)) IsFew AskedFew
+asked_few Work chosen = then_each (option_and_then (number_between 1 64) chosen.workers) (λ n. option_map (work n chosen.split) (settings_in chosen)) IsFew AskedFew
     (then_all chosen.workers (number_between 1 64) IsFew number_few)
-    (λ n few. map_all (settings_in chosen) (work n) AskedFew (λ s. few))
+    (λ n few. map_all (settings_in chosen) (work n chosen.split) AskedFew (λ s. few))
 asked_few Make chosen = map_all (option_and_then (number_between 0 4294967295) chosen.seed) (λ n. make n chosen.text) AskedFew (λ n. tt)
 asked_few Audit chosen = tt
 
@@ -61,7 +61,8 @@ command_few (word ∷ rest) = then_all (verb_named word) (λ verb. option_and_th
 
 -- what a command has the program do has few workers
 way_few : (a : Asked) → AskedFew a → HasFew (way_in a)
-way_few (work n s) few = few
+way_few (work n true s) few = few
+way_few (work n false s) few = few
 way_few (play s) few = tt
 way_few (make n t) few = printed t
   where

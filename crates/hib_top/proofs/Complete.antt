@@ -18,9 +18,9 @@ pub played : (turns : Turns) (telling : Telling) (answer : Status) (left after :
     Reads left after text (Ok (outline_of script)) → Runs turns telling answer script kept rows journal taken written → Plays turns telling answer left after kept rows journal taken written
 played turns telling Status.Done left after text script kept rows journal taken written r x = record { text = text; script = script; read = r; run = x }
 played turns telling Status.WriteFault left after text script kept rows journal taken written r x = record { text = text; script = script; read = r; run = x }
-played turns telling Status.NoMemory left after text script kept rows journal taken written r (inl x) = inl x
-played turns telling Status.NoMemory left after text script kept rows journal taken written r (inr x) = inr (record { text = text; script = script; read = r; run = x })
-played turns telling Status.StoreFault left after text script kept rows journal taken written r x = ((text, outline_of script, r), x)
+played turns telling Status.NoMemory left after text script kept rows journal taken written r x = inr (record { text = text; script = script; read = r; run = x })
+played turns telling (Status.Torn torn) left after text script kept rows journal taken written r x = record { text = text; script = script; read = r; run = x }
+played turns telling Status.StoreFault left after text script kept rows journal taken written r x = record { text = text; script = script; read = r; run = x }
 played turns telling _ left after text script kept rows journal taken written r x = absurd x
 
 -- and so it is if none was read
@@ -53,6 +53,7 @@ completes turns telling (Status.Refused q) left after kept rows journal taken wr
 completes turns telling (Status.Illegal n k) left after kept rows journal taken written read write p u r w l y nr nw = tt
 completes turns telling Status.ReadFault left after kept rows journal taken written read write p u r w l y nr nw = absurd (nr (r refl))
 completes turns telling Status.WriteFault left after kept rows journal taken written read write p u r w l y nr nw = absurd (nw (w refl))
+completes turns telling (Status.Torn torn) left after kept rows journal taken written read write p u r w l y nr nw = tt
 completes turns telling Status.StoreFault left after kept rows journal taken written read write p u r w l y nr nw = tt
 completes turns telling Status.TooLong left after kept rows journal taken written read write p u r w l y nr nw =
     absurd (let m : 1048576 < length y.text = told_is left y.text (λ bytes. 1048576 < length bytes) y.told (l refl) in let few : length y.text ≤ 1048576 = y.few in omega (arith, m, few))
@@ -62,6 +63,7 @@ pub completes_made : (turns : Turns) (telling : Telling) (answer : Status) (scri
     Runs turns telling answer script kept rows journal taken written → (answer ≡ Status.WriteFault → write) → (write → ⊥) → IsCompleted answer
 completes_made turns telling Status.Done script kept rows journal taken written write p w nw = tt
 completes_made turns telling Status.NoMemory script kept rows journal taken written write p w nw = tt
+completes_made turns telling (Status.Torn torn) script kept rows journal taken written write p w nw = tt
 completes_made turns telling Status.StoreFault script kept rows journal taken written write p w nw = tt
 completes_made turns telling Status.WriteFault script kept rows journal taken written write p w nw = absurd (nw (w refl))
 completes_made turns telling _ script kept rows journal taken written write p w nw = absurd p

@@ -5,3 +5,4 @@ pub mod Complete
 pub mod Asked
 pub mod Audited
 pub mod Formed
+pub mod OverParts

@@ -10,5 +10,6 @@ exit_number (Status.Refused r) = 3
 exit_number Status.ReadFault = 4
 exit_number Status.WriteFault = 5
 exit_number Status.TooLong = 6
+exit_number (Status.Torn torn) = 7
 exit_number Status.NoMemory = 8
 exit_number Status.StoreFault = 9

@@ -4,3 +4,4 @@ pub mod Play
 pub mod Exits
 pub mod StatusLine
 pub mod Call
+pub mod ToldWhole

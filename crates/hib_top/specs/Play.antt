@@ -14,6 +14,9 @@ use Rattle.hib_journal.specs.Legal.{IsLegal}
 use Rattle.hib_journal.specs.Runs.{IsNumbered, told_committed, name_identifiers}
 use Rattle.hib_law.specs.Hits.{AreListsGiven}
 use Rattle.hib_law.specs.Law.{Obeys}
+use Rattle.hib_split_law.specs.Merged.{AreDue}
+use Rattle.hib_merge.specs.declared.tearing.Torn.{Torn}
+use Rattle.hib_joined.specs.Joined.{AreApart}
 use Rattle.hib_core.specs.Bound.{most_in, outside_count}
 use Rattle.hib_core.specs.Standing.{told_start}
 use Rattle.std.specs.Fmt.{decimal}
@@ -42,7 +45,13 @@ use Rattle.hib_top.specs.StatusLine.{illegal_text}
 -- they are steps of sessions alone: no kill, no eviction and no restart
 abbrev pub IsOrdered : Turns → Script → Journal → Type 0
 IsOrdered Turns.Scheduled script h = is_played script h ≡ true
-IsOrdered (Turns.OnWorkers n) script h = outside_count h ≡ 0
+IsOrdered _ script h = outside_count h ≡ 0
+
+-- the k-th entry has tick k; over parts under locks of their own each has the tick that is due, by the last ones of its part and of
+-- its session
+abbrev pub AreTicked : Turns → Journal → Type 0
+AreTicked (Turns.OnParts n) h = AreDue h
+AreTicked _ h = IsNumbered h
 
 -- what is written of a run: its report; its journal as JSON lines; or the number that its script was made from and the summary
 abbrev pub told_by : Telling → Script → List Entry → List ℕ
@@ -57,12 +66,12 @@ pub record IsFinished (turns : Turns) (script : Script) (h : Journal) : Type 0 w
 
 -- the journal is legal for the script from the rows at the start, with its ticks in turn, and so obeys the law; the keeper has
 -- the rows that its commits gave
-pub record IsPlayed (script : Script) (start rows : Option Tables) (h : Journal) : Type 0 where
+pub record IsPlayed (turns : Turns) (script : Script) (start rows : Option Tables) (h : Journal) : Type 0 where
   pub legal : IsLegal script start h
   pub law : Obeys script start h
   -- and each list from the cache is what its query gave
   pub given : IfSome start (λ told. AreListsGiven script told h)
-  pub numbered : IsNumbered h
+  pub ticked : AreTicked turns h
   -- it is short: the sessions have few entries, and each order of the schedule adds one of another kind at most
   pub few : length h ≤ most_in script.sessions + length script.schedule
   -- what was evicted from outside has an identifier
@@ -73,8 +82,8 @@ pub record IsPlayed (script : Script) (start rows : Option Tables) (h : Journal)
 
 -- what a run came to, from what the keeper kept: start is that with the script's rows
 abbrev pub CameTo : Turns → End → Script → Option Tables → Option Tables → Option Tables → Journal → Type 0
-CameTo turns (End.Over s) script kept start rows h = (s ≡ script) × IsPlayed script start rows h × IsFinished turns script h
-CameTo turns End.Stopped script kept start rows h = IsPlayed script start rows h
+CameTo turns (End.Over s) script kept start rows h = (s ≡ script) × IsPlayed turns script start rows h × IsFinished turns script h
+CameTo turns End.Stopped script kept start rows h = IsPlayed turns script start rows h
 CameTo turns End.Unopened script kept start rows h = (h ≡ []) × (rows ≡ kept)
 CameTo turns End.Unseeded script kept start rows h = (h ≡ []) × (rows ≡ kept)
 
@@ -124,7 +133,7 @@ AreReadBack _ _ script es = ⊤
 
 -- a script was run, and its journal was told, or a front of that
 pub record IsRunOf (turns : Turns) (telling : Telling) (answer : Status) (script : Script) (start rows : Option Tables) (journal : Kept) (taken written : Option (List ℕ)) : Type 0 where
-  pub played : IsPlayed script start rows (past journal)
+  pub played : IsPlayed turns script start rows (past journal)
   pub ended : EndsWell turns answer script (past journal) taken written
   pub report : IsWritten answer (told_by telling script journal.list) taken written
   pub read_back : AreReadBack telling answer script journal.list
@@ -138,12 +147,30 @@ pub record IsUnrun (start rows : Option Tables) (journal : Kept) : Type 0 where
 abbrev pub IsIdle : Option Tables → Option Tables → Kept → Option (List ℕ) → Option (List ℕ) → Type 0
 IsIdle start rows journal taken written = IsUnrun start rows journal × (written ≡ taken)
 
+-- memory ran out in a run over parts, of which no journal is handed back: if something was written, it is a front of what is told of
+-- a finished run
+pub record IsLost (turns : Turns) (telling : Telling) (script : Script) (start : Option Tables) (journal : Kept) (taken written : Option (List ℕ)) : Type 0 where
+  pub empty : past journal ≡ []
+  pub report : (written ≡ taken) ⊎ ((rows : Option Tables) × (run : Kept) × IsRunOf turns telling Status.NoMemory script start rows run taken written)
+
+-- memory ran out after the first step
+abbrev pub IsShortRun : Turns → Telling → Script → Option Tables → Option Tables → Kept → Option (List ℕ) → Option (List ℕ) → Type 0
+IsShortRun (Turns.OnParts n) telling script start rows journal taken written = IsLost (Turns.OnParts n) telling script start journal taken written
+IsShortRun turns telling script start rows journal taken written = IsRunOf turns telling Status.NoMemory script start rows journal taken written
+
+-- a run is torn over parts alone, with two workers or more: it names two entities, entries or ticks that differ, and no journal of it is
+-- handed back
+abbrev pub IsTornRun : Turns → Torn → Kept → Option (List ℕ) → Option (List ℕ) → Type 0
+IsTornRun (Turns.OnParts n) torn journal taken written = (2 ≤ n) × AreApart torn × (past journal ≡ []) × (written ≡ taken)
+IsTornRun turns torn journal taken written = ⊥
+
 -- what stands after the run of a script, by the status
 abbrev pub Runs : Turns → Telling → Status → Script → Option Tables → Option Tables → Kept → Option (List ℕ) → Option (List ℕ) → Type 0
 Runs turns telling Status.Done script kept rows journal taken written = IsRunOf turns telling Status.Done script (told_start script kept) rows journal taken written
 Runs turns telling Status.WriteFault script kept rows journal taken written = IsRunOf turns telling Status.WriteFault script (told_start script kept) rows journal taken written
 Runs turns telling Status.NoMemory script kept rows journal taken written =
-    IsIdle kept rows journal taken written ⊎ IsRunOf turns telling Status.NoMemory script (told_start script kept) rows journal taken written
+    IsIdle kept rows journal taken written ⊎ IsShortRun turns telling script (told_start script kept) rows journal taken written
+Runs turns telling (Status.Torn torn) script kept rows journal taken written = IsTornRun turns torn journal taken written
 Runs turns telling Status.StoreFault script kept rows journal taken written = IsIdle kept rows journal taken written
 Runs turns telling _ script kept rows journal taken written = ⊥
 
@@ -244,27 +271,24 @@ abbrev pub HasJournal : Option (List ℕ) → Type 0
 HasJournal left = HasTold 67108864 left IsWholeInput
 
 -- ---- a script that is read
--- a script was read and run, from the keeper's rows and its own
+-- a script was read, and this is what its run left
 pub record PlaysScript (turns : Turns) (telling : Telling) (answer : Status) (left after : Option (List ℕ)) (kept rows : Option Tables) (journal : Kept) (taken written : Option (List ℕ)) : Type 0 where
   pub text : List ℕ
   pub script : Script
   pub read : Reads left after text (Ok (outline_of script))
-  pub run : IsRunOf turns telling answer script (told_start script kept) rows journal taken written
+  pub run : Runs turns telling answer script kept rows journal taken written
 
 -- what stands after a call, by its status: left and after are what the source had to read before and after it, kept the keeper's
--- tables as they were handed in. A text that is no script is refused with its first bad line; if the keeper failed, a script was
--- read and not run
+-- tables as they were handed in. A text that is no script is refused with its first bad line
 abbrev pub Plays : Turns → Telling → Status → Option (List ℕ) → Option (List ℕ) → Option Tables → Option Tables → Kept → Option (List ℕ) → Option (List ℕ) → Type 0
-Plays turns telling Status.Done left after kept rows journal taken written = PlaysScript turns telling Status.Done left after kept rows journal taken written
-Plays turns telling Status.WriteFault left after kept rows journal taken written = PlaysScript turns telling Status.WriteFault left after kept rows journal taken written
 Plays turns telling Status.NoMemory left after kept rows journal taken written =
     IsIdle kept rows journal taken written ⊎ PlaysScript turns telling Status.NoMemory left after kept rows journal taken written
 Plays turns telling (Status.Refused r) left after kept rows journal taken written =
     ((text : List ℕ) × Reads left after text (Err r)) × IsIdle kept rows journal taken written
-Plays turns telling Status.StoreFault left after kept rows journal taken written =
-    ((text : List ℕ) × (said : Outline) × Reads left after text (Ok said)) × IsIdle kept rows journal taken written
-Plays turns telling (Status.Illegal n k) left after kept rows journal taken written = ⊥
-Plays turns telling _ left after kept rows journal taken written = IsIdle kept rows journal taken written
+Plays turns telling Status.Usage left after kept rows journal taken written = IsIdle kept rows journal taken written
+Plays turns telling Status.ReadFault left after kept rows journal taken written = IsIdle kept rows journal taken written
+Plays turns telling Status.TooLong left after kept rows journal taken written = IsIdle kept rows journal taken written
+Plays turns telling answer left after kept rows journal taken written = PlaysScript turns telling answer left after kept rows journal taken written
 
 -- a text was written, or a front of it, and nothing was run
 abbrev pub Prints : Status → List ℕ → Option Tables → Option Tables → Kept → Option (List ℕ) → Option (List ℕ) → Type 0
@@ -311,10 +335,12 @@ HasInput (Some (Way.Printed n)) left failed = ⊤
 HasInput (Some Way.Audited) left failed = HasJournal left × (failed → ⊥)
 HasInput (Some way) left failed = HasScript left × (failed → ⊥)
 
--- all was done, a journal that isn't legal was found so, memory ran out, or the keeper didn't take the script's rows
+-- all was done, a journal that isn't legal was found so, a run over parts is torn, memory ran out, or the keeper didn't take the
+-- script's rows
 abbrev pub IsCompleted : Status → Type 0
 IsCompleted Status.Done = ⊤
 IsCompleted (Status.Illegal n k) = ⊤
+IsCompleted (Status.Torn torn) = ⊤
 IsCompleted Status.NoMemory = ⊤
 IsCompleted Status.StoreFault = ⊤
 IsCompleted _ = ⊥

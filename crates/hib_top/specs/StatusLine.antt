@@ -28,6 +28,7 @@ answer_text (Status.Refused r) = refused_text r
 answer_text Status.ReadFault = codes "read fault"
 answer_text Status.WriteFault = codes "write fault"
 answer_text Status.TooLong = codes "too long"
+answer_text (Status.Torn torn) = codes "torn"
 answer_text Status.NoMemory = codes "no memory"
 answer_text Status.StoreFault = codes "store fault"
 

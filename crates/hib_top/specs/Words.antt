@@ -13,10 +13,15 @@ abbrev pub telling_of : Bool → Telling
 telling_of true = Telling.JsonLines
 telling_of false = Telling.Report
 
+-- with a lock of its own for each part if that is asked for
+abbrev pub turns_on : ℕ → Bool → Turns
+turns_on n true = Turns.OnParts n
+turns_on n false = Turns.OnWorkers n
+
 -- what a command has it do
 abbrev pub way_in : Asked → Way
 way_in (play s) = Way.Run Turns.Scheduled (telling_of s.journal)
-way_in (work n s) = Way.Run (Turns.OnWorkers n) (telling_of s.journal)
+way_in (work n split s) = Way.Run (turns_on n split) (telling_of s.journal)
 way_in (make n t) = cond t (Way.Printed n) (Way.Made n)
 way_in audit = Way.Audited
 
@@ -27,6 +32,7 @@ way_asked words = option_map way_in (command (map string_bytes words))
 -- it is done without threads
 abbrev pub is_alone : Way → Bool
 is_alone (Way.Run (Turns.OnWorkers n) t) = false
+is_alone (Way.Run (Turns.OnParts n) t) = false
 is_alone way = true
 
 abbrev pub if_alone : Way → Option Way
@@ -39,6 +45,7 @@ way_alone words = option_and_then if_alone (way_asked words)
 -- there are 1 to 64 workers
 abbrev pub HasFew : Way → Type 0
 HasFew (Way.Run (Turns.OnWorkers n) t) = (1 ≤ n) × (n ≤ 64)
+HasFew (Way.Run (Turns.OnParts n) t) = (1 ≤ n) × (n ≤ 64)
 HasFew way = ⊤
 
 -- the script is read from the source

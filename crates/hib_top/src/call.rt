@@ -6,13 +6,14 @@ ghost use Rattle.hib_outside.specs.Causes.{Rose};
 ghost use Rattle.hib_listeners.specs.Told.{tells};
 ghost use Rattle.hib_core.specs.Standing.{RoseBy, RoseWithin};
 ghost use Rattle.hib_top.specs.Words.{HasFew, is_alone, is_read, limit_of, way_alone, way_asked};
-ghost use Rattle.hib_top.specs.Call.{Promised};
+ghost use Rattle.hib_top.specs.Call.{Promised, is_forgotten};
 ghost use Rattle.hib_top.specs.Play.{Comes, HasInput, IsCompleted, AreHandedBack, is_short};
 ghost use Rattle.hib_top.specs.Streams.{ReadsFew};
 
 use crate::audit::audit;
 use crate::make::{make, print};
 use crate::play::{Ended, play, stop};
+use crate::split::split;
 use crate::status::Status;
 use crate::ways::{Turns, Way, way_alone, way_asked};
 use crate::work::work;
@@ -61,7 +62,7 @@ fn serve_alone<S: Source, W: Sink, K: Keeper, L: Listener>(
 {
     match way {
         Way::Run(Turns::Scheduled, telling) => play(alloc, telling, script, out, keeper, listeners),
-        Way::Run(Turns::OnWorkers(_), _) => unreachable!(),
+        Way::Run(Turns::OnWorkers(_) | Turns::OnParts(_), _) => unreachable!(),
         Way::Made(seed) => make(alloc, seed, out, keeper, listeners),
         Way::Printed(seed) => print(alloc, seed, out, keeper, listeners),
         Way::Audited => audit(alloc, script, out, keeper, listeners),
@@ -95,21 +96,27 @@ fn serve<R: Threads + Wait + Sync, S: Source, W: Sink, K: Keeper, G: Gate, L: Li
         → Rose (K.faults keeper) (K.faults result.keeper) }
     ensures faults { RoseBy (K.faults keeper) (fault_count (past result.journal))
         (K.faults result.keeper) }
-    ensures asked { result.status ≢ Status.NoMemory
+    // Of a run over parts that is torn, or for which memory ran out, no journal is handed back.
+    ensures asked { is_forgotten (Some way) result.status ≡ false → result.status ≢ Status.NoMemory
         → RoseWithin (K.asked keeper) (ask_count (past result.journal)) (K.asked result.keeper) }
     // If memory runs out it may have been asked once more, without an entry.
-    ensures once { RoseWithin (K.asked keeper) (ask_count (past result.journal) + 1)
+    ensures once { is_forgotten (Some way) result.status ≡ false
+        → RoseWithin (K.asked keeper) (ask_count (past result.journal) + 1)
         (K.asked result.keeper) }
     // At most one piece of 4,096 bytes beyond the limit is read.
     ensures taken { ReadsFew (limit_of (Some way) + 4096) (S.left script.old) (S.left script.new) }
     ensures complete { HasInput (Some way) (S.left script.old)
         (Rose (S.faults script.old) (S.faults script.new))
         → (Rose (W.faults out.old) (W.faults out.new) → ⊥) → IsCompleted result.status }
-    ensures listeners { AreHandedBack (is_short result.status) result.journal.list
+    ensures listeners { is_forgotten (Some way) result.status ≡ false
+        → AreHandedBack (is_short result.status) result.journal.list
         (tells L.heard L.left listeners.items) (tells L.heard L.left result.listeners.items) }
 {
     match way {
         Way::Run(Turns::OnWorkers(workers), telling) => work(
+            rt, alloc, telling, script, out, keeper, workers, gate, listeners,
+        ),
+        Way::Run(Turns::OnParts(workers), telling) => split(
             rt, alloc, telling, script, out, keeper, workers, gate, listeners,
         ),
         way => serve_alone(alloc, way, script, out, keeper, listeners),
@@ -164,7 +171,10 @@ pub fn play_words<S: Source, W: Sink, K: Keeper, L: Listener>(
 }
 
 /// Does what the words say. What `play_words` does it does too; and for `work` it runs the script on workers, who pass the gate
-/// before each step. Then it may wait for others, and all that it promises it promises of a return.
+/// before each step. Then it may wait for others, and all that it promises it promises of a return. With `--split` each part stands
+/// behind a lock of its own: a tick is the one that is due, by the last ones of its part and of its session, and the listeners hear of
+/// the entries after the run. If memory runs out then, or the run is torn, the journal handed back is empty, and nothing is said of the
+/// keeper's rows, of how often it was asked and of the listeners.
 pub fn top<R: Threads + Wait + Sync, S: Source, W: Sink, K: Keeper, G: Gate, L: Listener>(
     rt: &R,
     alloc: Global,

@@ -7,6 +7,7 @@ mod call;
 mod make;
 mod play;
 mod run;
+mod split;
 mod status;
 mod streams;
 mod ways;

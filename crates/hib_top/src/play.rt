@@ -11,6 +11,7 @@ ghost use Rattle.hib_json_lines.specs.Line.{json_lines};
 ghost use Rattle.hib_report.specs.Report.{report, summary};
 ghost use Rattle.hib_base.specs.Valid.{is_valid};
 ghost use Rattle.hib_top.specs.Streams.{ReadsFew};
+ghost use Rattle.hib_top.specs.ToldWhole.{IsUnderOneLock};
 ghost use Rattle.hib_listeners.specs.Told.{tells};
 ghost use Rattle.hib_top.specs.declared.ways.Turns.{Turns};
 ghost use Rattle.hib_top.specs.declared.ways.Telling.{Telling};
@@ -36,7 +37,7 @@ pub struct Ended<K, L> {
     pub status: Status,
     /// The keeper that was handed in.
     pub keeper: K,
-    /// The journal of the run; empty if nothing was run.
+    /// The journal of the run; empty if nothing was run, and if a run over parts is torn or memory ran out in it.
     pub journal: Journal,
     /// The listeners that stayed.
     pub listeners: Vec<L>,
@@ -121,7 +122,7 @@ fn tell_lines<W: Sink>(alloc: Global, script: &Script, journal: &Journal, out: &
 }
 
 /// Tells a run that is over.
-fn tell<W: Sink>(
+pub fn tell<W: Sink>(
     alloc: Global,
     telling: Telling,
     script: &Script,
@@ -151,6 +152,7 @@ pub fn tell_end<W: Sink>(
 ) -> Status
     ensures after { IsAfter end result }
     ensures run { (turns : Turns) (script : Script) (kept rows : Option Tables)
+        → IsUnderOneLock turns
         → CameTo turns end script kept (told_start script kept) rows (past journal.now)
         → Runs turns telling result script kept rows journal.now (W.taken out.old)
         (W.taken out.new) }

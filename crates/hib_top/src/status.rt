@@ -1,14 +1,16 @@
 // How a call of the program ends.
 ghost use Rattle.hib_top.specs.Exits.{exit_number};
+ghost use Rattle.hib_top.specs.Play.{is_short};
 ghost use Rattle.hib_top.specs.StatusLine.{status_text, refused_text, illegal_text, kind_text};
-ghost use Rattle.std.specs.Prelude.{◌≡◌, ◌++◌, IfOk, OnOk};
+ghost use Rattle.std.specs.Prelude.{◌≡◌, ◌↔◌, ◌++◌, IsTrue, IfOk, OnOk};
 
 use hib_audit::AuditKind;
 use hib_base::{Bytes, Refused, Seq};
+use hib_merge::Torn;
 use std::alloc::{AllocError, Global};
 
 /// How a call of the program ends.
-#[derive(Clone, Copy, Debug, PartialEq, Eq)]
+#[derive(Drop)]
 pub enum Status {
     /// All was done, and the text was written whole.
     Done,
@@ -29,6 +31,9 @@ pub enum Status {
     WriteFault,
     /// The input is longer than 1,048,576 bytes.
     TooLong,
+    /// A run over parts under locks of their own: a lock gave another region than the one that was asked for, or lists or ticks don't
+    /// fit together.
+    Torn(Torn),
     /// Memory ran out.
     NoMemory,
     /// The keeper didn't take the script's rows.
@@ -36,9 +41,23 @@ pub enum Status {
 }
 
 impl Status {
+    /// Whether all was done.
+    pub fn is_done(&self) -> bool
+        ensures { IsTrue result ↔ (self.now ≡ Status.Done) }
+    {
+        matches!(self, Status::Done)
+    }
+
+    /// Whether memory ran out.
+    pub fn is_short(&self) -> bool
+        ensures { result ≡ is_short self.now }
+    {
+        matches!(self, Status::NoMemory)
+    }
+
     /// The number that a program ends with.
-    pub fn number(self) -> u8
-        ensures { result ≡ exit_number self }
+    pub fn number(&self) -> u8
+        ensures { result ≡ exit_number self.now }
     {
         match self {
             Status::Done => 0,
@@ -48,6 +67,7 @@ impl Status {
             Status::ReadFault => 4,
             Status::WriteFault => 5,
             Status::TooLong => 6,
+            Status::Torn(_) => 7,
             Status::NoMemory => 8,
             Status::StoreFault => 9,
         }
@@ -67,6 +87,7 @@ pub fn status_line(alloc: Global, status: &Status) -> Result<Bytes, AllocError>
         Status::ReadFault => line.extend_from_slice(b"read fault")?,
         Status::WriteFault => line.extend_from_slice(b"write fault")?,
         Status::TooLong => line.extend_from_slice(b"too long")?,
+        Status::Torn(_) => line.extend_from_slice(b"torn")?,
         Status::NoMemory => line.extend_from_slice(b"no memory")?,
         Status::StoreFault => line.extend_from_slice(b"store fault")?,
     }

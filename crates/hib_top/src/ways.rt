@@ -13,6 +13,8 @@ pub enum Turns {
     Scheduled,
     /// On so many workers, as they come to the lock. The schedule isn't used.
     OnWorkers(u32),
+    /// On so many workers, as they come to the lock of each part. The schedule isn't used.
+    OnParts(u32),
 }
 
 /// How a run is told.
@@ -50,15 +52,28 @@ fn telling_of(journal: bool) -> Telling
     }
 }
 
+/// The order of steps on so many workers, by whether each part is to have a lock of its own.
+fn turns_on(workers: u32, split: bool) -> Turns
+    ensures { result ≡ spec.turns_on workers split }
+{
+    if split {
+        Turns::OnParts(workers)
+    } else {
+        Turns::OnWorkers(workers)
+    }
+}
+
 /// What a command has the program do.
 fn way_in(command: &Command) -> Way
     ensures { result ≡ spec.way_in (asked_of command.now) }
 {
     match command {
         Command::Play { options } => Way::Run(Turns::Scheduled, telling_of(options.journal)),
-        Command::Work { workers, options } => {
-            Way::Run(Turns::OnWorkers(*workers), telling_of(options.journal))
-        }
+        Command::Work {
+            workers,
+            split,
+            options,
+        } => Way::Run(turns_on(*workers, *split), telling_of(options.journal)),
         Command::Make { seed, text } => {
             if *text {
                 Way::Printed(*seed)
@@ -88,7 +103,7 @@ fn if_alone(way: Way) -> Option<Way>
     ensures alone { IfSome result (λ way. spec.is_alone way ≡ true) }
 {
     match way {
-        Way::Run(Turns::OnWorkers(_), _) => None,
+        Way::Run(Turns::OnWorkers(_) | Turns::OnParts(_), _) => None,
         way => Some(way),
     }
 }

@@ -27,12 +27,12 @@ returns-clause-came g c =
     let small : length h ≤ 2 ^ 61 = few_entries c.runs_are_short.ensures.limit g.N.Name.script h c.requires.valid few in
     let named : name_identifiers h ≡ true = subst (λ (k : Kept). name_identifiers (past k) ≡ true) (sym c.close-keeper.ensures.journal)
     (c.play-finished.ensures.named (subst (λ (j : Journal). name_identifiers j ≡ true) (sym c.in-Ok.ensures.empty) refl)) in
-    let played : IsPlayed g.N.Name.script g.N.Name.from.tables (g.K.Keeper.tables c.close-keeper.result.0) h =
+    let played : IsPlayed Turns.Scheduled g.N.Name.script g.N.Name.from.tables (g.K.Keeper.tables c.close-keeper.result.0) h =
     record {
       legal = c.close-keeper.ensures.legal;
       law = c.close-keeper.ensures.law;
       given = c.lists_are_given.ensures.lists g.N.Name.script g.N.Name.from.tables h c.requires.valid c.close-keeper.ensures.legal;
-      numbered = c.close-keeper.ensures.numbered;
+      ticked = c.close-keeper.ensures.numbered;
       few = few;
       named = named;
       formed = start_formed c.entries_are_formed.ensures.formed g.N.Name.script g.N.Name.from.tables h c.requires.valid small

@@ -20,12 +20,12 @@ returns-clause-came g c =
     let few : length h ≤ most_in g.N.Name.script.sessions + length g.N.Name.script.schedule = omega (arith, c.close-keeper.ensures.short, inside) in
     let small : length h ≤ 2 ^ 61 = few_entries c.runs_are_short.ensures.limit g.N.Name.script h c.requires.valid few in
     let named : name_identifiers h ≡ true = all_named h inside in
-    let played : IsPlayed g.N.Name.script g.N.Name.from.tables (g.K.Keeper.tables c.close-keeper.result.0) h =
+    let played : IsPlayed turns g.N.Name.script g.N.Name.from.tables (g.K.Keeper.tables c.close-keeper.result.0) h =
     record {
       legal = c.close-keeper.ensures.legal;
       law = c.close-keeper.ensures.law;
       given = c.lists_are_given.ensures.lists g.N.Name.script g.N.Name.from.tables h c.requires.valid c.close-keeper.ensures.legal;
-      numbered = c.close-keeper.ensures.numbered;
+      ticked = c.close-keeper.ensures.numbered;
       few = few;
       named = named;
       formed = start_formed c.entries_are_formed.ensures.formed g.N.Name.script g.N.Name.from.tables h c.requires.valid small

@@ -3,7 +3,7 @@ use Rattle.hib_top.specs.declared.ways.Turns.{Turns}
 use Rattle.hib_top.proofs.work.work_script.Goals as goal
 
 pub returns-clause-run : goal.returns-clause-run
-returns-clause-run g c = c.tell_end-status.ensures.run (Turns.OnWorkers c.args.workers) c.args.script _ _ c.run-end.ensures.came
+returns-clause-run g c = c.tell_end-status.ensures.run (Turns.OnWorkers c.args.workers) c.args.script _ _ tt c.run-end.ensures.came
 
 pub returns-clause-store : goal.returns-clause-store
 returns-clause-store g c = λ p. c.run-end.ensures.store (unseeded _ c.tell_end-status.result c.tell_end-status.ensures.after p)

@@ -1,9 +1,9 @@
-use Rattle.std.specs.Prelude.{[]}
+use Rattle.std.proofs.Common.{[]}
 use Rattle.hib_core.specs.Standing.{told_start}
-use Rattle.hib_checks.proofs.splitting.runs.Given as goal
+use Rattle.hib_top.proofs.split.split_script.Given as goal
 
-abbrev pub ghosts-runs_named : goal.ghosts-runs_named
-ghosts-runs_named g a = record {
+abbrev pub ghosts-named : goal.ghosts-named
+ghosts-named g a = record {
   script = a.script.now;
   from = record { tables = told_start a.script.now (g.K.Keeper.tables a.keeper); faults = g.K.Keeper.faults a.keeper; asked = g.K.Keeper.asked a.keeper };
   told = [];

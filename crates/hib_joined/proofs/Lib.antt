@@ -1,0 +1,2 @@
+-- What a run over parts comes to.
+pub mod One

@@ -1,0 +1,61 @@
+// The lists of a run joined into one journal.
+ghost use Rattle.std.specs.Prelude.{◌≢◌, map, IfSome};
+ghost use Rattle.hib_base.specs.declared.entries.Part.{Part};
+ghost use Rattle.hib_journal.specs.Kept.{past};
+ghost use Rattle.hib_merge.specs.Merging.{AreRising, IsInOne};
+ghost use Rattle.hib_joined.specs.Joined.{AreJoined, AreJoinedUnless};
+
+use hib_base::EntityNo;
+use hib_journal::Journal;
+use hib_merge::{Lists, Torn, agree, merge};
+use std::alloc::Global;
+
+/// What the lists of a run came to.
+#[derive(Drop)]
+pub enum Joined {
+    /// They fit together: the one journal of the run.
+    One(Journal),
+    /// A lock gave another region than the one that was asked for, or lists or ticks don't fit together.
+    Torn(Torn),
+    /// Memory ran out.
+    NoMemory,
+}
+
+/// The one journal of lists that fit together, or what is torn.
+fn join(alloc: Global, lists: &Lists, mine: &Lists) -> Joined
+    requires apart { (p : Part) → IsInOne p (map past lists.now) }
+    requires rising { AreRising (map past lists.now) }
+    ensures { AreJoined (map past lists.now) mine.now result }
+{
+    let Ok(journal) = merge(alloc, lists) else {
+        return Joined::NoMemory;
+    };
+    let _count = journal.len();
+    match agree(alloc, &journal, mine) {
+        Ok(None) => Joined::One(journal),
+        Ok(Some(torn)) => Joined::Torn(torn),
+        Err(_) => Joined::NoMemory,
+    }
+}
+
+/// The same of a run, unless a lock gave another region than the one that was asked for, or memory ran out.
+pub fn join_unless(
+    alloc: Global,
+    strange: Option<(EntityNo, EntityNo)>,
+    out_of_memory: bool,
+    lists: &Lists,
+    mine: &Lists,
+) -> Joined
+    requires apart { (p : Part) → IsInOne p (map past lists.now) }
+    requires rising { AreRising (map past lists.now) }
+    requires strange { IfSome strange (λ p. p.0 ≢ p.1) }
+    ensures { AreJoinedUnless strange out_of_memory (map past lists.now) mine.now result }
+{
+    if let Some((asked, found)) = strange {
+        return Joined::Torn(Torn::Region { asked, found });
+    }
+    if out_of_memory {
+        return Joined::NoMemory;
+    }
+    join(alloc, lists, mine)
+}
