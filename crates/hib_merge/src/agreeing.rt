@@ -24,9 +24,9 @@ fn torn_lists(
     let owns = own_lists(alloc, entries, mine.len())?;
     for s in 0..mine.len() {
         let listed = mine[s].as_slice();
-        let own = owns[s].as_slice();
+        let own = &owns[s];
         if let Some(place) = difference(listed, own) {
-            return Ok(Some((copy_at(alloc, listed, place)?, copy_at(alloc, own, place)?)));
+            return Ok(Some((copy_at(alloc, listed, place)?, own.copy_at(alloc, place)?)));
         }
     }
     Ok(None)

@@ -2,6 +2,7 @@
 ghost use Rattle.std.specs.Prelude.{◌≡◌, ◌↔◌, IsTrue, slice_get, IfOk, MatchOption};
 ghost use Rattle.hib_merge.specs.Tearing.{PartAt};
 
+use crate::pointed::Pointed;
 use hib_base::{Act, Entry, Reply};
 use std::alloc::{AllocError, Global};
 
@@ -33,16 +34,18 @@ fn is_same(entry: &Entry, other: &Entry) -> bool
 }
 
 /// The first place at which two lists differ, or none if they are the same.
-pub fn difference(entries: &[Entry], others: &[Entry]) -> Option<usize>
+pub fn difference(entries: &[Entry], others: &Pointed<'_>) -> Option<usize>
     ensures { MatchOption result (entries.now ≡ others.now)
         (λ place. PartAt entries.now others.now place) }
 {
     for (place, entry) in entries.iter().enumerate() {
-        if place >= others.len() {
-            return Some(place);
-        }
-        if !is_same(entry, &others[place]) {
-            return Some(place);
+        match others.get(place) {
+            Some(other) => {
+                if !is_same(entry, other) {
+                    return Some(place);
+                }
+            }
+            None => return Some(place),
         }
     }
     if entries.len() < others.len() {

@@ -2,7 +2,7 @@
 ghost use Rattle.std.specs.Prelude.{◌≡◌, ◌∷◌, ◌≤◌, ◌<◌, ◌^◌, [], cond, length, reverse, IfOk, OnOk, MatchOption, Option, ℕ};
 ghost use Rattle.hib_base.specs.declared.entries.Part.{Part as AnyPart};
 ghost use Rattle.hib_clock.specs.Due.{due};
-ghost use Rattle.hib_journal.specs.Sessions.{Journal, same_part, is_session};
+ghost use Rattle.hib_journal.specs.Sessions.{Journal, same_part};
 ghost use Rattle.hib_split_law.specs.Merged.{AreDue};
 ghost use Rattle.hib_merge.specs.LastTicks.{AreLast, part_last, session_last};
 ghost use Rattle.hib_merge.specs.Tearing.{IsTickTorn};

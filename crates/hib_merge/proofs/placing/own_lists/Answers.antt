@@ -1,7 +1,7 @@
 use Rattle.std.proofs.Common.{◌≡◌, ◌<◌, ◌+◌, ◌∷◌, ◌++◌, [], length, take, sym, ap, ◌∙◌, arith}
 use Rattle.hib_journal.specs.Types.{Entry}
 use Rattle.hib_journal.specs.Sessions.{own}
-use Rattle.hib_merge.specs.Tearing.{list_at}
+use Rattle.hib_split_law.specs.Merged.{list_of}
 use Rattle.hib_merge.proofs.Placed.{take_next, own_more}
 use Rattle.hib_merge.proofs.placing.own_lists.Goals as goal
 
@@ -15,5 +15,5 @@ loop-entry-preserved c =
       all = c.in_ok-place.ensures.all ∙ c.loop-entry.invariant.all;
       lists = λ s b.
           let there : s < length c.loop-entry.lists.items = omega (arith, b, c.loop-entry.invariant.all) in
-          own_more s (take i xs) e (list_at s c.loop-entry.lists.items) (list_at s c.place.new.lists.items) (c.loop-entry.invariant.lists s b) (c.in_ok-place.ensures.placed s there) ∙ ap (own s) (sym more);
+          own_more s (take i xs) e (list_of s c.loop-entry.lists.items) (list_of s c.place.new.lists.items) (c.loop-entry.invariant.lists s b) (c.in_ok-place.ensures.placed s there) ∙ ap (own s) (sym more);
     }
