@@ -4,11 +4,11 @@ use Rattle.std.specs.Prelude.{option_map, codes}
 use Rattle.std.specs.List.{fold}
 use Rattle.std.specs.Str.{bytes_eq}
 use Rattle.clap.specs.Lexer.{long_of, short_of}
-use Rattle.clap.specs.Walk.{Held, Row, Rule, Step, arg_by_long, Walk, after_flag, after_step, idle, long_met, finished, has_row, reacted, settled, used, walk_from, nothing_held, walked, rows_after}
+use Rattle.clap.specs.Walk.{Held, Row, Rule, Step, arg_by_long, Walk, after_flag, after_step, idle, long_met, finished, has_row, reacted, settled, used, nothing_held, walked, rows_after}
 use Rattle.clap.specs.Faults.{defaults_fault, check_fault, level_fault, long_fault, settle_fault, step_fault, turn_fault, use_fault, walk_fault}
 use Rattle.clap.specs.Kinds.{Kinds, or_else}
 use Rattle.clap.specs.declared.error.kind.ErrorKind.TheVariants as kind
-use Rattle.hib_words.specs.Given.{Text, Form, Given, add, and_then, as_option, begins_with_hyphen, is_given, options_from, read_named, read_word, takes_value}
+use Rattle.hib_words.specs.Given.{Text, Form, Given, add, and_then, begins_with_hyphen, is_given, options_from, read_named, takes_value}
 use Rattle.hib_words.specs.Clap.{built_rule, given_row, rows_for}
 use Rattle.hib_words.proofs.Finds.{by_id, by_long, defaults_pass, has_given_row, map-snoc, none_required}
 use Rattle.hib_words.proofs.Turns.{at_idle, at_option, dashes, flag_passes, flag_repeats, idle_stray, idle_turn, idle_walk, option_turn, option_value, option_walk, or_else-left, or_else-right, rules, shape, used_new, value_passes, value_repeats, waits}

@@ -74,16 +74,6 @@ docs/SCRIPT.md tells what a script may say, docs/JOURNAL.md what a report says, 
 ";
 
 impl Verb {
-    /// The program does it today, and so the help shows it.
-    fn is_built(self) -> bool {
-        match self {
-            Verb::Play => true,
-            Verb::Work => true,
-            Verb::Make => true,
-            Verb::Audit => true,
-        }
-    }
-
     /// The program's name and its word.
     fn full_name<'a>(self) -> &'a str {
         match self {
@@ -106,19 +96,6 @@ impl Verb {
 }
 
 impl OptionName {
-    /// The program takes it today, with each command that has it and is built.
-    fn is_built(self) -> bool {
-        match self {
-            OptionName::Journal => true,
-            OptionName::File => true,
-            OptionName::Trace => true,
-            OptionName::Workers => true,
-            OptionName::Split => true,
-            OptionName::Seed => true,
-            OptionName::Text => true,
-        }
-    }
-
     /// Its command has no form without it.
     fn is_required(self) -> bool {
         matches!(self, OptionName::Workers | OptionName::Seed)
@@ -127,13 +104,11 @@ impl OptionName {
 
 const VERBS: [Verb; 4] = [Verb::Play, Verb::Work, Verb::Make, Verb::Audit];
 
-/// A command with its options that are built, as the help shows them.
+/// A command with its options, as the help shows them.
 fn shown<'a>(alloc: Global, verb: Verb, name: &'a str) -> Result<Command<'a>, AllocError> {
     let mut command = Command::new(alloc, name).disable_help_flag(true);
     for option in verb.options() {
-        if option.is_built() {
-            command = command.arg(option.arg(alloc).required(option.is_required()))?;
-        }
+        command = command.arg(option.arg(alloc).required(option.is_required()))?;
     }
     Ok(command)
 }
@@ -159,15 +134,12 @@ fn program<'a>(alloc: Global) -> Result<Command<'a>, AllocError> {
         .arg(version)
 }
 
-/// The program with one command more, if that is built.
+/// The program with one command more.
 fn with_command<'a>(
     alloc: Global,
     program: Command<'a>,
     verb: Verb,
 ) -> Result<Command<'a>, AllocError> {
-    if !verb.is_built() {
-        return Ok(program);
-    }
     let command = shown(alloc, verb, verb.word())?;
     program.subcommand(command.about(verb.about()))
 }
@@ -181,26 +153,20 @@ fn overview(alloc: Global) -> Result<String, AllocError> {
     program.render_help()
 }
 
-/// What clap says of a command alone; nothing if it isn't built.
+/// What clap says of a command alone.
 fn section(alloc: Global, verb: Verb) -> Result<String, AllocError> {
-    if !verb.is_built() {
-        return Ok(String::new(alloc));
-    }
     let mut command = shown(alloc, verb, verb.full_name())?;
     command.render_help()
 }
 
 fn add_section(alloc: Global, text: &mut String, verb: Verb) -> Result<(), AllocError> {
     let section = section(alloc, verb)?;
-    if section.is_empty() {
-        return Ok(());
-    }
     text.push_str("\n")?;
     text.push_str(section.as_str())
 }
 
-/// The text of `--help`: clap's own for the commands and options that are built, and then what a user has to know besides. The
-/// only error is want of memory.
+/// The text of `--help`: clap's own for the commands and options, and then what a user has to know besides. The only error is want
+/// of memory.
 pub fn help(alloc: Global) -> Result<String, AllocError> {
     let mut text = overview(alloc)?;
     for verb in VERBS {
