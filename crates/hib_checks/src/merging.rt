@@ -174,8 +174,8 @@ pub fn comes_in_turn(alloc: Global) -> Result<bool, AllocError> {
     }
     let is_legal = audit(alloc, &script, &merged)? == Audit::Legal;
     let lines = lines_of(alloc, &script, merged.as_slice())?;
-    let torn = agree(alloc, &merged, &mine(alloc, false, 3, 4)?)?;
-    Ok(is_legal && lines.as_slice() == MERGED && torn.is_none())
+    let is_torn = agree(alloc, &merged, &mine(alloc, false, 3, 4)?)?.is_some();
+    Ok(is_legal && lines.as_slice() == MERGED && !is_torn)
 }
 
 /// Whether a list ends where there is an entry with this line.
@@ -192,20 +192,27 @@ fn ends_before(
     }
 }
 
+/// What is torn of the lists of parts and of those of sessions, with the ticks of b's commit and of its end. The list of a may be cut.
+fn torn(alloc: Global, is_cut: bool, committed: u64, ended: u64) -> Result<Option<Torn>, AllocError>
+    requires committed { 2 < committed }
+    requires ended { 3 < ended }
+{
+    let merged = merge(alloc, &parts(alloc, committed, ended)?)?;
+    agree(alloc, &merged, &mine(alloc, is_cut, committed, ended)?)
+}
+
 /// Whether the list of a, cut by its end, is told from its entries by that end.
 pub fn misses_an_end(alloc: Global) -> Result<bool, AllocError> {
     let Ok(script) = hib_script::read(alloc, TWO) else {
         return Ok(false);
     };
-    let merged = merge(alloc, &parts(alloc, 3, 4)?)?;
-    let Some(torn) = agree(alloc, &merged, &mine(alloc, true, 3, 4)?)? else {
-        return Ok(false);
-    };
-    match torn {
-        Torn::Lists {
-            mine: listed,
-            part: own,
-        } => ends_before(alloc, &script, listed, own, b"3 a registry end = committed"),
+    match torn(alloc, true, 3, 4)? {
+        Some(
+            Torn::Lists {
+                mine: listed,
+                part: own,
+            },
+        ) => ends_before(alloc, &script, listed, own, b"3 a registry end = committed"),
         _ => Ok(false),
     }
 }
@@ -215,12 +222,8 @@ pub fn finds_a_late_tick(alloc: Global) -> Result<bool, AllocError> {
     let Ok(script) = hib_script::read(alloc, TWO) else {
         return Ok(false);
     };
-    let merged = merge(alloc, &parts(alloc, 4, 5)?)?;
-    let Some(torn) = agree(alloc, &merged, &mine(alloc, false, 4, 5)?)? else {
-        return Ok(false);
-    };
-    match torn {
-        Torn::Tick { entry, due } => {
+    match torn(alloc, false, 4, 5)? {
+        Some(Torn::Tick { entry, due }) => {
             Ok(due == Tick(3) && is_line(alloc, &script, &entry, b"4 b store commit = committed")?)
         }
         _ => Ok(false),
