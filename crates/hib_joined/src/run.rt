@@ -31,7 +31,8 @@ pub struct JoinedRun<K> {
 /// Runs each session of a script to its end on so many workers, each part behind a lock of its own, and joins the lists into one
 /// journal. Before a step a worker passes the gate, with the number of its session's entries so far. With one worker no thread is
 /// started, no lock is taken and the gate isn't asked; then the run is never torn. The keeper is seeded with the script's rows, each
-/// of which it takes if its key has none. At an error the keeper is handed back, with the rows that it had. It may wait for other
+/// of which it takes if its key has none. At an error the keeper is handed back, with the rows that it had. If the run is torn, or
+/// memory ran out after it began, the keeper comes back with the rows of the commits that were made so far. It may wait for other
 /// threads.
 pub fn run_joined<R: Threads + Wait + Sync, K: Keeper, N: Name + Send + Sync, G: Gate>(
     rt: &R,
