@@ -14,10 +14,10 @@ use Rattle.hib_journal.proofs.Sessions.{is_some_session}
 use Rattle.hib_engines.proofs.Outcomes.{map_on}
 use Rattle.hib_split_law.specs.Apart.{is_own, IsOwnLegal}
 use Rattle.hib_split_law.specs.Merged.{due_tick}
-use Rattle.hib_split_law.proofs.Apart.{same_self, same_is}
+use Rattle.hib_split_law.proofs.Apart.{same_self, same_is, last_picked}
 use Rattle.hib_parts.specs.Listed.{AreBy, RegionState, WorkerState, IsDueOn, IsEntered, IsEnteredDue, IsOwnEntered, last_of}
 use Rattle.hib_parts.specs.Run.{IsFirst, is_other, list_in, list_on, IsStepOn, with_own, AreOfRun, GoesOn}
-use Rattle.hib_parts.proofs.Placing.{flip, put, last_picked, picked_put, due_put, turn_put, sessions_put}
+use Rattle.hib_parts.proofs.Placing.{flip, put, picked_put, due_put, turn_put, sessions_put}
 use Rattle.hib_parts.proofs.Steps.{act_same}
 
 -- ---- the tick of a step

@@ -40,23 +40,23 @@ same_is _ _ t = absurd (false≢true t)
 
 -- ticks
 
-tick_of_part : (p : Part) (h : Journal) → last_tick (λ d. same_part p d.part) h ≡ last_tick (λ _. true) (of_part p h)
-tick_of_part p [] = refl
-tick_of_part p (e ∷ h) = by (same_part p e.part) (tick_of_part p h)
+-- the entries that a test picks, of one part or of one session
+abbrev pub Picks : (Journal → Journal) → (Entry → Bool) → Type 0
+Picks f t = (e : Entry) (h : Journal) → f (e ∷ h) ≡ cond (t e) (e ∷ f h) (f h)
+
+pub last_picked : (f : Journal → Journal) (t : Entry → Bool) → Picks f t → f [] ≡ [] → (h : Journal) → last_tick t h ≡ last_tick (λ _. true) (f h)
+last_picked f t k n [] = ap (λ l. last_tick (λ _. true) l) (sym n)
+last_picked f t k n (e ∷ h) = by (t e) (last_picked f t k n h) ∙ ap (λ l. last_tick (λ _. true) l) (sym (k e h))
   where
-    by : (b : Bool) → last_tick (λ d. same_part p d.part) h ≡ last_tick (λ _. true) (of_part p h) →
-        cond b e.tick (last_tick (λ d. same_part p d.part) h) ≡ last_tick (λ _. true) (cond b (e ∷ of_part p h) (of_part p h))
+    by : (b : Bool) → last_tick t h ≡ last_tick (λ _. true) (f h) → cond b e.tick (last_tick t h) ≡ last_tick (λ _. true) (cond b (e ∷ f h) (f h))
     by true i = refl
     by false i = i
 
+tick_of_part : (p : Part) (h : Journal) → last_tick (λ d. same_part p d.part) h ≡ last_tick (λ _. true) (of_part p h)
+tick_of_part p h = last_picked (of_part p) (λ d. same_part p d.part) (λ e l. refl) refl h
+
 tick_of_own : (s : ℕ) (h : Journal) → last_tick (λ d. same_session (Some s) d.session) h ≡ last_tick (λ _. true) (own s h)
-tick_of_own s [] = refl
-tick_of_own s (e ∷ h) = by (is_by s e) (tick_of_own s h)
-  where
-    by : (b : Bool) → last_tick (λ d. same_session (Some s) d.session) h ≡ last_tick (λ _. true) (own s h) →
-        cond b e.tick (last_tick (λ d. same_session (Some s) d.session) h) ≡ last_tick (λ _. true) (cond b (e ∷ own s h) (own s h))
-    by true i = refl
-    by false i = i
+tick_of_own s h = last_picked (own s) (λ d. same_session (Some s) d.session) (λ e l. refl) refl h
 
 -- a session's own entries rise with the session
 
