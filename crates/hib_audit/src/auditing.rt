@@ -8,7 +8,6 @@ ghost use Rattle.hib_audit.specs.Standing.{IsBuilt, Knows};
 ghost use Rattle.hib_audit.specs.Audit.{IsFound, IsLawful, IsVerdict};
 
 use crate::auditor::Auditor;
-use crate::points::AuditKind;
 use crate::verdict::Audit;
 use hib_base::{Entry, Script};
 use hib_journal::Journal;

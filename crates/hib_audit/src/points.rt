@@ -3,7 +3,6 @@ ghost use Rattle.std.specs.Prelude.{◌≡◌, reverse, IfOk, IfSome, Some, None
 ghost use Rattle.hib_base.specs.declared.entries.Act.{Act};
 ghost use Rattle.hib_journal.specs.Sessions.{own, is_open};
 ghost use Rattle.hib_journal.specs.Legal;
-ghost use Rattle.hib_journal.specs.Next;
 ghost use Rattle.hib_journal.specs.Legal.{due_by, may_come};
 ghost use Rattle.hib_journal.specs.Due.{IsAllowed};
 ghost use Rattle.hib_engines.specs.Registry.{IsRegistry};

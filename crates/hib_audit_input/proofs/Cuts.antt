@@ -1,7 +1,7 @@
 -- The place at which the line `journal` cuts a text.
-use Rattle.std.proofs.Common.{◌≡◌, ℕ, zero, suc, ◌+◌, ◌-◌, ◌<◌, ◌≤◌, Bool, true, false, cond, not, ◌&&◌, ◌==◌, List, [], ◌∷◌, ◌++◌, length, take, drop, get_or, Option, Some, None, option_map, refl, sym, ap, ◌∙◌, subst, append_assoc, arith, add-one, min, nat_le}
+use Rattle.std.proofs.Common.{◌≡◌, ℕ, zero, suc, ◌+◌, ◌-◌, ◌<◌, ◌≤◌, Bool, true, false, cond, not, ◌&&◌, ◌==◌, List, [], ◌∷◌, ◌++◌, length, take, drop, get_or, Option, Some, None, option_map, refl, sym, ap, ◌∙◌, append_assoc, arith, add-one, min, nat_le}
 use Rattle.std.specs.List.{list_all}
-use Rattle.std.proofs.lemmas.List.{append-nil, append_cancel_right, drop_all, length-drop, drop-drop, take_all, length-append, length-take, get_or-drop}
+use Rattle.std.proofs.lemmas.List.{append-nil, append_cancel_right, drop_all, length-drop, take_all, length-append, length-take, get_or-drop}
 use Rattle.std.proofs.lemmas.Bool.Decides.{nat_tests}
 use Rattle.hib_lex.specs.Lines.{line_feed, before_lines, lines_of, line_length}
 use Rattle.hib_lex.proofs.Texts.{lines_first}

@@ -1,5 +1,5 @@
 -- The tables at the start: the rows that were kept get the columns that were added later, and a script's rows stand beside them.
-use Rattle.std.specs.Prelude.{ℕ, Bool, cond, ◌&&◌, nat_lt, List, [], ◌∷◌, ◌++◌, length, drop, map, Option, Some, None}
+use Rattle.std.specs.Prelude.{Bool, cond, ◌&&◌, nat_lt, List, [], ◌∷◌, ◌++◌, length, drop, map, Option, Some, None}
 use Rattle.std.specs.List.{list_all}
 use Rattle.hib_base.specs.Types.{Key, Cell, Row, ColumnDef, EntityDef}
 use Rattle.hib_base.specs.Fits.{entity_columns, has_default}

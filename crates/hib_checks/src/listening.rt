@@ -2,7 +2,7 @@
 use hib_base::{Act, Entry, Part, Reply, Seq, Tick};
 use hib_listeners::{Limited, Listeners, Recorder, Trace};
 use hib_outside::{Heard, Listener, MemKeeper, MemSink, MemSource};
-use hib_top::{Status, play_words};
+use hib_top::play_words;
 use std::alloc::{AllocError, Global};
 
 /// Listeners of several kinds.

@@ -29,7 +29,6 @@ use hib_base::{Key, Order, Script, SessionNo};
 use hib_journal::Journal;
 use hib_listeners::{Listeners, nothing_was_told};
 use hib_outside::{Keeper, Listener};
-use hib_store::OpenFault;
 use std::alloc::{AllocError, Global};
 use std::marker::Model;
 

@@ -1,6 +1,6 @@
 // The form of a query line, token by token.
 ghost use Rattle.hib_criteria.specs.Form as lines;
-ghost use Rattle.std.specs.Prelude.{◌≡◌, ◌∷◌, IfOk};
+ghost use Rattle.std.specs.Prelude.{◌≡◌, IfOk};
 
 use crate::clauses::{
     step_chosen, step_clauses, step_limit, step_offset, step_order, step_select, step_sorted,

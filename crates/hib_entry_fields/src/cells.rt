@@ -1,6 +1,6 @@
 // Cells and rows.
 ghost use Rattle.hib_entry_fields.specs.Fields as format;
-ghost use Rattle.std.specs.Prelude.{◌≡◌, IfOk, false, length, option_map};
+ghost use Rattle.std.specs.Prelude.{◌≡◌, IfOk, false, option_map};
 
 use crate::fields::{after_one, is, next, piece, signed_of, version_of};
 use hib_base::{Cell, Cells, Row, Seq, Text};

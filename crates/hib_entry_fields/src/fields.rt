@@ -1,7 +1,7 @@
 // Pieces of bytes between spaces, and the numbers and versions that they look like.
 ghost use Rattle.hib_entry_fields.specs.Fields as format;
-ghost use Rattle.hib_lex.specs.Tokens.{is_digit, size_of};
-ghost use Rattle.std.specs.Prelude.{◌≡◌, ◌^◌, ◌<◌, ◌≤◌, SomeIff, drop, neg_ℤ, pos, bytes_eq, codes};
+ghost use Rattle.hib_lex.specs.Tokens.{size_of};
+ghost use Rattle.std.specs.Prelude.{◌≡◌, ◌^◌, ◌<◌, SomeIff, drop, bytes_eq, codes};
 
 /// The bytes but the first.
 pub fn after_one(bytes: &[u8]) -> &[u8]

@@ -8,7 +8,7 @@ use Rattle.std.proofs.lemmas.List.Elements.{All-from_recursion}
 use Rattle.std.specs.List.{AllByRecursion, list_all}
 use Rattle.hib_base.specs.Apart.{are_apart_by}
 use Rattle.hib_base.specs.Fits
-use Rattle.hib_base.specs.Fits.{type_at, kind_in, is_of_type_in, are_of_types, entity_columns, fits_statement}
+use Rattle.hib_base.specs.Fits.{kind_in, is_of_type_in, are_of_types, entity_columns, fits_statement}
 use Rattle.hib_base.specs.Scripts.{is_known, lists_known}
 use Rattle.hib_base.specs.Tables.{Tables}
 use Rattle.hib_base.specs.Valid.{is_valid}
@@ -23,7 +23,7 @@ use Rattle.hib_journal.specs.Legal
 use Rattle.hib_journal.specs.Legal.{IsLegal, IsStep, due_by, may_come, is_outside, reply_of, fault_of}
 use Rattle.hib_journal.proofs.Steps.{next_act, next_is, steps_in_order}
 use Rattle.hib_entry_fields.specs.Known
-use Rattle.hib_entry_fields.specs.Known.{is_key, is_session, is_tick, is_cell, are_cells}
+use Rattle.hib_entry_fields.specs.Known.{is_key, is_session, is_tick, is_cell}
 use Rattle.hib_entry_texts.specs.WellFormed.{is_act, is_reply, part_of, is_actor, IsEntry, AreEntries}
 use Rattle.hib_formed.specs.Fitting.{AreFit}
 use Rattle.hib_formed.specs.Early.{AreEarly}

@@ -1,8 +1,8 @@
 -- Keys that were removed: a set that keeps the order of insertion, and the list that contracts see.
-use Rattle.std.proofs.Common.{◌≡◌, Bool, true, false, cond, not, ◌||◌, List, [], ◌∷◌, ◌++◌, refl, sym, ap, ◌∙◌, subst, inl, inr}
+use Rattle.std.proofs.Common.{◌≡◌, true, false, cond, ◌||◌, List, [], ◌∷◌, ◌++◌, refl, sym, ap, ◌∙◌, inl, inr}
 use Rattle.std.specs.List.{list_any}
 use Rattle.std.specs.Set.{remove_key}
-use Rattle.std.proofs.lemmas.Bool.{true≢false, false≢true}
+use Rattle.std.proofs.lemmas.Bool.{true≢false}
 use Rattle.hib_base.proofs.Tables.{Tested, tested, same_key_refl, same_key_eq}
 use Rattle.hib_base.specs.Keys.{same_key}
 use Rattle.hib_journal.specs.Types.{Key}

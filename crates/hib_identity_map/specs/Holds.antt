@@ -1,5 +1,5 @@
 -- Instances that stand for what a session's entries hold.
-use Rattle.std.specs.Prelude.{◌≡◌, Bool, true, List, [], ◌∷◌, map, Some, None, Option}
+use Rattle.std.specs.Prelude.{◌≡◌, true, map, Some, None, Option}
 use Rattle.std.specs.List.{filter_map}
 use Rattle.hib_journal.specs.Types.{Key, Held}
 use Rattle.hib_journal.specs.Sessions.{Journal}

@@ -1,5 +1,5 @@
 // Instances by key, in order of arrival.
-ghost use Rattle.std.specs.Prelude.{◌≡◌, ◌↔◌, ◌≢◌, ◌<◌, ◌++◌, [], ◌∷◌, None, Some, IsTrue, OnOk, OnErr, IfOk, length, slice_get, option_copied};
+ghost use Rattle.std.specs.Prelude.{◌≡◌, ◌↔◌, ◌≢◌, ◌<◌, [], None, Some, IsTrue, OnOk, OnErr, length, slice_get, option_copied};
 ghost use Rattle.hib_identity_map.specs.Identity.{empty, look_in, put_in, drop_in, add_in, change_in, written, as_removed, with_sets, remove_last};
 
 use crate::instance::{mark, set_base, set_cells};

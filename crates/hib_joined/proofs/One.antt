@@ -1,28 +1,27 @@
 -- A run whose lists fit together has one journal, and one that is torn has two values that differ.
-use Rattle.std.proofs.Common.{◌≡◌, ◌≢◌, ◌≤◌, ◌^◌, ◌+◌, ℕ, zero, suc, Bool, true, false, ◌&&◌, List, [], ◌∷◌, length, map, Some, None, Option, refl, sym, ap, ◌∙◌, subst, inl, inr, arith}
-use Rattle.std.specs.Prelude.{not, is_some, unwrap_or}
+use Rattle.std.proofs.Common.{◌≡◌, ◌≤◌, ◌^◌, ℕ, zero, suc, Bool, true, false, ◌&&◌, List, [], ◌∷◌, length, map, Some, None, Option, refl, sym, ap, ◌∙◌, subst, inl, inr, arith}
+use Rattle.std.specs.Prelude.{not, is_some}
 use Rattle.std.specs.Option.{option_map}
 use Rattle.hib_base.specs.Tables.{Tables}
 use Rattle.hib_base.specs.declared.entries.Part.{Part}
 use Rattle.hib_journal.specs.Types.{Script}
 use Rattle.hib_journal.specs.Kept.{Kept, past}
-use Rattle.hib_journal.specs.Sessions.{Journal, own, committed, was_killed}
+use Rattle.hib_journal.specs.Sessions.{Journal, committed, was_killed}
 use Rattle.hib_journal.specs.Legal.{IsLegal}
 use Rattle.hib_journal.specs.Lists.{of_part, stored}
 use Rattle.hib_journal.specs.Next.{next}
-use Rattle.hib_journal.specs.Played.{has_next}
-use Rattle.hib_journal.specs.Runs.{ask_count, fault_count, told_committed}
+use Rattle.hib_journal.specs.Runs.{told_committed}
 use Rattle.hib_law.specs.Law.{Obeys}
 use Rattle.hib_split_law.specs.Apart.{HaveSessions, IsStoreAlone, store_ask_count}
-use Rattle.hib_split_law.specs.Merged.{Agrees, AreBounded, AreDue, AreOwnLegal, ArePartsLegal, IsMerged, list_of, of_part_in}
-use Rattle.hib_merge.specs.Tearing.{IsTorn, IsWhole}
+use Rattle.hib_split_law.specs.Merged.{Agrees, AreBounded, AreDue, AreOwnLegal, ArePartsLegal, IsMerged, of_part_in}
+use Rattle.hib_merge.specs.Tearing.{IsTorn}
 use Rattle.hib_merge.specs.declared.tearing.Torn.{Torn}
 use Rattle.hib_core.specs.Bound.{one_if_none, outside_count}
 use Rattle.hib_core.specs.Factory.{AreOver}
 use Rattle.hib_core.specs.Standing.{Origin, RoseBy, RoseWithin}
 use Rattle.hib_split.specs.Alone.{AreAtEnds, AreListed, IsToldBy}
 use Rattle.hib_joined.specs.declared.joining.Joined.{Joined}
-use Rattle.hib_joined.specs.Joined.{AreApart, AreJoined, AreJoinedUnless}
+use Rattle.hib_joined.specs.Joined.{AreApart, AreJoinedUnless}
 use Rattle.hib_joined.specs.Run.{CameToOne, IsOneRun}
 
 -- ---- laws that are called

@@ -11,7 +11,7 @@ use Rattle.hib_journal.specs.Sessions.{Journal, time_in, floor_in, floor_after, 
 use Rattle.hib_journal.specs.Held.{held, pending, is_fresh, is_begin}
 use Rattle.hib_journal.specs.Plan.{Plan, Block, one, each, after, left_of, first_act, InOrder}
 use Rattle.hib_journal.specs.Next
-use Rattle.hib_journal.specs.Next.{strategy, is_cached, is_cached_by, plan_of, next, tables_in, ends}
+use Rattle.hib_journal.specs.Next.{strategy, is_cached, plan_of, next, tables_in, ends}
 use Rattle.hib_journal.specs.Legal.{is_outside}
 use Rattle.hib_journal.specs.Due.{asks_store, found_by, is_removing, is_inserting, asks, is_asked, time_found, Suits, IsAllowed, closes, is_closed}
 

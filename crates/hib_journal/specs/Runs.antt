@@ -1,6 +1,6 @@
 -- What is said of a whole run: its ticks, its committed rows, how often its store may have asked the keeper, and how often that failed; and
 -- what was evicted.
-use Rattle.std.specs.Prelude.{◌≡◌, ℕ, ◌+◌, Bool, true, false, not, [], ◌∷◌, List, length, Some, None, Option, unwrap_or, cond}
+use Rattle.std.specs.Prelude.{◌≡◌, ℕ, ◌+◌, Bool, true, false, not, [], ◌∷◌, List, length, None, Option, unwrap_or, cond}
 use Rattle.std.specs.List.{list_all}
 use Rattle.std.specs.Option.{option_map}
 use Rattle.hib_base.specs.Fits.{is_identifier}

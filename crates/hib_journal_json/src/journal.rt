@@ -5,7 +5,7 @@ ghost use Rattle.hib_journal_json.specs.Entries.{AreEntries, AreLines, IsFirstBa
 ghost use Rattle.hib_journal_json.specs.declared.faults.JournalFault.TheVariants.{NoMemory};
 ghost use Rattle.hib_json_lines.specs.Line.{json_lines};
 ghost use Rattle.hib_lex.specs.Lines.{lines_of};
-ghost use Rattle.std.specs.Prelude.{◌≡◌, ◌↔◌, ◌≤◌, ◌^◌, ℕ, List, [], IsTrue, OnOk, IfErr, IfOk, MatchResult, length, true};
+ghost use Rattle.std.specs.Prelude.{◌≡◌, ◌↔◌, ◌≤◌, ◌^◌, ℕ, List, [], IsTrue, OnOk, IfErr, IfOk, MatchResult, true};
 
 use crate::entries::{is_entry, line_entry};
 use crate::faults::JournalFault;

@@ -5,7 +5,7 @@ ghost use Rattle.hib_outside.specs.declared.keeper.KeepFault.TheVariants.{NoMemo
 use crate::keeper::{SqlKeeper, SqliteKeeper, SqliteTables};
 use hib_outside::{KeepFault, Keeper};
 use hib_sqlite_rows::{MemoryTable, StoreTable};
-use sqlite::{Alter, Connection, Error, ErrorCode, File, FileStore};
+use sqlite::{Alter, Connection, File, FileStore};
 use std::alloc::Global;
 
 /// Opens a keeper in memory, without rows. It is refused for want of memory alone. If SQLite refuses it for another

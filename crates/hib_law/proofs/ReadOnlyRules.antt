@@ -13,7 +13,7 @@ use Rattle.std.proofs.lemmas.Slice.Eq.{bytes_eq-Decides}
 use Rattle.hib_journal.specs.Query.{same_cell}
 use Rattle.hib_journal.specs.Held.{Arrival, arrival, arrived_row, Stay, stay, stay_after, is_break, row_written, last_written, base_of, has_left, cells_set, cells_after, with_cells, instance_of, Instance, held, same_cells, next_version, pending, arrived, removed, insert_by, update_by, delete_by, is_fresh}
 use Rattle.hib_journal.specs.Next
-use Rattle.hib_journal.specs.Next.{tables_in, tables_of, is_in, is_in_tables, mode_reads, mode_puts, strategy}
+use Rattle.hib_journal.specs.Next.{tables_in, is_in, strategy}
 use Rattle.hib_journal.specs.Legal.{IsLegal, IsStep, reply_of, fault_of, set_unless, row_of}
 use Rattle.hib_journal.proofs.Shapes.{insert_of, update_of, delete_of}
 use Rattle.hib_base.proofs.Tables.{Tested, tested, same_key_eq}

@@ -1,5 +1,5 @@
 // Counts, and one entry more of them.
-ghost use Rattle.std.specs.Prelude.{◌≡◌, ◌+◌, ◌<◌, ◌^◌, cond, true, map};
+ghost use Rattle.std.specs.Prelude.{◌≡◌, ◌+◌, ◌<◌, ◌^◌, true};
 ghost use Rattle.hib_listeners.specs.Counts.{is_in};
 ghost use Rattle.hib_listeners.specs.Statistics.{one_if, noted_region, noted_store, noted_queries, IsRegionBelow, IsStoreBelow, AreQueriesBelow};
 

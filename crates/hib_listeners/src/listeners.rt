@@ -1,5 +1,5 @@
 // Several listeners, which are told each entry.
-ghost use Rattle.std.specs.Prelude.{◌≡◌, ◌+◌, ◌≤◌, ◌<◌, ◌++◌, ◌∷◌, [], false, is_ok, drop, map, take, length, slice_index_or};
+ghost use Rattle.std.specs.Prelude.{◌≡◌, ◌+◌, ◌≤◌, ◌<◌, ◌++◌, ◌∷◌, [], false, is_ok, drop, take, length, slice_index_or};
 ghost use Rattle.hib_outside.specs.Hears.{heard_after, left_after, IsDue};
 ghost use Rattle.hib_listeners.specs.Told.{tells, AreTold};
 ghost use Rattle.hib_outside.specs.declared.listener.Heard.TheVariants.{NoMemory};

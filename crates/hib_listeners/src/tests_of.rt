@@ -1,7 +1,7 @@
 // Tests of one entry: whether it is counted.
 ghost use Rattle.std.specs.Prelude.{◌≡◌, ◌&&◌};
 ghost use Rattle.hib_journal.specs.Slot.{key_in};
-ghost use Rattle.hib_listeners.specs.Counts.{is_get, is_hit_reply, is_miss_reply, stores, refuses, locks, evicts, is_expired_reply, loads, lists, writes, is_committed, is_fault_reply, is_query_hit, lacks, keeps, is_drop, is_put_stored, is_insert_stored, is_update_stored};
+ghost use Rattle.hib_listeners.specs.Counts.{is_get, is_hit_reply, is_miss_reply, stores, refuses, locks, evicts, is_expired_reply, loads, lists, writes, is_committed, is_fault_reply, is_query_hit, lacks, keeps, is_drop};
 
 use hib_base::{Act, Checked, Commit, Entry, Inserted, Key, Put, Reply, Unlocked, Updated};
 

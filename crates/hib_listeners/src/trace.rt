@@ -1,9 +1,9 @@
 // A listener that writes a line for each entry.
-ghost use Rattle.std.specs.Prelude.{◌≡◌, ◌++◌, codes, OnOk, OnErr};
+ghost use Rattle.std.specs.Prelude.{◌≡◌, ◌++◌, codes};
 ghost use Rattle.std.specs.Fmt.{decimal};
 ghost use Rattle.std.specs.Io.KnownBytes.{Appends};
 ghost use Rattle.std.specs.declared.option.Option.TheVariants.{None};
-ghost use Rattle.hib_outside.specs.Causes.{one_more, HasCause, Rose};
+ghost use Rattle.hib_outside.specs.Causes.{one_more, Rose};
 ghost use Rattle.hib_outside.specs.Hears.{heard_after, left_after, IsDue};
 ghost use Rattle.hib_outside.specs.declared.listener.Heard.TheVariants.{Stay, Leave, NoMemory};
 

@@ -1,6 +1,6 @@
 // The queries of a made script.
 ghost use Rattle.std.specs.Prelude.{◌≡◌, IfOk};
-ghost use Rattle.hib_make.specs.Queries.{own, behind, query, low, rich, first, orders, made_queries};
+ghost use Rattle.hib_make.specs.Queries.{own, query, low, rich, first, orders, made_queries};
 
 use crate::entities::{AUTHOR, BOOK, CUSTOMER, ORDER};
 use hib_base::{Cell, Cond, EntityNo, Op, Path, Queries, Query, Select, Seq, Sort, Target};

@@ -1,5 +1,5 @@
 -- Cells that tokens are: numbers have 64 bits, texts are short and printable.
-use Rattle.std.proofs.Common.{◌≡◌, Bool, true, false, cond, Option, Some, None, codes, refl}
+use Rattle.std.proofs.Common.{◌≡◌, Bool, true, false, cond, Some, None, codes, refl}
 use Rattle.std.proofs.lemmas.Bool.{false≢true}
 use Rattle.hib_base.specs.Fits.{is_text, is_wide, is_of_type}
 use Rattle.hib_base.specs.declared.rows.Cell.{Cell}

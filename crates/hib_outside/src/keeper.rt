@@ -1,5 +1,5 @@
 // A keeper of tables.
-ghost use Rattle.std.specs.Prelude.{◌≡◌, ◌+◌, ◌≤◌, ◌<◌, ℕ, List, length, true, IfOk, IfSome, OnErr};
+ghost use Rattle.std.specs.Prelude.{◌≡◌, ◌+◌, ◌≤◌, ◌<◌, ℕ, length, true, IfOk, IfSome};
 ghost use Rattle.std.specs.declared.option.Option.{Option};
 ghost use Rattle.hib_base.specs.Tables.{Tables, row_at, in_order};
 ghost use Rattle.hib_outside.specs.Verdicts.{verdict, IsPlace};

@@ -1,5 +1,5 @@
 // Listeners, which are told each entry.
-ghost use Rattle.std.specs.Prelude.{◌≡◌, ◌≢◌, ◌↔◌, ◌+◌, ◌-◌, ◌≤◌, ◌<◌, ℕ, List, [], ◌∷◌, ◌++◌, IfSome, option_copied};
+ghost use Rattle.std.specs.Prelude.{◌≡◌, ◌+◌, ◌-◌, ◌<◌, ℕ, List, option_copied};
 ghost use Rattle.std.specs.declared.option.Option.{Option};
 ghost use Rattle.hib_outside.specs.Types.{Entry};
 ghost use Rattle.hib_outside.specs.Hears.{heard_after, left_after, IsDue, told_at};

@@ -1,6 +1,6 @@
 // A source and a sink in memory, with the numbers of the calls that are to fail.
-ghost use Rattle.std.specs.Prelude.{◌≡◌, ◌↔◌, ◌⊎◌, ◌+◌, ◌≤◌, ◌<◌, [], ◌∷◌, ◌++◌, min, cond, true, is_err, length, take, drop, IfOk, IsErr, OnErr, vec_len, vec_capacity};
-ghost use Rattle.std.specs.declared.option.Option.TheVariants.{Some, None};
+ghost use Rattle.std.specs.Prelude.{◌≡◌, ◌↔◌, ◌⊎◌, ◌+◌, ◌≤◌, ◌<◌, [], min, cond, true, is_err, length, drop, IfOk, IsErr, OnErr, vec_len, vec_capacity};
+ghost use Rattle.std.specs.declared.option.Option.TheVariants.{Some};
 ghost use Rattle.std.specs.Io.{ReadsAtMost, WritesAtMost};
 ghost use Rattle.std.specs.Io.KnownBytes.{ReadConsumes, WriteAppends};
 ghost use Rattle.hib_outside.specs.Causes.{failed_calls, is_due, next_call, one_more, HasCause};

@@ -1,5 +1,5 @@
 // The conditions of queries, in tokens.
-ghost use Rattle.std.specs.Prelude.{◌≡◌, ℕ, List, [], ◌∷◌, OnOk};
+ghost use Rattle.std.specs.Prelude.{◌≡◌, [], ◌∷◌, OnOk};
 ghost use Rattle.hib_lex.specs.declared.lexer.Token.{Token};
 ghost use Rattle.hib_print.specs.Lines.{op_text, subject, condition_tokens};
 ghost use Rattle.hib_print.specs.Steps.{Adds};

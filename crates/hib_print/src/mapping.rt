@@ -1,6 +1,5 @@
 // The lines of entities and of rows.
-ghost use Rattle.std.specs.Prelude.{◌≡◌, ℕ, List, [], ◌∷◌, ◌++◌, map, flat_map, OnOk};
-ghost use Rattle.hib_lex.specs.declared.lexer.Token.{Token};
+ghost use Rattle.std.specs.Prelude.{◌≡◌, [], ◌∷◌, map, flat_map, OnOk};
 ghost use Rattle.hib_print.specs.Lines.{strategy_text, versioning_text, type_tokens, default_tokens, column_line, entity_line, entity_lines, version_tokens, row_line};
 ghost use Rattle.hib_print.specs.Steps.{Adds, AddsLines};
 

@@ -1,5 +1,5 @@
 // Tokens, appended to a text with a space if one stands between them.
-ghost use Rattle.std.specs.Prelude.{◌≡◌, ℕ, ◌+◌, ◌++◌, List, [], ◌∷◌, OnOk, cond, true, false, codes, Some};
+ghost use Rattle.std.specs.Prelude.{◌≡◌, ◌+◌, ◌++◌, [], ◌∷◌, OnOk, cond, true, false, codes, Some};
 ghost use Rattle.hib_lex.specs.declared.lexer.Token.{Token};
 ghost use Rattle.hib_print.specs.Lines.{natural, cell_token, cell_tokens, key_tokens};
 ghost use Rattle.hib_print.specs.Steps.{Adds, AddsLines};

@@ -1,7 +1,6 @@
 // The lines of queries.
-ghost use Rattle.std.specs.Prelude.{◌≡◌, ℕ, List, [], ◌∷◌, ◌++◌, map, flat_map, OnOk};
-ghost use Rattle.hib_print.specs.Lines.{cached_tokens, from_tokens, where_tokens, desc_tokens, sort_tokens, order_tokens, page_tokens, selected, select_tokens, query_line};
-ghost use Rattle.hib_lex.specs.declared.lexer.Token.{Token};
+ghost use Rattle.std.specs.Prelude.{◌≡◌, [], ◌∷◌, ◌++◌, map, flat_map, OnOk};
+ghost use Rattle.hib_print.specs.Lines.{cached_tokens, from_tokens, where_tokens, sort_tokens, order_tokens, page_tokens, selected, query_line};
 ghost use Rattle.hib_print.specs.Steps.{Adds, AddsLines};
 
 use crate::conditions::print_condition;

@@ -1,7 +1,6 @@
 // The lines of sessions and of the schedule.
-ghost use Rattle.std.specs.Prelude.{◌≡◌, ℕ, List, [], ◌∷◌, ◌++◌, map, flat_map, OnOk};
-ghost use Rattle.hib_lex.specs.declared.lexer.Token.{Token};
-ghost use Rattle.hib_print.specs.Lines.{cell_tokens, key_tokens, set_tokens, mode_text, statement_line, end_line, session_lines, order_line, schedule_lines};
+ghost use Rattle.std.specs.Prelude.{◌≡◌, List, map, flat_map, OnOk};
+ghost use Rattle.hib_print.specs.Lines.{set_tokens, mode_text, statement_line, end_line, session_lines, order_line, schedule_lines};
 ghost use Rattle.hib_print.specs.Steps.{Adds, AddsLines};
 
 use crate::printer::Printer;

@@ -11,7 +11,7 @@ use Rattle.hib_journal.specs.Sessions.{Journal, is_restart}
 use Rattle.hib_journal.specs.Room.{add_once}
 use Rattle.hib_journal.specs.Stamps.{names}
 use Rattle.hib_journal.specs.Results as told
-use Rattle.hib_journal.specs.Results.{Result, others, others_after, last_kept, kept_after, dropped, stays}
+use Rattle.hib_journal.specs.Results.{Result, others, others_after, last_kept, kept_after, dropped}
 use Rattle.hib_query_cache.specs.Ranked.{Kept, Ranked, result_of, used, with_result, dropped_for}
 use Rattle.hib_query_cache.specs.Standing.{place, is_ahead, AreRanked, IsResults, results_after, IsAnswered}
 use Rattle.hib_query_cache.proofs.Places as places

@@ -1,5 +1,5 @@
 // What a query gives.
-ghost use Rattle.std.specs.Prelude.{◌≡◌, ◌∷◌, pos, take, drop, map, length, true, slice_get, ◌<◌, ◌^◌, [], IfOk, unwrap_or, false};
+ghost use Rattle.std.specs.Prelude.{◌≡◌, ◌∷◌, pos, take, drop, map, true, slice_get, ◌<◌, ◌^◌, [], IfOk, unwrap_or, false};
 ghost use Rattle.hib_base.specs.Tables.{in_order};
 ghost use Rattle.hib_journal.specs.Query.{listed, sorted, selected, gives};
 ghost use Rattle.hib_journal.specs.Types.{Cell};

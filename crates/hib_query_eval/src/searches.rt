@@ -1,8 +1,7 @@
 // The rows that a query lists, by an index and with changes laid over.
 ghost use Rattle.std.specs.Prelude.{◌≡◌, ℕ, true, [], None, Ok, Some, IfOk, IfSome, OnOk, map, option_copied};
 ghost use Rattle.std.specs.List.Sorted.{IsStrictlyIncreasing};
-ghost use Rattle.hib_base.specs.Tables.{Tables, in_order, row_at, after_changes};
-ghost use Rattle.hib_journal.specs.Types.{Row as RowSpec};
+ghost use Rattle.hib_base.specs.Tables.{Tables, in_order, after_changes};
 ghost use Rattle.hib_journal.specs.Room.{key as key_at};
 ghost use Rattle.hib_journal.specs.Query.{listed};
 ghost use Rattle.hib_query_eval.specs.Covers.{HasAll, HasMet};

@@ -1,7 +1,7 @@
 -- Sessions and the schedule of a printed script, read back.
-use Rattle.std.proofs.Common.{◌≡◌, ℕ, ◌+◌, ◌≤◌, ◌<◌, Bool, true, false, not, cond, List, [], ◌∷◌, ◌++◌, length, map, flat_map, codes, None, Ok, refl, sym, ap, subst, ◌∙◌, append_assoc, length-append, arith}
+use Rattle.std.proofs.Common.{◌≡◌, ℕ, ◌+◌, ◌≤◌, ◌<◌, Bool, true, false, cond, List, [], ◌∷◌, ◌++◌, length, map, flat_map, codes, None, Ok, refl, sym, ap, subst, ◌∙◌, append_assoc, length-append, arith}
 use Rattle.std.specs.List.{list_all}
-use Rattle.std.proofs.lemmas.Bool.{and_parts, lt-ltb, not-true}
+use Rattle.std.proofs.lemmas.Bool.{and_parts, lt-ltb}
 use Rattle.std.proofs.lemmas.List.{append-nil}
 use Rattle.std.proofs.lemmas.List.Sums.{sum_by-cons}
 use Rattle.hib_base.specs.declared.numbers.Key.{Key}
@@ -12,7 +12,7 @@ use Rattle.hib_base.specs.declared.scripts.Order.{Order}
 use Rattle.hib_base.specs.declared.scripts.Script.{Script}
 use Rattle.hib_base.specs.Fits.{fits_statement}
 use Rattle.hib_base.specs.Queries.{Said}
-use Rattle.hib_base.specs.Scripts.{ends, are_over, is_over, statement_count, is_known, lists_known, evicts_cached}
+use Rattle.hib_base.specs.Scripts.{are_over, is_over, statement_count, is_known, lists_known, evicts_cached}
 use Rattle.hib_base.specs.Valid.{is_order_in}
 use Rattle.hib_base.specs.Words.{are_names, is_reserved}
 use Rattle.hib_lex.specs.Words.{begins}

@@ -1,12 +1,12 @@
 // What became of the sessions, found in one pass over the entries.
-ghost use Rattle.std.specs.Prelude.{◌≡◌, ◌∷◌, ◌||◌, ◌==◌, ◌<◌, ◌≤◌, ℕ, ◌^◌, cond, true, length, slice_get, IfOk, Some, reverse};
+ghost use Rattle.std.specs.Prelude.{◌≡◌, ◌||◌, ◌<◌, ℕ, cond, true, length, slice_get, IfOk, Some, reverse};
 ghost use Rattle.std.specs.Option.{option_map};
 ghost use Rattle.hib_journal.specs.Sessions.{is_by};
 ghost use Rattle.hib_journal.specs.Legal.{outcome_after};
 ghost use Rattle.hib_report.specs.declared.fates.Fate.{Fate};
 ghost use Rattle.hib_report.specs.Fates.{is_lost_at, own_noted, kill_noted, kills, restart_after, IsFateOf};
 
-use hib_base::{Act, Commit, Entry, Outcome, Reply, SessionNo};
+use hib_base::{Act, Commit, Entry, Outcome, Reply};
 use std::alloc::{AllocError, Global};
 
 /// What is known of a session.

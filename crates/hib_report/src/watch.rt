@@ -1,7 +1,6 @@
 // What is known of keys after the entries that were noted, since the last restart. Each entry is noted once.
 
 ghost use Rattle.std.specs.Prelude.{◌≡◌, ◌∷◌, [], ℕ, cond, ◌&&◌, ◌==◌, OnOk, Some, true, false};
-ghost use Rattle.std.specs.List.{list_any};
 ghost use Rattle.hib_base.specs.Keys.{same_key};
 ghost use Rattle.hib_journal.specs.Types.{Key};
 ghost use Rattle.hib_journal.specs.Sessions.{Journal, is_by, is_restart, committer};

@@ -1,7 +1,6 @@
 // The read-write region.
-ghost use Rattle.std.specs.Prelude.{◌≡◌, ◌+◌, ◌≤◌, ◌<◌, ◌^◌, ℕ, None, Some, true, false, IsOk, IfOk, OnOk, OnErr, nat_eq, ◌==◌};
+ghost use Rattle.std.specs.Prelude.{◌≡◌, ◌+◌, ◌≤◌, ◌<◌, ◌^◌, ℕ, None, Some, true, false, IsOk, IfOk, OnOk, OnErr, ◌==◌};
 ghost use Rattle.std.specs.Option.{option_flatten, option_map_or};
-ghost use Rattle.std.specs.Map.{lookup};
 ghost use Rattle.hib_journal.specs.Regions as Regions;
 ghost use Rattle.hib_journal.specs.Room.{has_entry};
 ghost use Rattle.hib_soft_lock.specs.Steps.{holders_in};

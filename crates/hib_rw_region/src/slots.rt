@@ -1,5 +1,5 @@
 // Slots by identifier, in order of insertion.
-ghost use Rattle.std.specs.Prelude.{◌≡◌, ◌≤◌, ◌<◌, ◌^◌, ◌↔◌, ℕ, None, Some, true, false, [], IsOk, OnOk, OnErr, nat_eq, is_some};
+ghost use Rattle.std.specs.Prelude.{◌≡◌, ◌≤◌, ◌<◌, ◌^◌, ℕ, None, Some, true, false, [], IsOk, OnOk, OnErr, nat_eq, is_some};
 ghost use Rattle.std.specs.Map.{lookup, remove_entry};
 ghost use Rattle.indexmap.specs.IndexMap.{insert_entry};
 ghost use Rattle.hib_journal.specs.Room.{may_leave as may_go};

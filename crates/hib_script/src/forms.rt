@@ -1,5 +1,4 @@
 // The forms of lines that are no declarations, and the names in lines.
-ghost use Rattle.hib_mapping.specs.Parts.{word_of};
 ghost use Rattle.hib_script.specs.Lines as lines;
 ghost use Rattle.std.specs.Prelude.{◌≡◌};
 

@@ -1,7 +1,7 @@
 // What one line adds to a script, by where it stands.
 ghost use Rattle.hib_script.specs.Drafts.{reader_of};
 ghost use Rattle.hib_script.specs.Lines as lines;
-ghost use Rattle.std.specs.Prelude.{◌≡◌, IfOk, IfErr, OnOk, Ok};
+ghost use Rattle.std.specs.Prelude.{◌≡◌, IfErr, OnOk, Ok};
 
 use crate::declarations::{
     column_line, entity_line, header_line, query_line, results_line, row_line, timeout_line,

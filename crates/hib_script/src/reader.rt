@@ -1,6 +1,5 @@
 // The script of a text.
 ghost use Rattle.hib_base.specs.Valid.{is_valid};
-ghost use Rattle.hib_lex.specs.Lines.{lex_of};
 ghost use Rattle.hib_script.specs.Script.{begins_column};
 ghost use Rattle.hib_script.specs.Drafts.{reader_of};
 ghost use Rattle.hib_script.specs.Outline.{outline_of};

@@ -10,7 +10,7 @@ use hib_listeners::Trace;
 use hib_outside::{Keeper, OpenGate, StdSink, StdSource};
 use hib_top::{Status, top};
 use hib_words::Command;
-use std::alloc::{AllocError, Global};
+use std::alloc::AllocError;
 use std::io::Stderr;
 use std::sync::Wait;
 use std::thread::Threads;

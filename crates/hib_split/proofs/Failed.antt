@@ -1,6 +1,5 @@
 -- A count that rose by some at least hasn't fallen.
-use Rattle.std.proofs.Common.{◌+◌, ◌-◌, ◌^◌, ◌≤◌, ℕ, Option, arith}
-use Rattle.std.specs.Prelude.{min}
+use Rattle.std.proofs.Common.{ℕ, Option, arith}
 use Rattle.hib_base.specs.Tables.{Tables}
 use Rattle.hib_journal.specs.Sessions.{Journal}
 use Rattle.hib_engines.specs.Counts.{RoseBy}

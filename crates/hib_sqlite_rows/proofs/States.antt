@@ -4,14 +4,13 @@ use Rattle.std.proofs.lemmas.Bool.{cases_Bool}
 use Rattle.sqlite_value.specs.Order.{Row as SqlRow}
 use Rattle.sqlite.specs.Effect.{Database}
 use Rattle.sqlite.specs.Tree.{Trees}
-use Rattle.sqlite.specs.Command.{Command}
 use Rattle.sqlite.specs.Command.TheVariants.{Begin, Commit, Rollback, CreateTable, Nothing, Release, RollbackTo}
 use Rattle.sqlite_schema.specs.declared.command.Returning.{Returning}
 use Rattle.sqlite.specs.declared.error.Error.{Error}
 use Rattle.sqlite.specs.Listing.{understood}
 use Rattle.sqlite.specs.Clock.{timed}
 use Rattle.sqlite_resolve.specs.declared.compiled.Compiled.{Compiled}
-use Rattle.sqlite.specs.State.{State, Executes, Writes as Wrote, Runs, Shows, Shown, ShowsRows, FailsToQuery, FailsToShow, IsUnchanged, IsRolledBack, IsNotRun, IsNoStatement, RunsAlone, RunsCommand, Fails, IsStatement, Survives, HasCleanDisk, text_of, shows_rows}
+use Rattle.sqlite.specs.State.{State, Executes, Writes as Wrote, Shows, Shown, ShowsRows, FailsToQuery, FailsToShow, IsUnchanged, IsRolledBack, IsNotRun, IsNoStatement, RunsCommand, Survives, HasCleanDisk, shows_rows}
 use Rattle.sqlite.proofs.Callers.{IsPlain, runs_as, command_of}
 use Rattle.sqlite_tied.specs.Compute.{everything}
 use Rattle.sqlite_resolve.specs.declared.error.CompileError.{CompileError}

@@ -1,5 +1,5 @@
 // Cells, and their bytes.
-ghost use Rattle.std.specs.Prelude.{◌≡◌, ◌≤◌, ◌↔◌, ◌+◌, ◌++◌, length, take, drop, [], ◌∷◌, Some, None, IsTrue, IsSome, IfOk, IfSome, OnOk, MatchOption};
+ghost use Rattle.std.specs.Prelude.{◌≡◌, ◌≤◌, ◌↔◌, ◌+◌, ◌++◌, length, drop, Some, None, IsTrue, IsSome, IfOk, IfSome, OnOk, MatchOption};
 ghost use Rattle.hib_sqlite_rows.specs.Body.{packed_cell, packed, taken, unpacked, IsPackableCell, IsPackable, IsBody};
 
 use hib_base::{Bytes, Cell, Cells, Seq};

@@ -1,10 +1,7 @@
 // The table over memory, which tells its rows.
-ghost use Rattle.std.specs.Prelude.{◌≡◌, ◌≢◌, ◌<◌, ◌^◌, [], None, Some, true, false, IfOk, IfSome, OnOk, OnErr};
-ghost use Rattle.std.specs.declared.option.Option.{Option};
-ghost use Rattle.hib_base.specs.Tables.{row_at, with_row, without_row, in_order};
-ghost use Rattle.hib_sqlite_rows.specs.Told.{Told, at_rest, changed, begun, committed, rolled_back, LeavesOrUndoes};
+ghost use Rattle.std.specs.Prelude.{◌≡◌, ◌<◌, [], Some, true, IfOk};
+ghost use Rattle.hib_sqlite_rows.specs.Told.{at_rest};
 ghost use Rattle.hib_sqlite_rows.specs.Stored.{told_of};
-ghost use Rattle.hib_sqlite_rows.specs.Shown.{ShowsKey, ShowsEntity, IsInRange};
 
 use crate::{RowTable, pack, statements};
 use hib_base::{EntityNo, Key, Row};

@@ -1,12 +1,11 @@
 -- Sessions by their names, and one session more.
-use Rattle.std.proofs.Common.{◌≡◌, ℕ, ◌+◌, inl, inr, Bool, true, false, cond, ◌||◌, List, [], ◌∷◌, ◌++◌, length, position, bytes_eq, Option, Some, None, is_some, refl, sym, ap, subst, ◌∙◌, arith, add-one}
+use Rattle.std.proofs.Common.{◌≡◌, ℕ, ◌+◌, inl, inr, Bool, true, false, cond, ◌||◌, List, [], ◌∷◌, ◌++◌, length, position, bytes_eq, Option, Some, None, is_some, refl, sym, ap, subst, ◌∙◌, arith}
 use Rattle.std.specs.List.{list_any, position_from}
 use Rattle.std.specs.declared.alloc.Global.{Global}
 use Rattle.std.specs.declared.vec.Vec.{Vec}
 use Rattle.std.proofs.lemmas.Iterator.Adapters.{position_from-zero}
 use Rattle.indexmap.specs.IndexMap.{insert_entry}
 use Rattle.hib_base.proofs.Tables.{Tested, tested}
-use Rattle.hib_base.specs.declared.scripts.SessionDef.{SessionDef}
 use Rattle.hib_statements.specs.Places.{place_of, or_place}
 use Rattle.hib_statements.proofs.Sets.{same_bytes}
 

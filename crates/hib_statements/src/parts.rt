@@ -1,7 +1,6 @@
 // Keys, cells and pairs of columns and cells, from tokens.
 ghost use Rattle.hib_statements.specs.Parts as parts;
-ghost use Rattle.std.specs.Prelude.{◌≡◌, ◌++◌, IfOk, length, bytes_eq};
-ghost use Rattle.std.specs.List.{list_any};
+ghost use Rattle.std.specs.Prelude.{◌≡◌, IfOk, length};
 
 use hib_base::{Cell, Cells, ColumnDef, EntityDef, Key, Kind, Seq, Sets, Text};
 use hib_columns::{Found, place_or_first, plain_column};

@@ -1,6 +1,6 @@
 // What the store asks its keeper.
-ghost use Rattle.std.specs.Prelude.{◌≡◌, ◌≢◌, ◌+◌, ◌≤◌, ℕ, length, true, [], Ok, None, IfOk, IfSome, IsSome, OnOk};
-ghost use Rattle.hib_base.specs.Tables.{row_at, commit_answer};
+ghost use Rattle.std.specs.Prelude.{◌≡◌, ◌≢◌, ◌+◌, ◌≤◌, length, true, [], Ok, None, IfOk, IfSome, IsSome, OnOk};
+ghost use Rattle.hib_base.specs.Tables.{commit_answer};
 ghost use Rattle.hib_outside.specs.Causes.{Rose};
 ghost use Rattle.hib_outside.specs.Verdicts.{commit_of, IsPlace};
 ghost use Rattle.hib_query_eval.specs.Reads.{read_by};

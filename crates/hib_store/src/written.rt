@@ -1,5 +1,5 @@
 // The changes that sessions have written, by session.
-ghost use Rattle.std.specs.Prelude.{◌≡◌, ◌<◌, ◌++◌, ◌∷◌, ◌==◌, cond, ℕ, [], length, true, IsTrue, IfOk, OnOk, OnErr, option_copied};
+ghost use Rattle.std.specs.Prelude.{◌≡◌, ◌<◌, ◌++◌, ◌∷◌, ◌==◌, cond, ℕ, [], IfOk, OnOk, OnErr, option_copied};
 ghost use Rattle.hib_base.specs.Keys.{same_key};
 ghost use Rattle.hib_base.specs.Tables.{last_on, row_left};
 ghost use Rattle.hib_store.specs.Stores.{changes_in};

@@ -1,11 +1,11 @@
 -- The entries of a run are few, with early ticks; so they are well formed if the rows at the start fit.
-use Rattle.std.proofs.Common.{◌≡◌, ℕ, suc, zero, ◌+◌, ◌≤◌, ◌^◌, Bool, true, List, [], ◌∷◌, length, reverse, slice_get, Some, None, Option, IfSome, refl, ap, arith}
+use Rattle.std.proofs.Common.{◌≡◌, ℕ, suc, zero, ◌+◌, ◌≤◌, ◌^◌, true, List, [], ◌∷◌, length, reverse, slice_get, Some, None, Option, IfSome, ap, arith}
 use Rattle.std.proofs.lemmas.List.Sums.{sum_by-cons}
 use Rattle.hib_base.specs.Scripts.{statement_count}
 use Rattle.hib_base.specs.Tables.{Tables}
 use Rattle.hib_base.specs.Valid.{is_valid}
 use Rattle.hib_base.proofs.Valid.{Rules, rules}
-use Rattle.hib_journal.specs.Types.{Script, SessionDef, Entry}
+use Rattle.hib_journal.specs.Types.{Script, SessionDef}
 use Rattle.hib_journal.specs.Legal.{IsLegal}
 use Rattle.hib_journal.specs.Runs.{name_identifiers}
 use Rattle.hib_journal.specs.Sessions.{Journal}

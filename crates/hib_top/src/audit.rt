@@ -4,9 +4,9 @@ ghost use Rattle.hib_journal.specs.Kept.{past};
 ghost use Rattle.hib_base.specs.Valid.{is_valid};
 ghost use Rattle.hib_outside.specs.Causes.{Rose};
 ghost use Rattle.hib_listeners.specs.Told.{tells};
-ghost use Rattle.hib_audit_input.specs.Input.{IsInput, IsWholeInput};
+ghost use Rattle.hib_audit_input.specs.Input.{IsWholeInput};
 ghost use Rattle.hib_top.specs.Streams.{ReadsFew};
-ghost use Rattle.hib_top.specs.Play.{Audits, Judges, HasText, HasJudged, HasJournal, HasNoInput, IsJudged, IsSaid, IsWritten, IsCompleted, AreHandedBack, is_short, status_said, verdict_text};
+ghost use Rattle.hib_top.specs.Play.{Audits, Judges, HasJudged, HasJournal, HasNoInput, IsJudged, IsSaid, IsWritten, IsCompleted, AreHandedBack, is_short, status_said, verdict_text};
 
 use crate::play::{Ended, stop, write_text};
 use crate::status::{Status, put_illegal};

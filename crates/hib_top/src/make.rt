@@ -1,5 +1,5 @@
 // Made scripts: their runs, and their texts.
-ghost use Rattle.std.specs.Prelude.{◌≡◌, ◌≢◌, ◌+◌, [], IfOk, Some};
+ghost use Rattle.std.specs.Prelude.{◌≡◌, ◌≢◌, ◌+◌, [], IfOk};
 ghost use Rattle.hib_journal.specs.Kept.{past};
 ghost use Rattle.hib_journal.specs.Runs.{ask_count, fault_count};
 ghost use Rattle.hib_core.specs.Standing.{RoseBy, RoseWithin};

@@ -1,5 +1,5 @@
 // The run of a script by its schedule, and what is told of a run.
-ghost use Rattle.std.specs.Prelude.{◌+◌, ◌++◌, ◌≡◌, ◌≢◌, ◌<◌, [], codes, length, true, IfOk, IfErr, IfSome, Some, Option};
+ghost use Rattle.std.specs.Prelude.{◌+◌, ◌++◌, ◌≡◌, ◌≢◌, ◌<◌, [], codes, length, true, IfOk, IfErr, IfSome, Option};
 ghost use Rattle.std.specs.Fmt.{decimal};
 ghost use Rattle.hib_journal.specs.Kept.{past};
 ghost use Rattle.hib_journal.specs.Runs.{ask_count, fault_count};

@@ -5,7 +5,7 @@ ghost use Rattle.hib_outside.specs.Causes.{Rose};
 ghost use Rattle.hib_top.specs.Streams.{ReadsFew};
 
 use hib_outside::{Failed, Source};
-use std::alloc::{AllocError, AllocFailed, Global};
+use std::alloc::{AllocError, Global};
 use thiserror::Error;
 
 /// Why nothing was read.

@@ -1,5 +1,5 @@
 -- What words ask of main itself, and what a command asks of it.
-use Rattle.std.specs.Prelude.{Bool, false, List, [], ◌∷◌, Option, None, codes}
+use Rattle.std.specs.Prelude.{Bool, false, List, [], ◌∷◌, Option, Some, None, if◌then◌else◌, codes}
 use Rattle.std.specs.Str.{bytes_eq}
 use Rattle.hib_words.specs.Given.{Text}
 use Rattle.hib_words.specs.Commands.{Asked, play, work, make, audit}

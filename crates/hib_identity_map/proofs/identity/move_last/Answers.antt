@@ -1,4 +1,4 @@
-use Rattle.std.proofs.Common.{◌≡◌, ◌∙◌, ap}
+use Rattle.std.proofs.Common.{◌∙◌, ap}
 use Rattle.std.specs.Set.{remove_key}
 use Rattle.hib_base.specs.Keys.{same_key}
 use Rattle.hib_identity_map.proofs.Removals.{moved_last}

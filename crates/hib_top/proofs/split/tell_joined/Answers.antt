@@ -1,4 +1,4 @@
-use Rattle.std.proofs.Common.{Option, List, sym, subst}
+use Rattle.std.proofs.Common.{sym, subst}
 use Rattle.hib_journal.specs.Kept.{past}
 use Rattle.hib_journal.specs.Types.{Script}
 use Rattle.hib_joined.specs.declared.joining.Joined.{Joined}

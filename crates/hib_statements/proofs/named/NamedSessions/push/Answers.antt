@@ -1,5 +1,4 @@
-use Rattle.std.proofs.Common.{◌≡◌, ◌++◌, ◌∷◌, [], cond, Some, None, length, position, bytes_eq, sym, ap, ◌∙◌}
-use Rattle.hib_statements.specs.Places.{place_of, or_place}
+use Rattle.std.proofs.Common.{◌≡◌, bytes_eq, sym, ◌∙◌}
 use Rattle.hib_statements.proofs.SessionPlaces.{position_last}
 use Rattle.hib_statements.proofs.named.NamedSessions.push.Goals as goal
 
