@@ -1,5 +1,5 @@
 -- The columns that words name are there, and of the types that are said of them.
-use Rattle.std.proofs.Common.{◌≡◌, ℕ, zero, suc, ◌<◌, Bool, true, cond, ◌==◌, nat_lt, List, [], ◌∷◌, length, Option, Some, None, refl, sym, subst, arith, eq-eqb}
+use Rattle.std.proofs.Common.{◌≡◌, ℕ, zero, suc, ◌<◌, true, cond, ◌==◌, nat_lt, List, [], ◌∷◌, length, Option, Some, None, refl, sym, subst, arith, eq-eqb}
 use Rattle.std.specs.Prelude.{slice_get, option_and_then, unwrap_or}
 use Rattle.std.proofs.lemmas.Bool.{lt-ltb}
 use Rattle.hib_base.specs.Fits.{entity_columns, kind_in, type_at, type_led, type_of_path}

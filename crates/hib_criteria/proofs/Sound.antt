@@ -4,7 +4,6 @@ use Rattle.std.specs.Prelude.{is_none, is_some, unwrap_or}
 use Rattle.std.specs.List.{list_all}
 use Rattle.std.proofs.lemmas.Bool.{and_parts, and_from, or_parts, lt-ltb, le-leb, true≢false, false≢true}
 use Rattle.hib_base.specs.Fits.{entity_columns, fits_part, fits_sort, fits_select, fits_query}
-use Rattle.hib_base.specs.Fits as fits
 use Rattle.hib_base.specs.Queries.{Said}
 use Rattle.hib_base.specs.Valid.{is_short, is_cut, counts_all}
 use Rattle.hib_base.specs.Words.{is_reserved}
@@ -21,7 +20,6 @@ use Rattle.hib_lex.proofs.Lexed.{is_lexed, are_lexed}
 use Rattle.hib_mapping.specs.Parts.{is_a_word, is_a_number, word_of, is_within, number_up_to}
 use Rattle.hib_columns.specs.Columns.{columns_of, plain_column, place_or_first}
 use Rattle.hib_mapping.specs.Cells.{cell_of}
-use Rattle.hib_columns.specs.declared.columns.Column.{Column}
 use Rattle.hib_columns.specs.declared.columns.Found.{Found}
 use Rattle.hib_mapping.proofs.TypedCells.{cell_sound}
 use Rattle.hib_columns.proofs.Typed.{IsColumn, plain_typed}

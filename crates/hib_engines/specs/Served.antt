@@ -1,5 +1,5 @@
 -- What an engine owes for an act that it answers.
-use Rattle.std.specs.Prelude.{◌<◌, ℕ, Bool, true, false, List, ◌∷◌, length, Option}
+use Rattle.std.specs.Prelude.{◌<◌, ℕ, Bool, true, false, ◌∷◌, length, Option}
 use Rattle.std.specs.List.{All}
 use Rattle.hib_journal.specs.Types.{Script, Part, Act, Reply}
 use Rattle.hib_journal.specs.Sessions.{Journal, same_part}

@@ -10,7 +10,6 @@ use Rattle.hib_base.specs.Keys.{same_key}
 use Rattle.hib_base.proofs.Tables.{Tested, tested}
 use Rattle.hib_journal.specs.Types.{Key, Row, Cell, Change, State, Script, Act, Reply, Entry}
 use Rattle.hib_journal.specs.Sessions.{Journal}
-use Rattle.hib_journal.specs.Held
 use Rattle.hib_journal.specs.Held.{Arrival, arrival, arrived_key, arrived_row, is_break, Stay, longer, stay_after, stay, row_written, has_left, last_written, base_of, with_cells, cells_after, cells_set, Instance, instance_of, held, without_key, arrived, key_removed, removed, same_cells, next_version, insert_by, update_by, delete_by, pending}
 use Rattle.hib_journal.specs.Legal.{row_of, unless_removed}
 use Rattle.hib_journal.proofs.Shapes.{insert_of, update_of, delete_of}

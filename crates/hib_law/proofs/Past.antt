@@ -3,13 +3,12 @@ use Rattle.std.proofs.Common.{◌≡◌, ℕ, ◌<◌, ◌≤◌, ◌⊎◌, inl
 use Rattle.hib_journal.specs.Types.{Script, Entry}
 use Rattle.hib_base.specs.Tables.{Tables}
 use Rattle.hib_journal.specs.Sessions.{Journal, IsTimely, is_by, same_session, own, is_open, is_restart, last_tick}
-use Rattle.hib_journal.specs.Query
 use Rattle.hib_journal.specs.Legal.{IsLegal}
 use Rattle.hib_journal.specs.Sound.{up_to}
 use Rattle.hib_law.specs.Prefixes.{AtEachEntry}
 use Rattle.hib_base.proofs.Tables.{Tested, tested}
 use Rattle.hib_journal.proofs.Sessions.{IsOrdered, by, is_some_session}
-use Rattle.hib_law.proofs.Coherent.{open_before, closed, ordered}
+use Rattle.hib_law.proofs.Coherent.{open_before, closed}
 
 -- an entry of s comes after the earlier ones of s
 pub later_in_session : (s : ℕ) (e : Entry) (h : Journal) → IsTimely e h → is_by s e ≡ true → last_tick (by s) h < e.tick

@@ -13,7 +13,6 @@ use Rattle.hib_journal.specs.Types.{Cell, Op, Row, Path, Target, Cond}
 use Rattle.hib_base.specs.Tables.{Tables, row_at}
 use Rattle.hib_journal.specs.Room.{key}
 use Rattle.hib_journal.specs.Query.{is_below_text, is_below_cell, is_below_at, passes, same_cell, row_of_ref, cell_at, cell_by, holds}
-use Rattle.hib_journal.specs.Query as told
 use Rattle.hib_query_eval.specs.declared.places.Place.{Place}
 use Rattle.hib_query_eval.specs.declared.places.Value.{Value}
 use Rattle.hib_query_eval.specs.Orders.{kind}
