@@ -2,7 +2,7 @@
 use crate::row::Row;
 use crate::words::words_of;
 use crate::world::{keeper_of, sink_with, source_with};
-use hib_outside::{Keeper, Listener, MemKeeper, MemSink, OpenGate};
+use hib_outside::{Keeper, Listener, MemKeeper, MemSink, MemSource, OpenGate};
 use hib_top::{Ended, Status, status_line, top};
 use std::alloc::{AllocError, Global};
 use std::sync::Wait;
@@ -49,6 +49,28 @@ fn left_by(
     })
 }
 
+/// Runs the top call with these words over a source, a sink and a keeper.
+fn end<R: Threads + Wait + Sync>(
+    rt: &R,
+    alloc: Global,
+    words: &[String],
+    source: &mut MemSource,
+    sink: &mut MemSink,
+    keeper: MemKeeper,
+) -> Result<Came, AllocError> {
+    let ended = top(
+        rt,
+        alloc,
+        words,
+        source,
+        sink,
+        keeper,
+        &OpenGate,
+        Vec::new(alloc),
+    );
+    left_by(alloc, &ended, sink)
+}
+
 /// Runs the top call with these words on an input, over objects in memory that fail as a row says, and a sink with this room.
 fn play<R: Threads + Wait + Sync>(
     rt: &R,
@@ -61,17 +83,7 @@ fn play<R: Threads + Wait + Sync>(
     let mut source = source_with(alloc, input, row.numbers(alloc, "source-fails")?)?;
     let mut sink = sink_with(alloc, room, row.numbers(alloc, "sink-fails")?)?;
     let keeper = keeper_of(alloc, row)?;
-    let ended = top(
-        rt,
-        alloc,
-        words,
-        &mut source,
-        &mut sink,
-        keeper,
-        &OpenGate,
-        Vec::new(alloc),
-    );
-    left_by(alloc, &ended, &sink)
+    end(rt, alloc, words, &mut source, &mut sink, keeper)
 }
 
 /// Runs the top call with the words of this line of a row.

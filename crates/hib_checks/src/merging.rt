@@ -1,6 +1,7 @@
 // The lists of two sessions that only commit, by direct calls: merged, with one of them cut, and with ticks that aren't due.
-ghost use Rattle.std.specs.Prelude.{◌≡◌, ◌<◌, map, IfOk};
+ghost use Rattle.std.specs.Prelude.{◌≡◌, ◌<◌, map, true, IfOk, IfSome};
 ghost use Rattle.hib_base.specs.declared.entries.Part.{Part};
+ghost use Rattle.hib_base.specs.Valid.{is_valid};
 ghost use Rattle.hib_journal.specs.Kept.{past};
 ghost use Rattle.hib_merge.specs.Merging.{AreRising, IsInOne, IsRising};
 ghost use Rattle.hib_parts.specs.Listed.{AreOf};
@@ -30,6 +31,13 @@ const MERGED: &[u8] = b"1 a registry begin = floor 1
 3 b store commit = committed
 4 b registry end = committed
 ";
+
+const END_OF_A: &[u8] = b"3 a registry end = committed";
+
+const LATE_COMMIT: &[u8] = b"4 b store commit = committed";
+
+/// No list here is longer.
+const MOST: usize = 64;
 
 const A: SessionNo = SessionNo(0);
 
@@ -147,6 +155,21 @@ fn mine(alloc: Global, is_cut: bool, committed: u64, ended: u64) -> Result<Lists
     Ok(lists)
 }
 
+/// The script of the two sessions, or none if there isn't memory for it.
+fn two(alloc: Global) -> Option<Script>
+    ensures { IfSome result (λ s. is_valid s ≡ true) }
+{
+    hib_script::read(alloc, TWO).ok()
+}
+
+/// The merged list of the parts, with the ticks of b's commit and of its end.
+fn merged(alloc: Global, committed: u64, ended: u64) -> Result<Journal, AllocError>
+    requires committed { 2 < committed }
+    requires ended { 3 < ended }
+{
+    merge(alloc, &parts(alloc, committed, ended)?)
+}
+
 /// The entries as lines.
 fn lines_of(alloc: Global, script: &Script, entries: &[Entry]) -> Result<Vec<u8>, AllocError> {
     let mut lines = Vec::new(alloc);
@@ -163,69 +186,141 @@ fn is_line(alloc: Global, script: &Script, entry: &Entry, text: &[u8]) -> Result
     Ok(line(alloc, script, entry)?.as_slice() == text)
 }
 
-/// Whether the lists of the parts come to the merged one, which is legal and agrees with those of the sessions.
-pub fn comes_in_turn(alloc: Global) -> Result<bool, AllocError> {
-    let Ok(script) = hib_script::read(alloc, TWO) else {
-        return Ok(false);
-    };
-    let merged = merge(alloc, &parts(alloc, 3, 4)?)?;
-    if merged.len() != 6 {
-        return Ok(false);
-    }
-    let is_legal = audit(alloc, &script, &merged)? == Audit::Legal;
-    let lines = lines_of(alloc, &script, merged.as_slice())?;
-    let is_torn = agree(alloc, &merged, &mine(alloc, false, 3, 4)?)?.is_some();
-    Ok(is_legal && lines.as_slice() == MERGED && !is_torn)
+/// Whether a list has the lines of the merged one.
+fn has_lines(alloc: Global, script: &Script, list: &Journal) -> Result<bool, AllocError> {
+    Ok(lines_of(alloc, script, list.as_slice())?.as_slice() == MERGED)
 }
 
-/// Whether a list ends where there is an entry with this line.
-fn ends_before(
+/// Whether a list is legal by the audit.
+fn is_legal(alloc: Global, script: &Script, list: &Journal) -> Result<bool, AllocError>
+    requires { is_valid script.now ≡ true }
+{
+    if list.len() > MOST {
+        return Ok(false);
+    }
+    Ok(audit(alloc, script, list)? == Audit::Legal)
+}
+
+/// What is found of a merged list and the lists of the sessions.
+#[derive(Clone, Copy)]
+enum Found {
+    /// They agree, and each tick is due.
+    Whole,
+    /// The list of a ends where there is its end.
+    EndOfA,
+    /// The commit of b has another tick than 3, which is due.
+    LateCommit,
+    /// Something else is torn.
+    Another,
+}
+
+/// What is found if an entry has this line.
+fn found_if(
     alloc: Global,
     script: &Script,
-    listed: Option<Entry>,
-    own: Option<Entry>,
+    entry: &Entry,
     text: &[u8],
-) -> Result<bool, AllocError> {
-    match own {
-        Some(entry) if listed.is_none() => is_line(alloc, script, &entry, text),
-        _ => Ok(false),
+    found: Found,
+) -> Result<Found, AllocError> {
+    if is_line(alloc, script, entry, text)? {
+        Ok(found)
+    } else {
+        Ok(Found::Another)
     }
 }
 
-/// What is torn of the lists of parts and of those of sessions, with the ticks of b's commit and of its end. The list of a may be cut.
-fn torn(alloc: Global, is_cut: bool, committed: u64, ended: u64) -> Result<Option<Torn>, AllocError>
-    requires committed { 2 < committed }
-    requires ended { 3 < ended }
+/// What is found, by what is torn.
+fn finding(alloc: Global, script: &Script, torn: &Option<Torn>) -> Result<Found, AllocError> {
+    match torn {
+        None => Ok(Found::Whole),
+        Some(
+            Torn::Lists {
+                mine: None,
+                part: Some(entry),
+            },
+        ) => found_if(alloc, script, entry, END_OF_A, Found::EndOfA),
+        Some(
+            Torn::Tick {
+                entry,
+                due: Tick(3),
+            },
+        ) => found_if(alloc, script, entry, LATE_COMMIT, Found::LateCommit),
+        _ => Ok(Found::Another),
+    }
+}
+
+/// What is found of a list and those of the sessions, with the ticks of b's commit and of its end. The list of a may be cut.
+fn compared(
+    alloc: Global,
+    script: &Script,
+    list: &Journal,
+    is_cut: bool,
+    committed: u64,
+    ended: u64,
+) -> Result<Found, AllocError> {
+    let torn = agree(alloc, list, &mine(alloc, is_cut, committed, ended)?)?;
+    finding(alloc, script, &torn)
+}
+
+/// Whether a list agrees with those of the sessions.
+fn is_whole(alloc: Global, script: &Script, list: &Journal) -> Result<bool, AllocError> {
+    let found = compared(alloc, script, list, false, 3, 4)?;
+    Ok(matches!(found, Found::Whole))
+}
+
+/// Whether a list is the merged one, which is legal and agrees with those of the sessions.
+fn is_in_turn(alloc: Global, script: &Script, list: &Journal) -> Result<bool, AllocError>
+    requires { is_valid script.now ≡ true }
 {
-    let merged = merge(alloc, &parts(alloc, committed, ended)?)?;
-    agree(alloc, &merged, &mine(alloc, is_cut, committed, ended)?)
+    Ok(
+        has_lines(alloc, script, list)?
+            && is_legal(alloc, script, list)?
+            && is_whole(alloc, script, list)?,
+    )
+}
+
+/// The same of the list that the parts come to.
+fn are_in_turn(alloc: Global, script: &Script) -> Result<bool, AllocError>
+    requires { is_valid script.now ≡ true }
+{
+    let list = merged(alloc, 3, 4)?;
+    is_in_turn(alloc, script, &list)
+}
+
+/// Whether the lists of the parts come to the merged one, which is legal and agrees with those of the sessions.
+pub fn comes_in_turn(alloc: Global) -> Result<bool, AllocError> {
+    match two(alloc) {
+        Some(script) => are_in_turn(alloc, &script),
+        None => Ok(false),
+    }
 }
 
 /// Whether the list of a, cut by its end, is told from its entries by that end.
+fn misses(alloc: Global, script: &Script) -> Result<bool, AllocError> {
+    let list = merged(alloc, 3, 4)?;
+    let found = compared(alloc, script, &list, true, 3, 4)?;
+    Ok(matches!(found, Found::EndOfA))
+}
+
+/// The same of the script of the two sessions.
 pub fn misses_an_end(alloc: Global) -> Result<bool, AllocError> {
-    let Ok(script) = hib_script::read(alloc, TWO) else {
-        return Ok(false);
-    };
-    match torn(alloc, true, 3, 4)? {
-        Some(
-            Torn::Lists {
-                mine: listed,
-                part: own,
-            },
-        ) => ends_before(alloc, &script, listed, own, b"3 a registry end = committed"),
-        _ => Ok(false),
+    match two(alloc) {
+        Some(script) => misses(alloc, &script),
+        None => Ok(false),
     }
 }
 
 /// Whether b's commit is told by its tick, if that and the tick of b's end are one too great in all lists.
+fn finds_late(alloc: Global, script: &Script) -> Result<bool, AllocError> {
+    let list = merged(alloc, 4, 5)?;
+    let found = compared(alloc, script, &list, false, 4, 5)?;
+    Ok(matches!(found, Found::LateCommit))
+}
+
+/// The same of the script of the two sessions.
 pub fn finds_a_late_tick(alloc: Global) -> Result<bool, AllocError> {
-    let Ok(script) = hib_script::read(alloc, TWO) else {
-        return Ok(false);
-    };
-    match torn(alloc, false, 4, 5)? {
-        Some(Torn::Tick { entry, due }) => {
-            Ok(due == Tick(3) && is_line(alloc, &script, &entry, b"4 b store commit = committed")?)
-        }
-        _ => Ok(false),
+    match two(alloc) {
+        Some(script) => finds_late(alloc, &script),
+        None => Ok(false),
     }
 }

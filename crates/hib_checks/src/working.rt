@@ -75,21 +75,32 @@ fn ends_in(journal: &Journal) -> usize {
 /// The text of the script of a number, as `make` writes it.
 fn made(alloc: Global, seed: &str) -> Result<Vec<u8>, AllocError> {
     let words = words_of(alloc, &["make", "--seed", seed, "--text"])?;
+    output_alone(alloc, words.as_slice())
+}
+
+/// What a call without input, without a lock and without listeners writes.
+fn output_alone(alloc: Global, words: &[String]) -> Result<Vec<u8>, AllocError> {
     let mut source = source_of(alloc, b"")?;
     let mut sink = sink_of(alloc, ROOM)?;
-    ends_alone(alloc, words.as_slice(), &mut source, &mut sink);
+    has_no_form(alloc, words, &mut source, &mut sink);
     sink.bytes().to_vec(alloc)
 }
 
-/// How a call without a lock and without listeners ends.
-fn ends_alone(
+/// Whether words had no form.
+fn is_usage(status: &Status) -> bool {
+    matches!(status, Status::Usage)
+}
+
+/// Makes a call without a lock and without listeners, and says whether its words have no form.
+fn has_no_form(
     alloc: Global,
     words: &[String],
     source: &mut MemSource,
     sink: &mut MemSink,
-) -> Status {
+) -> bool {
     let listeners: Vec<Recorder> = Vec::new(alloc);
-    play_words(alloc, words, source, sink, empty_keeper(alloc), listeners).status
+    let ended = play_words(alloc, words, source, sink, empty_keeper(alloc), listeners);
+    is_usage(&ended.status)
 }
 
 /// What came of a run with one listener.
@@ -122,6 +133,21 @@ fn recorder(alloc: Global) -> Result<Vec<Recorder>, AllocError> {
     Ok(listeners)
 }
 
+/// Runs the top call with one listener, and says what came of it.
+fn listened<R: Threads + Wait + Sync, K: Keeper + Drop, G: Gate>(
+    rt: &R,
+    alloc: Global,
+    words: &[String],
+    source: &mut MemSource,
+    sink: &mut MemSink,
+    keeper: K,
+    gate: &G,
+) -> Result<Came, AllocError> {
+    let listeners = recorder(alloc)?;
+    let ended = top(rt, alloc, words, source, sink, keeper, gate, listeners);
+    Ok(came_of(&ended))
+}
+
 /// Runs a script by these words over a keeper.
 fn work<R: Threads + Wait + Sync, K: Keeper + Drop, G: Gate>(
     rt: &R,
@@ -133,18 +159,7 @@ fn work<R: Threads + Wait + Sync, K: Keeper + Drop, G: Gate>(
 ) -> Result<Came, AllocError> {
     let mut source = source_of(alloc, script)?;
     let mut sink = sink_of(alloc, ROOM)?;
-    let listeners = recorder(alloc)?;
-    let ended = top(
-        rt,
-        alloc,
-        words,
-        &mut source,
-        &mut sink,
-        keeper,
-        gate,
-        listeners,
-    );
-    Ok(came_of(&ended))
+    listened(rt, alloc, words, &mut source, &mut sink, keeper, gate)
 }
 
 /// How often the sessions of a run pass the gate: before each step, and once more before there is none. With one worker and `--split`
@@ -221,11 +236,15 @@ pub fn uses_two_parts<R: Threads + Wait + Sync>(rt: &R, alloc: Global) -> Result
     Ok(came.is_done && came.ends == 2 && meeting.came())
 }
 
+/// Whether these words have no form for the call that takes no lock, which writes nothing then.
+fn is_silent(alloc: Global, words: &[String]) -> Result<bool, AllocError> {
+    let mut source = source_of(alloc, b"")?;
+    let mut sink = sink_of(alloc, 64)?;
+    Ok(has_no_form(alloc, words, &mut source, &mut sink) && sink.bytes().is_empty())
+}
+
 /// Whether `work` has no form for the call that takes no lock.
 pub fn has_no_form_alone(alloc: Global) -> Result<bool, AllocError> {
     let words = work_words(alloc, 2, false)?;
-    let mut source = source_of(alloc, b"")?;
-    let mut sink = sink_of(alloc, 64)?;
-    let status = ends_alone(alloc, words.as_slice(), &mut source, &mut sink);
-    Ok(matches!(status, Status::Usage) && sink.bytes().is_empty())
+    is_silent(alloc, words.as_slice())
 }
