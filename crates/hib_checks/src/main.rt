@@ -3,6 +3,9 @@
 //! A line is printed for each row, and at the end one for each thing that only direct calls can show.
 #![tactic(auto)]
 
+ghost use Rattle.std.specs.Prelude.{◌≡◌, true};
+ghost use Rattle.hib_base.specs.Valid.{is_valid};
+
 mod beside;
 mod check;
 mod evicting;
@@ -15,6 +18,7 @@ mod words;
 mod working;
 mod world;
 
+use hib_base::Script;
 use row::Row;
 use std::alloc::{AllocError, Global};
 use std::io;
@@ -102,10 +106,20 @@ fn tell_splitting<R: Threads + Wait + Sync>(
 }
 
 /// Prints the lines of what is tried of merged lists.
+fn tell_merged(rt: &impl Print, alloc: Global, script: &Script) -> io::Result<()>
+    requires { is_valid script.now ≡ true }
+{
+    tell(rt, "merged-lists", merging::comes_in_turn(alloc, script)?)?;
+    tell(rt, "cut-list", merging::misses_an_end(alloc, script)?)?;
+    tell(rt, "late-ticks", merging::finds_a_late_tick(alloc, script)?)
+}
+
+/// The same, if there is memory for their script.
 fn tell_merging(rt: &impl Print, alloc: Global) -> io::Result<()> {
-    tell(rt, "merged-lists", merging::comes_in_turn(alloc)?)?;
-    tell(rt, "cut-list", merging::misses_an_end(alloc)?)?;
-    tell(rt, "late-ticks", merging::finds_a_late_tick(alloc)?)
+    match merging::two(alloc) {
+        Some(script) => tell_merged(rt, alloc, &script),
+        None => tell(rt, "merged-lists", false),
+    }
 }
 
 /// Prints a line that says nothing of a row.

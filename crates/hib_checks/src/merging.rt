@@ -156,7 +156,7 @@ fn mine(alloc: Global, is_cut: bool, committed: u64, ended: u64) -> Result<Lists
 }
 
 /// The script of the two sessions, or none if there isn't memory for it.
-fn two(alloc: Global) -> Option<Script>
+pub fn two(alloc: Global) -> Option<Script>
     ensures { IfSome result (λ s. is_valid s ≡ true) }
 {
     hib_script::read(alloc, TWO).ok()
@@ -279,48 +279,24 @@ fn is_in_turn(alloc: Global, script: &Script, list: &Journal) -> Result<bool, Al
     )
 }
 
-/// The same of the list that the parts come to.
-fn are_in_turn(alloc: Global, script: &Script) -> Result<bool, AllocError>
+/// Whether the lists of the parts come to the merged one, which is legal and agrees with those of the sessions.
+pub fn comes_in_turn(alloc: Global, script: &Script) -> Result<bool, AllocError>
     requires { is_valid script.now ≡ true }
 {
     let list = merged(alloc, 3, 4)?;
     is_in_turn(alloc, script, &list)
 }
 
-/// Whether the lists of the parts come to the merged one, which is legal and agrees with those of the sessions.
-pub fn comes_in_turn(alloc: Global) -> Result<bool, AllocError> {
-    match two(alloc) {
-        Some(script) => are_in_turn(alloc, &script),
-        None => Ok(false),
-    }
-}
-
 /// Whether the list of a, cut by its end, is told from its entries by that end.
-fn misses(alloc: Global, script: &Script) -> Result<bool, AllocError> {
+pub fn misses_an_end(alloc: Global, script: &Script) -> Result<bool, AllocError> {
     let list = merged(alloc, 3, 4)?;
     let found = compared(alloc, script, &list, true, 3, 4)?;
     Ok(matches!(found, Found::EndOfA))
 }
 
-/// The same of the script of the two sessions.
-pub fn misses_an_end(alloc: Global) -> Result<bool, AllocError> {
-    match two(alloc) {
-        Some(script) => misses(alloc, &script),
-        None => Ok(false),
-    }
-}
-
 /// Whether b's commit is told by its tick, if that and the tick of b's end are one too great in all lists.
-fn finds_late(alloc: Global, script: &Script) -> Result<bool, AllocError> {
+pub fn finds_a_late_tick(alloc: Global, script: &Script) -> Result<bool, AllocError> {
     let list = merged(alloc, 4, 5)?;
     let found = compared(alloc, script, &list, false, 4, 5)?;
     Ok(matches!(found, Found::LateCommit))
-}
-
-/// The same of the script of the two sessions.
-pub fn finds_a_late_tick(alloc: Global) -> Result<bool, AllocError> {
-    match two(alloc) {
-        Some(script) => finds_late(alloc, &script),
-        None => Ok(false),
-    }
 }
