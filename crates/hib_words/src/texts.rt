@@ -6,7 +6,7 @@ use std::alloc::{AllocError, Global};
 /// The program, the project, and the toolchain that it is proved with.
 pub const VERSION: &str = "hib 0.1
 Zughvarti, sessions over a second-level cache, with a proof
-proved with rattle-kit-13f logic dac8208d650f15bf
+proved with a Rattle kit of logic dac8208d650f15bf
 ";
 
 const ABOUT: &str =
