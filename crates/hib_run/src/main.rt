@@ -7,7 +7,7 @@ use files::serve_file;
 use hib_base::Seq;
 use hib_outside::MemKeeper;
 use hib_shell::{call, print_topic, told, words_given};
-use hib_top::Status;
+use hib_call::Status;
 use hib_words::{Command, topic_asked};
 use std::io;
 use std::process::ExitCode;

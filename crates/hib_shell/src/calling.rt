@@ -6,9 +6,10 @@ ghost use Rattle.hib_top.specs.Words.{way_asked};
 ghost use Rattle.hib_words.specs.Commands.{asked_of};
 ghost use Rattle.hib_words.specs.Topics.{is_traced};
 
+use hib_call::Status;
 use hib_listeners::Trace;
 use hib_outside::{Keeper, OpenGate, StdSink, StdSource};
-use hib_top::{Status, top};
+use hib_top::top;
 use hib_words::Command;
 use std::alloc::AllocError;
 use std::io::Stderr;
@@ -56,7 +57,7 @@ pub fn listeners_asked(
 }
 
 /// Calls the top call with the words, over this keeper: the script comes by standard input, the text goes to standard output.
-#[tactic(auto, unfolding(hib_top::specs::Play::ComesOf))]
+#[tactic(auto, using(hib_top::proofs::Calls::none_tables, hib_top::proofs::Calls::store_if))]
 pub fn call<R: Threads + Wait + Sync, K: Keeper>(
     rt: &R,
     host: &HostRuntime,

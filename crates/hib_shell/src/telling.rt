@@ -1,9 +1,9 @@
 // What is told the user.
 ghost use Rattle.std.specs.Prelude.{◌≡◌, ◌⊎◌};
 ghost use Rattle.std.specs.Process.{exit_status};
-ghost use Rattle.hib_top.specs.Exits.{exit_number};
+ghost use Rattle.hib_call.specs.Exits.{exit_number};
 
-use hib_top::{Status, status_line};
+use hib_call::{Status, status_line};
 use hib_words::{Topic, VERSION, help};
 use std::alloc::Global;
 use std::process::ExitCode;

@@ -1,119 +1,76 @@
--- What a run comes to, and what the call makes of it.
-use Rattle.std.proofs.Common.{◌≡◌, ◌≢◌, ℕ, List, Option, refl, sym, subst, ◌∙◌, inl, inr}
-use Rattle.std.proofs.KnownBytes.{Appends-nil}
-use Rattle.hib_outside.specs.Fronts.{TakesFront}
-use Rattle.hib_base.specs.Tables.{Tables}
+-- What a run comes to.
+use Rattle.std.proofs.Common.{◌≡◌, ◌≤◌, ◌⊎◌, ◌+◌, ℕ, Bool, true, false, List, Some, None, refl, sym, subst, inl, inr, arith}
 use Rattle.hib_journal.specs.Types.{Script, Entry}
+use Rattle.hib_listeners.specs.Heard.{HaveHeard}
 use Rattle.hib_listeners.specs.Told.{Told}
+use Rattle.hib_outside.specs.Causes.{Rose}
 use Rattle.hib_journal.specs.Kept.{Kept, past}
-use Rattle.hib_journal.specs.Sessions.{Journal}
-use Rattle.hib_core.specs.Standing.{told_start}
-use Rattle.hib_top.specs.declared.run.End.{End}
-use Rattle.hib_top.specs.declared.status.Status.{Status}
-use Rattle.hib_top.specs.declared.ways.Turns.{Turns}
+use Rattle.hib_journal.specs.Runs.{ask_count}
+use Rattle.hib_core.specs.Standing.{RoseBy, RoseWithin}
+use Rattle.hib_joined.specs.Joined.{AreApart}
+use Rattle.hib_merge.specs.declared.tearing.Torn.{Torn}
+use Rattle.hib_store.specs.Stores.{is_store_fault}
+use Rattle.hib_store.specs.declared.store.OpenFault.{OpenFault}
+use Rattle.hib_call.specs.declared.status.Status.{Status}
+use Rattle.hib_call.specs.declared.tasks.Outcome.{Outcome}
+use Rattle.hib_call.specs.Ends.{Comes}
+use Rattle.hib_call.specs.Outside.{Shared}
+use Rattle.hib_top.specs.declared.telling.Played.{Played}
 use Rattle.hib_top.specs.declared.ways.Telling.{Telling}
-use Rattle.hib_top.specs.Play.{told_by, IsFinished, IsPlayed, IsRunOf, IsShortRun, CameTo, IsWritten, AreReadBack, IsAfter, IsAfterRun, Runs, AreHandedBack, is_stopped, is_short}
-use Rattle.hib_top.specs.ToldWhole.{IsUnderOneLock}
+use Rattle.hib_top.specs.declared.ways.Turns.{Turns}
+use Rattle.hib_top.specs.Running.{IsFinished, IsRun, IsUnrun, opening_status, running}
 
--- the run
-pub over : (turns : Turns) (e : End) (s script : Script) (kept start rows : Option Tables) (h : Journal) → e ≡ End.Over s → s ≡ script → IsPlayed turns script start rows h → IsFinished turns script h →
-    CameTo turns e script kept start rows h
-over turns e s script kept start rows h p q x y = subst (λ z. CameTo turns z script kept start rows h) (sym p) (q, x, y)
+abbrev ComesBy : Turns → Script → Shared → Shared → Outcome Played → Type 0
+ComesBy turns script old new outcome = Comes (running turns Telling.Report) script old new outcome
 
-pub stopped : (turns : Turns) (e : End) (script : Script) (kept start rows : Option Tables) (h : Journal) → e ≡ End.Stopped → IsPlayed turns script start rows h → CameTo turns e script kept start rows h
-stopped turns e script kept start rows h p x = subst (λ z. CameTo turns z script kept start rows h) (sym p) x
+pub over : (turns : Turns) (script : Script) (old new : Shared) (run : Played) (outcome : Outcome Played) → outcome ≡ Outcome.Over run → IsRun turns false script old new run → IsFinished turns script (past run.journal) →
+    ComesBy turns script old new outcome
+over turns script old new run outcome e r f = subst (ComesBy turns script old new) (sym e) (r, f)
 
--- nothing is a front of every text
-pub none_taken : (taken : Option (List ℕ)) (text : List ℕ) → TakesFront taken taken text
-none_taken taken text = (0, Appends-nil taken)
+not_fault : Status.NoMemory ≡ Status.StoreFault → ⊥
+not_fault e = cc
 
--- a run under one lock whose memory ran out
-short_run : (turns : Turns) (telling : Telling) (script : Script) (start rows : Option Tables) (journal : Kept) (taken written : Option (List ℕ)) → IsUnderOneLock turns →
-    IsRunOf turns telling Status.NoMemory script start rows journal taken written → IsShortRun turns telling script start rows journal taken written
-short_run Turns.Scheduled telling script start rows journal taken written u r = r
-short_run (Turns.OnWorkers n) telling script start rows journal taken written u r = r
-short_run (Turns.OnParts n) telling script start rows journal taken written u r = absurd u
+torn_not_fault : (torn : Torn) → Status.Torn torn ≡ Status.StoreFault → ⊥
+torn_not_fault torn e = cc
 
--- the call
-told : (turns : Turns) (telling : Telling) (answer : Status) (s script : Script) (kept rows : Option Tables) (journal : Kept) (taken written : Option (List ℕ)) → IsUnderOneLock turns → s ≡ script →
-    IsPlayed turns script (told_start script kept) rows (past journal) → IsFinished turns script (past journal) → IsAfterRun answer → IsWritten answer (told_by telling s journal.list) taken written →
-    AreReadBack telling answer s journal.list → Runs turns telling answer script kept rows journal taken written
-told turns telling Status.Done s script kept rows journal taken written u q x y a w b =
-    record {
-      played = x;
-      ended = y;
-      report = subst (λ z. IsWritten Status.Done (told_by telling z journal.list) taken written) q w;
-      read_back = subst (λ z. AreReadBack telling Status.Done z journal.list) q b;
-    }
-told turns telling Status.WriteFault s script kept rows journal taken written u q x y a w b =
-    record {
-      played = x;
-      ended = y;
-      report = subst (λ z. IsWritten Status.WriteFault (told_by telling z journal.list) taken written) q w;
-      read_back = subst (λ z. AreReadBack telling Status.WriteFault z journal.list) q b;
-    }
-told turns telling Status.NoMemory s script kept rows journal taken written u q x y a w b =
-    inr (short_run turns telling script (told_start script kept) rows journal taken written u record {
-      played = x;
-      ended = inr y;
-      report = subst (λ z. IsWritten Status.NoMemory (told_by telling z journal.list) taken written) q w;
-      read_back = subst (λ z. AreReadBack telling Status.NoMemory z journal.list) q b;
-    })
-told turns telling _ s script kept rows journal taken written u q x y a w b = absurd a
+pub stopped : (turns : Turns) (script : Script) (old new : Shared) (run : Played) (outcome : Outcome Played) → outcome ≡ Outcome.Stopped Status.NoMemory (Some run) → IsRun turns true script old new run →
+    ComesBy turns script old new outcome
+stopped Turns.Scheduled script old new run outcome e r = subst (ComesBy Turns.Scheduled script old new) (sym e) (r, tt, λ p. absurd (not_fault p))
+stopped (Turns.OnWorkers n) script old new run outcome e r = subst (ComesBy (Turns.OnWorkers n) script old new) (sym e) (r, tt, λ p. absurd (not_fault p))
+stopped (Turns.OnParts n) script old new run outcome e r = subst (ComesBy (Turns.OnParts n) script old new) (sym e) (r, tt, λ p. absurd (not_fault p))
 
-pub runs_over : (turns : Turns) (telling : Telling) (e : End) (answer : Status) (s script : Script) (kept rows : Option Tables) (journal : Kept) (taken written : Option (List ℕ)) → IsUnderOneLock turns → e ≡ End.Over s →
-    CameTo turns e script kept (told_start script kept) rows (past journal) → IsAfterRun answer → IsWritten answer (told_by telling s journal.list) taken written →
-    AreReadBack telling answer s journal.list → Runs turns telling answer script kept rows journal taken written
-runs_over turns telling e answer s script kept rows journal taken written u p c a w b =
-    let k : (s ≡ script) × IsPlayed turns script (told_start script kept) rows (past journal) × IsFinished turns script (past journal) =
-    subst (λ z. CameTo turns z script kept (told_start script kept) rows (past journal)) p c in
-    told turns telling answer s script kept rows journal taken written u k.0 k.1 k.2 a w b
+-- of a run over parts nothing is there
+pub lost : (n : ℕ) (script : Script) (old new : Shared) (outcome : Outcome Played) → outcome ≡ Outcome.Stopped Status.NoMemory None → RoseBy old.faults 0 new.faults → ComesBy (Turns.OnParts n) script old new outcome
+lost n script old new outcome e r = subst (ComesBy (Turns.OnParts n) script old new) (sym e) (r, tt, λ p. absurd (not_fault p))
 
--- of nothing that is written there is nothing to read back
-pub nothing_back : (telling : Telling) (script : Script) (es : List Entry) → AreReadBack telling Status.NoMemory script es
-nothing_back Telling.Report script es = tt
-nothing_back Telling.JsonLines script es = tt
-nothing_back (Telling.Summary n) script es = tt
+pub torn : (n : ℕ) (script : Script) (old new : Shared) (t : Torn) (outcome : Outcome Played) → outcome ≡ Outcome.Stopped (Status.Torn t) None → 2 ≤ n → AreApart t → RoseBy old.faults 0 new.faults →
+    ComesBy (Turns.OnParts n) script old new outcome
+torn n script old new t outcome e two apart r = subst (ComesBy (Turns.OnParts n) script old new) (sym e) ((two, apart, r), tt, λ p. absurd (torn_not_fault t p))
 
--- nothing was written if the run didn't come to its end
-pub runs_stopped : (turns : Turns) (telling : Telling) (e : End) (script : Script) (kept rows : Option Tables) (journal : Kept) (taken : Option (List ℕ)) → IsUnderOneLock turns → e ≡ End.Stopped →
-    CameTo turns e script kept (told_start script kept) rows (past journal) → Runs turns telling Status.NoMemory script kept rows journal taken taken
-runs_stopped turns telling e script kept rows journal taken u p c =
-    inr (short_run turns telling script (told_start script kept) rows journal taken taken u record { played = subst (λ z. CameTo turns z script kept (told_start script kept) rows (past journal)) p c; ended = inl refl; report = none_taken taken _; read_back = nothing_back telling script journal.list })
+-- a factory wasn't opened
+unopened_by : {K : Type 0} (turns : Turns) (script : Script) (old new : Shared) (fault : OpenFault K) → IsUnrun old new → (is_store_fault fault ≡ true → Rose old.faults new.faults) →
+    ComesBy turns script old new (Outcome.Stopped (opening_status fault) None)
+unopened_by Turns.Scheduled script old new (OpenFault.NoMemory k) u r = (u, tt, λ p. absurd (not_fault p))
+unopened_by (Turns.OnWorkers n) script old new (OpenFault.NoMemory k) u r = (u, tt, λ p. absurd (not_fault p))
+unopened_by (Turns.OnParts n) script old new (OpenFault.NoMemory k) u r = (u.faults, tt, λ p. absurd (not_fault p))
+unopened_by Turns.Scheduled script old new (OpenFault.StoreFault k) u r = (u, tt, λ p. r refl)
+unopened_by (Turns.OnWorkers n) script old new (OpenFault.StoreFault k) u r = (u, tt, λ p. r refl)
+unopened_by (Turns.OnParts n) script old new (OpenFault.StoreFault k) u r = (u, tt, λ p. r refl)
 
-pub runs_unopened : (turns : Turns) (telling : Telling) (e : End) (script : Script) (kept rows : Option Tables) (journal : Kept) (taken : Option (List ℕ)) → e ≡ End.Unopened →
-    CameTo turns e script kept (told_start script kept) rows (past journal) → Runs turns telling Status.NoMemory script kept rows journal taken taken
-runs_unopened turns telling e script kept rows journal taken p c =
-    let k : CameTo turns End.Unopened script kept (told_start script kept) rows (past journal) = subst (λ z. CameTo turns z script kept (told_start script kept) rows (past journal)) p c in
-    inl (record { empty = k.0; same = k.1 }, refl)
+pub unopened : {K : Type 0} (turns : Turns) (script : Script) (old new : Shared) (fault : OpenFault K) (outcome : Outcome Played) → outcome ≡ Outcome.Stopped (opening_status fault) None → IsUnrun old new →
+    (is_store_fault fault ≡ true → Rose old.faults new.faults) → ComesBy turns script old new outcome
+unopened turns script old new fault outcome e u r = subst (ComesBy turns script old new) (sym e) (unopened_by turns script old new fault u r)
 
-pub runs_unseeded : (turns : Turns) (telling : Telling) (e : End) (script : Script) (kept rows : Option Tables) (journal : Kept) (taken : Option (List ℕ)) → e ≡ End.Unseeded →
-    CameTo turns e script kept (told_start script kept) rows (past journal) → Runs turns telling Status.StoreFault script kept rows journal taken taken
-runs_unseeded turns telling e script kept rows journal taken p c =
-    let k : CameTo turns End.Unseeded script kept (told_start script kept) rows (past journal) = subst (λ z. CameTo turns z script kept (told_start script kept) rows (past journal)) p c in
-    (record { empty = k.0; same = k.1 }, refl)
+-- ---- who has heard of it
+pub heard_either : (short : Bool) (es : List Entry) (start now : List Told) → HaveHeard short es start now → HaveHeard false es start now ⊎ HaveHeard true es start now
+heard_either false es start now h = inl h
+heard_either true es start now h = inr h
 
--- ---- what a status says of the run before it
-pub unseeded : (e : End) (answer : Status) → IsAfter e answer → answer ≡ Status.StoreFault → e ≡ End.Unseeded
-unseeded (End.Over s) answer a p = absurd (subst IsAfterRun p a)
-unseeded End.Stopped answer a p = absurd (other (sym a ∙ p))
-  where
-    other : Status.NoMemory ≡ Status.StoreFault → ⊥
-    other q = cc
-unseeded End.Unopened answer a p = absurd (other (sym a ∙ p))
-  where
-    other : Status.NoMemory ≡ Status.StoreFault → ⊥
-    other q = cc
-unseeded End.Unseeded answer a p = refl
+-- ---- counts
+-- what a factory says that was asked once more, of what it hands back
+pub once_more : (before asked now : ℕ) (made kept : Kept) → now ≡ asked → kept ≡ made → RoseWithin before (ask_count (past made) + 1) asked → RoseWithin before (ask_count (past kept) + 1) now
+once_more before asked now made kept a k r =
+    subst (λ (j : Kept). RoseWithin before (ask_count (past j) + 1) now) (sym k) (subst (λ (n : ℕ). RoseWithin before (ask_count (past made) + 1) n) (sym a) r)
 
-pub not_stopped : (e : End) (answer : Status) → IsAfter e answer → answer ≢ Status.NoMemory → e ≢ End.Stopped
-not_stopped e answer a p q = p (subst (λ z. IsAfter z answer) q a)
-
-pub handed_on : (e : End) (answer : Status) (es : List Entry) (start now : List Told) → IsAfter e answer → AreHandedBack (is_stopped e) es start now → AreHandedBack (is_short answer) es start now
-handed_on (End.Over s) Status.NoMemory es start now a h = inl h
-handed_on (End.Over s) Status.Done es start now a h = h
-handed_on (End.Over s) Status.WriteFault es start now a h = h
-handed_on (End.Over s) _ es start now a h = absurd a
-handed_on End.Stopped answer es start now a h = subst (λ z. AreHandedBack (is_short z) es start now) (sym a) h
-handed_on End.Unopened answer es start now a h = subst (λ z. AreHandedBack (is_short z) es start now) (sym a) (inl h)
-handed_on End.Unseeded answer es start now a h = subst (λ z. AreHandedBack (is_short z) es start now) (sym a) h
+pub none_failed : (before n now : ℕ) → RoseBy before n now → RoseBy before 0 now
+none_failed before n now r = omega (arith, r)

@@ -5,7 +5,7 @@ use Rattle.hib_journal.specs.Types.{Script}
 use Rattle.hib_journal.specs.Sessions.{Journal}
 use Rattle.hib_core.specs.Factory.{AreOver}
 use Rattle.hib_top.specs.declared.ways.Turns.{Turns}
-use Rattle.hib_top.specs.Play.{IsOrdered, IsFinished}
+use Rattle.hib_top.specs.Running.{IsOrdered, IsFinished}
 
 below : {A : Type 0} (xs : List A) (n : ℕ) (x : A) → slice_get xs n ≡ Some x → n < length xs
 below [] n x e = absurd (no e)

@@ -1,7 +1,5 @@
-pub mod Streams
 pub mod Words
-pub mod Play
-pub mod Exits
-pub mod StatusLine
+pub mod Running
+pub mod Making
+pub mod Auditing
 pub mod Call
-pub mod ToldWhole

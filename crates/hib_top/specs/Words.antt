@@ -47,15 +47,3 @@ abbrev pub HasFew : Way → Type 0
 HasFew (Way.Run (Turns.OnWorkers n) t) = (1 ≤ n) × (n ≤ 64)
 HasFew (Way.Run (Turns.OnParts n) t) = (1 ≤ n) × (n ≤ 64)
 HasFew way = ⊤
-
--- the script is read from the source
-abbrev pub is_read : Option Way → Bool
-is_read None = false
-is_read (Some (Way.Made n)) = false
-is_read (Some (Way.Printed n)) = false
-is_read (Some way) = true
-
--- the most bytes of its input
-abbrev pub limit_of : Option Way → ℕ
-limit_of (Some Way.Audited) = 67108864
-limit_of _ = 1048576

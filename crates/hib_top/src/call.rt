@@ -1,29 +1,70 @@
 // The calls that a program makes with its words.
-ghost use Rattle.std.specs.Prelude.{◌+◌, ◌≡◌, ◌≢◌, ◌<◌, false, length, true, IfSome, Some};
+ghost use Rattle.std.specs.Prelude.{◌≡◌, ◌≢◌, ◌≤◌, ℕ, [], length, true};
+ghost use Rattle.hib_base.specs.Valid.{is_valid};
 ghost use Rattle.hib_journal.specs.Kept.{past};
-ghost use Rattle.hib_journal.specs.Runs.{ask_count, fault_count};
-ghost use Rattle.hib_outside.specs.Causes.{Rose};
 ghost use Rattle.hib_listeners.specs.Told.{tells};
-ghost use Rattle.hib_core.specs.Standing.{RoseBy, RoseWithin};
-ghost use Rattle.hib_top.specs.Words.{HasFew, is_alone, is_read, limit_of, way_alone, way_asked};
-ghost use Rattle.hib_top.specs.Call.{Promised, is_forgotten};
-ghost use Rattle.hib_top.specs.Play.{Comes, HasInput, IsCompleted, AreHandedBack, is_short};
-ghost use Rattle.hib_top.specs.Streams.{ReadsFew};
+ghost use Rattle.hib_top.specs.declared.ways.Turns.{Turns};
+ghost use Rattle.hib_top.specs.Words.{HasFew, is_alone, way_alone, way_asked};
+ghost use Rattle.hib_top.specs.Call.{Does, HandsBack, IsKept, Promised};
 
-use crate::audit::audit;
-use crate::make::{make, print};
-use crate::play::{Ended, play, stop};
-use crate::split::split;
-use crate::status::Status;
+use crate::audit::{Judge, judge_journal};
+use crate::make::{Make, Print};
+use crate::play::play_script;
+use crate::reading::Run;
+use crate::split::split_script;
+use crate::telling::Played;
 use crate::ways::{Turns, Way, way_alone, way_asked};
-use crate::work::work;
+use crate::work::work_script;
+use hib_call::{Called, NothingLeft, Outcome, Ran, Status, call};
+use hib_journal::Journal;
 use hib_outside::{Gate, Keeper, Listener, Sink, Source};
 use std::alloc::Global;
 use std::sync::Wait;
 use std::thread::Threads;
 
-/// Does with a script what takes no threads.
-#[tactic(auto, using(crate::proofs::Taken::reads_none))]
+/// The journal of a command whose entries aren't those of a script's sessions alone.
+#[derive(Clone, Copy, Debug, PartialEq, Eq)]
+pub enum Side {
+    /// There is none: no command of today has one.
+    Nothing,
+}
+
+/// What a call of the program hands back.
+#[derive(Drop)]
+pub struct Ended<K, L> {
+    /// How it ended.
+    pub status: Status,
+    /// The keeper that was handed in.
+    pub keeper: K,
+    /// The journal of the run; empty if nothing was run, and if a run over parts is torn or memory ran out in it.
+    pub journal: Journal,
+    /// The listeners that stayed.
+    pub listeners: Vec<L>,
+    /// The journal of a command of another kind.
+    pub side: Side,
+}
+
+/// The journal that is handed back of a run; it is empty if there is none.
+fn journal_of(alloc: Global, run: Option<Played>) -> Journal
+    ensures { HandsBack run result }
+{
+    match run {
+        Some(run) => run.journal,
+        None => Journal::open(alloc),
+    }
+}
+
+/// The same of a run over parts, of which none is handed back if memory ran out.
+fn journal_over(alloc: Global, status: &Status, run: Option<Played>) -> Journal
+    ensures { (n : ℕ) → IsKept (Turns.OnParts n) status.now run result }
+{
+    if status.is_short() {
+        return Journal::open(alloc);
+    }
+    journal_of(alloc, run)
+}
+
+/// Does what takes no threads.
 fn serve_alone<S: Source, W: Sink, K: Keeper, L: Listener>(
     alloc: Global,
     way: Way,
@@ -33,93 +74,123 @@ fn serve_alone<S: Source, W: Sink, K: Keeper, L: Listener>(
     listeners: Vec<L>,
 ) -> Ended<K, L>
     requires { is_alone way ≡ true }
-    ensures run { Comes way result.status (S.left script.old) (S.left script.new) (K.tables keeper)
-        (K.tables result.keeper) result.journal (W.taken out.old) (W.taken out.new) }
+    ensures does { Does way
+        (record {
+          left = S.left script.old;
+          read_faults = S.faults script.old;
+          taken = W.taken out.old;
+          write_faults = W.faults out.old;
+          shared = record {
+            tables = K.tables keeper;
+            faults = K.faults keeper;
+            asked = K.asked keeper;
+            told = tells L.heard L.left listeners.items;
+          };
+        })
+        (record {
+          left = S.left script.new;
+          read_faults = S.faults script.new;
+          taken = W.taken out.new;
+          write_faults = W.faults out.new;
+          shared = record {
+            tables = K.tables result.keeper;
+            faults = K.faults result.keeper;
+            asked = K.asked result.keeper;
+            told = tells L.heard L.left result.listeners.items;
+          };
+        })
+        result.status result.journal }
     ensures usage { result.status ≢ Status.Usage }
-    ensures unread { is_read (Some way) ≡ false → (S.left script.new ≡ S.left script.old)
-        × (S.faults script.new ≡ S.faults script.old) }
-    ensures read { result.status ≡ Status.ReadFault
-        → Rose (S.faults script.old) (S.faults script.new) }
-    ensures write { result.status ≡ Status.WriteFault → Rose (W.faults out.old) (W.faults out.new) }
-    ensures long { result.status ≡ Status.TooLong
-        → IfSome (S.left script.old) (λ bytes. limit_of (Some way) < length bytes) }
-    ensures store { result.status ≡ Status.StoreFault
-        → Rose (K.faults keeper) (K.faults result.keeper) }
-    ensures faults { RoseBy (K.faults keeper) (fault_count (past result.journal))
-        (K.faults result.keeper) }
-    ensures asked { result.status ≢ Status.NoMemory
-        → RoseWithin (K.asked keeper) (ask_count (past result.journal)) (K.asked result.keeper) }
-    // If memory runs out it may have been asked once more, without an entry.
-    ensures once { RoseWithin (K.asked keeper) (ask_count (past result.journal) + 1)
-        (K.asked result.keeper) }
-    // At most one piece of 4,096 bytes beyond the limit is read.
-    ensures taken { ReadsFew (limit_of (Some way) + 4096) (S.left script.old) (S.left script.new) }
-    ensures complete { HasInput (Some way) (S.left script.old)
-        (Rose (S.faults script.old) (S.faults script.new))
-        → (Rose (W.faults out.old) (W.faults out.new) → ⊥) → IsCompleted result.status }
-    ensures listeners { AreHandedBack (is_short result.status) result.journal.list
-        (tells L.heard L.left listeners.items) (tells L.heard L.left result.listeners.items) }
+    ensures side { result.side ≡ Side.Nothing }
 {
     match way {
-        Way::Run(Turns::Scheduled, telling) => play(alloc, telling, script, out, keeper, listeners),
+        Way::Run(Turns::Scheduled, telling) => {
+            let task = Run {
+                turns: Turns::Scheduled,
+                telling,
+            };
+            let called = call(
+                alloc,
+                &task,
+                script,
+                out,
+                keeper,
+                listeners,
+                |script, keeper, listeners|
+                    requires { is_valid script ≡ true }
+                { play_script(alloc, script, keeper, listeners) },
+            );
+            Ended {
+                status: called.status,
+                keeper: called.keeper,
+                journal: journal_of(alloc, called.run),
+                listeners: called.listeners,
+                side: Side::Nothing,
+            }
+        }
         Way::Run(Turns::OnWorkers(_) | Turns::OnParts(_), _) => unreachable!(),
-        Way::Made(seed) => make(alloc, seed, out, keeper, listeners),
-        Way::Printed(seed) => print(alloc, seed, out, keeper, listeners),
-        Way::Audited => audit(alloc, script, out, keeper, listeners),
-    }
-}
-
-/// Does with a script what is asked.
-#[tactic(auto, using(crate::proofs::Taken::reads_none))]
-fn serve<R: Threads + Wait + Sync, S: Source, W: Sink, K: Keeper, G: Gate, L: Listener>(
-    rt: &R,
-    alloc: Global,
-    way: Way,
-    script: &mut S,
-    out: &mut W,
-    keeper: K,
-    gate: &G,
-    listeners: Vec<L>,
-) -> Ended<K, L>
-    requires { HasFew way }
-    ensures run { Comes way result.status (S.left script.old) (S.left script.new) (K.tables keeper)
-        (K.tables result.keeper) result.journal (W.taken out.old) (W.taken out.new) }
-    ensures usage { result.status ≢ Status.Usage }
-    ensures unread { is_read (Some way) ≡ false → (S.left script.new ≡ S.left script.old)
-        × (S.faults script.new ≡ S.faults script.old) }
-    ensures read { result.status ≡ Status.ReadFault
-        → Rose (S.faults script.old) (S.faults script.new) }
-    ensures write { result.status ≡ Status.WriteFault → Rose (W.faults out.old) (W.faults out.new) }
-    ensures long { result.status ≡ Status.TooLong
-        → IfSome (S.left script.old) (λ bytes. limit_of (Some way) < length bytes) }
-    ensures store { result.status ≡ Status.StoreFault
-        → Rose (K.faults keeper) (K.faults result.keeper) }
-    ensures faults { RoseBy (K.faults keeper) (fault_count (past result.journal))
-        (K.faults result.keeper) }
-    // Of a run over parts that is torn, or for which memory ran out, no journal is handed back.
-    ensures asked { is_forgotten (Some way) result.status ≡ false → result.status ≢ Status.NoMemory
-        → RoseWithin (K.asked keeper) (ask_count (past result.journal)) (K.asked result.keeper) }
-    // If memory runs out it may have been asked once more, without an entry.
-    ensures once { is_forgotten (Some way) result.status ≡ false
-        → RoseWithin (K.asked keeper) (ask_count (past result.journal) + 1)
-        (K.asked result.keeper) }
-    // At most one piece of 4,096 bytes beyond the limit is read.
-    ensures taken { ReadsFew (limit_of (Some way) + 4096) (S.left script.old) (S.left script.new) }
-    ensures complete { HasInput (Some way) (S.left script.old)
-        (Rose (S.faults script.old) (S.faults script.new))
-        → (Rose (W.faults out.old) (W.faults out.new) → ⊥) → IsCompleted result.status }
-    ensures listeners { is_forgotten (Some way) result.status ≡ false
-        → AreHandedBack (is_short result.status) result.journal.list
-        (tells L.heard L.left listeners.items) (tells L.heard L.left result.listeners.items) }
-{
-    match way {
-        Way::Run(Turns::OnWorkers(workers), telling) => work(
-            rt, alloc, telling, script, out, keeper, workers, gate, listeners,
-        ),
-        Way::Run(Turns::OnParts(workers), telling) => split(
-            rt, alloc, telling, script, out, keeper, workers, gate, listeners,
-        ),
-        way => serve_alone(alloc, way, script, out, keeper, listeners),
+        Way::Made(seed) => {
+            let called = call(
+                alloc,
+                &Make { seed },
+                &mut NothingLeft,
+                out,
+                keeper,
+                listeners,
+                |script, keeper, listeners|
+                    requires { is_valid script ≡ true }
+                { play_script(alloc, script, keeper, listeners) },
+            );
+            Ended {
+                status: called.status,
+                keeper: called.keeper,
+                journal: journal_of(alloc, called.run),
+                listeners: called.listeners,
+                side: Side::Nothing,
+            }
+        }
+        Way::Printed(seed) => {
+            let called = call(
+                alloc,
+                &Print { seed },
+                &mut NothingLeft,
+                out,
+                keeper,
+                listeners,
+                |script, keeper, listeners| Ran {
+                    outcome: Outcome::Over(script),
+                    keeper,
+                    listeners,
+                },
+            );
+            Ended {
+                status: called.status,
+                keeper: called.keeper,
+                journal: Journal::open(alloc),
+                listeners: called.listeners,
+                side: Side::Nothing,
+            }
+        }
+        Way::Audited => {
+            let called = call(
+                alloc,
+                &Judge,
+                script,
+                out,
+                keeper,
+                listeners,
+                |input, keeper, listeners|
+                    requires { (is_valid input.script ≡ true) × (length input.journal.list ≤ 67108864) }
+                { judge_journal(alloc, input, keeper, listeners) },
+            );
+            Ended {
+                status: called.status,
+                keeper: called.keeper,
+                journal: Journal::open(alloc),
+                listeners: called.listeners,
+                side: Side::Nothing,
+            }
+        }
     }
 }
 
@@ -146,27 +217,143 @@ pub fn play_words<S: Source, W: Sink, K: Keeper, L: Listener>(
           read_faults = S.faults script.old;
           taken = W.taken out.old;
           write_faults = W.faults out.old;
-          tables = K.tables keeper;
-          store_faults = K.faults keeper;
-          asked = K.asked keeper;
-          told = tells L.heard L.left listeners.items;
+          shared = record {
+            tables = K.tables keeper;
+            faults = K.faults keeper;
+            asked = K.asked keeper;
+            told = tells L.heard L.left listeners.items;
+          };
         })
         (record {
           left = S.left script.new;
           read_faults = S.faults script.new;
           taken = W.taken out.new;
           write_faults = W.faults out.new;
-          tables = K.tables result.keeper;
-          store_faults = K.faults result.keeper;
-          asked = K.asked result.keeper;
-          told = tells L.heard L.left result.listeners.items;
+          shared = record {
+            tables = K.tables result.keeper;
+            faults = K.faults result.keeper;
+            asked = K.asked result.keeper;
+            told = tells L.heard L.left result.listeners.items;
+          };
         })
-        result.status result.journal }
+        result.status result.journal result.side }
 {
     match way_alone(alloc, words) {
         Ok(Some(way)) => serve_alone(alloc, way, script, out, keeper, listeners),
-        Ok(None) => stop(alloc, Status::Usage, keeper, listeners),
-        Err(_) => stop(alloc, Status::NoMemory, keeper, listeners),
+        Ok(None) => Ended {
+            status: Status::Usage,
+            keeper,
+            journal: Journal::open(alloc),
+            listeners,
+            side: Side::Nothing,
+        },
+        Err(_) => Ended {
+            status: Status::NoMemory,
+            keeper,
+            journal: Journal::open(alloc),
+            listeners,
+            side: Side::Nothing,
+        },
+    }
+}
+
+/// Does what is asked.
+fn serve<R: Threads + Wait + Sync, S: Source, W: Sink, K: Keeper, G: Gate, L: Listener>(
+    rt: &R,
+    alloc: Global,
+    way: Way,
+    script: &mut S,
+    out: &mut W,
+    keeper: K,
+    gate: &G,
+    listeners: Vec<L>,
+) -> Ended<K, L>
+    requires { HasFew way }
+    ensures does { Does way
+        (record {
+          left = S.left script.old;
+          read_faults = S.faults script.old;
+          taken = W.taken out.old;
+          write_faults = W.faults out.old;
+          shared = record {
+            tables = K.tables keeper;
+            faults = K.faults keeper;
+            asked = K.asked keeper;
+            told = tells L.heard L.left listeners.items;
+          };
+        })
+        (record {
+          left = S.left script.new;
+          read_faults = S.faults script.new;
+          taken = W.taken out.new;
+          write_faults = W.faults out.new;
+          shared = record {
+            tables = K.tables result.keeper;
+            faults = K.faults result.keeper;
+            asked = K.asked result.keeper;
+            told = tells L.heard L.left result.listeners.items;
+          };
+        })
+        result.status result.journal }
+    ensures usage { result.status ≢ Status.Usage }
+    ensures side { result.side ≡ Side.Nothing }
+{
+    match way {
+        Way::Run(Turns::OnWorkers(workers), telling) => {
+            let task = Run {
+                turns: Turns::OnWorkers(workers),
+                telling,
+            };
+            let called = call(
+                alloc,
+                &task,
+                script,
+                out,
+                keeper,
+                listeners,
+                |script, keeper, listeners|
+                    requires { (is_valid script ≡ true) × (1 ≤ workers) × (workers ≤ 64) }
+                { work_script(rt, alloc, script, keeper, workers, gate, listeners) },
+            );
+            Ended {
+                status: called.status,
+                keeper: called.keeper,
+                journal: journal_of(alloc, called.run),
+                listeners: called.listeners,
+                side: Side::Nothing,
+            }
+        }
+        Way::Run(Turns::OnParts(workers), telling) => {
+            let task = Run {
+                turns: Turns::OnParts(workers),
+                telling,
+            };
+            let Called {
+                status,
+                keeper,
+                listeners,
+                run,
+            } = call(
+                alloc,
+                &task,
+                script,
+                out,
+                keeper,
+                listeners,
+                |script, keeper, listeners|
+                    requires { (is_valid script ≡ true) × (1 ≤ workers) × (workers ≤ 64) }
+                { split_script(rt, alloc, script, keeper, workers, gate, listeners) },
+            );
+            let journal = journal_over(alloc, &status, run);
+            Ended {
+                status,
+                keeper,
+                journal,
+                listeners,
+                side: Side::Nothing,
+            }
+        }
+        way => serve_alone(alloc, way, script, out, keeper, listeners),
     }
 }
 
@@ -191,26 +378,42 @@ pub fn top<R: Threads + Wait + Sync, S: Source, W: Sink, K: Keeper, G: Gate, L: 
           read_faults = S.faults script.old;
           taken = W.taken out.old;
           write_faults = W.faults out.old;
-          tables = K.tables keeper;
-          store_faults = K.faults keeper;
-          asked = K.asked keeper;
-          told = tells L.heard L.left listeners.items;
+          shared = record {
+            tables = K.tables keeper;
+            faults = K.faults keeper;
+            asked = K.asked keeper;
+            told = tells L.heard L.left listeners.items;
+          };
         })
         (record {
           left = S.left script.new;
           read_faults = S.faults script.new;
           taken = W.taken out.new;
           write_faults = W.faults out.new;
-          tables = K.tables result.keeper;
-          store_faults = K.faults result.keeper;
-          asked = K.asked result.keeper;
-          told = tells L.heard L.left result.listeners.items;
+          shared = record {
+            tables = K.tables result.keeper;
+            faults = K.faults result.keeper;
+            asked = K.asked result.keeper;
+            told = tells L.heard L.left result.listeners.items;
+          };
         })
-        result.status result.journal }
+        result.status result.journal result.side }
 {
     match way_asked(alloc, words) {
         Ok(Some(way)) => serve(rt, alloc, way, script, out, keeper, gate, listeners),
-        Ok(None) => stop(alloc, Status::Usage, keeper, listeners),
-        Err(_) => stop(alloc, Status::NoMemory, keeper, listeners),
+        Ok(None) => Ended {
+            status: Status::Usage,
+            keeper,
+            journal: Journal::open(alloc),
+            listeners,
+            side: Side::Nothing,
+        },
+        Err(_) => Ended {
+            status: Status::NoMemory,
+            keeper,
+            journal: Journal::open(alloc),
+            listeners,
+            side: Side::Nothing,
+        },
     }
 }

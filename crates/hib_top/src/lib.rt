@@ -1,19 +1,18 @@
-//! The top call: reads or makes a script, runs it over a keeper, by its schedule or on workers, and tells the run; or judges a
-//! journal that comes after its script.
+//! The top call: what the words ask for is the call of a command. A script is read or made, run over a keeper, by its schedule or on
+//! workers, and told; or a journal that comes after its script is judged.
 #![tactic(auto)]
 
 mod audit;
 mod call;
 mod make;
 mod play;
-mod run;
+mod reading;
 mod split;
-mod status;
-mod streams;
+mod telling;
 mod ways;
 mod work;
 
-pub use call::{play_words, top};
-pub use play::Ended;
-pub use status::{Status, status_line};
+pub use audit::Judged;
+pub use call::{Ended, Side, play_words, top};
+pub use telling::Played;
 pub use ways::{Telling, Turns, Way};

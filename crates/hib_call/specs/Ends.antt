@@ -1,0 +1,59 @@
+-- How a call and its parts may end.
+use Rattle.std.specs.Prelude.{◌≡◌, Bool, true, false, List, ℕ, ⊤, Option}
+use Rattle.std.specs.Io.KnownBytes.{Appends}
+use Rattle.hib_base.specs.declared.refusals.Refused.{Refused}
+use Rattle.hib_outside.specs.Causes.{Rose}
+use Rattle.hib_outside.specs.Fronts.{TakesFront}
+use Rattle.hib_call.specs.declared.status.Status.{Status}
+use Rattle.hib_call.specs.declared.tasks.InputFault.{InputFault}
+use Rattle.hib_call.specs.declared.tasks.Outcome.{Outcome}
+use Rattle.hib_call.specs.Command.{Command}
+use Rattle.hib_call.specs.Outside.{Shared}
+
+-- memory ran out
+abbrev pub is_short : Status → Bool
+is_short Status.NoMemory = true
+is_short _ = false
+
+-- want of memory says nothing of a text
+abbrev pub IsWhere : (Refused → Type 0) → InputFault → Type 0
+IsWhere refuses InputFault.NoMemory = ⊤
+IsWhere refuses (InputFault.Refused r) = refuses r
+
+-- a run may end a call so, with nothing told
+abbrev pub IsEarly : Status → Type 0
+IsEarly (Status.Torn torn) = ⊤
+IsEarly Status.NoMemory = ⊤
+IsEarly Status.StoreFault = ⊤
+IsEarly _ = ⊥
+
+-- a call may end so after a run to its end
+abbrev pub IsAfterRun : Status → Type 0
+IsAfterRun Status.Done = ⊤
+IsAfterRun (Status.Illegal n k) = ⊤
+IsAfterRun Status.WriteFault = ⊤
+IsAfterRun Status.NoMemory = ⊤
+IsAfterRun _ = ⊥
+
+-- what a run came to
+abbrev pub Comes : {I R : Type 0} → Command I R → I → Shared → Shared → Outcome R → Type 0
+Comes c input old new (Outcome.Over run) = c.leaves input old new run
+Comes c input old new (Outcome.Stopped status run) = c.stops input old new status run × IsEarly status × (status ≡ Status.StoreFault → Rose old.faults new.faults)
+
+-- what was written: the text at Done and Illegal, a front of it if the sink failed or memory ran out, else nothing
+abbrev pub IsWritten : Status → List ℕ → Option (List ℕ) → Option (List ℕ) → Type 0
+IsWritten Status.Done text old new = Appends old new text
+IsWritten (Status.Illegal n k) text old new = Appends old new text
+IsWritten Status.WriteFault text old new = TakesFront old new text
+IsWritten Status.NoMemory text old new = TakesFront old new text
+IsWritten _ text old new = new ≡ old
+
+-- all was done, a journal that isn't legal was found so, a run over parts is torn, memory ran out, or the keeper didn't take the
+-- script's rows
+abbrev pub IsCompleted : Status → Type 0
+IsCompleted Status.Done = ⊤
+IsCompleted (Status.Illegal n k) = ⊤
+IsCompleted (Status.Torn torn) = ⊤
+IsCompleted Status.NoMemory = ⊤
+IsCompleted Status.StoreFault = ⊤
+IsCompleted _ = ⊥

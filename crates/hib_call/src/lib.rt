@@ -1,0 +1,15 @@
+//! A call of a command, whatever the command is: its input is read, it is run over a keeper, and the run is told.
+//!
+//! A command is a `Task`. What it reads, runs and writes is its own; how a call ends, in which order and by which causes is said
+//! here, once for all of them.
+#![tactic(auto)]
+
+mod calling;
+mod status;
+mod streams;
+mod tasks;
+
+pub use calling::{Called, call};
+pub use status::{Status, put_illegal, status_line};
+pub use streams::NothingLeft;
+pub use tasks::{InputFault, Outcome, Ran, Task, tell_text};

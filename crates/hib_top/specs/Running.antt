@@ -1,0 +1,139 @@
+-- The run of a script.
+use Rattle.std.specs.Prelude.{◌≡◌, ◌⊎◌, reverse, ◌≤◌, ◌+◌, ℕ, Bool, true, false, List, ⊤, length, slice_get, IfSome, Some, None, Option, Ok, Err, ◌++◌, codes}
+use Rattle.std.specs.Fmt.{decimal}
+use Rattle.hib_base.specs.Tables.{Tables}
+use Rattle.hib_journal.specs.Types.{Script, SessionDef, Entry}
+use Rattle.hib_journal.specs.Kept.{past}
+use Rattle.hib_journal.specs.Sessions.{Journal}
+use Rattle.hib_journal.specs.Played.{has_next, is_played}
+use Rattle.hib_journal.specs.Legal.{IsLegal}
+use Rattle.hib_journal.specs.Runs.{IsNumbered, told_committed, name_identifiers, ask_count, fault_count}
+use Rattle.hib_law.specs.Hits.{AreListsGiven}
+use Rattle.hib_law.specs.Law.{Obeys}
+use Rattle.hib_split_law.specs.Merged.{AreDue}
+use Rattle.hib_joined.specs.Joined.{AreApart}
+use Rattle.hib_listeners.specs.Heard.{HaveHeard}
+use Rattle.hib_listeners.specs.Told.{Told}
+use Rattle.hib_core.specs.Bound.{most_in, outside_count}
+use Rattle.hib_core.specs.Standing.{RoseBy, RoseWithin, told_start}
+use Rattle.hib_report.specs.Report.{report, summary}
+use Rattle.hib_json_lines.specs.Line.{json_lines}
+use Rattle.hib_formed.specs.Fitting.{AreFit}
+use Rattle.hib_journal_json.specs.Entries.{AreEntries}
+use Rattle.hib_script.specs.Outline.{Outline, outline_of}
+use Rattle.hib_script.specs.Script.{script_of}
+use Rattle.hib_call.specs.declared.status.Status.{Status}
+use Rattle.hib_call.specs.Command.{Command}
+use Rattle.hib_call.specs.Ends.{IsWritten}
+use Rattle.hib_call.specs.Outside.{Shared}
+use Rattle.hib_store.specs.declared.store.OpenFault.{OpenFault}
+use Rattle.hib_top.specs.declared.ways.Turns.{Turns}
+use Rattle.hib_top.specs.declared.ways.Telling.{Telling}
+use Rattle.hib_top.specs.declared.telling.Played.{Played}
+
+-- by its schedule: the entries are those of its orders, one after the other, and then of the rest of each session. On workers
+-- they are steps of sessions alone: no kill, no eviction and no restart
+abbrev pub IsOrdered : Turns → Script → Journal → Type 0
+IsOrdered Turns.Scheduled script h = is_played script h ≡ true
+IsOrdered _ script h = outside_count h ≡ 0
+
+-- the k-th entry has tick k; over parts under locks of their own each has the tick that is due, by the last ones of its part and of
+-- its session
+abbrev pub AreTicked : Turns → Journal → Type 0
+AreTicked (Turns.OnParts n) h = AreDue h
+AreTicked _ h = IsNumbered h
+
+-- each session is at its end, if it has no next act, or was killed
+pub record IsFinished (turns : Turns) (script : Script) (h : Journal) : Type 0 where
+  pub ended : (s : ℕ) (d : SessionDef) → slice_get script.sessions s ≡ Some d → has_next script h s ≡ false
+  pub ordered : IsOrdered turns script h
+
+-- the journal is legal for the script from the rows at the start, with its ticks in turn, and so obeys the law; the keeper has
+-- the rows that its commits gave
+pub record IsPlayed (turns : Turns) (script : Script) (start rows : Option Tables) (h : Journal) : Type 0 where
+  pub legal : IsLegal script start h
+  pub law : Obeys script start h
+  -- and each list from the cache is what its query gave
+  pub given : IfSome start (λ told. AreListsGiven script told h)
+  pub ticked : AreTicked turns h
+  -- it is short: the sessions have few entries, and each order of the schedule adds one of another kind at most
+  pub few : length h ≤ most_in script.sessions + length script.schedule
+  -- what was evicted from outside has an identifier
+  pub named : name_identifiers h ≡ true
+  -- if the rows at the start fit the mapping, each entry is well formed
+  pub formed : IfSome start (λ told. AreFit script told → AreEntries script (reverse h))
+  pub committed : rows ≡ told_committed start h
+
+-- the listeners at the start of a run of these entries and those that are handed back: of the ones that tell, exactly those that
+-- stay when they hear all entries, each with these after what it had heard. If memory ran out, one may have had none for the
+-- last entry, so that from it on nobody has heard that
+abbrev pub AreHandedBack : Bool → List Entry → List Told → List Told → Type 0
+AreHandedBack false es start now = HaveHeard false es start now
+AreHandedBack true es start now = HaveHeard false es start now ⊎ HaveHeard true es start now
+
+-- how often a keeper is asked at most in a run of these entries: if memory ran out once more, without an entry
+abbrev pub most_asked : Bool → Journal → ℕ
+most_asked false h = ask_count h
+most_asked true h = ask_count h + 1
+
+-- a run: what the keeper and the listeners tell after it is what its journal says. It begins with the rows that the keeper kept,
+-- with the script's rows; short says whether memory ran out
+pub record IsRun (turns : Turns) (short : Bool) (script : Script) (old new : Shared) (run : Played) : Type 0 where
+  pub of : run.script ≡ script
+  pub played : IsPlayed turns script (told_start script old.tables) new.tables (past run.journal)
+  pub faults : RoseBy old.faults (fault_count (past run.journal)) new.faults
+  pub asked : RoseWithin old.asked (most_asked short (past run.journal)) new.asked
+  pub listeners : AreHandedBack short run.journal.list old.told new.told
+
+-- nothing was run, and no table has changed
+pub record IsUnrun (old new : Shared) : Type 0 where
+  pub tables : new.tables ≡ old.tables
+  pub faults : RoseBy old.faults 0 new.faults
+  pub asked : new.asked ≡ old.asked
+  pub told : new.told ≡ old.told
+
+-- a run came to its end
+abbrev pub Leaves : Turns → Script → Shared → Shared → Played → Type 0
+Leaves turns script old new run = IsRun turns false script old new run × IsFinished turns script (past run.journal)
+
+-- it didn't: memory ran out, on the way or before the first step, or the keeper didn't take the script's rows. Over parts no journal is
+-- there then, and nothing is said of the rows; with two workers or more they may be torn, and then two entities, entries or ticks differ
+abbrev pub Stops : Turns → Script → Shared → Shared → Status → Option Played → Type 0
+Stops (Turns.OnParts n) script old new (Status.Torn torn) None = (2 ≤ n) × AreApart torn × RoseBy old.faults 0 new.faults
+Stops (Turns.OnParts n) script old new Status.NoMemory None = RoseBy old.faults 0 new.faults
+Stops turns script old new Status.NoMemory (Some run) = IsRun turns true script old new run
+Stops turns script old new Status.NoMemory None = IsUnrun old new
+Stops turns script old new Status.StoreFault None = IsUnrun old new
+Stops turns script old new _ _ = ⊥
+
+-- how a call ends whose factory wasn't opened
+abbrev pub opening_status : {K : Type 0} → OpenFault K → Status
+opening_status (OpenFault.NoMemory k) = Status.NoMemory
+opening_status (OpenFault.StoreFault k) = Status.StoreFault
+
+-- what is written of a run: its report; its journal as JSON lines; or the number that its script was made from and the summary
+abbrev pub told_by : Telling → Script → List Entry → List ℕ
+told_by Telling.Report script es = report script es
+told_by Telling.JsonLines script es = json_lines script es
+told_by (Telling.Summary n) script es = codes "seed " ++ decimal n ++ codes "\n" ++ summary script es
+
+-- JSON lines that are written, whole or in part, are of well-formed entries: then they are read back as these entries
+abbrev pub AreTellable : Telling → Script → List Entry → Type 0
+AreTellable Telling.JsonLines script es = AreEntries script es
+AreTellable _ script es = ⊤
+
+pub record Tells (telling : Telling) (run : Played) (answer : Status) (taken written : Option (List ℕ)) : Type 0 where
+  pub report : IsWritten answer (told_by telling run.script run.journal.list) taken written
+  pub tellable : AreTellable telling run.script run.journal.list ⊎ ((answer ≡ Status.NoMemory) × (written ≡ taken))
+
+-- ---- the command
+abbrev pub running : Turns → Telling → Command Script Played
+running turns telling = record {
+  limit = 1048576;
+  reads = λ text script. script_of text ≡ Ok (outline_of script);
+  refuses = λ text refused. script_of text ≡ Err refused;
+  has_form = λ text. (said : Outline) × (script_of text ≡ Ok said);
+  leaves = Leaves turns;
+  stops = Stops turns;
+  tells = Tells telling;
+}
