@@ -1,0 +1,162 @@
+'use strict';
+// The panel beside the picture: what the picked entry means, and the state after it. And the words above the picture.
+
+const SHOWN = 40; // rows that a table of the panel shows
+
+// ---- a state, as tables of names and what stands there ----
+
+const codeHtml = text => `<code>${escaped(text)}</code>`;
+const byHtml = by => by ? ' by ' + escaped(by) : '';
+
+// Some of a list, as HTML.
+function someHtml(texts, most = 8) {
+  return texts.slice(0, most).map(codeHtml).join(' ') + (texts.length > most ? ' and more' : '');
+}
+
+function rowHtml({ script, run, state }, key) {
+  const now = state.committed.get(key);
+  return now ? `${codeHtml(named(script, key, now.row))} since ${linkTo(run, now.at)}${byHtml(now.by)}` : 'no row';
+}
+
+function slotHtml({ script, run, state, tick }, key, slot) {
+  if (slot.kind === 'item') {
+    const old = rowText(committedRow(state, key)) !== rowText(slot.row) ? '<b class="bad">old</b> ' : '';
+    return `${old}${codeHtml(named(script, key, slot.row))}, ${sentence(run, storedBy(slot))}`;
+  }
+  if (!isHeld(slot)) return `released lock ${slot.id}, of ${slot.release.tick}, good until ${slot.until}: ${sentence(run, releasedBy(slot, script))}`;
+  const over = tick > slot.until ? ' <b class="bad">(over)</b>' : '', version = slot.version === NO_VERSION ? 'no version' : slot.version;
+  return `lock ${slot.id}, good until ${slot.until}${over}${slot.shared ? ', shared' : ''}, over ${version}; held by ${sentence(run, holdersOf(state, slot))}`;
+}
+
+function sessionHtml({ state }, session, isShort) {
+  const copies = [...session.copies].map(([key, copy]) => `${key} ${copy.kind === 'removed' ? '(to remove)' : rowText(copy.row)}${isOldCopy(state, session, key) ? ' (old)' : ''}`);
+  const parts = [`time ${session.time}, floor ${session.floor}`];
+  if (isShort) return parts[0];
+  if (copies.length) parts.push('copies: ' + someHtml(copies));
+  if (session.written.length) parts.push('written: ' + someHtml(session.written.map(({ kind, key }) => `${kind} ${key}`)));
+  if (session.locks.size) parts.push('locks: ' + someHtml([...session.locks.keys()]));
+  if (session.doneAt > session.began) parts.push('has committed');
+  return parts.join('; ');
+}
+
+function sessionsTable(around) {
+  const { state, actor } = around, open = openSessions(state).sort((one, other) => (other.name === actor) - (one.name === actor));
+  return open.map(session => [session.name, sessionHtml(around, session, open.length > 8 && session.name !== actor)]);
+}
+
+const stampHtml = (run, { value, ahead, by, at }) => `${value}${ahead ? ' (ahead of time)' : ''},${byHtml(by)} at ${linkTo(run, at)}`;
+const keptHtml = (run, { list, time, by, at }) => `${codeHtml(list)} of the time ${time},${byHtml(by)} at ${linkTo(run, at)}`;
+
+// The state after an entry, as tables of a name, a head and rows. With `shown`, only of these keys.
+function tablesOf(run, state, at, shown) {
+  const { script } = run, entry = at === NEVER ? { tick: 0, session: '' } : run.entries[at];
+  const around = { script, run, state, tick: entry.tick, actor: entry.session }, keys = [...run.keys.keys()].filter(key => !shown || shown.has(key));
+  const regions = [...state.regions].map(([name, region]) => {
+    const { strategy, capacity } = script.entities.get(name), slots = [...region].filter(([key]) => !shown || shown.has(key));
+    return { name: 'Cache of ' + name, head: `Cache of ${name} (${strategy}, ${region.size} of ${capacity})`, rows: slots.map(([key, slot]) => [key, slotHtml(around, key, slot)]) };
+  });
+  const table = (head, rows) => ({ name: head, head, rows });
+  return [
+    table('Committed rows', keys.map(key => [key, rowHtml(around, key)])),
+    ...regions,
+    table('Open sessions', sessionsTable(around)),
+    table('Stamps', [...state.stamps].map(([name, stamp]) => [name, stampHtml(run, stamp)])),
+    table('Kept results', [...state.kept].map(([name, kept]) => [name, keptHtml(run, kept)])),
+    table('Unsound keys', [...state.unsound].map(([key, unsound]) => [key, `since ${linkTo(run, unsound.at)}: ${sentence(run, UNSOUND[unsound.cause](unsound))}`])),
+  ];
+}
+
+// A table with what has changed since the entry before marked and on top.
+function drawTable({ head, rows }, before, isFirst) {
+  const now = new Map(rows), old = new Map(before.rows), lost = [...old].filter(([name]) => !now.has(name));
+  if (!now.size && !lost.length) return '';
+  const isNew = name => !isFirst && old.get(name) !== now.get(name), order = rows.slice().sort(([one], [other]) => isNew(other) - isNew(one));
+  const drawn = order.slice(0, SHOWN).map(([name, html]) => `<tr${isNew(name) ? ' class="new"' : ''}><th scope="row">${escaped(name)}</th><td>${html}</td></tr>`);
+  const gone = lost.map(([name, html]) => `<tr class="new"><th scope="row">${escaped(name)}</th><td><del>${html}</del></td></tr>`);
+  return `<h2>${escaped(head)}</h2><table>${drawn.join('')}${gone.join('')}</table>${order.length > SHOWN ? `<p>${order.length - SHOWN} more</p>` : ''}`;
+}
+
+function drawState(run, at, shown) {
+  const after = tablesOf(run, stateAt(run.script, run.entries, at), at, shown);
+  const before = at === NEVER ? after : tablesOf(run, stateAt(run.script, run.entries, at - 1), at, shown);
+  return after.map((table, n) => drawTable(table, before[n], at === NEVER)).join('');
+}
+
+// ---- the panel ----
+
+const BUTTONS = '<div class="steps"><button data-go="-1" title="key: up, or k">&#9650; back</button><button data-go="1" title="key: down, or j">&#9660; on</button>' +
+  '<button data-next="stale warn" title="key: n">next finding</button></div>';
+
+// What docs/JOURNAL.md says of the entry's act and reply.
+function drawMeanings(run, entry) {
+  const rows = meaningsOf(run.meanings, entry).filter(({ meaning }) => !meaning.startsWith('The reply to '));
+  const drawn = rows.map(({ forms, meaning }) => `<dt>${sentence(run, forms)}</dt><dd>${sentence(run, meaning)}</dd>`);
+  return drawn.length ? `<dl aria-label="what docs/JOURNAL.md says">${drawn.join('')}</dl>` : '';
+}
+
+function drawEntry(run, at) {
+  const entry = run.entries[at], odd = run.odd.find(one => one.at === at), story = run.findings.find(one => one.at === at);
+  const parts = [`<p class="line mono">${escaped(lineOf(entry))}</p>`];
+  if (run.said[at]) parts.push(`<p>${sentence(run, run.said[at])}</p>`);
+  if (story) parts.push(`<p>${sentence(run, story.why)}</p>`);
+  if (odd) parts.push(`<p class="bad">${odd.due === null ? "By the entries before, this can't come here." : `By the entries before, the reply was to be ${codeHtml(odd.due)}.`}</p>`);
+  return parts.join('') + drawMeanings(run, entry);
+}
+
+function drawPanel(run, at, shown) {
+  if (at === NEVER) {
+    return `${BUTTONS}<p><b>Before the first entry.</b> Pick an entry, or step with the arrow keys, to see what it means and the state after it.</p>${drawState(run, NEVER, shown)}`;
+  }
+  return `${BUTTONS}${drawEntry(run, at)}<p class="note">The state after this entry, as this page works it out, unproved. What the entry changed is marked.</p>${drawState(run, at, shown)}`;
+}
+
+// ---- the words above the picture ----
+
+function badges(run) {
+  const marked = kind => run.marks.filter(mark => mark === kind).length, hits = run.reads.filter(read => read.key), lists = run.reads.filter(read => read.query);
+  const stale = reads => reads.filter(read => read.isStale).length, out = [];
+  const add = (kind, text, colour = '') => out.push(`<button class="badge ${colour}" data-next="${kind}" title="go to the next one">${text}</button>`);
+  out.push(`<span class="badge">${count(run.entries.length, 'entry', 'entries')}, ${count(run.script.sessions.length, 'session')}, ${count(run.keys.size, 'key')}</span>`);
+  add('stale', `${stale(hits)} stale of ${count(hits.length, 'hit')}`, stale(hits) ? 'red' : '');
+  if (lists.length) add('stale', `${stale(lists)} stale of ${count(lists.length, 'kept list')} used`, stale(lists) ? 'red' : '');
+  if (run.unsound.length) add('unsound', `unsound: ${run.unsound.slice(0, 3).map(({ key }) => escaped(key)).join(', ')}${run.unsound.length > 3 ? ' and more' : ''}`, 'amber');
+  if (marked('refused')) add('refused', count(marked('refused'), 'refused put'));
+  if (run.oldCopies.length) add('oldcopy', count(run.oldCopies.length, 'old copy', 'old copies'));
+  if (marked('idle')) add('idle', `${count(marked('idle'), 'statement')} did nothing`);
+  return out.join('');
+}
+
+// What is wrong with the journal, before anything is believed of it.
+function drawWarnings(run) {
+  const out = [], warn = text => out.push(`<p class="note bad">${text}</p>`), open = run.transactions.filter(({ to }) => to === null);
+  if (run.journal.cut) warn(`The journal is cut short: ${sentence(run, run.journal.cut)}.`);
+  if (run.odd.length) {
+    warn(`${count(run.odd.length, "reply doesn't", "replies don't")} follow from the entries before, the first at tick ${linkTo(run, run.odd[0].at)}. ` +
+      'Is this the report of another script, was a line of it changed, or had the run a file with rows of its own?');
+  }
+  if (open.length) {
+    const names = listed(open.slice(0, 5).map(({ session }) => escaped(session)));
+    warn(`The journal stops while ${names}${open.length > 5 ? ' and more' : ''} ${open.length === 1 ? 'is' : 'are'} open: it was cut short.`);
+  }
+  return out.join('');
+}
+
+const STORIES = 30; // stories that are told above the picture
+
+function drawStory(run, story, n, isShown, isOnly) {
+  const steps = story.steps.map(({ at, text }, k) => `<li><span class="number">${k + 1}</span><span>tick ${linkTo(run, at)}</span><span>${sentence(run, text)}</span></li>`);
+  return `<details class="story${isShown ? ' on' : ''}" data-story="${n}"${isShown ? ' open' : ''}><summary>Stale: ${sentence(run, story.head)}</summary><ol>${steps.join('')}</ol>` +
+    `<p><b>Why the cache answered so.</b> ${sentence(run, story.why)}</p><button data-only="${n}">${isOnly ? 'show all entries' : 'show only the entries of this story'}</button></details>`;
+}
+
+function drawUnsoundNotes(run) {
+  const notes = run.unsound.slice(0, 3).map(({ key, at, text }) => `<p class="note"><b>Unsound:</b> the cache can't vouch for ${codeHtml(key)} since tick ${linkTo(run, at)}: ${sentence(run, text)}.</p>`);
+  return notes.join('') + (run.unsound.length > 3 ? `<p class="note">${run.unsound.length - 3} more unsound keys.</p>` : '');
+}
+
+function drawWords(run, story, only) {
+  const stories = run.findings.slice(0, STORIES).map((one, n) => drawStory(run, one, n, one === story, one === only)).join('');
+  const more = run.findings.length > STORIES ? `<p class="note">${run.findings.length - STORIES} more stale reads: the key n goes to each.</p>` : '';
+  const none = run.findings.length ? '' : '<p class="note">No stale read: each row and each list that came from the cache was what the store had committed at that moment.</p>';
+  return drawWarnings(run) + stories + more + none + drawUnsoundNotes(run);
+}

@@ -1,0 +1,131 @@
+// Checks the page's scripts without a browser.
+//
+//   node tools/pages/tests/check.js [--kinds] FOLDER ..        each FOLDER has scripts NAME.hib, each with NAME.report
+//
+// Of each entry: its reply is the one that the rules give from the entries before; it has a sentence, which names as many holders as the
+// reply counts; and docs/JOURNAL.md has a row for its act and its reply. Of each run: the unsound keys are those that the report names;
+// the states by step and from the start are the same; each stale read has a story with its load, put, commit and hit; the stale hits are
+// those that tools/stale names; and nothing that is drawn has a hole in it. With --kinds, how many entries of each kind there were.
+'use strict';
+const fs = require('fs'), path = require('path'), vm = require('vm'), { spawnSync } = require('child_process');
+
+// The page's scripts, in the order of the page, as one function that hands out what is checked.
+const pages = path.join(__dirname, '..'), top = path.join(pages, '..', '..');
+const files = fs.readFileSync(path.join(pages, 'page.html'), 'utf8').match(/^@.*\.js@$/gm).map(line => line.replace(/@/g, ''));
+const NAMES = ['NEVER', 'readScript', 'readJournal', 'lineOf', 'startState', 'contextOf', 'step', 'stateAt', 'explain', 'brief', 'readMeanings', 'meaningsOf', 'analyse', 'entriesOfFilter',
+  'entriesOfStory', 'namesWithLanes', 'roomForKeys', 'layoutOf', 'drawRows', 'drawBoxes', 'drawAcross', 'drawWay', 'drawPicked', 'drawMarks', 'drawTexts', 'drawKeys', 'drawHead', 'drawPanel',
+  'drawWords', 'badges', 'tablesOf'];
+const source = files.map(file => fs.readFileSync(path.join(pages, file), 'utf8')).join('\n');
+const page = vm.runInThisContext(`(() => {${source}\nreturn { ${NAMES.join(', ')} };})()`);
+
+// The rows of docs/JOURNAL.md, as a page has them.
+const made = spawnSync(path.join(top, 'tools/page'), ['examples/first.hib', 'examples/first.report'], { cwd: top, encoding: 'utf8' }).stdout;
+const meanings = page.readMeanings(/<pre id="meanings" hidden>\n([^]*?)<\/pre>/.exec(made)[1].replace(/&lt;/g, '<').replace(/&amp;/g, '&'));
+
+const totals = { reports: 0, entries: 0, faults: 0, stale: 0, lists: 0, stories: 0, unsound: 0 }, kinds = new Map();
+let wrong = 0;
+function fail(file, text) {
+  wrong++;
+  if (wrong <= 20) console.log(`${file}: ${text.replace(/[\u0001\u0002]/g, '#')}`);
+}
+
+const HOLE = /undefined|NaN|\[object|null\b/;
+function checkText(file, what, text) {
+  const at = text.search(HOLE);
+  if (at >= 0) fail(file, `${what} has a hole: ${text.slice(Math.max(0, at - 80), at + 80)}`);
+}
+
+// ---- entries ----
+
+const kindOf = ({ part, verb, reply }) => `${part} ${verb} = ${reply.replace(/^(row|hit|list|found at) .*/, '$1').replace(/ ([A-Z]\w*|\d+|v\d+|v-)/g, '').replace(/^\d+$/, 'N')}`;
+
+function checkEntry(file, script, state, entry, at) {
+  const said = page.explain(script, state, entry, at), line = page.lineOf(entry), held = /^(?:held|miss locked) (\d+)$/.exec(entry.reply);
+  if (!said) fail(file, `${line}   has no sentence`);
+  checkText(file, `the sentence of ${line}`, said);
+  checkText(file, `the text of ${line}`, page.brief(entry, false) + page.brief(entry, true));
+  if (held && (said.match(/\(since \u0001/g) || []).length !== Number(held[1])) fail(file, `${line}   the holders are: ${said}`);
+  const rows = page.meaningsOf(meanings, entry);
+  if (rows.length !== 2 || rows.includes(undefined)) fail(file, `${line}   docs/JOURNAL.md has no row for ${rows.length ? 'the reply' : 'the act'}`);
+}
+
+// The state at the end.
+function checkEntries(file, script, journal) {
+  const state = page.startState(script);
+  journal.entries.forEach((entry, at) => {
+    totals.entries++;
+    kinds.set(kindOf(entry), (kinds.get(kindOf(entry)) || 0) + 1);
+    if (entry.part === 'store' && entry.reply === 'fault') totals.faults++;
+    checkEntry(file, script, state, entry, at);
+    const { due, follows } = page.step(script, state, entry, at);
+    if (!follows) fail(file, `${page.lineOf(entry)}   by the rules the reply is: ${due}`);
+  });
+  return state;
+}
+
+// ---- runs ----
+
+function checkStory(file, run, story) {
+  const read = run.reads.find(({ to }) => to === story.at), places = story.steps.map(({ at }) => at), has = at => places.includes(at);
+  const loads = read.loadedAt === page.NEVER || (has(read.loadedAt) && ['load', 'list'].includes(run.entries[read.loadedAt].verb));
+  const commits = places.some(at => at < story.at && run.entries[at].verb === 'commit' && run.entries[at].reply === 'committed');
+  if (!loads || !commits || !has(read.keptAt) || places[places.length - 1] !== story.at) fail(file, `a part of the story is missing: ${story.head}`);
+  if (!story.why || story.why.includes("this can't be") || places.some((at, k) => k && at <= places[k - 1])) fail(file, `the story is odd: ${story.head} ${story.why} ${places}`);
+  checkText(file, 'a story', story.head + story.why + story.steps.map(({ text }) => text).join());
+}
+
+function checkDrawing(file, run, width, story, filter) {
+  const visible = story && !filter.length ? page.entriesOfStory(run, story) : page.entriesOfFilter(run, filter);
+  if (!visible.length) return;
+  const layout = page.layoutOf(run, visible, page.namesWithLanes(run, filter, story, page.roomForKeys(run, visible, width), ''), width), { drawKeys } = page;
+  const drawn = {
+    rows: page.drawRows(run, layout, story, 0), boxes: page.drawBoxes(run, layout), lines: page.drawAcross(run, layout, story), way: page.drawWay(run, layout, story),
+    marks: page.drawMarks(run, layout), texts: page.drawTexts(run, layout, 0), keys: drawKeys(layout), head: page.drawHead(layout).html, words: page.drawWords(run, story, null), badges: page.badges(run),
+    picked: run.reads.map(({ to }) => page.drawPicked(run, layout, to, null)).join(''),
+  };
+  for (const [what, text] of Object.entries(drawn)) checkText(file, `the picture (${what}, ${width} wide)`, text);
+}
+
+function checkRun(file, run, end) {
+  const last = run.entries.length - 1, whole = state => JSON.stringify(page.tablesOf(run, state, page.NEVER, null));
+  if (whole(page.stateAt(run.script, run.entries, last)) !== whole(end)) fail(file, 'the states by step and from the start differ');
+  for (const story of run.findings) checkStory(file, run, story);
+  for (const width of [400, 1000, 1800]) for (const story of [run.findings[0] || null, null]) checkDrawing(file, run, width, story, []);
+  for (const filter of [[...run.keys.keys()].slice(0, 1), run.script.sessions.slice(0, 1)]) checkDrawing(file, run, 1000, null, filter);
+  for (let at = page.NEVER; at <= last; at += 1 + Math.floor(last / 12)) checkText(file, 'the panel', page.drawPanel(run, at, null));
+}
+
+function checkStale(file, hits, stale) {
+  const said = spawnSync(path.join(top, 'tools/stale'), [file + '.hib', file + '.report'], { encoding: 'utf8' }).stdout, counts = /stale hits: (\d+) of (\d+)/.exec(said);
+  if (!counts || Number(counts[1]) !== stale || Number(counts[2]) !== hits) fail(file, `${stale} stale of ${hits} hits, and tools/stale says ${said.slice(-60)}`);
+}
+
+function checkReport(file) {
+  const script = page.readScript(fs.readFileSync(file + '.hib', 'utf8')), text = fs.readFileSync(file + '.report', 'utf8'), journal = page.readJournal(text), isReport = text[0] === 'j';
+  if (journal.cut) fail(file, `is cut short: ${journal.cut}`);
+  if (isReport) journal.entries.forEach((entry, at) => { if (page.lineOf(entry) !== text.split('\n', at + 2)[at + 1]) fail(file, `a line is read as ${page.lineOf(entry)}`); });
+  const end = checkEntries(file, script, journal), run = page.analyse(script, journal), unsound = [...end.unsound.keys()].sort().join();
+  run.meanings = meanings;
+  if (journal.unsound && unsound !== journal.unsound.slice().sort().join()) fail(file, `unsound by the rules: ${unsound}; by the report: ${journal.unsound}`);
+  if (run.findings.length !== run.stale.size) fail(file, `${run.stale.size} stale reads, ${run.findings.length} stories`);
+  checkRun(file, run, end);
+  const hits = run.reads.filter(({ key }) => key), stale = hits.filter(({ isStale }) => isStale).length;
+  if (isReport) checkStale(file, hits.length, stale);
+  totals.reports++;
+  totals.stale += stale;
+  totals.lists += run.reads.filter(({ query, isStale }) => query && isStale).length;
+  totals.stories += run.findings.length;
+  totals.unsound += run.unsound.length;
+}
+
+const words = process.argv.slice(2), wantsKinds = words[0] === '--kinds';
+for (const folder of wantsKinds ? words.slice(1) : words) {
+  for (const name of fs.readdirSync(folder).filter(one => one.endsWith('.hib'))) {
+    const file = path.join(folder, name.slice(0, -'.hib'.length));
+    if (fs.existsSync(file + '.report')) checkReport(file);
+  }
+}
+if (wantsKinds) for (const [kind, number] of [...kinds].sort()) console.log(String(number).padStart(7), kind);
+console.log(`${totals.reports} reports, ${totals.entries} entries of ${kinds.size} kinds, ${totals.faults} faults, ${totals.stale} stale hits, ${totals.lists} stale lists, ` +
+  `${totals.stories} stories, ${totals.unsound} unsound keys; ${wrong} wrong`);
+process.exit(wrong || !totals.reports ? 1 : 0);
