@@ -11,8 +11,9 @@ const headTo = (x, y, direction, style) => `<path d="M${pixels(x)} ${y}l${7 * di
 // A sentence as HTML, and as a plain text.
 const PLACES = /\u0001(-?\d+)\u0002/g;
 const linkTo = (run, at, text = '') => at === NEVER ? 'the start' : `<a href="#${run.entries[at].tick}" data-at="${at}">${text}${run.entries[at].tick}</a>`;
-const sentence = (run, text) => escaped(text).replace(/`([^`]*)`/g, '<code>$1</code>').replace(/\*\*([^*]*)\*\*/g, '<b class="bad">$1</b>')
-  .replace(PLACES, (all, at) => linkTo(run, Number(at), 'tick&nbsp;'));
+const codeHtml = text => `<code>${text.length <= 20 ? escaped(text).replace(/ /g, '&nbsp;') : escaped(text)}</code>`;
+const sentence = (run, text) => text.split(/(`[^`]*`)/).map(part => part[0] === '`' ? codeHtml(part.slice(1, -1)) : escaped(part)).join('')
+  .replace(/\*\*([^*]*)\*\*/g, '<b class="bad">$1</b>').replace(PLACES, (all, at) => linkTo(run, Number(at), 'tick&nbsp;'));
 const plain = (run, text) => text.replace(PLACES, (all, at) => Number(at) === NEVER ? 'the start' : 'tick ' + run.entries[at].tick).replace(/`|\*\*/g, '');
 
 // ---- what is where ----

@@ -8,7 +8,7 @@ const NARROW = 900; // below this width, as in style.css, the panel stands under
 
 function start(run) {
   const element = id => document.getElementById(id), main = element('main'), picture = element('picture');
-  const shown = { pick: NEVER, story: run.findings[0] || null, only: null, filter: [], from: 0, isPrinting: false, all: [], visible: [], names: [], layout: null };
+  const shown = { pick: NEVER, story: run.findings[0] || null, only: null, areAllTold: false, filter: [], from: 0, isPrinting: false, all: [], visible: [], names: [], layout: null };
 
   // ---- drawing ----
 
@@ -55,7 +55,7 @@ function start(run) {
   function draw() {
     const width = plan(), { layout } = shown, head = drawHead(layout);
     for (const id of ['words', 'legend', 'foot']) element(id).style.width = width + 'px';
-    element('words').innerHTML = drawWords(run, shown.story, shown.only) + drawHidden();
+    element('words').innerHTML = drawWords(run, shown.story, shown.only, shown.areAllTold) + drawHidden();
     element('head').innerHTML = head.html;
     element('head').style.cssText = `height:${head.height}px;width:${pixels(layout.width)}px`;
     picture.style.cssText = `height:${layout.height + 8}px;width:${pixels(layout.width)}px`;
@@ -148,6 +148,11 @@ function start(run) {
     draw();
   }
 
+  function tellAll() {
+    shown.areAllTold = !shown.areAllTold;
+    draw();
+  }
+
   // ---- clicks and keys ----
 
   const CLICKS = {
@@ -169,9 +174,10 @@ function start(run) {
       act(target.dataset[kind], target);
       return;
     }
-    if (!summary) return;
+    if (!summary || summary.parentNode.id === 'legend') return;
     event.preventDefault();
-    openStory(run.findings[summary.parentNode.dataset.story]);
+    const { story } = summary.parentNode.dataset;
+    if (story !== undefined) openStory(run.findings[story]); else tellAll();
   });
 
   const FINDINGS = ['stale', 'warn'];

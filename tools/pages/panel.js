@@ -5,7 +5,6 @@ const SHOWN = 40; // rows that a table of the panel shows
 
 // ---- a state, as tables of names and what stands there ----
 
-const codeHtml = text => `<code>${escaped(text)}</code>`;
 const byHtml = by => by ? ' by ' + escaped(by) : '';
 
 // Some of a list, as HTML.
@@ -77,9 +76,9 @@ function drawTable({ head, rows }, before, isFirst) {
 }
 
 function drawState(run, at, shown) {
-  const after = tablesOf(run, stateAt(run.script, run.entries, at), at, shown);
-  const before = at === NEVER ? after : tablesOf(run, stateAt(run.script, run.entries, at - 1), at, shown);
-  return after.map((table, n) => drawTable(table, before[n], at === NEVER)).join('');
+  const state = stateAt(run.script, run.entries, at - 1), before = tablesOf(run, state, at, shown);
+  if (at !== NEVER) step(run.script, state, run.entries[at], at);
+  return tablesOf(run, state, at, shown).map((table, n) => drawTable(table, before[n], at === NEVER)).join('');
 }
 
 // ---- the panel ----
@@ -141,7 +140,8 @@ function drawWarnings(run) {
   return out.join('');
 }
 
-const STORIES = 30; // stories that are told above the picture
+const FEW_STORIES = 3; // up to so many, all stories are told above the picture
+const STORIES = 30; // and else so many, where they are asked for
 
 function drawStory(run, story, n, isShown, isOnly) {
   const steps = story.steps.map(({ at, text }, k) => `<li><span class="number">${k + 1}</span><span>tick ${linkTo(run, at)}</span><span>${sentence(run, text)}</span></li>`);
@@ -154,9 +154,16 @@ function drawUnsoundNotes(run) {
   return notes.join('') + (run.unsound.length > 3 ? `<p class="note">${run.unsound.length - 3} more unsound keys.</p>` : '');
 }
 
-function drawWords(run, story, only) {
-  const stories = run.findings.slice(0, STORIES).map((one, n) => drawStory(run, one, n, one === story, one === only)).join('');
-  const more = run.findings.length > STORIES ? `<p class="note">${run.findings.length - STORIES} more stale reads: the key n goes to each.</p>` : '';
-  const none = run.findings.length ? '' : '<p class="note">No stale read: each row and each list that came from the cache was what the store had committed at that moment.</p>';
-  return drawWarnings(run) + stories + more + none + drawUnsoundNotes(run);
+// The stories: few of them one below the other, of many the one that is shown, and the others where they are asked for.
+function drawStories(run, story, only, areAllShown) {
+  const tell = one => drawStory(run, one, run.findings.indexOf(one), one === story, one === only);
+  if (run.findings.length <= FEW_STORIES) return run.findings.map(tell).join('');
+  const others = run.findings.filter(one => one !== story), told = areAllShown ? others.slice(0, STORIES).map(tell).join('') : '';
+  const more = others.length > STORIES ? `<p class="note">${others.length - STORIES} more: the key n goes to each.</p>` : '';
+  return `${story ? tell(story) : ''}<details class="others"${areAllShown ? ' open' : ''}><summary>${others.length}${story ? ' more' : ''} stale reads</summary>${told}${areAllShown ? more : ''}</details>`;
+}
+
+function drawWords(run, story, only, areAllShown) {
+  const none = '<p class="note">No stale read: each row and each list that came from the cache was what the store had committed at that moment.</p>';
+  return drawWarnings(run) + (run.findings.length ? drawStories(run, story, only, areAllShown) : none) + drawUnsoundNotes(run);
 }

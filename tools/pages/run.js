@@ -176,17 +176,20 @@ function noteCommit(run, state, entry, at) {
     run.commits.get(key).push({ at, by: entry.session, began: session.began, row: committedRow(state, key) });
   }
   const tables = [...new Set(keys.map(entityOf))];
-  if (tables.length) run.tableCommits.push({ at, by: entry.session, tables, keys });
+  if (!keys.length) return keys;
+  run.tableCommits.push({ at, by: entry.session, tables, keys });
+  const rows = rowsOf(state);
   for (const lanes of run.queries.values()) {
     if (!lanes.query.tables.some(table => tables.includes(table))) continue;
-    lanes.now = gives(run.script, lanes.query, rowsOf(state));
+    lanes.now = gives(run.script, lanes.query, rows);
     lanes.touches.push(at);
   }
   return keys;
 }
 
-// Notes which keys are unsound from here on, or no longer; answers the new ones.
+// Notes which keys are unsound from here on, or no longer; answers the new ones. Keys are added, or a restart takes all of them out.
 function noteUnsound(run, state, at) {
+  if (state.unsound.size === run.unsoundNow.size) return [];
   const added = [...state.unsound.keys()].filter(key => !run.unsoundNow.has(key));
   for (const key of added) {
     const unsound = state.unsound.get(key);

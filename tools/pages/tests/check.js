@@ -80,7 +80,7 @@ function checkDrawing(file, run, width, story, filter) {
   const layout = page.layoutOf(run, visible, page.namesWithLanes(run, filter, story, page.roomForKeys(run, visible, width), ''), width), { drawKeys } = page;
   const drawn = {
     rows: page.drawRows(run, layout, story, 0), boxes: page.drawBoxes(run, layout), lines: page.drawAcross(run, layout, story), way: page.drawWay(run, layout, story),
-    marks: page.drawMarks(run, layout), texts: page.drawTexts(run, layout, 0), keys: drawKeys(layout), head: page.drawHead(layout).html, words: page.drawWords(run, story, null), badges: page.badges(run),
+    marks: page.drawMarks(run, layout), texts: page.drawTexts(run, layout, 0), keys: drawKeys(layout), head: page.drawHead(layout).html, words: page.drawWords(run, story, null, true), badges: page.badges(run),
     picked: run.reads.map(({ to }) => page.drawPicked(run, layout, to, null)).join(''),
   };
   for (const [what, text] of Object.entries(drawn)) checkText(file, `the picture (${what}, ${width} wide)`, text);
