@@ -133,7 +133,7 @@ function drawWarnings(run) {
     warn(`${count(run.odd.length, "reply doesn't", "replies don't")} follow from the entries before, the first at tick ${linkTo(run, run.odd[0].at)}. ` +
       'Is this the report of another script, was a line of it changed, or had the run a file with rows of its own?');
   }
-  if (open.length) {
+  if (open.length && !run.journal.cut) {
     const names = listed(open.slice(0, 5).map(({ session }) => escaped(session)));
     warn(`The journal stops while ${names}${open.length > 5 ? ' and more' : ''} ${open.length === 1 ? 'is' : 'are'} open: it was cut short.`);
   }
