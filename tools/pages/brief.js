@@ -4,6 +4,7 @@
 // A row without its version if it has none; a text without its part, and without its key where a run has only one.
 const briefRow = row => withoutNoVersion(rowText(row));
 const ARROW = ' \u2192 ';
+const withoutKey = reply => reply.replace(/ \S+ \d+( found)?/, '$1');
 const unless = (reply, usual) => reply === usual ? '' : ARROW + reply;
 
 const BRIEF = {
@@ -20,7 +21,7 @@ const BRIEF = {
     update: (entry, key) => `write${key} ${briefRow(rowIn(entry, 4))}`,
     delete: (entry, key) => `write${key} (delete)`,
     list: entry => `list ${entry.query}${ARROW}${entry.reply.replace(/^list /, '')}`,
-    commit: (entry, key, isOnly) => entry.reply === 'committed' ? 'commit' : `commit${ARROW}refused: ${isOnly ? entry.reply.replace(/ \S+ \d+( found)?/, '$1') : entry.reply}`,
+    commit: (entry, key, isOnly) => entry.reply === 'committed' ? 'commit' : `commit${ARROW}refused: ${isOnly ? withoutKey(entry.reply) : entry.reply}`,
     rollback: () => 'rollback',
   },
   region: {

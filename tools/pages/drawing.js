@@ -43,24 +43,28 @@ function drawTransaction(layout, transaction) {
   if (!lane || !span) return '';
   const isKilled = transaction.outcome.startsWith('killed'), colour = isKilled ? 'red' : OUTCOMES[transaction.outcome], x = markX(layout, lane);
   const top = layout.top(span.from) + 2, bottom = layout.top(span.to) + (isVisible(layout, span.to) ? ROW - 2 : 0);
-  const dashes = isKilled || transaction.to === null ? ' stroke-dasharray="4 3"' : '';
-  const shape = layout.isWide ?
-    `<rect x="${pixels(lane.x + 2)}" y="${top}" width="${pixels(lane.width - 5)}" height="${Math.max(4, bottom - top)}" rx="4" fill="none" ${stroke(colour, 1, dashes)}/>` +
-      lineTo(lane.x + 2, top + 3, lane.x + 2, bottom - 3, stroke(colour, 3)) :
-    lineTo(x, top, x, bottom, stroke(colour, layout.laneWidth < 9 ? 1 : 3, dashes));
-  return shape + (isKilled ? crossAt(x, bottom - 2, 'red') : '');
+  const dashes = isKilled || transaction.to === null ? ' stroke-dasharray="4 3"' : '', cross = isKilled ? crossAt(x, bottom - 2, 'red') : '';
+  if (!layout.isWide) return lineTo(x, top, x, bottom, stroke(colour, layout.laneWidth < 9 ? 1 : 3, dashes)) + cross;
+  const size = `width="${pixels(lane.width - 5)}" height="${Math.max(4, bottom - top)}"`;
+  return `<rect x="${pixels(lane.x + 2)}" y="${top}" ${size} rx="4" fill="none" ${stroke(colour, 1, dashes)}/>` +
+    lineTo(lane.x + 2, top + 3, lane.x + 2, bottom - 3, stroke(colour, 3)) + cross;
 }
 
 // A lock that a session holds, as a bar at the side of its lane; it ends with the session's transaction, though the lock may stay.
 function drawLock(run, layout, lock) {
-  const lane = layout.laneOf.get(lock.session), transaction = run.transactions.find(one => one.session === lock.session && isWithin(lock.from, one));
-  const ends = [lock.to, transaction ? transaction.to : null].filter(at => at !== null), span = spanOf(layout, { from: lock.from, to: ends.length ? Math.min(...ends) : null });
-  if (!lane || !span || !layout.isWide) return '';
+  const lane = layout.laneOf.get(lock.session);
+  if (!lane || !layout.isWide) return '';
+  const transaction = run.transactions.find(one => one.session === lock.session && isWithin(lock.from, one));
+  const ends = [lock.to, transaction ? transaction.to : null].filter(at => at !== null);
+  const span = spanOf(layout, { from: lock.from, to: ends.length ? Math.min(...ends) : null });
+  if (!span) return '';
   const x = lane.x + lane.width - 8;
   return lineTo(x, layout.middle(span.from), x, layout.middle(span.to), stroke('amber', 4, ' stroke-dasharray="4 2"'));
 }
 
-const drawBoxes = (run, layout) => run.transactions.map(one => drawTransaction(layout, one)).join('') + run.locks.map(one => drawLock(run, layout, one)).join('');
+function drawBoxes(run, layout) {
+  return run.transactions.map(one => drawTransaction(layout, one)).join('') + run.locks.map(one => drawLock(run, layout, one)).join('');
+}
 
 const MARKS = {
   region: (x, y) => `<circle cx="${x}" cy="${y}" r="4"/>`,
@@ -74,36 +78,43 @@ const COLOURS = { stale: 'red', refused: 'amber', warn: 'amber', oldcopy: 'amber
 
 function drawMarks(run, layout) {
   return layout.visible.map(at => {
-    const { part, session } = run.entries[at], colour = `var(--${COLOURS[run.marks[at]] || 'soft'})`;
-    return `<g fill="${colour}" style="color:${colour}">${MARKS[part](pixels(markX(layout, layout.laneOf.get(session))), layout.middle(at))}</g>`;
+    const { part, session } = run.entries[at], colour = `var(--${COLOURS[run.marks[at]] || 'soft'})`, x = pixels(markX(layout, layout.laneOf.get(session)));
+    return `<g fill="${colour}" style="color:${colour}">${MARKS[part](x, layout.middle(at))}</g>`;
   }).join('');
 }
 
 const PREFIXES = { stale: 'STALE ', oldcopy: 'old copy: ' };
 
-// The texts of entries, in their lanes or in a column of their own.
-function drawTexts(run, layout, picked) {
-  return layout.visible.map(at => {
-    const entry = run.entries[at], lane = layout.laneOf.get(entry.session), [x, width] = layout.isWide ? [lane.x + 18, lane.width - 26] : [layout.textAt, layout.textWidth];
-    const name = layout.isWide || !entry.session ? '' : `<b>${escaped(entry.session)}</b>`, isQuiet = entry.part === 'registry' && ['begin', 'end'].includes(entry.verb);
-    const kinds = ['text', run.marks[at], isQuiet ? 'quiet' : '', at === picked ? 'pick' : ''].filter(Boolean).join(' ');
-    const text = (PREFIXES[run.marks[at]] || '') + brief(entry, run.keys.size === 1);
-    return `<div class="${kinds}" style="left:${pixels(x)}px;top:${layout.top(at) + 2}px;max-width:${pixels(width)}px"><i>${name}${escaped(text)}</i></div>`;
-  }).join('');
+// The text of an entry, in its lane or in a column of texts with the session's name in front.
+function drawText(run, layout, at, isPicked) {
+  const entry = run.entries[at], mark = run.marks[at], lane = layout.laneOf.get(entry.session);
+  const [x, width] = layout.isWide ? [lane.x + 18, lane.width - 26] : [layout.textAt, layout.textWidth];
+  const name = layout.isWide || !entry.session ? '' : `<b>${escaped(entry.session)}</b>`, isQuiet = ['begin', 'end'].includes(entry.verb);
+  const kinds = ['text', mark, isQuiet ? 'quiet' : '', isPicked ? 'pick' : ''].filter(Boolean).join(' ');
+  const place = `left:${pixels(x)}px;top:${layout.top(at) + 2}px;max-width:${pixels(width)}px`;
+  return `<div class="${kinds}" style="${place}"><i>${name}${escaped((PREFIXES[mark] || '') + brief(entry, run.keys.size === 1))}</i></div>`;
 }
+
+const drawTexts = (run, layout, picked) => layout.visible.map(at => drawText(run, layout, at, at === picked)).join('');
 
 // ---- between a session's lane and those of keys ----
 
 const ASKS = ['get', 'load', 'look', 'list'];
 
+// The lanes of a part in the groups that pass a test.
+function lanesOfPart(layout, part, passes) {
+  return layout.groups.filter(passes).flatMap(group => group.lanes.filter(lane => lane.part === part).map(lane => ({ group, lane })));
+}
+
 // The lanes to which an entry goes.
 function targetsOfEntry(layout, entry, at) {
-  const lanesIn = (isOne, part) => layout.groups.filter(isOne).flatMap(group => group.lanes.filter(lane => lane.part === part).map(lane => ({ group, lane })));
-  const changedHere = group => group.isKey && group.lanes.some(lane => lane.part === 'store' && lane.segments.some(segment => segment.from === at));
-  if (entry.part === 'own' || entry.verb === 'check' || ['insert', 'update', 'delete'].includes(entry.verb)) return [];
-  if (entry.verb === 'commit') return lanesIn(changedHere, 'store');
-  if (entry.part === 'stamps') return lanesIn(group => group.isTable && entry.words.includes(group.name), 'stamps');
-  return lanesIn(group => !group.isTable && group.name === (entry.key || entry.query), entry.part);
+  if (entry.part === 'own' || ['check', 'insert', 'update', 'delete'].includes(entry.verb)) return [];
+  if (entry.part === 'stamps') return lanesOfPart(layout, 'stamps', ({ kind, name }) => kind === 'table' && entry.words.includes(name));
+  if (entry.verb === 'commit') {
+    const changed = lanesOfPart(layout, 'store', ({ kind }) => kind === 'key');
+    return changed.filter(({ lane }) => lane.segments.some(({ from }) => from === at));
+  }
+  return lanesOfPart(layout, entry.part, ({ kind, name }) => kind !== 'table' && name === (entry.key || entry.query));
 }
 
 // Whether an entry's line to a group is a step of the story.
@@ -111,22 +122,25 @@ function isStep(story, group, at) {
   return Boolean(story) && story.steps.some(step => step.at === at) && (!story.key || group.name === story.key);
 }
 
-// What an entry asks and gets, or gives, as a line across.
+// Where the head of an arrow to a session stands: at its lane, or beside the texts that stand between.
+const headX = (layout, lane) => layout.isWide ? sideX(layout, lane) : layout.textAt + layout.textWidth - 2;
+
+// A line from a session to a lane, with a head to where something goes: a row, or a cross if it is refused. Steps of the story are strong.
+function drawArrow(run, layout, at, to, isHot) {
+  const entry = run.entries[at], lane = layout.laneOf.get(entry.session), y = layout.middle(at);
+  const colour = isHot ? (entry.verb === 'commit' ? 'green' : 'red') : 'soft', fill = `fill="var(--${colour})"${isHot ? '' : ' opacity="0.6"'}`;
+  const isMiss = /^miss|^absent|^none/.test(entry.reply), isRefused = run.marks[at] === 'refused' || /^(stale|duplicate)/.test(entry.reply);
+  const dashes = isMiss || isRefused ? ' stroke-dasharray="2 3"' : '';
+  const line = lineTo(sideX(layout, lane), y, to, y, stroke(colour, isHot ? 2 : 1, dashes + (isHot ? '' : ' opacity="0.45"')));
+  if (isRefused) return line + crossAt(to - 4, y, 'amber');
+  if (!ASKS.includes(entry.verb)) return line + headTo(to, y, -1, fill);
+  return isMiss ? line : line + headTo(headX(layout, lane), y, 1, fill);
+}
+
+// What entries ask and get, or give.
 function drawAcross(run, layout, story) {
-  let out = '';
-  for (const at of layout.visible) {
-    const entry = run.entries[at], from = sideX(layout, layout.laneOf.get(entry.session)), y = layout.middle(at);
-    for (const { group, lane } of targetsOfEntry(layout, entry, at)) {
-      const isHot = isStep(story, group, at), colour = isHot ? (entry.verb === 'commit' ? 'green' : 'red') : 'soft';
-      const isMiss = /^miss|^absent|^none/.test(entry.reply), isRefused = run.marks[at] === 'refused' || /^(stale|duplicate)/.test(entry.reply), to = lane.x + 1;
-      out += lineTo(from, y, to, y, stroke(colour, isHot ? 2 : 1, (isMiss || isRefused ? ' stroke-dasharray="2 3"' : '') + (isHot ? '' : ' opacity="0.45"')));
-      const fill = `fill="var(--${colour})"${isHot ? '' : ' opacity="0.6"'}`;
-      if (isRefused) out += crossAt(to - 4, y, 'amber');
-      else if (!ASKS.includes(entry.verb)) out += headTo(to, y, -1, fill);
-      else if (!isMiss) out += headTo(layout.isWide ? from : layout.textAt + layout.textWidth - 2, y, 1, fill);
-    }
-  }
-  return out;
+  const arrowsOf = at => targetsOfEntry(layout, run.entries[at], at).map(({ group, lane }) => drawArrow(run, layout, at, lane.x + 1, isStep(story, group, at)));
+  return layout.visible.flatMap(arrowsOf).join('');
 }
 
 // The lane in which what a read got has lain.
@@ -139,15 +153,14 @@ function laneOfRead(layout, read) {
 function drawWay(run, layout, story) {
   const read = story && run.reads.find(({ to }) => to === story.at), lane = laneOfRead(layout, read);
   if (!lane) return '';
-  const x = lane.x + 1, loader = layout.laneOf.get(run.entries[read.keptAt].session), reader = layout.laneOf.get(run.entries[read.to].session), y = layout.middle(read.to);
-  let out = lineTo(x, layout.middle(read.keptAt), x, y, stroke('red', 4));
+  const x = lane.x + 1, [loader, reader] = [read.keptAt, read.to].map(at => layout.laneOf.get(run.entries[at].session));
+  const kept = layout.middle(read.keptAt), y = layout.middle(read.to), parts = [lineTo(x, kept, x, y, stroke('red', 4))];
   if (loader && read.loadedAt !== NEVER) {
-    out += lineTo(markX(layout, loader), layout.middle(read.loadedAt), markX(layout, loader), layout.middle(read.keptAt), stroke('red', 2.5, ' stroke-dasharray="5 3"'));
+    const loaderX = markX(layout, loader);
+    parts.push(lineTo(loaderX, layout.middle(read.loadedAt), loaderX, kept, stroke('red', 2.5, ' stroke-dasharray="5 3"')));
   }
-  if (story.query && reader) {
-    out += lineTo(sideX(layout, reader), y, x, y, stroke('red', 2)) + headTo(layout.isWide ? sideX(layout, reader) : layout.textAt + layout.textWidth - 2, y, 1, 'fill="var(--red)"');
-  }
-  return out;
+  if (story.query && reader) parts.push(lineTo(sideX(layout, reader), y, x, y, stroke('red', 2)), headTo(headX(layout, reader), y, 1, 'fill="var(--red)"'));
+  return parts.join('');
 }
 
 // The way of what a picked read got, if it is no story's.
@@ -170,11 +183,13 @@ function lookOf(segment, isOdd) {
   return { kind: segment.kind + (segment.isOver ? ' out' : ''), front: '' };
 }
 
+const boxAt = (x, y, width, height) => `left:${pixels(x)}px;top:${pixels(y)}px;width:${pixels(width)}px;height:${pixels(height)}px`;
+
 function drawSegment(lane, { kind, front }, text, top, height) {
-  if (kind === 'none') return `<div class="segment none" style="left:${pixels(lane.x + lane.width / 2)}px;top:${pixels(top)}px;width:2px;height:${pixels(height)}px"></div>`;
+  if (kind === 'none') return `<div class="segment none" style="${boxAt(lane.x + lane.width / 2, top, 2, height)}"></div>`;
   const times = Math.max(1, Math.ceil((height - 15) / REPEAT));
   const texts = Array.from({ length: times }, (none, n) => `<span style="top:${1 + n * REPEAT}px">${front}${escaped(text)}</span>`).join('');
-  return `<div class="segment ${kind}" style="left:${pixels(lane.x + 2)}px;top:${pixels(top)}px;width:${pixels(lane.width - 4)}px;height:${pixels(height)}px">${texts}</div>`;
+  return `<div class="segment ${kind}" style="${boxAt(lane.x + 2, top, lane.width - 4, height)}">${texts}</div>`;
 }
 
 function drawLane(layout, lane) {
@@ -182,7 +197,8 @@ function drawLane(layout, lane) {
   return lane.segments.map(segment => {
     if (segment.kind === 'row') rows++;
     if (!spanOf(layout, segment)) return '';
-    const top = segment.from < firstOf(layout) ? 0 : layout.middle(segment.from), bottom = segment.to === null || segment.to > lastOf(layout) ? layout.height : layout.middle(segment.to);
+    const top = segment.from < firstOf(layout) ? 0 : layout.middle(segment.from);
+    const bottom = segment.to === null || segment.to > lastOf(layout) ? layout.height : layout.middle(segment.to);
     return bottom - top < 2 ? '' : drawSegment(lane, lookOf(segment, rows % 2 === 1), segment.text, top, bottom - top);
   }).join('');
 }
@@ -197,7 +213,8 @@ function drawUnsound(layout, group, unsound) {
 }
 
 function drawKeys(layout) {
-  return layout.groups.map(group => group.lanes.map(lane => drawLane(layout, lane)).join('') + group.unsound.map(one => drawUnsound(layout, group, one)).join('')).join('');
+  const drawGroup = group => [...group.lanes.map(lane => drawLane(layout, lane)), ...group.unsound.map(one => drawUnsound(layout, group, one))];
+  return layout.groups.flatMap(drawGroup).join('');
 }
 
 // ---- rows and heads ----
@@ -208,32 +225,41 @@ function drawRows(run, layout, story, picked) {
   return layout.visible.map((at, n) => {
     const entry = run.entries[at], isGap = n > 0 && layout.visible[n - 1] !== at - 1, line = lineOf(entry), said = plain(run, run.said[at]);
     const number = numbers.has(at) ? `<span class="number">${numbers.get(at)}</span>` : '';
-    return `<div class="row${isGap ? ' gap' : ''}${at === picked ? ' pick' : ''}" role="option" id="e${at}" data-at="${at}" aria-selected="${at === picked}" ` +
-      `style="top:${n * ROW}px;width:${pixels(layout.width)}px" title="${escaped(line + '\n' + said)}" aria-label="${escaped(`${entry.tick}: ${said || line}`)}">` +
-      `${number}<span class="tick">${entry.tick}</span></div>`;
+    const kinds = ['row', isGap ? 'gap' : '', at === picked ? 'pick' : ''].filter(Boolean).join(' ');
+    const place = `top:${n * ROW}px;width:${pixels(layout.width)}px`;
+    return `<div class="${kinds}" id="e${at}" data-at="${at}" style="${place}" role="option" aria-selected="${at === picked}" ` +
+      `title="${escaped(`${line}\n${said}`)}" aria-label="${escaped(`${entry.tick}: ${said || line}`)}">${number}<span class="tick">${entry.tick}</span></div>`;
   }).join('');
 }
 
-function drawSessionHead(layout, session, lane, height) {
-  const name = session === null ? 'schedule' : session, button = (kind, text, style) => session === null ? `<div class="lane${kind}" style="${style}" title="orders of the schedule">${escaped(text)}</div>` :
-    `<button class="lane${kind}" data-name="${escaped(session)}" style="${style}" title="${escaped(name)}: show only this session">${escaped(text)}</button>`;
-  if (layout.isWide) return button('', name, `left:${pixels(lane.x + 6)}px;width:${pixels(lane.width - 10)}px;top:${height - 22}px`);
+// A name above a lane; one that can be filtered by is a button.
+function drawName(kind, name, place, canFilter, title) {
+  const text = escaped(name);
+  if (!canFilter) return `<div class="${kind}" style="${place}" title="${title}">${text}</div>`;
+  return `<button class="${kind}" style="${place}" data-name="${text}" title="${text}: ${title}">${text}</button>`;
+}
+
+function drawSessionHead(layout, session, height) {
+  const { x, width } = layout.laneOf.get(session), isOrder = session === null, title = isOrder ? 'orders of the schedule' : 'show only this session';
+  const place = `left:${pixels(x + 6)}px;width:${pixels(width - 10)}px;top:${height - 22}px`;
+  if (layout.isWide) return drawName('lane', isOrder ? 'schedule' : session, place, !isOrder, title);
   if (layout.laneWidth < 9) return '';
-  return button(' up', session === null ? '-' : name, `left:${pixels(lane.x + lane.width / 2 - 8)}px;height:${height - 6}px;top:2px`);
+  return drawName('lane up', isOrder ? '-' : session, `left:${pixels(x + width / 2 - 8)}px;height:${height - 6}px;top:2px`, !isOrder, title);
 }
 
 function drawGroupHead(group, height) {
-  const place = `left:${pixels(group.x)}px;width:${pixels(group.width)}px;top:${height - 40}px`, name = escaped(group.name);
-  const head = group.isTable ? `<div class="key" style="${place}" title="the stamp of this table">${name}</div>` :
-    `<button class="key" style="${place}" data-name="${name}" title="${name}: show only what touches it">${name}</button>`;
-  const heads = group.lanes.map(lane => `<div class="sub" style="left:${pixels(lane.x)}px;width:${pixels(lane.width)}px;top:${height - 19}px">${lane.width < 90 ? lane.head.replace(/^(query|in the) /, '') : lane.head}</div>`);
-  return head + heads.join('');
+  const isTable = group.kind === 'table', place = `left:${pixels(group.x)}px;width:${pixels(group.width)}px;top:${height - 40}px`;
+  const heads = group.lanes.map(lane => {
+    const text = lane.width < 90 ? lane.head.replace(/^(query|in the) /, '') : lane.head;
+    return `<div class="sub" style="left:${pixels(lane.x)}px;width:${pixels(lane.width)}px;top:${height - 19}px">${text}</div>`;
+  });
+  return drawName('key', group.name, place, !isTable, isTable ? 'the stamp of this table' : 'show only what touches it') + heads.join('');
 }
 
 // The names above the lanes, and how high they stand.
 function drawHead(layout) {
   const longest = Math.max(3, ...layout.sessions.map(session => session === null ? 1 : session.length));
   const height = layout.isWide || layout.laneWidth < 9 ? 40 : Math.max(40, Math.min(90, 8 + 7 * longest));
-  const names = layout.sessions.map(session => drawSessionHead(layout, session, layout.laneOf.get(session), height));
-  return { height, html: `<div class="sub" style="left:4px;top:${height - 20}px">tick</div>${names.join('')}${layout.groups.map(group => drawGroupHead(group, height)).join('')}` };
+  const names = [...layout.sessions.map(session => drawSessionHead(layout, session, height)), ...layout.groups.map(group => drawGroupHead(group, height))];
+  return { height, html: `<div class="sub" style="left:4px;top:${height - 20}px">tick</div>${names.join('')}` };
 }

@@ -59,7 +59,8 @@ function namesWithLanes(run, filter, story, room, picked) {
   if (story) wanted.add(story.key || story.query);
   if (wanted.size) return all.filter(name => wanted.has(name));
   if (all.length <= room) return all;
-  const found = new Set(run.findings.flatMap(({ key, query, keys }) => [key || query, ...keys])), unsound = new Set(run.unsound.map(({ key }) => key));
+  const found = new Set(run.findings.flatMap(({ key, query, keys }) => [key || query, ...keys]));
+  const unsound = new Set(run.unsound.map(({ key }) => key));
   const rank = name => [name === picked, found.has(name), unsound.has(name)].map(Number);
   const weight = name => run.keys.has(name) ? touchesOf(run, name).length : THREE_TOUCHES;
   const kept = new Set(all.map(name => [...rank(name), weight(name), name])
@@ -99,20 +100,27 @@ function actingIn(run, visible) {
   return acting;
 }
 
+const laneFor = (part, head, segments) => ({ part, head, segments, x: 0, width: 0 });
+
+function groupOfKey(name, { isCached, cache, store, unsound }) {
+  const lanes = [laneFor('store', 'committed', store)];
+  if (isCached) lanes.unshift(laneFor('region', 'in the cache', cache));
+  return { name, kind: 'key', tables: [], unsound, lanes };
+}
+
+function groupOfQuery(name, { query, kept, gives }) {
+  return { name, kind: 'query', tables: query.tables, unsound: [], lanes: [laneFor('results', 'kept', kept), laneFor('store', 'query gives', gives)] };
+}
+
+function groupOfTable(name, { stamps }) {
+  return { name, kind: 'table', tables: [], unsound: [], lanes: [laneFor('stamps', 'stamp', stamps)] };
+}
+
 // The groups of lanes on the right: what a key has in the cache and committed, what a query keeps and gives, and the stamps of its tables.
 function groupsOf(run, names) {
-  const groups = names.map(name => {
-    if (run.queries.has(name)) {
-      const { query, kept, gives } = run.queries.get(name);
-      return { name, tables: query.tables, isQuery: true, unsound: [], lanes: [{ part: 'results', head: 'kept', segments: kept }, { part: 'store', head: 'query gives', segments: gives }] };
-    }
-    const { isCached, cache, store, unsound } = run.keys.get(name), committed = { part: 'store', head: 'committed', segments: store };
-    return { name, tables: [], isKey: true, unsound, lanes: isCached ? [{ part: 'region', head: 'in the cache', segments: cache }, committed] : [committed] };
-  });
-  for (const table of new Set(groups.flatMap(group => group.tables))) {
-    groups.push({ name: table, isTable: true, tables: [], unsound: [], lanes: [{ part: 'stamps', head: 'stamp', segments: run.tables.get(table).stamps }] });
-  }
-  return groups;
+  const groups = names.map(name => run.queries.has(name) ? groupOfQuery(name, run.queries.get(name)) : groupOfKey(name, run.keys.get(name)));
+  const tables = new Set(groups.flatMap(group => group.tables));
+  return [...groups, ...[...tables].map(name => groupOfTable(name, run.tables.get(name)))];
 }
 
 // How many letters the longest text of an entry has, with the session's name in front if it stands in a column of texts.
@@ -149,7 +157,7 @@ function placeGroups(groups, from, half) {
     group.x = x;
     for (const lane of group.lanes) {
       lane.x = x;
-      lane.width = group.isTable ? STAMP : half;
+      lane.width = group.kind === 'table' ? STAMP : half;
       x += lane.width;
     }
     group.width = x - group.x;
@@ -160,11 +168,12 @@ function placeGroups(groups, from, half) {
 // Where everything stands for a width: lanes that have room for their texts, or thin lanes and one column of texts.
 function layoutOf(run, visible, names, width) {
   const acting = actingIn(run, visible), sessions = [...(acting.has(null) ? [null] : []), ...run.script.sessions.filter(name => acting.has(name))];
-  const groups = groupsOf(run, names), stamps = groups.filter(group => group.isTable).length, halves = groups.reduce((sum, group) => sum + group.lanes.length, 0) - stamps;
-  const fixed = groups.length * GAP + stamps * STAMP + 6, shares = sessions.length - (acting.has(null) ? 0.4 : 0);
-  const wide = wideWidths(width - TICKS - fixed, shares, between(120, 34 + LETTER * longestText(run, visible, false), 200), halves);
-  const layout = { isWide: Boolean(wide), sessions, laneOf: new Map(), groups, visible, textAt: 0, textWidth: 0, laneWidth: wide ? wide.lane : thinLane(sessions.length, width) };
-  let x = placeSessions(layout, TICKS, layout.laneWidth), { half } = wide || { half: 0 };
+  const groups = groupsOf(run, names), stamps = groups.filter(group => group.kind === 'table').length;
+  const halves = groups.reduce((sum, group) => sum + group.lanes.length, 0) - stamps, fixed = groups.length * GAP + stamps * STAMP + 6;
+  const shares = sessions.length - (acting.has(null) ? 0.4 : 0), textLane = between(120, 34 + LETTER * longestText(run, visible, false), 200);
+  const wide = wideWidths(width - TICKS - fixed, shares, textLane, halves), laneWidth = wide ? wide.lane : thinLane(sessions.length, width);
+  const layout = { isWide: Boolean(wide), laneWidth, sessions, laneOf: new Map(), groups, visible, textAt: 0, textWidth: 0 };
+  let x = placeSessions(layout, TICKS, laneWidth), { half } = wide || { half: 0 };
   if (!wide) {
     const left = width - x - fixed, texts = between(190, 30 + LETTER * longestText(run, visible, true), 400);
     half = between(HALF_LEAST, (left - texts) / Math.max(1, halves), 170);

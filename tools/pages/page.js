@@ -8,7 +8,10 @@ const NARROW = 900; // below this width, as in style.css, the panel stands under
 
 function start(run) {
   const element = id => document.getElementById(id), main = element('main'), picture = element('picture');
-  const shown = { pick: NEVER, story: run.findings[0] || null, only: null, areAllTold: false, filter: [], from: 0, isPrinting: false, all: [], visible: [], names: [], layout: null };
+  const shown = {
+    pick: NEVER, story: run.findings[0] || null, only: null, areAllTold: false, filter: [], from: 0, isPrinting: false, // what is asked for
+    all: [], visible: [], names: [], layout: null, // what is drawn for it
+  };
 
   // ---- drawing ----
 
@@ -28,16 +31,19 @@ function start(run) {
   function drawPicture() {
     const { layout, story, pick, visible } = shown, size = `width="${pixels(layout.width)}" height="${layout.height + 8}"`;
     if (!visible.length) return '';
-    return drawRows(run, layout, story, pick) + `<svg ${size} aria-hidden="true">${drawBoxes(run, layout)}</svg><div aria-hidden="true">${drawKeys(layout)}</div>` +
-      `<svg ${size} aria-hidden="true">${drawAcross(run, layout, story)}${drawMarks(run, layout)}${drawWay(run, layout, story)}</svg>` +
-      `<svg id="way" ${size} aria-hidden="true">${drawPicked(run, layout, pick, story)}</svg><div id="texts" aria-hidden="true">${drawTexts(run, layout, pick)}</div>`;
+    const sheet = (inside, id = '') => `<svg ${id} ${size} aria-hidden="true">${inside}</svg>`;
+    const hide = (inside, id = '') => `<div ${id} aria-hidden="true">${inside}</div>`;
+    return drawRows(run, layout, story, pick) + sheet(drawBoxes(run, layout)) + hide(drawKeys(layout)) +
+      sheet(drawAcross(run, layout, story) + drawMarks(run, layout) + drawWay(run, layout, story)) +
+      sheet(drawPicked(run, layout, pick, story), 'id="way"') + hide(drawTexts(run, layout, pick), 'id="texts"');
   }
 
   // What isn't shown, so that nobody takes a part for the whole.
   function drawHidden() {
     const parts = [], lanes = run.keys.size + run.queries.size, { all, names, from } = shown;
     if (all.length < run.entries.length) parts.push(`${all.length} of ${run.entries.length} entries are shown <button data-all="1">show all</button>`);
-    if (names.length < lanes) parts.push(`${names.length} of ${lanes} keys and queries have lanes: that of the picked entry, those with findings, the most used; the filter shows others`);
+    const which = 'that of the picked entry, those with findings, the most used; the filter shows others';
+    if (names.length < lanes) parts.push(`${names.length} of ${lanes} keys and queries have lanes: ${which}`);
     if (all.length > MOST) {
       const pages = '<span id="pages"><button data-page="-1">earlier</button> <button data-page="1">later</button></span>';
       parts.push(`Entries ${from + 1} to ${Math.min(all.length, from + MOST)} of these are drawn ${pages}`);
@@ -47,9 +53,11 @@ function start(run) {
 
   function drawTop() {
     const names = [...run.keys.keys(), ...run.script.sessions, ...run.queries.keys()].map(name => `<option value="${escaped(name)}">`).join('');
-    const chips = shown.filter.map(name => `<span class="chip">${escaped(name)}<button data-name="${escaped(name)}" aria-label="remove the filter ${escaped(name)}">&#10005;</button></span>`).join('');
-    return `<h1>${escaped(document.title)}</h1>${badges(run)}<input id="find" list="names" placeholder="filter: key or session" aria-label="Filter by key, session or query">` +
-      `<datalist id="names">${names}</datalist>${chips}`;
+    const chips = shown.filter.map(escaped).map(name => {
+      return `<span class="chip">${name}<button data-name="${name}" aria-label="remove the filter ${name}">&#10005;</button></span>`;
+    });
+    const box = '<input id="find" list="names" placeholder="filter: key or session" aria-label="Filter by key, session or query">';
+    return `<h1>${escaped(document.title)}</h1>${badges(run)}${box}<datalist id="names">${names}</datalist>${chips.join('')}`;
   }
 
   function draw() {
@@ -86,14 +94,15 @@ function start(run) {
   }
 
   function scrollTo(at) {
-    const y = picture.offsetTop + shown.layout.top(at), top = main.scrollTop + element('head').offsetHeight + 2 * ROW, bottom = main.scrollTop + main.clientHeight - 3 * ROW;
+    const y = picture.offsetTop + shown.layout.top(at);
+    const top = main.scrollTop + element('head').offsetHeight + 2 * ROW, bottom = main.scrollTop + main.clientHeight - 3 * ROW;
     if (y < top || y > bottom) main.scrollTop = Math.max(0, y - main.clientHeight / 2);
   }
 
   // ---- picking ----
 
   const showAll = () => Object.assign(shown, { only: null, filter: [] });
-  const isLaneMissing = at => !shown.filter.length && shown.names.length < run.keys.size + run.queries.size && nameOf(at) !== '' && !shown.names.includes(nameOf(at));
+  const isLaneMissing = at => !shown.filter.length && isLaneName(run, nameOf(at)) && !shown.names.includes(nameOf(at));
 
   // Picks an entry and shows it, in another story or without the filter if need be.
   function pick(at, isHere) {

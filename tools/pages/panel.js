@@ -28,9 +28,11 @@ function slotHtml({ script, run, state, tick }, key, slot) {
 }
 
 function sessionHtml({ state }, session, isShort) {
-  const copies = [...session.copies].map(([key, copy]) => `${key} ${copy.kind === 'removed' ? '(to remove)' : rowText(copy.row)}${isOldCopy(state, session, key) ? ' (old)' : ''}`);
   const parts = [`time ${session.time}, floor ${session.floor}`];
   if (isShort) return parts[0];
+  const copies = [...session.copies].map(([key, { kind, row }]) => {
+    return `${key} ${kind === 'removed' ? '(to remove)' : rowText(row)}${isOldCopy(state, session, key) ? ' (old)' : ''}`;
+  });
   if (copies.length) parts.push('copies: ' + someHtml(copies));
   if (session.written.length) parts.push('written: ' + someHtml(session.written.map(({ kind, key }) => `${kind} ${key}`)));
   if (session.locks.size) parts.push('locks: ' + someHtml([...session.locks.keys()]));
@@ -46,22 +48,22 @@ function sessionsTable(around) {
 const stampHtml = (run, { value, ahead, by, at }) => `${value}${ahead ? ' (ahead of time)' : ''},${byHtml(by)} at ${linkTo(run, at)}`;
 const keptHtml = (run, { list, time, by, at }) => `${codeHtml(list)} of the time ${time},${byHtml(by)} at ${linkTo(run, at)}`;
 
-// The state after an entry, as tables of a name, a head and rows. With `shown`, only of these keys.
+// The state after an entry, as tables with a head and rows. With `shown`, only of these keys.
 function tablesOf(run, state, at, shown) {
   const { script } = run, entry = at === NEVER ? { tick: 0, session: '' } : run.entries[at];
-  const around = { script, run, state, tick: entry.tick, actor: entry.session }, keys = [...run.keys.keys()].filter(key => !shown || shown.has(key));
+  const around = { script, run, state, tick: entry.tick, actor: entry.session }, table = (head, rows) => ({ head, rows });
+  const keys = [...run.keys.keys()].filter(key => !shown || shown.has(key)), unsoundHtml = unsound => sentence(run, UNSOUND[unsound.cause](unsound));
   const regions = [...state.regions].map(([name, region]) => {
-    const { strategy, capacity } = script.entities.get(name), slots = [...region].filter(([key]) => !shown || shown.has(key));
-    return { name: 'Cache of ' + name, head: `Cache of ${name} (${strategy}, ${region.size} of ${capacity})`, rows: slots.map(([key, slot]) => [key, slotHtml(around, key, slot)]) };
+    const { strategy, capacity } = script.entities.get(name), head = `Cache of ${name} (${strategy}, ${region.size} of ${capacity})`;
+    return table(head, [...region].filter(([key]) => !shown || shown.has(key)).map(([key, slot]) => [key, slotHtml(around, key, slot)]));
   });
-  const table = (head, rows) => ({ name: head, head, rows });
   return [
     table('Committed rows', keys.map(key => [key, rowHtml(around, key)])),
     ...regions,
     table('Open sessions', sessionsTable(around)),
     table('Stamps', [...state.stamps].map(([name, stamp]) => [name, stampHtml(run, stamp)])),
     table('Kept results', [...state.kept].map(([name, kept]) => [name, keptHtml(run, kept)])),
-    table('Unsound keys', [...state.unsound].map(([key, unsound]) => [key, `since ${linkTo(run, unsound.at)}: ${sentence(run, UNSOUND[unsound.cause](unsound))}`])),
+    table('Unsound keys', [...state.unsound].map(([key, unsound]) => [key, `since ${linkTo(run, unsound.at)}: ${unsoundHtml(unsound)}`])),
   ];
 }
 
@@ -70,9 +72,11 @@ function drawTable({ head, rows }, before, isFirst) {
   const now = new Map(rows), old = new Map(before.rows), lost = [...old].filter(([name]) => !now.has(name));
   if (!now.size && !lost.length) return '';
   const isNew = name => !isFirst && old.get(name) !== now.get(name), order = rows.slice().sort(([one], [other]) => isNew(other) - isNew(one));
-  const drawn = order.slice(0, SHOWN).map(([name, html]) => `<tr${isNew(name) ? ' class="new"' : ''}><th scope="row">${escaped(name)}</th><td>${html}</td></tr>`);
-  const gone = lost.map(([name, html]) => `<tr class="new"><th scope="row">${escaped(name)}</th><td><del>${html}</del></td></tr>`);
-  return `<h2>${escaped(head)}</h2><table>${drawn.join('')}${gone.join('')}</table>${order.length > SHOWN ? `<p>${order.length - SHOWN} more</p>` : ''}`;
+  const drawRow = (name, html, isMarked) => `<tr${isMarked ? ' class="new"' : ''}><th scope="row">${escaped(name)}</th><td>${html}</td></tr>`;
+  const drawn = order.slice(0, SHOWN).map(([name, html]) => drawRow(name, html, isNew(name)));
+  const gone = lost.map(([name, html]) => drawRow(name, `<del>${html}</del>`, true));
+  const more = order.length > SHOWN ? `<p>${order.length - SHOWN} more</p>` : '';
+  return `<h2>${escaped(head)}</h2><table>${drawn.join('')}${gone.join('')}</table>${more}`;
 }
 
 function drawState(run, at, shown) {
@@ -83,8 +87,8 @@ function drawState(run, at, shown) {
 
 // ---- the panel ----
 
-const BUTTONS = '<div class="steps"><button data-go="-1" title="key: up, or k">&#9650; back</button><button data-go="1" title="key: down, or j">&#9660; on</button>' +
-  '<button data-next="stale warn" title="key: n">next finding</button></div>';
+const BUTTONS = '<div class="steps"><button data-go="-1" title="key: up, or k">&#9650; back</button>' +
+  '<button data-go="1" title="key: down, or j">&#9660; on</button><button data-next="stale warn" title="key: n">next finding</button></div>';
 
 // What docs/JOURNAL.md says of the entry's act and reply.
 function drawMeanings(run, entry) {
@@ -98,27 +102,28 @@ function drawEntry(run, at) {
   const parts = [`<p class="line mono">${escaped(lineOf(entry))}</p>`];
   if (run.said[at]) parts.push(`<p>${sentence(run, run.said[at])}</p>`);
   if (story) parts.push(`<p>${sentence(run, story.why)}</p>`);
-  if (odd) parts.push(`<p class="bad">${odd.due === null ? "By the entries before, this can't come here." : `By the entries before, the reply was to be ${codeHtml(odd.due)}.`}</p>`);
+  if (odd) parts.push(`<p class="bad">By the entries before, ${odd.due === null ? "this can't come here" : `the reply was to be ${codeHtml(odd.due)}`}.</p>`);
   return parts.join('') + drawMeanings(run, entry);
 }
 
 function drawPanel(run, at, shown) {
-  if (at === NEVER) {
-    return `${BUTTONS}<p><b>Before the first entry.</b> Pick an entry, or step with the arrow keys, to see what it means and the state after it.</p>${drawState(run, NEVER, shown)}`;
-  }
-  return `${BUTTONS}${drawEntry(run, at)}<p class="note">The state after this entry, as this page works it out, unproved. What the entry changed is marked.</p>${drawState(run, at, shown)}`;
+  const what = at === NEVER ? '<p><b>Before the first entry.</b> Pick an entry, or step with the arrow keys, to see what it means and the state after it.</p>' :
+    `${drawEntry(run, at)}<p class="note">The state after this entry, as this page works it out, unproved. What the entry changed is marked.</p>`;
+  return BUTTONS + what + drawState(run, at, shown);
 }
 
 // ---- the words above the picture ----
 
 function badges(run) {
-  const marked = kind => run.marks.filter(mark => mark === kind).length, hits = run.reads.filter(read => read.key), lists = run.reads.filter(read => read.query);
-  const stale = reads => reads.filter(read => read.isStale).length, out = [];
+  const marked = kind => run.marks.filter(mark => mark === kind).length, stale = reads => reads.filter(read => read.isStale).length;
+  const hits = run.reads.filter(read => read.key), lists = run.reads.filter(read => read.query);
+  const unsound = run.unsound.slice(0, 3).map(({ key }) => escaped(key)).join(', ');
+  const sizes = [count(run.entries.length, 'entry', 'entries'), count(run.script.sessions.length, 'session'), count(run.keys.size, 'key')];
+  const out = [`<span class="badge">${sizes.join(', ')}</span>`];
   const add = (kind, text, colour = '') => out.push(`<button class="badge ${colour}" data-next="${kind}" title="go to the next one">${text}</button>`);
-  out.push(`<span class="badge">${count(run.entries.length, 'entry', 'entries')}, ${count(run.script.sessions.length, 'session')}, ${count(run.keys.size, 'key')}</span>`);
   add('stale', `${stale(hits)} stale of ${count(hits.length, 'hit')}`, stale(hits) ? 'red' : '');
   if (lists.length) add('stale', `${stale(lists)} stale of ${count(lists.length, 'kept list')} used`, stale(lists) ? 'red' : '');
-  if (run.unsound.length) add('unsound', `unsound: ${run.unsound.slice(0, 3).map(({ key }) => escaped(key)).join(', ')}${run.unsound.length > 3 ? ' and more' : ''}`, 'amber');
+  if (run.unsound.length) add('unsound', `unsound: ${unsound}${run.unsound.length > 3 ? ' and more' : ''}`, 'amber');
   if (marked('refused')) add('refused', count(marked('refused'), 'refused put'));
   if (run.oldCopies.length) add('oldcopy', count(run.oldCopies.length, 'old copy', 'old copies'));
   if (marked('idle')) add('idle', `${count(marked('idle'), 'statement')} did nothing`);
@@ -144,13 +149,18 @@ const FEW_STORIES = 3; // up to so many, all stories are told above the picture
 const STORIES = 30; // and else so many, where they are asked for
 
 function drawStory(run, story, n, isShown, isOnly) {
-  const steps = story.steps.map(({ at, text }, k) => `<li><span class="number">${k + 1}</span><span>tick ${linkTo(run, at)}</span><span>${sentence(run, text)}</span></li>`);
-  return `<details class="story${isShown ? ' on' : ''}" data-story="${n}"${isShown ? ' open' : ''}><summary>Stale: ${sentence(run, story.head)}</summary><ol>${steps.join('')}</ol>` +
-    `<p><b>Why the cache answered so.</b> ${sentence(run, story.why)}</p><button data-only="${n}">${isOnly ? 'show all entries' : 'show only the entries of this story'}</button></details>`;
+  const steps = story.steps.map(({ at, text }, k) => {
+    return `<li><span class="number">${k + 1}</span><span>tick ${linkTo(run, at)}</span><span>${sentence(run, text)}</span></li>`;
+  });
+  const button = `<button data-only="${n}">${isOnly ? 'show all entries' : 'show only the entries of this story'}</button>`;
+  return `<details class="story${isShown ? ' on' : ''}" data-story="${n}"${isShown ? ' open' : ''}><summary>Stale: ${sentence(run, story.head)}</summary>` +
+    `<ol>${steps.join('')}</ol><p><b>Why the cache answered so.</b> ${sentence(run, story.why)}</p>${button}</details>`;
 }
 
 function drawUnsoundNotes(run) {
-  const notes = run.unsound.slice(0, 3).map(({ key, at, text }) => `<p class="note"><b>Unsound:</b> the cache can't vouch for ${codeHtml(key)} since tick ${linkTo(run, at)}: ${sentence(run, text)}.</p>`);
+  const notes = run.unsound.slice(0, 3).map(({ key, at, text }) => {
+    return `<p class="note"><b>Unsound:</b> the cache can't vouch for ${codeHtml(key)} since tick ${linkTo(run, at)}: ${sentence(run, text)}.</p>`;
+  });
   return notes.join('') + (run.unsound.length > 3 ? `<p class="note">${run.unsound.length - 3} more unsound keys.</p>` : '');
 }
 
@@ -160,7 +170,8 @@ function drawStories(run, story, only, areAllShown) {
   if (run.findings.length <= FEW_STORIES) return run.findings.map(tell).join('');
   const others = run.findings.filter(one => one !== story), told = areAllShown ? others.slice(0, STORIES).map(tell).join('') : '';
   const more = others.length > STORIES ? `<p class="note">${others.length - STORIES} more: the key n goes to each.</p>` : '';
-  return `${story ? tell(story) : ''}<details class="others"${areAllShown ? ' open' : ''}><summary>${others.length}${story ? ' more' : ''} stale reads</summary>${told}${areAllShown ? more : ''}</details>`;
+  const head = `<summary>${others.length}${story ? ' more' : ''} stale reads</summary>`;
+  return `${story ? tell(story) : ''}<details class="others"${areAllShown ? ' open' : ''}>${head}${told}${areAllShown ? more : ''}</details>`;
 }
 
 function drawWords(run, story, only, areAllShown) {

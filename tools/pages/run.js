@@ -27,7 +27,7 @@ function lookOfSlot(state, key, tick) {
   if (!slot) return { kind: 'none', text: '' };
   if (slot.kind === 'item') return { kind: 'item', text: briefRow(slot.row), isStale: rowText(committedRow(state, key)) !== rowText(slot.row) };
   if (!isHeld(slot)) return { kind: 'released', text: 'released ' + slot.release.tick };
-  const holders = slot.holders.map(({ by, at }) => by + (state.sessions.get(by).killed > at ? ' (killed)' : '')).join(', '), isOver = tick > slot.until;
+  const isOver = tick > slot.until, holders = slot.holders.map(({ by, at }) => by + (state.sessions.get(by).killed > at ? ' (killed)' : '')).join(', ');
   return { kind: 'lock', text: (isOver ? 'lock, time over: ' : 'locked: ') + holders, isOver };
 }
 
@@ -59,7 +59,8 @@ function keyLanes(run, state, key) {
 function queryLanes(run, state) {
   for (const { verb, query: name } of run.entries) {
     if (!['look', 'keep'].includes(verb) || run.queries.has(name)) continue;
-    const query = run.script.queries.get(name), now = gives(run.script, query, rowsOf(state)), lanes = { query, now, gives: [], kept: [], touches: [] };
+    const query = run.script.queries.get(name), now = gives(run.script, query, rowsOf(state));
+    const lanes = { query, now, gives: [], kept: [], touches: [] };
     show(lanes.gives, NEVER, { kind: 'row', text: now });
     show(lanes.kept, NEVER, { kind: 'none', text: '' });
     run.queries.set(name, lanes);
@@ -120,11 +121,13 @@ function judgeRead(run, at, read, story) {
 function judge(run, context) {
   const { state, session, slot, entry, at } = context;
   if (entry.part === 'region' && entry.reply.startsWith('hit ') && slot && slot.kind === 'item') {
-    const read = { keptAt: slot.at, loadedAt: slot.how === 'put' ? slot.loadedAt : NEVER, key: entry.key, isStale: rowText(committedRow(state, entry.key)) !== rowText(slot.row) };
+    const isStale = rowText(committedRow(state, entry.key)) !== rowText(slot.row);
+    const read = { keptAt: slot.at, loadedAt: slot.how === 'put' ? slot.loadedAt : NEVER, key: entry.key, isStale };
     if (judgeRead(run, at, read, () => staleHit(run, context))) return 'stale';
   }
   if (entry.verb === 'check' && entry.reply === 'fresh' && run.queries.has(entry.query) && session.found) {
-    const { found } = session, { now } = run.queries.get(entry.query), read = { keptAt: found.at, loadedAt: found.listedAt, query: entry.query, isStale: found.list !== now };
+    const { found } = session, { now } = run.queries.get(entry.query);
+    const read = { keptAt: found.at, loadedAt: found.listedAt, query: entry.query, isStale: found.list !== now };
     if (judgeRead(run, at, read, () => staleList(run, context, now))) return 'stale';
   }
   if (entry.part === 'own' && entry.verb === 'find' && isOldCopy(state, session, entry.key)) {
@@ -205,7 +208,8 @@ function noteUnsound(run, state, at) {
 function markServed(run) {
   for (const { isStale, key, query, to } of run.reads) {
     if (!isStale) continue;
-    const lane = key ? run.keys.get(key).cache : run.queries.get(query).kept, segment = lane.find(one => one.from < to && (one.to === null || one.to >= to));
+    const lane = key ? run.keys.get(key).cache : run.queries.get(query).kept;
+    const segment = lane.find(one => one.from < to && (one.to === null || one.to >= to));
     if (segment) segment.isServed = true;
   }
 }

@@ -1,7 +1,7 @@
 'use strict';
 // What an entry means in this run, as a sentence from the state before it: who, since when, and because of which entry. What an act or a
 // reply means in every run stands in docs/JOURNAL.md alone; `meaningsOf` finds its row there. In a sentence `code` marks a word of the run,
-// `ref` the place of an entry, and `**` what is wrong.
+// `ref` the place of an entry, and `**` what is wrong. The functions take what `contextOf` gives, with the session and the key as such words.
 
 // ---- words ----
 
@@ -34,14 +34,16 @@ function difference(script, key, one, other) {
 const STORED = { put: 'put there by', 'after-insert': 'put there after the insert of', 'after-update': 'put there after the update of' };
 const storedBy = item => `${STORED[item.how]} ${code(item.by)} at ${ref(item.at)}`;
 
+const SLOW_OR_DEAD = "The cache can't tell a dead holder from a slow one";
+
 function holdersOf(state, lock) {
   return listed(lock.holders.map(({ by, at }) => `${code(by)} (since ${ref(at)}${state.sessions.get(by).killed > at ? ', killed' : ''})`));
 }
 
 function releasedBy({ release }, script) {
   if (release.how === 'evicted') return `the key was evicted at ${ref(release.at)}`;
-  if (release.how === 'expired') return `a lock had run out and was given back too late at ${ref(release.at)}; puts are barred for ${count(script.timeout, 'tick')} after that`;
-  return `${code(release.by)} gave the lock back at ${ref(release.at)}`;
+  if (release.how !== 'expired') return `${code(release.by)} gave the lock back at ${ref(release.at)}`;
+  return `a lock had run out and was given back too late at ${ref(release.at)}; puts are barred for ${count(script.timeout, 'tick')} after that`;
 }
 
 const GONE = {
@@ -51,17 +53,17 @@ const GONE = {
   restart: at => `the restart at ${ref(at)} emptied the cache`,
 };
 
-function absentSince(state, key) {
-  const gone = state.gone.get(key);
+function absentSince({ state, entry }) {
+  const gone = state.gone.get(entry.key);
   return gone ? GONE[gone.how](gone.at) : 'nobody has put it there yet';
 }
 
 // Why nobody may leave a full region.
 function whyCrowded({ state, entity, region, entry }) {
-  const floor = numberBehind(entry, 'floor'), oldest = oldestOpen(state, floor);
-  const some = [...region].slice(0, 3).map(([key, slot]) => isHeld(slot) ? `${code(key)} is locked` : `${code(key)} is of the tick ${tickOfSlot(slot)}`);
-  return `The cache of ${code(entity.name)} is full (${region.size} of ${entity.capacity}), and nothing in it is older than the floor ${floor}` +
-    `${oldest ? `, at which ${code(oldest.name)} began, who is open` : ''}: ${listed(some)}${region.size > 3 ? ', and so on' : ''}.`;
+  const floor = numberBehind(entry, 'floor'), oldest = oldestOpen(state, floor), began = oldest ? `, at which ${code(oldest.name)} began, who is open` : '';
+  const some = [...region].slice(0, 3).map(([key, slot]) => `${code(key)} is ${isHeld(slot) ? 'locked' : `of the tick ${tickOfSlot(slot)}`}`);
+  return `The cache of ${code(entity.name)} is full (${region.size} of ${entity.capacity}), and nothing in it is older than the floor ${floor}${began}: ` +
+    `${listed(some)}${region.size > 3 ? ', and so on' : ''}.`;
 }
 
 // Who leaves a full region for the key, as a sentence.
@@ -70,113 +72,120 @@ function leaverText({ entity, entry }) {
   return left ? ` ${code(keyOf(entity.name, left[1]))} leaves the full cache for it.` : '';
 }
 
-// How an old copy differs from the committed row.
-function oldCopyText(script, state, session, key) {
-  const { base, at } = session.copies.get(key), now = state.committed.get(key), [old, fresh] = difference(script, key, base, now && now.row);
-  return `it has ${code(old)} from ${ref(at)}, and ${now ? `${code(fresh)} is committed ${since(now.at)}` : 'the row is deleted'}.`;
-}
-
-// ---- a sentence for each act ----
-
-const meOf = ({ entry }) => code(entry.session || '-');
-const keyText = ({ entry }) => code(entry.key);
+// ---- registry ----
 
 const REGISTRY_TEXTS = {
-  begin({ state, entry }) {
+  begin({ state, entry, me }) {
     const floor = Number(entry.reply.split(' ')[1]), oldest = oldestOpen(state, floor);
     const others = oldest ? `The floor is ${floor}: ${code(oldest.name)} is the oldest that is open.` : 'Nobody who is open began before.';
-    return `A transaction of ${code(entry.session)} begins. Its time is ${entry.tick}. ${others}`;
+    return `A transaction of ${me} begins. Its time is ${entry.tick}. ${others}`;
   },
-  end: ({ entry }) => `The transaction of ${code(entry.session)} ends: ${entry.reply}.`,
+  end: ({ entry, me }) => `The transaction of ${me} ends: ${entry.reply}.`,
   kill({ state, entry }) {
     const session = sessionOf(state, entry.words[1]), locks = [...session.locks.keys()];
     const written = session.written.length ? ' What it has written is dropped.' : '';
     const held = locks.length ? ` It holds ${locks.length === 1 ? 'a lock' : 'locks'} on ${codes(locks)}.` : '';
-    const unstamped = session.doneAt > session.began && session.stampedAt < session.doneAt && session.done.length;
-    return `${code(session.name)} is killed.${written}${held}${unstamped ? ' It has committed, and its tables are never stamped.' : ''}`;
+    const isUnstamped = session.doneAt > session.began && session.stampedAt < session.doneAt && session.done.length;
+    return `${code(session.name)} is killed.${written}${held}${isUnstamped ? ' It has committed, and its tables are never stamped.' : ''}`;
   },
-  restart: ({ state }) => `The caches are empty now, and ${codes(openSessions(state).map(session => session.name)) || 'no session'} killed.`,
+  restart: ({ state }) => `The caches are empty now, and ${codes(openSessions(state).map(({ name }) => name)) || 'no session'} killed.`,
 };
 
-const nothingHappens = reason => `Nothing happens: ${reason}.`;
+// ---- a session's own copies ----
+
+// How an old copy differs from the committed row.
+function oldCopyText({ script, state, session, entry }) {
+  const { base, at } = session.copies.get(entry.key), now = state.committed.get(entry.key), [old, fresh] = difference(script, entry.key, base, now && now.row);
+  return ` **The copy is old:** it has ${code(old)} from ${ref(at)}, and ${now ? `${code(fresh)} is committed ${since(now.at)}` : 'the row is deleted'}.`;
+}
 
 // Why a session can't change a copy.
-function whyUnknown(context) {
-  const { session, entry } = context, key = keyText(context);
-  return nothingHappens(`${meOf(context)} ${session.copies.has(entry.key) ? `has marked its copy of ${key} for removal` : `has no copy of ${key}; it has to find the row first`}`);
+function unknownText({ session, entry, me, key }) {
+  if (session.copies.has(entry.key)) return `Nothing happens: ${me} has marked its copy of ${key} for removal.`;
+  return `Nothing happens: ${me} has no copy of ${key}; it has to find the row first.`;
 }
 
 const OWN_TEXTS = {
   find(context) {
-    const { script, state, session, entry } = context, front = `${meOf(context)} looks ${keyText(context)} up`;
-    if (entry.reply === 'none') return `${front}, and has marked its copy for removal.`;
-    const old = isOldCopy(state, session, entry.key) ? ` **The copy is old:** ${oldCopyText(script, state, session, entry.key)}` : '';
-    return `${front}, and has a copy of its own.${old}`;
+    const { state, session, entry, me, key } = context;
+    if (entry.reply === 'none') return `${me} looks ${key} up, and has marked its copy for removal.`;
+    return `${me} looks ${key} up, and has a copy of its own.${isOldCopy(state, session, entry.key) ? oldCopyText(context) : ''}`;
   },
-  persist: context => context.entry.reply === 'new' ? `${meOf(context)} makes a new row ${keyText(context)}, for itself.` : nothingHappens(`${meOf(context)} has ${keyText(context)} already`),
+  persist: ({ entry, me, key }) => entry.reply === 'new' ? `${me} makes a new row ${key}, for itself.` : `Nothing happens: ${me} has ${key} already.`,
   set(context) {
-    if (context.entry.reply === 'unknown') return whyUnknown(context);
-    if (context.entry.reply === 'read-only') return nothingHappens(`${code(context.entity.name)} is read-only`);
-    return `${meOf(context)} sets cells of its copy of ${keyText(context)}. Nothing is written yet.`;
+    const { entity, entry, me, key } = context;
+    if (entry.reply === 'unknown') return unknownText(context);
+    if (entry.reply === 'read-only') return `Nothing happens: ${code(entity.name)} is read-only.`;
+    return `${me} sets cells of its copy of ${key}. Nothing is written yet.`;
   },
-  remove: context => context.entry.reply === 'unknown' ? whyUnknown(context) : `${meOf(context)} marks its copy of ${keyText(context)} for removal.`,
-  clear: context => `${meOf(context)} forgets ${count(context.session.copies.size, 'copy', 'copies')}.`,
+  remove: context => context.entry.reply === 'unknown' ? unknownText(context) : `${context.me} marks its copy of ${context.key} for removal.`,
+  clear: ({ session, me }) => `${me} forgets ${count(session.copies.size, 'copy', 'copies')}.`,
 };
+
+// ---- the store ----
 
 const byWhom = ({ at, by }) => `${since(at)}${by ? `, by ${code(by)}` : ''}`;
 const WRITES = { insert: 'a new row', update: 'a changed row', delete: 'a removal of' };
 
-function writeText(context) {
-  const { entry } = context, expects = entry.verb !== 'insert' && entry.words[3] !== NO_VERSION;
-  return `${meOf(context)} writes ${WRITES[entry.verb]} ${keyText(context)}.${expects ? ` Its commit will expect the version ${entry.words[3]}.` : ''}`;
+function writeText({ entry, me, key }) {
+  const expects = entry.verb !== 'insert' && entry.words[3] !== NO_VERSION ? ` Its commit will expect the version ${entry.words[3]}.` : '';
+  return `${me} writes ${WRITES[entry.verb]} ${key}.${expects}`;
 }
 
-// Why a commit is refused.
+// What a commit found in the place of the row that it expected.
+function foundText({ state }, key) {
+  const now = state.committed.get(key), gone = state.deleted.get(key);
+  if (now) return `the row has the version ${now.row.version} ${byWhom(now)}`;
+  return `the row isn't there${gone ? `: ${code(gone.by)} has deleted it at ${ref(gone.at)}` : ''}`;
+}
+
 function refusedCommitText(context) {
-  const { state, session, entry } = context, front = `Nothing of ${meOf(context)} is committed: it was to`;
-  const [why, entity, id] = entry.reply.split(' '), key = keyOf(entity, id), now = state.committed.get(key);
-  if (why === 'duplicate') return `${front} insert ${code(key)}, and a row is there ${byWhom(now)}.`;
-  const change = session.written.find(written => written.key === key), gone = state.deleted.get(key);
-  const expected = change.expected === NO_VERSION ? '' : ` of the version ${change.expected}`;
-  const found = now ? `the row has the version ${now.row.version} ${byWhom(now)}` : `the row isn't there${gone ? `: ${code(gone.by)} has deleted it at ${ref(gone.at)}` : ''}`;
-  return `${front} ${change.kind} ${code(key)}${expected}, and ${found}.`;
+  const { state, session, entry, me } = context, front = `Nothing of ${me} is committed: it was to`;
+  const [why, entity, id] = entry.reply.split(' '), key = keyOf(entity, id);
+  if (why === 'duplicate') return `${front} insert ${code(key)}, and a row is there ${byWhom(state.committed.get(key))}.`;
+  const change = session.written.find(written => written.key === key), expected = change.expected === NO_VERSION ? '' : ` of the version ${change.expected}`;
+  return `${front} ${change.kind} ${code(key)}${expected}, and ${foundText(context, key)}.`;
 }
 
 const STORE_TEXTS = {
-  load(context) {
-    const { state, session, entry } = context, now = state.committed.get(entry.key), front = `${meOf(context)} asks the store for ${keyText(context)}.`;
+  load({ state, session, entry, me, key }) {
+    const now = state.committed.get(entry.key), front = `${me} asks the store for ${key}.`;
     if (isFault(entry)) return `${front} The store fails.`;
     if (hasWritten(session, entry.key)) return `${front} It is told its own written change.`;
     return entry.reply === 'none' || !now ? `${front} There is no such row.` : `${front} It is told the committed row, ${byWhom(now)}.`;
   },
-  list(context) {
-    const { entry } = context, front = `${meOf(context)} asks the store what ${code(entry.query)} gives`;
+  list({ entry, me }) {
+    const front = `${me} asks the store what ${code(entry.query)} gives`;
     return isFault(entry) ? `${front}. The store fails.` : `${front}: ${count(tokensOf(entry.reply.slice('list ['.length, -1)).length, 'cell')}.`;
   },
   insert: writeText,
   update: writeText,
   delete: writeText,
   commit(context) {
-    const { session, entry } = context, keys = [...new Set(session.written.map(change => change.key))];
-    if (isFault(entry)) return `The store fails, and nothing of ${meOf(context)} is committed.`;
+    const { session, entry, me } = context, keys = [...new Set(session.written.map(change => change.key))];
+    if (isFault(entry)) return `The store fails, and nothing of ${me} is committed.`;
     if (entry.reply !== 'committed') return refusedCommitText(context);
-    if (!keys.length) return `${meOf(context)} commits. It has written nothing.`;
-    return `${meOf(context)} commits: ${codes(keys)} ${keys.length === 1 ? 'is' : 'are'} changed for all from here on.`;
+    if (!keys.length) return `${me} commits. It has written nothing.`;
+    return `${me} commits: ${codes(keys)} ${keys.length === 1 ? 'is' : 'are'} changed for all from here on.`;
   },
-  rollback: context => `${meOf(context)} rolls back${context.session.written.length ? `, and ${count(context.session.written.length, 'change')} of it ${context.session.written.length === 1 ? 'is' : 'are'} dropped` : ''}.`,
+  rollback({ session, me }) {
+    const changes = session.written.length;
+    return changes ? `${me} rolls back, and ${count(changes, 'change of it is', 'changes of it are')} dropped.` : `${me} rolls back. It has written nothing.`;
+  },
 };
 
-// ---- acts of regions ----
+// ---- regions ----
 
 function hitText({ script, state, slot, entry }) {
   const now = state.committed.get(entry.key);
   if (now && rowText(now.row) === rowText(slot.row)) return `It gets the committed row, ${storedBy(slot)}.`;
   const [old, fresh] = difference(script, entry.key, slot.row, now && now.row);
-  return `**A stale read:** it gets ${code(old)}, ${storedBy(slot)}; ${now ? `the committed row has ${code(fresh)} ${since(now.at)}` : 'the row is deleted'}.`;
+  const truth = now ? `the committed row has ${code(fresh)} ${since(now.at)}` : 'the row is deleted';
+  return `**A stale read:** it gets ${code(old)}, ${storedBy(slot)}; ${truth}.`;
 }
 
 const MISSES = {
-  absent: ({ state, entry }) => `A miss: ${absentSince(state, entry.key)}.`,
+  absent: context => `A miss: ${absentSince(context)}.`,
   locked: ({ state, slot }) => `A miss: the key is locked by ${holdersOf(state, slot)}.`,
   released: ({ script, slot }) => `A miss: there is a released lock; ${releasedBy(slot, script)}.`,
   young: ({ slot, entry }) => `A miss: there is an item, ${storedBy(slot)}, and the session began at ${numberBehind(entry, 'at')}, not after that.`,
@@ -184,37 +193,38 @@ const MISSES = {
 
 // How a put was taken over a lock that had run out.
 function lateText({ script, state, slot, entry }) {
-  const over = isHeld(slot) ? `${holdersOf(state, slot)} holds it still` : releasedBy(slot, script);
-  return `It is stored over a lock that was good until the tick ${slot.until}: ${over}, but the session began later, at ${numberBehind(entry, 'at')}. ` +
-    "The cache can't tell a dead holder from a slow one.";
+  const over = isHeld(slot) ? `${holdersOf(state, slot)} holds it still` : releasedBy(slot, script), began = numberBehind(entry, 'at');
+  return `It is stored over a lock that was good until the tick ${slot.until}: ${over}, but the session began later, at ${began}. ${SLOW_OR_DEAD}.`;
 }
 
 // Why a put was taken over what was there.
 function takenText({ slot, entry }) {
   const { version } = rowIn(entry, 3, 'at');
-  if (slot.kind === 'item') return `It is stored: its version ${version} is above that of the item, ${slot.row.version}.`;
-  if (numberBehind(entry, 'at') > slot.until) return `It is stored: the released lock was good until ${slot.until}, and the session began after that.`;
-  if (!slot.shared && slot.version !== NO_VERSION) return `It is stored: its version ${version} is above ${slot.version}, over which the lock was taken.`;
-  return `It is stored: the lock was released at the tick ${slot.release.tick}, before the session began.`;
+  if (slot.kind === 'item') return `its version ${version} is above that of the item, ${slot.row.version}`;
+  if (numberBehind(entry, 'at') > slot.until) return `the released lock was good until ${slot.until}, and the session began after that`;
+  if (!slot.shared && slot.version !== NO_VERSION) return `its version ${version} is above ${slot.version}, over which the lock was taken`;
+  return `the lock was released at the tick ${slot.release.tick}, before the session began`;
 }
 
 const PUTS = {
   stored(context) {
-    const { state, entity, slot, entry } = context;
+    const { entity, slot, entry } = context;
     if (/late$/.test(entry.reply)) return lateText(context);
-    if (slot) return takenText(context);
+    if (slot) return `It is stored: ${takenText(context)}.`;
     const nonstrict = entity.strategy === 'nonstrict' ? ' A nonstrict cache asks no more than that.' : '';
-    return `It is stored: the cache had nothing for the key (${absentSince(state, entry.key)}).${leaverText(context)}${nonstrict}`;
+    return `It is stored: the cache had nothing for the key (${absentSince(context)}).${leaverText(context)}${nonstrict}`;
   },
   present({ slot, entry }) {
-    const versions = slot.row.version === NO_VERSION ? 'the rows have no versions' : `its version is ${slot.row.version}, the offered one ${rowIn(entry, 3, 'at').version}`;
-    return `Refused: an item is there, ${storedBy(slot)}, and ${versions}.`;
+    const { version } = slot.row, versions = `its version is ${version}, the offered one ${rowIn(entry, 3, 'at').version}`;
+    return `Refused: an item is there, ${storedBy(slot)}, and ${version === NO_VERSION ? 'the rows have no versions' : versions}.`;
   },
   held: ({ state, slot }) => `Refused: the key is locked by ${holdersOf(state, slot)}, who may be about to change it.`,
-  early({ script, slot, entry }) {
-    return `Refused: ${releasedBy(slot, script)}. ${code(entry.session)} began at ${numberBehind(entry, 'at')}, and what it loaded may be from before that.`;
+  early({ script, slot, entry, me }) {
+    return `Refused: ${releasedBy(slot, script)}. ${me} began at ${numberBehind(entry, 'at')}, and what it loaded may be from before that.`;
   },
-  old: ({ slot, entry }) => `Refused: the released lock was taken over a row of the version ${slot.version}, and the offered one is ${rowIn(entry, 3, 'at').version}.`,
+  old({ slot, entry }) {
+    return `Refused: the released lock was taken over a row of the version ${slot.version}, and the offered one is ${rowIn(entry, 3, 'at').version}.`;
+  },
   crowded: context => 'Refused. ' + whyCrowded(context),
 };
 
@@ -226,69 +236,80 @@ function lockedOverText({ state, slot }) {
 }
 
 function expiredText(context) {
-  const { script, state, slot, entry } = context;
-  const there = slot && slot.kind === 'item' ? `there is an item, ${storedBy(slot)}` : slot ? 'there is another lock' : absentSince(state, entry.key);
-  return `${meOf(context)} gives its lock on ${keyText(context)} back, which isn't there any more: ${there}. What was put meanwhile may be old. Puts are barred for ${count(script.timeout, 'tick')}.`;
+  const { script, slot, me, key } = context;
+  const there = !slot ? absentSince(context) : slot.kind === 'item' ? `there is an item, ${storedBy(slot)}` : 'there is another lock';
+  return `${me} gives its lock on ${key} back, which isn't there any more: ${there}. What was put meanwhile may be old. ` +
+    `Puts are barred for ${count(script.timeout, 'tick')}.`;
 }
+
+const INSERTED = {
+  stored: context => 'It is stored.' + leaverText(context),
+  present: () => 'Refused: the key has an entry.',
+  crowded: context => 'Refused. ' + whyCrowded(context),
+};
 
 const EVICTIONS = {
   evicted: ({ entity }) => entity.strategy === 'read-write' ? 'A released lock stays in its place.' : 'It is gone.',
   held: ({ state, slot }) => `It is locked by ${holdersOf(state, slot)}, and stays.`,
-  absent: ({ state, entry }) => `It wasn't there: ${absentSince(state, entry.key)}.`,
+  absent: context => `It wasn't there: ${absentSince(context)}.`,
 };
 
 const REGION_TEXTS = {
   get(context) {
-    const { entry } = context, [word, kind] = entry.reply.split(' ');
-    return `${meOf(context)} asks the cache for ${keyText(context)}. ${word === 'hit' ? hitText(context) : MISSES[kind](context)}`;
+    const [word, kind] = context.entry.reply.split(' ');
+    return `${context.me} asks the cache for ${context.key}. ${word === 'hit' ? hitText(context) : MISSES[kind](context)}`;
   },
   put(context) {
     const loadedAt = loadBehind(context), which = loadedAt === NEVER ? '' : ' at ' + ref(loadedAt);
-    return `${meOf(context)} offers the cache the row that it loaded${which}. ${PUTS[firstWord(context.entry.reply)](context)}`;
+    return `${context.me} offers the cache the row that it loaded${which}. ${PUTS[firstWord(context.entry.reply)](context)}`;
   },
   lock(context) {
-    const until = /until (\d+)/.exec(context.entry.reply)[1];
-    return `${meOf(context)} locks ${keyText(context)}, so that nobody puts an old row there. The lock is good until the tick ${until}.${lockedOverText(context)}${leaverText(context)}`;
+    const { entry, me, key } = context, until = /until (\d+)/.exec(entry.reply)[1];
+    return `${me} locks ${key}, so that nobody puts an old row there. The lock is good until the tick ${until}.` +
+      lockedOverText(context) + leaverText(context);
   },
   unlock(context) {
     if (context.entry.reply === 'expired') return expiredText(context);
     const left = Number(context.entry.reply.split(' ')[1]);
-    return `${meOf(context)} gives its lock on ${keyText(context)} back. ${left ? `${count(left, 'holder is', 'holders are')} left.` : 'Nobody holds it now.'}`;
+    return `${context.me} gives its lock on ${context.key} back. ${left ? `${count(left, 'holder is', 'holders are')} left.` : 'Nobody holds it now.'}`;
   },
   'after-update'(context) {
-    const word = firstWord(context.entry.reply);
+    const word = firstWord(context.entry.reply), front = `${context.me} gives its lock on ${context.key} back`;
     if (word === 'expired') return expiredText(context);
-    const front = `${meOf(context)} gives its lock on ${keyText(context)} back`;
-    return word === 'stored' ? `${front}, and its committed row takes the place.` : `${front}. Its row isn't stored, since another session that held the lock may be about to commit.`;
+    if (word === 'stored') return `${front}, and its committed row takes the place.`;
+    return `${front}. Its row isn't stored, since another session that held the lock may be about to commit.`;
   },
-  'after-insert'(context) {
-    const front = `${meOf(context)} offers the cache the row that it has inserted.`;
-    return { stored: () => `${front} It is stored.${leaverText(context)}`, present: () => `${front} Refused: the key has an entry.`, crowded: () => `${front} Refused. ${whyCrowded(context)}` }[firstWord(context.entry.reply)]();
-  },
+  'after-insert': context => `${context.me} offers the cache the row that it has inserted. ${INSERTED[firstWord(context.entry.reply)](context)}`,
   remove(context) {
-    const { state, session, entry } = context, when = session.doneAt > session.began ? 'has changed' : 'is about to change';
-    const found = entry.reply === 'dropped' ? 'It was there.' : `It wasn't there: ${absentSince(state, entry.key)}.`;
-    return `${meOf(context)} takes ${keyText(context)} out of the cache, since it ${when} the row. ${found}`;
+    const { session, entry, me, key } = context, when = session.doneAt > session.began ? 'has changed' : 'is about to change';
+    const found = entry.reply === 'dropped' ? 'It was there.' : `It wasn't there: ${absentSince(context)}.`;
+    return `${me} takes ${key} out of the cache, since it ${when} the row. ${found}`;
   },
-  evict: context => `The schedule drops ${keyText(context)} from the cache. ${EVICTIONS[context.entry.reply](context)}`,
+  evict: context => `The schedule drops ${context.key} from the cache. ${EVICTIONS[context.entry.reply](context)}`,
 };
 
 // ---- stamps and kept results ----
 
 // The stamps that a stamp takes back: those ahead of time of sessions that aren't done.
 function takenBackText({ state, entry }) {
-  const taken = entry.words.slice(1).map(table => state.stamps.get(table))
-    .filter(stamp => stamp && stamp.value > entry.tick && stamp.by !== entry.session && state.sessions.get(stamp.by).open);
-  return taken.length ? ` **This takes back the stamp ahead of time** that ${listed(taken.map(({ by, at }) => `${code(by)} set at ${ref(at)}`))}, who isn't done.` : '';
+  const stamps = entry.words.slice(1).map(table => state.stamps.get(table)).filter(stamp => stamp && stamp.by !== entry.session);
+  const taken = stamps.filter(({ value, by }) => value > entry.tick && state.sessions.get(by).open).map(({ by, at }) => `${code(by)} set at ${ref(at)}`);
+  return taken.length ? ` **This takes back the stamp ahead of time** that ${listed(taken)}, who isn't done.` : '';
 }
 
 function stampsOf(state, query) {
-  return listed(query.tables.map(table => state.stamps.has(table) ? `the stamp of ${code(table)} is ${state.stamps.get(table).value}` : `${code(table)} has no stamp`));
+  return listed(query.tables.map(table => {
+    const stamp = state.stamps.get(table);
+    return stamp ? `the stamp of ${code(table)} is ${stamp.value}` : `${code(table)} has no stamp`;
+  }));
 }
 
 const STAMPS_TEXTS = {
-  pre: context => `${meOf(context)} is about to write, and stamps ${codes(context.entry.words.slice(1))} ahead of time: no kept result over ${context.entry.words.length === 2 ? 'it' : 'them'} counts as fresh until the tick ${context.entry.reply}.`,
-  stamp: context => `${meOf(context)} stamps ${codes(context.entry.words.slice(1))} with the present tick.${takenBackText(context)}`,
+  pre({ entry, me }) {
+    const tables = entry.words.slice(1), over = `no kept result over ${tables.length === 1 ? 'it' : 'them'} counts as fresh`;
+    return `${me} is about to write, and stamps ${codes(tables)} ahead of time: ${over} until the tick ${entry.reply}.`;
+  },
+  stamp: context => `${context.me} stamps ${codes(context.entry.words.slice(1))} with the present tick.${takenBackText(context)}`,
   check({ state, query, entry }) {
     const front = `May the kept result of ${code(entry.query)}, of the time ${numberBehind(entry, 'at')}, be used?`;
     if (entry.reply === 'fresh') return `${front} Yes: ${stampsOf(state, query)}.`;
@@ -298,22 +319,26 @@ const STAMPS_TEXTS = {
 };
 
 const RESULTS_TEXTS = {
-  look(context) {
-    const { state, entry } = context, kept = state.kept.get(entry.query), front = `${meOf(context)} looks for a kept result of ${code(entry.query)}.`;
-    return kept ? `${front} There is one, kept by ${code(kept.by)} at ${ref(kept.at)}, of the time ${kept.time}. Whether it may be used is checked next.` : front + ' There is none.';
+  look({ state, entry, me }) {
+    const kept = state.kept.get(entry.query), front = `${me} looks for a kept result of ${code(entry.query)}.`;
+    if (!kept) return front + ' There is none.';
+    return `${front} There is one, kept by ${code(kept.by)} at ${ref(kept.at)}, of the time ${kept.time}. Whether it may be used is checked next.`;
   },
-  keep(context) {
-    const dropped = /dropped (\S+)/.exec(context.entry.reply);
-    return `${meOf(context)} keeps the result of ${code(context.entry.query)} with its own time, ${context.entry.words[3]}, which is before all that it has read.${dropped ? ` That of ${code(dropped[1])} leaves for it.` : ''}`;
+  keep({ entry, me }) {
+    const dropped = /dropped (\S+)/.exec(entry.reply), left = dropped ? ` That of ${code(dropped[1])} leaves for it.` : '';
+    return `${me} keeps the result of ${code(entry.query)} with its own time, ${entry.words[3]}, which is before all that it has read.${left}`;
   },
 };
+
+// ---- all of them ----
 
 const TEXTS = { registry: REGISTRY_TEXTS, own: OWN_TEXTS, store: STORE_TEXTS, region: REGION_TEXTS, stamps: STAMPS_TEXTS, results: RESULTS_TEXTS };
 
 // What an entry means, from the state before it; nothing if it can't come there.
 function explain(script, state, entry, at) {
+  const context = { ...contextOf(script, state, entry, at), me: code(entry.session || '-'), key: code(entry.key) };
   try {
-    return TEXTS[entry.part][entry.verb](contextOf(script, state, entry, at));
+    return TEXTS[entry.part][entry.verb](context);
   } catch (fault) {
     return '';
   }

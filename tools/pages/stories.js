@@ -31,39 +31,45 @@ function tellChanges(steps, run, { script, entry }, { first, last, told }, old, 
   }
 }
 
-function whyNonstrict(run, { state, entity, entry, at }, first) {
-  const removals = first ? run.entries.map((other, i) => i).filter(i => {
-    const other = run.entries[i];
-    return i > first.began && i < at && other.session === first.by && other.key === entry.key && other.part === 'region' && other.verb === 'remove';
-  }) : [];
-  const again = removals.some(i => i > first.at) ? 'too early to catch this put' :
-    first && state.sessions.get(first.by).killed > first.at ? 'and was killed before it did so again' : 'and has not yet done so again after its commit';
-  const took = removals.length ? ` ${code(first.by)} took the row out at ${listed(removals.map(ref))}, ${again}.` : '';
-  return `${code(entity.name)} is nonstrict: its cache takes any row for a key of which it has none.${took} A read-write entity guards the key by a lock against this.`;
+// Where the session of a change took the key out of the cache, up to an entry.
+function removalsOf(run, key, change, to) {
+  const isRemoval = ({ session, part, verb, key: other }) => session === change.by && other === key && part === 'region' && verb === 'remove';
+  return run.entries.map((entry, at) => at).filter(at => at > change.began && at < to && isRemoval(run.entries[at]));
 }
 
-function tellReuse(steps, entry, { at, deletedAt }) {
+// When the session of the first change took the row out, as a sentence.
+function removalsText(run, { state, entry, at }, first) {
+  const removals = first ? removalsOf(run, entry.key, first, at) : [];
+  if (!removals.length) return '';
+  const again = removals.some(place => place > first.at) ? 'too early to catch this put' :
+    state.sessions.get(first.by).killed > first.at ? 'and was killed before it did so again' : 'and has not yet done so again after its commit';
+  return ` ${code(first.by)} took the row out at ${listed(removals.map(ref))}, ${again}.`;
+}
+
+const TAKES_ANY = 'its cache takes any row for a key of which it has none';
+const WHY = {
+  nonstrict: name => `${name} is nonstrict: ${TAKES_ANY}.`,
+  'read-only': name => `${name} is read-only: ${TAKES_ANY}, and keeps it, since such rows aren't meant to change. This one was deleted.`,
+};
+
+function whyReused(steps, { slot, entry }, { at, deletedAt }) {
   steps.add(deletedAt, `${code(entry.key)} is deleted.`);
   steps.add(at, `${code(entry.key)} is inserted again, and versions begin anew.`);
+  return `The key was deleted at ${ref(deletedAt)} and used again at ${ref(at)}. Versions began anew, so the old row with ${slot.row.version} looks newer.`;
 }
 
-function whyUnsound(steps, { script, slot, entry }, unsound, loadedAgain) {
-  if (unsound.cause === 'reused') {
-    tellReuse(steps, entry, unsound);
-    return `The key was deleted at ${ref(unsound.deletedAt)} and used again at ${ref(unsound.at)}. Versions began anew, so the old row with ${slot.row.version} looks newer.`;
-  }
-  const text = unsound.cause === 'late' ? `A put over a lock that had run out: nothing guards ${code(entry.key)} any more.` : `A lock on ${code(entry.key)} had run out.`;
-  if (unsound.at !== slot.at && unsound.at !== loadedAgain) steps.add(unsound.at, text);
-  return `A lock on the key had run out (${count(script.timeout, 'tick')} in this script). The cache can't tell a dead holder from a slow one, and names the key as unsound since ${ref(unsound.at)}.`;
+function whyExpired(steps, { script, entry }, { at, cause }) {
+  const key = code(entry.key), isLate = cause === 'late';
+  steps.add(at, isLate ? `A put over a lock that had run out: nothing guards ${key} any more.` : `A lock on ${key} had run out.`);
+  return `A lock on the key had run out (${count(script.timeout, 'tick')} in this script). ${SLOW_OR_DEAD}, and names the key as unsound since ${ref(at)}.`;
 }
 
 function whyStale(run, steps, context, first) {
-  const { state, entity, entry } = context, unsound = state.unsound.get(entry.key);
-  if (entity.strategy === 'nonstrict') return whyNonstrict(run, context, first);
-  if (entity.strategy === 'read-only') {
-    return `${code(entity.name)} is read-only: its cache takes any row for a key of which it has none, and keeps it, since such rows aren't meant to change. This one was deleted.`;
-  }
-  return unsound ? whyUnsound(steps, context, unsound, first ? first.at : NEVER) : IMPOSSIBLE;
+  const { state, entity, entry } = context, unsound = state.unsound.get(entry.key), why = WHY[entity.strategy];
+  const nonstrict = entity.strategy === 'nonstrict' ? `${removalsText(run, context, first)} A read-write entity guards the key by a lock against this.` : '';
+  if (why) return why(code(entity.name)) + nonstrict;
+  if (!unsound) return IMPOSSIBLE;
+  return unsound.cause === 'reused' ? whyReused(steps, context, unsound) : whyExpired(steps, context, unsound);
 }
 
 // How the row came into the cache.
@@ -77,7 +83,8 @@ function tellStored(steps, run, { slot, entry }, first, old) {
   steps.add(slot.loadedAt, `${by} loads ${key} from the store: ${old}. That is right at this moment.`);
   const over = lock ? `, over the lock: it began at ${numberBehind(run.entries[slot.at], 'at')}, after the lock's time` : '';
   const which = slot.loadedAt === NEVER ? '' : ' at ' + ref(slot.loadedAt);
-  steps.add(slot.at, `${by} puts what it loaded${which} into the cache, and the cache takes it${over}${first && slot.at > first.at ? ', though it is old by now.' : '. It is right still.'}`);
+  const truth = first && slot.at > first.at ? ', though it is old by now' : '. It is right still';
+  steps.add(slot.at, `${by} puts what it loaded${which} into the cache, and the cache takes it${over}${truth}.`);
 }
 
 // The story of a hit that isn't the committed row, from the state before it.
@@ -90,7 +97,8 @@ function staleHit(run, context) {
   const why = whyStale(run, steps, context, first), committed = now ? since(now.at) : '';
   steps.add(at, `${me} asks the cache and gets ${old}. ${now ? `Committed is ${fresh}, ${committed}.` : 'The row is deleted.'}`);
   const truth = now ? `${fresh} is committed ${committed}` : `the row is deleted since ${ref(last ? last.at : at)}`;
-  return { at, key: entry.key, query: '', keys: [], head: `${me} reads ${key} with ${old} from the cache at ${ref(at)}; ${truth}.`, why, steps: steps.inOrder() };
+  const head = `${me} reads ${key} with ${old} from the cache at ${ref(at)}; ${truth}.`;
+  return { at, key: entry.key, query: '', keys: [], head, why, steps: steps.inOrder() };
 }
 
 // ---- a list ----
@@ -98,7 +106,8 @@ function staleHit(run, context) {
 // Two lists against each other: whole if they are short, else by what one has and the other hasn't.
 function listsApart(one, other) {
   if (one.length + other.length <= 60) return [code(one), code(other)];
-  const [left, right] = [one, other].map(list => tokensOf(list.slice(1, -1))), some = cells => code(cells.slice(0, 4).join(' ') + (cells.length > 4 ? ' ..' : ''));
+  const [left, right] = [one, other].map(list => tokensOf(list.slice(1, -1)));
+  const some = cells => code(cells.slice(0, 4).join(' ') + (cells.length > 4 ? ' ..' : ''));
   const gone = left.filter(cell => !right.includes(cell)), come = right.filter(cell => !left.includes(cell));
   const size = count(left.length, 'cell'), otherSize = count(right.length, 'cell');
   if (!gone.length && !come.length) return [`a list of ${size}`, 'the same cells in another order or number'];
@@ -108,15 +117,14 @@ function listsApart(one, other) {
 
 // Why a commit's tables have no stamp that would have kept the list from being used.
 function whyUnstamped(steps, state, commit, tables, before) {
-  const by = code(commit.by), killed = state.sessions.get(commit.by).killed > commit.at ? 'was killed before it stamped' : "hasn't stamped yet";
+  const by = code(commit.by), missed = state.sessions.get(commit.by).killed > commit.at ? 'was killed before it stamped' : "hasn't stamped yet";
+  const lost = state.restarted > before.at ? 'was lost by the restart' : 'has run out';
   return tables.map(table => {
-    const stamp = state.stamps.get(table);
-    if (!stamp || stamp.at < before.at || stamp.by === commit.by) {
-      return `${by} ${killed} after its commit, and its stamp ahead of time, ${before.reply}, ${state.restarted > before.at ? 'was lost by the restart' : 'has run out'}.`;
-    }
+    const stamp = state.stamps.get(table), isReplaced = stamp && stamp.at > before.at && stamp.by !== commit.by;
+    if (!isReplaced) return `${by} ${missed} after its commit, and its stamp ahead of time, ${before.reply}, ${lost}.`;
     const how = stamp.ahead ? `stamps ${code(table)} ahead of time` : `is done and stamps ${code(table)}`;
     steps.add(stamp.at, `${code(stamp.by)} ${how} with ${stamp.value}. That takes the place of the stamp of ${by}: a table has only one.`);
-    return `${by} ${killed} after its commit, and its stamp ahead of time was replaced at ${ref(stamp.at)}.`;
+    return `${by} ${missed} after its commit, and its stamp ahead of time was replaced at ${ref(stamp.at)}.`;
   });
 }
 
@@ -146,10 +154,12 @@ function staleList(run, context, now) {
   const [was, is] = listsApart(kept.list, now), steps = stepsOf();
   steps.add(kept.listedAt, `${code(kept.by)} lists ${name} from the store: ${was}. That is right at this moment.`);
   steps.add(kept.at, `${code(kept.by)} keeps the list, with its own time ${kept.time}.`);
-  const commits = run.tableCommits.filter(commit => commit.at > kept.listedAt && commit.at < at && commit.tables.some(table => query.tables.includes(table)));
-  const reasons = new Set(commits.slice(-3).flatMap(commit => tellCommit(run, steps, context, commit)));
-  steps.add(at, `${me} asks for ${name}, and the kept list counts as fresh: ${stampsOf(state, query)}, before the list's time ${kept.time}. It gets ${was}; the query gives ${is} now.`);
+  const after = run.tableCommits.filter(commit => commit.at > kept.listedAt && commit.at < at);
+  const commits = after.filter(({ tables }) => tables.some(table => query.tables.includes(table))).slice(-3);
+  const reasons = new Set(commits.flatMap(commit => tellCommit(run, steps, context, commit)));
+  steps.add(at, `${me} asks for ${name}, and the kept list counts as fresh: ${stampsOf(state, query)}, before the list's time ${kept.time}. ` +
+    `It gets ${was}; the query gives ${is} now.`);
   const head = `${me} gets ${was} for ${name} from the cache at ${ref(at)}; the query gives ${is} over the committed rows.`;
-  const keys = commits.slice(-3).flatMap(commit => commit.keys);
-  return { at, key: '', query: entry.query, keys, head, why: [...reasons].join(' ') || IMPOSSIBLE, steps: steps.inOrder() };
+  const keys = commits.flatMap(commit => commit.keys), why = [...reasons].join(' ') || IMPOSSIBLE;
+  return { at, key: '', query: entry.query, keys, head, why, steps: steps.inOrder() };
 }
