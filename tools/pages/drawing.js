@@ -10,7 +10,10 @@ const headTo = (x, y, direction, style) => `<path d="M${pixels(x)} ${y}l${7 * di
 
 // A sentence as HTML, and as a plain text.
 const PLACES = /\u0001(-?\d+)\u0002/g;
-const linkTo = (run, at, text = '') => at === NEVER ? 'the start' : `<a href="#${run.entries[at].tick}" data-at="${at}">${text}${run.entries[at].tick}</a>`;
+function linkTo(run, at, front = '') {
+  const { tick } = at === NEVER ? {} : run.entries[at];
+  return at === NEVER ? 'the start' : `<a href="#${tick}" data-at="${at}" aria-label="tick ${tick}">${front}${tick}</a>`;
+}
 const codeHtml = text => `<code>${text.length <= 20 ? escaped(text).replace(/ /g, '&nbsp;') : escaped(text)}</code>`;
 const sentence = (run, text) => text.split(/(`[^`]*`)/).map(part => part[0] === '`' ? codeHtml(part.slice(1, -1)) : escaped(part)).join('')
   .replace(/\*\*([^*]*)\*\*/g, '<b class="bad">$1</b>').replace(PLACES, (all, at) => linkTo(run, Number(at), 'tick&nbsp;'));
@@ -35,7 +38,7 @@ const isVisible = (layout, at) => placeOf(layout.visible, at + 1) > placeOf(layo
 
 // ---- sessions ----
 
-const OUTCOMES = { committed: 'green', 'rolled-back': 'soft', stale: 'amber', duplicate: 'amber', fault: 'amber', '': 'line' };
+const OUTCOMES = { committed: 'green', 'rolled-back': 'soft', stale: 'amber', duplicate: 'amber', fault: 'amber', '': 'soft' };
 
 // A transaction, as a box in the colour of its outcome, or as a line in a thin lane.
 function drawTransaction(layout, transaction) {

@@ -60,7 +60,23 @@ function start(run) {
     return `<h1>${escaped(document.title)}</h1>${badges(run)}${box}<datalist id="names">${names}</datalist>${chips.join('')}`;
   }
 
-  function draw() {
+  // What has the focus, so that it can be given back to what is drawn in its place; the picture, if that isn't there any more.
+  function focusOf(active) {
+    if (active.id) return '#' + active.id;
+    const own = active.tagName === 'SUMMARY' ? active.parentNode : active, [name] = Object.keys(own.dataset);
+    const front = name ? `[data-${name}="${own.dataset[name]}"]` : '.' + own.className;
+    return own === active ? `${active.tagName}${front}` : `${front} > summary`;
+  }
+
+  function keepFocus(change) {
+    const { activeElement: active } = document, place = active && active !== document.body ? focusOf(active) : '';
+    change();
+    if (place && !document.contains(active)) (document.querySelector(place) || picture).focus({ preventScroll: true });
+  }
+
+  const draw = () => keepFocus(drawAll);
+
+  function drawAll() {
     const width = plan(), { layout } = shown, head = drawHead(layout);
     for (const id of ['words', 'legend', 'foot']) element(id).style.width = width + 'px';
     element('words').innerHTML = drawWords(run, shown.story, shown.only, shown.areAllTold) + drawHidden();
@@ -90,7 +106,7 @@ function start(run) {
       element('texts').children[placeOf(shown.visible, shown.pick)].classList.add('pick');
     }
     if (element('way')) element('way').innerHTML = drawPicked(run, shown.layout, shown.pick, shown.story);
-    showPanel();
+    keepFocus(showPanel);
   }
 
   function scrollTo(at) {
@@ -203,6 +219,7 @@ function start(run) {
     if (event.key === 'Escape') { showAll(); draw(); return; }
     if (event.target.tagName === 'INPUT' || event.ctrlKey || event.altKey || event.metaKey || !KEYS[event.key]) return;
     event.preventDefault();
+    picture.focus({ preventScroll: true });
     KEYS[event.key]();
   });
   addEventListener('resize', draw);

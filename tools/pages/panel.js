@@ -76,7 +76,7 @@ function drawTable({ head, rows }, before, isFirst) {
   const drawn = order.slice(0, SHOWN).map(([name, html]) => drawRow(name, html, isNew(name)));
   const gone = lost.map(([name, html]) => drawRow(name, `<del>${html}</del>`, true));
   const more = order.length > SHOWN ? `<p>${order.length - SHOWN} more</p>` : '';
-  return `<h2>${escaped(head)}</h2><table>${drawn.join('')}${gone.join('')}</table>${more}`;
+  return `<h2>${escaped(head)}</h2><table aria-label="${escaped(head)}">${drawn.join('')}${gone.join('')}</table>${more}`;
 }
 
 function drawState(run, at, shown) {
@@ -86,9 +86,6 @@ function drawState(run, at, shown) {
 }
 
 // ---- the panel ----
-
-const BUTTONS = '<div class="steps"><button data-go="-1" title="key: up, or k">&#9650; back</button>' +
-  '<button data-go="1" title="key: down, or j">&#9660; on</button><button data-next="stale warn" title="key: n">next finding</button></div>';
 
 // What docs/JOURNAL.md says of the entry's act and reply.
 function drawMeanings(run, entry) {
@@ -109,7 +106,7 @@ function drawEntry(run, at) {
 function drawPanel(run, at, shown) {
   const what = at === NEVER ? '<p><b>Before the first entry.</b> Pick an entry, or step with the arrow keys, to see what it means and the state after it.</p>' :
     `${drawEntry(run, at)}<p class="note">The state after this entry, as this page works it out, unproved. What the entry changed is marked.</p>`;
-  return BUTTONS + what + drawState(run, at, shown);
+  return what + drawState(run, at, shown);
 }
 
 // ---- the words above the picture ----
@@ -150,7 +147,7 @@ const STORIES = 30; // and else so many, where they are asked for
 
 function drawStory(run, story, n, isShown, isOnly) {
   const steps = story.steps.map(({ at, text }, k) => {
-    return `<li><span class="number">${k + 1}</span><span>tick ${linkTo(run, at)}</span><span>${sentence(run, text)}</span></li>`;
+    return `<li><span class="number">${k + 1}</span><span>${linkTo(run, at, 'tick&nbsp;')}</span><span>${sentence(run, text)}</span></li>`;
   });
   const button = `<button data-only="${n}">${isOnly ? 'show all entries' : 'show only the entries of this story'}</button>`;
   return `<details class="story${isShown ? ' on' : ''}" data-story="${n}"${isShown ? ' open' : ''}><summary>Stale: ${sentence(run, story.head)}</summary>` +
