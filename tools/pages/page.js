@@ -6,10 +6,11 @@ const FEW_ENTRIES = 300; // up to so many, all entries are drawn at first; else 
 const PRINTED = 1040; // the width of a printed page
 const NARROW = 900; // below this width, as in style.css, the panel stands under the picture and the legend is closed
 
-function start(run) {
+function start(runs, names) {
+  let run = runs[0];
   const element = id => document.getElementById(id), main = element('main'), picture = element('picture');
   const shown = {
-    pick: NEVER, story: run.findings[0] || null, only: null, areAllTold: false, filter: [], from: 0, isPrinting: false, // what is asked for
+    pick: NEVER, story: null, only: null, areAllTold: false, filter: [], from: 0, isPrinting: false, // what is asked for
     all: [], visible: [], names: [], layout: null, // what is drawn for it
   };
 
@@ -51,13 +52,20 @@ function start(run) {
     return parts.length ? `<p class="note">${parts.join('. ')}.</p>` : '';
   }
 
+  // The run's name, or a button for each of two.
+  function drawTitle() {
+    if (runs.length === 1) return `<h1>${escaped(names[0])}</h1>`;
+    const tabs = names.map((name, n) => `<button class="tab" data-turn="${n}" aria-pressed="${runs[n] === run}" title="key: t">${escaped(name)}</button>`);
+    return `<h1>Two runs</h1>${tabs.join('')}`;
+  }
+
   function drawTop() {
-    const names = [...run.keys.keys(), ...run.script.sessions, ...run.queries.keys()].map(name => `<option value="${escaped(name)}">`).join('');
+    const options = [...run.keys.keys(), ...run.script.sessions, ...run.queries.keys()].map(name => `<option value="${escaped(name)}">`).join('');
     const chips = shown.filter.map(escaped).map(name => {
       return `<span class="chip">${name}<button data-name="${name}" aria-label="remove the filter ${name}">&#10005;</button></span>`;
     });
     const box = '<input id="find" list="names" placeholder="filter: key or session" aria-label="Filter by key, session or query">';
-    return `<h1>${escaped(document.title)}</h1>${badges(run)}${box}<datalist id="names">${names}</datalist>${chips.join('')}`;
+    return `${drawTitle()}${badges(run)}${box}<datalist id="names">${options}</datalist>${chips.join('')}`;
   }
 
   // What has the focus, so that it can be given back to what is drawn in its place; the picture, if that isn't there any more.
@@ -79,7 +87,7 @@ function start(run) {
   function drawAll() {
     const width = plan(), { layout } = shown, head = drawHead(layout);
     for (const id of ['words', 'legend', 'foot']) element(id).style.width = width + 'px';
-    element('words').innerHTML = drawWords(run, shown.story, shown.only, shown.areAllTold) + drawHidden();
+    element('words').innerHTML = (runs.length > 1 ? drawComparison(runs, names) : '') + drawWords(run, shown.story, shown.only, shown.areAllTold) + drawHidden();
     element('head').innerHTML = head.html;
     element('head').style.cssText = `height:${head.height}px;width:${pixels(layout.width)}px`;
     picture.style.cssText = `height:${layout.height + 8}px;width:${pixels(layout.width)}px`;
@@ -143,6 +151,24 @@ function start(run) {
     } catch (refused) { /* a browser may refuse a file to name its place */ }
   }
 
+  // Begins with a run: at an entry that is asked for, or else at the first story, of a long journal with that alone.
+  function open(number, at) {
+    run = runs[number];
+    const isAsked = at >= 0, [story = null] = run.findings, isLong = run.entries.length > FEW_ENTRIES;
+    Object.assign(shown, { story, only: null, areAllTold: false, filter: [], from: 0, pick: story && !isAsked ? story.at : NEVER });
+    if (story && !isAsked && isLong) shown.only = story;
+    draw();
+    if (isAsked) pick(at);
+  }
+
+  const entryAtTick = (one, tick) => one.entries.findIndex(entry => entry.tick === tick);
+
+  // The other of two runs, at the tick that is picked.
+  function turn(number) {
+    const tick = shown.pick === NEVER ? 0 : run.entries[shown.pick].tick;
+    open(number, entryAtTick(runs[number], tick));
+  }
+
   function go(steps) {
     const place = shown.pick === NEVER ? Math.max(0, steps) - 1 : placeOf(shown.all, shown.pick) + steps;
     pick(place < 0 ? NEVER : shown.all[Math.min(place, shown.all.length - 1)]);
@@ -181,6 +207,8 @@ function start(run) {
   // ---- clicks and keys ----
 
   const CLICKS = {
+    run: (value, target) => open(Number(value), Number(target.dataset.entry)),
+    turn: value => turn(Number(value)),
     at: (value, target) => pick(Number(value), target.classList.contains('row')),
     go: value => go(Number(value)),
     next: value => goToNext(value.split(' ')),
@@ -212,6 +240,7 @@ function start(run) {
     Home: () => pick(shown.all[0]), End: () => pick(shown.all[shown.all.length - 1]),
     n: () => goToNext(FINDINGS), N: () => goToNext(FINDINGS, true), r: () => goToNext(['refused']),
     '/': () => element('find').focus(),
+    t: () => turn(runs.length - 1 - runs.indexOf(run)),
   };
 
   document.addEventListener('change', event => { if (event.target.id === 'find') filter(event.target.value); });
@@ -228,23 +257,16 @@ function start(run) {
 
   if (innerWidth <= NARROW) element('legend').open = false;
 
-  // The address may name a tick; else the first story is shown, and of a long journal that alone.
-  const tick = Number(location.hash.slice(1)), asked = location.hash.length > 1 ? run.entries.findIndex(entry => entry.tick === tick) : -1;
-  if (asked < 0 && shown.story) {
-    shown.pick = shown.story.at;
-    if (run.entries.length > FEW_ENTRIES) shown.only = shown.story;
-  }
-  draw();
-  if (asked >= 0) pick(asked);
+  // The address may name a tick.
+  open(0, location.hash.length > 1 ? entryAtTick(run, Number(location.hash.slice(1))) : -1);
 }
 
 // Without a document, as in a test, nothing is drawn.
 if (typeof document !== 'undefined') {
-  const textOf = id => document.getElementById(id).textContent;
+  const textOf = id => document.getElementById(id).textContent, scripts = [...document.querySelectorAll('pre[data-name]')];
   try {
-    const run = analyse(readScript(textOf('script')), readJournal(textOf('report')));
-    run.meanings = readMeanings(textOf('meanings'));
-    start(run);
+    const runs = scripts.map((script, n) => ({ ...analyse(readScript(script.textContent), readJournal(textOf(`report${n}`))), meanings: readMeanings(textOf('meanings')) }));
+    start(runs, scripts.map(script => script.dataset.name));
   } catch (fault) {
     document.getElementById('main').innerHTML = '<p id="fault"></p>';
     document.getElementById('fault').textContent = `This run can't be drawn: ${fault.message}` + (fault.constructor === Error ? '' : `\n${fault.stack}`);

@@ -5,7 +5,8 @@
 // Of each entry: its reply is the one that the rules give from the entries before; it has a sentence, which names as many holders as the
 // reply counts; and docs/JOURNAL.md has a row for its act and its reply. Of each run: the unsound keys are those that the report names;
 // the states by step and from the start are the same; each stale read has a story with its load, put, commit and hit; the stale hits are
-// those that tools/stale names; and nothing that is drawn has a hole in it. With --kinds, how many entries of each kind there were.
+// those that tools/stale names; beside itself a run comes to the same; and nothing that is drawn has a hole in it, nor what differs from
+// the run before. With --kinds, how many entries of each kind there were.
 'use strict';
 const fs = require('fs'), path = require('path'), vm = require('vm'), { spawnSync } = require('child_process');
 
@@ -90,10 +91,18 @@ function checkDrawing(file, run, width, story, filter) {
   for (const [what, text] of Object.entries(drawn)) checkText(file, `the picture (${what}, ${width} wide)`, text);
 }
 
+let before = null;
+function checkComparison(file, run) {
+  if (!page.drawComparison([run, run], ['a', 'b']).includes('The two runs come to the same.')) fail(file, 'the run differs from itself');
+  if (before) checkText(file, 'the comparison with the run before', page.drawComparison([before, run], ['a', 'b']));
+  before = run;
+}
+
 function checkRun(file, run, end) {
   const last = run.entries.length - 1, whole = state => JSON.stringify(page.tablesOf(run, state, page.NEVER, null));
   if (whole(page.stateAt(run.script, run.entries, last)) !== whole(end)) fail(file, 'the states by step and from the start differ');
   for (const story of run.findings) checkStory(file, run, story);
+  checkComparison(file, run);
   for (const width of [400, 1000, 1800]) for (const story of [run.findings[0] || null, null]) checkDrawing(file, run, width, story, []);
   for (const filter of [[...run.keys.keys()].slice(0, 1), run.script.sessions.slice(0, 1)]) checkDrawing(file, run, 1000, null, filter);
   for (let at = page.NEVER; at <= last; at += 1 + Math.floor(last / 12)) checkText(file, 'the panel', page.drawPanel(run, at, null));
@@ -106,7 +115,8 @@ function checkStale(file, hits, stale) {
 
 function checkReport(file) {
   const script = page.readScript(fs.readFileSync(file + '.hib', 'utf8')), text = fs.readFileSync(file + '.report', 'utf8'), lines = text.split('\n');
-  const journal = page.readJournal(text), isReport = lines[0].startsWith('journal '), misread = journal.entries.find((entry, at) => page.lineOf(entry) !== lines[at + 1]);
+  const journal = page.readJournal(text), isReport = lines[0].startsWith('journal ');
+  const misread = journal.entries.find((entry, at) => page.lineOf(entry) !== lines[at + 1]);
   if (journal.cut) fail(file, `is cut short: ${journal.cut}`);
   if (isReport && misread) fail(file, `a line is read as ${page.lineOf(misread)}`);
   const end = checkEntries(file, script, journal), run = page.analyse(script, journal), unsound = [...end.unsound.keys()].sort().join();
