@@ -218,7 +218,10 @@ const PUTS = {
     const { version } = slot.row, versions = `its version is ${version}, the offered one ${rowIn(entry, 3, 'at').version}`;
     return `Refused: an item is there, ${storedBy(slot)}, and ${version === NO_VERSION ? 'the rows have no versions' : versions}.`;
   },
-  held: ({ state, slot }) => `Refused: the key is locked by ${holdersOf(state, slot)}, who may be about to change it.`,
+  held({ state, slot }) {
+    const isAlive = slot.holders.some(({ by, at }) => state.sessions.get(by).killed < at);
+    return `Refused: the key is locked by ${holdersOf(state, slot)}${isAlive ? ', who may be about to change it' : `. ${SLOW_OR_DEAD}`}.`;
+  },
   early({ script, slot, entry, me }) {
     return `Refused: ${releasedBy(slot, script)}. ${me} began at ${numberBehind(entry, 'at')}, and what it loaded may be from before that.`;
   },
