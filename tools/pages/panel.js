@@ -94,12 +94,17 @@ function drawMeanings(run, entry) {
   return drawn.length ? `<dl aria-label="what docs/JOURNAL.md says">${drawn.join('')}</dl>` : '';
 }
 
+function whyOdd({ due, isReply }) {
+  if (isReply) return "this can't be an act of the session: it says another time, floor, lock, row, list or version than the session's";
+  return due === null ? "this can't come here" : `the reply was to be ${codeHtml(due)}`;
+}
+
 function drawEntry(run, at) {
   const entry = run.entries[at], odd = run.odd.find(one => one.at === at), story = run.findings.find(one => one.at === at);
   const parts = [`<p class="line mono">${escaped(lineOf(entry))}</p>`];
   if (run.said[at]) parts.push(`<p>${sentence(run, run.said[at])}</p>`);
   if (story) parts.push(`<p>${sentence(run, story.why)}</p>`);
-  if (odd) parts.push(`<p class="bad">By the entries before, ${odd.due === null ? "this can't come here" : `the reply was to be ${codeHtml(odd.due)}`}.</p>`);
+  if (odd) parts.push(`<p class="bad">By the entries before, ${whyOdd(odd)}.</p>`);
   return parts.join('') + drawMeanings(run, entry);
 }
 
@@ -132,7 +137,7 @@ function drawWarnings(run) {
   const out = [], warn = text => out.push(`<p class="note bad">${text}</p>`), open = run.transactions.filter(({ to }) => to === null);
   if (run.journal.cut) warn(`The journal is cut short: ${sentence(run, run.journal.cut)}.`);
   if (run.odd.length) {
-    warn(`${count(run.odd.length, "reply doesn't", "replies don't")} follow from the entries before, the first at tick ${linkTo(run, run.odd[0].at)}. ` +
+    warn(`${count(run.odd.length, "entry doesn't", "entries don't")} follow from those before, the first at tick ${linkTo(run, run.odd[0].at)}. ` +
       'Is this the report of another script, was a line of it changed, or had the run a file with rows of its own?');
   }
   if (open.length && !run.journal.cut) {

@@ -19,7 +19,7 @@ function startState(script) {
 function sessionOf(state, name) {
   if (!state.sessions.has(name)) {
     state.sessions.set(name, {
-      name, open: false, time: 0, floor: 0, began: NEVER, killed: NEVER, outcome: '', doneAt: NEVER, stampedAt: NEVER, listedAt: NEVER, found: null,
+      name, open: false, time: 0, floor: 0, began: NEVER, killed: NEVER, outcome: '', doneAt: NEVER, stampedAt: NEVER, listedAt: NEVER, listed: '', found: null,
       written: [], done: [], copies: new Map(), locks: new Map(), loads: new Map(),
     });
   }
@@ -370,9 +370,9 @@ function remember({ session, entry, at }) {
     session.copies.set(entry.key, managed(rowOf(tokensOf(got[1])), at));
     session.loads.set(entry.key, at);
   }
-  if (entry.part === 'region' && entry.verb === 'lock') session.locks.set(entry.key, at);
+  if (entry.part === 'region' && entry.verb === 'lock') session.locks.set(entry.key, Number(entry.reply.split(' ')[1]));
   if (entry.part === 'region' && ['unlock', 'after-update'].includes(entry.verb)) session.locks.delete(entry.key);
-  if (entry.part === 'store' && entry.verb === 'list') session.listedAt = at;
+  if (entry.part === 'store' && entry.verb === 'list') Object.assign(session, { listedAt: at, listed: entry.reply.slice('list '.length) });
 }
 
 function noteExpired({ state, entry, at }) {
@@ -399,13 +399,40 @@ function dueReply(context) {
   }
 }
 
-// Takes one entry, and answers whether its reply follows from the state, and else which was due.
+// What an act says of its session: its time, its floor, the lock that it got, the row or the list that it was told, the version that it
+// writes. An act whose verb isn't here says nothing of it.
+const SAYS = {
+  get: ({ session, entry }) => numberBehind(entry, 'at') === session.time,
+  put({ session, entry }) {
+    const copy = session.copies.get(entry.key), isOwnRow = copy && rowText(rowIn(entry, 3, 'at')) === rowText(copy.base);
+    return isOwnRow && numberBehind(entry, 'at') === session.time && numberBehind(entry, 'floor') === session.floor;
+  },
+  lock: ({ session, entry }) => numberBehind(entry, 'floor') === session.floor,
+  'after-insert': ({ session, entry }) => numberBehind(entry, 'floor') === session.floor,
+  unlock: ({ session, entry }) => numberBehind(entry, 'lock') === session.locks.get(entry.key),
+  'after-update': ({ session, entry }) => Number(entry.words[4]) === session.locks.get(entry.key),
+  update({ entity, entry }) {
+    const [expected, version] = entry.words.slice(3, 5);
+    return entity.versioned ? Number(version.slice(1)) === Number(expected.slice(1)) + 1 : version === NO_VERSION;
+  },
+  check: ({ session, entry }) => Boolean(session.found) && numberBehind(entry, 'at') === session.found.time,
+  keep: ({ session, entry }) => Number(entry.words[3]) === session.time && entry.act.endsWith(session.listed),
+};
+
+// Whether an act can be of its session as it stands. Which act is due isn't looked at.
+function isOwnAct(context) {
+  const { session, entry } = context, says = SAYS[entry.verb];
+  if (!session) return true;
+  return session.open === (entry.verb !== 'begin') && (!says || Boolean(says(context)));
+}
+
+// Takes one entry, and answers whether its act and its reply follow from the state; `due` is the reply that was.
 function step(script, state, entry, at) {
-  const context = contextOf(script, state, entry, at), due = dueReply(context), follows = due === entry.reply || isFault(entry);
-  if (!follows) believe(context);
+  const context = contextOf(script, state, entry, at), isAct = isOwnAct(context), due = dueReply(context), isReply = due === entry.reply || isFault(entry);
+  if (!isReply) believe(context);
   remember(context);
   noteExpired(context);
-  return { due, follows };
+  return { due, isAct, isReply, follows: isAct && isReply };
 }
 
 // The state after the entry at a place; at NEVER the start.

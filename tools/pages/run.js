@@ -234,8 +234,8 @@ function analyse(script, journal) {
     const changed = keysChangedBy(run, state, entry);
     run.marks.push(judge(run, contextOf(script, state, entry, at)));
     run.said.push(explain(script, state, entry, at));
-    const { due, follows } = step(script, state, entry, at);
-    if (!follows) run.odd.push({ at, due });
+    const { due, isReply, follows } = step(script, state, entry, at);
+    if (!follows) run.odd.push({ at, due, isReply });
     noteTransaction(run, entry, at);
     noteLock(run, entry, at);
     for (const key of [...noteUnsound(run, state, at), ...noteCommit(run, state, entry, at)]) changed.add(key);

@@ -2,7 +2,7 @@
 //
 //   node tools/pages/tests/check.js [--kinds] FOLDER ..        each FOLDER has scripts NAME.hib, each with NAME.report
 //
-// Of each entry: its reply is the one that the rules give from the entries before; it has a sentence, which names as many holders as the
+// Of each entry: its act and its reply follow by the rules from the entries before; it has a sentence, which names as many holders as the
 // reply counts; and docs/JOURNAL.md has a row for its act and its reply. Of each run: the unsound keys are those that the report names;
 // the states by step and from the start are the same; each stale read has a story with its load, put, commit and hit; the stale hits are
 // those that tools/stale names; beside itself a run comes to the same; and nothing that is drawn has a hole in it, nor what differs from
@@ -60,8 +60,9 @@ function checkEntries(file, script, journal) {
     kinds.set(kindOf(entry), (kinds.get(kindOf(entry)) || 0) + 1);
     if (entry.part === 'store' && entry.reply === 'fault') totals.faults++;
     checkEntry(file, script, state, entry, at);
-    const { due, follows } = page.step(script, state, entry, at);
-    if (!follows) fail(file, `${page.lineOf(entry)}   by the rules the reply is: ${due}`);
+    const { due, isAct, isReply } = page.step(script, state, entry, at);
+    if (!isReply) fail(file, `${page.lineOf(entry)}   by the rules the reply is: ${due}`);
+    if (!isAct) fail(file, `${page.lineOf(entry)}   by the rules this is no act of the session`);
   });
   return state;
 }
