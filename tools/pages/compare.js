@@ -41,6 +41,10 @@ function answersApart(one, other) {
 
 const countOf = (run, passes) => run.entries.filter(passes).length;
 
+function outcomesOf(run, session) {
+  return run.transactions.filter(one => one.session === session).map(({ outcome }) => outcome || 'open').join(', ');
+}
+
 function countsOf(run) {
   const hits = run.reads.filter(({ key }) => key).length, gets = countOf(run, ({ part, verb }) => part === 'region' && verb === 'get');
   return new Map([
@@ -51,7 +55,7 @@ function countsOf(run) {
     ['unsound keys', run.unsound.map(({ key }) => key).join(', ') || 'none'],
     ['loads', countOf(run, ({ verb }) => verb === 'load')],
     ['refused puts', run.marks.filter(mark => mark === 'refused').length],
-    ...run.script.sessions.map(session => [`end of ${session}`, run.transactions.filter(one => one.session === session).map(({ outcome }) => outcome || 'open').join(', ')]),
+    ...run.script.sessions.map(session => [`end of ${session}`, outcomesOf(run, session)]),
   ]);
 }
 
@@ -69,7 +73,8 @@ const ordinal = time => time === 1 ? '' : `, time ${time}`;
 
 // The runs as a table: counts that differ, and answers that differ.
 function drawComparison(runs, names) {
-  const [left, right] = runs.map(countsOf), labels = [...new Set([...left.keys(), ...right.keys()])].filter(label => left.get(label) !== right.get(label));
+  const [left, right] = runs.map(countsOf);
+  const labels = [...new Set([...left.keys(), ...right.keys()])].filter(label => left.get(label) !== right.get(label));
   const cell = (counts, label) => escaped(counts.has(label) ? counts.get(label) : 'none'), apart = answersApart(...runs);
   const rows = labels.map(label => [escaped(label), cell(left, label), cell(right, label)]);
   for (const pair of apart.slice(0, MOST_ANSWERS)) {
@@ -79,5 +84,6 @@ function drawComparison(runs, names) {
   const drawn = rows.map(([head, ...cells]) => `<tr><th scope="row">${head}</th>${cells.map(text => `<td>${text}</td>`).join('')}</tr>`).join('');
   const more = apart.length > MOST_ANSWERS ? `<p class="note">${apart.length - MOST_ANSWERS} more answers differ.</p>` : '';
   if (!rows.length) return '<p class="note">The two runs come to the same.</p>';
-  return `<table class="compare"><caption>What differs between the runs</caption><tr><td></td>${names.map(name => `<th scope="col">${escaped(name)}</th>`).join('')}</tr>${drawn}</table>${more}`;
+  const heads = names.map(name => `<th scope="col">${escaped(name)}</th>`).join('');
+  return `<table class="compare"><caption>What differs between the runs</caption><tr><td></td>${heads}</tr>${drawn}</table>${more}`;
 }

@@ -87,7 +87,8 @@ function start(runs, names) {
   function drawAll() {
     const width = plan(), { layout } = shown, head = drawHead(layout);
     for (const id of ['words', 'legend', 'foot']) element(id).style.width = width + 'px';
-    element('words').innerHTML = (runs.length > 1 ? drawComparison(runs, names) : '') + drawWords(run, shown.story, shown.only, shown.areAllTold) + drawHidden();
+    const comparison = runs.length > 1 ? drawComparison(runs, names) : '';
+    element('words').innerHTML = comparison + drawWords(run, shown.story, shown.only, shown.areAllTold) + drawHidden();
     element('head').innerHTML = head.html;
     element('head').style.cssText = `height:${head.height}px;width:${pixels(layout.width)}px`;
     picture.style.cssText = `height:${layout.height + 8}px;width:${pixels(layout.width)}px`;
@@ -265,7 +266,8 @@ function start(runs, names) {
 if (typeof document !== 'undefined') {
   const textOf = id => document.getElementById(id).textContent, scripts = [...document.querySelectorAll('pre[data-name]')];
   try {
-    const runs = scripts.map((script, n) => ({ ...analyse(readScript(script.textContent), readJournal(textOf(`report${n}`))), meanings: readMeanings(textOf('meanings')) }));
+    const meanings = readMeanings(textOf('meanings'));
+    const runs = scripts.map((script, n) => ({ ...analyse(readScript(script.textContent), readJournal(textOf(`report${n}`))), meanings }));
     start(runs, scripts.map(script => script.dataset.name));
   } catch (fault) {
     document.getElementById('main').innerHTML = '<p id="fault"></p>';

@@ -79,10 +79,16 @@ function drawTable({ head, rows }, before, isFirst) {
   return `<h2>${escaped(head)}</h2><table aria-label="${escaped(head)}">${drawn.join('')}${gone.join('')}</table>${more}`;
 }
 
+// The state after an entry, worked out from the one that was shown last if that is before it.
+function walkTo(run, at) {
+  if (!run.walk || run.walk.at > at) run.walk = { state: startState(run.script), at: NEVER };
+  while (run.walk.at < at) step(run.script, run.walk.state, run.entries[++run.walk.at], run.walk.at);
+  return run.walk.state;
+}
+
 function drawState(run, at, shown) {
-  const state = stateAt(run.script, run.entries, at - 1), before = tablesOf(run, state, at, shown);
-  if (at !== NEVER) step(run.script, state, run.entries[at], at);
-  return tablesOf(run, state, at, shown).map((table, n) => drawTable(table, before[n], at === NEVER)).join('');
+  const before = tablesOf(run, walkTo(run, at - 1), at, shown);
+  return tablesOf(run, walkTo(run, at), at, shown).map((table, n) => drawTable(table, before[n], at === NEVER)).join('');
 }
 
 // ---- the panel ----

@@ -1,13 +1,13 @@
 'use strict';
 // What a named query gives over rows.
 
-function compareCells(one, other) {
-  if (/^-?\d/.test(one)) return compare(BigInt(one), BigInt(other));
-  return compare(bareText(one), bareText(other));
-}
-
 const compare = (one, other) => one < other ? -1 : one > other ? 1 : 0;
+const numberOf = cell => cell.length < 16 ? Number(cell) : BigInt(cell); // JavaScript compares the two kinds rightly
 const bareText = cell => cell[0] === '"' ? cell.slice(1, -1).replace(/\\(.)/g, '$1') : cell;
+
+function compareCells(one, other) {
+  return /^-?\d/.test(one) ? compare(numberOf(one), numberOf(other)) : compare(bareText(one), bareText(other));
+}
 
 const TESTS = {
   eq: order => order === 0,
@@ -44,7 +44,7 @@ function meets(script, entity, condition, row, rows) {
 function gives(script, query, rows) {
   const entity = script.entities.get(query.entity), found = [];
   for (const [key, row] of rows) {
-    if (entityOf(key) === entity.name && meets(script, entity, query.condition, row, rows)) found.push({ id: BigInt(key.split(' ')[1]), row });
+    if (entityOf(key) === entity.name && meets(script, entity, query.condition, row, rows)) found.push({ id: key.split(' ')[1], row });
   }
   if (query.select === 'count') return `[${found.length}]`;
   const orders = query.order.map(({ column, descending }) => ({ place: placeOfColumn(entity, column), sign: descending ? -1 : 1 }));
@@ -53,8 +53,8 @@ function gives(script, query, rows) {
       const order = compareCells(one.row.cells[place], other.row.cells[place]);
       if (order) return order * sign;
     }
-    return compare(one.id, other.id);
+    return compareCells(one.id, other.id);
   });
-  const cellOf = ({ id, row }) => query.select === 'ids' ? String(id) : row.cells[placeOfColumn(entity, query.select)];
+  const cellOf = ({ id, row }) => query.select === 'ids' ? id : row.cells[placeOfColumn(entity, query.select)];
   return `[${found.slice(query.offset, query.offset + query.limit).map(cellOf).join(' ')}]`;
 }

@@ -434,10 +434,3 @@ function step(script, state, entry, at) {
   noteExpired(context);
   return { due, isAct, isReply, follows: isAct && isReply };
 }
-
-// The state after the entry at a place; at NEVER the start.
-function stateAt(script, entries, at) {
-  const state = startState(script);
-  for (let i = 0; i <= at; i++) step(script, state, entries[i], i);
-  return state;
-}

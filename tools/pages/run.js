@@ -28,7 +28,7 @@ function lookOfSlot(state, key, tick) {
   if (slot.kind === 'item') return { kind: 'item', text: briefRow(slot.row), isStale: rowText(committedRow(state, key)) !== rowText(slot.row) };
   if (!isHeld(slot)) return { kind: 'released', text: 'released ' + slot.release.tick };
   const isOver = tick > slot.until, holders = slot.holders.map(({ by, at }) => by + (state.sessions.get(by).killed > at ? ' (killed)' : '')).join(', ');
-  return { kind: 'lock', text: (isOver ? 'lock, time over: ' : 'locked: ') + holders, isOver };
+  return { kind: 'lock', text: (isOver ? 'lock, time over: ' : 'locked: ') + holders, isOver, until: slot.until };
 }
 
 const lookOfRow = (state, key) => state.committed.has(key) ? { kind: 'row', text: briefRow(committedRow(state, key)) } : { kind: 'none', text: '' };
@@ -82,11 +82,15 @@ function keysIn(entry) {
 function keysChangedBy(run, state, entry) {
   const keys = new Set(keysIn(entry));
   if (entry.verb === 'restart') for (const key of run.keys.keys()) keys.add(key);
-  for (const key of run.locked) {
-    const slot = state.regions.get(entityOf(key)).get(key);
-    if (entry.verb === 'kill' || (slot && slot.kind === 'lock' && entry.tick > slot.until)) keys.add(key);
-  }
+  if (entry.verb === 'kill') for (const key of run.locked) keys.add(key);
+  for (const [key, until] of run.goodUntil) if (entry.tick > until) keys.add(key);
   return keys;
+}
+
+// Which keys are locked, and until when those that are drawn as good are.
+function noteLook(run, key, { kind, isOver, until }) {
+  if (kind === 'lock') run.locked.add(key); else run.locked.delete(key);
+  if (kind === 'lock' && !isOver) run.goodUntil.set(key, until); else run.goodUntil.delete(key);
 }
 
 function showKeys(run, state, keys, tick, at) {
@@ -94,11 +98,13 @@ function showKeys(run, state, keys, tick, at) {
     const lanes = keyLanes(run, state, key), look = lookOfSlot(state, key, tick);
     show(lanes.store, at, lookOfRow(state, key));
     show(lanes.cache, at, look);
-    if (look.kind === 'lock') run.locked.add(key); else run.locked.delete(key);
+    noteLook(run, key, look);
   }
 }
 
-function showQueries(run, state, at) {
+// Results and stamps change with their own entries, and what a query gives with a commit.
+function showQueries(run, state, entry, at) {
+  if (!['results', 'stamps'].includes(entry.part) && !['commit', 'restart'].includes(entry.verb)) return;
   for (const [name, lanes] of run.queries) {
     show(lanes.gives, at, { kind: 'row', text: lanes.now });
     show(lanes.kept, at, lookOfKept(state.kept.get(name), lanes.now));
@@ -224,9 +230,11 @@ function analyse(script, journal) {
   const { entries } = journal, state = startState(script);
   const run = {
     script, journal, entries,
-    transactions: [], locks: [], keys: new Map(), queries: new Map(), tables: new Map(), // what is drawn
-    reads: [], stale: new Set(), findings: [], oldCopies: [], unsound: [], odd: [], marks: [], said: [], // what is told
-    open: new Map(), openLocks: new Map(), locked: new Set(), unsoundNow: new Set(), commits: new Map(), tableCommits: [], // what is known on the way
+    // what is drawn, and what is told
+    transactions: [], locks: [], keys: new Map(), queries: new Map(), tables: new Map(),
+    reads: [], stale: new Set(), findings: [], oldCopies: [], unsound: [], odd: [], marks: [], said: [],
+    // what is known on the way
+    open: new Map(), openLocks: new Map(), locked: new Set(), goodUntil: new Map(), unsoundNow: new Set(), commits: new Map(), tableCommits: [],
   };
   queryLanes(run, state);
   entries.forEach((entry, at) => {
@@ -240,7 +248,7 @@ function analyse(script, journal) {
     noteLock(run, entry, at);
     for (const key of [...noteUnsound(run, state, at), ...noteCommit(run, state, entry, at)]) changed.add(key);
     showKeys(run, state, changed, entry.tick, at);
-    showQueries(run, state, at);
+    showQueries(run, state, entry, at);
   });
   markServed(run);
   run.end = state;

@@ -101,12 +101,13 @@ function checkComparison(file, run) {
 
 function checkRun(file, run, end) {
   const last = run.entries.length - 1, whole = state => JSON.stringify(page.tablesOf(run, state, page.NEVER, null));
-  if (whole(page.stateAt(run.script, run.entries, last)) !== whole(end)) fail(file, 'the states by step and from the start differ');
+  if (whole(page.walkTo(run, last)) !== whole(end)) fail(file, 'the states by step and from the start differ');
   for (const story of run.findings) checkStory(file, run, story);
   checkComparison(file, run);
   for (const width of [400, 1000, 1800]) for (const story of [run.findings[0] || null, null]) checkDrawing(file, run, width, story, []);
   for (const filter of [[...run.keys.keys()].slice(0, 1), run.script.sessions.slice(0, 1)]) checkDrawing(file, run, 1000, null, filter);
   for (let at = page.NEVER; at <= last; at += 1 + Math.floor(last / 12)) checkText(file, 'the panel', page.drawPanel(run, at, null));
+  checkText(file, 'the panel', page.drawPanel(run, Math.floor(last / 2), null));
 }
 
 function checkStale(file, hits, stale) {
