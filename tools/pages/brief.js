@@ -48,6 +48,10 @@ function brief(entry, isOnly) {
   return say ? say(entry, entry.key && !isOnly ? ' ' + entry.key : '', isOnly) : entry.act;
 }
 
+// The same as it stands in the picture of a run: what is wrong comes first, and a run's only key isn't said.
+const PREFIXES = { stale: 'STALE ', oldcopy: 'old copy: ' };
+const briefOf = (run, at) => (PREFIXES[run.marks[at]] || '') + brief(run.entries[at], run.keys.size === 1);
+
 // What kind of an entry it is, for its colour; nothing if none in particular.
 function markOf(entry) {
   const is = (part, ...verbs) => entry.part === part && verbs.includes(entry.verb);

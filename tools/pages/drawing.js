@@ -86,8 +86,6 @@ function drawMarks(run, layout) {
   }).join('');
 }
 
-const PREFIXES = { stale: 'STALE ', oldcopy: 'old copy: ' };
-
 // The text of an entry, in its lane or in a column of texts with the session's name in front.
 function drawText(run, layout, at, isPicked) {
   const entry = run.entries[at], mark = run.marks[at], lane = layout.laneOf.get(entry.session);
@@ -95,7 +93,7 @@ function drawText(run, layout, at, isPicked) {
   const name = layout.isWide || !entry.session ? '' : `<b>${escaped(entry.session)}</b>`, isQuiet = ['begin', 'end'].includes(entry.verb);
   const kinds = ['text', mark, isQuiet ? 'quiet' : '', isPicked ? 'pick' : ''].filter(Boolean).join(' ');
   const place = `left:${pixels(x)}px;top:${layout.top(at) + 2}px;max-width:${pixels(width)}px`;
-  return `<div class="${kinds}" style="${place}"><i>${name}${escaped((PREFIXES[mark] || '') + brief(entry, run.keys.size === 1))}</i></div>`;
+  return `<div class="${kinds}" style="${place}"><i>${name}${escaped(briefOf(run, at))}</i></div>`;
 }
 
 const drawTexts = (run, layout, picked) => layout.visible.map(at => drawText(run, layout, at, at === picked)).join('');

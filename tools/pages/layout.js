@@ -2,10 +2,12 @@
 // Which entries and lanes are drawn, and where everything stands.
 
 const ROW = 22; // the height of an entry
-const TICKS = 62, HALF = 112, HALF_LEAST = 60, STAMP = 58, GAP = 10; // the widths of the ticks, of half a key's lanes, of a stamp, between groups
+const TICKS = 62, HALF = 100, HALF_LEAST = 60, STAMP = 58, GAP = 10; // the widths of the ticks, of half a key's lanes, of a stamp, between groups
 const TEXTS_LEAST = 300; // what the column of texts should have beside thin lanes
 const MOST = 1500; // entries that are drawn at once
-const LETTER = 6.7; // how wide a letter is, about
+
+// How wide a text is, about; the page measures it.
+let widthOfText = text => 6.8 * text.length;
 
 // ---- which entries ----
 
@@ -123,19 +125,19 @@ function groupsOf(run, names) {
   return [...groups, ...[...tables].map(name => groupOfTable(name, run.tables.get(name)))];
 }
 
-// How many letters the longest text of an entry has, with the session's name in front if it stands in a column of texts.
-function longestText(run, visible, hasName) {
+// How wide the widest text of an entry is, with the session's name in front if it stands in a column of texts.
+function widestText(run, visible, hasName) {
   return Math.max(0, ...visible.map(at => {
-    const entry = run.entries[at];
-    return brief(entry, run.keys.size === 1).length + (hasName && entry.session ? entry.session.length + 2 : 0);
+    const { session } = run.entries[at], isBold = run.marks[at] === 'stale';
+    return widthOfText(briefOf(run, at), isBold) + (hasName && session ? widthOfText(session, true) + 5 : 0);
   }));
 }
 
-// The widths of lanes with texts in them; null if there isn't room for that.
+// The widths of lanes with texts in them; null if there isn't room for that. Lanes of keys grow first, then all.
 function wideWidths(room, sessions, lane, halves) {
   const spare = room - sessions * lane - halves * HALF;
   if (spare < 0) return null;
-  const half = halves ? Math.min(190, HALF + spare / (2 * halves)) : 0;
+  const half = halves ? Math.min(190, HALF + Math.min(spare / halves, 30 + spare / (2 * halves))) : 0;
   return { lane: Math.min(300, (room - halves * half) / Math.max(1, sessions)), half };
 }
 
@@ -170,12 +172,12 @@ function layoutOf(run, visible, names, width) {
   const acting = actingIn(run, visible), sessions = [...(acting.has(null) ? [null] : []), ...run.script.sessions.filter(name => acting.has(name))];
   const groups = groupsOf(run, names), stamps = groups.filter(group => group.kind === 'table').length;
   const halves = groups.reduce((sum, group) => sum + group.lanes.length, 0) - stamps, fixed = groups.length * GAP + stamps * STAMP + 6;
-  const shares = sessions.length - (acting.has(null) ? 0.4 : 0), textLane = between(120, 34 + LETTER * longestText(run, visible, false), 200);
+  const shares = sessions.length - (acting.has(null) ? 0.4 : 0), textLane = between(120, 42 + widestText(run, visible, false), 230);
   const wide = wideWidths(width - TICKS - fixed, shares, textLane, halves), laneWidth = wide ? wide.lane : thinLane(sessions.length, width);
   const layout = { isWide: Boolean(wide), laneWidth, sessions, laneOf: new Map(), groups, visible, textAt: 0, textWidth: 0 };
   let x = placeSessions(layout, TICKS, laneWidth), { half } = wide || { half: 0 };
   if (!wide) {
-    const left = width - x - fixed, texts = between(190, 30 + LETTER * longestText(run, visible, true), 400);
+    const left = width - x - fixed, texts = between(190, 34 + widestText(run, visible, true), 400);
     half = between(HALF_LEAST, (left - texts) / Math.max(1, halves), 170);
     layout.textAt = x + 4;
     layout.textWidth = between(190, left - half * halves, 520);

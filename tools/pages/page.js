@@ -16,6 +16,15 @@ function start(runs, names) {
 
   // ---- drawing ----
 
+  // Texts are measured in the letters in which they are drawn, as style.css has them.
+  function measuring() {
+    const context = document.createElement('canvas').getContext('2d');
+    return (text, isBold) => {
+      context.font = `${isBold ? '700 ' : ''}12px system-ui, sans-serif`;
+      return context.measureText(text).width;
+    };
+  }
+
   const namesInPanel = () => run.keys.size > FEW_KEYS ? new Set(shown.names) : null;
   const nameOf = at => at === NEVER ? '' : run.entries[at].key || run.entries[at].query;
 
@@ -256,6 +265,7 @@ function start(runs, names) {
   addEventListener('beforeprint', () => { shown.isPrinting = true; draw(); });
   addEventListener('afterprint', () => { shown.isPrinting = false; draw(); });
 
+  widthOfText = measuring();
   if (innerWidth <= NARROW) element('legend').open = false;
 
   // The address may name a tick.
