@@ -1,0 +1,188 @@
+'use strict';
+// The panel beside the picture: what the picked entry means, and the state after it. And the words above the picture.
+
+const SHOWN = 40; // rows that a table of the panel shows
+
+// ---- a state, as tables of names and what stands there ----
+
+const byHtml = by => by ? ' by ' + escaped(by) : '';
+
+// Some of a list, as HTML.
+function someHtml(texts, most = 8) {
+  return texts.slice(0, most).map(codeHtml).join(' ') + (texts.length > most ? ' and more' : '');
+}
+
+function rowHtml({ script, run, state }, key) {
+  const now = state.committed.get(key);
+  return now ? `${codeHtml(named(script, key, now.row))} since ${linkTo(run, now.at)}${byHtml(now.by)}` : 'no row';
+}
+
+function slotHtml({ script, run, state, tick }, key, slot) {
+  if (slot.kind === 'item') {
+    const old = rowText(committedRow(state, key)) !== rowText(slot.row) ? '<b class="bad">old</b> ' : '';
+    return `${old}${codeHtml(named(script, key, slot.row))}, ${sentence(run, storedBy(slot))}`;
+  }
+  if (!isHeld(slot)) return `released lock ${slot.id}, of ${slot.release.tick}, good until ${slot.until}: ${sentence(run, releasedBy(slot, script))}`;
+  const over = tick > slot.until ? ' <b class="bad">(over)</b>' : '', version = slot.version === NO_VERSION ? 'no version' : slot.version;
+  return `lock ${slot.id}, good until ${slot.until}${over}${slot.shared ? ', shared' : ''}, over ${version}; held by ${sentence(run, holdersOf(state, slot))}`;
+}
+
+function sessionHtml({ state }, session, isShort) {
+  const parts = [`time ${session.time}, floor ${session.floor}`];
+  if (isShort) return parts[0];
+  const copies = [...session.copies].map(([key, { kind, row }]) => {
+    return `${key} ${kind === 'removed' ? '(to remove)' : rowText(row)}${isOldCopy(state, session, key) ? ' (old)' : ''}`;
+  });
+  if (copies.length) parts.push('copies: ' + someHtml(copies));
+  if (session.written.length) parts.push('written: ' + someHtml(session.written.map(({ kind, key }) => `${kind} ${key}`)));
+  if (session.locks.size) parts.push('locks: ' + someHtml([...session.locks.keys()]));
+  if (session.doneAt > session.began) parts.push('has committed');
+  return parts.join('; ');
+}
+
+function sessionsTable(around) {
+  const { state, actor } = around, open = openSessions(state).sort((one, other) => (other.name === actor) - (one.name === actor));
+  return open.map(session => [session.name, sessionHtml(around, session, open.length > 8 && session.name !== actor)]);
+}
+
+const stampHtml = (run, { value, ahead, by, at }) => `${value}${ahead ? ' (ahead of time)' : ''},${byHtml(by)} at ${linkTo(run, at)}`;
+const keptHtml = (run, { list, time, by, at }) => `${codeHtml(list)} of the time ${time},${byHtml(by)} at ${linkTo(run, at)}`;
+
+// The state after an entry, as tables with a head and rows. With `shown`, only of these keys.
+function tablesOf(run, state, at, shown) {
+  const { script } = run, entry = at === NEVER ? { tick: 0, session: '' } : run.entries[at];
+  const around = { script, run, state, tick: entry.tick, actor: entry.session }, table = (head, rows) => ({ head, rows });
+  const keys = [...run.keys.keys()].filter(key => !shown || shown.has(key)), unsoundHtml = unsound => sentence(run, UNSOUND[unsound.cause](unsound));
+  const regions = [...state.regions].map(([name, region]) => {
+    const { strategy, capacity } = script.entities.get(name), head = `Cache of ${name} (${strategy}, ${region.size} of ${capacity})`;
+    return table(head, [...region].filter(([key]) => !shown || shown.has(key)).map(([key, slot]) => [key, slotHtml(around, key, slot)]));
+  });
+  return [
+    table('Committed rows', keys.map(key => [key, rowHtml(around, key)])),
+    ...regions,
+    table('Open sessions', sessionsTable(around)),
+    table('Stamps', [...state.stamps].map(([name, stamp]) => [name, stampHtml(run, stamp)])),
+    table('Kept results', [...state.kept].map(([name, kept]) => [name, keptHtml(run, kept)])),
+    table('Unsound keys', [...state.unsound].map(([key, unsound]) => [key, `since ${linkTo(run, unsound.at)}: ${unsoundHtml(unsound)}`])),
+  ];
+}
+
+// A table with what has changed since the entry before marked and on top.
+function drawTable({ head, rows }, before, isFirst) {
+  const now = new Map(rows), old = new Map(before.rows), lost = [...old].filter(([name]) => !now.has(name));
+  if (!now.size && !lost.length) return '';
+  const isNew = name => !isFirst && old.get(name) !== now.get(name), order = rows.slice().sort(([one], [other]) => isNew(other) - isNew(one));
+  const drawRow = (name, html, isMarked) => `<tr${isMarked ? ' class="new"' : ''}><th scope="row">${escaped(name)}</th><td>${html}</td></tr>`;
+  const drawn = order.slice(0, SHOWN).map(([name, html]) => drawRow(name, html, isNew(name)));
+  const gone = lost.map(([name, html]) => drawRow(name, `<del>${html}</del>`, true));
+  const more = order.length > SHOWN ? `<p>${order.length - SHOWN} more</p>` : '';
+  return `<h2>${escaped(head)}</h2><table aria-label="${escaped(head)}">${drawn.join('')}${gone.join('')}</table>${more}`;
+}
+
+// The state after an entry, worked out from the one that was shown last if that is before it.
+function walkTo(run, at) {
+  if (!run.walk || run.walk.at > at) run.walk = { state: startState(run.script), at: NEVER };
+  while (run.walk.at < at) step(run.script, run.walk.state, run.entries[++run.walk.at], run.walk.at);
+  return run.walk.state;
+}
+
+function drawState(run, at, shown) {
+  const before = tablesOf(run, walkTo(run, at - 1), at, shown);
+  return tablesOf(run, walkTo(run, at), at, shown).map((table, n) => drawTable(table, before[n], at === NEVER)).join('');
+}
+
+// ---- the panel ----
+
+// What docs/JOURNAL.md says of the entry's act and reply.
+function drawMeanings(run, entry) {
+  const rows = meaningsOf(run.meanings, entry).filter(({ meaning }) => !meaning.startsWith('The reply to '));
+  const drawn = rows.map(({ forms, meaning }) => `<dt>${sentence(run, forms)}</dt><dd>${sentence(run, meaning)}</dd>`);
+  return drawn.length ? `<dl aria-label="what docs/JOURNAL.md says">${drawn.join('')}</dl>` : '';
+}
+
+function whyOdd({ due, isReply }) {
+  if (isReply) return "this can't be an act of the session: it says another time, floor, lock, row, list or version than the session's";
+  return due === null ? "this can't come here" : `the reply was to be ${codeHtml(due)}`;
+}
+
+function drawEntry(run, at) {
+  const entry = run.entries[at], odd = run.odd.find(one => one.at === at), story = run.findings.find(one => one.at === at);
+  const parts = [`<p class="line mono">${escaped(lineOf(entry))}</p>`];
+  if (run.said[at]) parts.push(`<p>${sentence(run, run.said[at])}</p>`);
+  if (story) parts.push(`<p>${sentence(run, story.why)}</p>`);
+  if (odd) parts.push(`<p class="bad">By the entries before, ${whyOdd(odd)}.</p>`);
+  return parts.join('') + drawMeanings(run, entry);
+}
+
+function drawPanel(run, at, shown) {
+  const what = at === NEVER ? '<p><b>Before the first entry.</b> Pick an entry, or step with the arrow keys, to see what it means and the state after it.</p>' :
+    `${drawEntry(run, at)}<p class="note">The state after this entry, as this page works it out, unproved. What the entry changed is marked.</p>`;
+  return what + drawState(run, at, shown);
+}
+
+// ---- the words above the picture ----
+
+function badges(run) {
+  const marked = kind => run.marks.filter(mark => mark === kind).length, stale = reads => reads.filter(read => read.isStale).length;
+  const hits = run.reads.filter(read => read.key), lists = run.reads.filter(read => read.query);
+  const unsound = run.unsound.slice(0, 3).map(({ key }) => escaped(key)).join(', ');
+  const sizes = [count(run.entries.length, 'entry', 'entries'), count(run.script.sessions.length, 'session'), count(run.keys.size, 'key')];
+  const out = [`<span class="badge">${sizes.join(', ')}</span>`];
+  const add = (kind, text, colour = '') => out.push(`<button class="badge ${colour}" data-next="${kind}" title="go to the next one">${text}</button>`);
+  add('stale', `${stale(hits)} stale of ${count(hits.length, 'hit')}`, stale(hits) ? 'red' : '');
+  if (lists.length) add('stale', `${stale(lists)} stale of ${count(lists.length, 'kept list')} used`, stale(lists) ? 'red' : '');
+  if (run.unsound.length) add('unsound', `unsound: ${unsound}${run.unsound.length > 3 ? ' and more' : ''}`, 'amber');
+  if (marked('refused')) add('refused', count(marked('refused'), 'refused put'));
+  if (run.oldCopies.length) add('oldcopy', count(run.oldCopies.length, 'old copy', 'old copies'));
+  if (marked('idle')) add('idle', `${count(marked('idle'), 'statement')} did nothing`);
+  return out.join('');
+}
+
+// What is wrong with the journal, before anything is believed of it.
+function drawWarnings(run) {
+  const out = [], warn = text => out.push(`<p class="note bad">${text}</p>`), open = run.transactions.filter(({ to }) => to === null);
+  if (run.journal.cut) warn(`The journal is cut short: ${sentence(run, run.journal.cut)}.`);
+  if (run.odd.length) {
+    warn(`${count(run.odd.length, "entry doesn't", "entries don't")} follow from those before, the first at tick ${linkTo(run, run.odd[0].at)}. ` +
+      'Is this the report of another script, was a line of it changed, or had the run a file with rows of its own?');
+  }
+  if (open.length && !run.journal.cut) {
+    const names = listed(open.slice(0, 5).map(({ session }) => escaped(session)));
+    warn(`The journal stops while ${names}${open.length > 5 ? ' and more' : ''} ${open.length === 1 ? 'is' : 'are'} open: it was cut short.`);
+  }
+  return out.join('');
+}
+
+const FEW_STORIES = 3; // up to so many, all stories are told above the picture
+const STORIES = 30; // and else so many, where they are asked for
+
+function drawStory(run, story, n, isShown, isOnly) {
+  const steps = story.steps.map(({ at, text }, k) => {
+    return `<li><span class="number">${k + 1}</span><span>${linkTo(run, at, 'tick&nbsp;')}</span><span>${sentence(run, text)}</span></li>`;
+  });
+  const button = `<button data-only="${n}">${isOnly ? 'show all entries' : 'show only the entries of this story'}</button>`;
+  return `<details class="story${isShown ? ' on' : ''}" data-story="${n}"${isShown ? ' open' : ''}><summary>Stale: ${sentence(run, story.head)}</summary>` +
+    `<ol>${steps.join('')}</ol><p><b>Why the cache answered so.</b> ${sentence(run, story.why)}</p>${button}</details>`;
+}
+
+function drawUnsoundNotes(run) {
+  const notes = run.unsound.slice(0, 3).map(({ key, at, text }) => {
+    return `<p class="note"><b>Unsound:</b> the cache can't vouch for ${codeHtml(key)} since tick ${linkTo(run, at)}: ${sentence(run, text)}.</p>`;
+  });
+  return notes.join('') + (run.unsound.length > 3 ? `<p class="note">${run.unsound.length - 3} more unsound keys.</p>` : '');
+}
+
+// The stories: few of them one below the other, of many the one that is shown, and the others where they are asked for.
+function drawStories(run, story, only, areAllShown) {
+  const tell = one => drawStory(run, one, run.findings.indexOf(one), one === story, one === only);
+  if (run.findings.length <= FEW_STORIES) return run.findings.map(tell).join('');
+  const others = run.findings.filter(one => one !== story), told = areAllShown ? others.slice(0, STORIES).map(tell).join('') : '';
+  const more = others.length > STORIES ? `<p class="note">${others.length - STORIES} more: the key n goes to each.</p>` : '';
+  const head = `<summary>${others.length}${story ? ' more' : ''} stale reads</summary>`;
+  return `${story ? tell(story) : ''}<details class="others"${areAllShown ? ' open' : ''}>${head}${told}${areAllShown ? more : ''}</details>`;
+}
+
+function drawWords(run, story, only, areAllShown) {
+  const none = '<p class="note">No stale read: each row and each list that came from the cache was what the store had committed at that moment.</p>';
+  return drawWarnings(run) + (run.findings.length ? drawStories(run, story, only, areAllShown) : none) + drawUnsoundNotes(run);
+}

@@ -1,0 +1,148 @@
+// Checks the page's scripts without a browser.
+//
+//   node tools/pages/tests/check.js [--kinds] FOLDER ..        each FOLDER has scripts NAME.hib, each with NAME.report
+//
+// Of each entry: its act and its reply follow by the rules from the entries before; it has a sentence, which names as many holders as the
+// reply counts; and docs/JOURNAL.md has a row for its act and its reply. Of each run: the unsound keys are those that the report names;
+// the states by step and from the start are the same; each stale read has a story with its load, put, commit and hit; the stale hits are
+// those that tools/stale names; beside itself a run comes to the same; and nothing that is drawn has a hole in it, nor what differs from
+// the run before. With --kinds, how many entries of each kind there were.
+'use strict';
+const fs = require('fs'), path = require('path'), vm = require('vm'), { spawnSync } = require('child_process');
+
+// The page's scripts, in the order of the page, as one function that hands out what is checked.
+const pages = path.join(__dirname, '..'), top = path.join(pages, '..', '..');
+const files = fs.readFileSync(path.join(pages, 'page.html'), 'utf8').match(/^@.*\.js@$/gm).map(line => line.replace(/@/g, ''));
+const source = files.map(file => fs.readFileSync(path.join(pages, file), 'utf8')).join('\n');
+const names = source.match(/^(?:function|const) \w+/gm).map(declared => declared.split(' ')[1]);
+const page = vm.runInThisContext(`(() => {${source}\nreturn { ${names.join(', ')} };})()`);
+
+// The rows of docs/JOURNAL.md, as a page has them.
+const made = spawnSync(path.join(top, 'tools/page'), ['examples/first.hib', 'examples/first.report'], { cwd: top, encoding: 'utf8' }).stdout;
+const meanings = page.readMeanings(/<pre id="meanings" hidden>\n([^]*?)<\/pre>/.exec(made)[1].replace(/&lt;/g, '<').replace(/&amp;/g, '&'));
+
+const totals = { reports: 0, entries: 0, faults: 0, stale: 0, lists: 0, stories: 0, unsound: 0 }, kinds = new Map();
+let wrong = 0;
+function fail(file, text) {
+  wrong++;
+  if (wrong <= 20) console.log(`${file}: ${text.replace(/[\u0001\u0002]/g, '#')}`);
+}
+
+const HOLE = /undefined|NaN|\[object|null\b/;
+function checkText(file, what, text) {
+  const at = text.search(HOLE);
+  if (at >= 0) fail(file, `${what} has a hole: ${text.slice(Math.max(0, at - 80), at + 80)}`);
+}
+
+// ---- entries ----
+
+// An entry without what differs from run to run.
+function kindOf({ part, verb, reply }) {
+  const words = reply.replace(/^(row|hit|list|found at) .*/, '$1').replace(/ ([A-Z]\w*|\d+|v\d+|v-)/g, '').replace(/^\d+$/, 'N');
+  return `${part} ${verb} = ${words}`;
+}
+
+function checkEntry(file, script, state, entry, at) {
+  const said = page.explain(script, state, entry, at), line = page.lineOf(entry), held = /^(?:held|miss locked) (\d+)$/.exec(entry.reply);
+  if (!said) fail(file, `${line}   has no sentence`);
+  checkText(file, `the sentence of ${line}`, said);
+  checkText(file, `the text of ${line}`, page.brief(entry, false) + page.brief(entry, true));
+  if (held && (said.match(/\(since \u0001/g) || []).length !== Number(held[1])) fail(file, `${line}   the holders are: ${said}`);
+  const rows = page.meaningsOf(meanings, entry);
+  if (rows.length !== 2 || rows.includes(undefined)) fail(file, `${line}   docs/JOURNAL.md has no row for ${rows.length ? 'the reply' : 'the act'}`);
+}
+
+// The state at the end.
+function checkEntries(file, script, journal) {
+  const state = page.startState(script);
+  journal.entries.forEach((entry, at) => {
+    totals.entries++;
+    kinds.set(kindOf(entry), (kinds.get(kindOf(entry)) || 0) + 1);
+    if (entry.part === 'store' && entry.reply === 'fault') totals.faults++;
+    checkEntry(file, script, state, entry, at);
+    const { due, isAct, isReply } = page.step(script, state, entry, at);
+    if (!isReply) fail(file, `${page.lineOf(entry)}   by the rules the reply is: ${due}`);
+    if (!isAct) fail(file, `${page.lineOf(entry)}   by the rules this is no act of the session`);
+  });
+  return state;
+}
+
+// ---- runs ----
+
+function checkStory(file, run, story) {
+  const read = run.reads.find(({ to }) => to === story.at), places = story.steps.map(({ at }) => at), has = at => places.includes(at);
+  const loads = read.loadedAt === page.NEVER || (has(read.loadedAt) && ['load', 'list'].includes(run.entries[read.loadedAt].verb));
+  const commits = places.some(at => at < story.at && run.entries[at].verb === 'commit' && run.entries[at].reply === 'committed');
+  if (!loads || !commits || !has(read.keptAt) || places[places.length - 1] !== story.at) fail(file, `a part of the story is missing: ${story.head}`);
+  const isOdd = !story.why || story.why === page.IMPOSSIBLE || places.some((at, k) => k && at <= places[k - 1]);
+  if (isOdd) fail(file, `the story is odd: ${story.head} ${story.why} ${places}`);
+  checkText(file, 'a story', story.head + story.why + story.steps.map(({ text }) => text).join());
+}
+
+function checkDrawing(file, run, width, story, filter) {
+  const visible = story && !filter.length ? page.entriesOfStory(run, story) : page.entriesOfFilter(run, filter);
+  if (!visible.length) return;
+  const lanes = page.namesWithLanes(run, filter, story, page.roomForKeys(run, visible, width), ''), layout = page.layoutOf(run, visible, lanes, width);
+  const drawn = {
+    rows: page.drawRows(run, layout, story, 0), boxes: page.drawBoxes(run, layout), lines: page.drawAcross(run, layout, story),
+    way: page.drawWay(run, layout, story), picked: run.reads.map(({ to }) => page.drawPicked(run, layout, to, null)).join(''),
+    marks: page.drawMarks(run, layout), texts: page.drawTexts(run, layout, 0), keys: page.drawKeys(layout), head: page.drawHead(layout).html,
+    words: page.drawWords(run, story, null, true), badges: page.badges(run),
+  };
+  for (const [what, text] of Object.entries(drawn)) checkText(file, `the picture (${what}, ${width} wide)`, text);
+}
+
+let before = null;
+function checkComparison(file, run) {
+  if (!page.drawComparison([run, run], ['a', 'b']).includes('The two runs come to the same.')) fail(file, 'the run differs from itself');
+  if (before) checkText(file, 'the comparison with the run before', page.drawComparison([before, run], ['a', 'b']));
+  before = run;
+}
+
+function checkRun(file, run, end) {
+  const last = run.entries.length - 1, whole = state => JSON.stringify(page.tablesOf(run, state, page.NEVER, null));
+  if (whole(page.walkTo(run, last)) !== whole(end)) fail(file, 'the states by step and from the start differ');
+  for (const story of run.findings) checkStory(file, run, story);
+  checkComparison(file, run);
+  for (const width of [400, 1000, 1800]) for (const story of [run.findings[0] || null, null]) checkDrawing(file, run, width, story, []);
+  for (const filter of [[...run.keys.keys()].slice(0, 1), run.script.sessions.slice(0, 1)]) checkDrawing(file, run, 1000, null, filter);
+  for (let at = page.NEVER; at <= last; at += 1 + Math.floor(last / 12)) checkText(file, 'the panel', page.drawPanel(run, at, null));
+  checkText(file, 'the panel', page.drawPanel(run, Math.floor(last / 2), null));
+}
+
+function checkStale(file, hits, stale) {
+  const said = spawnSync(path.join(top, 'tools/stale'), [file + '.hib', file + '.report'], { encoding: 'utf8' }).stdout;
+  if (!said.endsWith(`stale hits: ${stale} of ${hits}\n`)) fail(file, `${stale} stale of ${hits} hits, and tools/stale says ${said.slice(-60)}`);
+}
+
+function checkReport(file) {
+  const script = page.readScript(fs.readFileSync(file + '.hib', 'utf8')), text = fs.readFileSync(file + '.report', 'utf8'), lines = text.split('\n');
+  const journal = page.readJournal(text), isReport = lines[0].startsWith('journal ');
+  const misread = journal.entries.find((entry, at) => page.lineOf(entry) !== lines[at + 1]);
+  if (journal.cut) fail(file, `is cut short: ${journal.cut}`);
+  if (isReport && misread) fail(file, `a line is read as ${page.lineOf(misread)}`);
+  const end = checkEntries(file, script, journal), run = page.analyse(script, journal), unsound = [...end.unsound.keys()].sort().join();
+  run.meanings = meanings;
+  if (journal.unsound && unsound !== journal.unsound.slice().sort().join()) fail(file, `unsound by the rules: ${unsound}; by the report: ${journal.unsound}`);
+  if (run.findings.length !== run.stale.size) fail(file, `${run.stale.size} stale reads, ${run.findings.length} stories`);
+  checkRun(file, run, end);
+  const hits = run.reads.filter(({ key }) => key), stale = hits.filter(({ isStale }) => isStale).length;
+  if (isReport) checkStale(file, hits.length, stale);
+  totals.reports++;
+  totals.stale += stale;
+  totals.lists += run.reads.filter(({ query, isStale }) => query && isStale).length;
+  totals.stories += run.findings.length;
+  totals.unsound += run.unsound.length;
+}
+
+const words = process.argv.slice(2), wantsKinds = words[0] === '--kinds';
+for (const folder of wantsKinds ? words.slice(1) : words) {
+  for (const name of fs.readdirSync(folder).filter(one => one.endsWith('.hib'))) {
+    const file = path.join(folder, name.slice(0, -'.hib'.length));
+    if (fs.existsSync(file + '.report')) checkReport(file);
+  }
+}
+if (wantsKinds) for (const [kind, number] of [...kinds].sort()) console.log(String(number).padStart(7), kind);
+console.log(`${totals.reports} reports, ${totals.entries} entries of ${kinds.size} kinds, ${totals.faults} faults, ${totals.stale} stale hits, ` +
+  `${totals.lists} stale lists, ${totals.stories} stories, ${totals.unsound} unsound keys; ${wrong} wrong`);
+process.exit(wrong || !totals.reports ? 1 : 0);
