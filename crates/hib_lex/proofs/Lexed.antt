@@ -11,10 +11,8 @@ use Rattle.hib_base.proofs.Gives.{Gives, Then, then_cond}
 use Rattle.hib_base.proofs.Lists.{all_more}
 use Rattle.hib_lex.specs.Lines.{lines_of, content_of, tokens_or_bad, with_content, with_line, lexing, lex_of}
 use Rattle.hib_lex.specs.Tokens as lines
-use Rattle.hib_lex.specs.Tokens.{is_lexical, is_blank, path_at, natural_of, negative_of, number_of, or_path, bare_of, with_bare, is_end, is_zero, is_positive, size_of, tokens_of}
+use Rattle.hib_lex.specs.Tokens.{Place, Scan, is_lexical, is_blank, path_at, natural_of, negative_of, number_of, or_path, bare_of, with_bare, is_end, is_zero, is_positive, size_of, tokens_of}
 use Rattle.hib_lex.specs.declared.lexer.Token.{Token}
-use Rattle.hib_lex.specs.declared.lexer.Place.{Place}
-use Rattle.hib_lex.specs.declared.lexer.Scan.{Scan}
 use Rattle.hib_lex.specs.declared.lines.Content.{Content}
 use Rattle.hib_lex.specs.declared.lines.Line.{Line}
 use Rattle.hib_lex.specs.declared.lines.Lines.{Lines}

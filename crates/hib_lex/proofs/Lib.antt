@@ -1,3 +1,4 @@
 pub mod Scans
+pub mod Parts
 pub mod Texts
 pub mod Lexed

@@ -1,10 +1,9 @@
--- One byte more of a line.
-use Rattle.std.proofs.Common.{◌≡◌, ℕ, ◌+◌, ◌-◌, ◌*◌, ◌<◌, ◌≤◌, List, [], ◌∷◌, length, drop, get_or, cond, ◌==◌, Some, refl, Bool, true, false, not, ◌&&◌, arith, add-one, drop-cons}
+-- One byte more of a line, or of digits.
+use Rattle.std.proofs.Common.{◌≡◌, ℕ, ◌+◌, ◌-◌, ◌*◌, ◌<◌, ◌≤◌, List, [], ◌∷◌, length, drop, get_or, cond, ◌==◌, refl, Bool, true, false, not, ◌&&◌, arith, add-one, drop-cons}
 use Rattle.std.specs.List.{list_all}
 use Rattle.std.proofs.lemmas.List.{drop_all}
 use Rattle.std.proofs.lemmas.Bool.Decides.{nat_tests}
-use Rattle.hib_lex.specs.Tokens.{is_positive, is_digit, size_of, space, hash, zero_digit, is_blank, size_after, tokens_from, step, ended}
-use Rattle.hib_lex.specs.declared.lexer.Scan.{Scan}
+use Rattle.hib_lex.specs.Tokens.{is_positive, is_digit, size_of, space, hash, zero_digit, is_blank, size_after}
 
 pub blank_next : (bs : List ℕ) (i : ℕ) → i < length bs → is_blank (drop i bs) ≡ cond (get_or bs i 0 == space) (is_blank (drop (i + 1) bs)) (get_or bs i 0 == hash)
 blank_next bs i h = rw (add-one, drop-cons bs i 0) refl
@@ -32,9 +31,3 @@ positive_size [] h = absurd (cc)
 positive_size (d ∷ ds) h =
     let more = first_size d (and_more (not (d == zero_digit)) (is_digit d) (list_all is_digit ds) h) in
     omega (arith, size_grows (0 * 10 + (d - zero_digit)) ds)
-
-pub scan_next : (scan : Scan) (bs : List ℕ) (i : ℕ) → i < length bs → tokens_from (Some scan) (drop i bs) ≡ tokens_from (step scan (get_or bs i 0)) (drop (i + 1) bs)
-scan_next scan bs i h = rw (add-one, drop-cons bs i 0) refl
-
-pub scan_done : (scan : Scan) (bs : List ℕ) (i : ℕ) → length bs ≤ i → tokens_from (Some scan) (drop i bs) ≡ ended scan
-scan_done scan bs i h = rw (drop_all i bs h) refl

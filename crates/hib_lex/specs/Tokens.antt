@@ -4,8 +4,6 @@ use Rattle.std.specs.List.{list_all}
 use Rattle.hib_base.specs.Fits.{is_printable}
 pub use Rattle.hib_base.specs.Words.{is_letter, is_digit, is_word_byte, is_word}
 use Rattle.hib_lex.specs.declared.lexer.Token.{Token}
-use Rattle.hib_lex.specs.declared.lexer.Place.{Place}
-use Rattle.hib_lex.specs.declared.lexer.Scan.{Scan}
 
 -- bytes by name
 abbrev pub space : ℕ
@@ -93,6 +91,24 @@ abbrev pub bare_of : List ℕ → Option Token
 bare_of bs = cond (is_word bs) (Some (Token.Word bs)) (or_path bs (number_of bs))
 
 -- ---- the scan of a line, byte by byte
+-- where it stands
+pub data Place : Type 0 where
+  -- between tokens
+  Between : Place
+  -- within a word, a path or a number, of which these bytes were read
+  Bare : List ℕ → Place
+  -- within a quoted text, of which these bytes were read
+  Quoted : List ℕ → Place
+  -- the same, just after a backslash
+  Escaped : List ℕ → Place
+  -- just after the end of a quoted text
+  Closed : Place
+
+-- the tokens so far, and where it stands
+pub record Scan : Type 0 where
+  pub tokens : List Token
+  pub place : Place
+
 abbrev pub scan_at : List Token → Place → Option Scan
 scan_at ts place = Some (record { tokens = ts; place = place })
 

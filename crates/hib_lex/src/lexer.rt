@@ -1,8 +1,9 @@
 // The tokens of a line, and which lines are skipped.
 ghost use Rattle.std.specs.List.{list_all};
-ghost use Rattle.std.specs.Prelude.{◌≡◌, ◌==◌, ◌^◌, ◌<◌, ◌≤◌, pos, neg_ℤ, IfOk, SomeIff, position};
+ghost use Rattle.std.specs.Prelude.{◌≡◌, ◌==◌, ◌^◌, ◌<◌, ◌≤◌, true, pos, neg_ℤ, length, IfOk, SomeIff, position};
 ghost use Rattle.hib_base.specs.Fits.{is_printable};
 ghost use Rattle.hib_lex.specs.Tokens as lines;
+ghost use Rattle.hib_lex.specs.Parts as parts;
 
 use hib_base::{Seq, Text};
 use std::alloc::{AllocError, Global};
@@ -33,28 +34,6 @@ pub enum Token {
 /// The tokens of a line, in order.
 pub type Tokens = Seq<Token>;
 
-/// Where a scan of a line stands.
-#[derive(Drop)]
-enum Place {
-    /// Between tokens.
-    Between,
-    /// Within a word, a path or a number, of which these bytes were read.
-    Bare(Text),
-    /// Within a quoted text, of which these bytes were read.
-    Quoted(Text),
-    /// The same, just after a backslash.
-    Escaped(Text),
-    /// Just after the end of a quoted text.
-    Closed,
-}
-
-/// A scan of a line: the tokens so far, and where it stands.
-#[derive(Drop)]
-struct Scan {
-    tokens: Tokens,
-    place: Place,
-}
-
 /// Whether a line has printable bytes alone, and not too many of them. Skipped lines have to be so too.
 pub fn is_lexical(line: &[u8]) -> bool
     ensures { result ≡ lines.is_lexical line.now }
@@ -84,136 +63,150 @@ pub fn is_skipped(line: &[u8]) -> bool
 
 /// The tokens of a line, or none if a byte, its length or a part of it is against the rules. A comment isn't told
 /// from other lines here: ask `is_skipped` first. Fails for want of memory alone.
-#[tactic(auto, using(crate::proofs::Scans::scan_next, crate::proofs::Scans::scan_done))]
 pub fn tokens(alloc: Global, line: &[u8]) -> Result<Option<Tokens>, AllocError>
     ensures { IfOk result (λ t. t ≡ lines.tokens_of line.now) }
 {
     if !is_lexical(line) {
         return Ok(None);
     }
-    let mut scan = Scan {
-        tokens: Seq::new(alloc),
-        place: Place::Between,
-    };
-    for byte in line {
-        scan = match step(alloc, scan, *byte)? {
-            Some(next) => next,
+    tokens_of_lexical(alloc, line)
+}
+
+/// The tokens of a line whose bytes and length are known to keep the rules.
+pub(crate) fn tokens_of_lexical(alloc: Global, line: &[u8]) -> Result<Option<Tokens>, AllocError>
+    requires { lines.is_lexical line.now ≡ true }
+    ensures { IfOk result (λ t. t ≡ lines.tokens_of line.now) }
+{
+    let mut tokens = Seq::new(alloc);
+    let mut at = 0;
+    while at < line.len() {
+        match add_part(alloc, &mut tokens, &line[at..])? {
+            Some(size) => at += size,
             None => return Ok(None),
-        };
+        }
     }
-    ended(alloc, scan)
+    Ok(Some(tokens))
 }
 
-/// The scan after one more byte, or none if the line is bad.
-fn step(alloc: Global, scan: Scan, byte: u8) -> Result<Option<Scan>, AllocError>
-    ensures { IfOk result (λ s. s ≡ lines.step scan byte) }
+/// Adds the token at the front of some bytes, or passes a space. Gives how many bytes that takes; none if they begin with no
+/// token.
+fn add_part(alloc: Global, tokens: &mut Tokens, bytes: &[u8]) -> Result<Option<usize>, AllocError>
+    requires { 0 < length bytes.now }
+    ensures { IfOk result (parts.ReadsPart tokens.old tokens.new bytes.now) }
 {
-    let Scan { tokens, place } = scan;
-    match place {
-        Place::Quoted(text) => step_quoted(tokens, text, byte),
-        Place::Escaped(text) => step_escaped(tokens, text, byte),
-        Place::Between => step_between(alloc, tokens, byte),
-        Place::Bare(bytes) => step_bare(alloc, tokens, bytes, byte),
-        Place::Closed => step_closed(alloc, tokens, byte),
-    }
-}
-
-/// A byte within a quoted text.
-fn step_quoted(mut tokens: Tokens, mut text: Text, byte: u8) -> Result<Option<Scan>, AllocError>
-    ensures { IfOk result (λ s. s ≡ lines.step_quoted tokens text byte) }
-{
-    if byte == b'\\' {
-        return Ok(Some(Scan {
-            tokens,
-            place: Place::Escaped(text),
-        }));
-    }
-    if byte != b'"' {
-        text.push(byte)?;
-        return Ok(Some(Scan {
-            tokens,
-            place: Place::Quoted(text),
-        }));
-    }
-    if text.len() > MOST_TEXT {
-        return Ok(None);
-    }
-    tokens.push(Token::Quoted(text))?;
-    Ok(Some(Scan {
-        tokens,
-        place: Place::Closed,
-    }))
-}
-
-/// A byte after a backslash.
-fn step_escaped(tokens: Tokens, mut text: Text, byte: u8) -> Result<Option<Scan>, AllocError>
-    ensures { IfOk result (λ s. s ≡ lines.step_escaped tokens text byte) }
-{
-    if byte != b'"' && byte != b'\\' {
-        return Ok(None);
-    }
-    text.push(byte)?;
-    Ok(Some(Scan {
-        tokens,
-        place: Place::Quoted(text),
-    }))
-}
-
-/// A byte between tokens.
-fn step_between(alloc: Global, mut tokens: Tokens, byte: u8) -> Result<Option<Scan>, AllocError>
-    ensures { IfOk result (λ s. s ≡ lines.step_between tokens byte) }
-{
-    let place = match byte {
-        b' ' => Place::Between,
+    match bytes[0] {
+        b' ' => Ok(Some(1)),
         b'(' => {
             tokens.push(Token::Left)?;
-            Place::Between
+            Ok(Some(1))
         }
         b')' => {
             tokens.push(Token::Right)?;
-            Place::Between
+            Ok(Some(1))
         }
-        b'"' => Place::Quoted(Seq::new(alloc)),
-        _ => {
-            let mut bytes = Seq::new(alloc);
-            bytes.push(byte)?;
-            Place::Bare(bytes)
-        }
-    };
-    Ok(Some(Scan { tokens, place }))
+        b'"' => add_quoted(alloc, tokens, bytes),
+        _ => add_bare(alloc, tokens, bytes),
+    }
 }
 
-/// A byte within a word, a path or a number, or just after it.
-fn step_bare(
-    alloc: Global,
-    tokens: Tokens,
-    mut bytes: Text,
-    byte: u8,
-) -> Result<Option<Scan>, AllocError>
-    ensures { IfOk result (λ s. s ≡ lines.step_bare tokens bytes byte) }
+/// Adds the word, path or number at the front of some bytes.
+fn add_bare(alloc: Global, tokens: &mut Tokens, bytes: &[u8]) -> Result<Option<usize>, AllocError>
+    requires { parts.begins_bare bytes.now ≡ true }
+    ensures { IfOk result (parts.ReadsPart tokens.old tokens.new bytes.now) }
 {
-    if !is_end(byte) {
-        bytes.push(byte)?;
-        return Ok(Some(Scan {
-            tokens,
-            place: Place::Bare(bytes),
-        }));
-    }
-    match with_bare(alloc, tokens, bytes)? {
-        Some(tokens) => step_between(alloc, tokens, byte),
+    let size = bare_length(bytes);
+    match bare(alloc, &bytes[..size])? {
+        Some(token) => {
+            tokens.push(token)?;
+            Ok(Some(size))
+        }
         None => Ok(None),
     }
 }
 
-/// A byte just after a quoted text.
-fn step_closed(alloc: Global, tokens: Tokens, byte: u8) -> Result<Option<Scan>, AllocError>
-    ensures { IfOk result (λ s. s ≡ lines.step_closed tokens byte) }
+/// How many bytes stand before the first at which a token ends, or in all.
+#[tactic(auto, using(crate::proofs::Parts::bare_next, crate::proofs::Parts::bare_done))]
+fn bare_length(bytes: &[u8]) -> usize
+    ensures length { result ≡ parts.bare_length bytes.now }
+    ensures within { result ≤ length bytes.now }
 {
-    if is_end(byte) {
-        step_between(alloc, tokens, byte)
-    } else {
-        Ok(None)
+    for (i, byte) in bytes.iter().enumerate() {
+        if is_end(*byte) {
+            return i;
+        }
     }
+    bytes.len()
+}
+
+/// Adds the quoted text at the front of some bytes, which begin with its mark.
+fn add_quoted(alloc: Global, tokens: &mut Tokens, bytes: &[u8]) -> Result<Option<usize>, AllocError>
+    requires { parts.begins_quoted bytes.now ≡ true }
+    ensures { IfOk result (parts.ReadsPart tokens.old tokens.new bytes.now) }
+{
+    let Some((text, size)) = quoted(alloc, &bytes[1..])? else {
+        return Ok(None);
+    };
+    if text.len() > MOST_TEXT {
+        return Ok(None);
+    }
+    if !may_close(&bytes[size + 1..]) {
+        return Ok(None);
+    }
+    tokens.push(Token::Quoted(text))?;
+    Ok(Some(size + 1))
+}
+
+/// Whether a quoted text may stand before these bytes.
+fn may_close(bytes: &[u8]) -> bool
+    ensures { result ≡ parts.may_close bytes.now }
+{
+    match bytes {
+        [] => true,
+        [first, ..] => is_end(*first),
+    }
+}
+
+/// The text of these bytes up to its closing mark, and how many bytes that takes with the mark; none if nothing closes it, or if
+/// a backslash stands before another byte than a mark or a backslash.
+fn quoted(alloc: Global, bytes: &[u8]) -> Result<Option<(Text, usize)>, AllocError>
+    ensures { IfOk result (parts.ReadsQuoted bytes.now) }
+{
+    let mut text = Vec::new(alloc);
+    let mut at = 0;
+    while at < bytes.len() {
+        let end = at + plain_length(&bytes[at..]);
+        text.extend_from_slice(&bytes[at..end])?;
+        if end < bytes.len() && bytes[end] == b'"' {
+            return Ok(Some((Seq::from_vec(text), end + 1)));
+        }
+        if !is_escape(&bytes[end..]) {
+            return Ok(None);
+        }
+        text.push(bytes[end + 1])?;
+        at = end + 2;
+    }
+    Ok(None)
+}
+
+/// How many bytes stand before the first mark or backslash, or in all.
+#[tactic(auto, using(crate::proofs::Parts::plain_next, crate::proofs::Parts::plain_done))]
+fn plain_length(bytes: &[u8]) -> usize
+    ensures length { result ≡ parts.plain_length bytes.now }
+    ensures within { result ≤ length bytes.now }
+{
+    for (i, byte) in bytes.iter().enumerate() {
+        if *byte == b'"' || *byte == b'\\' {
+            return i;
+        }
+    }
+    bytes.len()
+}
+
+/// Whether these bytes begin with a backslash that escapes a mark or a backslash.
+fn is_escape(bytes: &[u8]) -> bool
+    ensures { result ≡ parts.is_escape bytes.now }
+{
+    matches!(bytes, [b'\\', b'"' | b'\\', ..])
 }
 
 /// Whether a token ends before this byte.
@@ -223,41 +216,16 @@ fn is_end(byte: u8) -> bool
     byte == b' ' || byte == b'(' || byte == b')'
 }
 
-/// The tokens at the end of a line, or none if a text isn't closed or the last part is no token.
-fn ended(alloc: Global, scan: Scan) -> Result<Option<Tokens>, AllocError>
-    ensures { IfOk result (λ t. t ≡ lines.ended scan) }
-{
-    let Scan { tokens, place } = scan;
-    match place {
-        Place::Between | Place::Closed => Ok(Some(tokens)),
-        Place::Bare(bytes) => with_bare(alloc, tokens, bytes),
-        Place::Quoted(_) | Place::Escaped(_) => Ok(None),
-    }
-}
-
-/// The tokens with one more, of these bytes; none if they are no token.
-fn with_bare(alloc: Global, mut tokens: Tokens, bytes: Text) -> Result<Option<Tokens>, AllocError>
-    ensures { IfOk result (λ t. t ≡ lines.with_bare tokens bytes) }
-{
-    match bare(alloc, bytes)? {
-        Some(token) => {
-            tokens.push(token)?;
-            Ok(Some(tokens))
-        }
-        None => Ok(None),
-    }
-}
-
 /// The word, path or number of these bytes.
-fn bare(alloc: Global, bytes: Text) -> Result<Option<Token>, AllocError>
-    ensures { IfOk result (λ t. t ≡ lines.bare_of bytes) }
+fn bare(alloc: Global, bytes: &[u8]) -> Result<Option<Token>, AllocError>
+    ensures { IfOk result (λ t. t ≡ lines.bare_of bytes.now) }
 {
-    if is_word(bytes.as_slice()) {
-        return Ok(Some(Token::Word(bytes)));
+    if is_word(bytes) {
+        return Ok(Some(Token::Word(Seq::from_vec(bytes.to_vec(alloc)?))));
     }
-    match number(bytes.as_slice()) {
+    match number(bytes) {
         Some(n) => Ok(Some(Token::Number(n))),
-        None => path(alloc, bytes.as_slice()),
+        None => path(alloc, bytes),
     }
 }
 

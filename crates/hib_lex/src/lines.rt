@@ -3,7 +3,7 @@ ghost use Rattle.hib_lex.specs.Lines as format;
 ghost use Rattle.std.specs.Prelude.{◌≡◌, ◌+◌, ◌^◌, ◌<◌, length, IfOk, IfErr};
 
 use crate::errors::LexError;
-use crate::lexer::{MOST_BYTES, Tokens, is_printable, is_skipped, tokens};
+use crate::lexer::{MOST_BYTES, Tokens, is_printable, is_skipped, tokens_of_lexical};
 use hib_base::{Kind, Refused, Seq};
 use std::alloc::{AllocError, Global};
 
@@ -101,7 +101,7 @@ fn content_of(alloc: Global, line: &[u8]) -> Result<Content, AllocError>
     if is_skipped(line) {
         return Ok(Content::Nothing);
     }
-    match tokens(alloc, line)? {
+    match tokens_of_lexical(alloc, line)? {
         Some(tokens) => Ok(Content::Tokens(tokens)),
         None => Ok(Content::Bad(Kind::Token)),
     }

@@ -7,8 +7,7 @@ use Rattle.hib_base.specs.Tables.{Tables, row_at, is_first, in_order, key_of, ro
 use Rattle.hib_base.proofs.Tables.{Tested, tested, same_key_eq, same_key_refl, row_at_change, row_at_other_change}
 use Rattle.hib_outside.proofs.Orders.{rest_in_order}
 use Rattle.hib_outside.proofs.Searches.{first_before, earlier}
-use Rattle.hib_journal.specs.Types.{Key, Row, Cell, Change, Commit, Query}
-use Rattle.hib_journal.specs.Query.{gives, listed, selected}
+use Rattle.hib_journal.specs.Types.{Key, Row, Cell, Change, Commit}
 use Rattle.hib_journal.specs.Room.{key}
 use Rattle.hib_query_eval.specs.declared.places.Place.{Place}
 use Rattle.hib_query_eval.specs.Places.{has_place, has_cell, IsIndexOf}
@@ -184,12 +183,7 @@ next_answer cs i c t u v l e h n a =
     at None h = refl
     at (Some b) h = absurd (true≢false (sym h))
 
--- what is selected of the rows that are listed
-pub given : (q : Query) (cs : List Change) (t u s met : Tables) (l : List Cell) → u ≡ t → s ≡ u → met ≡ listed q s → l ≡ selected q met q.select → l ≡ gives q t
-unfolding gives
-given q cs t u s met l e f h g = g ∙ ap (λ r. selected q r q.select) (h ∙ ap (listed q) (f ∙ e))
-
--- the same, of a key and rows that are those of the change
+-- the index after a change, of a key and rows that are those of the change
 pub changed_by : (ps ms qs : List Place) (c : Change) (t s u : Tables) (j : Key) (a b : Option Row) → j ≡ key_of c → s ≡ t → a ≡ row_at s j → b ≡ row_left c
     → IsIndexOf ps t → (is_some b ≡ true → j.id < 2 ^ 64)
     → ((e k i : ℕ) (d : Cell) → has_place ms e k i d ≡ (not (same_key j (key e i) && has_cell a k d) && has_place ps e k i d))

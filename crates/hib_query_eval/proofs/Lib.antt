@@ -9,3 +9,5 @@ pub mod Spans
 pub mod Laid
 pub mod Views
 pub mod Searched
+pub mod Enough
+pub mod Lowest

@@ -1,4 +1,5 @@
 pub mod Orders
+pub mod Enough
 pub mod Places
 pub mod Spans
 pub mod Covers

@@ -282,23 +282,72 @@ pub fn candidates(
     places: &BTreeSet<Place>,
     entity: EntityNo,
     condition: &Cond,
+    most: usize,
 ) -> Result<Option<Vec<u64>>, AllocError>
     ensures { IfOk result (λ o. IfSome o
         (λ ids. Covers places.now.keys entity condition.now ids.items)) }
 {
     match condition {
         Cond::And(first, second) => {
-            let of_first = candidates(alloc, places, entity, first)?;
-            let of_second = candidates(alloc, places, entity, second)?;
+            let of_first = candidates(alloc, places, entity, first, most)?;
+            let of_second = candidates(alloc, places, entity, second, most)?;
             Ok(shorter(of_first, of_second))
         }
         Cond::Or(first, second) => {
-            let of_first = candidates(alloc, places, entity, first)?;
-            let of_second = candidates(alloc, places, entity, second)?;
+            let of_first = candidates(alloc, places, entity, first, most)?;
+            let of_second = candidates(alloc, places, entity, second, most)?;
             joined(of_first, of_second)
         }
         Cond::Not(_) => Ok(None),
+        Cond::Test { .. } if is_wide(alloc, places, entity, condition, most)? => Ok(None),
         Cond::Test { op, path, cell } => compared_at(alloc, places, entity, path, *op, cell),
         Cond::Among { path, cells } => among_at(alloc, places, entity, path, cells.as_slice()),
+    }
+}
+
+/// Whether the places find more rows of an entity for a condition than this, as far as that is quickly told. What is listed doesn't
+/// depend on it.
+pub fn is_wide(
+    alloc: Global,
+    places: &BTreeSet<Place>,
+    entity: EntityNo,
+    condition: &Cond,
+    most: usize,
+) -> Result<bool, AllocError> {
+    match condition {
+        Cond::And(first, second) => Ok(
+            is_wide(alloc, places, entity, first, most)?
+                && is_wide(alloc, places, entity, second, most)?,
+        ),
+        Cond::Or(first, second) => Ok(
+            is_wide(alloc, places, entity, first, most)?
+                || is_wide(alloc, places, entity, second, most)?,
+        ),
+        Cond::Not(_) => Ok(true),
+        Cond::Test { op, path, cell } if path.target.is_none() => {
+            let value = places::value_of(alloc, cell)?;
+            let column = usize::from(path.column);
+            Ok(match op {
+                Op::Lt | Op::Le => places::are_more(
+                    places,
+                    entity,
+                    column,
+                    Value::Least,
+                    value,
+                    most,
+                ),
+                Op::Gt | Op::Ge => places::are_more(
+                    places,
+                    entity,
+                    column,
+                    value,
+                    Value::Greatest,
+                    most,
+                ),
+                Op::Eq => false,
+                Op::Ne => true,
+            })
+        }
+        Cond::Test { .. } | Cond::Among { .. } => Ok(false),
     }
 }

@@ -17,6 +17,7 @@ fn is_below_text(a: &[u8], b: &[u8]) -> bool
 }
 
 /// Whether a cell is below another of its type; false is before true.
+#[inline]
 pub fn is_below(a: &Cell, b: &Cell) -> bool
     ensures { result ≡ is_below_cell a.now b.now }
 {
@@ -29,6 +30,7 @@ pub fn is_below(a: &Cell, b: &Cell) -> bool
 }
 
 /// Whether two cells are of one type and equal.
+#[inline]
 pub fn is_same(a: &Cell, b: &Cell) -> bool
     ensures { result ≡ same_cell a.now b.now }
 {
@@ -41,6 +43,7 @@ pub fn is_same(a: &Cell, b: &Cell) -> bool
 }
 
 /// Whether a cell stands to another as the comparison says.
+#[inline(always)]
 pub fn is_passed(op: Op, a: &Cell, b: &Cell) -> bool
     ensures { result ≡ passes op a.now b.now }
 {

@@ -1,12 +1,12 @@
 // Whether a row meets a condition.
-ghost use Rattle.std.specs.Prelude.{◌≡◌, option_copied, true};
+ghost use Rattle.std.specs.Prelude.{◌≡◌, option_copied, slice_get, true, false};
 ghost use Rattle.std.specs.Option.{option_map_or};
 ghost use Rattle.std.specs.List.{list_any};
-ghost use Rattle.hib_journal.specs.Query.{same_cell, row_of_ref, cell_at, holds};
+ghost use Rattle.hib_journal.specs.Query.{same_cell, passes, row_of_ref, cell_at, holds};
 
 use crate::cells;
 use crate::view::View;
-use hib_base::{Cell, Cond, EntityNo, Key, Path, Row};
+use hib_base::{Cell, Cond, EntityNo, Key, Op, Path, Row};
 
 /// The row to which a cell refers.
 fn referred<'a>(view: &'a View<'_>, entity: EntityNo, cell: Option<&Cell>) -> Option<&'a Row>
@@ -66,12 +66,32 @@ fn holds<'a>(view: &'a View<'_>, row: &'a Row, cond: &Cond) -> bool
     }
 }
 
-/// Whether a row meets a query's condition, if it has one.
+/// Whether a row's own cell stands to a cell as a comparison says.
+#[inline(always)]
+fn is_passed_here(row: &Row, column: u16, op: Op, cell: &Cell) -> bool
+    ensures { result ≡ option_map_or (λ found. passes op found cell.now)
+        (slice_get row.now.cells column) false }
+{
+    match row.cells.as_slice().get(usize::from(column)) {
+        Some(found) => cells::is_passed(op, found, cell),
+        None => false,
+    }
+}
+
+/// Whether a row meets a query's condition, if it has one. A comparison of a cell of its own, which most rows are tested by, comes
+/// first.
+#[inline]
 pub fn meets<'a>(view: &'a View<'_>, row: &'a Row, cond: &Option<Cond>) -> bool
     ensures { result ≡ option_map_or (holds view.now row.now) cond.now true }
 {
     match cond {
         None => true,
+        Some(Cond::Test { op, path, cell }) if path.target.is_none() => is_passed_here(
+            row,
+            path.column,
+            *op,
+            cell,
+        ),
         Some(cond) => holds(view, row, cond),
     }
 }

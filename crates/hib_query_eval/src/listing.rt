@@ -1,8 +1,10 @@
 // What a query gives.
-ghost use Rattle.std.specs.Prelude.{◌≡◌, ◌∷◌, pos, take, drop, map, true, slice_get, ◌<◌, ◌^◌, [], IfOk, unwrap_or, false};
+ghost use Rattle.std.specs.Prelude.{◌≡◌, ◌∷◌, ◌+◌, pos, take, drop, map, true, slice_get, ◌<◌, ◌^◌, [], IfOk, unwrap_or, false};
+ghost use Rattle.std.specs.List.{filter};
 ghost use Rattle.hib_base.specs.Tables.{in_order};
-ghost use Rattle.hib_journal.specs.Query.{listed, sorted, selected, gives};
+ghost use Rattle.hib_journal.specs.Query.{sorted, selected, gives};
 ghost use Rattle.hib_journal.specs.Types.{Cell};
+ghost use Rattle.hib_query_eval.specs.Enough.{enough, is_enough, is_listed, first_of};
 
 use crate::view::View;
 use crate::{conditions, orders};
@@ -18,8 +20,36 @@ pub fn gives(alloc: Global, query: &Query, rows: &Rows) -> Result<Listing, Alloc
     ensures { IfOk result (λ l. l ≡ gives query.now rows.now) }
 {
     let view = View::of(alloc, rows.as_slice());
-    let met = listed(alloc, query, rows.as_slice(), &view)?;
+    let met = listed(alloc, query, rows.as_slice(), &view, enough(query))?;
     selected(alloc, query, &met)
+}
+
+/// How many of the rows that a query lists are enough for what it gives, since they stand in its order already. None if all are
+/// needed.
+pub fn enough(query: &Query) -> Option<usize>
+    ensures { result ≡ enough query.now }
+{
+    match query.select {
+        Select::Ids | Select::Column(_) if query.order.is_empty() => Some(last_place(query)),
+        _ => None,
+    }
+}
+
+/// The place behind the last row that a query's offset and limit leave.
+fn last_place(query: &Query) -> usize
+    ensures { result ≡ query.now.offset + query.now.limit }
+{
+    query.offset as usize + query.limit as usize
+}
+
+/// Whether so many rows are enough.
+fn is_enough(count: usize, most: Option<usize>) -> bool
+    ensures { result ≡ is_enough count most }
+{
+    match most {
+        Some(most) => count >= most,
+        None => false,
+    }
 }
 
 /// What a query selects of the rows that meet its condition.
@@ -30,11 +60,11 @@ pub fn selected(alloc: Global, query: &Query, met: &Vec<&(Key, Row)>) -> Result<
     match query.select {
         Select::Count => count(alloc, met.len()),
         Select::Ids => {
-            let placed = orders::sorted(alloc, query.order.as_slice(), met.as_slice())?;
+            let placed = placed(alloc, query, met)?;
             identifiers(alloc, cut(placed.as_slice(), query.offset, query.limit))
         }
         Select::Column(column) => {
-            let placed = orders::sorted(alloc, query.order.as_slice(), met.as_slice())?;
+            let placed = placed(alloc, query, met)?;
             cells_of(
                 alloc,
                 column,
@@ -44,23 +74,53 @@ pub fn selected(alloc: Global, query: &Query, met: &Vec<&(Key, Row)>) -> Result<
     }
 }
 
-/// The rows of a query's entity that meet its condition, of all rows of a view.
+/// The first of some rows in a query's order, up to its limit.
+fn placed<'a>(
+    alloc: Global,
+    query: &Query,
+    met: &Vec<&'a (Key, Row)>,
+) -> Result<Vec<&'a (Key, Row)>, AllocError>
+    ensures { IfOk result (λ v. map (λ r. r.now) v.items
+        ≡ take (query.now.offset + query.now.limit)
+        (sorted query.now.order (map (λ r. r.now) met.now.items))) }
+{
+    orders::first_sorted(
+        alloc,
+        query.order.as_slice(),
+        met.as_slice(),
+        last_place(query),
+    )
+}
+
+/// The rows that a query lists of a view, of some of its rows. Where a number is enough, no more than that.
 pub fn listed<'a>(
     alloc: Global,
     query: &Query,
     rows: &'a [(Key, Row)],
     view: &'a View<'_>,
+    most: Option<usize>,
 ) -> Result<Vec<&'a (Key, Row)>, AllocError>
-    requires { view.now ≡ rows.now }
-    ensures { IfOk result (λ v. map (λ r. r.now) v.items ≡ listed query.now rows.now) }
+    ensures { IfOk result (λ v. map (λ r. r.now) v.items
+        ≡ first_of most (filter (is_listed query.now view.now) rows.now)) }
 {
     let mut met = Vec::new(alloc);
     for row in rows {
-        if row.0.entity == query.entity && conditions::meets(view, &row.1, &query.condition) {
+        if is_enough(met.len(), most) {
+            return Ok(met);
+        }
+        if is_listed(query, view, row) {
             met.push(row)?;
         }
     }
     Ok(met)
+}
+
+/// Whether a query lists a row of a view.
+#[inline]
+fn is_listed<'a>(query: &Query, view: &'a View<'_>, row: &'a (Key, Row)) -> bool
+    ensures { result ≡ is_listed query.now view.now row.now }
+{
+    row.0.entity == query.entity && conditions::meets(view, &row.1, &query.condition)
 }
 
 /// So many rows from a place on.

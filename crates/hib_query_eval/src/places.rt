@@ -162,3 +162,36 @@ pub fn add_between(
     }
     Ok(())
 }
+
+/// Whether more cells than this are in a column at one of two values or between them.
+pub fn are_more(
+    places: &BTreeSet<Place>,
+    entity: EntityNo,
+    column: usize,
+    from: Value,
+    to: Value,
+    most: usize,
+) -> bool
+    requires { is_gt (value_cmp from to) ≡ false }
+{
+    let first = Place {
+        entity,
+        column,
+        value: from,
+        id: 0,
+    };
+    let last = Place {
+        entity,
+        column,
+        value: to,
+        id: u64::MAX,
+    };
+    let mut left = most;
+    for _place in places.range((Bound::Included(first), Bound::Included(last))) {
+        if left == 0 {
+            return true;
+        }
+        left -= 1;
+    }
+    false
+}

@@ -1,19 +1,23 @@
 // The rows that a query lists, by an index and with changes laid over.
-ghost use Rattle.std.specs.Prelude.{◌≡◌, ℕ, true, [], None, Ok, Some, IfOk, IfSome, OnOk, map, option_copied};
+ghost use Rattle.std.specs.Prelude.{◌≡◌, ◌≤◌, ℕ, true, length, [], None, Ok, Some, IfOk, IfSome, OnOk, map, option_copied};
 ghost use Rattle.std.specs.List.Sorted.{IsStrictlyIncreasing};
 ghost use Rattle.hib_base.specs.Tables.{Tables, in_order, after_changes};
 ghost use Rattle.hib_journal.specs.Room.{key as key_at};
 ghost use Rattle.hib_journal.specs.Query.{listed};
+ghost use Rattle.std.specs.List.{filter};
+ghost use Rattle.hib_outside.specs.Places.{place_in};
 ghost use Rattle.hib_query_eval.specs.Covers.{HasAll, HasMet};
+ghost use Rattle.hib_query_eval.specs.Enough.{enough, is_listed, first_of, IsListed, place_of, FromEntity};
 ghost use Rattle.hib_query_eval.specs.Found.{row_in, if_met};
 ghost use Rattle.hib_query_eval.specs.Places.{IsIndexOf, has_id};
 ghost use Rattle.hib_query_eval.specs.Views.{is_changed};
 
-use crate::candidates::candidates;
+use crate::candidates::{candidates, is_wide};
 use crate::places::Place;
 use crate::view::View;
 use crate::{conditions, listing, reading};
 use hib_base::{Change, EntityNo, Key, Query, Row};
+use hib_outside::keyed;
 use std::alloc::{AllocError, Global};
 use std::collections::BTreeSet;
 
@@ -100,6 +104,7 @@ fn narrowed(
     query: &Query,
     places: &BTreeSet<Place>,
     changes: &[Change],
+    most: usize,
 ) -> Result<Option<Vec<u64>>, AllocError>
     ensures { IfOk result (λ o. IfSome o (λ ids. (t : Tables) → IsIndexOf places.now.keys t
         → HasMet query.now (after_changes changes.now t) ids.items)) }
@@ -110,7 +115,7 @@ fn narrowed(
     if reading::is_stepped(condition, changes) {
         return Ok(None);
     }
-    match candidates(alloc, places, query.entity, condition)? {
+    match candidates(alloc, places, query.entity, condition, most)? {
         Some(mut ids) => {
             add_changed(&mut ids, query.entity, changes)?;
             Ok(Some(ids))
@@ -142,12 +147,14 @@ fn searched(
     places: &BTreeSet<Place>,
     changes: &[Change],
 ) -> Result<Option<Vec<u64>>, AllocError>
-    requires { IsIndexOf places.now.keys rows.now }
+    requires ordered { in_order rows.now ≡ true }
+    requires indexed { IsIndexOf places.now.keys rows.now }
     ensures all { IfOk result (λ o. IfSome o
         (λ ids. HasMet query.now (after_changes changes.now rows.now) ids.items)) }
     ensures none { result ≡ Ok None → changes.now ≡ [] }
 {
-    match narrowed(alloc, query, places, changes)? {
+    let most = rows_of(rows, query.entity) / 8;
+    match narrowed(alloc, query, places, changes, most)? {
         Some(ids) => Ok(Some(ids)),
         None if changes.is_empty() => Ok(None),
         None => {
@@ -155,6 +162,73 @@ fn searched(
             Ok(Some(ids))
         }
     }
+}
+
+/// The rows that are enough, where so many are listed among the first rows. None else, and where the places tell that few rows meet
+/// the condition.
+fn listed_early<'a>(
+    alloc: Global,
+    query: &Query,
+    rows: &'a [(Key, Row)],
+    places: &BTreeSet<Place>,
+    view: &'a View<'_>,
+) -> Result<Option<Vec<&'a (Key, Row)>>, AllocError>
+    requires { in_order rows.now ≡ true }
+    ensures { IfOk result (λ o. IfSome o (λ v. map (λ r. r.now) v.items
+        ≡ first_of (enough query.now) (filter (is_listed query.now view.now) rows.now))) }
+{
+    let Some(enough) = listing::enough(query) else {
+        return Ok(None);
+    };
+    if let Some(condition) = &query.condition {
+        let many = enough.saturating_mul(2).saturating_add(64);
+        if !is_wide(alloc, places, query.entity, condition, many)? {
+            return Ok(None);
+        }
+    }
+    let own = from_entity(rows, query.entity);
+    let first = &own[..own.len().min(enough.saturating_mul(16).saturating_add(512))];
+    let met = listing::listed(alloc, query, first, view, Some(enough))?;
+    if met.len() < enough {
+        return Ok(None);
+    }
+    Ok(Some(met))
+}
+
+/// The rows from the first one of an entity on.
+fn from_entity(rows: &[(Key, Row)], entity: EntityNo) -> &[(Key, Row)]
+    requires { in_order rows.now ≡ true }
+    ensures { FromEntity entity rows.now result.now }
+{
+    let first = place(rows, Key { entity, id: 0 });
+    &rows[first..]
+}
+
+/// The place of a key's row, or where it belongs.
+fn place(rows: &[(Key, Row)], key: Key) -> usize
+    requires { in_order rows.now ≡ true }
+    ensures within { result ≤ length rows.now }
+    ensures place { result ≡ place_of (place_in rows.now key) }
+{
+    match keyed::find(rows, &key) {
+        Ok(at) => at,
+        Err(at) => at,
+    }
+}
+
+/// How many rows of an entity there are, but for one whose identifier is the last.
+fn rows_of(rows: &[(Key, Row)], entity: EntityNo) -> usize
+    requires { in_order rows.now ≡ true }
+{
+    let first = place(rows, Key { entity, id: 0 });
+    let last = place(
+        rows,
+        Key {
+            entity,
+            id: u64::MAX,
+        },
+    );
+    last.saturating_sub(first)
 }
 
 /// The rows that a query lists of a view, which is that of rows with changes laid over them.
@@ -166,16 +240,22 @@ pub fn listed<'a>(
     changes: &[Change],
     view: &'a View<'_>,
 ) -> Result<Vec<&'a (Key, Row)>, AllocError>
+    requires rows { in_order rows.now ≡ true }
     requires ordered { in_order view.now ≡ true }
     requires indexed { IsIndexOf places.now.keys rows.now }
     requires view { view.now ≡ after_changes changes.now rows.now }
-    ensures { IfOk result (λ v. map (λ r. r.now) v.items ≡ listed query.now view.now) }
+    ensures { IfOk result (λ v. IsListed query.now view.now (map (λ r. r.now) v.items)) }
 {
+    if changes.is_empty() {
+        if let Some(met) = listed_early(alloc, query, rows, places, view)? {
+            return Ok(met);
+        }
+    }
     match searched(alloc, query, rows, places, changes)? {
         Some(ids) => {
             let ids = rising(ids);
             found(alloc, query, view, ids.as_slice())
         }
-        None => listing::listed(alloc, query, rows, view),
+        None => listing::listed(alloc, query, rows, view, listing::enough(query)),
     }
 }

@@ -4,3 +4,4 @@ pub mod Keys
 pub mod Fated
 pub mod Whole
 pub mod Sent
+pub mod Chosen

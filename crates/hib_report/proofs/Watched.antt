@@ -1,7 +1,7 @@
 -- The pass over a journal: what it knows of keys and of sessions, after one more key or one more entry.
 use Rattle.std.specs.Option.{option_map_or}
-use Rattle.std.proofs.Common.{Result, Ok, Err, OnOk, ◌≡◌, ℕ, ◌+◌, ◌<◌, inl, inr, Bool, true, false, cond, ◌&&◌, ◌||◌, List, [], ◌∷◌, ◌++◌, take, length, get_or, Some, None, Option, refl, sym, ap, ◌∙◌}
-use Rattle.std.specs.List.{list_any}
+use Rattle.std.proofs.Common.{Result, Ok, Err, OnOk, ◌≡◌, ℕ, ◌+◌, ◌<◌, inl, inr, Bool, true, false, cond, not, ◌&&◌, ◌||◌, List, [], ◌∷◌, ◌++◌, take, length, get_or, Some, None, Option, refl, sym, ap, ◌∙◌}
+use Rattle.std.specs.List.{list_any, list_all}
 use Rattle.std.proofs.Math.Bool.{or_comm, or-false}
 use Rattle.std.proofs.lemmas.Bool.{false≢true}
 use Rattle.std.proofs.lemmas.List.{take_more}
@@ -10,8 +10,8 @@ use Rattle.hib_base.specs.Keys.{same_key}
 use Rattle.hib_base.proofs.Tables.{Tested, tested, same_key_eq}
 use Rattle.hib_journal.specs.Types.{Key, Change, Act, Reply, Entry}
 use Rattle.hib_journal.specs.Sessions.{Journal, is_by, is_restart, committer, changes}
-use Rattle.hib_journal.specs.Slot.{touch}
-use Rattle.hib_journal.specs.Sound.{was_deleted, was_reused, inserts_key, deletes_key}
+use Rattle.hib_journal.specs.Slot.{touch, history}
+use Rattle.hib_journal.specs.Sound.{was_deleted, was_reused, inserts_key, deletes_key, is_calm, is_sound}
 use Rattle.hib_report.specs.declared.watch.Course.{Course}
 use Rattle.hib_report.specs.declared.watch.Written.{Written}
 use Rattle.hib_report.specs.Unsound.{leaves_calm}
@@ -156,3 +156,11 @@ same_course cs j k e = ap (course_at cs) (same_key_eq j k e)
 pub on_ok : {T E : Type 0} (r : Result T E) {P Q : Type 0} → (P → Q) → OnOk r P → OnOk r Q
 on_ok (Ok x) f p = f p
 on_ok (Err e) f p = tt
+
+-- a key of which nothing is known is sound
+pub quiet_sound : (cs : Courses) (ws : Writers) (past : Journal) (k : Key) → cs ≡ [] → Watches cs ws past → is_sound k past ≡ true
+unfolding is_sound
+quiet_sound cs ws past k e w =
+    let a : list_all (λ t. is_calm t.0) (history k past) ≡ true = sym (w.calm k) ∙ ap (λ (xs : Courses). (course_at xs k).calm) e in
+    let b : was_reused k past ≡ false = sym (w.reused k) ∙ ap (λ (xs : Courses). (course_at xs k).reused) e in
+    λ i. a i && not (b i)

@@ -1,5 +1,5 @@
 -- The read-write keys that a journal names and of which the claims on the cache do not speak.
-use Rattle.std.specs.Prelude.{ℕ, Bool, true, false, cond, not, List, [], ◌∷◌, ◌++◌, length, codes, flat_map, Some, None, Option}
+use Rattle.std.specs.Prelude.{ℕ, Bool, true, false, cond, not, ◌&&◌, List, [], ◌∷◌, ◌++◌, length, codes, flat_map, Some, None, Option}
 use Rattle.std.specs.List.{filter}
 use Rattle.std.specs.Fmt.{decimal}
 use Rattle.hib_base.specs.Keys.{same_key, is_before}
@@ -33,6 +33,11 @@ with_named script (Some k) ks = cond (is_read_write (strategy script k.entity)) 
 abbrev pub keys_in : Script → Journal → List Key
 keys_in script [] = []
 keys_in script (e ∷ h) = with_named script (named e.act) (keys_in script h)
+
+-- sorted keys with a read-write one that is not sound
+abbrev pub with_unsound : Script → Journal → Option Key → List Key → List Key
+with_unsound script past None ks = ks
+with_unsound script past (Some k) ks = cond (is_read_write (strategy script k.entity) && not (is_sound k past)) (with_key k ks) ks
 
 abbrev pub unsound : Script → Journal → List Key
 unsound script past = filter (λ k. not (is_sound k past)) (keys_in script past)

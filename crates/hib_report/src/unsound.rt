@@ -7,7 +7,7 @@ ghost use Rattle.hib_journal.specs.Next.{strategy};
 ghost use Rattle.hib_journal.specs.Sound.{is_sound};
 ghost use Rattle.hib_texts.specs.Texts.{key_text};
 ghost use Rattle.hib_report.specs.Watch.{Watches};
-ghost use Rattle.hib_report.specs.Unsound.{named, is_read_write, with_key, with_named, keys_in, unsound, unsound_text};
+ghost use Rattle.hib_report.specs.Unsound.{named, is_read_write, with_key, with_unsound, keys_in, unsound, unsound_text};
 
 use crate::watch::Watch;
 use hib_base::{Act, EntityNo, Entry, Key, Script, Strategy, strategy_of};
@@ -40,71 +40,77 @@ fn add_key(keys: &mut BTreeSet<Key>, key: Key) -> Result<(), AllocError>
     Ok(())
 }
 
-// Adds the key that an entry names, if it is one of a read-write entity.
-fn add_named(keys: &mut BTreeSet<Key>, script: &Script, entry: &Entry) -> Result<(), AllocError>
-    ensures { OnOk result (keys.new.keys
-        ≡ with_named script.now (named entry.now.act) keys.old.keys) }
+// What is known of keys after one pass over some entries.
+fn watched(alloc: Global, entries: &[Entry]) -> Result<Watch, AllocError>
+    ensures { IfOk result (λ w. Watches w.courses.entries w.written.entries (reverse entries.now)) }
 {
-    match named(&entry.act) {
-        Some(key) if is_read_write(script, key.entity) => add_key(keys, key),
-        _ => Ok(()),
-    }
-}
-
-// What one pass over some entries finds: the read-write keys that they name, in order, each once, and what is known of keys.
-#[derive(Drop)]
-struct Passed {
-    keys: BTreeSet<Key>,
-    watch: Watch,
-}
-
-fn pass(alloc: Global, script: &Script, entries: &[Entry]) -> Result<Passed, AllocError>
-    ensures keys { IfOk result (λ p. p.keys.keys ≡ keys_in script.now (reverse entries.now)) }
-    ensures watch { IfOk result (λ p. Watches p.watch.courses.entries p.watch.written.entries
-        (reverse entries.now)) }
-{
-    let mut keys = BTreeSet::new(alloc);
     let mut watch = Watch::new(alloc);
     for entry in entries {
-        add_named(&mut keys, script, entry)?;
         watch.note(alloc, entry)?;
     }
-    Ok(Passed { keys, watch })
+    Ok(watch)
 }
 
-// The keys that are not sound, in order.
-fn unsound_of(alloc: Global, passed: &Passed) -> Result<Vec<Key>, AllocError>
-    ensures { IfOk result (λ v. (past : Journal)
-        → Watches passed.now.watch.courses.entries passed.now.watch.written.entries past
-        → v.items ≡ filter (λ k. not (is_sound k past)) passed.now.keys.keys) }
+// Adds the key that an entry names, if it is one of a read-write entity and not sound.
+fn add_unsound(
+    keys: &mut BTreeSet<Key>,
+    script: &Script,
+    watch: &Watch,
+    entry: &Entry,
+) -> Result<(), AllocError>
+    ensures { OnOk result ((past : Journal)
+        → Watches watch.now.courses.entries watch.now.written.entries past
+        → keys.new.keys ≡ with_unsound script.now past (named entry.now.act) keys.old.keys) }
 {
-    let mut found = Vec::new(alloc);
-    for key in passed.keys.iter() {
-        if !passed.watch.is_sound(key) {
-            found.push(*key)?;
-        }
+    let Some(key) = named(&entry.act) else {
+        return Ok(());
+    };
+    if is_read_write(script, key.entity) && !watch.is_sound(&key) {
+        return add_key(keys, key);
     }
-    Ok(found)
+    Ok(())
 }
 
-// The read-write keys that are not sound, in order.
-fn unsound(alloc: Global, script: &Script, entries: &[Entry]) -> Result<Vec<Key>, AllocError>
-    ensures { IfOk result (λ v. v.items ≡ unsound script.now (reverse entries.now)) }
+// The read-write keys that some entries name and that are not sound, in order, each once.
+fn unsound_named(
+    alloc: Global,
+    script: &Script,
+    entries: &[Entry],
+    watch: &Watch,
+) -> Result<BTreeSet<Key>, AllocError>
+    ensures { IfOk result (λ keys. (past : Journal)
+        → Watches watch.now.courses.entries watch.now.written.entries past
+        → keys.keys ≡ filter (λ k. not (is_sound k past)) (keys_in script.now
+        (reverse entries.now))) }
 {
-    let passed = pass(alloc, script, entries)?;
-    unsound_of(alloc, &passed)
+    let mut keys = BTreeSet::new(alloc);
+    for entry in entries {
+        add_unsound(&mut keys, script, watch, entry)?;
+    }
+    Ok(keys)
+}
+
+// The read-write keys that are not sound, in order. Where nothing was noted of any key, the entries are gone over once.
+fn unsound(alloc: Global, script: &Script, entries: &[Entry]) -> Result<BTreeSet<Key>, AllocError>
+    ensures { IfOk result (λ keys. keys.keys ≡ unsound script.now (reverse entries.now)) }
+{
+    let watch = watched(alloc, entries)?;
+    if watch.is_quiet() {
+        return Ok(BTreeSet::new(alloc));
+    }
+    unsound_named(alloc, script, entries, &watch)
 }
 
 fn put_keys(
     alloc: Global,
     out: &mut Vec<u8>,
     script: &Script,
-    keys: &[Key],
+    keys: &BTreeSet<Key>,
 ) -> Result<(), AllocError>
     ensures { OnOk result (out.new.items
-        ≡ out.old.items ++ flat_map (λ k. key_text script.now k ++ codes "\n") keys.now) }
+        ≡ out.old.items ++ flat_map (λ k. key_text script.now k ++ codes "\n") keys.now.keys) }
 {
-    for key in keys {
+    for key in keys.iter() {
         put_key(alloc, out, script, *key)?;
         out.push(b'\n')?;
     }

@@ -327,6 +327,15 @@ impl Watch {
         note_written(alloc, &mut self.written, entry)
     }
 
+    /// Whether nothing was noted of any key, so that each one is sound.
+    pub fn is_quiet(&self) -> bool
+        ensures { result ≡ true → (past : Journal) (key : Key)
+            → Watches self.now.courses.entries self.now.written.entries past
+            → is_sound key past ≡ true }
+    {
+        self.courses.is_empty()
+    }
+
     /// Whether a key is sound after the entries that were noted.
     #[tactic(auto, unfolding(hib_journal::specs::Sound::is_sound))]
     pub fn is_sound(&self, key: &Key) -> bool
