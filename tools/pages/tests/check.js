@@ -4,9 +4,9 @@
 //
 // Of each entry: its act and its reply follow by the rules from the entries before; it has a sentence, which names as many holders as the
 // reply counts; and docs/JOURNAL.md has a row for its act and its reply. Of each run: the unsound keys are those that the report names;
-// the states by step and from the start are the same; each stale read has a story with its load, put, commit and hit; the stale hits are
-// those that tools/stale names; beside itself a run comes to the same; and nothing that is drawn has a hole in it, nor what differs from
-// the run before. With --kinds, how many entries of each kind there were.
+// the states by step and from the start are the same; each stale read has a story with its load, put, commit and hit; as many
+// hits and lists are stale as tools/stale names, and keys are unsound since the ticks that it names; beside itself a run comes to the
+// same; and nothing that is drawn has a hole in it, nor what differs from the run before. With --kinds, how many entries of each kind there were.
 'use strict';
 const fs = require('fs'), path = require('path'), vm = require('vm'), { spawnSync } = require('child_process');
 
@@ -110,9 +110,12 @@ function checkRun(file, run, end) {
   checkText(file, 'the panel', page.drawPanel(run, Math.floor(last / 2), null));
 }
 
-function checkStale(file, hits, stale) {
+function checkStale(file, hits, stale, lists, old, unsound) {
   const said = spawnSync(path.join(top, 'tools/stale'), [file + '.hib', file + '.report'], { encoding: 'utf8' }).stdout;
-  if (!said.endsWith(`stale hits: ${stale} of ${hits}\n`)) fail(file, `${stale} stale of ${hits} hits, and tools/stale says ${said.slice(-60)}`);
+  if (!said.endsWith(`stale hits: ${stale} of ${hits}\nstale lists: ${old} of ${lists}\n`)) {
+    fail(file, `${stale} stale of ${hits} hits, ${old} of ${lists} lists, and tools/stale says ${said.slice(-60).replace(/\n/g, ', ')}`);
+  }
+  for (const since of unsound) if (!said.includes(`\n${since}: `) && !said.startsWith(`${since}: `)) fail(file, `${since}, and tools/stale says otherwise`);
 }
 
 function checkReport(file) {
@@ -127,10 +130,12 @@ function checkReport(file) {
   if (run.findings.length !== run.stale.size) fail(file, `${run.stale.size} stale reads, ${run.findings.length} stories`);
   checkRun(file, run, end);
   const hits = run.reads.filter(({ key }) => key), stale = hits.filter(({ isStale }) => isStale).length;
-  if (isReport) checkStale(file, hits.length, stale);
+  const lists = run.reads.filter(({ query }) => query), old = lists.filter(({ isStale }) => isStale).length;
+  const since = [...end.unsound].map(([key, { at }]) => `unsound ${key} since ${journal.entries[at].tick}`);
+  if (isReport) checkStale(file, hits.length, stale, lists.length, old, since);
   totals.reports++;
   totals.stale += stale;
-  totals.lists += run.reads.filter(({ query, isStale }) => query && isStale).length;
+  totals.lists += old;
   totals.stories += run.findings.length;
   totals.unsound += run.unsound.length;
 }
