@@ -2,8 +2,8 @@
 use crate::row::Row;
 use crate::words::words_of;
 use crate::world::{keeper_of, sink_with, source_with};
-use hib_outside::{Keeper, Listener, MemKeeper, MemSink, MemSource, OpenGate};
 use hib_call::{Status, status_line};
+use hib_outside::{Keeper, Listener, MemKeeper, MemSink, MemSource, OpenGate};
 use hib_top::{Ended, top};
 use std::alloc::{AllocError, Global};
 use std::sync::Wait;

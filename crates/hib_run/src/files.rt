@@ -1,7 +1,7 @@
 // Scripts over SQLite. `./hib` puts a few lines in the place of this file for a trial, which then needs no SQLite.
+use hib_call::Status;
 use hib_keeper_sqlite::{SqliteKeeper, in_memory, open_file};
 use hib_shell::call;
-use hib_call::Status;
 use hib_words::Command;
 use sqlite::{File, FileStore};
 use std::sync::Wait;

@@ -5,9 +5,9 @@ mod files;
 
 use files::serve_file;
 use hib_base::Seq;
+use hib_call::Status;
 use hib_outside::MemKeeper;
 use hib_shell::{call, print_topic, told, words_given};
-use hib_call::Status;
 use hib_words::{Command, topic_asked};
 use std::io;
 use std::process::ExitCode;
