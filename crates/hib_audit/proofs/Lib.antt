@@ -1,9 +1,5 @@
 pub mod Lists
-pub mod Ready
 pub mod Replies
-pub mod Served
-pub mod Outside
-pub mod Begun
 pub mod Members
 pub mod Kept
 pub mod Ticking

@@ -1,18 +1,21 @@
 -- An entry is judged, and taken.
 use Rattle.std.specs.Prelude.{unwrap_or, option_map}
-use Rattle.std.proofs.Common.{◌≡◌, ℕ, ◌<◌, ◌==◌, Bool, true, false, cond, List, ◌∷◌, length, IsSome, Some, None, Option, refl, sym, ap, ◌∙◌, subst, inl, inr}
+use Rattle.std.proofs.Common.{◌≡◌, ℕ, ◌<◌, ◌==◌, Bool, true, false, cond, List, ◌∷◌, length, IsSome, Some, None, Option, refl, sym, ap, ◌∙◌, subst, arith, inl, inr}
 use Rattle.std.proofs.lemmas.Bool.{true≢false}
 use Rattle.hib_base.specs.Tables.{Tables}
+use Rattle.hib_base.proofs.Tables.{Tested, tested}
 use Rattle.hib_journal.specs.Types.{Key, Script, Part, Act, Reply, Entry}
 use Rattle.hib_journal.specs.Sessions.{Journal, own, changes, is_open, killed_by}
 use Rattle.hib_journal.specs.Next.{is_cached}
 use Rattle.hib_journal.specs.Legal.{IsReply, IsStep, due_by, may_come, part_of, is_outside, reply_of, fault_of}
 use Rattle.hib_journal.specs.Lists.{entry_at, IsLate}
 use Rattle.hib_journal.specs.Runs.{is_fault}
+use Rattle.hib_outside.specs.Causes.{Rose}
 use Rattle.hib_session.specs.Session.{IsTaken, own_reply}
 use Rattle.hib_engines.specs.Region.{is_regional, acts_on}
 use Rattle.hib_session.specs.Sessions.{AreSessions}
-use Rattle.hib_audit.specs.Standing.{EnginesState, AreStanding, AreWritten, noted, IsReady, IsAnswered, IsJudged, IsComing, IsPartOf, IsSessionOf, AuditorState, Knows}
+use Rattle.hib_engines.specs.Engines.{EnginesState, AreStanding, IsReady, IsAnswered}
+use Rattle.hib_audit.specs.Standing.{AreWritten, noted, IsJudged, IsComing, IsPartOf, IsSessionOf, AuditorState, Knows}
 use Rattle.hib_engines.proofs.Allowed.{is_due}
 use Rattle.hib_session.proofs.OwnReplies.{own_is}
 use Rattle.hib_session.proofs.Killed.{none_killed}
@@ -26,8 +29,8 @@ use Rattle.hib_audit.proofs.Ticking.{ticks_noted, roomy_noted}
 
 -- ---- the reply
 
-pub judged_true : (script : Script) (start : Tables) (h : Journal) (by : Option ℕ) (now : ℕ) (a : Act) (r q : Reply) (y : EnginesState) → IsAnswered script start h by now a r y → r ≡ q → IsAnswered script start h by now a q y
-judged_true script start h by now a r q y w e = subst (λ z. IsAnswered script start h by now a z y) e w
+pub judged_true : (script : Script) (start : Tables) (h : Journal) (by : Option ℕ) (now : ℕ) (a : Act) (r q : Reply) (y : EnginesState) → IsAnswered script (Some start) h by now a r y → r ≡ q → IsAnswered script (Some start) h by now a q y
+judged_true script start h by now a r q y w e = subst (λ z. IsAnswered script (Some start) h by now a z y) e w
 
 -- the engine's reply is the one that is due, unless it is a fault
 due_reply : (script : Script) (start : Tables) (h : Journal) (by : Option ℕ) (now : ℕ) (a : Act) (r : Reply) → IsReply script (Some start) h (entry_at now by a r) → is_fault r ≡ false →
@@ -41,14 +44,22 @@ pub judged_false : (script : Script) (start : Tables) (h : Journal) (by : Option
 judged_false script start h by now a r q w f d n (inl e) = d (due_reply script start h by now a r w f ∙ sym e)
 judged_false script start h by now a r q w f d n (inr e) = n e
 
-judged : (b : Bool) (script : Script) (start : Tables) (h : Journal) (by : Option ℕ) (now : ℕ) (a : Act) (q : Reply) (y : EnginesState) → (b ≡ true → IsAnswered script start h by now a q y) →
+judged : (b : Bool) (script : Script) (start : Tables) (h : Journal) (by : Option ℕ) (now : ℕ) (a : Act) (q : Reply) (y : EnginesState) → (b ≡ true → IsAnswered script (Some start) h by now a q y) →
     (b ≡ false → y.store.faults ≡ 0 → IsReply script (Some start) h (entry_at now by a q) → ⊥) → IsJudged b script start h by now a q y
 judged true script start h by now a q y f g = f refl
 judged false script start h by now a q y f g = g refl
 
+-- a reply is no fault if no count of faults rose
+pub calm_if : (r : Reply) (o w : ℕ) → w ≡ 0 → (is_fault r ≡ true → Rose o w) → is_fault r ≡ false
+calm_if r o w z f = by_test (tested (is_fault r))
+  where
+    by_test : Tested (is_fault r) → is_fault r ≡ false
+    by_test (inl p) = absurd (omega (arith, f p, z))
+    by_test (inr p) = p
+
 -- by a test of the two replies
 pub reply_judged : (b : Bool) (script : Script) (start : Tables) (h : Journal) (by : Option ℕ) (now : ℕ) (a : Act) (r q : Reply) (y : EnginesState) → (b ≡ true → r ≡ q) → (r ≡ q → b ≡ true) →
-    IsAnswered script start h by now a r y → (y.store.faults ≡ 0 → is_fault r ≡ false) → (fault_of (changes (unwrap_or by 0) h) a ≡ Some q → ⊥) → IsJudged b script start h by now a q y
+    IsAnswered script (Some start) h by now a r y → (y.store.faults ≡ 0 → is_fault r ≡ false) → (fault_of (changes (unwrap_or by 0) h) a ≡ Some q → ⊥) → IsJudged b script start h by now a q y
 reply_judged b script start h by now a r q y f g v s n = judged b script start h by now a q y (λ e. judged_true script start h by now a r q y v (f e))
     (λ e z. judged_false script start h by now a r q v.reply (s z) (λ d. true≢false (sym (g d) ∙ e)) n)
 
@@ -67,7 +78,7 @@ pub late_of : (script : Script) (h : Journal) (e : Entry) → IsComing script h 
 late_of script h e c = subst (λ p. IsLate p e.tick h) (sym c.part) c.tick.in_part
 
 pub ready_of : (script : Script) (start : Tables) (h : Journal) (s : ℕ) (e : Entry) (x : AuditorState) → Knows script start h x → IsComing script h e → e.session ≡ Some s →
-    IsReady script start h s e.tick e.act x.engines
+    IsReady script (Some start) h s e.tick e.act x.engines
 ready_of script start h s e x k c p = record {
   standing = k.engines;
   live = (due_lives script h s e.act e.act (due_at script h e s c p)).0;
@@ -86,7 +97,7 @@ own_or : (script : Script) (start : Tables) (h : Journal) (s now : ℕ) (a : Act
 own_or script start h s now a r q (inl e) p = e ∙ sym (own_is script h s now a q p start)
 own_or script start h s now a r q (inr e) p = absurd (own_unfailing script (own s h) (changes s h) a q r p e)
 
-pub taken_of : (script : Script) (start : Tables) (h : Journal) (s : ℕ) (e : Entry) (y : EnginesState) → IsComing script h e → e.session ≡ Some s → IsAnswered script start h (Some s) e.tick e.act e.reply y →
+pub taken_of : (script : Script) (start : Tables) (h : Journal) (s : ℕ) (e : Entry) (y : EnginesState) → IsComing script h e → e.session ≡ Some s → IsAnswered script (Some start) h (Some s) e.tick e.act e.reply y →
     IsTaken script s (own s h) e
 taken_of script start h s e y c p v = record {
   due = (due_lives script h s e.act e.act (due_at script h e s c p)).1;
@@ -137,11 +148,11 @@ step_of script start h e c r = record {
 }
 
 knows_more : (script : Script) (start : Tables) (h : Journal) (by : Option ℕ) (e : Entry) (x y : AuditorState) → Knows script start h x → IsComing script h e → e.session ≡ by →
-    IsAnswered script start h by e.tick e.act e.reply y.engines → AreSessions script (e ∷ h) y.sessions → AreWritten script (e ∷ h) y.written → y.ticks ≡ noted e x.ticks → IsPartOf script e.part → IsSessionOf script by →
+    IsAnswered script (Some start) h by e.tick e.act e.reply y.engines → AreSessions script (e ∷ h) y.sessions → AreWritten script (e ∷ h) y.written → y.ticks ≡ noted e x.ticks → IsPartOf script e.part → IsSessionOf script by →
     Knows script start (e ∷ h) y
 knows_more script start h by e x y k c p v ss ws q part session = record {
   legal = (k.legal, step_of script start h e c (subst (λ (d : Entry). IsReply script (Some start) h d) same v.reply));
-  engines = subst (λ (d : Entry). AreStanding script start (d ∷ h) y.engines) same v.standing;
+  engines = subst (λ (d : Entry). AreStanding script (Some start) (d ∷ h) y.engines) same v.standing;
   sessions = ss;
   written = ws;
   ticks = subst (λ t. Rattle.hib_audit.specs.Standing.AreTicks (e ∷ h) t) (sym q) (ticks_noted script h e x.ticks k.ticks k.roomy part (subst (λ b. IsSessionOf script b) (sym p) session));
@@ -153,14 +164,14 @@ knows_more script start h by e x y k c p v ss ws q part session = record {
     same = entry_is e by p c.part
 
 pub knows_session : (script : Script) (start : Tables) (h : Journal) (s : ℕ) (e : Entry) (x y : AuditorState) → Knows script start h x → IsComing script h e → e.session ≡ Some s →
-    IsAnswered script start h (Some s) e.tick e.act e.reply y.engines → AreSessions script (e ∷ h) y.sessions → AreWritten script (e ∷ h) y.written → y.ticks ≡ noted e x.ticks → Knows script start (e ∷ h) y
+    IsAnswered script (Some start) h (Some s) e.tick e.act e.reply y.engines → AreSessions script (e ∷ h) y.sessions → AreWritten script (e ∷ h) y.written → y.ticks ≡ noted e x.ticks → Knows script start (e ∷ h) y
 knows_session script start h s e x y k c p v ss ws q = knows_more script start h (Some s) e x y k c p v ss ws q
     (subst (λ (z : Part). IsPartOf script z) (subst (λ by. part_of e.act (unwrap_or by 0) ≡ e.part) p c.part) (part_within script e.act s within (λ r. entity_within script e.act r ready.due.suits))) within
   where
     within : s < length script.sessions
     within = session_within script h s e c p
 
-    ready : IsReady script start h s e.tick e.act x.engines
+    ready : IsReady script (Some start) h s e.tick e.act x.engines
     ready = ready_of script start h s e x k c p
 
 -- of an entry whose reply may not be
@@ -171,34 +182,30 @@ not_taken script start h by e y c p f z r = f z (subst (λ (d : Entry). IsReply 
 -- ---- from outside
 
 knows_outside : (script : Script) (start : Tables) (h : Journal) (e : Entry) (x y : AuditorState) → Knows script start h x → IsComing script h e → e.session ≡ None →
-    IsAnswered script start h None e.tick e.act e.reply y.engines → AreKilled (λ s. killed_by s e.act (is_open s h)) x.sessions y.sessions → y.written ≡ x.written → y.ticks ≡ noted e x.ticks → IsPartOf script (part_of e.act 0) →
+    IsAnswered script (Some start) h None e.tick e.act e.reply y.engines → AreKilled (λ s. killed_by s e.act (is_open s h)) x.sessions y.sessions → y.written ≡ x.written → y.ticks ≡ noted e x.ticks → IsPartOf script (part_of e.act 0) →
     Knows script start (e ∷ h) y
 knows_outside script start h e x y k c p v ss ws q part = knows_more script start h None e x y k c p v
     (subst (λ (d : Entry). AreSessions script (d ∷ h) y.sessions) (entry_is e None p c.part) (sessions_outside script h e.tick e.act e.reply x.sessions y.sessions k.sessions ss))
     (subst (λ xs. AreWritten script (e ∷ h) xs) (sym ws) (written_outside script h e x.written p k.written)) q
     (subst (λ (z : Part). IsPartOf script z) (subst (λ by. part_of e.act (unwrap_or by 0) ≡ e.part) p c.part) part) tt
 
-done_answered : (script : Script) (start : Tables) (h : Journal) (now : ℕ) (a : Act) (y : EnginesState) → ((r : Tables) → Reply.Done ≡ reply_of script r h 0 now a) →
-    AreStanding script start (entry_at now None a Reply.Done ∷ h) y → IsAnswered script start h None now a Reply.Done y
-done_answered script start h now a y f w = record { reply = inl (f start); standing = w }
-
 pub knows_kill : (script : Script) (start : Tables) (h : Journal) (n : ℕ) (e : Entry) (x y : AuditorState) → Knows script start h x → IsComing script h e → e.session ≡ None → e.act ≡ Act.Kill n → e.reply ≡ Reply.Done →
-    (AreStanding script start h x.engines → IsLate Part.Registry e.tick h → AreStanding script start (entry_at e.tick None (Act.Kill n) Reply.Done ∷ h) y.engines) →
+    (AreStanding script (Some start) h x.engines → IsLate Part.Registry e.tick h → IsAnswered script (Some start) h None e.tick (Act.Kill n) Reply.Done y.engines) →
     AreKilled (λ s. n == s) x.sessions y.sessions → y.written ≡ x.written → y.ticks ≡ noted e x.ticks → Knows script start (e ∷ h) y
 knows_kill script start h n e x y k c p a r f ss ws q = knows_outside script start h e x y k c p
-    (subst (λ (z : Reply). IsAnswered script start h None e.tick e.act z y.engines) (sym r)
-    (subst (λ (o : Act). IsAnswered script start h None e.tick o Reply.Done y.engines) (sym a) (done_answered script start h e.tick (Act.Kill n) y.engines (λ t. refl) (f k.engines late))))
+    (subst (λ (z : Reply). IsAnswered script (Some start) h None e.tick e.act z y.engines) (sym r)
+    (subst (λ (o : Act). IsAnswered script (Some start) h None e.tick o Reply.Done y.engines) (sym a) (f k.engines late)))
     (subst (λ (o : Act). AreKilled (λ s. killed_by s o (is_open s h)) x.sessions y.sessions) (sym a) ss) ws q (subst (λ (o : Act). IsPartOf script (part_of o 0)) (sym a) tt)
   where
     late : IsLate Part.Registry e.tick h
     late = subst (λ (o : Act). IsLate (part_of o (unwrap_or e.session 0)) e.tick h) a (late_of script h e c)
 
 pub knows_restart : (script : Script) (start : Tables) (h : Journal) (e : Entry) (x y : AuditorState) → Knows script start h x → IsComing script h e → e.session ≡ None → e.act ≡ Act.Restart → e.reply ≡ Reply.Done →
-    (AreStanding script start h x.engines → IsLate Part.Registry e.tick h → AreStanding script start (entry_at e.tick None Act.Restart Reply.Done ∷ h) y.engines) →
+    (AreStanding script (Some start) h x.engines → IsLate Part.Registry e.tick h → IsAnswered script (Some start) h None e.tick Act.Restart Reply.Done y.engines) →
     AreKilled (λ s. is_open s h) x.sessions y.sessions → y.written ≡ x.written → y.ticks ≡ noted e x.ticks → Knows script start (e ∷ h) y
 knows_restart script start h e x y k c p a r f ss ws q = knows_outside script start h e x y k c p
-    (subst (λ (z : Reply). IsAnswered script start h None e.tick e.act z y.engines) (sym r)
-    (subst (λ (o : Act). IsAnswered script start h None e.tick o Reply.Done y.engines) (sym a) (done_answered script start h e.tick Act.Restart y.engines (λ t. refl) (f k.engines late))))
+    (subst (λ (z : Reply). IsAnswered script (Some start) h None e.tick e.act z y.engines) (sym r)
+    (subst (λ (o : Act). IsAnswered script (Some start) h None e.tick o Reply.Done y.engines) (sym a) (f k.engines late)))
     (subst (λ (o : Act). AreKilled (λ s. killed_by s o (is_open s h)) x.sessions y.sessions) (sym a) ss) ws q (subst (λ (o : Act). IsPartOf script (part_of o 0)) (sym a) tt)
   where
     late : IsLate Part.Registry e.tick h
@@ -218,7 +225,7 @@ pub evict_late : (script : Script) (h : Journal) (k : Key) (e : Entry) → IsCom
 evict_late script h k e c a = subst (λ (o : Act). IsLate (part_of o (unwrap_or e.session 0)) e.tick h) a (late_of script h e c)
 
 pub knows_evict : (script : Script) (start : Tables) (h : Journal) (k : Key) (e : Entry) (x y : AuditorState) → Knows script start h x → IsComing script h e → e.session ≡ None → e.act ≡ Act.Evict k →
-    IsAnswered script start h None e.tick e.act e.reply y.engines → y.sessions ≡ x.sessions → y.written ≡ x.written → y.ticks ≡ noted e x.ticks → Knows script start (e ∷ h) y
+    IsAnswered script (Some start) h None e.tick e.act e.reply y.engines → y.sessions ≡ x.sessions → y.written ≡ x.written → y.ticks ≡ noted e x.ticks → Knows script start (e ∷ h) y
 knows_evict script start h k e x y w c p a v ss ws q = knows_outside script start h e x y w c p v
     (subst (λ xs. AreKilled (λ s. killed_by s e.act (is_open s h)) x.sessions xs) (sym ss) (subst (λ (o : Act). AreKilled (λ s. killed_by s o (is_open s h)) x.sessions x.sessions) (sym a) (none_killed x.sessions))) ws q
     (subst (λ (o : Act). IsPartOf script (part_of o 0)) (sym a) (entity_within script (Act.Evict k) refl (evict_cached script h k e.act a c.comes)))

@@ -1,61 +1,20 @@
 -- What the audit keeps while it goes over a journal: its engines and sessions stand for the entries so far.
-use Rattle.std.specs.Prelude.{◌≡◌, ℕ, ◌<◌, ◌^◌, ◌&&◌, nat_le, nat_lt, slice_set, Bool, false, true, not, List, ◌∷◌, length, slice_get, slice_index, replicate, Some, None, Option, unwrap_or}
+use Rattle.std.specs.Prelude.{◌≡◌, ℕ, ◌<◌, ◌&&◌, nat_le, nat_lt, slice_set, Bool, false, true, not, List, ◌∷◌, length, slice_get, slice_index, replicate, Some, None, Option, unwrap_or}
 use Rattle.std.specs.List.{list_any}
 use Rattle.hib_base.specs.Keys.{same_key}
 use Rattle.hib_base.specs.Tables.{Tables}
 use Rattle.hib_journal.specs.Types.{Key, Change, Script, Part, Act, Reply, Entry}
-use Rattle.hib_journal.specs.Sessions.{Journal, own, was_killed, changes, same_part, same_session, last_tick, IsTimely, is_empty}
+use Rattle.hib_journal.specs.Sessions.{Journal, own, changes, same_part, same_session, last_tick, IsTimely, is_empty}
 use Rattle.hib_journal.specs.Next.{is_in}
 use Rattle.hib_journal.specs.Legal.{IsLegal, IsReply, is_outside, due, may_come, part_of}
-use Rattle.hib_journal.specs.Lists.{entry_at, IsLate}
+use Rattle.hib_journal.specs.Lists.{entry_at}
 use Rattle.hib_journal.specs.Due.{IsAllowed}
-use Rattle.hib_store.specs.Stores.{StoreState}
-use Rattle.hib_query_cache.specs.Ranked.{Ranked}
 use Rattle.hib_session.specs.declared.session.Session.{Session}
-use Rattle.hib_engines.specs.declared.region.Region.{Region}
-use Rattle.hib_engines.specs.Registry.{IsRegistry}
-use Rattle.hib_engines.specs.Region.{IsPlaced}
 use Rattle.hib_session.specs.Sessions.{AreSessions}
-use Rattle.hib_engines.specs.Store.{IsStored}
-use Rattle.hib_engines.specs.Regions.{region_of}
-use Rattle.hib_engines.specs.Bridged.{IsBridged}
-use Rattle.hib_engines.specs.Due.{HasQueries, IsDue}
-use Rattle.hib_engines.specs.Stamps.{AreStamps}
-use Rattle.hib_engines.specs.Results.{AreResults}
+use Rattle.hib_engines.specs.Built.{IsBuilt}
+use Rattle.hib_engines.specs.Engines.{EnginesState, AreStanding, IsAnswered}
 use Rattle.hib_audit.specs.declared.points.AuditKind.{AuditKind}
 use Rattle.hib_audit.specs.Breaks.{Breaks}
-
--- ---- the engines
-
-pub record EnginesState : Type 0 where
-  pub store : StoreState
-  pub registry : List (ℕ × ℕ)
-  pub stamps : List (Option ℕ)
-  pub regions : List Region
-  pub results : Ranked
-
-pub record AreStanding (script : Script) (start : Tables) (h : Journal) (x : EnginesState) : Type 0 where
-  pub store : IsStored (Some start) h x.store
-  pub bridged : IsBridged h
-  pub registry : IsRegistry x.registry h
-  pub stamps : AreStamps script h x.stamps
-  pub regions : (n : ℕ) → IsPlaced script n h (region_of x.regions n)
-  pub entities : length x.regions ≡ length script.mapping
-  pub results : AreResults script h x.results
-
--- ---- an act that is due
-
--- over a journal that the engines stand for, in which s lives, the act is due at a tick that is late enough
-pub record IsReady (script : Script) (start : Tables) (h : Journal) (s now : ℕ) (a : Act) (x : EnginesState) : Type 0 where
-  pub standing : AreStanding script start h x
-  pub live : was_killed s h ≡ false
-  pub late : IsLate (part_of a s) now h
-  pub due : IsDue script (own s h) a
-
--- an act was answered: with a reply that may be, and the engines stand for the journal with its entry
-pub record IsAnswered (script : Script) (start : Tables) (h : Journal) (by : Option ℕ) (now : ℕ) (a : Act) (r : Reply) (y : EnginesState) : Type 0 where
-  pub reply : IsReply script (Some start) h (entry_at now by a r)
-  pub standing : AreStanding script start (entry_at now by a r ∷ h) y
 
 -- ---- the ticks
 
@@ -115,15 +74,6 @@ IsPartOf script _ = Unit {0}
 abbrev pub IsSessionOf : Script → Option ℕ → Type 0
 IsSessionOf script None = Unit {0}
 IsSessionOf script (Some n) = n < length script.sessions
-
--- ---- all of it
-
--- what the audit needs of its script, which every valid script keeps
-pub record IsBuilt (script : Script) : Type 0 where
-  pub entities : length script.mapping < 2 ^ 16
-  pub sessions : length script.sessions < 2 ^ 32
-  pub results : 0 < script.results
-  pub queries : HasQueries script
 
 -- ---- what a session has written
 
@@ -192,7 +142,7 @@ pub record IsComing (script : Script) (h : Journal) (e : Entry) : Type 0 where
 
 -- the reply to an act is one that may be, and the engines stand for the journal with its entry; or it isn't, unless the keeper failed
 abbrev pub IsJudged : Bool → Script → Tables → Journal → Option ℕ → ℕ → Act → Reply → EnginesState → Type 0
-IsJudged true script start h by now a r y = IsAnswered script start h by now a r y
+IsJudged true script start h by now a r y = IsAnswered script (Some start) h by now a r y
 IsJudged false script start h by now a r y = y.store.faults ≡ 0 → ¬ IsReply script (Some start) h (entry_at now by a r)
 
 -- ---- all that is kept
@@ -206,7 +156,7 @@ pub record AuditorState : Type 0 where
 -- the entries so far are legal, and all that is kept stands for them
 pub record Knows (script : Script) (start : Tables) (h : Journal) (x : AuditorState) : Type 0 where
   pub legal : IsLegal script (Some start) h
-  pub engines : AreStanding script start h x.engines
+  pub engines : AreStanding script (Some start) h x.engines
   pub sessions : AreSessions script h x.sessions
   pub written : AreWritten script h x.written
   pub ticks : AreTicks h x.ticks

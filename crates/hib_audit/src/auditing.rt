@@ -4,7 +4,7 @@ ghost use Rattle.hib_base.specs.Valid.{is_valid};
 ghost use Rattle.hib_journal.specs.Kept.{past};
 ghost use Rattle.hib_journal.specs.Legal.{IsLegal};
 ghost use Rattle.hib_audit.specs.Breaks.{start_rows};
-ghost use Rattle.hib_audit.specs.Standing.{IsBuilt, Knows};
+ghost use Rattle.hib_audit.specs.Standing.{Knows};
 ghost use Rattle.hib_audit.specs.Audit.{IsFound, IsLawful, IsVerdict};
 
 use crate::auditor::Auditor;
@@ -13,14 +13,6 @@ use hib_base::{Entry, Script};
 use hib_journal::Journal;
 use hib_law::{law, lists_are_given};
 use std::alloc::{AllocError, Global};
-
-/// A valid script is one that an audit takes. It does nothing.
-fn ready(script: &Script)
-    requires { is_valid script.now ≡ true }
-    ensures { IsBuilt script.now }
-{
-    let _ = script;
-}
 
 /// Takes the entries one after another, up to the first that isn't legal.
 fn first_bad(
@@ -59,7 +51,6 @@ pub fn audit(alloc: Global, script: &Script, journal: &Journal) -> Result<Audit,
 {
     law();
     lists_are_given();
-    ready(script);
     let mut auditor = Auditor::open(alloc, script)?;
     let audit = first_bad(alloc, script, &mut auditor, journal.as_slice());
     auditor.close();

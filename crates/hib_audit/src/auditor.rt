@@ -1,26 +1,29 @@
 // What is kept of the entries so far, and one entry more.
-ghost use Rattle.std.specs.Prelude.{◌≡◌, ◌↔◌, ◌≤◌, ◌<◌, ◌^◌, [], IsTrue, length, reverse, IfOk, Some, None};
+ghost use Rattle.std.specs.Prelude.{◌≡◌, ◌↔◌, ◌≤◌, ◌<◌, ◌^◌, [], IsTrue, length, reverse, true, IfOk, Some, None};
 ghost use Rattle.hib_base.specs.declared.entries.Act.{Act};
 ghost use Rattle.hib_base.specs.declared.replies.Reply.{Reply};
 ghost use Rattle.hib_journal.specs.Sessions.{own, changes};
+ghost use Rattle.hib_base.specs.Valid.{is_valid};
 ghost use Rattle.hib_session.specs.Session.{Follows, number_of};
+ghost use Rattle.hib_engines.specs.Engines.{IsReady};
 ghost use Rattle.hib_audit.specs.Breaks.{start_rows};
-ghost use Rattle.hib_audit.specs.Standing.{HasWritten, IsReady, IsComing, IsJudged, IsBuilt, Knows, IsTakenOr, IsPassed};
+ghost use Rattle.hib_audit.specs.Standing.{HasWritten, IsComing, IsJudged, Knows, IsTakenOr, IsPassed};
 
-use crate::engines::Engines;
+use crate::keeper::Unfailing;
 use crate::points::{AuditKind, difference, due_act};
 use crate::same::is_same_reply;
 use crate::sessions::{advance, note_written, open_written};
 use crate::ticks::Ticks;
 use crate::written::Written;
 use hib_base::{Act, Entry, Key, Reply, Script, SessionNo};
+use hib_engines::Engines;
 use hib_session::{Session, kill_all, kill_at, open_all};
 use std::alloc::{AllocError, Global};
 use std::marker::Model;
 
 /// What is kept of the entries so far, all of which are legal.
 pub struct Auditor {
-    engines: Engines,
+    engines: Engines<Unfailing>,
     sessions: Vec<Session>,
     written: Vec<Written>,
     ticks: Ticks,
@@ -44,7 +47,7 @@ impl Model for Auditor {
 fn answers(
     alloc: Global,
     script: &Script,
-    engines: &mut Engines,
+    engines: &mut Engines<Unfailing>,
     session: &Session,
     written: &Written,
     before: &[Entry],
@@ -52,7 +55,7 @@ fn answers(
 ) -> Result<bool, AllocError>
     requires late { entry.now.tick ≤ 2 ^ 62 }
     requires mapping { length script.now.mapping < 2 ^ 16 }
-    requires ready { IsReady script.now (start_rows script.now) (reverse before.now)
+    requires ready { IsReady script.now (Some (start_rows script.now)) (reverse before.now)
         (number_of session.now) entry.now.tick entry.now.act engines.old }
     requires follows { Follows script.now session.now
         (own (number_of session.now) (reverse before.now)) }
@@ -74,13 +77,16 @@ fn answers(
 impl Auditor {
     /// No entry came yet.
     pub fn open(alloc: Global, script: &Script) -> Result<Auditor, AllocError>
-        requires { IsBuilt script.now }
+        requires { is_valid script.now ≡ true }
         ensures { IfOk result (λ a. Knows script.now (start_rows script.now) [] a) }
     {
         let sessions = open_all(alloc, script)?;
         let written = open_written(alloc, script)?;
         let ticks = Ticks::open(alloc, script)?;
-        let engines = Engines::open(alloc, script)?;
+        let Ok(engines) = Engines::open(alloc, script, Unfailing::new(alloc)) else {
+            // The keeper never fails, so that memory ran out.
+            return Err(AllocError);
+        };
         Ok(Auditor {
             engines,
             sessions,
@@ -99,7 +105,7 @@ impl Auditor {
             written: _,
             ticks: _,
         } = self;
-        engines.close();
+        let _keeper = engines.close();
     }
 
     /// Takes the entry of a session, whose act is due, if its reply may be.
@@ -194,9 +200,7 @@ impl Auditor {
     {
         let _ = script;
         let _ = before;
-        let reply = self
-            .engines
-            .evict(alloc, key.entity, &entry.act, entry.tick)?;
+        let reply = self.engines.evict(alloc, key, entry.tick)?;
         if !is_same_reply(&reply, &entry.reply) {
             return Ok(false);
         }

@@ -9,7 +9,6 @@
 mod actors;
 mod auditing;
 mod auditor;
-mod engines;
 mod keeper;
 mod points;
 mod same;

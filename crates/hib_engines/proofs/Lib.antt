@@ -15,3 +15,13 @@ pub mod Bridge
 pub mod Allowed
 pub mod RegionList
 pub mod OwnActs
+pub mod Rose
+pub mod Ready
+pub mod Replies
+pub mod Begun
+pub mod Answered
+pub mod Outside
+pub mod Brought
+pub mod Still
+-- What may go from thread to thread.
+pub mod Crossing

@@ -10,3 +10,6 @@ pub mod Stays
 pub mod Regions
 pub mod Due
 pub mod Bridged
+pub mod Origin
+pub mod Built
+pub mod Engines

@@ -1,9 +1,11 @@
-use Rattle.std.proofs.Common.{None, refl, sym, subst, ◌∙◌}
+use Rattle.std.proofs.Common.{None, Some, refl, sym, subst, ◌∙◌}
 use Rattle.std.proofs.lemmas.Bool.{true≢false}
 use Rattle.std.specs.Prelude.{reverse}
+use Rattle.hib_journal.specs.Types.{Act}
 use Rattle.hib_journal.specs.Sessions.{changes}
 use Rattle.hib_audit.specs.Breaks.{start_rows}
-use Rattle.hib_audit.specs.Standing.{IsAnswered, AuditorState, Knows}
+use Rattle.hib_engines.specs.Engines.{IsAnswered}
+use Rattle.hib_audit.specs.Standing.{AuditorState, Knows}
 use Rattle.hib_audit.proofs.Taking.{judged_true, judged_false, not_taken, evict_cached, evict_late, evict_sure, knows_evict}
 use Rattle.hib_audit.proofs.auditor.Auditor.take_evict.Goals as goal
 
@@ -15,8 +17,9 @@ returns c =
     let x : AuditorState = record { engines = c.self.inside.engines; sessions = c.self.inside.sessions.items; written = c.self.inside.written.items; ticks = c.self.inside.ticks } in
     let k : Knows script (start_rows script) h x = subst (λ (v : AuditorState). Knows script (start_rows script) h v) (sym c.self.view_is) c.requires.known in
     let y : AuditorState = record { engines = c.evict.new.self; sessions = c.self.inside.sessions.items; written = c.self.inside.written.items; ticks = c.note.new.self } in
-    let v : IsAnswered script (start_rows script) h None e.tick e.act c.in_ok-reply.reply c.evict.new.self =
-    c.in_ok-reply.ensures.served script (start_rows script) h c.args.key k.engines c.requires.act refl (evict_cached script h c.args.key e.act c.requires.act c.requires.coming.comes) (evict_late script h c.args.key e c.requires.coming c.requires.act) in
+    let v : IsAnswered script (Some (start_rows script)) h None e.tick e.act c.in_ok-reply.reply c.evict.new.self =
+    subst (λ (a : Act). IsAnswered script (Some (start_rows script)) h None e.tick a c.in_ok-reply.reply c.evict.new.self) (sym c.requires.act)
+    (c.in_ok-reply.ensures.answered script (Some (start_rows script)) h k.engines (evict_cached script h c.args.key e.act c.requires.act c.requires.coming.comes) (evict_late script h c.args.key e c.requires.coming c.requires.act)) in
     knows_evict script (start_rows script) h c.args.key e x y k c.requires.coming c.requires.by c.requires.act
     (judged_true script (start_rows script) h None e.tick e.act c.in_ok-reply.reply e.reply c.evict.new.self v (c.is_same_reply.ensures.0 c.if-not-is_same_reply.false)) refl refl c.note.ensures
 
@@ -27,7 +30,8 @@ returns-then-not-is_same_reply c = λ z.
     let e = c.args.entry.now in
     let x : AuditorState = record { engines = c.self.inside.engines; sessions = c.self.inside.sessions.items; written = c.self.inside.written.items; ticks = c.self.inside.ticks } in
     let k : Knows script (start_rows script) h x = subst (λ (v : AuditorState). Knows script (start_rows script) h v) (sym c.self.view_is) c.requires.known in
-    let v : IsAnswered script (start_rows script) h None e.tick e.act c.in_ok-reply.reply c.evict.new.self =
-    c.in_ok-reply.ensures.served script (start_rows script) h c.args.key k.engines c.requires.act refl (evict_cached script h c.args.key e.act c.requires.act c.requires.coming.comes) (evict_late script h c.args.key e c.requires.coming c.requires.act) in
+    let v : IsAnswered script (Some (start_rows script)) h None e.tick e.act c.in_ok-reply.reply c.evict.new.self =
+    subst (λ (a : Act). IsAnswered script (Some (start_rows script)) h None e.tick a c.in_ok-reply.reply c.evict.new.self) (sym c.requires.act)
+    (c.in_ok-reply.ensures.answered script (Some (start_rows script)) h k.engines (evict_cached script h c.args.key e.act c.requires.act c.requires.coming.comes) (evict_late script h c.args.key e c.requires.coming c.requires.act)) in
     not_taken script (start_rows script) h None e c.evict.new.self c.requires.coming c.requires.by (λ _. judged_false script (start_rows script) h None e.tick e.act c.in_ok-reply.reply e.reply v.reply c.in_ok-reply.ensures.calm
     (λ d. true≢false (sym (c.is_same_reply.ensures.1 d) ∙ c.if-not-is_same_reply.true)) (evict_sure (changes 0 h) c.args.key e.act e.reply c.requires.act)) z

@@ -1,4 +1,4 @@
-use Rattle.std.proofs.Common.{◌==◌, refl, sym, ap, subst, ◌∙◌}
+use Rattle.std.proofs.Common.{◌==◌, Some, refl, sym, ap, subst, ◌∙◌}
 use Rattle.std.specs.List.{list_any}
 use Rattle.std.specs.Prelude.{reverse}
 use Rattle.hib_journal.specs.Sessions.{is_open}
@@ -18,6 +18,6 @@ returns c =
     let x : AuditorState = record { engines = c.self.inside.engines; sessions = c.self.inside.sessions.items; written = c.self.inside.written.items; ticks = c.self.inside.ticks } in
     let k : Knows script (start_rows script) h x = subst (λ (v : AuditorState). Knows script (start_rows script) h v) (sym c.self.view_is) c.requires.known in
     let y : AuditorState = record { engines = c.restart.new.self; sessions = c.kill_all.new.sessions.items; written = c.self.inside.written.items; ticks = c.note.new.self } in
-    knows_restart script (start_rows script) h e x y k c.requires.coming c.requires.by c.requires.act (c.is_done.ensures.0 c.if-not-is_done.false) (c.restart.ensures script (start_rows script) h e.tick)
+    knows_restart script (start_rows script) h e x y k c.requires.coming c.requires.by c.requires.act (c.is_done.ensures.0 c.if-not-is_done.false) (c.restart.ensures.answered script (Some (start_rows script)) h e.tick)
     (killed_as (λ s. list_any (λ n. n == s) c.open_sessions.result.now) (λ s. is_open s h) x.sessions y.sessions
     (λ s l. c.open_sessions.ensures.which s ∙ (ap (λ (ps : Opened). holds s ps) c.registry.ensures ∙ holds_open x.engines.registry h s k.engines.registry)) c.kill_all.ensures) refl c.note.ensures

@@ -4,7 +4,8 @@ use Rattle.std.specs.Prelude.{reverse, slice_get}
 use Rattle.hib_journal.specs.Sessions.{own, changes}
 use Rattle.hib_session.specs.Session.{Follows, number_of}
 use Rattle.hib_audit.specs.Breaks.{start_rows}
-use Rattle.hib_audit.specs.Standing.{HasWritten, IsReady, IsJudged, AuditorState, Knows}
+use Rattle.hib_engines.specs.Engines.{IsReady}
+use Rattle.hib_audit.specs.Standing.{HasWritten, IsJudged, AuditorState, Knows}
 use Rattle.hib_audit.proofs.Lists.{read_at}
 use Rattle.hib_audit.proofs.Taking.{session_within, ready_of, taken_of, not_taken, knows_session}
 use Rattle.hib_audit.proofs.auditor.Auditor.take_session.Goals as goal
@@ -42,7 +43,7 @@ answers-requires-clause-ready c =
     let y = c.index-session.result.now in
     let there : slice_get x.sessions c.args.number ≡ Some y = read_at x.sessions c.number.inside.0 c.args.number y c.number.view_is l c.index-session.ensures in
     let here : number_of y ≡ c.args.number = k.sessions.numbers c.args.number y there in
-    subst (λ (n : ℕ). IsReady script (start_rows script) h n e.tick e.act x.engines) (sym here) (ready_of script (start_rows script) h c.args.number e x k c.requires.coming c.requires.by)
+    subst (λ (n : ℕ). IsReady script (Some (start_rows script)) h n e.tick e.act x.engines) (sym here) (ready_of script (start_rows script) h c.args.number e x k c.requires.coming c.requires.by)
 
 pub answers-requires-clause-follows : goal.answers-requires-clause-follows
 answers-requires-clause-follows c =
@@ -55,7 +56,7 @@ answers-requires-clause-follows c =
     let y = c.index-session.result.now in
     let there : slice_get x.sessions c.args.number ≡ Some y = read_at x.sessions c.number.inside.0 c.args.number y c.number.view_is l c.index-session.ensures in
     let here : number_of y ≡ c.args.number = k.sessions.numbers c.args.number y there in
-    let ready : IsReady script (start_rows script) h c.args.number e.tick e.act x.engines = ready_of script (start_rows script) h c.args.number e x k c.requires.coming c.requires.by in
+    let ready : IsReady script (Some (start_rows script)) h c.args.number e.tick e.act x.engines = ready_of script (start_rows script) h c.args.number e x k c.requires.coming c.requires.by in
     subst (λ (n : ℕ). Follows script y (own n h)) (sym here) (k.sessions.follow c.args.number y there ready.live)
 
 pub answers-requires-clause-written : goal.answers-requires-clause-written

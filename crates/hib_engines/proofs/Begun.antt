@@ -1,7 +1,9 @@
--- What an audit begins with stands for the empty journal.
-use Rattle.std.proofs.Common.{◌≡◌, ◌<◌, [], length, map, Some, None, sym, ap, ◌∙◌, subst}
+-- What engines begin with stands for no entries.
+use Rattle.std.proofs.Common.{◌≡◌, ◌<◌, [], length, map, Some, None, Option, refl, sym, ap, ◌∙◌, subst}
 use Rattle.std.proofs.lemmas.List.{length-map, length-replicate}
+use Rattle.std.specs.Option.{option_map}
 use Rattle.hib_base.specs.Tables.{Tables}
+use Rattle.hib_journal.specs.Lists.{stored}
 use Rattle.hib_journal.specs.Types.{Script}
 use Rattle.hib_update_stamps.specs.Stamped.{unstamped}
 use Rattle.hib_update_stamps.specs.Standing.{IsStamps}
@@ -10,14 +12,18 @@ use Rattle.hib_engines.specs.Region.{empty}
 use Rattle.hib_engines.specs.Registry.{IsRegistry}
 use Rattle.hib_engines.specs.Laws.{Laws}
 use Rattle.hib_engines.proofs.Opened.{registry_begins}
-use Rattle.hib_audit.specs.Standing.{EnginesState, AreStanding}
+use Rattle.hib_engines.specs.Engines.{EnginesState, AreStanding}
 use Rattle.hib_engines.proofs.Bridge.{bridged_begins}
 use Rattle.hib_engines.proofs.RegionList.{regions_begin}
 
-pub engines_begin : Laws → (script : Script) (start : Tables) (x : EnginesState) → x.store.tables ≡ Some start → x.store.written ≡ [] → x.registry ≡ [] → x.stamps ≡ unstamped (length script.mapping) →
-    x.regions ≡ map (λ d. empty d.strategy d.capacity script.timeout) script.mapping → x.results ≡ record { capacity = script.results; kept = [] } → 0 < script.results → AreStanding script start [] x
-engines_begin l script start x t w r s g u c = record {
-  store = record { rows = t; changes = λ n. ap (λ v. Rattle.hib_store.specs.Stores.changes_in v n) w };
+told_same : (told : Option Tables) → told ≡ option_map (λ start. stored start []) told
+told_same None = refl
+told_same (Some start) = refl
+
+pub engines_begin : Laws → (script : Script) (told : Option Tables) (x : EnginesState) → x.store.tables ≡ told → x.store.written ≡ [] → x.registry ≡ [] → x.stamps ≡ unstamped (length script.mapping) →
+    x.regions ≡ map (λ d. empty d.strategy d.capacity script.timeout) script.mapping → x.results ≡ record { capacity = script.results; kept = [] } → 0 < script.results → AreStanding script told [] x
+engines_begin l script told x t w r s g u c = record {
+  store = record { rows = t ∙ told_same told; changes = λ n. ap (λ v. Rattle.hib_store.specs.Stores.changes_in v n) w };
   bridged = bridged_begins;
   registry = subst (λ v. IsRegistry v []) (sym r) registry_begins;
   stamps = record {

@@ -1,0 +1,43 @@
+use Rattle.std.proofs.Common.{◌≡◌, None, Some, sym, ap, subst, ◌∙◌}
+use Rattle.hib_journal.specs.Sessions.{own}
+use Rattle.hib_session.specs.Session.{number_of, own_reply}
+use Rattle.hib_engines.specs.Registry.{own_after}
+use Rattle.hib_engines.specs.Engines.{EnginesState, IsReady, IsAnswered, IsAskedFor}
+use Rattle.hib_engines.proofs.Outcomes.{three_ok, map_err, err_all}
+use Rattle.hib_engines.proofs.Answered.{own_has, own_answered}
+use Rattle.hib_engines.proofs.Still.{own_told, own_still, engine_told, still_standing}
+use Rattle.hib_engines.proofs.engines.Engines.answer.Goals as goal
+
+pub returns-in_err-reply-clause-left : goal.returns-in_err-reply-clause-left
+returns-in_err-reply-clause-left g c = err_all c.from_residual.result _ (λ told h k. k)
+
+pub returns-in-Some-clause-answered : goal.returns-in-Some-clause-answered
+returns-in-Some-clause-answered g c = λ told h f k.
+    let s = number_of c.args.session.now in
+    let script = c.args.script.now in
+    let a = c.args.act.now in
+    let x = c.args.self.now in
+    let y = c.note_own.new.self in
+    let p : own_reply script (own s h) a ≡ Some c.in-Some.reply = sym (sym c.in-Some.is ∙ c.in_ok-reply.ensures (own s h) f) in
+    let q : y ≡ record x { registry = own_after s a x.registry } = c.note_own.ensures ∙ ap (λ m. record x { registry = own_after m a x.registry }) c.number-number.ensures in
+    own_told script told h s c.args.now a c.in-Some.reply x y p (own_has script (own s h) a c.in-Some.reply p) (ap (λ (v : EnginesState). v.store) q)
+    (own_answered c.laws.ensures script told h s c.args.now a c.in-Some.reply x y k p q)
+
+pub returns-in-Some-clause-still : goal.returns-in-Some-clause-still
+returns-in-Some-clause-still g c = λ b. own_still c.number-number.result c.args.act.now c.args.self.now c.note_own.new.self c.note_own.ensures b
+
+pub returns-clause-answered : goal.returns-clause-answered
+returns-clause-answered g c = three_ok c.serve.result _ _ _ _ c.serve.ensures.answered c.serve.ensures.asked c.serve.ensures.fault (λ r p q u told h f k.
+    let s = number_of c.args.session.now in
+    let script = c.args.script.now in
+    let a = c.args.act.now in
+    let e = c.number-number.ensures in
+    let ready = subst (λ m. IsReady script told h m c.args.now a c.args.self.now) (sym e) k in
+    let none = sym (c.in_ok-reply.ensures (own s h) f) ∙ c.in_default.is in
+    engine_told script told h s c.args.now a r c.args.self.now c.serve.new.self none
+    (subst (λ m. IsAnswered script told h (Some m) c.args.now a r c.serve.new.self) e
+    (p told h ready (subst (λ m. own_reply script (own m h) a ≡ None) (sym e) none)))
+    (subst (λ m. IsAskedFor h m a c.args.self.now c.serve.new.self) e (q told h ready)) u)
+
+pub returns-clause-left : goal.returns-clause-left
+returns-clause-left g c = map_err c.serve.result _ _ c.serve.ensures.err (λ w told h k. still_standing c.args.script.now told h c.args.self.now c.serve.new.self w k)

@@ -1,0 +1,10 @@
+// What a step did.
+
+/// What a step of a session did.
+#[derive(Clone, Copy, Debug, PartialEq, Eq)]
+pub enum Stepped {
+    /// One entry more.
+    Did,
+    /// The session is at its end.
+    Done,
+}
