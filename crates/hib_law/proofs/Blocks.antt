@@ -1,6 +1,6 @@
 -- A session within its transactions, as one read-write key sees it: in a legal journal each act of a session is allowed by what it did before.
 use Rattle.std.specs.Prelude.{cond, unwrap_or, is_some}
-use Rattle.std.proofs.Common.{◌≡◌, ℕ, inl, inr, Bool, true, false, ◌||◌, ◌∷◌, Some, None, refl, ap, sym, ◌∙◌, subst}
+use Rattle.std.proofs.Common.{◌≡◌, ℕ, inl, inr, Bool, true, false, ◌||◌, [], ◌∷◌, Some, None, refl, ap, sym, ◌∙◌, subst}
 use Rattle.std.proofs.lemmas.Bool.{false≢true, or_parts}
 use Rattle.hib_journal.specs.Types.{Key, Row, Strategy, Script, Act, Reply, Entry}
 use Rattle.hib_base.specs.Keys.{same_key}
@@ -27,15 +27,15 @@ module _ (script : Script) (k : Key) (rw_k : strategy script k.entity ≡ Strate
   keeps_list _ p = absurd (false≢true p)
 
   keeps_own : (a : Act) → is_own_act a ≡ true → Walks.Keeps (Allowed script k) (Right k) (IsSettled k) a
-  keeps_own (Act.Persist j r) p = keeps_plain script k (Act.Persist j r) refl (λ m w. tt)
   keeps_own (Act.Set j cells) p = keeps_plain script k (Act.Set j cells) refl (λ m w. tt)
   keeps_own (Act.Remove j) p = keeps_plain script k (Act.Remove j) refl (λ m w. tt)
   keeps_own Act.Clear p = keeps_plain script k Act.Clear refl (λ m w. tt)
   keeps_own _ p = absurd (false≢true p)
 
-  good : AreGood (Allowed script k) (Right k) script (IsOver k) (IsSettled k)
+  pub good : AreGood (Allowed script k) (Right k) script (IsOver k) (IsSettled k)
   good = record {
     find = goes_find script k;
+    persist = λ j r p. keeps_plain script k (Act.Persist j r) refl (λ m w. tt);
     own = keeps_own;
     flush = goes_flush script k rw_k;
     answer = λ mode q. goes_answer (Allowed script k) (Right k) (IsSettled k) script mode keeps_list q;
@@ -54,7 +54,7 @@ pub record IsMade (a : Act) (r : Reply) (j : Key) (x : Row) : Type 0 where
   pub act : a ≡ Act.Persist j x
   pub reply : r ≡ Reply.New
 
-made_by : (a : Act) (r : Reply) (j : Key) (x : Row) → arrival a r ≡ Some (Arrival.Made j x) → IsMade a r j x
+pub made_by : (a : Act) (r : Reply) (j : Key) (x : Row) → arrival a r ≡ Some (Arrival.Made j x) → IsMade a r j x
 made_by (Act.Persist i y) Reply.New j x e =
     let g : Arrival.Made i y ≡ Arrival.Made j x = some_same e in
     let p : i ≡ j = cc in let q : y ≡ x = cc in record { act = cc; reply = refl }
@@ -63,12 +63,12 @@ made_by (Act.Load i) (Reply.Row (Some y)) j x e = let g : Arrival.Read i y ≡ A
 made_by (Act.Load i) (Reply.Row None) j x e = none_some e
 made_by _ _ j x e = none_some e
 
-persist_new : (b : Bool) → Reply.New ≡ cond b Reply.Known Reply.New → b ≡ false
+pub persist_new : (b : Bool) → Reply.New ≡ cond b Reply.Known Reply.New → b ≡ false
 persist_new true e = absurd (cc)
 persist_new false e = refl
 
 module _ (script : Script) (start : Tables) (k : Key) (s : ℕ) where
-  right_entry : (h : Journal) (e : Entry) → IsStep script (Some start) h e → is_by s e ≡ true → Right k (own s h) e
+  pub right_entry : (h : Journal) (e : Entry) → IsStep script (Some start) h e → is_by s e ≡ true → Right k (own s h) e
   right_entry h e t p = λ j x q m. new_here j x (made_by e.act e.reply j x q) m
     where
       by_s : e.session ≡ Some s
@@ -94,3 +94,14 @@ module _ (script : Script) (start : Tables) (k : Key) (s : ℕ) where
       is_by s e ≡ true → Allowed script k (own s h) e.act
   allowed_act rw_k h e l t p = Walks.allowed (Allowed script k) (Right k) script (IsOver k) (IsSettled k) (good script k rw_k) (Some start) s
       right_entry (tt, refl) h e l t p
+
+-- each act of a session is allowed by what the session did before
+abbrev pub AreAllowed : Script → Key → Journal → Type 0
+AreAllowed script k [] = Unit {0}
+AreAllowed script k (e ∷ h) = AreAllowed script k h × ((s : ℕ) → is_by s e ≡ true → Allowed script k (own s h) e.act)
+
+pub are_allowed : (script : Script) (start : Tables) (k : Key) → strategy script k.entity ≡ Strategy.ReadWrite →
+    (h : Journal) → IsLegal script (Some start) h → AreAllowed script k h
+are_allowed script start k rw_k [] l = tt
+are_allowed script start k rw_k (e ∷ h) l =
+    (are_allowed script start k rw_k h l.0, λ s p. allowed_act script start k s rw_k h e l.0 l.1 p)

@@ -51,7 +51,7 @@ closed s by Act.Restart o p q = false≢true q
 closed s by _ o p q = false≢true p
 
 -- soundness at an entry says that the entry is calm, that the key was sound before, and that it was not reused
-or_false : (a b : Bool) → not (a || b) ≡ true → (a ≡ false) × (b ≡ false)
+pub or_false : (a b : Bool) → not (a || b) ≡ true → (a ≡ false) × (b ≡ false)
 or_false a b e = or_parts a b (not-true (a || b) e)
 
 pub record WasSound (k : Key) (h : Journal) (e : Entry) : Type 0 where
@@ -81,7 +81,7 @@ was_sound k h e n s =
 
 -- lists of changes
 
-first_none : (k : Key) (cs : List Change) → first_on k cs ≡ None → last_on k cs ≡ None
+pub first_none : (k : Key) (cs : List Change) → first_on k cs ≡ None → last_on k cs ≡ None
 first_none k [] e = refl
 first_none k (c ∷ cs) e = by_key (tested (same_key (key_of c) k)) e (first_none k cs)
   where
@@ -89,7 +89,7 @@ first_none k (c ∷ cs) e = by_key (tested (same_key (key_of c) k)) e (first_non
     by_key (inl p) e f = let g : Some c ≡ None = rw p at e in none_some (sym g)
     by_key (inr p) e f = let g : first_on k cs ≡ None = rw p at e in rw (p, f g)
 
-first_some : (k : Key) (cs : List Change) (d : Change) → first_on k cs ≡ Some d → (z : Change) × (last_on k cs ≡ Some z)
+pub first_some : (k : Key) (cs : List Change) (d : Change) → first_on k cs ≡ Some d → (z : Change) × (last_on k cs ≡ Some z)
 first_some k [] d e = none_some e
 first_some k (c ∷ cs) d e = by_key (tested (same_key (key_of c) k)) e (first_some k cs d) (last_on k cs) refl
   where
@@ -102,7 +102,7 @@ first_some k (c ∷ cs) d e = by_key (tested (same_key (key_of c) k)) e (first_s
         let m : (z : Change) × (last_on k cs ≡ Some z) = f g in
         (m.0, rw m.1)
 
-first_inserts : (k : Key) (cs : List Change) (j : Key) (r : Row) → first_on k cs ≡ Some (Change.Insert j r) → list_any (inserts_key k) cs ≡ true
+pub first_inserts : (k : Key) (cs : List Change) (j : Key) (r : Row) → first_on k cs ≡ Some (Change.Insert j r) → list_any (inserts_key k) cs ≡ true
 first_inserts k [] j r e = none_some e
 first_inserts k (c ∷ cs) j r e = by_key (tested (same_key (key_of c) k)) e (first_inserts k cs j r)
   where
@@ -135,7 +135,7 @@ pub record IsCommitBy (a : Act) (r : Reply) (by : Option ℕ) (s : ℕ) : Type 0
   pub reply : r ≡ Reply.Commit Commit.Committed
   pub session : by ≡ Some s
 
-commit_act : (a : Act) (r : Reply) (by : Option ℕ) (s : ℕ) → committer a r by ≡ Some s → IsCommitBy a r by s
+pub commit_act : (a : Act) (r : Reply) (by : Option ℕ) (s : ℕ) → committer a r by ≡ Some s → IsCommitBy a r by s
 commit_act Act.Commit (Reply.Commit Commit.Committed) by s e = record { act = refl; reply = refl; session = e }
 commit_act _ _ by s e = none_some e
 
@@ -160,7 +160,7 @@ module _ (script : Script) (start : Tables) (k : Key) (h : Journal) (e : Entry) 
 
 module _ (script : Script) (start : Tables) (k : Key) (h : Journal) (e : Entry) (rw_k : strategy script k.entity ≡ Strategy.ReadWrite)
     (n : is_restart e.act ≡ false) (reply : IsReply script (Some start) h e) (o : IsOrderly start k h e) where
-  move_of : (t : Option Touch) → touch k e ≡ t → ((x : Touch) → touch k e ≡ Some x → is_calm x ≡ true) → IsKept script.timeout (history k h) →
+  pub move_of : (t : Option Touch) → touch k e ≡ t → ((x : Touch) → touch k e ≡ Some x → is_calm x ≡ true) → IsKept script.timeout (history k h) →
       Move script.timeout e.tick (view_of script start k h) (view_of script start k (e ∷ h))
   move_of None p c w = let r : (takes k e.act ≡ false) × (gives_back k e.act ≡ false) = rest_of script start k h e rw_k n reply o.removes p in to_rest script start k h e n o p r.0 r.1
   move_of (Some x) p c w =
@@ -168,7 +168,7 @@ module _ (script : Script) (start : Tables) (k : Key) (h : Journal) (e : Entry) 
       (slot_touched script k e h x n p (to_kept script k h e x (effect_of script start k h e rw_k n reply o.removes x p), w))
       (effect_of script start k h e rw_k n reply o.removes x p)
 
-  follows : IsOrdered (e ∷ h) → Follows e.tick (view_of script start k h) (view_of script start k (e ∷ h))
+  pub follows : IsOrdered (e ∷ h) → Follows e.tick (view_of script start k h) (view_of script start k (e ∷ h))
   follows ord = record {
     known = λ s b a z. by_begin s b (tested (is_by s e && is_begin e.act)) a z;
     later = λ s b a z. seen_before start k s b e h ord z;
@@ -182,7 +182,7 @@ module _ (script : Script) (start : Tables) (k : Key) (h : Journal) (e : Entry) 
           let g : ((is_by s e ≡ true) × (row_at (committed start (e ∷ h)) k ≡ Some b)) ⊎ Seen start k s b h = rw p at z in
           elim g [ inl x ↦ inl x.1 | inr x ↦ inr (open_before s e.session e.act (is_open s h) p a, x, time_same s e h p) ]
 
-  quiet : committer e.act e.reply e.session ≡ None → IsQuiet (view_of script start k h) (view_of script start k (e ∷ h))
+  pub quiet : committer e.act e.reply e.session ≡ None → IsQuiet (view_of script start k h) (view_of script start k (e ∷ h))
   quiet c = record {
     row = rw c;
     done = λ s i. (o.steady c s i).0;
@@ -260,7 +260,7 @@ module _ (script : Script) (start : Tables) (k : Key) (h : Journal) (e : Entry) 
     row_of_commit once (Some (Change.Update j v x)) p m r = changed (Change.Update j v x) p m.0 m.1 r.0 r.1
     row_of_commit once (Some (Change.Delete j v)) p m r = changed (Change.Delete j v) p m.0 m.1 r.0 r.1
 
-    commit_of : (commits (inserts_key k) h e && was_deleted k h) ≡ false → IsCommit s (view_of script start k h) (view_of script start k (e ∷ h))
+    pub commit_of : (commits (inserts_key k) h e && was_deleted k h) ≡ false → IsCommit s (view_of script start k h) (view_of script start k (e ∷ h))
     commit_of once = record {
       slot = slot_rests script k e h n no_touch;
       holders = holders_same k e h n (rw said.act refl) (rw said.act refl);
@@ -285,7 +285,7 @@ nobody script start k h v w f = record {
   safe = λ s b a z. absurd (f s a);
 }
 
-vacant_at_first : (timeout : ℕ) → slot_from timeout [] ≡ Slot.Vacant
+pub vacant_at_first : (timeout : ℕ) → slot_from timeout [] ≡ Slot.Vacant
 unfolding slot_from
 vacant_at_first timeout = refl
 

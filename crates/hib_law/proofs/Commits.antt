@@ -50,11 +50,11 @@ pub applies_rest : (c : Change) (cs : List Change) (t : Tables) → commit_answe
     commit_answer cs (after_change c t) ≡ Commit.Committed
 applies_rest c cs t e = let p : refusal c t ≡ None = applies_first c cs t e in rw p at e
 
-absent_none : (k : Key) (o : Option Row) → unless_absent k o ≡ None → o ≡ None
+pub absent_none : (k : Key) (o : Option Row) → unless_absent k o ≡ None → o ≡ None
 absent_none k None e = refl
 absent_none k (Some r) e = none_some (sym e)
 
-expected_some : (k : Key) (v : Option ℕ) (o : Option Row) → unless_expected k v o ≡ None → (r : Row) × (o ≡ Some r) × (same_version v r.version ≡ true)
+pub expected_some : (k : Key) (v : Option ℕ) (o : Option Row) → unless_expected k v o ≡ None → (r : Row) × (o ≡ Some r) × (same_version v r.version ≡ true)
 expected_some k v None e = none_some (sym e)
 expected_some k v (Some r) e = by_test (tested (same_version v r.version)) e
   where
@@ -99,7 +99,7 @@ abbrev pub AreSteps : Key → List Change → Type 0
 AreSteps k [] = Unit {0}
 AreSteps k (c ∷ cs) = IsStep k c × AreSteps k cs
 
-same_version_eq : (v w : Option ℕ) → same_version v w ≡ true → v ≡ w
+pub same_version_eq : (v w : Option ℕ) → same_version v w ≡ true → v ≡ w
 same_version_eq None None e = refl
 same_version_eq None (Some n) e = absurd (false≢true e)
 same_version_eq (Some n) None e = absurd (false≢true e)
@@ -113,7 +113,7 @@ up_by_one v w e = by_end (tested (v == 4294967295))
     by_end (inl p) = rw p e
     by_end (inr p) = rw p (le-ltb (v + 1) w (omega (arith, ltb-false v w e)))
 
-next_not_below : (v w : Option ℕ) → is_below v w ≡ false → is_below (next_version v) w ≡ false
+pub next_not_below : (v w : Option ℕ) → is_below v w ≡ false → is_below (next_version v) w ≡ false
 next_not_below None w e = e
 next_not_below (Some v) None e = refl
 next_not_below (Some v) (Some w) e = up_by_one v w e

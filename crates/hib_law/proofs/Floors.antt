@@ -106,11 +106,16 @@ begin_reply script start h e r a = elim r [
     no : ◌≡◌ {A = Option Reply} None (Some e.reply) → ⊥
     no g = cc
 
-pub floors_le : (script : Script) (start : Tables) (h : Journal) → IsLegal script (Some start) h → (s u : ℕ) → is_open s h ≡ true → is_open u h ≡ true →
+-- each Begin answers the floor
+abbrev pub AreFloored : Journal → Type 0
+AreFloored [] = Unit {0}
+AreFloored (e ∷ h) = AreFloored h × (e.act ≡ Act.Begin → e.reply ≡ Reply.Began (floor h e.tick))
+
+pub floors_le_by : (h : Journal) → IsOrdered h → AreFloored h → (s u : ℕ) → is_open s h ≡ true → is_open u h ≡ true →
     floor_in (own s h) ≤ time u h
-floors_le script start [] l s u p q = absurd (false≢true p)
-floors_le script start (e ∷ h) l s u p q =
-    by_both (tested (is_by s e && is_begin e.act)) (tested (is_by u e && is_begin e.act)) (floors_le script start h l.0)
+floors_le_by [] o l s u p q = absurd (false≢true p)
+floors_le_by (e ∷ h) o l s u p q =
+    by_both (tested (is_by s e && is_begin e.act)) (tested (is_by u e && is_begin e.act)) (floors_le_by h o.1 l.0)
   where
     starts : (v : ℕ) → (is_by v e && is_begin e.act) ≡ true → (is_by v e ≡ true) × (e.act ≡ Act.Begin)
     starts v x = let y : (is_by v e ≡ true) × (is_begin e.act ≡ true) = and_parts (is_by v e) (is_begin e.act) x in (y.0, begin_act e.act y.1)
@@ -118,7 +123,7 @@ floors_le script start (e ∷ h) l s u p q =
     floor_is : (is_by s e && is_begin e.act) ≡ true → floor_in (own s (e ∷ h)) ≡ floor h e.tick
     floor_is x =
         let y : (is_by s e ≡ true) × (e.act ≡ Act.Begin) = starts s x in
-        rw (y.0, y.1, begin_reply script start h e l.1.reply y.1) refl
+        rw (y.0, y.1, l.1 y.1) refl
 
     time_is : (is_by u e && is_begin e.act) ≡ true → time u (e ∷ h) ≡ e.tick
     time_is x = let y : (is_by u e ≡ true) × (e.act ≡ Act.Begin) = starts u x in rw (y.0, y.1) refl
@@ -127,15 +132,23 @@ floors_le script start (e ∷ h) l s u p q =
         ((a b : ℕ) → is_open a h ≡ true → is_open b h ≡ true → floor_in (own a h) ≤ time b h) → floor_in (own s (e ∷ h)) ≤ time u (e ∷ h)
     by_both (inl x) (inl y) f = rw (floor_is x, time_is y) (least_le_now h h e.tick)
     by_both (inl x) (inr y) f =
-        let o : is_open u h ≡ true = open_before u e.session e.act (is_open u h) y q in
-        rw (floor_is x, time_same u e h y) (least_le h h e.tick u o refl (open_begun u h o))
+        let w : is_open u h ≡ true = open_before u e.session e.act (is_open u h) y q in
+        rw (floor_is x, time_same u e h y) (least_le h h e.tick u w refl (open_begun u h w))
     by_both (inr x) (inl y) f =
-        let o : is_open s h ≡ true = open_before s e.session e.act (is_open s h) x p in
-        let a : floor_in (own s h) ≤ time s h = f s s o o in
-        let b : time s h ≤ last_tick (by s) h = time_le_tick s h (ordered script start h l.0) in
-        let c : last_tick (by s) h ≤ last_tick (λ d. true) h = last_le (by s) h (ordered script start h l.0) in
-        let d : last_tick (λ d. true) h ≤ e.tick = l.1.tick.ordered in
+        let w : is_open s h ≡ true = open_before s e.session e.act (is_open s h) x p in
+        let a : floor_in (own s h) ≤ time s h = f s s w w in
+        let b : time s h ≤ last_tick (by s) h = time_le_tick s h o.1 in
+        let c : last_tick (by s) h ≤ last_tick (λ d. true) h = last_le (by s) h o.1 in
+        let d : last_tick (λ d. true) h ≤ e.tick = o.0.ordered in
         rw (floor_same s e h x, time_is y) (omega arith)
     by_both (inr x) (inr y) f =
         rw (floor_same s e h x, time_same u e h y)
         (f s u (open_before s e.session e.act (is_open s h) x p) (open_before u e.session e.act (is_open u h) y q))
+
+pub floored : (script : Script) (start : Tables) (h : Journal) → IsLegal script (Some start) h → AreFloored h
+floored script start [] l = tt
+floored script start (e ∷ h) l = (floored script start h l.0, λ a. begin_reply script start h e l.1.reply a)
+
+pub floors_le : (script : Script) (start : Tables) (h : Journal) → IsLegal script (Some start) h → (s u : ℕ) → is_open s h ≡ true → is_open u h ≡ true →
+    floor_in (own s h) ≤ time u h
+floors_le script start h l s u p q = floors_le_by h (ordered script start h l) (floored script start h l) s u p q

@@ -20,6 +20,19 @@ use Rattle.hib_law.proofs.Working.{IsWorking, IsFreeIn, IsSettled, settled_plain
 use Rattle.hib_law.proofs.Basics.{none_some, some_same}
 use Rattle.hib_law.proofs.Flushing.{first_append_other, IsNoUpdate, MayWrite, working_lock, not_in_first, in_first, IsFlushing, flushing_on, flushing_write, none_not_in, Kept, kept_on, free_write, held_stay}
 
+-- some changes name k; each is of what is held of its key; and k is changed once at most
+module _ (k : Key) (start : Journal) where
+  abbrev pub Names : List Change → Bool
+  Names cs = list_any (λ c. same_key (key_of c) k) cs
+
+  abbrev pub AllPending : List Change → Type 0
+  AllPending [] = Unit {0}
+  AllPending (c ∷ cs) = PendingBy (held start (key_of c)) c × AllPending cs
+
+  abbrev pub IsOnceIn : List Change → Type 0
+  IsOnceIn [] = Unit {0}
+  IsOnceIn (c ∷ cs) = (same_key (key_of c) k ≡ true → Names cs ≡ false) × IsOnceIn cs
+
 module _ (script : Script) (k : Key) (rw_k : strategy script k.entity ≡ Strategy.ReadWrite) (start : Journal) where
   abbrev Allow : List Act → Journal → (Journal → Type 0) → Type 0
   Allow = Allows (Allowed script k) (Right k)
@@ -118,14 +131,11 @@ module _ (script : Script) (k : Key) (rw_k : strategy script k.entity ≡ Strate
       by_changes true n = (f, λ s u. absurd (f.was (subst (λ y. is_in y (changes_in start) ≡ true) (same_key_eq j k s) n) u), refl, λ x. refl)
       by_changes false n = by_strategy (strategy script j.entity) refl n
 
-  abbrev Names : List Change → Bool
-  Names cs = list_any (λ c. same_key (key_of c) k) cs
-
   -- at a change of a flush, with these left
   pub record IsAt (cs : List Change) (m : Journal) : Type 0 where
     pub flushing : IsFlushing k start m
     pub free : IsFreeIn k m (first_on k (changes_in m))
-    pub still : Names cs ≡ true → first_on k (changes_in m) ≡ first_on k (changes_in start)
+    pub still : Names k start cs ≡ true → first_on k (changes_in m) ≡ first_on k (changes_in start)
 
   -- before the first change on k its lock is not held
   new_at : (j : Key) (m : Journal) → IsFreeIn k m (first_on k (changes_in m)) → (same_key j k ≡ true → first_on k (changes_in m) ≡ first_on k (changes_in start)) →
@@ -153,26 +163,17 @@ module _ (script : Script) (k : Key) (rw_k : strategy script k.entity ≡ Strate
       (IsSet j m) (Wrote (Change.Delete j v) m) (allow_before j v m b.0 b.1 f (new_at j m w t) b.2 b.4 b.5)
       (λ n x. allow_write (Change.Delete j v) m n x.0 (λ s. x.1 s) b x.2 (λ y. x.3 (moved j m t y)) w)
 
-  abbrev AllPending : List Change → Type 0
-  AllPending [] = Unit {0}
-  AllPending (c ∷ cs) = PendingBy (held start (key_of c)) c × AllPending cs
-
-  -- k is changed once at most
-  abbrev IsOnceIn : List Change → Type 0
-  IsOnceIn [] = Unit {0}
-  IsOnceIn (c ∷ cs) = (same_key (key_of c) k ≡ true → Names cs ≡ false) × IsOnceIn cs
-
   -- the writes of a flush are allowed, and leave the session working
-  pub allow_writes : (cs : List Change) (m : Journal) → AllPending cs → IsOnceIn cs → IsAt cs m → Allow (writes script start cs) m (IsAt [])
+  pub allow_writes : (cs : List Change) (m : Journal) → AllPending k start cs → IsOnceIn k start cs → IsAt cs m → Allow (writes script start cs) m (IsAt [])
   allow_writes [] m a o f = f
   allow_writes (c ∷ cs) m a o f =
       allows_join (Allowed script k) (Right k) (before_write script start c ++ Act.Write c ∷ []) (writes script start cs) m (Wrote c m) (IsAt [])
       (allow_change c m f.flushing f.free (λ s. f.still (rw s refl)) a.0)
       (λ n w. allow_writes cs n a.1 o.1 (record { flushing = w.0; free = w.1; still = λ x. by_key n w x (tested (same_key (key_of c) k)) }))
     where
-      by_key : (n : Journal) → Wrote c m n → Names cs ≡ true → Tested (same_key (key_of c) k) → first_on k (changes_in n) ≡ first_on k (changes_in start)
+      by_key : (n : Journal) → Wrote c m n → Names k start cs ≡ true → Tested (same_key (key_of c) k) → first_on k (changes_in n) ≡ first_on k (changes_in start)
       by_key n w x (inl s) = absurd (true≢false (sym x ∙ o.0 s))
-      by_key n w x (inr s) = w.2 s ∙ f.still (or_right (same_key (key_of c) k) (Names cs) x)
+      by_key n w x (inr s) = w.2 s ∙ f.still (or_right (same_key (key_of c) k) (Names k start cs) x)
 
 -- each pending change is of what is held of its key
 
@@ -219,7 +220,7 @@ delete_key z c e = by_state z.state z.base e
     by_state State.Removed None e = none_some e
     by_state State.Removed (Some b) e = sym (ap key_of (some_same e))
 
-module _ (script : Script) (k : Key) (rw_k : strategy script k.entity ≡ Strategy.ReadWrite) (start : Journal) where
+module _ (k : Key) (start : Journal) where
   abbrev Says : (Option Instance → Option Change) → Type 0
   Says f = ((i : Option Instance) (c : Change) → f i ≡ Some c → PendingBy i c) × ((z : Instance) (c : Change) → f (Some z) ≡ Some c → key_of c ≡ z.key)
       × (f None ≡ None)
@@ -233,20 +234,20 @@ module _ (script : Script) (k : Key) (rw_k : strategy script k.entity ≡ Strate
           let q : key_of c ≡ j = s.1 z c e ∙ held_key start j z p in
           subst (λ y. PendingBy (held start y) c) (sym q) (rw p (s.0 (Some z) c e))
 
-  all_filter : (f : Option Instance → Option Change) → Says f → (ks : List Key) → AllPending script k rw_k start (filter_map (λ j. f (held start j)) ks)
+  all_filter : (f : Option Instance → Option Change) → Says f → (ks : List Key) → AllPending k start (filter_map (λ j. f (held start j)) ks)
   all_filter f s [] = tt
   all_filter f s (j ∷ ks) = by_change (f (held start j)) refl (all_filter f s ks)
     where
-      by_change : (o : Option Change) → f (held start j) ≡ o → AllPending script k rw_k start (filter_map (λ j. f (held start j)) ks) →
-          AllPending script k rw_k start (cons_option (f (held start j)) (filter_map (λ j. f (held start j)) ks))
+      by_change : (o : Option Change) → f (held start j) ≡ o → AllPending k start (filter_map (λ j. f (held start j)) ks) →
+          AllPending k start (cons_option (f (held start j)) (filter_map (λ j. f (held start j)) ks))
       by_change None p a = rw p a
       by_change (Some c) p a = rw p (at_key f s j c p, a)
 
-  all_append : (xs ys : List Change) → AllPending script k rw_k start xs → AllPending script k rw_k start ys → AllPending script k rw_k start (xs ++ ys)
+  all_append : (xs ys : List Change) → AllPending k start xs → AllPending k start ys → AllPending k start (xs ++ ys)
   all_append [] ys a b = b
   all_append (x ∷ xs) ys a b = (a.0, all_append xs ys a.1 b)
 
-  pub all_pending : AllPending script k rw_k start (pending start)
+  pub all_pending : AllPending k start (pending start)
   unfolding pending
   all_pending =
       all_append (filter_map (λ j. insert_of (held start j)) (arrived start) ++ filter_map (λ j. update_of (held start j)) (arrived start))
@@ -337,18 +338,18 @@ removed_once k (e ∷ m) = by_act e.act e.reply (removed_once k m)
     by_act (Act.Remove j) Reply.Removed l = moved_times k j (removed m) l
     by_act _ _ l = l
 
-module _ (script : Script) (k : Key) (rw_k : strategy script k.entity ≡ Strategy.ReadWrite) (start : Journal) where
+module _ (k : Key) (start : Journal) where
   abbrev F : (Option Instance → Option Change) → List Key → List Change
   F f ks = filter_map (λ j. f (held start j)) ks
 
-  key_is : (f : Option Instance → Option Change) → Says script k rw_k start f → (j : Key) (c : Change) → f (held start j) ≡ Some c → key_of c ≡ j
+  key_is : (f : Option Instance → Option Change) → Says k start f → (j : Key) (c : Change) → f (held start j) ≡ Some c → key_of c ≡ j
   key_is f s j c e = by_held (held start j) refl e
     where
       by_held : (i : Option Instance) → held start j ≡ i → f i ≡ Some c → key_of c ≡ j
       by_held None p e = none_some (sym s.2 ∙ e)
       by_held (Some z) p e = s.1 z c e ∙ held_key start j z p
 
-  filter_times : (f : Option Instance → Option Change) → Says script k rw_k start f → (ks : List Key) →
+  filter_times : (f : Option Instance → Option Change) → Says k start f → (ks : List Key) →
       (times k (F f ks) ≤ times_in k ks) × (f (held start k) ≡ None → times k (F f ks) ≡ 0)
   filter_times f s [] = (omega arith, λ n. refl)
   filter_times f s (j ∷ ks) = by_change (f (held start j)) refl (filter_times f s ks)
@@ -387,7 +388,7 @@ module _ (script : Script) (k : Key) (rw_k : strategy script k.entity ≡ Strate
       by_state State.Managed p = OneOf.Updates (rw p refl) (rw p refl)
       by_state State.Removed p = OneOf.Deletes (rw p refl) (rw p refl)
 
-  pub once_times : (cs : List Change) → times k cs ≤ 1 → IsOnceIn script k rw_k start cs
+  pub once_times : (cs : List Change) → times k cs ≤ 1 → IsOnceIn k start cs
   once_times [] l = tt
   once_times (c ∷ cs) l = by_key (tested (same_key (key_of c) k)) l (once_times cs)
     where
@@ -400,7 +401,7 @@ module _ (script : Script) (k : Key) (rw_k : strategy script k.entity ≡ Strate
           by_one (inl x) l i = let g : suc (times k ds) ≤ 0 = rw x at l in absurd (omega arith)
           by_one (inr x) l i = let g : times k ds ≤ 0 = rw x at l in rw x (i g)
 
-      by_key : Tested (same_key (key_of c) k) → times k (c ∷ cs) ≤ 1 → (times k cs ≤ 1 → IsOnceIn script k rw_k start cs) → IsOnceIn script k rw_k start (c ∷ cs)
+      by_key : Tested (same_key (key_of c) k) → times k (c ∷ cs) ≤ 1 → (times k cs ≤ 1 → IsOnceIn k start cs) → IsOnceIn k start (c ∷ cs)
       by_key (inl x) l i =
           let g : suc (times k cs) ≤ 1 = rw x at l in
           let h : times k cs ≤ 0 = omega arith in
@@ -410,7 +411,7 @@ module _ (script : Script) (k : Key) (rw_k : strategy script k.entity ≡ Strate
           let g : times k cs ≤ 1 = rw x at l in
           (λ s. absurd (true≢false (sym s ∙ x)), i g)
 
-  pub once_pending : IsOnceIn script k rw_k start (pending start)
+  pub once_pending : IsOnceIn k start (pending start)
   unfolding pending
   once_pending = once_times _ (rw (
     times_append k (F insert_of (arrived start) ++ F update_of (arrived start)) (F delete_of (removed start)),
@@ -468,9 +469,9 @@ module _ (script : Script) (k : Key) (rw_k : strategy script k.entity ≡ Strate
 
   pub goes_flush : Goes script k (flush script) (IsSettled k) (IsSettled k)
   goes_flush m w = runs_each (Allowed script k) (Right k) (flush_of script m (pending m)) m (IsSettled k)
-      (by_pending (pending m) (all_pending script k rw_k m) (once_pending script k rw_k m))
+      (by_pending (pending m) (all_pending k m) (once_pending k m))
     where
-      by_pending : (cs : List Change) → AllPending script k rw_k m cs → IsOnceIn script k rw_k m cs → Allows (Allowed script k) (Right k) (flush_of script m cs) m (IsSettled k)
+      by_pending : (cs : List Change) → AllPending k m cs → IsOnceIn k m cs → Allows (Allowed script k) (Right k) (flush_of script m cs) m (IsSettled k)
       by_pending [] a o = w
       by_pending (c ∷ cs) a o = (
         tt,

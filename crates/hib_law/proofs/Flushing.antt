@@ -25,7 +25,7 @@ first_append_other k (d ∷ cs) c p = by_key (tested (same_key (key_of d) k)) (f
     by_key (inl q) i = rw q
     by_key (inr q) i = rw q i
 
-first_append_some : (k : Key) (cs : List Change) (c d : Change) → first_on k cs ≡ Some d → first_on k (cs ++ c ∷ []) ≡ Some d
+pub first_append_some : (k : Key) (cs : List Change) (c d : Change) → first_on k cs ≡ Some d → first_on k (cs ++ c ∷ []) ≡ Some d
 first_append_some k [] c d p = none_some p
 first_append_some k (x ∷ cs) c d p = by_key (tested (same_key (key_of x) k)) p (first_append_some k cs c d)
   where
@@ -34,7 +34,7 @@ first_append_some k (x ∷ cs) c d p = by_key (tested (same_key (key_of x) k)) p
     by_key (inl q) p i = let g : Some x ≡ Some d = rw q at p in rw q g
     by_key (inr q) p i = let g : first_on k cs ≡ Some d = rw q at p in rw q (i g)
 
-first_append_none : (k : Key) (cs : List Change) (c : Change) → first_on k cs ≡ None → same_key (key_of c) k ≡ true → first_on k (cs ++ c ∷ []) ≡ Some c
+pub first_append_none : (k : Key) (cs : List Change) (c : Change) → first_on k cs ≡ None → same_key (key_of c) k ≡ true → first_on k (cs ++ c ∷ []) ≡ Some c
 first_append_none k [] c p s = rw s
 first_append_none k (x ∷ cs) c p s = by_key (tested (same_key (key_of x) k)) p (first_append_none k cs c)
   where
@@ -43,12 +43,12 @@ first_append_none k (x ∷ cs) c p s = by_key (tested (same_key (key_of x) k)) p
     by_key (inl q) p i = let g : Some x ≡ None = rw q at p in none_some (sym g)
     by_key (inr q) p i = let g : first_on k cs ≡ None = rw q at p in rw q (i g s)
 
-steps_append : (k : Key) (cs : List Change) (c : Change) → AreSteps k cs → IsStep k c → AreSteps k (cs ++ c ∷ [])
+pub steps_append : (k : Key) (cs : List Change) (c : Change) → AreSteps k cs → IsStep k c → AreSteps k (cs ++ c ∷ [])
 steps_append k [] c s t = (t, tt)
 steps_append k (d ∷ cs) c s t = (s.0, steps_append k cs c s.1 t)
 
 -- a list with no change of k steps
-steps_none : (k : Key) (cs : List Change) → first_on k cs ≡ None → AreSteps k cs
+pub steps_none : (k : Key) (cs : List Change) → first_on k cs ≡ None → AreSteps k cs
 steps_none k [] p = tt
 steps_none k (d ∷ cs) p = by_key (tested (same_key (key_of d) k)) p (steps_none k cs)
   where

@@ -186,7 +186,7 @@ safe_lock timeout t now b v (Slot.Item r u) row deleted item named g = inr (inl 
 safe_lock timeout t now b v (Slot.Lock l) row deleted item named g = inr (inl (omega arith), λ x. absurd (true≢false x))
 
 -- a lock is given back
-guarded_release : (t now n unlock : ℕ) → t < now → (0 < n) ⊎ (t < freed n now unlock)
+pub guarded_release : (t now n unlock : ℕ) → t < now → (0 < n) ⊎ (t < freed n now unlock)
 guarded_release t now zero unlock l = inr l
 guarded_release t now (suc n) unlock l = inl (omega arith)
 
@@ -216,7 +216,7 @@ pub positive_false : (n : ℕ) → is_positive n ≡ false → n ≡ 0
 positive_false zero e = refl
 positive_false (suc n) e = absurd (true≢false e)
 
-guarded_leaves : (t floor : ℕ) (slot : Slot) → floor ≤ t → may_leave floor slot ≡ true → IsGuarded t slot → ⊥
+pub guarded_leaves : (t floor : ℕ) (slot : Slot) → floor ≤ t → may_leave floor slot ≡ true → IsGuarded t slot → ⊥
 guarded_leaves t floor Slot.Vacant l m h = h
 guarded_leaves t floor (Slot.Item r u) l m h = omega (arith, ltb-true u floor m)
 guarded_leaves t floor (Slot.Lock k) l m h =
@@ -231,22 +231,22 @@ safe_leave t floor b slot row l m (inr h) = absurd (guarded_leaves t floor slot 
 
 -- a put that is stored and not late is of the committed row
 
-put_over_item : (x : Bool) (v e : Option ℕ) → cond x (Put.Stored None false) (Put.Present v) ≡ Put.Stored e false → x ≡ true
+pub put_over_item : (x : Bool) (v e : Option ℕ) → cond x (Put.Stored None false) (Put.Present v) ≡ Put.Stored e false → x ≡ true
 put_over_item true v e h = refl
 put_over_item false v e h = absurd (cc)
 
-put_if : (x : Bool) (u : ℕ) (e : Option ℕ) → cond x (Put.Stored None false) (Put.Early u) ≡ Put.Stored e false → x ≡ true
+pub put_if : (x : Bool) (u : ℕ) (e : Option ℕ) → cond x (Put.Stored None false) (Put.Early u) ≡ Put.Stored e false → x ≡ true
 put_if true u e h = refl
 put_if false u e h = absurd (cc)
 
-put_old : (x : Bool) (u : ℕ) (e : Option ℕ) → cond x (Put.Stored None false) (Put.Old u) ≡ Put.Stored e false → x ≡ true
+pub put_old : (x : Bool) (u : ℕ) (e : Option ℕ) → cond x (Put.Stored None false) (Put.Old u) ≡ Put.Stored e false → x ≡ true
 put_old true u e h = refl
 put_old false u e h = absurd (cc)
 
-put_late : (p q : Bool) (e : Option ℕ) → Put.Stored None (p || q) ≡ Put.Stored e false → (p || q) ≡ false
+pub put_late : (p q : Bool) (e : Option ℕ) → Put.Stored None (p || q) ≡ Put.Stored e false → (p || q) ≡ false
 put_late p q e h = cc
 
-put_over_lock : (a p q : Bool) (n : ℕ) (f : Put) (e : Option ℕ) →
+pub put_over_lock : (a p q : Bool) (n : ℕ) (f : Put) (e : Option ℕ) →
     cond a (Put.Stored None (p || q)) (cond p (Put.Held n) f) ≡ Put.Stored e false → (p ≡ false) × ((q ≡ false) ⊎ (f ≡ Put.Stored e false))
 put_over_lock true p q n f e h = let g : (p ≡ false) × (q ≡ false) = or_parts p q (put_late p q e h) in (g.0, inl g.1)
 put_over_lock false true q n f e h = absurd (cc)

@@ -15,7 +15,7 @@ use Rattle.hib_journal.proofs.Sessions.{is_some_session}
 use Rattle.hib_law.proofs.Guarded.{In}
 use Rattle.hib_law.proofs.Coherent.{open_before, closed}
 use Rattle.hib_law.proofs.Working.{Allowed, holds, holds_after}
-use Rattle.hib_law.proofs.Blocks.{allowed_act}
+use Rattle.hib_law.proofs.Blocks.{AreAllowed, are_allowed}
 
 -- how often a session stands in a list
 
@@ -48,7 +48,7 @@ count_less t n (x ∷ xs) l = by_test (tested (x == t)) l (count_less t n xs)
     by_test (inl p) l i = let g : suc (count t xs) ≤ suc n = rw p at l in rw p (omega arith)
     by_test (inr p) l i = let g : count t xs ≤ suc n = rw p at l in rw (p, p) (i g)
 
-count_other : (s t : ℕ) (xs : List ℕ) → (s == t) ≡ false → count t (remove s xs) ≡ count t xs
+pub count_other : (s t : ℕ) (xs : List ℕ) → (s == t) ≡ false → count t (remove s xs) ≡ count t xs
 count_other s t [] d = refl
 count_other s t (x ∷ xs) d = by_test (tested (x == s)) (count_other s t xs d)
   where
@@ -73,11 +73,11 @@ begin_says : (script : Script) (k : Key) (m : Journal) (a : Act) → is_begin a 
 begin_says script k m Act.Begin s w = w
 begin_says script k m _ s w = absurd (false≢true s)
 
-module _ (script : Script) (start : Tables) (k : Key) (rw_k : strategy script k.entity ≡ Strategy.ReadWrite) where
+module _ (script : Script) (k : Key) where
   -- a session stands once at most among the holders, and only if its own entries hold the lock
-  pub holders_le : (t : ℕ) (h : Journal) → IsLegal script (Some start) h → count t (holders k h) ≤ cond (holds k (own t h)) 1 0
-  holders_le t [] l = omega arith
-  holders_le t (e ∷ h) l = by_restart (tested (is_restart e.act)) (holders_le t h l.0)
+  pub holders_le_by : (t : ℕ) (h : Journal) → AreAllowed script k h → count t (holders k h) ≤ cond (holds k (own t h)) 1 0
+  holders_le_by t [] l = omega arith
+  holders_le_by t (e ∷ h) l = by_restart (tested (is_restart e.act)) (holders_le_by t h l.0)
     where
       IH : Type 0
       IH = count t (holders k h) ≤ cond (holds k (own t h)) 1 0
@@ -107,14 +107,14 @@ module _ (script : Script) (start : Tables) (k : Key) (rw_k : strategy script k.
       by_session : is_restart e.act ≡ false → Tested (is_by t e) → IH → count t (holders k (e ∷ h)) ≤ cond (holds k (own t (e ∷ h))) 1 0
       by_session n (inr p) i = rw (n, p, others p (tested (takes k e.act)) (tested (gives_back k e.act))) i
       by_session n (inl p) i = rw (n, p)
-          (mine p (is_some_session t e.session p) (allowed_act script start k t rw_k h e l.0 l.1 p) (tested (takes k e.act)) (tested (gives_back k e.act)) i)
+          (mine p (is_some_session t e.session p) (l.1 t p) (tested (takes k e.act)) (tested (gives_back k e.act)) i)
 
       by_restart : Tested (is_restart e.act) → IH → count t (holders k (e ∷ h)) ≤ cond (holds k (own t (e ∷ h))) 1 0
       by_restart (inl r) i = rw r (omega arith)
       by_restart (inr n) i = by_session n (tested (is_by t e)) i
 
-  pub holder_holds : (t : ℕ) (h : Journal) → IsLegal script (Some start) h → In t (holders k h) → holds k (own t h) ≡ true
-  holder_holds t h l i = by_test (tested (holds k (own t h))) (holders_le t h l)
+  pub holder_holds_by : (t : ℕ) (h : Journal) → AreAllowed script k h → In t (holders k h) → holds k (own t h) ≡ true
+  holder_holds_by t h l i = by_test (tested (holds k (own t h))) (holders_le_by t h l)
     where
       by_test : Tested (holds k (own t h)) → count t (holders k h) ≤ cond (holds k (own t h)) 1 0 → holds k (own t h) ≡ true
       by_test (inl p) c = p
@@ -123,10 +123,10 @@ module _ (script : Script) (start : Tables) (k : Key) (rw_k : strategy script k.
           let j : 1 ≤ count t (holders k h) = in_count t (holders k h) i in absurd (omega arith)
 
   -- an open session that holds the lock is among the holders
-  pub holds_holder : (t : ℕ) (h : Journal) → IsLegal script (Some start) h → is_open t h ≡ true → holds k (own t h) ≡ true → In t (holders k h)
-  holds_holder t h l o w = count_in t (holders k h) (held_count h l o w)
+  pub holds_holder_by : (t : ℕ) (h : Journal) → AreAllowed script k h → is_open t h ≡ true → holds k (own t h) ≡ true → In t (holders k h)
+  holds_holder_by t h l o w = count_in t (holders k h) (held_count h l o w)
     where
-      held_count : (h : Journal) → IsLegal script (Some start) h → is_open t h ≡ true → holds k (own t h) ≡ true → 1 ≤ count t (holders k h)
+      held_count : (h : Journal) → AreAllowed script k h → is_open t h ≡ true → holds k (own t h) ≡ true → 1 ≤ count t (holders k h)
       held_count [] l o w = absurd (false≢true o)
       held_count (e ∷ h) l o w = by_restart (tested (is_restart e.act)) (held_count h l.0)
         where
@@ -160,8 +160,18 @@ module _ (script : Script) (start : Tables) (k : Key) (rw_k : strategy script k.
               rw (n, others p (tested (takes k e.act)) (tested (gives_back k e.act))) (i (was_open (rw p refl)) g)
           by_session n (inl p) i =
               let g : holds_after k e.act (holds k (own t h)) ≡ true = rw p at w in
-              rw n (mine p (is_some_session t e.session p) (allowed_act script start k t rw_k h e l.0 l.1 p) (tested (takes k e.act)) (tested (gives_back k e.act)) (tested (is_begin e.act)) i g)
+              rw n (mine p (is_some_session t e.session p) (l.1 t p) (tested (takes k e.act)) (tested (gives_back k e.act)) (tested (is_begin e.act)) i g)
 
           by_restart : Tested (is_restart e.act) → IH → 1 ≤ count t (holders k (e ∷ h))
           by_restart (inl r) i = absurd (closed t e.session e.act (is_open t h) r o)
           by_restart (inr n) i = by_session n (tested (is_by t e)) i
+
+module _ (script : Script) (start : Tables) (k : Key) (rw_k : strategy script k.entity ≡ Strategy.ReadWrite) where
+  pub holders_le : (t : ℕ) (h : Journal) → IsLegal script (Some start) h → count t (holders k h) ≤ cond (holds k (own t h)) 1 0
+  holders_le t h l = holders_le_by script k t h (are_allowed script start k rw_k h l)
+
+  pub holder_holds : (t : ℕ) (h : Journal) → IsLegal script (Some start) h → In t (holders k h) → holds k (own t h) ≡ true
+  holder_holds t h l i = holder_holds_by script k t h (are_allowed script start k rw_k h l) i
+
+  pub holds_holder : (t : ℕ) (h : Journal) → IsLegal script (Some start) h → is_open t h ≡ true → holds k (own t h) ≡ true → In t (holders k h)
+  holds_holder t h l o w = holds_holder_by script k t h (are_allowed script start k rw_k h l) o w

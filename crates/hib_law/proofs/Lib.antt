@@ -1,43 +1,43 @@
 -- Small facts.
-mod Basics
+pub mod Basics
 -- One key of a read-write region, with no journal in sight: what each kind of entry does to it, and what always holds.
-mod Guarded
-mod Protocol
+pub mod Guarded
+pub mod Protocol
 -- From a legal journal to that: what touches a key, what its slot was before, and what a session may do.
-mod Touches
-mod Effects
-mod Views
-mod Commits
-mod Coherent
-mod Floors
+pub mod Touches
+pub mod Effects
+pub mod Views
+pub mod Commits
+pub mod Coherent
+pub mod Floors
 -- What a session holds and what it may do, by its plan.
-mod HeldRows
-mod Pending
-mod Walks
-mod Working
-mod Flushing
-mod Flushes
-mod Ends
-mod Blocks
+pub mod HeldRows
+pub mod Pending
+pub mod Walks
+pub mod Working
+pub mod Flushing
+pub mod Flushes
+pub mod Ends
+pub mod Blocks
 -- Read-write keys: rows, locks and their holders.
-mod Holders
-mod Orderly
-mod Whole
-mod Ids
+pub mod Holders
+pub mod Orderly
+pub mod Whole
+pub mod Ids
 -- Lists of queries.
-mod Stamped
-mod Given
-mod QueryRules
-mod Past
-mod Hits
-mod Lists
+pub mod Stamped
+pub mod Given
+pub mod QueryRules
+pub mod Past
+pub mod Hits
+pub mod Lists
 -- Items of any region.
-mod StoreRules
-mod Stored
-mod ReadOnlyRules
-mod ReadOnly
+pub mod StoreRules
+pub mod Stored
+pub mod ReadOnlyRules
+pub mod ReadOnly
 -- Finds, misses, and all claims together.
-mod Answered
-mod Misses
-mod Joined
-mod Refuted
+pub mod Answered
+pub mod Misses
+pub mod Joined
+pub mod Refuted

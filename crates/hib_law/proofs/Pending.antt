@@ -84,7 +84,7 @@ new_unwritten k (e ∷ m) a l f p q b = by_break (tested (is_break e.act e.reply
 
 -- what a pending change says of what is held of its key
 abbrev pub PendingBy : Option Instance → Change → Type 0
-PendingBy i (Change.Insert j r) = (z : Instance) × (i ≡ Some z) × (z.state ≡ State.New)
+PendingBy i (Change.Insert j r) = (z : Instance) × (i ≡ Some z) × (z.state ≡ State.New) × (r ≡ z.row)
 PendingBy i (Change.Update j v r) =
     (z : Instance) × (b : Row) × (i ≡ Some z) × (z.state ≡ State.Managed) × (z.base ≡ Some b) × (b.version ≡ v) × (r.version ≡ next_version v)
 PendingBy i (Change.Delete j v) = (z : Instance) × (b : Row) × (i ≡ Some z) × (z.state ≡ State.Removed) × (z.base ≡ Some b) × (b.version ≡ v)
@@ -96,7 +96,7 @@ insert_says (Some z) c e = by_state z.state refl e
     by_state : (t : State) → z.state ≡ t → insert_by z.state z.key z.row ≡ Some c → PendingBy (Some z) c
     by_state State.New p e =
         let g : Some (Change.Insert z.key z.row) ≡ Some c = rw p at e in
-        subst (λ d. PendingBy (Some z) d) (some_same g) (z, refl, p)
+        subst (λ d. PendingBy (Some z) d) (some_same g) (z, refl, p, refl)
     by_state State.Managed p e = let g : ◌≡◌ {A = Option Change} None (Some c) = rw p at e in none_some g
     by_state State.Removed p e = let g : ◌≡◌ {A = Option Change} None (Some c) = rw p at e in none_some g
 

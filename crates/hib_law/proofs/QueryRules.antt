@@ -78,7 +78,6 @@ end_quiet (Act.RegionRemove k) p = refl
 end_quiet _ p = absurd (false≢true p)
 
 own_quiet : (a : Act) → is_own_act a ≡ true → is_quiet a ≡ true
-own_quiet (Act.Persist k r) p = refl
 own_quiet (Act.Set k cells) p = refl
 own_quiet (Act.Remove k) p = refl
 own_quiet Act.Clear p = refl
@@ -201,6 +200,7 @@ module _ (script : Script) where
   good : AreGood (AllowedQuery script) Anyhow script IsOver (At [])
   good = record {
     find = λ mode k. Walks.goes_find (AllowedQuery script) Anyhow (At []) script mode (λ a p. keeps_quiet [] a (find_quiet a p)) k;
+    persist = λ j r p. keeps_quiet [] (Act.Persist j r) refl;
     own = λ a p. keeps_quiet [] a (own_quiet a p);
     flush = Walks.goes_flush (AllowedQuery script) Anyhow (At []) script (λ a p. keeps_quiet [] a (flush_quiet a p));
     answer = goes_answer;

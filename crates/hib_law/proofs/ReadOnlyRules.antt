@@ -125,7 +125,6 @@ list_plain (Act.Keep q t l) p = refl
 list_plain _ p = absurd (false≢true p)
 
 own_plain : (a : Act) → is_own_act a ≡ true → is_plain a ≡ true
-own_plain (Act.Persist k r) p = refl
 own_plain (Act.Set k cells) p = refl
 own_plain (Act.Remove k) p = refl
 own_plain Act.Clear p = refl
@@ -396,6 +395,7 @@ module _ (k : Key) where
     good : AreGood (AllowedOnly k) (Refuses k) script W W
     good = record {
       find = λ mode j. Walks.goes_find (AllowedOnly k) (Refuses k) W script mode (λ a p. keeps_plain a (find_plain a p)) j;
+      persist = λ j r p. keeps_plain (Act.Persist j r) refl;
       own = λ a p. keeps_plain a (own_plain a p);
       flush = goes_flush;
       answer = λ mode q. Walks.goes_answer (AllowedOnly k) (Refuses k) W script mode (λ a p. keeps_plain a (list_plain a p)) q;

@@ -7,12 +7,12 @@ use Rattle.hib_journal.specs.Types.{Key, Row, Change, Strategy, Mode, Script, Ac
 use Rattle.hib_base.specs.Tables.{Tables, first_on, last_on, row_left}
 use Rattle.hib_journal.specs.Sessions.{Journal, own, is_by, changes_in, changes_after, time_in, floor_in, is_begun, begun_after}
 use Rattle.hib_journal.specs.Held.{held}
-use Rattle.hib_journal.specs.Plan.{one}
+use Rattle.hib_journal.specs.Plan.{one, InOrder}
 use Rattle.hib_journal.specs.Next
-use Rattle.hib_journal.specs.Next.{tables_in, is_in, mode_puts, strategy, is_committed_reply, keys_of, complete, stamps_of, completion}
+use Rattle.hib_journal.specs.Next.{plan_of, next, tables_in, is_in, mode_puts, strategy, is_committed_reply, keys_of, complete, stamps_of, completion}
 use Rattle.hib_journal.specs.Legal.{IsLegal, IsStep}
 use Rattle.hib_journal.specs.Coherence.{done_in, done_after}
-use Rattle.hib_journal.proofs.Plans.{Runs, Allows, allows_join, runs_each, runs_if}
+use Rattle.hib_journal.proofs.Plans.{AllRight, Runs, Allows, allows_join, runs_each, runs_if}
 use Rattle.hib_law.proofs.Walks
 use Rattle.hib_law.proofs.Walks.{AreGood, runs_test, goes_act, not_in_test, is_list_act, is_flush_act, is_own_act}
 use Rattle.hib_law.proofs.Ends.{put_back, done_reply}
@@ -71,7 +71,6 @@ flush_work (Act.Write c) p = refl
 flush_work _ p = absurd (false≢true p)
 
 own_work : (a : Act) → is_own_act a ≡ true → is_work a ≡ true
-own_work (Act.Persist k r) p = refl
 own_work (Act.Set k cells) p = refl
 own_work (Act.Remove k) p = refl
 own_work Act.Clear p = refl
@@ -225,6 +224,7 @@ module _ (script : Script) where
   good : AreGood AllowedStore Anyhow script Any IsBusy
   good = record {
     find = goes_find;
+    persist = λ j r p. keeps_work (Act.Persist j r) refl;
     own = λ a p. keeps_work a (own_work a p);
     flush = Walks.goes_flush AllowedStore Anyhow IsBusy script (λ a p. keeps_work a (flush_work a p));
     answer = λ mode q. Walks.goes_answer AllowedStore Anyhow IsBusy script mode (λ a p. keeps_work a (list_work a p)) q;
@@ -242,6 +242,14 @@ module _ (script : Script) where
     );
     begins = λ m w go g. (tt, λ e p r. g (e ∷ m) (rw p refl, rw p refl));
   }
+
+  anyhow : (m : Journal) → AllRight AllowedStore Anyhow m
+  anyhow [] = tt
+  anyhow (e ∷ m) = (anyhow m, tt)
+
+  -- an act that is due is allowed, by the session's own entries alone
+  pub allowed_store_by : (s : ℕ) (m : Journal) (a : Act) → InOrder (plan_of script s) m → next script s m ≡ Some a → AllowedStore m a
+  allowed_store_by s m a f n = Walks.allowed_own AllowedStore Anyhow script Any IsBusy good tt s m a f (anyhow m) n
 
   -- in a legal journal each act of a session is allowed by what the session did before
   pub allowed_store : (start : Tables) (s : ℕ) (h : Journal) (e : Entry) → IsLegal script (Some start) h → IsStep script (Some start) h e → is_by s e ≡ true →

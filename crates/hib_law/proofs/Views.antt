@@ -77,15 +77,15 @@ pub holders_same : (k : Key) (e : Entry) (h : Journal) → is_restart e.act ≡ 
     holders k (e ∷ h) ≡ holders k h
 holders_same k e h n a b = rw (n, a, b)
 
-holders_more : (k : Key) (e : Entry) (h : Journal) (s : ℕ) → is_restart e.act ≡ false → takes k e.act ≡ true → e.session ≡ Some s →
+pub holders_more : (k : Key) (e : Entry) (h : Journal) (s : ℕ) → is_restart e.act ≡ false → takes k e.act ≡ true → e.session ≡ Some s →
     holders k (e ∷ h) ≡ s ∷ holders k h
 holders_more k e h s n a b = rw (n, a, b)
 
-holders_less : (k : Key) (e : Entry) (h : Journal) (s : ℕ) → is_restart e.act ≡ false → takes k e.act ≡ false → gives_back k e.act ≡ true →
+pub holders_less : (k : Key) (e : Entry) (h : Journal) (s : ℕ) → is_restart e.act ≡ false → takes k e.act ≡ false → gives_back k e.act ≡ true →
     e.session ≡ Some s → holders k (e ∷ h) ≡ remove s (holders k h)
 holders_less k e h s n a b c = rw (n, a, b, c)
 
-gives_back_act : (k : Key) (a : Act) → gives_back k a ≡ true → ((i : ℕ) × (a ≡ Act.Unlock k i)) ⊎ ((i : ℕ) × (r : Row) × (a ≡ Act.AfterUpdate k i r))
+pub gives_back_act : (k : Key) (a : Act) → gives_back k a ≡ true → ((i : ℕ) × (a ≡ Act.Unlock k i)) ⊎ ((i : ℕ) × (r : Row) × (a ≡ Act.AfterUpdate k i r))
 gives_back_act k (Act.Unlock j i) e = inl (i, ap (λ z. Act.Unlock z i) (same_key_eq j k e))
 gives_back_act k (Act.AfterUpdate j i r) e = inr (i, r, ap (λ z. Act.AfterUpdate z i r) (same_key_eq j k e))
 gives_back_act k _ e = absurd (false≢true e)

@@ -8,9 +8,9 @@ use Rattle.hib_journal.specs.Types.{Key, Row, Change, Strategy, Mode, Statement,
 use Rattle.hib_base.specs.Tables.{Tables, first_on, last_on, row_left}
 use Rattle.hib_journal.specs.Sessions.{Journal, own, is_by, changes_in, time_in, floor_in}
 use Rattle.hib_journal.specs.Held.{held, pending, is_fresh}
-use Rattle.hib_journal.specs.Plan.{Block, one, left_of}
+use Rattle.hib_journal.specs.Plan.{Block, one, left_of, InOrder}
 use Rattle.hib_journal.specs.Next
-use Rattle.hib_journal.specs.Next.{strategy, plan_of, mode_after, ends, tables_of, tables_in, is_in, is_in_tables, mode_puts, mode_reads}
+use Rattle.hib_journal.specs.Next.{strategy, plan_of, next, mode_after, ends, tables_of, tables_in, is_in, is_in_tables, mode_puts, mode_reads}
 use Rattle.hib_journal.specs.Legal.{IsLegal, IsStep}
 use Rattle.hib_base.proofs.Tables.{Tested, tested}
 use Rattle.hib_journal.proofs.Plans.{Good, Runs, Allows, allows_join, runs_each, runs_if, AllRight, good_left, allowed_first}
@@ -50,7 +50,6 @@ is_end_act (Act.RegionRemove k) = true
 is_end_act _ = false
 
 abbrev pub is_own_act : Act → Bool
-is_own_act (Act.Persist k r) = true
 is_own_act (Act.Set k cells) = true
 is_own_act (Act.Remove k) = true
 is_own_act Act.Clear = true
@@ -213,6 +212,7 @@ module _ (Allowed : Journal → Act → Type 0) (Right : Journal → Entry → T
   -- the blocks of a session: W holds within a transaction, and Over before a Begin
   pub record AreGood (script : Script) (Over W : Journal → Type 0) : Type 0 where
     pub find : (mode : Mode) (k : Key) → Goes (Next.find script mode k) W W
+    pub persist : (k : Key) (r : Row) → r.version ≡ Next.first_version script k.entity → Keeps W (Act.Persist k r)
     pub own : AllKeep W is_own_act
     pub flush : Goes (Next.flush script) W W
     pub answer : (mode : Mode) (q : ℕ) → Goes (Next.answer script mode q) W W
@@ -235,7 +235,9 @@ module _ (Allowed : Journal → Act → Type 0) (Right : Journal → Entry → T
 
     goes_block : (mode : Mode) (st : Statement) → Goes (Next.block script mode st) W (Between (ends st))
     goes_block mode (Statement.Find k) = good.find mode k
-    goes_block mode (Statement.Persist k cells) = goes_own (Act.Persist k (record { version = Next.first_version script k.entity; cells = cells })) refl
+    goes_block mode (Statement.Persist k cells) =
+        goes_act W (Act.Persist k (record { version = Next.first_version script k.entity; cells = cells }))
+        (good.persist k (record { version = Next.first_version script k.entity; cells = cells }) refl)
     goes_block mode (Statement.Set k cells) = goes_own (Act.Set k cells) refl
     goes_block mode (Statement.Remove k) = goes_own (Act.Remove k) refl
     goes_block mode (Statement.List q) = goes_list mode q
@@ -255,6 +257,13 @@ module _ (Allowed : Journal → Act → Type 0) (Right : Journal → Entry → T
         goes_begin b m w (λ d. Next.block script mode st d (λ x. Next.blocks script (mode_after st mode) (ends st) sts x))
         (λ n v. goes_block mode st n v (λ x. Next.blocks script (mode_after st mode) (ends st) sts x) (λ o u. good_blocks (mode_after st mode) (ends st) sts o u))
 
+    -- an act that is due is allowed, by the session's own entries alone: they are the acts of its plan, with right replies
+    pub allowed_own : Over [] → (s : ℕ) (m : Journal) (a : Act) → InOrder (plan_of script s) m → AllRight Allowed Right m → next script s m ≡ Some a → Allowed m a
+    allowed_own o s m a f r n =
+        allowed_first Allowed Right (left_of (plan_of script s) m) m a
+        (good_left Allowed Right (plan_of script s) m (good_blocks Mode.Normal true (option_map_or (λ d. d.statements) (slice_get script.sessions s) []) [] o) f r)
+        (next_is script s m a n)
+
     module _ (told : Option Tables) (s : ℕ) (right : (h : Journal) (e : Entry) → IsStep script told h e → is_by s e ≡ true → Right (own s h) e) where
       all_right : (h : Journal) → IsLegal script told h → AllRight Allowed Right (own s h)
       all_right [] l = tt
@@ -264,10 +273,10 @@ module _ (Allowed : Journal → Act → Type 0) (Right : Journal → Entry → T
           by_session (inr p) a = rw p a
           by_session (inl p) a = rw p (a, right h e l.1 p)
 
-      -- in a legal journal each act of a session is allowed by what the session did before
+      -- in a legal journal the act that is due of a session is allowed by what the session did before
+      pub due_allowed : Over [] → (h : Journal) → IsLegal script told h → (a : Act) → next script s (own s h) ≡ Some a → Allowed (own s h) a
+      due_allowed o h l a p = allowed_own o s (own s h) a (steps_in_order script told s h l) (all_right h l) p
+
+      -- and so is each act that it does
       pub allowed : Over [] → (h : Journal) (e : Entry) → IsLegal script told h → IsStep script told h e → is_by s e ≡ true → Allowed (own s h) e.act
-      allowed o h e l t p =
-          allowed_first Allowed Right (left_of (plan_of script s) (own s h)) (own s h) e.act
-          (good_left Allowed Right (plan_of script s) (own s h) (good_blocks Mode.Normal true (option_map_or (λ d. d.statements) (slice_get script.sessions s) []) [] o)
-          (steps_in_order script told s h l) (all_right h l))
-          (next_is script s (own s h) e.act (next_act script told h e s t p).1)
+      allowed o h e l t p = due_allowed o h l e.act (next_act script told h e s t p).1

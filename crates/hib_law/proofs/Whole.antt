@@ -28,7 +28,7 @@ pub data Read (k : Key) (b : Row) (a : Act) (r : Reply) : Type 0 where
   ByGet : (t : ℕ) → a ≡ Act.Get k t → r ≡ Reply.Hit b → Read k b a r
   ByLoad : a ≡ Act.Load k → r ≡ Reply.Row (Some b) → Read k b a r
 
-read_by : (k : Key) (b : Row) (a : Act) (r : Reply) → arrival a r ≡ Some (Arrival.Read k b) → Read k b a r
+pub read_by : (k : Key) (b : Row) (a : Act) (r : Reply) → arrival a r ≡ Some (Arrival.Read k b) → Read k b a r
 read_by k b (Act.Get j t) (Reply.Hit x) e =
     let g : Arrival.Read j x ≡ Arrival.Read k b = some_same e in
     let p : j ≡ k = cc in let q : x ≡ b = cc in
@@ -101,16 +101,16 @@ module _ (script : Script) (start : Tables) (k : Key) where
 
 module _ (script : Script) (start : Tables) (k : Key) (rw_k : strategy script k.entity ≡ Strategy.ReadWrite) where
   -- what is read now is committed
-  read_committed : (h : Journal) (e : Entry) (s : ℕ) (b : Row) → IsReply script (Some start) h e → e.session ≡ Some s → IsCoherent (view_of script start k h) →
+  read_committed : (h : Journal) (e : Entry) (s : ℕ) (b : Row) → IsReply script (Some start) h e → e.session ≡ Some s → IsRowOf (slot script.timeout k h) (row_at (committed start h) k) →
       is_in k (changes s h) ≡ false → Read k b e.act e.reply → row_at (committed start (e ∷ h)) k ≡ Some b
   read_committed h e s b r w c n (Read.ByGet t p q) =
       let g : Regions.got (slot script.timeout k h) t ≡ Reply.Hit b = sym (got_by script start k h e t rw_k r p) ∙ q in
       let z : (u : ℕ) × (slot script.timeout k h ≡ Slot.Item b u) × (u < t) = hit_item (slot script.timeout k h) t b g in
-      rw p (subst (λ x. IsRowOf x (row_at (committed start h) k)) z.1 c.holding.item)
+      rw p (subst (λ x. IsRowOf x (row_at (committed start h) k)) z.1 c)
   read_committed h e s b r w c n (Read.ByLoad p q) =
       rw p (sym (view_unchanged start h s k n) ∙ sym (loaded_by script start k h e s (Some b) r w p q))
 
-  reads_next : (h : Journal) (e : Entry) → IsLegal script (Some start) (e ∷ h) → is_restart e.act ≡ false → IsCoherent (view_of script start k h) →
+  pub reads_next : (h : Journal) (e : Entry) → IsLegal script (Some start) (e ∷ h) → is_restart e.act ≡ false → IsRowOf (slot script.timeout k h) (row_at (committed start h) k) →
       Reads script start k rw_k h → Reads script start k rw_k (e ∷ h)
   reads_next h e l n c i s b o m x = by_session (tested (is_by s e))
     where
@@ -146,7 +146,7 @@ module _ (script : Script) (start : Tables) (k : Key) (rw_k : strategy script k.
       by_restart (inr n) f =
           let z : WasSound k h e = was_sound k h e n w in
           let c : IsCoherent (view_of script start k h) × Reads script start k rw_k h = f z.before in
-          (coherent_next script start k rw_k h e l n (orderly script start k rw_k h e l.0 l.1 c.1) z (is_kept h l.0) c.0, reads_next h e l n c.0 c.1)
+          (coherent_next script start k rw_k h e l n (orderly script start k rw_k h e l.0 l.1 c.1) z (is_kept h l.0) c.0, reads_next h e l n c.0.holding.item c.1)
 
   -- a sound key is coherent at every entry
   pub coherent : (h : Journal) → IsLegal script (Some start) h → is_sound k h ≡ true → IsCoherent (view_of script start k h)

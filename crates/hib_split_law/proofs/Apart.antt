@@ -215,7 +215,7 @@ module _ (script : Script) where
       let m : IsOwnStep script (unwrap_or e.session 0) (own (unwrap_or e.session 0) h) e = mine_head (unwrap_or e.session 0) e h q l in
       allowed_due script (unwrap_or e.session 0) (own (unwrap_or e.session 0) h) e.act (mine_order (unwrap_or e.session 0) (own (unwrap_or e.session 0) h) (mine_tail (unwrap_or e.session 0) e h l)) m.act
 
-  fits_mine : (e : Entry) (h : Journal) → AllInner h → e.session ≡ Some (unwrap_or e.session 0) → IsOwnLegal script (unwrap_or e.session 0) (own (unwrap_or e.session 0) (e ∷ h)) → Fits e h
+  pub fits_mine : (e : Entry) (h : Journal) → AllInner h → e.session ≡ Some (unwrap_or e.session 0) → IsOwnLegal script (unwrap_or e.session 0) (own (unwrap_or e.session 0) (e ∷ h)) → Fits e h
   fits_mine e h a q l = record {
     part = (mine_head (unwrap_or e.session 0) e h q l).part;
     same = λ y. unsaved_inner (unwrap_or e.session 0) h a ∙ (mine_due e h q l).deferred y;
@@ -224,11 +224,11 @@ module _ (script : Script) where
   inner_mine : (e : Entry) (h : Journal) → e.session ≡ Some (unwrap_or e.session 0) → IsOwnLegal script (unwrap_or e.session 0) (own (unwrap_or e.session 0) (e ∷ h)) → Inner e
   inner_mine e h q l = record { session = q; inside = (mine_due e h q l).inside }
 
-  inner_all : (h : Journal) → HaveSessions h → ((s : ℕ) → IsOwnLegal script s (own s h)) → AllInner h
+  pub inner_all : (h : Journal) → HaveSessions h → ((s : ℕ) → IsOwnLegal script s (own s h)) → AllInner h
   inner_all [] q l = tt
   inner_all (e ∷ h) q l = (inner_all h q.0 (λ s. mine_tail s e h (l s)), inner_mine e h q.1 (l (unwrap_or e.session 0)))
 
-  all_mine : (h : Journal) → HaveSessions h → ((s : ℕ) → IsOwnLegal script s (own s h)) → AllFit h
+  pub all_mine : (h : Journal) → HaveSessions h → ((s : ℕ) → IsOwnLegal script s (own s h)) → AllFit h
   all_mine [] q l = tt
   all_mine (e ∷ h) q l = (all_mine h q.0 (λ s. mine_tail s e h (l s)), fits_mine e h (inner_all h q.0 (λ s. mine_tail s e h (l s))) q.1 (l (unwrap_or e.session 0)))
 

@@ -32,7 +32,7 @@ asks_same (Act.Load k) cs ds e = ap (λ xs. asks xs (Act.Load k)) (e refl)
 asks_same (Act.List q) cs ds e = refl
 asks_same _ cs ds e = refl
 
-asked_local : (h : Journal) → AllFit h → ask_count h ≡ store_ask_count (seen_by Part.Store h)
+pub asked_local : (h : Journal) → AllFit h → ask_count h ≡ store_ask_count (seen_by Part.Store h)
 asked_local [] a = refl
 asked_local (e ∷ h) a = by (same_part Part.Store e.part || stops e.act) refl (asked_local h a.0)
   where
@@ -138,7 +138,7 @@ sure_act (Act.List q) cs o = absurd (true≢false o)
 sure_act Act.Commit cs o = absurd (true≢false o)
 sure_act _ cs o = (refl, refl)
 
-elsewhere : (a : Act) (s : ℕ) → same_part Part.Store (part_of a s) ≡ false → asks_store a ≡ false
+pub elsewhere : (a : Act) (s : ℕ) → same_part Part.Store (part_of a s) ≡ false → asks_store a ≡ false
 elsewhere (Act.Load k) s p = absurd (true≢false p)
 elsewhere (Act.List q) s p = absurd (true≢false p)
 elsewhere Act.Commit s p = absurd (true≢false p)
@@ -152,7 +152,7 @@ module _ (script : Script) (e : Entry) (h : Journal) (o : asks_store e.act ≡ f
       none : ◌≡◌ {A = Option Reply} None (Some e.reply) → ⊥
       none q = cc
 
-  calm : (told : Option Tables) → IsReply script told h e → is_fault e.reply ≡ false
+  pub calm : (told : Option Tables) → IsReply script told h e → is_fault e.reply ≡ false
   calm (Some start) p = calm_answer start p
   calm None p = calm_answer [] (p.1 (sure_act e.act (changes (unwrap_or e.session 0) h) o).0)
 
