@@ -59,6 +59,14 @@ pub enum Kind {
     NoEnd,
     /// No journal follows, or a line of it is no entry.
     Journal,
+    /// The line after which a section begins is missing.
+    Section,
+    /// The schedule has an order that can't be given here, or stands where there can be none.
+    Order,
+    /// The entity's rows have no versions.
+    Plain,
+    /// A query whose results are kept.
+    Cached,
 }
 
 impl Kind {
@@ -94,6 +102,10 @@ impl Kind {
             Kind::Last => b"last",
             Kind::NoEnd => b"no-end",
             Kind::Journal => b"journal",
+            Kind::Section => b"section",
+            Kind::Order => b"order",
+            Kind::Plain => b"plain",
+            Kind::Cached => b"cached",
         }
     }
 }
