@@ -1,5 +1,5 @@
--- A factory goes on: with one entry more its journal is legal, and its parts and sessions stand for it.
-use Rattle.std.proofs.Common.{◌≡◌, ℕ, ◌+◌, ◌<◌, ◌^◌, ◌==◌, Bool, true, false, List, ◌∷◌, length, get_or, IsSome, IfSome, Some, None, Option, is_some, IfOk, Result, Ok, Err, refl, sym, ap, ◌∙◌, subst, arith, inl, inr}
+-- A factory goes on: with one entry more its journal is legal, and its engines and sessions stand for it.
+use Rattle.std.proofs.Common.{◌≡◌, ℕ, suc, ◌+◌, ◌<◌, ◌≤◌, ◌^◌, ◌==◌, Bool, true, false, cond, List, [], ◌∷◌, length, get_or, IsSome, IfSome, Some, None, Option, is_some, IfOk, Result, Ok, Err, refl, sym, ap, ◌∙◌, subst, arith, inl, inr}
 use Rattle.std.proofs.lemmas.Bool.{true≢false, eqb-true}
 use Rattle.std.proofs.lemmas.List.{length-set}
 use Rattle.std.proofs.lemmas.Option.{slice_get_within, slice_get-get_or}
@@ -7,20 +7,36 @@ use Rattle.std.specs.Prelude.{slice_get, slice_set, option_map}
 use Rattle.std.specs.declared.alloc.AllocError.{AllocError}
 use Rattle.hib_base.proofs.Tables.{Tested, tested}
 use Rattle.hib_journal.specs.Types.{Part, Script, Act, Reply, Entry}
-use Rattle.hib_journal.specs.Sessions.{Journal, own, was_killed, IsTimely}
+use Rattle.hib_journal.specs.Sessions.{Journal, own, was_killed, last_tick, same_part, IsTimely}
 use Rattle.hib_journal.specs.Next.{next}
 use Rattle.hib_journal.specs.Played.{has_next}
 use Rattle.hib_journal.specs.Legal.{IsLegal, part_of, due, may_come, is_outside}
-use Rattle.hib_journal.specs.Runs.{IsNumbered}
+use Rattle.hib_journal.specs.Lists.{IsLate}
+use Rattle.hib_journal.specs.Runs.{IsNumbered, is_fault, fault_count}
+use Rattle.hib_outside.specs.Causes.{Rose}
 use Rattle.hib_session.specs.declared.session.Session.{Session}
 use Rattle.hib_session.specs.Session.{Follows, IsTaken, number_of, is_killed}
-use Rattle.hib_engines.specs.Served.{AreWithin}
 use Rattle.hib_engines.specs.Due.{IsDue}
-use Rattle.hib_core.specs.Standing.{Origin, PartsState, IsStill, IsReady, IsAnswered, entry_of}
+use Rattle.hib_engines.specs.Engines.{EnginesState, IsStill, IsReady, IsAnswered, IsTold}
+use Rattle.hib_engines.proofs.Rose.{rose_more, rose_on, rose_if}
+use Rattle.hib_engines.proofs.Still.{still_standing}
+use Rattle.hib_core.specs.Standing.{Origin, entry_of}
 use Rattle.hib_session.specs.Sessions.{AreSessions}
-use Rattle.hib_core.specs.Factory.{Lawful, IsRun, IsMember, IsTurn, IsTold, Answers}
+use Rattle.hib_core.specs.Factory.{Lawful, IsRun, IsMember, IsTurn, Answers}
 use Rattle.hib_session.proofs.Together.{placed_here, placed_there}
-use Rattle.hib_core.proofs.Served.{last_le, still_parts}
+
+-- ---- ticks
+
+last_le : (p : Entry → Bool) (h : Journal) → IsNumbered h → last_tick p h ≤ length h
+last_le p [] n = omega arith
+last_le p (e ∷ h) n = by_test (tested (p e)) (last_le p h n.1)
+  where
+    by_test : Tested (p e) → last_tick p h ≤ length h → last_tick p (e ∷ h) ≤ suc (length h)
+    by_test (inl q) i = rw q (omega (arith, n.0))
+    by_test (inr q) i = rw q (omega (arith, i))
+
+pub late : (p : Part) (h : Journal) (now : ℕ) → IsNumbered h → now ≡ length h + 1 → IsLate p now h
+late p h now m e = omega (arith, last_le (λ d. same_part p d.part) h m, e)
 
 pub timely : (h : Journal) (by : Option ℕ) (s : ℕ) (a : Act) (r : Reply) → IsNumbered h → length h < 2 ^ 62 →
     IsTimely (record { tick = length h + 1; session = by; part = part_of a s; act = a; reply = r }) h
@@ -28,7 +44,7 @@ timely h by s a r n l = record {
   positive = omega arith;
   bounded = omega (arith, l);
   ordered = omega (arith, last_le (λ d. true) h n);
-  in_part = omega (arith, last_le (λ d. Rattle.hib_journal.specs.Sessions.same_part (part_of a s) d.part) h n);
+  in_part = omega (arith, last_le (λ d. same_part (part_of a s) d.part) h n);
   in_session = omega (arith, last_le (λ d. Rattle.hib_journal.specs.Sessions.same_session by d.session) h n);
 }
 
@@ -41,13 +57,17 @@ stays script h Act.Restart p = absurd (true≢false p)
 stays script h (Act.Evict k) p = absurd (true≢false p)
 stays script h _ p = refl
 
-pub goes_on : Lawful → (script : Script) (from : Origin) (h : Journal) (s : ℕ) (a : Act) (r : Reply) (x y : PartsState) → IsRun script from h x → was_killed s h ≡ false →
-    next script s (own s h) ≡ Some a → is_outside a ≡ false → IsAnswered script from h s a r y → length h < 2 ^ 62 → IsRun script from (entry_of h s a r ∷ h) y
-goes_on w script from h s a r x y run live p inside v l = record {
+-- ---- an entry of a session
+
+pub goes_on : Lawful → (script : Script) (from : Origin) (h : Journal) (s : ℕ) (a : Act) (r : Reply) (x y : EnginesState) → IsRun script from h x → was_killed s h ≡ false →
+    next script s (own s h) ≡ Some a → is_outside a ≡ false → IsAnswered script from.tables h (Some s) (length h + 1) a r y → x.store.faults ≤ y.store.faults →
+    (is_fault r ≡ true → Rose x.store.faults y.store.faults) → length h < 2 ^ 62 → IsRun script from (entry_of h s a r ∷ h) y
+goes_on w script from h s a r x y run live p inside v later fault l = record {
   legal = legal_next;
   law = w script from.tables (entry_of h s a r ∷ h) legal_next;
   numbered = (refl, run.numbered);
-  parts = v.parts;
+  engines = v.standing;
+  faults = rose_more from.faults (fault_count h) x.store.faults (cond (is_fault r) 1 0) y.store.faults run.faults (rose_if r x.store.faults y.store.faults later fault);
   built = run.built;
 }
   where
@@ -67,14 +87,9 @@ goes_on w script from h s a r x y run live p inside v l = record {
     )
 
 -- a run whose session has an act due is ready for it
-pub ready : (script : Script) (from : Origin) (h : Journal) (y : Session) (a : Act) (x : PartsState) → IsRun script from h x → IsTurn script h y a →
-    IsReady script from h (number_of y) a x
-ready script from h y a x run t = record { parts = run.parts; numbered = run.numbered; live = t.live; due = t.due }
-
--- what the call of the parts wants
-pub tables_for : (script : Script) (from : Origin) (h : Journal) (y : Session) (a : Act) (x : PartsState) → IsRun script from h x → IsTurn script h y a →
-    AreWithin (length x.stamps) a
-tables_for script from h y a x run t = subst (λ n. AreWithin n a) (sym run.parts.tables) t.due.known
+pub ready : (script : Script) (from : Origin) (h : Journal) (now : ℕ) (y : Session) (a : Act) (x : EnginesState) → IsRun script from h x → IsTurn script h y a → now ≡ length h + 1 →
+    IsReady script from.tables h (number_of y) now a x
+ready script from h now y a x run t e = record { standing = run.engines; live = t.live; late = late (part_of a (number_of y)) h now run.numbered e; due = t.due }
 
 pub entry_is : (h : Journal) (s n t : ℕ) (a : Act) (r : Reply) (p : Part) → t ≡ length h + 1 → n ≡ s → p ≡ part_of a n →
     ◌≡◌ {A = Entry} (record { tick = t; session = Some n; part = p; act = a; reply = r }) (entry_of h s a r)
@@ -82,20 +97,28 @@ entry_is h s n t a r p e d q =
     let tick : ℕ → Part → ℕ → Entry = λ u v m. record { tick = u; session = Some m; part = v; act = a; reply = r } in
     ap (λ u. tick u p n) e ∙ (ap (λ v. tick (length h + 1) v n) q ∙ ap (λ m. tick (length h + 1) (part_of a m) m) d)
 
-pub answers_of : Lawful → (script : Script) (from : Origin) (y : Session) (a : Act) (r : Reply) (h : Journal) (e : Entry) (x z : PartsState) → IsRun script from h x → IsTurn script h y a →
-    IsTold script from h (number_of y) a r x z → length h < 2 ^ 62 → e ≡ entry_of h (number_of y) a r → Answers script from (number_of y) a h e x z
-answers_of w script from y a r h e x z run t told l g = record {
+pub answers_of : Lawful → (script : Script) (from : Origin) (y : Session) (a : Act) (r : Reply) (h : Journal) (now : ℕ) (e : Entry) (x z : EnginesState) → IsRun script from h x → IsTurn script h y a →
+    now ≡ length h + 1 → IsTold script from.tables h (number_of y) now a r x z → x.store.faults ≤ z.store.faults → length h < 2 ^ 62 → e ≡ entry_of h (number_of y) a r → Answers script from (number_of y) a h e x z
+answers_of w script from y a r h now e x z run t m told later l g = record {
   answer = r;
   entry = g;
-  run = subst (λ (v : Entry). IsRun script from (v ∷ h) z) (sym g) (goes_on w script from h (number_of y) a r x z run t.live t.next t.due.inside told.answered l);
+  run = subst (λ (v : Entry). IsRun script from (v ∷ h) z) (sym g)
+      (goes_on w script from h (number_of y) a r x z run t.live t.next t.due.inside (subst (λ n. IsAnswered script from.tables h (Some (number_of y)) n a r z) m told.answered) later told.fault l);
   taken = subst (λ (v : Entry). IsTaken script (number_of y) (own (number_of y) h) v) (sym g) (record { due = t.next; own = told.mine });
   asked = told.asked;
   fault = told.fault;
 }
 
--- parts that are as before, but for the keeper's counts, stand for the journal still
-pub run_still : (script : Script) (from : Origin) (h : Journal) (x y : PartsState) → IsRun script from h x → IsStill x y → IsRun script from h y
-run_still script from h x y run u = record { legal = run.legal; law = run.law; numbered = run.numbered; parts = still_parts script from h x y u run.parts; built = run.built }
+-- engines that are as before, but for the keeper's counts, stand for the journal still
+pub run_still : (script : Script) (from : Origin) (h : Journal) (x y : EnginesState) → IsRun script from h x → IsStill x y → IsRun script from h y
+run_still script from h x y run u = record {
+  legal = run.legal;
+  law = run.law;
+  numbered = run.numbered;
+  engines = still_standing script from.tables h x y u run.engines;
+  faults = rose_on from.faults (fault_count h) x.store.faults y.store.faults run.faults u.store.faults;
+  built = run.built;
+}
 
 -- the sessions of a run with no entry, if the one at s, which is now z, follows what it followed
 pub sessions_same : (script : Script) (h : Journal) (s : ℕ) (xs : List Session) (y z : Session) → AreSessions script h xs → slice_get xs s ≡ Some y → number_of z ≡ number_of y →

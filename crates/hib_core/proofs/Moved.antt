@@ -1,4 +1,4 @@
--- A turn of a session: what it leaves of the journal, the parts and the sessions.
+-- A turn of a session: what it leaves of the journal, the engines and the sessions.
 use Rattle.std.proofs.Common.{◌≡◌, ◌≢◌, ℕ, ◌<◌, ◌≤◌, Bool, true, false, List, ◌∷◌, length, Result, Ok, Err, OnOk, OnErr, Some, refl, sym, ap, ◌∙◌, subst, arith}
 use Rattle.std.proofs.lemmas.List.{get_or-set_same, length-set}
 use Rattle.std.proofs.lemmas.Option.{slice_get_within, slice_get-get_or}
@@ -11,8 +11,9 @@ use Rattle.hib_journal.specs.Played.{has_next}
 use Rattle.hib_journal.specs.Runs.{is_fault}
 use Rattle.hib_session.specs.declared.session.Session.{Session}
 use Rattle.hib_session.specs.Session.{Follows, IsTaken, number_of, is_killed, left_in}
-use Rattle.hib_core.specs.declared.turns.Stepped.{Stepped}
-use Rattle.hib_core.specs.Standing.{Origin, PartsState, IsStill, IsAskedFor, entry_of}
+use Rattle.hib_engines.specs.declared.stepped.Stepped.{Stepped}
+use Rattle.hib_engines.specs.Engines.{EnginesState, IsStill, IsAskedFor}
+use Rattle.hib_core.specs.Standing.{Origin, entry_of}
 use Rattle.hib_session.specs.Sessions.{AreSessions}
 use Rattle.hib_core.specs.Factory.{IsRun, IsAsked, IsAskedOnceMore, IsTurn, Answers, Serves, Leaves, Moves, Does, IsOver, left_or}
 use Rattle.hib_core.specs.Bound.{outside_count}
@@ -26,7 +27,7 @@ brings_so false f = absurd (f refl)
 
 -- the entry was added, and taken
 
-pub serves_of : (told script : Script) (from : Origin) (a : Act) (e : Entry) (h new : Journal) (x w : PartsState) (y z : Session) → told ≡ script → IsTurn script h y a →
+pub serves_of : (told script : Script) (from : Origin) (a : Act) (e : Entry) (h new : Journal) (x w : EnginesState) (y z : Session) → told ≡ script → IsTurn script h y a →
     Answers script from (number_of y) a h e x w → new ≡ e ∷ h →
     ((mine : Journal) → Follows told y mine → IsTaken told (number_of y) mine e → Follows told z (e ∷ mine)) →
     ((mine : Journal) → Follows told y mine → IsTaken told (number_of y) mine e → left_in told z < left_in told y) → Serves script from a h new x w y z
@@ -48,24 +49,24 @@ serves_of told script from a e h new x w y z q t v g f d = record {
 
 -- or nothing was
 
-pub leaves_of : (told script : Script) (h new : Journal) (x w : PartsState) (y z : Session) → told ≡ script → new ≡ h → IsStill x w →
+pub leaves_of : (told script : Script) (h new : Journal) (x w : EnginesState) (y z : Session) → told ≡ script → new ≡ h → IsStill x w →
     ((mine : Journal) → Follows told y mine → Follows told z mine) → Leaves script h new x w y z
 leaves_of told script h new x w y z q e u f = record {
   same = e;
-  parts = u;
+  engines = u;
   follows = subst (λ (v : Script). (mine : Journal) → Follows v y mine → Follows v z mine) q f;
 }
 
-pub leaves_on : (told script : Script) (h new : Journal) (x w : PartsState) (y u z : Session) → told ≡ script → ((mine : Journal) → Follows told y mine → Follows told u mine) →
+pub leaves_on : (told script : Script) (h new : Journal) (x w : EnginesState) (y u z : Session) → told ≡ script → ((mine : Journal) → Follows told y mine → Follows told u mine) →
     Leaves script h new x w u z → Leaves script h new x w y z
 leaves_on told script h new x w y u z q f v = record {
   same = v.same;
-  parts = v.parts;
+  engines = v.engines;
   follows = λ mine g. v.follows mine (subst (λ (v : Script). (mine : Journal) → Follows v y mine → Follows v u mine) q f mine g);
 }
 
 -- a session that was made ready first
-pub moves_of : (told script : Script) (from : Origin) (a : Act) (h new : Journal) (x w : PartsState) (y u z : Session) → told ≡ script → number_of u ≡ number_of y →
+pub moves_of : (told script : Script) (from : Origin) (a : Act) (h new : Journal) (x w : EnginesState) (y u z : Session) → told ≡ script → number_of u ≡ number_of y →
     left_in told u ≤ left_in told y → IsTurn script h u a → Serves script from a h new x w u z → Moves script from h new x w y z
 moves_of told script from a h new x w y u z q e l t v = record {
   act = a;
@@ -85,7 +86,7 @@ moves_of told script from a h new x w y u z q e l t v = record {
 
 -- among all sessions
 
-pub record Turned {E : Type 0} (script : Script) (from : Origin) (s : ℕ) (r : Result Stepped E) (h new : Journal) (x w : PartsState) (xs ys : List Session) : Type 0 where
+pub record Turned {E : Type 0} (script : Script) (from : Origin) (s : ℕ) (r : Result Stepped E) (h new : Journal) (x w : EnginesState) (xs ys : List Session) : Type 0 where
   pub run : IsRun script from new w
   pub sessions : AreSessions script new ys
   pub did : r ≡ Ok Stepped.Did → Does script s h new xs ys
@@ -111,7 +112,7 @@ not_did p = cc
 not_ok : {E : Type 0} (e : E) (t : Stepped) → ◌≡◌ {A = Result Stepped E} (Err e) (Ok t) → ⊥
 not_ok e t p = cc
 
-pub turned : {E : Type 0} (script : Script) (from : Origin) (s : ℕ) (r : Result Stepped E) (h new : Journal) (x w : PartsState) (xs : List Session) (y z : Session) →
+pub turned : {E : Type 0} (script : Script) (from : Origin) (s : ℕ) (r : Result Stepped E) (h new : Journal) (x w : EnginesState) (xs : List Session) (y z : Session) →
     IsRun script from h x → AreSessions script h xs → slice_get xs s ≡ Some y → number_of z ≡ number_of y → is_killed z ≡ is_killed y →
     (r ≡ Ok Stepped.Did → Moves script from h new x w y z) → (r ≡ Ok Stepped.Done → has_next script h (number_of y) ≡ false) → (r ≡ Ok Stepped.Done → w ≡ x) →
     (r ≢ Ok Stepped.Did → Leaves script h new x w y z) → Turned script from s r h new x w xs (slice_set xs s z)
@@ -154,7 +155,7 @@ turned {E = X} script from s (Ok Stepped.Done) h new x w xs y z run all p k d di
   where
     by_leave : Leaves script h new x w y z → Turned {E = X} script from s (Ok Stepped.Done) h new x w xs (slice_set xs s z)
     by_leave v = record {
-      run = subst (λ (j : Journal). IsRun script from j w) (sym v.same) (run_still script from h x w run v.parts);
+      run = subst (λ (j : Journal). IsRun script from j w) (sym v.same) (run_still script from h x w run v.engines);
       sessions = subst (λ (j : Journal). AreSessions script j (slice_set xs s z)) (sym v.same) (sessions_same script h s xs y z all p k d v.follows);
       did = λ e. absurd (not_did e);
       done = λ e. record {
@@ -163,7 +164,7 @@ turned {E = X} script from s (Ok Stepped.Done) h new x w xs y z run all p k d di
       };
       same = tt;
       err = tt;
-      asked = λ g. subst (λ (j : Journal). IsAsked from j w) (sym v.same) (subst (λ (u : PartsState). IsAsked from h u) (sym (quiet refl)) g);
+      asked = λ g. subst (λ (j : Journal). IsAsked from j w) (sym v.same) (subst (λ (u : EnginesState). IsAsked from h u) (sym (quiet refl)) g);
       fault = λ e q f. absurd (no_entry h new e v.same q);
       inside = ap outside_count v.same;
     }
@@ -171,18 +172,18 @@ turned {E = X} script from s (Err a) h new x w xs y z run all p k d did done qui
   where
     by_leave : Leaves script h new x w y z → Turned {E = X} script from s (Err a) h new x w xs (slice_set xs s z)
     by_leave v = record {
-      run = subst (λ (j : Journal). IsRun script from j w) (sym v.same) (run_still script from h x w run v.parts);
+      run = subst (λ (j : Journal). IsRun script from j w) (sym v.same) (run_still script from h x w run v.engines);
       sessions = subst (λ (j : Journal). AreSessions script j (slice_set xs s z)) (sym v.same) (sessions_same script h s xs y z all p k d v.follows);
       did = λ e. absurd (not_ok a Stepped.Did e);
       done = λ e. absurd (not_ok a Stepped.Done e);
       same = v.same;
-      err = v.parts;
+      err = v.engines;
       asked = tt;
       fault = λ e q f. absurd (no_entry h new e v.same q);
       inside = ap outside_count v.same;
     }
 
 -- the keeper was not asked more
-pub once_more : (from : Origin) (h new : Journal) (x y : PartsState) → IsAsked from h x → new ≡ h → y ≡ x → IsAskedOnceMore from new y
-once_more from h new x y g e d = subst (λ (j : Journal). IsAskedOnceMore from j y) (sym e) (subst (λ (v : PartsState). IsAskedOnceMore from h v) (sym d)
+pub once_more : (from : Origin) (h new : Journal) (x y : EnginesState) → IsAsked from h x → new ≡ h → y ≡ x → IsAskedOnceMore from new y
+once_more from h new x y g e d = subst (λ (j : Journal). IsAskedOnceMore from j y) (sym e) (subst (λ (v : EnginesState). IsAskedOnceMore from h v) (sym d)
     (record { later = g.later; few = omega (arith, g.few) }))

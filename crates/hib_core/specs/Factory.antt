@@ -1,78 +1,68 @@
--- What a factory keeps: its journal is legal, and its parts and sessions stand for it.
-use Rattle.std.specs.Prelude.{◌≡◌, ℕ, ◌+◌, ◌<◌, ◌^◌, Bool, true, false, List, ◌∷◌, length, slice_get, Some, Option, None}
-use Rattle.hib_base.specs.Fits.{is_identifier}
+-- What a factory keeps: its journal is legal, and its engines and sessions stand for it.
+use Rattle.std.specs.Prelude.{◌≡◌, ℕ, ◌+◌, ◌<◌, Bool, true, false, List, ◌∷◌, slice_get, Some, Option, None}
 use Rattle.hib_base.specs.Tables.{Tables}
-use Rattle.hib_journal.specs.Types.{Order, Script, Act, Reply, Entry}
+use Rattle.hib_journal.specs.Types.{Script, Act, Reply, Entry}
 use Rattle.hib_journal.specs.Kept.{Kept, past}
 use Rattle.hib_journal.specs.Sessions.{Journal, own, was_killed}
-use Rattle.hib_journal.specs.Next.{next, is_cached}
+use Rattle.hib_journal.specs.Next.{next}
 use Rattle.hib_journal.specs.Legal.{IsLegal, is_outside}
 use Rattle.hib_journal.specs.Played.{has_next}
-use Rattle.hib_journal.specs.Runs.{IsNumbered, ask_count, is_fault}
+use Rattle.hib_journal.specs.Runs.{IsNumbered, ask_count, is_fault, fault_count}
 use Rattle.hib_session.specs.declared.session.Session.{Session}
 use Rattle.hib_law.specs.Law.{Obeys}
 use Rattle.hib_listeners.specs.Told.{Told, AreTold}
 use Rattle.hib_outside.specs.Causes.{Rose}
 use Rattle.hib_session.specs.Sessions.{AreSessions}
-use Rattle.hib_session.specs.Session.{Follows, IsTaken, number_of, is_killed, own_reply, left_in}
-use Rattle.hib_engines.specs.Due.{HasQueries, IsDue}
-use Rattle.hib_core.specs.Standing.{Origin, RoseWithin, PartsState, AreParts, IsStill, IsAnswered, IsAskedFor, entry_of}
+pub use Rattle.hib_session.specs.Sessions.{AreOver}
+use Rattle.hib_session.specs.Session.{Follows, IsTaken, number_of, is_killed, left_in}
+use Rattle.hib_engines.specs.Due.{IsDue}
+use Rattle.hib_engines.specs.Built.{IsBuilt}
+use Rattle.hib_engines.specs.Engines.{EnginesState, AreStanding, IsStill, IsAskedFor}
+use Rattle.hib_core.specs.Standing.{Origin, RoseBy, RoseWithin, entry_of}
 
 -- the steps of a factory as contracts see them
 pub record CoreState : Type 0 where
   pub journal : Kept
-  pub parts : PartsState
+  pub engines : EnginesState
   pub sessions : List Session
   pub refused : Bool
 
 -- a factory: beside them what its listeners tell, and whether one had no memory for the newest entry
 pub record FactoryState : Type 0 where
   pub journal : Kept
-  pub parts : PartsState
+  pub engines : EnginesState
   pub sessions : List Session
   pub refused : Bool
   pub told : List Told
   pub deaf : Bool
 
--- an order evicts rows of cached entities alone, and names them by an identifier
-abbrev pub IsSound : Script → Order → Type 0
-IsSound script (Order.Evict k) = (is_cached script k.entity ≡ true) × (is_identifier k.id ≡ true)
-IsSound script _ = Unit {0}
-
--- what a factory needs of its script, which every valid script keeps: its entities and sessions have numbers, there is room for a
--- result, the schedule evicts rows of cached entities by identifiers alone, and the queries that are asked are there
-pub record IsBuilt (script : Script) : Type 0 where
-  pub entities : length script.mapping < 2 ^ 16
-  pub sessions : length script.sessions < 2 ^ 32
-  pub orders : (i : ℕ) (o : Order) → slice_get script.schedule i ≡ Some o → IsSound script o
-  pub results : 0 < script.results
-  pub queries : HasQueries script
-
 -- the law holds of every legal journal
 abbrev pub Lawful : Type 0
 Lawful = (script : Script) (told : Option Tables) (h : Journal) → IsLegal script told h → Obeys script told h
 
--- the journal is legal, so that it obeys the law, with its ticks in turn, and the parts stand for it
-pub record IsRun (script : Script) (from : Origin) (h : Journal) (x : PartsState) : Type 0 where
+-- the journal is legal, so that it obeys the law, with its ticks in turn, the engines stand for it, and the keeper has failed as often as
+-- it says
+pub record IsRun (script : Script) (from : Origin) (h : Journal) (x : EnginesState) : Type 0 where
   pub legal : IsLegal script from.tables h
   pub law : Obeys script from.tables h
   pub numbered : IsNumbered h
-  pub parts : AreParts script from h x
+  pub engines : AreStanding script from.tables h x
+  pub faults : RoseBy from.faults (fault_count h) x.store.faults
   pub built : IsBuilt script
 
 -- the keeper was asked no more often than the journal says
-abbrev pub IsAsked : Origin → Journal → PartsState → Type 0
+abbrev pub IsAsked : Origin → Journal → EnginesState → Type 0
 IsAsked from h x = RoseWithin from.asked (ask_count h) x.store.asked
 
 -- or once more, if memory ran out
-abbrev pub IsAskedOnceMore : Origin → Journal → PartsState → Type 0
+abbrev pub IsAskedOnceMore : Origin → Journal → EnginesState → Type 0
 IsAskedOnceMore from h x = RoseWithin from.asked (ask_count h + 1) x.store.asked
 
 pub record IsStanding (script : Script) (from : Origin) (x : CoreState) : Type 0 where
-  pub run : IsRun script from (past x.journal) x.parts
+  pub run : IsRun script from (past x.journal) x.engines
   pub sessions : AreSessions script (past x.journal) x.sessions
   -- unless memory ran out in a call
-  pub asked : x.refused ≡ false → IsAsked from (past x.journal) x.parts
+  pub asked : x.refused ≡ false → IsAsked from (past x.journal) x.engines
 
 -- a session is killed if the journal says so, and else as far as its own entries
 pub record IsMember (script : Script) (h : Journal) (y : Session) : Type 0 where
@@ -86,16 +76,8 @@ pub record IsTurn (script : Script) (h : Journal) (y : Session) (a : Act) : Type
   pub next : next script (number_of y) (own (number_of y) h) ≡ Some a
   pub due : IsDue script (own (number_of y) h) a
 
--- an act was answered, with the session's own reply if it has one, the keeper was asked as the act allows, and it failed if
--- the reply says so
-pub record IsTold (script : Script) (from : Origin) (h : Journal) (s : ℕ) (a : Act) (r : Reply) (x y : PartsState) : Type 0 where
-  pub answered : IsAnswered script from h s a r y
-  pub mine : (q : Reply) → own_reply script (own s h) a ≡ Some q → r ≡ q
-  pub asked : IsAskedFor h s a x y
-  pub fault : is_fault r ≡ true → Rose x.store.faults y.store.faults
-
 -- an act of session s was answered, with this entry
-pub record Answers (script : Script) (from : Origin) (s : ℕ) (a : Act) (h : Journal) (e : Entry) (x y : PartsState) : Type 0 where
+pub record Answers (script : Script) (from : Origin) (s : ℕ) (a : Act) (h : Journal) (e : Entry) (x y : EnginesState) : Type 0 where
   pub answer : Reply
   pub entry : e ≡ entry_of h s a answer
   pub run : IsRun script from (e ∷ h) y
@@ -104,7 +86,7 @@ pub record Answers (script : Script) (from : Origin) (s : ℕ) (a : Act) (h : Jo
   pub fault : is_fault answer ≡ true → Rose x.store.faults y.store.faults
 
 -- an act of session y was answered, its entry added, and taken by the session
-pub record Serves (script : Script) (from : Origin) (a : Act) (h new : Journal) (x w : PartsState) (y z : Session) : Type 0 where
+pub record Serves (script : Script) (from : Origin) (a : Act) (h new : Journal) (x w : EnginesState) (y z : Session) : Type 0 where
   pub answer : Reply
   pub grown : new ≡ entry_of h (number_of y) a answer ∷ h
   pub run : IsRun script from new w
@@ -113,14 +95,14 @@ pub record Serves (script : Script) (from : Origin) (a : Act) (h new : Journal) 
   pub asked : IsAskedFor h (number_of y) a x w
   pub fault : is_fault answer ≡ true → Rose x.store.faults w.store.faults
 
--- nothing was added: the parts are as before, but for the keeper's counts, and the session follows what it followed
-pub record Leaves (script : Script) (h new : Journal) (x w : PartsState) (y z : Session) : Type 0 where
+-- nothing was added: the engines are as before, but for the keeper's counts, and the session follows what it followed
+pub record Leaves (script : Script) (h new : Journal) (x w : EnginesState) (y z : Session) : Type 0 where
   pub same : new ≡ h
-  pub parts : IsStill x w
+  pub engines : IsStill x w
   pub follows : (mine : Journal) → Follows script y mine → Follows script z mine
 
 -- the act that was due in session y was served
-pub record Moves (script : Script) (from : Origin) (h new : Journal) (x w : PartsState) (y z : Session) : Type 0 where
+pub record Moves (script : Script) (from : Origin) (h new : Journal) (x w : EnginesState) (y z : Session) : Type 0 where
   pub act : Act
   pub live : was_killed (number_of y) h ≡ false
   pub next : next script (number_of y) (own (number_of y) h) ≡ Some act
@@ -156,7 +138,3 @@ Hears old new whole told now = ((e : Entry) → new ≡ e ∷ old → AreTold e 
 pub record IsOver (script : Script) (s : ℕ) (old new : Journal) : Type 0 where
   pub same : new ≡ old
   pub over : has_next script new s ≡ false
-
--- every session is at its end, or was killed
-abbrev pub AreOver : Script → Journal → Type 0
-AreOver script h = (s : ℕ) → s < length script.sessions → has_next script h s ≡ false

@@ -1,4 +1,4 @@
-// The factory: sessions over shared parts, the journal of their steps, and the listeners that hear of each.
+// The factory: sessions over shared engines, the journal of their steps, and the listeners that hear of each.
 ghost use Rattle.std.specs.Prelude.{◌≡◌, ◌+◌, ◌<◌, ◌≤◌, ◌^◌, ◌==◌, ℕ, [], ◌∷◌, length, slice_get, is_ok, OnOk, OnErr, IfOk, IfErr, IsOk, Ok, Some, true, false};
 ghost use Rattle.hib_journal.specs.Kept.{past};
 ghost use Rattle.hib_base.specs.declared.scripts.Order.{Order};
@@ -10,29 +10,30 @@ ghost use Rattle.hib_journal.specs.Legal.{IsLegal};
 ghost use Rattle.hib_journal.specs.Runs.{IsNumbered, told_committed, is_fault, fault_count, ask_count};
 ghost use Rattle.hib_base.specs.declared.entries.Entry.{Entry};
 ghost use Rattle.hib_law.specs.Law.{Obeys};
-ghost use Rattle.hib_core.specs.Standing.{RoseBy, RoseWithin, IsStill, told_start};
+ghost use Rattle.hib_engines.specs.Built.{IsSound};
+ghost use Rattle.hib_engines.specs.Engines.{IsStill};
+ghost use Rattle.hib_core.specs.Standing.{RoseBy, RoseWithin, told_start};
 ghost use Rattle.hib_outside.specs.Causes.{Rose};
 ghost use Rattle.hib_store.specs.Stores.{handed_back, is_store_fault};
 ghost use Rattle.hib_core.specs.Bound.{most_in, outside_count};
 ghost use Rattle.hib_session.specs.Sessions.{AreSessions};
-ghost use Rattle.hib_core.specs.Factory.{Does, IsOver, IsAskedOnceMore, AreOver, IsSound, Hears};
+ghost use Rattle.hib_core.specs.Factory.{Does, IsOver, IsAskedOnceMore, AreOver, Hears};
 ghost use Rattle.hib_core.specs.Playing.{played, play_script, GoesOn, Leads, AreNamed};
 ghost use Rattle.hib_listeners.specs.Told.{tells};
 ghost use Rattle.hib_listeners.specs.Heard.{HaveHeard};
 
-use crate::names::Name;
 use crate::opening::OpenRefused;
 use crate::steps::Core;
 use crate::telling::tell;
-use crate::turns::Stepped;
 use hib_base::{Key, Order, Script, SessionNo};
+use hib_engines::{Name, Stepped};
 use hib_journal::Journal;
 use hib_listeners::{Listeners, nothing_was_told};
 use hib_outside::{Keeper, Listener};
 use std::alloc::{AllocError, Global};
 use std::marker::Model;
 
-/// Sessions over shared parts, with the journal of their steps, which is legal for the name's script from the name's rows, and
+/// Sessions over shared engines, with the journal of their steps, which is legal for the name's script from the name's rows, and
 /// the listeners that are told each entry in the step that adds it. After a listener had no memory for an entry, which stands, no
 /// call adds one more: it answers want of memory and changes nothing.
 pub struct Factory<K: Keeper, N: Name, L: Listener> {
@@ -52,7 +53,7 @@ impl<K: Keeper, N: Name, L: Listener> Model for Factory<K, N, L> {
 
     ghost view = { λ f. record {
       journal = f.core.journal;
-      parts = f.core.parts;
+      engines = f.core.engines;
       sessions = f.core.sessions;
       refused = f.core.refused || f.deaf;
       told = tells L.heard L.left f.listeners;
@@ -119,14 +120,14 @@ impl<K: Keeper, N: Name, L: Listener> Factory<K, N, L> {
             ≡ outside_count (past self.old.journal) }
         ensures fault { (e : Entry) → past self.new.journal ≡ e ∷ past self.old.journal
             → is_fault e.reply ≡ true
-            → Rose self.old.parts.store.faults self.new.parts.store.faults }
+            → Rose self.old.engines.store.faults self.new.engines.store.faults }
         ensures going { OnOk result (self.new.refused ≡ self.old.refused) }
         ensures hears { Hears (past self.old.journal) (past self.new.journal)
             (is_ok result) self.old.told self.new.told }
         ensures same { OnErr result (self.new.deaf ≡ self.old.deaf
             → past self.new.journal ≡ past self.old.journal) }
-        ensures parts { OnErr result (self.new.deaf ≡ self.old.deaf
-            → IsStill self.old.parts self.new.parts) }
+        ensures engines { OnErr result (self.new.deaf ≡ self.old.deaf
+            → IsStill self.old.engines self.new.engines) }
         ensures unheard { OnErr result (self.old.deaf ≡ false → self.new.deaf ≡ true
             → Does N.script number (past self.old.journal) (past self.new.journal) self.old.sessions
             self.new.sessions) }
@@ -137,7 +138,7 @@ impl<K: Keeper, N: Name, L: Listener> Factory<K, N, L> {
             → slice_get self.new.sessions s ≡ slice_get self.old.sessions s }
         ensures stands { OnErr result (GoesOn (past self.old.journal) (past self.new.journal)) }
         ensures asked { OnErr result (self.old.refused ≡ false
-            → IsAskedOnceMore N.from (past self.new.journal) self.new.parts) }
+            → IsAskedOnceMore N.from (past self.new.journal) self.new.engines) }
         ensures refused { OnErr result (self.new.refused ≡ true) }
     {
         if self.deaf {
@@ -227,7 +228,7 @@ impl<K: Keeper, N: Name, L: Listener> Factory<K, N, L> {
         ensures going { OnOk result (self.new.refused ≡ self.old.refused) }
         ensures stands { OnErr result (GoesOn (past self.old.journal) (past self.new.journal)) }
         ensures asked { OnErr result (self.old.refused ≡ false
-            → IsAskedOnceMore N.from (past self.new.journal) self.new.parts) }
+            → IsAskedOnceMore N.from (past self.new.journal) self.new.engines) }
         ensures refused { OnErr result (self.new.refused ≡ true) }
     {
         if number.0 as usize >= self.sessions() {
@@ -266,7 +267,7 @@ impl<K: Keeper, N: Name, L: Listener> Factory<K, N, L> {
         ensures deaf { self.old.deaf ≡ true → self.new ≡ self.old }
         ensures stands { OnErr result (GoesOn (past self.old.journal) (past self.new.journal)) }
         ensures asked { OnErr result (self.old.refused ≡ false
-            → IsAskedOnceMore N.from (past self.new.journal) self.new.parts) }
+            → IsAskedOnceMore N.from (past self.new.journal) self.new.engines) }
         ensures refused { OnErr result (self.new.refused ≡ true) }
     {
         if self.deaf {
@@ -305,7 +306,7 @@ impl<K: Keeper, N: Name, L: Listener> Factory<K, N, L> {
         ensures deaf { self.old.deaf ≡ true → self.new ≡ self.old }
         ensures stands { OnErr result (GoesOn (past self.old.journal) (past self.new.journal)) }
         ensures asked { OnErr result (self.old.refused ≡ false
-            → IsAskedOnceMore N.from (past self.new.journal) self.new.parts) }
+            → IsAskedOnceMore N.from (past self.new.journal) self.new.engines) }
         ensures refused { OnErr result (self.new.refused ≡ true) }
     {
         if self.deaf {
@@ -342,7 +343,7 @@ impl<K: Keeper, N: Name, L: Listener> Factory<K, N, L> {
         ensures deaf { self.old.deaf ≡ true → self.new ≡ self.old }
         ensures stands { OnErr result (GoesOn (past self.old.journal) (past self.new.journal)) }
         ensures asked { OnErr result (self.old.refused ≡ false
-            → IsAskedOnceMore N.from (past self.new.journal) self.new.parts) }
+            → IsAskedOnceMore N.from (past self.new.journal) self.new.engines) }
         ensures refused { OnErr result (self.new.refused ≡ true) }
     {
         if self.deaf {
@@ -370,7 +371,7 @@ impl<K: Keeper, N: Name, L: Listener> Factory<K, N, L> {
         ensures stands { OnErr result (GoesOn (past self.old.journal) (past self.new.journal)) }
         ensures named { AreNamed (past self.old.journal) (past self.new.journal) }
         ensures asked { OnErr result (self.old.refused ≡ false
-            → IsAskedOnceMore N.from (past self.new.journal) self.new.parts) }
+            → IsAskedOnceMore N.from (past self.new.journal) self.new.engines) }
         ensures refused { OnErr result (self.new.refused ≡ true) }
     {
         let _ = &self.deaf;
@@ -393,7 +394,7 @@ impl<K: Keeper, N: Name, L: Listener> Factory<K, N, L> {
         ensures stands { OnErr result (GoesOn (past self.old.journal) (past self.new.journal)) }
         ensures named { AreNamed (past self.old.journal) (past self.new.journal) }
         ensures asked { OnErr result (self.old.refused ≡ false
-            → IsAskedOnceMore N.from (past self.new.journal) self.new.parts) }
+            → IsAskedOnceMore N.from (past self.new.journal) self.new.engines) }
         ensures refused { OnErr result (self.new.refused ≡ true) }
     {
         for at in 0..self.orders() {
@@ -419,7 +420,7 @@ impl<K: Keeper, N: Name, L: Listener> Factory<K, N, L> {
         ensures stands { OnErr result (GoesOn (past self.old.journal) (past self.new.journal)) }
         ensures named { AreNamed (past self.old.journal) (past self.new.journal) }
         ensures asked { OnErr result (self.old.refused ≡ false
-            → IsAskedOnceMore N.from (past self.new.journal) self.new.parts) }
+            → IsAskedOnceMore N.from (past self.new.journal) self.new.engines) }
         ensures refused { OnErr result (self.new.refused ≡ true) }
     {
         self.follow_schedule(alloc)?;
@@ -437,7 +438,7 @@ impl<K: Keeper, N: Name, L: Listener> Factory<K, N, L> {
         ensures numbered { IsNumbered (past result.2) }
         ensures rows { K.tables result.0 ≡ told_committed N.from.tables (past result.2) }
         ensures faults { RoseBy N.from.faults (fault_count (past result.2)) (K.faults result.0) }
-        ensures count { K.asked result.0 ≡ self.parts.store.asked }
+        ensures count { K.asked result.0 ≡ self.engines.store.asked }
         ensures asked { self.refused ≡ false
             → RoseWithin N.from.asked (ask_count (past result.2)) (K.asked result.0) }
         ensures heard { HaveHeard self.deaf result.2.list N.told

@@ -3,10 +3,8 @@
 
 mod bounds;
 mod factory;
-mod names;
 mod opening;
 mod outside;
-mod parts;
 mod running;
 mod steps;
 mod telling;
@@ -14,8 +12,6 @@ mod turns;
 
 pub use bounds::runs_are_short;
 pub use factory::Factory;
-pub use names::Name;
+pub use hib_engines::{Name, Stepped};
 pub use opening::OpenRefused;
-pub use parts::Parts;
 pub use steps::Core;
-pub use turns::Stepped;

@@ -12,11 +12,9 @@ ghost use Rattle.hib_core.specs.Factory.{IsRun, IsAsked, HasGrown};
 ghost use Rattle.hib_core.specs.Playing.{played, Leads};
 ghost use Rattle.hib_session.specs.declared.session.Session.{Session};
 
-use crate::names::Name;
-use crate::parts::Parts;
 use crate::turns::{add, reserve_tick};
 use hib_base::{Act, Entry, Key, Reply, SessionNo, Tick};
-use hib_engines::laws;
+use hib_engines::{Engines, Name};
 use hib_journal::{Journal, part_of};
 use hib_law::law;
 use hib_outside::Keeper;
@@ -41,27 +39,31 @@ fn tell(journal: &mut Journal, tick: Tick, act: Act, reply: Reply)
 }
 
 /// Whether a session is open.
-pub fn opened<K: Keeper, N: Name>(number: SessionNo, parts: &Parts<K>, journal: &Journal) -> bool
-    requires run { IsRun N.script N.from (past journal.now) parts.now }
+pub fn opened<K: Keeper, N: Name>(
+    number: SessionNo,
+    engines: &Engines<K>,
+    journal: &Journal,
+) -> bool
+    requires run { IsRun N.script N.from (past journal.now) engines.now }
     ensures { result ≡ is_open number (past journal.now) }
 {
     let _ = journal;
-    parts.registry.is_open(number)
+    engines.registry().is_open(number)
 }
 
 /// Kills a session, if it is open. Its locks stay until their time is over. If memory runs out nothing has changed.
 pub fn kill<K: Keeper, N: Name>(
     number: SessionNo,
     sessions: &mut Vec<Session>,
-    parts: &mut Parts<K>,
+    engines: &mut Engines<K>,
     journal: &mut Journal,
 ) -> Result<(), AllocError>
-    requires run { IsRun N.script N.from (past journal.old) parts.old }
+    requires run { IsRun N.script N.from (past journal.old) engines.old }
     requires sessions { AreSessions N.script (past journal.old) sessions.old.items }
-    ensures run { IsRun N.script N.from (past journal.new) parts.new }
+    ensures run { IsRun N.script N.from (past journal.new) engines.new }
     ensures sessions { AreSessions N.script (past journal.new) sessions.new.items }
-    ensures asked { IsAsked N.from (past journal.old) parts.old
-        → IsAsked N.from (past journal.new) parts.new }
+    ensures asked { IsAsked N.from (past journal.old) engines.old
+        → IsAsked N.from (past journal.new) engines.new }
     ensures played { OnOk result (Leads (play_order N.script (Order.Kill number)) played
         (past journal.old) (past journal.new)) }
     ensures outside { outside_count (past journal.new) ≤ outside_count (past journal.old) + 1 }
@@ -70,17 +72,16 @@ pub fn kill<K: Keeper, N: Name>(
     ensures grown { OnOk result (is_open number (past journal.old) ≡ true
         → HasGrown (past journal.old) (past journal.new)) }
     ensures same { OnErr result (past journal.new ≡ past journal.old) }
-    ensures parts { OnErr result (parts.new ≡ parts.old) }
+    ensures engines { OnErr result (engines.new ≡ engines.old) }
     ensures err { OnErr result (sessions.new.items ≡ sessions.old.items) }
 {
-    laws();
     law();
-    if !parts.registry.is_open(number) {
+    if !engines.registry().is_open(number) {
         return Ok(());
     }
     let now = reserve_tick(journal)?;
     tell(journal, now, Act::Kill { session: number }, Reply::Done);
-    parts.kill(number);
+    engines.kill(number);
     kill_at(sessions, number.0 as usize);
     Ok(())
 }
@@ -89,30 +90,27 @@ pub fn kill<K: Keeper, N: Name>(
 pub fn evict<K: Keeper, N: Name>(
     alloc: Global,
     key: Key,
-    parts: &mut Parts<K>,
+    engines: &mut Engines<K>,
     journal: &mut Journal,
 ) -> Result<(), AllocError>
     requires cached { is_cached N.script key.entity ≡ true }
-    requires run { IsRun N.script N.from (past journal.old) parts.old }
-    ensures run { IsRun N.script N.from (past journal.new) parts.new }
+    requires run { IsRun N.script N.from (past journal.old) engines.old }
+    ensures run { IsRun N.script N.from (past journal.new) engines.new }
     ensures sessions { (xs : List Session) → AreSessions N.script (past journal.old) xs
         → AreSessions N.script (past journal.new) xs }
-    ensures asked { IsAsked N.from (past journal.old) parts.old
-        → IsAsked N.from (past journal.new) parts.new }
+    ensures asked { IsAsked N.from (past journal.old) engines.old
+        → IsAsked N.from (past journal.new) engines.new }
     ensures played { OnOk result (Leads (play_order N.script (Order.Evict key)) played
         (past journal.old) (past journal.new)) }
     ensures grown { OnOk result (HasGrown (past journal.old) (past journal.new)) }
     ensures outside { outside_count (past journal.new) ≤ outside_count (past journal.old) + 1 }
     ensures same { OnErr result (past journal.new ≡ past journal.old) }
-    ensures parts { OnErr result (parts.new ≡ parts.old) }
+    ensures engines { OnErr result (engines.new ≡ engines.old) }
 {
-    laws();
     law();
     let now = reserve_tick(journal)?;
-    let entity = key.entity;
-    let act = Act::Evict { key };
-    let reply = parts.serve_entity(alloc, entity, &act, now)?;
-    tell(journal, now, act, reply);
+    let reply = engines.evict(alloc, key, now)?;
+    tell(journal, now, Act::Evict { key }, reply);
     Ok(())
 }
 
@@ -120,28 +118,27 @@ pub fn evict<K: Keeper, N: Name>(
 /// nothing has changed.
 pub fn restart<K: Keeper, N: Name>(
     sessions: &mut Vec<Session>,
-    parts: &mut Parts<K>,
+    engines: &mut Engines<K>,
     journal: &mut Journal,
 ) -> Result<(), AllocError>
-    requires run { IsRun N.script N.from (past journal.old) parts.old }
+    requires run { IsRun N.script N.from (past journal.old) engines.old }
     requires sessions { AreSessions N.script (past journal.old) sessions.old.items }
-    ensures run { IsRun N.script N.from (past journal.new) parts.new }
+    ensures run { IsRun N.script N.from (past journal.new) engines.new }
     ensures sessions { AreSessions N.script (past journal.new) sessions.new.items }
-    ensures asked { IsAsked N.from (past journal.old) parts.old
-        → IsAsked N.from (past journal.new) parts.new }
+    ensures asked { IsAsked N.from (past journal.old) engines.old
+        → IsAsked N.from (past journal.new) engines.new }
     ensures played { OnOk result (Leads (play_order N.script Order.Restart) played
         (past journal.old) (past journal.new)) }
     ensures grown { OnOk result (HasGrown (past journal.old) (past journal.new)) }
     ensures outside { outside_count (past journal.new) ≤ outside_count (past journal.old) + 1 }
     ensures same { OnErr result (past journal.new ≡ past journal.old) }
-    ensures parts { OnErr result (parts.new ≡ parts.old) }
+    ensures engines { OnErr result (engines.new ≡ engines.old) }
     ensures err { OnErr result (sessions.new.items ≡ sessions.old.items) }
 {
-    laws();
     law();
     let now = reserve_tick(journal)?;
     tell(journal, now, Act::Restart, Reply::Done);
-    kill_all(sessions, parts.registry.open_sessions());
-    parts.restart();
+    kill_all(sessions, engines.registry().open_sessions());
+    engines.restart();
     Ok(())
 }

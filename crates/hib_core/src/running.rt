@@ -10,9 +10,8 @@ ghost use Rattle.hib_core.specs.Factory.{IsAskedOnceMore, AreOver};
 ghost use Rattle.hib_core.specs.Playing.{played, play_all, GoesOn, Leads};
 
 use crate::factory::Factory;
-use crate::names::Name;
-use crate::turns::Stepped;
 use hib_base::SessionNo;
+use hib_engines::{Name, Stepped};
 use hib_outside::{Keeper, Listener};
 use std::alloc::{AllocError, Global};
 
@@ -34,7 +33,7 @@ impl<K: Keeper, N: Name, L: Listener> Factory<K, N, L> {
         ensures going { OnOk result (self.new.refused ≡ self.old.refused) }
         ensures stands { OnErr result (GoesOn (past self.old.journal) (past self.new.journal)) }
         ensures asked { OnErr result (self.old.refused ≡ false
-            → IsAskedOnceMore N.from (past self.new.journal) self.new.parts) }
+            → IsAskedOnceMore N.from (past self.new.journal) self.new.engines) }
         ensures refused { OnErr result (self.new.refused ≡ true) }
     {
         'steps: loop {
@@ -57,7 +56,7 @@ impl<K: Keeper, N: Name, L: Listener> Factory<K, N, L> {
         ensures going { OnOk result (self.new.refused ≡ self.old.refused) }
         ensures stands { OnErr result (GoesOn (past self.old.journal) (past self.new.journal)) }
         ensures asked { OnErr result (self.old.refused ≡ false
-            → IsAskedOnceMore N.from (past self.new.journal) self.new.parts) }
+            → IsAskedOnceMore N.from (past self.new.journal) self.new.engines) }
         ensures refused { OnErr result (self.new.refused ≡ true) }
     {
         for number in 0..self.sessions() {

@@ -10,22 +10,21 @@ ghost use Rattle.hib_journal.specs.Legal.{IsLegal};
 ghost use Rattle.hib_journal.specs.Runs.{IsNumbered, told_committed, is_fault, fault_count, ask_count};
 ghost use Rattle.hib_base.specs.declared.entries.Entry.{Entry};
 ghost use Rattle.hib_law.specs.Law.{Obeys};
-ghost use Rattle.hib_core.specs.Standing.{RoseBy, RoseWithin, IsStill, told_start};
+ghost use Rattle.hib_engines.specs.Built.{IsSound};
+ghost use Rattle.hib_engines.specs.Engines.{IsStill};
+ghost use Rattle.hib_core.specs.Standing.{RoseBy, RoseWithin, told_start};
 ghost use Rattle.hib_outside.specs.Causes.{Rose};
 ghost use Rattle.hib_store.specs.Stores.{handed_back, is_store_fault};
 ghost use Rattle.hib_core.specs.Bound.{most_in, outside_count};
 ghost use Rattle.hib_session.specs.Sessions.{AreSessions};
-ghost use Rattle.hib_core.specs.Factory.{Does, IsOver, IsAsked, IsAskedOnceMore, IsSound, HasGrown};
+ghost use Rattle.hib_core.specs.Factory.{Does, IsOver, IsAsked, IsAskedOnceMore, HasGrown};
 ghost use Rattle.hib_core.specs.Playing.{played, Leads};
 
 use crate::bounds::runs_are_short;
-use crate::names::Name;
-use crate::opening::ready;
 use crate::outside::{self, opened};
-use crate::parts::Parts;
-use crate::turns::{Stepped, has_turn, turn};
+use crate::turns::{has_turn, turn};
 use hib_base::{Key, Order, Script, SessionNo};
-use hib_engines::{Registry, ResultsEngine, StampsEngine, StoreEngine, laws, open_regions};
+use hib_engines::{Engines, Name, Stepped};
 use hib_journal::Journal;
 use hib_law::law;
 use hib_outside::Keeper;
@@ -34,10 +33,11 @@ use hib_store::OpenFault;
 use std::alloc::{AllocError, Global};
 use std::marker::{Model, PhantomData};
 
-/// Sessions over shared parts, with the journal of their steps, which tells nobody of them. The journal is legal for the name's script from the name's rows.
+/// Sessions over shared engines, with the journal of their steps, which tells nobody of them. The journal is legal for the name's
+/// script from the name's rows.
 pub struct Core<K: Keeper, N: Name> {
     script: Script,
-    parts: Parts<K>,
+    engines: Engines<K>,
     sessions: Vec<Session>,
     journal: Journal,
     /// Whether memory ran out in a call.
@@ -53,7 +53,7 @@ impl<K: Keeper, N: Name> Model for Core<K, N> {
 
     ghost view = { λ f. record {
       journal = f.journal;
-      parts = f.parts;
+      engines = f.engines;
       sessions = f.sessions.items;
       refused = f.refused;
     } };
@@ -61,7 +61,7 @@ impl<K: Keeper, N: Name> Model for Core<K, N> {
     ghost invariant = { λ f. (f.script ≡ N.script)
         × IsStanding N.script N.from (record {
           journal = f.journal;
-          parts = f.parts;
+          engines = f.engines;
           sessions = f.sessions.items;
           refused = f.refused;
         }) };
@@ -86,38 +86,14 @@ impl<K: Keeper, N: Name> Core<K, N> {
         ensures fault { IfErr result (λ e. is_store_fault e ≡ true
             → Rose (K.faults keeper) (K.faults (handed_back e))) }
     {
-        laws();
         law();
-        ready(&script);
-        let Ok(regions) = open_regions(alloc, &script) else {
-            return Err(OpenFault::NoMemory(keeper));
-        };
-        let Ok(stamps) = StampsEngine::open(alloc, script.mapping.len() as u16) else {
-            return Err(OpenFault::NoMemory(keeper));
-        };
-        let Ok(results) = ResultsEngine::open(alloc, script.results) else {
-            return Err(OpenFault::NoMemory(keeper));
-        };
         let Ok(sessions) = open_all(alloc, &script) else {
             return Err(OpenFault::NoMemory(keeper));
         };
-        let entities = script.mapping.len() as u16;
-        let store = StoreEngine::open(
-            alloc,
-            keeper,
-            &script.mapping,
-            script.rows.as_slice(),
-            entities,
-        )?;
+        let engines = Engines::open(alloc, &script, keeper)?;
         Ok(Core {
             script,
-            parts: Parts {
-                store,
-                registry: Registry::new(alloc),
-                stamps,
-                regions,
-                results,
-            },
+            engines,
             sessions,
             journal: Journal::open(alloc),
             refused: false,
@@ -140,18 +116,18 @@ impl<K: Keeper, N: Name> Core<K, N> {
         ensures inside { outside_count (past self.new.journal)
             ≡ outside_count (past self.old.journal) }
         ensures fault { (e : Entry) → past self.new.journal ≡ e ∷ past self.old.journal
-            → is_fault e.reply ≡ true → Rose self.old.parts.store.faults
-            self.new.parts.store.faults }
+            → is_fault e.reply ≡ true → Rose self.old.engines.store.faults
+            self.new.engines.store.faults }
         ensures going { OnOk result (self.new.refused ≡ self.old.refused) }
         ensures same { OnErr result (past self.new.journal ≡ past self.old.journal) }
-        ensures parts { OnErr result (IsStill self.old.parts self.new.parts) }
+        ensures engines { OnErr result (IsStill self.old.engines self.new.engines) }
         ensures after { AreSessions N.script (past self.new.journal) self.new.sessions }
         ensures others { (s : ℕ) → (number == s) ≡ false
             → slice_get self.new.sessions s ≡ slice_get self.old.sessions s }
         ensures asks { self.new.refused ≡ false
-            → IsAsked N.from (past self.new.journal) self.new.parts }
+            → IsAsked N.from (past self.new.journal) self.new.engines }
         ensures asked { OnErr result (self.old.refused ≡ false
-            → IsAskedOnceMore N.from (past self.new.journal) self.new.parts) }
+            → IsAskedOnceMore N.from (past self.new.journal) self.new.engines) }
         ensures refused { OnErr result (self.new.refused ≡ true) }
     {
         match turn::<K, N>(
@@ -159,7 +135,7 @@ impl<K: Keeper, N: Name> Core<K, N> {
             &self.script,
             number,
             &mut self.sessions,
-            &mut self.parts,
+            &mut self.engines,
             &mut self.journal,
         ) {
             Ok(stepped) => Ok(stepped),
@@ -257,7 +233,7 @@ impl<K: Keeper, N: Name> Core<K, N> {
     pub fn is_open(&self, number: SessionNo) -> bool
         ensures { result ≡ is_open number (past self.now.journal) }
     {
-        opened::<K, N>(number, &self.parts, &self.journal)
+        opened::<K, N>(number, &self.engines, &self.journal)
     }
 
     /// The journal obeys the law.
@@ -282,9 +258,9 @@ impl<K: Keeper, N: Name> Core<K, N> {
         ensures going { OnOk result (self.new.refused ≡ self.old.refused) }
         ensures same { OnErr result (past self.new.journal ≡ past self.old.journal) }
         ensures asks { self.new.refused ≡ false
-            → IsAsked N.from (past self.new.journal) self.new.parts }
+            → IsAsked N.from (past self.new.journal) self.new.engines }
         ensures asked { OnErr result (self.old.refused ≡ false
-            → IsAskedOnceMore N.from (past self.new.journal) self.new.parts) }
+            → IsAskedOnceMore N.from (past self.new.journal) self.new.engines) }
         ensures err { OnErr result (self.new ≡ record self.old {
           journal = self.new.journal;
           refused = true;
@@ -293,7 +269,7 @@ impl<K: Keeper, N: Name> Core<K, N> {
         let killed = outside::kill::<K, N>(
             number,
             &mut self.sessions,
-            &mut self.parts,
+            &mut self.engines,
             &mut self.journal,
         );
         if killed.is_err() {
@@ -314,15 +290,15 @@ impl<K: Keeper, N: Name> Core<K, N> {
         ensures going { OnOk result (self.new.refused ≡ self.old.refused) }
         ensures same { OnErr result (past self.new.journal ≡ past self.old.journal) }
         ensures asks { self.new.refused ≡ false
-            → IsAsked N.from (past self.new.journal) self.new.parts }
+            → IsAsked N.from (past self.new.journal) self.new.engines }
         ensures asked { OnErr result (self.old.refused ≡ false
-            → IsAskedOnceMore N.from (past self.new.journal) self.new.parts) }
+            → IsAskedOnceMore N.from (past self.new.journal) self.new.engines) }
         ensures err { OnErr result (self.new ≡ record self.old {
           journal = self.new.journal;
           refused = true;
         }) }
     {
-        let evicted = outside::evict::<K, N>(alloc, key, &mut self.parts, &mut self.journal);
+        let evicted = outside::evict::<K, N>(alloc, key, &mut self.engines, &mut self.journal);
         if evicted.is_err() {
             self.refused = true;
         }
@@ -341,9 +317,9 @@ impl<K: Keeper, N: Name> Core<K, N> {
         ensures going { OnOk result (self.new.refused ≡ self.old.refused) }
         ensures same { OnErr result (past self.new.journal ≡ past self.old.journal) }
         ensures asks { self.new.refused ≡ false
-            → IsAsked N.from (past self.new.journal) self.new.parts }
+            → IsAsked N.from (past self.new.journal) self.new.engines }
         ensures asked { OnErr result (self.old.refused ≡ false
-            → IsAskedOnceMore N.from (past self.new.journal) self.new.parts) }
+            → IsAskedOnceMore N.from (past self.new.journal) self.new.engines) }
         ensures err { OnErr result (self.new ≡ record self.old {
           journal = self.new.journal;
           refused = true;
@@ -351,7 +327,7 @@ impl<K: Keeper, N: Name> Core<K, N> {
     {
         let restarted = outside::restart::<K, N>(
             &mut self.sessions,
-            &mut self.parts,
+            &mut self.engines,
             &mut self.journal,
         );
         if restarted.is_err() {
@@ -371,26 +347,19 @@ impl<K: Keeper, N: Name> Core<K, N> {
         ensures numbered { IsNumbered (past result.2) }
         ensures rows { K.tables result.0 ≡ told_committed N.from.tables (past result.2) }
         ensures faults { RoseBy N.from.faults (fault_count (past result.2)) (K.faults result.0) }
-        ensures count { K.asked result.0 ≡ self.parts.store.asked }
+        ensures count { K.asked result.0 ≡ self.engines.store.asked }
         ensures asked { self.refused ≡ false
             → RoseWithin N.from.asked (ask_count (past result.2)) (K.asked result.0) }
     {
         runs_are_short();
         let Core {
             script,
-            parts,
+            engines,
             sessions: _,
             journal,
             refused: _,
             of: _,
         } = self;
-        let Parts {
-            store,
-            registry: _,
-            stamps: _,
-            regions: _,
-            results: _,
-        } = parts;
-        (store.close(), script, journal)
+        (engines.close(), script, journal)
     }
 }

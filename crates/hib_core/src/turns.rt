@@ -1,4 +1,4 @@
-// One turn of a session: the act that is due is answered by the session or by a part, and its entry is added.
+// One turn of a session: the act that is due is answered by the session or by an engine, and its entry is added.
 ghost use Rattle.std.specs.Prelude.{ℕ, ◌≡◌, ◌≢◌, ◌∷◌, ◌<◌, ◌≤◌, ◌^◌, ◌+◌, ◌==◌, length, slice_get, is_some, IfOk, OnOk, OnErr, IsOk, Ok, None, false, true, IfSome};
 ghost use Rattle.hib_base.specs.declared.entries.Entry.{Entry};
 ghost use Rattle.hib_journal.specs.Kept.{past};
@@ -10,31 +10,20 @@ ghost use Rattle.hib_outside.specs.Causes.{Rose};
 ghost use Rattle.hib_session.specs.Memory.{brings};
 ghost use Rattle.hib_session.specs.Session.{Follows, IsTaken, number_of, is_killed, is_ready, left_in};
 ghost use Rattle.hib_engines.specs.Due.{IsDue, HasQueries};
-ghost use Rattle.hib_core.specs.Standing.{Origin, IsStill, IsReady, entry_of};
-ghost use Rattle.hib_engines.specs.Served.{AreWithin};
+ghost use Rattle.hib_engines.specs.Engines.{IsStill};
+ghost use Rattle.hib_core.specs.Standing.{entry_of};
 ghost use Rattle.hib_core.specs.Bound.{outside_count};
 ghost use Rattle.hib_session.specs.Sessions.{AreSessions};
-ghost use Rattle.hib_core.specs.Factory.{IsTold, IsRun, IsAsked, IsMember, IsTurn, Answers, Serves, Leaves, Moves, Does, IsOver};
+ghost use Rattle.hib_core.specs.Factory.{IsRun, IsAsked, IsMember, IsTurn, Answers, Serves, Leaves, Moves, Does, IsOver};
 
-use crate::names::Name;
-use crate::parts::Parts;
 use hib_base::{Act, Entry, Reply, Script, SessionNo, Tick};
 use hib_clock::next as tick_after;
-use hib_engines::laws;
+use hib_engines::{Engines, Name, Stepped};
 use hib_journal::{Journal, part_of};
 use hib_law::law;
 use hib_outside::Keeper;
 use hib_session::Session;
 use std::alloc::{AllocError, Global};
-
-/// What a step did.
-#[derive(Clone, Copy, Debug, PartialEq, Eq)]
-pub enum Stepped {
-    /// One entry more.
-    Did,
-    /// The session is at its end.
-    Done,
-}
 
 /// The act that is due in a session.
 fn due_act(alloc: Global, script: &Script, session: &Session) -> Result<Option<Act>, AllocError>
@@ -89,36 +78,6 @@ pub fn has_turn<N: Name>(
     is_due(alloc, script, &sessions[number.0 as usize])
 }
 
-/// The answer to an act that is due: the session's own, or that of a part. At an error the parts are as before, but for the
-/// keeper's counts, and so they are if the act brings something to the session.
-fn answer<K: Keeper>(
-    alloc: Global,
-    script: &Script,
-    session: &Session,
-    parts: &mut Parts<K>,
-    act: &Act,
-    now: Tick,
-) -> Result<Reply, AllocError>
-    requires late { now ≤ 2 ^ 62 }
-    requires tables { AreWithin (length parts.old.stamps) act.now }
-    requires entities { length parts.old.stamps ≡ length script.now.mapping }
-    requires mapping { length script.now.mapping < 2 ^ 16 }
-    ensures answered { IfOk result (λ r. (from : Origin) (h : Past) → now ≡ length h + 1
-        → Follows script.now session.now (own (number_of session.now) h)
-        → IsReady script.now from h (number_of session.now) act.now parts.old
-        → IsTold script.now from h (number_of session.now) act.now r parts.old parts.new) }
-    ensures still { OnOk result (brings act.now ≡ true → IsStill parts.old parts.new) }
-    ensures err { OnErr result (IsStill parts.old parts.new) }
-{
-    laws();
-    let number = session.number();
-    if let Some(reply) = session.reply_to(alloc, script, act)? {
-        parts.note_own(number, act);
-        return Ok(reply);
-    }
-    parts.serve(alloc, script, number, act, now)
-}
-
 /// The tick of the next entry. All parts stand under one lock, so that they share their last tick, and so do the sessions: it is
 /// the number of entries.
 pub fn next_tick(journal: &Journal) -> Result<Tick, AllocError>
@@ -151,32 +110,31 @@ pub fn add(journal: &mut Journal, entry: Entry)
     let _ = journal.push(entry);
 }
 
-/// The tick and the reply of the act that is due, which the session or a part has answered. The journal has room for its entry.
+/// The tick and the reply of the act that is due, which the session or an engine has answered. The journal has room for its entry.
 /// If memory runs out nothing has changed, but for the keeper's counts.
 fn answered<K: Keeper, N: Name>(
     alloc: Global,
     script: &Script,
     session: &Session,
     act: &Act,
-    parts: &mut Parts<K>,
+    engines: &mut Engines<K>,
     journal: &mut Journal,
 ) -> Result<(Tick, Reply), AllocError>
     requires script { script.now ≡ N.script }
-    requires run { IsRun N.script N.from (past journal.old) parts.old }
+    requires run { IsRun N.script N.from (past journal.old) engines.old }
     requires turn { IsTurn N.script (past journal.old) session.now act.now }
     ensures same { past journal.new ≡ past journal.old }
     ensures room { OnOk result (0 < journal.new.spare) }
     ensures tick { IfOk result (λ t. t.0 ≡ length (past journal.old) + 1) }
     ensures answers { IfOk result (λ t. Answers N.script N.from (number_of session.now) act.now
         (past journal.old) (entry_of (past journal.old) (number_of session.now) act.now t.1)
-        parts.old parts.new) }
-    ensures still { OnOk result (brings act.now ≡ true → IsStill parts.old parts.new) }
-    ensures err { OnErr result (IsStill parts.old parts.new) }
+        engines.old engines.new) }
+    ensures still { OnOk result (brings act.now ≡ true → IsStill engines.old engines.new) }
+    ensures err { OnErr result (IsStill engines.old engines.new) }
 {
-    laws();
     law();
     let tick = reserve_tick(journal)?;
-    let reply = answer(alloc, script, session, parts, act, tick)?;
+    let reply = engines.answer(alloc, script, session, act, tick)?;
     Ok((tick, reply))
 }
 
@@ -217,21 +175,21 @@ fn serve<K: Keeper, N: Name>(
     script: &Script,
     session: &mut Session,
     act: Act,
-    parts: &mut Parts<K>,
+    engines: &mut Engines<K>,
     journal: &mut Journal,
 ) -> Result<(), AllocError>
     requires script { script.now ≡ N.script }
-    requires run { IsRun N.script N.from (past journal.old) parts.old }
+    requires run { IsRun N.script N.from (past journal.old) engines.old }
     requires turn { IsTurn N.script (past journal.old) session.old act }
     requires ready { is_ready script.now session.old ≡ true }
     ensures number { number_of session.new ≡ number_of session.old }
     ensures killed { is_killed session.new ≡ is_killed session.old }
     ensures ok { OnOk result (Serves N.script N.from act (past journal.old)
-        (past journal.new) parts.old parts.new session.old session.new) }
+        (past journal.new) engines.old engines.new session.old session.new) }
     ensures err { OnErr result (Leaves N.script (past journal.old)
-        (past journal.new) parts.old parts.new session.old session.new) }
+        (past journal.new) engines.old engines.new session.old session.new) }
 {
-    let (tick, reply) = answered::<K, N>(alloc, script, session, &act, parts, journal)?;
+    let (tick, reply) = answered::<K, N>(alloc, script, session, &act, engines, journal)?;
     let number = session.number();
     let part = part_of(&act, number);
     let entry = Entry {
@@ -250,24 +208,24 @@ fn take_turn<K: Keeper, N: Name>(
     alloc: Global,
     script: &Script,
     session: &mut Session,
-    parts: &mut Parts<K>,
+    engines: &mut Engines<K>,
     journal: &mut Journal,
 ) -> Result<Stepped, AllocError>
     requires script { script.now ≡ N.script }
-    requires run { IsRun N.script N.from (past journal.old) parts.old }
+    requires run { IsRun N.script N.from (past journal.old) engines.old }
     requires member { IsMember N.script (past journal.old) session.old }
     ensures number { number_of session.new ≡ number_of session.old }
     ensures killed { is_killed session.new ≡ is_killed session.old }
     ensures did { result ≡ Ok Stepped.Did
         → Moves N.script N.from (past journal.old)
-        (past journal.new) parts.old parts.new session.old session.new }
+        (past journal.new) engines.old engines.new session.old session.new }
     ensures done { result ≡ Ok Stepped.Done
         → has_next N.script (past journal.old) (number_of session.old) ≡ false }
-    ensures quiet { result ≡ Ok Stepped.Done → parts.new ≡ parts.old }
+    ensures quiet { result ≡ Ok Stepped.Done → engines.new ≡ engines.old }
     ensures dead { is_killed session.old ≡ true → result ≡ Ok Stepped.Done }
     ensures still { result ≢ Ok Stepped.Did
         → Leaves N.script (past journal.old)
-        (past journal.new) parts.old parts.new session.old session.new }
+        (past journal.new) engines.old engines.new session.old session.new }
 {
     if session.was_killed() {
         return Ok(Stepped::Done);
@@ -276,7 +234,7 @@ fn take_turn<K: Keeper, N: Name>(
     let Some(act) = due_act(alloc, script, session)? else {
         return Ok(Stepped::Done);
     };
-    serve::<K, N>(alloc, script, session, act, parts, journal)?;
+    serve::<K, N>(alloc, script, session, act, engines, journal)?;
     Ok(Stepped::Did)
 }
 
@@ -286,14 +244,14 @@ pub fn turn<K: Keeper, N: Name>(
     script: &Script,
     number: SessionNo,
     sessions: &mut Vec<Session>,
-    parts: &mut Parts<K>,
+    engines: &mut Engines<K>,
     journal: &mut Journal,
 ) -> Result<Stepped, AllocError>
     requires script { script.now ≡ N.script }
     requires known { number < length N.script.sessions }
-    requires run { IsRun N.script N.from (past journal.old) parts.old }
+    requires run { IsRun N.script N.from (past journal.old) engines.old }
     requires sessions { AreSessions N.script (past journal.old) sessions.old.items }
-    ensures run { IsRun N.script N.from (past journal.new) parts.new }
+    ensures run { IsRun N.script N.from (past journal.new) engines.new }
     ensures sessions { AreSessions N.script (past journal.new) sessions.new.items }
     ensures did { result ≡ Ok Stepped.Did
         → Does N.script number (past journal.old)
@@ -301,16 +259,16 @@ pub fn turn<K: Keeper, N: Name>(
     ensures done { result ≡ Ok Stepped.Done
         → IsOver N.script number (past journal.old) (past journal.new) }
     ensures same { OnErr result (past journal.new ≡ past journal.old) }
-    ensures err { OnErr result (IsStill parts.old parts.new) }
-    ensures asked { OnOk result (IsAsked N.from (past journal.old) parts.old
-        → IsAsked N.from (past journal.new) parts.new) }
+    ensures err { OnErr result (IsStill engines.old engines.new) }
+    ensures asked { OnOk result (IsAsked N.from (past journal.old) engines.old
+        → IsAsked N.from (past journal.new) engines.new) }
     ensures fault { (e : Entry) → past journal.new ≡ e ∷ past journal.old → is_fault e.reply ≡ true
-        → Rose parts.old.store.faults parts.new.store.faults }
+        → Rose engines.old.store.faults engines.new.store.faults }
     ensures inside { outside_count (past journal.new) ≡ outside_count (past journal.old) }
     ensures dead { was_killed number (past journal.old) ≡ true → result ≡ Ok Stepped.Done }
     ensures others { (s : ℕ) → (number == s) ≡ false
         → slice_get sessions.new.items s ≡ slice_get sessions.old.items s }
 {
     let session = &mut sessions[number.0 as usize];
-    take_turn::<K, N>(alloc, script, session, parts, journal)
+    take_turn::<K, N>(alloc, script, session, engines, journal)
 }

@@ -21,7 +21,6 @@ pub use engines::Engines;
 pub use joined::{entries_elsewhere, laws};
 pub use names::Name;
 pub use region::Region;
-pub use region_list::{open_regions, restart_regions, serve_region};
 pub use registry::Registry;
 pub use results::ResultsEngine;
 pub use stamps::StampsEngine;

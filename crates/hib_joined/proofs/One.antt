@@ -16,9 +16,10 @@ use Rattle.hib_split_law.specs.Apart.{HaveSessions, IsStoreAlone, store_ask_coun
 use Rattle.hib_split_law.specs.Merged.{Agrees, AreBounded, AreDue, AreOwnLegal, ArePartsLegal, IsMerged, of_part_in}
 use Rattle.hib_merge.specs.Tearing.{IsTorn}
 use Rattle.hib_merge.specs.declared.tearing.Torn.{Torn}
-use Rattle.hib_core.specs.Bound.{one_if_none, outside_count}
-use Rattle.hib_core.specs.Factory.{AreOver}
-use Rattle.hib_core.specs.Standing.{Origin, RoseBy, RoseWithin}
+use Rattle.hib_session.specs.Bound.{one_if_none, outside_count}
+use Rattle.hib_session.specs.Sessions.{AreOver}
+use Rattle.hib_engines.specs.Counts.{RoseBy, RoseWithin}
+use Rattle.hib_engines.specs.Origin.{Origin}
 use Rattle.hib_split.specs.Alone.{AreAtEnds, AreListed, IsToldBy}
 use Rattle.hib_joined.specs.declared.joining.Joined.{Joined}
 use Rattle.hib_joined.specs.Joined.{AreApart, AreJoinedUnless}

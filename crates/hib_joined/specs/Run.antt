@@ -8,9 +8,10 @@ use Rattle.hib_journal.specs.Legal.{IsLegal}
 use Rattle.hib_journal.specs.Runs.{ask_count, fault_count, told_committed}
 use Rattle.hib_law.specs.Law.{Obeys}
 use Rattle.hib_split_law.specs.Merged.{AreDue}
-use Rattle.hib_core.specs.Bound.{outside_count}
-use Rattle.hib_core.specs.Factory.{AreOver}
-use Rattle.hib_core.specs.Standing.{Origin, RoseBy, RoseWithin}
+use Rattle.hib_session.specs.Bound.{outside_count}
+use Rattle.hib_session.specs.Sessions.{AreOver}
+use Rattle.hib_engines.specs.Counts.{RoseBy, RoseWithin}
+use Rattle.hib_engines.specs.Origin.{Origin}
 use Rattle.hib_joined.specs.Joined.{AreApart}
 use Rattle.hib_joined.specs.declared.joining.Joined.{Joined}
 

@@ -3,12 +3,12 @@ ghost use Rattle.std.specs.Prelude.{◌≡◌, ◌≤◌, true, IfOk, IfErr};
 ghost use Rattle.hib_base.specs.Valid.{is_valid};
 ghost use Rattle.hib_outside.specs.Causes.{Rose};
 ghost use Rattle.hib_store.specs.Stores.{handed_back, is_store_fault};
-ghost use Rattle.hib_core.specs.Standing.{told_start};
+ghost use Rattle.hib_engines.specs.Origin.{told_start};
 ghost use Rattle.hib_joined.specs.Run.{CameToOne};
 
 use crate::joining::{Joined, join_unless};
 use hib_base::Script;
-use hib_core::Name;
+use hib_engines::Name;
 use hib_law::law;
 use hib_outside::{Gate, Keeper};
 use hib_parts::Parts;

@@ -11,7 +11,7 @@ use Rattle.hib_session.specs.Memory.{brings}
 use Rattle.hib_query_cache.specs.Ranked.{Ranked}
 use Rattle.hib_engines.specs.Results.{AreResults}
 use Rattle.hib_engines.specs.Served.{is_for, IsServed, HasQuery}
-use Rattle.hib_core.specs.Factory.{IsBuilt}
+use Rattle.hib_engines.specs.Built.{IsBuilt}
 use Rattle.hib_parts.specs.Listed.{WorkerState, IsPartList, IsDueAct, IsDueOn, IsLater}
 use Rattle.hib_parts.proofs.Replies.{any_reply, not_mine, is_shared}
 use Rattle.hib_parts.proofs.Steps.{IsStep, step_of, part_on, for_part, not_store, known}

@@ -17,10 +17,10 @@ use Rattle.hib_engines.specs.Region.{entity_in, IsPlaced, Suits}
 use Rattle.hib_engines.specs.Served.{is_for, IsServed, reads}
 use Rattle.hib_engines.specs.Stamps.{AreStamps}
 use Rattle.hib_engines.proofs.RegionServed.{named}
-use Rattle.hib_core.specs.Factory.{IsBuilt}
+use Rattle.hib_engines.specs.Built.{IsBuilt}
 use Rattle.hib_engines.specs.Due.{IsDue}
 use Rattle.hib_engines.proofs.Allowed.{is_due}
-use Rattle.hib_core.proofs.Brought.{region_reads}
+use Rattle.hib_engines.proofs.Brought.{region_reads}
 use Rattle.hib_parts.specs.Listed.{WorkerState, RegionState, IsPartList, IsDueAct, IsDueEntry, IsDueOn, IsLater, IsKept, last_of}
 use Rattle.hib_parts.specs.Copied.{is_small}
 use Rattle.hib_parts.proofs.Lists.{late_in, part_more}

@@ -16,10 +16,10 @@ use Rattle.hib_engines.specs.Counts.{RoseBy, RoseWithin}
 use Rattle.hib_engines.specs.Served.{is_for, HasQuery, reads}
 use Rattle.hib_engines.specs.Store.{IsStored, IsStoreServed, IsCounted}
 use Rattle.hib_split_law.specs.Apart.{store_ask_count}
-use Rattle.hib_core.specs.Factory.{IsBuilt}
-use Rattle.hib_core.specs.Standing.{Origin}
-use Rattle.hib_core.proofs.Brought.{store_reads}
-use Rattle.hib_core.proofs.Stored.{rose_more, rose_on, rose_if}
+use Rattle.hib_engines.specs.Built.{IsBuilt}
+use Rattle.hib_engines.specs.Origin.{Origin}
+use Rattle.hib_engines.proofs.Brought.{store_reads}
+use Rattle.hib_engines.proofs.Rose.{rose_more, rose_on, rose_if}
 use Rattle.hib_parts.specs.Copied.{is_small}
 use Rattle.hib_parts.specs.Listed.{WorkerState, IsPartList, IsDueAct, IsDueEntry, IsDueOn, IsLater, IsKept}
 use Rattle.hib_parts.specs.Stored.{IsKeeping, IsStoreEntered}

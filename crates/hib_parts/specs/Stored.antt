@@ -10,7 +10,7 @@ use Rattle.hib_store.specs.Stores.{StoreState}
 use Rattle.hib_engines.specs.Counts.{RoseBy, RoseWithin}
 use Rattle.hib_engines.specs.Store.{IsStored}
 use Rattle.hib_split_law.specs.Apart.{store_ask_count}
-use Rattle.hib_core.specs.Standing.{Origin}
+use Rattle.hib_engines.specs.Origin.{Origin}
 use Rattle.hib_parts.specs.Listed.{WorkerState}
 
 -- the store's part: its entries, the newest first, whether memory ran out in a call, and what its keeper tells

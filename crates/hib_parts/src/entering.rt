@@ -10,7 +10,7 @@ ghost use Rattle.hib_parts.specs.Listed.{IsDueAct, IsDueEntry, IsKept};
 use crate::copied::copied;
 use crate::worker::{Worker, add, entry_of};
 use hib_base::{Act, Reply, Script, Tick};
-use hib_core::Name;
+use hib_engines::Name;
 use hib_journal::Journal;
 use std::alloc::{AllocError, Global};
 

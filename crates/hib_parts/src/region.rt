@@ -3,14 +3,13 @@ ghost use Rattle.std.specs.Prelude.{◌≡◌, ◌<◌, ◌≤◌, ◌^◌, [], 
 ghost use Rattle.hib_base.specs.declared.entries.Part.{Part};
 ghost use Rattle.hib_journal.specs.Kept.{past};
 ghost use Rattle.hib_split_law.specs.Apart.{IsPartLegal};
-ghost use Rattle.hib_core.specs.Factory.{IsBuilt};
+ghost use Rattle.hib_engines.specs.Built.{IsBuilt};
 ghost use Rattle.hib_parts.specs.Listed.{AreOf, IsDueOn, IsEntered, IsLater, IsKept, last_of};
 
 use crate::entering::{enter_answer, prepared};
 use crate::worker::Worker;
 use hib_base::{EntityNo, Script, Tick};
-use hib_core::Name;
-use hib_engines::{Region, laws};
+use hib_engines::{Name, Region, laws};
 use hib_journal::Journal;
 use std::alloc::{AllocError, Global};
 use std::marker::{Model, PhantomData};
@@ -29,7 +28,7 @@ impl<N: Name> Model for RegionPart<N> {
     ghost use Rattle.hib_journal.specs.Kept.{past};
     ghost use Rattle.hib_journal.specs.Types.{Part};
     ghost use Rattle.hib_engines.specs.Region.{IsPlaced};
-    ghost use Rattle.hib_core.specs.Factory.{IsBuilt};
+    ghost use Rattle.hib_engines.specs.Built.{IsBuilt};
     ghost use Rattle.hib_parts.specs.Listed.{IsPartList, RegionState};
 
     ghost Value = { RegionState };

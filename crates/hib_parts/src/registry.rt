@@ -5,14 +5,13 @@ ghost use Rattle.hib_base.specs.declared.entries.Part.{Part};
 ghost use Rattle.hib_journal.specs.Kept.{past};
 ghost use Rattle.hib_session.specs.Session.{own_reply};
 ghost use Rattle.hib_split_law.specs.Apart.{IsPartLegal};
-ghost use Rattle.hib_core.specs.Factory.{IsBuilt};
+ghost use Rattle.hib_engines.specs.Built.{IsBuilt};
 ghost use Rattle.hib_parts.specs.Listed.{AreOf, IsDueAct, IsDueOn, IsEntered, IsLater, IsKept, last_of};
 
 use crate::entering::{enter_answer, prepared};
 use crate::worker::Worker;
 use hib_base::{Act, Reply, Script, Tick};
-use hib_core::Name;
-use hib_engines::Registry;
+use hib_engines::{Name, Registry};
 use hib_journal::Journal;
 use std::alloc::{AllocError, Global};
 use std::marker::{Model, PhantomData};
@@ -31,7 +30,7 @@ impl<N: Name> Model for RegistryPart<N> {
     ghost use Rattle.hib_journal.specs.Sessions.{Journal as Entries};
     ghost use Rattle.hib_journal.specs.Types.{Part};
     ghost use Rattle.hib_engines.specs.Registry.{IsRegistry};
-    ghost use Rattle.hib_core.specs.Factory.{IsBuilt};
+    ghost use Rattle.hib_engines.specs.Built.{IsBuilt};
     ghost use Rattle.hib_parts.specs.Listed.{IsPartList};
 
     ghost Value = { Entries };

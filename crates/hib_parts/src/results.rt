@@ -10,14 +10,13 @@ ghost use Rattle.hib_query_cache.specs.Ranked.{result_of, used, with_result, dro
 ghost use Rattle.hib_engines.specs.Results.{AreResults};
 ghost use Rattle.hib_engines.specs.Served.{is_for, IsServed, HasQuery};
 ghost use Rattle.hib_split_law.specs.Apart.{IsPartLegal};
-ghost use Rattle.hib_core.specs.Factory.{IsBuilt};
+ghost use Rattle.hib_engines.specs.Built.{IsBuilt};
 ghost use Rattle.hib_parts.specs.Listed.{AreOf, IsDueOn, IsEntered, IsLater, IsKept, last_of};
 
 use crate::entering::{enter_both, prepared};
 use crate::worker::Worker;
 use hib_base::{Act, Listing, QueryNo, Reply, Script, Tick, copy_cells};
-use hib_core::Name;
-use hib_engines::laws;
+use hib_engines::{Name, laws};
 use hib_journal::Journal;
 use hib_query_cache::Results;
 use std::alloc::{AllocError, Global};
@@ -38,7 +37,7 @@ impl<N: Name> Model for ResultsPart<N> {
     ghost use Rattle.hib_journal.specs.Sessions.{Journal as Entries};
     ghost use Rattle.hib_journal.specs.Types.{Part};
     ghost use Rattle.hib_engines.specs.Results.{AreResults};
-    ghost use Rattle.hib_core.specs.Factory.{IsBuilt};
+    ghost use Rattle.hib_engines.specs.Built.{IsBuilt};
     ghost use Rattle.hib_parts.specs.Listed.{IsPartList};
 
     ghost Value = { Entries };

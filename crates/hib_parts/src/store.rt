@@ -10,16 +10,15 @@ ghost use Rattle.hib_store.specs.Stores.{handed_back, is_store_fault};
 ghost use Rattle.hib_split_law.specs.Apart.{IsPartLegal, store_ask_count};
 ghost use Rattle.hib_engines.specs.Counts.{RoseBy, RoseWithin};
 ghost use Rattle.hib_engines.specs.Store.{IsCounted, IsStored};
-ghost use Rattle.hib_core.specs.Standing.{told_start};
-ghost use Rattle.hib_core.specs.Factory.{IsBuilt};
+ghost use Rattle.hib_engines.specs.Origin.{told_start};
+ghost use Rattle.hib_engines.specs.Built.{IsBuilt};
 ghost use Rattle.hib_parts.specs.Listed.{AreOf, IsDueOn, IsEntered, IsLater, IsKept, last_of};
 ghost use Rattle.hib_parts.specs.Stored.{IsStoreEntered};
 
 use crate::entering::{enter_answer, prepared};
 use crate::worker::Worker;
 use hib_base::{Script, Tick};
-use hib_core::Name;
-use hib_engines::StoreEngine;
+use hib_engines::{Name, StoreEngine};
 use hib_journal::Journal;
 use hib_outside::Keeper;
 use hib_store::OpenFault;
@@ -39,7 +38,7 @@ pub struct StorePart<K: Keeper, N: Name> {
 impl<K: Keeper, N: Name> Model for StorePart<K, N> {
     ghost use Rattle.hib_journal.specs.Kept.{past};
     ghost use Rattle.hib_journal.specs.Types.{Part};
-    ghost use Rattle.hib_core.specs.Factory.{IsBuilt};
+    ghost use Rattle.hib_engines.specs.Built.{IsBuilt};
     ghost use Rattle.hib_parts.specs.Listed.{IsPartList};
     ghost use Rattle.hib_parts.specs.Stored.{IsKeeping, StoredState};
 

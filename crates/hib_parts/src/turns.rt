@@ -15,7 +15,7 @@ use crate::store::StorePart;
 use crate::worker::Worker;
 use hib_base::{EntityNo, Part, Script, Tick};
 use hib_clock::next as tick_after;
-use hib_core::{Name, Stepped};
+use hib_engines::{Name, Stepped};
 use hib_journal::part_of;
 use hib_outside::Keeper;
 use std::alloc::{AllocError, Global};

@@ -11,7 +11,7 @@ ghost use Rattle.hib_split_law.specs.Apart.{IsOwnLegal};
 ghost use Rattle.hib_parts.specs.Listed.{AreBy, IsDueAct, IsDueEntry, IsDueOn, IsKept, IsOwnEntered, last_of};
 
 use hib_base::{Act, Entry, Reply, Script, SessionNo, Tick};
-use hib_core::Name;
+use hib_engines::Name;
 use hib_journal::{Journal, part_of};
 use hib_session::Session;
 use std::alloc::{AllocError, Global};

@@ -3,7 +3,7 @@
 use denote.RattleType.{RattleType}
 use denote.Param.Send.{IsSend, IsSync, sendable}
 use Rattle.std.proofs.Crossing.{crosses}
-use Rattle.hib_core.proofs.Crossing.{journal_send, session_send, registry_send, stamps_send, results_send, region_send, engine_send}
+use Rattle.hib_engines.proofs.Crossing.{journal_send, session_send, registry_send, stamps_send, results_send, region_send, engine_send}
 use Rattle.hib_base.specs.contracts.numbers.Key as KeyT
 use Rattle.hib_base.specs.contracts.seq.Seq as SeqT
 use Rattle.hib_base.specs.contracts.rows.Cell as CellT
@@ -15,7 +15,7 @@ use Rattle.hib_base.specs.contracts.scripts.Statement as StatementT
 use Rattle.hib_base.specs.contracts.scripts.SessionDef as SessionDefT
 use Rattle.hib_base.specs.contracts.scripts.Script as ScriptT
 use Rattle.hib_outside.specs.declared.keeper.Keeper as keeper
-use Rattle.hib_core.specs.declared.names.Name as name
+use Rattle.hib_engines.specs.declared.names.Name as name
 use Rattle.hib_parts.specs.contracts.registry.RegistryPart as RegistryPartT
 use Rattle.hib_parts.specs.contracts.store.StorePart as StorePartT
 use Rattle.hib_parts.specs.contracts.stamps.StampsPart as StampsPartT

@@ -3,7 +3,7 @@ use Rattle.std.proofs.Common.{ℕ, Option, arith}
 use Rattle.hib_base.specs.Tables.{Tables}
 use Rattle.hib_journal.specs.Sessions.{Journal}
 use Rattle.hib_engines.specs.Counts.{RoseBy}
-use Rattle.hib_core.specs.Standing.{Origin}
+use Rattle.hib_engines.specs.Origin.{Origin}
 use Rattle.hib_split.specs.Alone.{IsToldBy}
 
 pub none_fewer : (before n now : ℕ) → RoseBy before n now → RoseBy before 0 now

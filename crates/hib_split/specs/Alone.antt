@@ -10,7 +10,7 @@ use Rattle.hib_journal.specs.Runs.{fault_count}
 use Rattle.hib_engines.specs.Counts.{RoseBy}
 use Rattle.hib_split_law.specs.Merged.{list_of, ArePartsLegal, AreOwnLegal, IsMerged, Agrees, AreDue}
 use Rattle.hib_merge.specs.Merging.{AreRising, IsInOne}
-use Rattle.hib_core.specs.Standing.{Origin}
+use Rattle.hib_engines.specs.Origin.{Origin}
 use Rattle.hib_parts.specs.Run.{AreOfRun}
 
 -- the lists of parts and those of sessions are legal, each by itself, and those of parts can be merged

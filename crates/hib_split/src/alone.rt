@@ -13,7 +13,7 @@ ghost use Rattle.hib_split.specs.Alone.{AreAtEnds, AreListed, AreWhole, IsToldBy
 use crate::gathering::room_for;
 use crate::rest::{Split, go_on};
 use hib_base::{Script, Seq};
-use hib_core::Name;
+use hib_engines::Name;
 use hib_journal::Journal;
 use hib_outside::Keeper;
 use hib_parts::Parts;

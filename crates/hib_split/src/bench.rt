@@ -6,7 +6,7 @@ use crate::halt::Halt;
 use crate::locks::{LockedRegion, lock_regions, step_under_lock, unlock_regions};
 use crate::strange::Strange;
 use hib_base::{Part, Script, SessionNo};
-use hib_core::{Name, Stepped};
+use hib_engines::{Name, Stepped};
 use hib_journal::part_of;
 use hib_outside::Keeper;
 use hib_parts::{

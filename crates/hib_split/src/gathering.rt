@@ -13,7 +13,7 @@ ghost use Rattle.hib_parts.specs.Listed.{AreOf};
 ghost use Rattle.hib_parts.specs.Run.{list_on, part_lists};
 
 use hib_base::{Entry, Part, SessionNo};
-use hib_core::Name;
+use hib_engines::Name;
 use hib_journal::Journal;
 use hib_outside::Keeper;
 use hib_parts::{Parts, RegionPart};

@@ -6,7 +6,7 @@ ghost use Rattle.hib_parts.specs.Listed.{IsDueOn};
 use crate::halt::Halt;
 use crate::strange::{Strange, compared};
 use hib_base::{EntityNo, Script};
-use hib_core::Name;
+use hib_engines::Name;
 use hib_parts::{RegionPart, Worker, step_region};
 use std::alloc::Global;
 use std::sync::{Mutex, Wait};

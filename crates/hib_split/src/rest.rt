@@ -14,7 +14,7 @@ ghost use Rattle.hib_split.specs.Alone.{AreAtEnds, AreListed, AreOfOne, AreWhole
 use crate::gathering::{add_own_lists, add_shared};
 use crate::strange::Strange;
 use hib_base::{EntityNo, Script, Seq, SessionNo};
-use hib_core::Name;
+use hib_engines::Name;
 use hib_journal::Journal;
 use hib_merge::Lists;
 use hib_outside::Keeper;

@@ -15,7 +15,7 @@ use crate::bench::{Left, room_for_threads};
 use crate::rest::{Split, go_on, stop};
 use crate::threads::on_threads;
 use hib_base::Script;
-use hib_core::Name;
+use hib_engines::Name;
 use hib_outside::{Gate, Keeper};
 use hib_parts::Parts;
 use std::alloc::Global;

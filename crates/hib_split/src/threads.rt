@@ -5,7 +5,7 @@ ghost use denote.Param.Send.{IsSync};
 use crate::bench::{Bench, Left, Room};
 use crate::halt::Halt;
 use hib_base::{Query, Script};
-use hib_core::{Name, Stepped};
+use hib_engines::{Name, Stepped};
 use hib_outside::{Gate, Keeper};
 use hib_parts::{Parts, Worker};
 use std::alloc::Global;

@@ -3,7 +3,7 @@
 use denote.RattleType.{RattleType}
 use denote.Param.Send.{IsSend, IsSync, sendable}
 use Rattle.std.proofs.Crossing.{crosses}
-use Rattle.hib_core.proofs.Crossing.{cell_send, row_send, journal_send, session_send, registry_send, stamps_send, results_send, region_send, engine_send}
+use Rattle.hib_engines.proofs.Crossing.{cell_send, row_send, journal_send, session_send, registry_send, stamps_send, results_send, region_send, engine_send}
 use Rattle.hib_base.specs.contracts.scripts.ColumnDef as ColumnT
 use Rattle.hib_base.specs.contracts.scripts.EntityDef as EntityT
 use Rattle.hib_base.specs.contracts.scripts.Query as QueryT
@@ -11,7 +11,7 @@ use Rattle.hib_base.specs.contracts.scripts.Statement as StatementT
 use Rattle.hib_base.specs.contracts.scripts.SessionDef as SessionDefT
 use Rattle.hib_base.specs.contracts.scripts.Script as ScriptT
 use Rattle.hib_engines.specs.contracts.results.ResultsEngine as KeptT
-use Rattle.hib_core.specs.contracts.parts.Parts as PartsT
+use Rattle.hib_engines.specs.contracts.engines.Engines as EnginesT
 use Rattle.hib_core.specs.contracts.steps.Core as CoreT
 use Rattle.hib_core.specs.contracts.factory.Factory as FactoryT
 use Rattle.hib_listeners.specs.contracts.listeners.Listeners as ListenersT
@@ -19,7 +19,7 @@ use Rattle.hib_workers.specs.contracts.desk.Desk as DeskT
 use Rattle.hib_workers.specs.contracts.workers.Bench as BenchT
 use Rattle.hib_outside.specs.declared.keeper.Keeper as keeper
 use Rattle.hib_outside.specs.declared.listener.Listener as listener
-use Rattle.hib_core.specs.declared.names.Name as name
+use Rattle.hib_engines.specs.declared.names.Name as name
 use Rattle.hib_workers.specs.declared.desk.Handed as handed
 
 column_send : IsSend ColumnT.the_field.row
@@ -42,12 +42,12 @@ script_send query = search (sendable, crosses, entity_send, row_send, session_de
 
 -- a query's condition is a tree, of which this is known beforehand
 module _ (query : IsSend QueryT.the_row) (K : RattleType) (k : keeper.Ghosts K.Denot) (sk : IsSend K) where
-  parts_send : IsSend (PartsT.the_field K k).row
-  parts_send = search (sendable, crosses, engine_send, registry_send, stamps_send, region_send, kept_send) depth 100 fits 100000
+  engines_send : IsSend (EnginesT.the_field K k).row
+  engines_send = search (sendable, crosses, engine_send, registry_send, stamps_send, region_send, kept_send) depth 100 fits 100000
 
   module _ (N : RattleType) (n : name.Ghosts N.Denot) (sn : IsSend N) where
     core_send : IsSend (CoreT.the_field K N k n).row
-    core_send = let script = script_send query in search (sendable, crosses, parts_send, session_send, journal_send) depth 100 fits 100000
+    core_send = let script = script_send query in search (sendable, crosses, engines_send, session_send, journal_send) depth 100 fits 100000
 
     module _ (L : RattleType) (l : listener.Ghosts L.Denot) (sl : IsSend L) where
       listeners_send : IsSend (ListenersT.the_field L).row

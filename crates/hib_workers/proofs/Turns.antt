@@ -6,11 +6,11 @@ use Rattle.std.specs.declared.alloc.AllocError.{AllocError}
 use Rattle.hib_journal.specs.Types.{Script}
 use Rattle.hib_journal.specs.Kept.{past}
 use Rattle.hib_law.specs.Law.{Obeys}
-use Rattle.hib_core.specs.declared.turns.Stepped.{Stepped}
-use Rattle.hib_core.specs.Bound.{outside_count}
+use Rattle.hib_engines.specs.declared.stepped.Stepped.{Stepped}
+use Rattle.hib_session.specs.Bound.{outside_count}
 use Rattle.hib_core.specs.Factory.{FactoryState, IsAskedOnceMore, Does, IsOver}
 use Rattle.hib_core.specs.Playing.{Play, GoesOn, Leads}
-use Rattle.hib_core.specs.Standing.{Origin}
+use Rattle.hib_engines.specs.Origin.{Origin}
 use Rattle.hib_core.proofs.Playing.{goes_by, goes_then, goes_same}
 use Rattle.hib_workers.specs.Worked.{IsWorked}
 
@@ -31,7 +31,7 @@ handed_in script from start now e inside law = record {
 -- after a call that was made before memory had run out
 pub worked_on : (script : Script) (from : Origin) (start old new : FactoryState) → IsWorked script from start old → old.refused ≡ false
     → outside_count (past new.journal) ≡ outside_count (past old.journal) → Obeys script from.tables (past new.journal)
-    → GoesOn (past old.journal) (past new.journal) → (new.refused ≡ true → IsAskedOnceMore from (past new.journal) new.parts)
+    → GoesOn (past old.journal) (past new.journal) → (new.refused ≡ true → IsAskedOnceMore from (past new.journal) new.engines)
     → IsWorked script from start new
 worked_on script from start old new w going inside law on asked = record {
   inside = inside ∙ w.inside;
@@ -59,7 +59,7 @@ finished_on (Err e) all left old new played stands = stands
 
 -- if memory ran out in a call, and not before
 pub asked_by : {T : Type 0} (r : Result T AllocError) (from : Origin) (old new : FactoryState) → old.refused ≡ false
-    → OnOk r (new.refused ≡ old.refused) → OnErr r (old.refused ≡ false → IsAskedOnceMore from (past new.journal) new.parts)
+    → OnOk r (new.refused ≡ old.refused) → OnErr r (old.refused ≡ false → IsAskedOnceMore from (past new.journal) new.engines)
     → new.refused ≡ true → IsAskedOnceMore from (past new.journal) new.parts
 asked_by (Ok t) from old new fresh going asked ran = absurd (never new.refused (going ∙ fresh) ran)
 asked_by (Err e) from old new fresh going asked ran = asked fresh

@@ -3,10 +3,10 @@ use Rattle.std.specs.Prelude.{◌≡◌, true, false, [], None}
 use Rattle.hib_journal.specs.Types.{Script}
 use Rattle.hib_journal.specs.Kept.{past}
 use Rattle.hib_law.specs.Law.{Obeys}
-use Rattle.hib_core.specs.Bound.{outside_count}
+use Rattle.hib_session.specs.Bound.{outside_count}
 use Rattle.hib_core.specs.Factory.{FactoryState, IsAskedOnceMore}
 use Rattle.hib_core.specs.Playing.{GoesOn}
-use Rattle.hib_core.specs.Standing.{Origin}
+use Rattle.hib_engines.specs.Origin.{Origin}
 
 -- a factory on which workers took turns, and the one that they were handed
 pub record IsWorked (script : Script) (from : Origin) (handed now : FactoryState) : Type 0 where
@@ -15,7 +15,7 @@ pub record IsWorked (script : Script) (from : Origin) (handed now : FactoryState
   pub law : Obeys script from.tables (past now.journal)
   pub on : GoesOn (past handed.journal) (past now.journal)
   -- if memory ran out, the keeper was asked at most once more than the journal says
-  pub asked : handed.refused ≡ false → now.refused ≡ true → IsAskedOnceMore from (past now.journal) now.parts
+  pub asked : handed.refused ≡ false → now.refused ≡ true → IsAskedOnceMore from (past now.journal) now.engines
   -- if it had run out before, nothing was done
   pub same : handed.refused ≡ true → now ≡ handed
 
@@ -23,7 +23,7 @@ pub record IsWorked (script : Script) (from : Origin) (handed now : FactoryState
 abbrev pub none_handed : FactoryState
 none_handed = record {
   journal = record { list = []; spare = 0 };
-  parts = record {
+  engines = record {
     store = record { tables = None; faults = 0; asked = 0; written = []; entities = 0; indexed = false };
     registry = [];
     stamps = [];

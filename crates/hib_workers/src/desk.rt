@@ -1,12 +1,13 @@
 // The factory behind the lock: whoever takes the lock finds it as it was left, with all that its type keeps.
 ghost use Rattle.std.specs.Prelude.{◌≡◌, ◌<◌, ◌^◌, false, length};
 ghost use Rattle.hib_journal.specs.Kept.{past};
-ghost use Rattle.hib_core.specs.Bound.{outside_count};
-ghost use Rattle.hib_core.specs.Factory.{AreOver};
+ghost use Rattle.hib_session.specs.Bound.{outside_count};
+ghost use Rattle.hib_session.specs.Sessions.{AreOver};
 ghost use Rattle.hib_workers.specs.Worked.{IsWorked};
 
 use hib_base::{Entry, SessionNo};
-use hib_core::{Factory, Name, Stepped};
+use hib_core::Factory;
+use hib_engines::{Name, Stepped};
 use hib_outside::{Keeper, Listener};
 use std::alloc::{AllocError, Global};
 use std::marker::{Brand, Model, PhantomData};

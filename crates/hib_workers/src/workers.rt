@@ -2,13 +2,14 @@
 ghost use Rattle.std.specs.Prelude.{◌≡◌, ◌≤◌, ◌<◌, ◌^◌, false, length, IfSome};
 ghost use denote.Param.Send.{IsSend};
 ghost use Rattle.hib_journal.specs.Kept.{past};
-ghost use Rattle.hib_core.specs.Bound.{outside_count};
-ghost use Rattle.hib_core.specs.Factory.{AreOver};
+ghost use Rattle.hib_session.specs.Bound.{outside_count};
+ghost use Rattle.hib_session.specs.Sessions.{AreOver};
 ghost use Rattle.hib_workers.specs.Worked.{IsWorked};
 
 use crate::desk::{Desk, Handed};
 use hib_base::{Query, SessionNo};
-use hib_core::{Factory, Name, Stepped};
+use hib_core::Factory;
+use hib_engines::{Name, Stepped};
 use hib_outside::{Gate, Keeper, Listener};
 use std::alloc::{AllocError, Global};
 use std::marker::Brand;

@@ -3,7 +3,8 @@ use Rattle.hib_journal.specs.Types.{Act, Order}
 use Rattle.hib_journal.specs.Kept.{past}
 use Rattle.hib_journal.specs.Sessions.{Journal}
 use Rattle.hib_journal.specs.Played.{play_order}
-use Rattle.hib_core.specs.Standing.{PartsState, outside_entry}
+use Rattle.hib_engines.specs.Engines.{EnginesState}
+use Rattle.hib_core.specs.Standing.{outside_entry}
 use Rattle.hib_session.specs.Sessions.{AreSessions}
 use Rattle.hib_core.specs.Factory.{IsRun, IsAsked}
 use Rattle.hib_core.specs.Playing.{played, Leads}
@@ -19,9 +20,9 @@ returns-clause-run g c =
     let same : past c.reserve_tick.new.journal ≡ h = c.in_ok-now.ensures.same in
     let grown : past c.tell.new.journal ≡ outside_entry h (Act.Evict c.args.key) c.in_ok-reply.reply ∷ h =
     grown_from (past c.reserve_tick.new.journal) h (past c.tell.new.journal) (Act.Evict c.args.key) c.in_ok-reply.reply c.tell.ensures same in
-    subst (λ (j : Journal). IsRun g.N.Name.script g.N.Name.from j c.serve_entity.new.self) (sym grown)
-    (evict_run c.laws.ensures c.law.ensures.obeyed g.N.Name.script g.N.Name.from h c.args.key c.in_ok-now.now c.in_ok-reply.reply c.args.parts.now c.serve_entity.new.self c.requires.run c.requires.cached
-    c.in_ok-now.ensures.few c.in_ok-now.ensures.tick c.in_ok-reply.ensures.answered c.in_ok-reply.ensures.others c.in_ok-reply.ensures.calm c.in_ok-reply.ensures.same)
+    subst (λ (j : Journal). IsRun g.N.Name.script g.N.Name.from j c.evict.new.self) (sym grown)
+    (evict_run c.law.ensures.obeyed g.N.Name.script g.N.Name.from h c.args.key c.in_ok-now.now c.in_ok-reply.reply c.args.engines.now c.evict.new.self c.requires.run c.requires.cached
+    c.in_ok-now.ensures.few c.in_ok-now.ensures.tick c.in_ok-reply.ensures.calm c.evict.ensures.same c.in_ok-reply.ensures.answered)
 
 pub returns-clause-sessions : goal.returns-clause-sessions
 returns-clause-sessions g c = λ xs w.
@@ -38,8 +39,8 @@ returns-clause-asked g c = λ w.
     let same : past c.reserve_tick.new.journal ≡ h = c.in_ok-now.ensures.same in
     let grown : past c.tell.new.journal ≡ outside_entry h (Act.Evict c.args.key) c.in_ok-reply.reply ∷ h =
     grown_from (past c.reserve_tick.new.journal) h (past c.tell.new.journal) (Act.Evict c.args.key) c.in_ok-reply.reply c.tell.ensures same in
-    subst (λ (j : Journal). IsAsked g.N.Name.from j c.serve_entity.new.self) (sym grown)
-    (asked_outside g.N.Name.from h (Act.Evict c.args.key) c.in_ok-reply.reply c.args.parts.now c.serve_entity.new.self refl (ap (λ (v : PartsState). v.store.asked) c.in_ok-reply.ensures.same) w)
+    subst (λ (j : Journal). IsAsked g.N.Name.from j c.evict.new.self) (sym grown)
+    (asked_outside g.N.Name.from h (Act.Evict c.args.key) c.in_ok-reply.reply c.args.engines.now c.evict.new.self refl (ap (λ (v : EnginesState). v.store.asked) c.evict.ensures.same) w)
 
 pub returns-clause-played : goal.returns-clause-played
 returns-clause-played g c =

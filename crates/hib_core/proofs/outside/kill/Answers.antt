@@ -6,7 +6,7 @@ use Rattle.hib_journal.specs.Sessions.{Journal, is_open}
 use Rattle.hib_journal.specs.Played.{play_order}
 use Rattle.hib_journal.specs.Types.{Order}
 use Rattle.hib_engines.specs.Registry.{Opened, holds}
-use Rattle.hib_core.specs.Standing.{PartsState, outside_entry}
+use Rattle.hib_core.specs.Standing.{outside_entry}
 use Rattle.hib_session.specs.Sessions.{AreSessions}
 use Rattle.hib_core.specs.Factory.{IsRun, IsAsked}
 use Rattle.hib_session.specs.Killed.{AreKilled}
@@ -21,29 +21,26 @@ pub returns-then-not-is_open-clause-played : goal.returns-then-not-is_open-claus
 returns-then-not-is_open-clause-played g c =
     let h = past c.args.journal.now in
     let n = c.args.number in
-    let x = c.args.parts.now in
-    let here : c.parts.inside.registry ≡ x.registry = ap (λ (v : PartsState). v.registry) c.parts.view_is in
-    no_kill_leads g.N.Name.script h n (sym (ap (λ (ps : Opened). holds n ps) here ∙ holds_open x.registry h n c.requires.run.parts.registry) ∙ (sym c.is_open.ensures ∙ c.if-not-is_open.true))
+    let x = c.args.engines.now in
+    no_kill_leads g.N.Name.script h n (sym (ap (λ (ps : Opened). holds n ps) c.registry.ensures ∙ holds_open x.registry h n c.requires.run.engines.registry) ∙ (sym c.is_open.ensures ∙ c.if-not-is_open.true))
 
 pub returns-clause-run : goal.returns-clause-run
 returns-clause-run g c =
     let h = past c.args.journal.now in
     let n = c.args.number in
-    let x = c.args.parts.now in
-    let here : c.parts.inside.registry ≡ x.registry = ap (λ (v : PartsState). v.registry) c.parts.view_is in
-    let begun : is_open n h ≡ true = sym (ap (λ (ps : Opened). holds n ps) here ∙ holds_open x.registry h n c.requires.run.parts.registry) ∙ (sym c.is_open.ensures ∙ c.if-not-is_open.false) in
+    let x = c.args.engines.now in
+    let begun : is_open n h ≡ true = sym (ap (λ (ps : Opened). holds n ps) c.registry.ensures ∙ holds_open x.registry h n c.requires.run.engines.registry) ∙ (sym c.is_open.ensures ∙ c.if-not-is_open.false) in
     let same : past c.reserve_tick.new.journal ≡ h = c.in_ok-now.ensures.same in
     let grown : past c.tell.new.journal ≡ outside_entry h (Act.Kill n) Reply.Done ∷ h =
     grown_from (past c.reserve_tick.new.journal) h (past c.tell.new.journal) (Act.Kill n) Reply.Done c.tell.ensures same in
     subst (λ (j : Journal). IsRun g.N.Name.script g.N.Name.from j c.kill.new.self) (sym grown)
-    (kill_run c.law.ensures.obeyed g.N.Name.script g.N.Name.from h n x c.kill.new.self c.requires.run begun c.in_ok-now.ensures.few
-    (c.kill.ensures.stands g.N.Name.script g.N.Name.from h c.requires.run.parts c.requires.run.numbered))
+    (kill_run c.law.ensures.obeyed g.N.Name.script g.N.Name.from h n x c.kill.new.self c.requires.run begun c.in_ok-now.ensures.few c.kill.ensures.faults c.kill.ensures.answered)
 
 pub returns-clause-sessions : goal.returns-clause-sessions
 returns-clause-sessions g c =
     let h = past c.args.journal.now in
     let n = c.args.number in
-    let x = c.args.parts.now in
+    let x = c.args.engines.now in
     let xs = c.args.sessions.now.items in
     let ys = c.kill_at.new.sessions.items in
     let same : past c.reserve_tick.new.journal ≡ h = c.in_ok-now.ensures.same in
@@ -57,7 +54,7 @@ pub returns-clause-asked : goal.returns-clause-asked
 returns-clause-asked g c = λ w.
     let h = past c.args.journal.now in
     let n = c.args.number in
-    let x = c.args.parts.now in
+    let x = c.args.engines.now in
     let same : past c.reserve_tick.new.journal ≡ h = c.in_ok-now.ensures.same in
     let grown : past c.tell.new.journal ≡ outside_entry h (Act.Kill n) Reply.Done ∷ h =
     grown_from (past c.reserve_tick.new.journal) h (past c.tell.new.journal) (Act.Kill n) Reply.Done c.tell.ensures same in
@@ -68,9 +65,8 @@ pub returns-clause-played : goal.returns-clause-played
 returns-clause-played g c =
     let h = past c.args.journal.now in
     let n = c.args.number in
-    let x = c.args.parts.now in
-    let here : c.parts.inside.registry ≡ x.registry = ap (λ (v : PartsState). v.registry) c.parts.view_is in
-    let begun : is_open n h ≡ true = sym (ap (λ (ps : Opened). holds n ps) here ∙ holds_open x.registry h n c.requires.run.parts.registry) ∙ (sym c.is_open.ensures ∙ c.if-not-is_open.false) in
+    let x = c.args.engines.now in
+    let begun : is_open n h ≡ true = sym (ap (λ (ps : Opened). holds n ps) c.registry.ensures ∙ holds_open x.registry h n c.requires.run.engines.registry) ∙ (sym c.is_open.ensures ∙ c.if-not-is_open.false) in
     let same : past c.reserve_tick.new.journal ≡ h = c.in_ok-now.ensures.same in
     let grown : past c.tell.new.journal ≡ outside_entry h (Act.Kill n) Reply.Done ∷ h =
     grown_from (past c.reserve_tick.new.journal) h (past c.tell.new.journal) (Act.Kill n) Reply.Done c.tell.ensures same in
@@ -90,21 +86,18 @@ pub returns-in_err-now-clause-closed : goal.returns-in_err-now-clause-closed
 returns-in_err-now-clause-closed g c = λ k.
     let h = past c.args.journal.now in
     let n = c.args.number in
-    let x = c.args.parts.now in
-    let here : c.parts.inside.registry ≡ x.registry = ap (λ (v : PartsState). v.registry) c.parts.view_is in
-    let begun : is_open n h ≡ true = sym (ap (λ (ps : Opened). holds n ps) here ∙ holds_open x.registry h n c.requires.run.parts.registry) ∙ (sym c.is_open.ensures ∙ c.if-not-is_open.false) in
+    let x = c.args.engines.now in
+    let begun : is_open n h ≡ true = sym (ap (λ (ps : Opened). holds n ps) c.registry.ensures ∙ holds_open x.registry h n c.requires.run.engines.registry) ∙ (sym c.is_open.ensures ∙ c.if-not-is_open.false) in
     absurd (false≢true (sym k ∙ begun))
 
 pub returns-then-not-is_open-clause-grown : goal.returns-then-not-is_open-clause-grown
 returns-then-not-is_open-clause-grown g c = λ p.
     let n = c.args.number in
-    let x = c.args.parts.now in
-    let here : c.parts.inside.registry ≡ x.registry = ap (λ (v : PartsState). v.registry) c.parts.view_is in
-    absurd (false≢true (sym (sym (ap (λ (ps : Opened). holds n ps) here ∙ holds_open x.registry (past c.args.journal.now) n c.requires.run.parts.registry) ∙ (sym c.is_open.ensures ∙ c.if-not-is_open.true)) ∙ p))
+    let x = c.args.engines.now in
+    absurd (false≢true (sym (sym (ap (λ (ps : Opened). holds n ps) c.registry.ensures ∙ holds_open x.registry (past c.args.journal.now) n c.requires.run.engines.registry) ∙ (sym c.is_open.ensures ∙ c.if-not-is_open.true)) ∙ p))
 
 pub returns-clause-closed : goal.returns-clause-closed
 returns-clause-closed g c = λ p.
     let n = c.args.number in
-    let x = c.args.parts.now in
-    let here : c.parts.inside.registry ≡ x.registry = ap (λ (v : PartsState). v.registry) c.parts.view_is in
-    absurd (false≢true (sym p ∙ (sym (ap (λ (ps : Opened). holds n ps) here ∙ holds_open x.registry (past c.args.journal.now) n c.requires.run.parts.registry) ∙ (sym c.is_open.ensures ∙ c.if-not-is_open.false))))
+    let x = c.args.engines.now in
+    absurd (false≢true (sym p ∙ (sym (ap (λ (ps : Opened). holds n ps) c.registry.ensures ∙ holds_open x.registry (past c.args.journal.now) n c.requires.run.engines.registry) ∙ (sym c.is_open.ensures ∙ c.if-not-is_open.false))))

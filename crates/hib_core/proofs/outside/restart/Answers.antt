@@ -5,7 +5,7 @@ use Rattle.hib_journal.specs.Kept.{past}
 use Rattle.hib_journal.specs.Sessions.{Journal, is_open}
 use Rattle.hib_journal.specs.Played.{play_order}
 use Rattle.hib_engines.specs.Registry.{Opened, holds}
-use Rattle.hib_core.specs.Standing.{PartsState, outside_entry}
+use Rattle.hib_core.specs.Standing.{outside_entry}
 use Rattle.hib_session.specs.Sessions.{AreSessions}
 use Rattle.hib_core.specs.Factory.{IsRun, IsAsked}
 use Rattle.hib_core.specs.Playing.{played, Leads}
@@ -23,23 +23,21 @@ returns-clause-run g c =
     let grown : past c.tell.new.journal ≡ outside_entry h Act.Restart Reply.Done ∷ h =
     grown_from (past c.reserve_tick.new.journal) h (past c.tell.new.journal) Act.Restart Reply.Done c.tell.ensures same in
     subst (λ (j : Journal). IsRun g.N.Name.script g.N.Name.from j c.restart.new.self) (sym grown)
-    (restart_run c.law.ensures.obeyed g.N.Name.script g.N.Name.from h c.args.parts.now c.restart.new.self c.requires.run c.in_ok-now.ensures.few
-    (c.restart.ensures.stands g.N.Name.script g.N.Name.from h c.requires.run.parts c.requires.run.numbered))
+    (restart_run c.law.ensures.obeyed g.N.Name.script g.N.Name.from h c.args.engines.now c.restart.new.self c.requires.run c.in_ok-now.ensures.few c.restart.ensures.faults c.restart.ensures.answered)
 
 pub returns-clause-sessions : goal.returns-clause-sessions
 returns-clause-sessions g c =
     let h = past c.args.journal.now in
-    let x = c.args.parts.now in
+    let x = c.args.engines.now in
     let xs = c.args.sessions.now.items in
     let ys = c.kill_all.new.sessions.items in
-    let here : c.parts.inside.registry ≡ x.registry = ap (λ (v : PartsState). v.registry) c.parts.view_is in
     let same : past c.reserve_tick.new.journal ≡ h = c.in_ok-now.ensures.same in
     let grown : past c.tell.new.journal ≡ outside_entry h Act.Restart Reply.Done ∷ h =
     grown_from (past c.reserve_tick.new.journal) h (past c.tell.new.journal) Act.Restart Reply.Done c.tell.ensures same in
     subst (λ (j : Journal). AreSessions g.N.Name.script j ys) (sym grown)
     (sessions_outside g.N.Name.script h (length h + 1) Act.Restart Reply.Done xs ys c.requires.sessions
     (killed_as (λ s. list_any (λ n. n == s) c.open_sessions.result.now) (λ s. is_open s h) xs ys
-    (λ s l. c.open_sessions.ensures.which s ∙ (ap (λ (ps : Opened). holds s ps) here ∙ holds_open x.registry h s c.requires.run.parts.registry)) c.kill_all.ensures))
+    (λ s l. c.open_sessions.ensures.which s ∙ (ap (λ (ps : Opened). holds s ps) c.registry.ensures ∙ holds_open x.registry h s c.requires.run.engines.registry)) c.kill_all.ensures))
 
 pub returns-clause-asked : goal.returns-clause-asked
 returns-clause-asked g c = λ w.
@@ -48,7 +46,7 @@ returns-clause-asked g c = λ w.
     let grown : past c.tell.new.journal ≡ outside_entry h Act.Restart Reply.Done ∷ h =
     grown_from (past c.reserve_tick.new.journal) h (past c.tell.new.journal) Act.Restart Reply.Done c.tell.ensures same in
     subst (λ (j : Journal). IsAsked g.N.Name.from j c.restart.new.self) (sym grown)
-    (asked_outside g.N.Name.from h Act.Restart Reply.Done c.args.parts.now c.restart.new.self refl c.restart.ensures.asked w)
+    (asked_outside g.N.Name.from h Act.Restart Reply.Done c.args.engines.now c.restart.new.self refl c.restart.ensures.asked w)
 
 pub returns-clause-played : goal.returns-clause-played
 returns-clause-played g c =

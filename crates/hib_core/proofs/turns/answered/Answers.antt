@@ -14,10 +14,11 @@ returns-clause-answers g c =
     let y = c.args.session.now in
     let a = c.args.act.now in
     let r = c.in_ok-reply.reply in
+    let now = c.in_ok-tick.tick in
     let q = sym c.requires.script in
-    let run = subst (λ s. IsRun s from h c.args.parts.now) q c.requires.run in
+    let run = subst (λ s. IsRun s from h c.args.engines.now) q c.requires.run in
     let turn = subst (λ s. IsTurn s h y a) q c.requires.turn in
-    subst (λ s. Answers s from (number_of y) a h (entry_of h (number_of y) a r) c.args.parts.now c.answer.new.parts) c.requires.script
-    (answers_of c.law.ensures.obeyed script from y a r h (entry_of h (number_of y) a r) c.args.parts.now c.answer.new.parts run turn
-    (c.in_ok-reply.ensures.answered from h c.in_ok-tick.ensures.tick turn.follows (ready script from h y a c.args.parts.now run turn))
-    c.in_ok-tick.ensures.few refl)
+    subst (λ s. Answers s from (number_of y) a h (entry_of h (number_of y) a r) c.args.engines.now c.answer.new.self) c.requires.script
+    (answers_of c.law.ensures.obeyed script from y a r h now (entry_of h (number_of y) a r) c.args.engines.now c.answer.new.self run turn c.in_ok-tick.ensures.tick
+    (c.in_ok-reply.ensures.answered from.tables h turn.follows (ready script from h now y a c.args.engines.now run turn c.in_ok-tick.ensures.tick))
+    c.answer.ensures.faults c.in_ok-tick.ensures.few refl)

@@ -27,7 +27,7 @@ returns-in_err-enter-clause-err g c =
     let taken : IsTaken c.args.script.now (number_of y) (own (number_of y) h) e = subst (λ (s : Script). IsTaken s (number_of y) (own (number_of y) h) e) (sym q)
     (subst (λ (u : Entry). IsTaken g.N.Name.script (number_of y) (own (number_of y) h) u) (sym d) c.in_ok-tick.ensures.answers.taken) in
     let b : brings a ≡ true = brings_so (brings a) (λ p. false≢true (c.in_err-enter.ensures.room (own (number_of y) h) follows taken c.requires.ready p)) in
-    err_all c.from_residual-in_err-enter.result _ (leaves_of c.args.script.now g.N.Name.script h (past c.enter.new.journal) c.args.parts.now c.answered.new.parts y c.enter.new.session q
+    err_all c.from_residual-in_err-enter.result _ (leaves_of c.args.script.now g.N.Name.script h (past c.enter.new.journal) c.args.engines.now c.answered.new.engines y c.enter.new.session q
     (c.in_err-enter.ensures.same ∙ c.in_ok-tick.ensures.same) (c.in_ok-tick.ensures.still b) c.in_err-enter.ensures.still)
 
 pub returns-clause-ok : goal.returns-clause-ok
@@ -39,7 +39,7 @@ returns-clause-ok g c =
     let e : Entry = record { tick = c.in_ok-tick.tick; session = Some c.number-number.result; part = c.part_of-part.result; act = a; reply = r } in
     let d : e ≡ entry_of h (number_of y) a r =
     entry_is h (number_of y) c.number-number.result c.in_ok-tick.tick a r c.part_of-part.result c.in_ok-tick.ensures.tick c.number-number.ensures c.part_of-part.ensures in
-    let v : Answers g.N.Name.script g.N.Name.from (number_of y) a h e c.args.parts.now c.answered.new.parts =
-    subst (λ (u : Entry). Answers g.N.Name.script g.N.Name.from (number_of y) a h u c.args.parts.now c.answered.new.parts) (sym d) c.in_ok-tick.ensures.answers in
-    serves_of c.args.script.now g.N.Name.script g.N.Name.from a e h (past c.enter.new.journal) c.args.parts.now c.answered.new.parts y c.enter.new.session c.requires.script
+    let v : Answers g.N.Name.script g.N.Name.from (number_of y) a h e c.args.engines.now c.answered.new.engines =
+    subst (λ (u : Entry). Answers g.N.Name.script g.N.Name.from (number_of y) a h u c.args.engines.now c.answered.new.engines) (sym d) c.in_ok-tick.ensures.answers in
+    serves_of c.args.script.now g.N.Name.script g.N.Name.from a e h (past c.enter.new.journal) c.args.engines.now c.answered.new.engines y c.enter.new.session c.requires.script
     c.requires.turn v (c.in_ok-enter.ensures.grown ∙ ap (λ (j : Journal). e ∷ j) c.in_ok-tick.ensures.same) c.in_ok-enter.ensures.follows c.in_ok-enter.ensures.less

@@ -21,7 +21,7 @@ returns-clause-run g c =
     let y = c.index_mut-session.result.now in
     let z = c.take_turn.new.session in
     let place = at_place script h xs c.number.inside.0 c.args.number y c.requires.sessions c.number.view_is c.requires.known c.index_mut-session.ensures.value in
-    let t = turned script from c.args.number c.take_turn.result h (past c.take_turn.new.journal) c.args.parts.now c.take_turn.new.parts xs y z c.requires.run c.requires.sessions place
+    let t = turned script from c.args.number c.take_turn.result h (past c.take_turn.new.journal) c.args.engines.now c.take_turn.new.engines xs y z c.requires.run c.requires.sessions place
     c.take_turn.ensures.number c.take_turn.ensures.killed c.take_turn.ensures.did c.take_turn.ensures.done c.take_turn.ensures.quiet c.take_turn.ensures.still in
     t.run
 
@@ -34,7 +34,7 @@ returns-clause-sessions g c =
     let y = c.index_mut-session.result.now in
     let z = c.take_turn.new.session in
     let place = at_place script h xs c.number.inside.0 c.args.number y c.requires.sessions c.number.view_is c.requires.known c.index_mut-session.ensures.value in
-    let t = turned script from c.args.number c.take_turn.result h (past c.take_turn.new.journal) c.args.parts.now c.take_turn.new.parts xs y z c.requires.run c.requires.sessions place
+    let t = turned script from c.args.number c.take_turn.result h (past c.take_turn.new.journal) c.args.engines.now c.take_turn.new.engines xs y z c.requires.run c.requires.sessions place
     c.take_turn.ensures.number c.take_turn.ensures.killed c.take_turn.ensures.did c.take_turn.ensures.done c.take_turn.ensures.quiet c.take_turn.ensures.still in
     subst (λ n. AreSessions script (past c.take_turn.new.journal) (slice_set xs n z)) (sym c.number.view_is) t.sessions
 
@@ -47,7 +47,7 @@ returns-clause-did g c =
     let y = c.index_mut-session.result.now in
     let z = c.take_turn.new.session in
     let place = at_place script h xs c.number.inside.0 c.args.number y c.requires.sessions c.number.view_is c.requires.known c.index_mut-session.ensures.value in
-    let t = turned script from c.args.number c.take_turn.result h (past c.take_turn.new.journal) c.args.parts.now c.take_turn.new.parts xs y z c.requires.run c.requires.sessions place
+    let t = turned script from c.args.number c.take_turn.result h (past c.take_turn.new.journal) c.args.engines.now c.take_turn.new.engines xs y z c.requires.run c.requires.sessions place
     c.take_turn.ensures.number c.take_turn.ensures.killed c.take_turn.ensures.did c.take_turn.ensures.done c.take_turn.ensures.quiet c.take_turn.ensures.still in
     λ e. subst (λ n. Does script c.args.number h (past c.take_turn.new.journal) xs (slice_set xs n z)) (sym c.number.view_is) (t.did e)
 
@@ -60,7 +60,7 @@ returns-clause-done g c =
     let y = c.index_mut-session.result.now in
     let z = c.take_turn.new.session in
     let place = at_place script h xs c.number.inside.0 c.args.number y c.requires.sessions c.number.view_is c.requires.known c.index_mut-session.ensures.value in
-    let t = turned script from c.args.number c.take_turn.result h (past c.take_turn.new.journal) c.args.parts.now c.take_turn.new.parts xs y z c.requires.run c.requires.sessions place
+    let t = turned script from c.args.number c.take_turn.result h (past c.take_turn.new.journal) c.args.engines.now c.take_turn.new.engines xs y z c.requires.run c.requires.sessions place
     c.take_turn.ensures.number c.take_turn.ensures.killed c.take_turn.ensures.did c.take_turn.ensures.done c.take_turn.ensures.quiet c.take_turn.ensures.still in
     t.done
 
@@ -73,7 +73,7 @@ returns-clause-same g c =
     let y = c.index_mut-session.result.now in
     let z = c.take_turn.new.session in
     let place = at_place script h xs c.number.inside.0 c.args.number y c.requires.sessions c.number.view_is c.requires.known c.index_mut-session.ensures.value in
-    let t = turned script from c.args.number c.take_turn.result h (past c.take_turn.new.journal) c.args.parts.now c.take_turn.new.parts xs y z c.requires.run c.requires.sessions place
+    let t = turned script from c.args.number c.take_turn.result h (past c.take_turn.new.journal) c.args.engines.now c.take_turn.new.engines xs y z c.requires.run c.requires.sessions place
     c.take_turn.ensures.number c.take_turn.ensures.killed c.take_turn.ensures.did c.take_turn.ensures.done c.take_turn.ensures.quiet c.take_turn.ensures.still in
     t.same
 
@@ -86,7 +86,7 @@ returns-clause-err g c =
     let y = c.index_mut-session.result.now in
     let z = c.take_turn.new.session in
     let place = at_place script h xs c.number.inside.0 c.args.number y c.requires.sessions c.number.view_is c.requires.known c.index_mut-session.ensures.value in
-    let t = turned script from c.args.number c.take_turn.result h (past c.take_turn.new.journal) c.args.parts.now c.take_turn.new.parts xs y z c.requires.run c.requires.sessions place
+    let t = turned script from c.args.number c.take_turn.result h (past c.take_turn.new.journal) c.args.engines.now c.take_turn.new.engines xs y z c.requires.run c.requires.sessions place
     c.take_turn.ensures.number c.take_turn.ensures.killed c.take_turn.ensures.did c.take_turn.ensures.done c.take_turn.ensures.quiet c.take_turn.ensures.still in
     t.err
 
@@ -99,7 +99,7 @@ returns-clause-asked g c =
     let y = c.index_mut-session.result.now in
     let z = c.take_turn.new.session in
     let place = at_place script h xs c.number.inside.0 c.args.number y c.requires.sessions c.number.view_is c.requires.known c.index_mut-session.ensures.value in
-    let t = turned script from c.args.number c.take_turn.result h (past c.take_turn.new.journal) c.args.parts.now c.take_turn.new.parts xs y z c.requires.run c.requires.sessions place
+    let t = turned script from c.args.number c.take_turn.result h (past c.take_turn.new.journal) c.args.engines.now c.take_turn.new.engines xs y z c.requires.run c.requires.sessions place
     c.take_turn.ensures.number c.take_turn.ensures.killed c.take_turn.ensures.did c.take_turn.ensures.done c.take_turn.ensures.quiet c.take_turn.ensures.still in
     t.asked
 
@@ -112,7 +112,7 @@ returns-clause-fault g c =
     let y = c.index_mut-session.result.now in
     let z = c.take_turn.new.session in
     let place = at_place script h xs c.number.inside.0 c.args.number y c.requires.sessions c.number.view_is c.requires.known c.index_mut-session.ensures.value in
-    let t = turned script from c.args.number c.take_turn.result h (past c.take_turn.new.journal) c.args.parts.now c.take_turn.new.parts xs y z c.requires.run c.requires.sessions place
+    let t = turned script from c.args.number c.take_turn.result h (past c.take_turn.new.journal) c.args.engines.now c.take_turn.new.engines xs y z c.requires.run c.requires.sessions place
     c.take_turn.ensures.number c.take_turn.ensures.killed c.take_turn.ensures.did c.take_turn.ensures.done c.take_turn.ensures.quiet c.take_turn.ensures.still in
     t.fault
 
@@ -125,7 +125,7 @@ returns-clause-inside g c =
     let y = c.index_mut-session.result.now in
     let z = c.take_turn.new.session in
     let place = at_place script h xs c.number.inside.0 c.args.number y c.requires.sessions c.number.view_is c.requires.known c.index_mut-session.ensures.value in
-    let t = turned script from c.args.number c.take_turn.result h (past c.take_turn.new.journal) c.args.parts.now c.take_turn.new.parts xs y z c.requires.run c.requires.sessions place
+    let t = turned script from c.args.number c.take_turn.result h (past c.take_turn.new.journal) c.args.engines.now c.take_turn.new.engines xs y z c.requires.run c.requires.sessions place
     c.take_turn.ensures.number c.take_turn.ensures.killed c.take_turn.ensures.did c.take_turn.ensures.done c.take_turn.ensures.quiet c.take_turn.ensures.still in
     t.inside
 

@@ -1,4 +1,4 @@
-use Rattle.hib_core.proofs.Ready.{ready}
+use Rattle.hib_engines.proofs.Ready.{ready}
 use Rattle.hib_parts.proofs.parts.built.Goals as goal
 
 pub returns : goal.returns

@@ -1,6 +1,6 @@
 use Rattle.std.proofs.Common.{subst, sym, ap, ◌∙◌}
 use Rattle.hib_journal.specs.Kept.{past}
-use Rattle.hib_core.specs.Factory.{AreOver}
+use Rattle.hib_session.specs.Sessions.{AreOver}
 use Rattle.hib_workers.proofs.workers.work_from.Goals as goal
 
 pub returns-clause-over : goal.returns-clause-over

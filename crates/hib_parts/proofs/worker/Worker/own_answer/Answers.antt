@@ -1,5 +1,5 @@
 use Rattle.std.proofs.Common.{sym, ◌∙◌}
-use Rattle.hib_core.proofs.Served.{own_is_none}
+use Rattle.hib_session.proofs.OwnReplies.{own_is_none}
 use Rattle.hib_parts.proofs.worker.Worker.own_answer.Goals as goal
 
 pub unreachable-requires : goal.unreachable-requires
