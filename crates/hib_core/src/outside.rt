@@ -109,8 +109,9 @@ pub fn evict<K: Keeper, N: Name>(
 {
     law();
     let now = reserve_tick(journal)?;
+    let evicted = key;
     let reply = engines.evict(alloc, key, now)?;
-    tell(journal, now, Act::Evict { key }, reply);
+    tell(journal, now, Act::Evict { key: evicted }, reply);
     Ok(())
 }
 
