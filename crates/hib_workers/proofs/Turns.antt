@@ -60,6 +60,6 @@ finished_on (Err e) all left old new played stands = stands
 -- if memory ran out in a call, and not before
 pub asked_by : {T : Type 0} (r : Result T AllocError) (from : Origin) (old new : FactoryState) → old.refused ≡ false
     → OnOk r (new.refused ≡ old.refused) → OnErr r (old.refused ≡ false → IsAskedOnceMore from (past new.journal) new.engines)
-    → new.refused ≡ true → IsAskedOnceMore from (past new.journal) new.parts
+    → new.refused ≡ true → IsAskedOnceMore from (past new.journal) new.engines
 asked_by (Ok t) from old new fresh going asked ran = absurd (never new.refused (going ∙ fresh) ran)
 asked_by (Err e) from old new fresh going asked ran = asked fresh

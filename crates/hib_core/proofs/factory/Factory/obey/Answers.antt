@@ -4,7 +4,7 @@ use Rattle.hib_journal.specs.Kept.{past}
 use Rattle.hib_journal.specs.Next.{is_cached}
 use Rattle.hib_journal.specs.Played.{play_steps}
 use Rattle.hib_journal.specs.Types.{Order}
-use Rattle.hib_core.specs.Factory.{IsSound}
+use Rattle.hib_engines.specs.Built.{IsSound}
 use Rattle.hib_core.proofs.Evictions.{steps_named, outside_named}
 use Rattle.hib_core.proofs.factory.Factory.obey.Goals as goal
 
