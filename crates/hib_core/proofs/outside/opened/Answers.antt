@@ -1,4 +1,4 @@
-use Rattle.std.proofs.Common.{◌≡◌, ap, ◌∙◌}
+use Rattle.std.proofs.Common.{ap, ◌∙◌}
 use Rattle.hib_journal.specs.Kept.{past}
 use Rattle.hib_engines.specs.Registry.{Opened, holds}
 use Rattle.hib_engines.proofs.Opened.{holds_open}
