@@ -6,3 +6,4 @@ pub mod Short
 pub mod Moved
 pub mod Hearing
 pub mod Evictions
+pub mod Obeyed

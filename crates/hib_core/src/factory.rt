@@ -18,6 +18,7 @@ ghost use Rattle.hib_store.specs.Stores.{handed_back, is_store_fault};
 ghost use Rattle.hib_core.specs.Bound.{most_in, outside_count};
 ghost use Rattle.hib_session.specs.Sessions.{AreSessions};
 ghost use Rattle.hib_core.specs.Factory.{Does, IsOver, IsAskedOnceMore, AreOver, Hears};
+ghost use Rattle.hib_core.specs.Orders.{IsObeyed};
 ghost use Rattle.hib_core.specs.Playing.{played, play_script, GoesOn, Leads, AreNamed};
 ghost use Rattle.hib_listeners.specs.Told.{tells};
 ghost use Rattle.hib_listeners.specs.Heard.{HaveHeard};
@@ -248,27 +249,8 @@ impl<K: Keeper, N: Name, L: Listener> Factory<K, N, L> {
     /// Kills a session, if it is open: no act of it is due from then on, and its locks stay until their time is over. What
     /// want of memory leaves is as after `step`.
     pub fn kill(&mut self, alloc: Global, number: SessionNo) -> Result<(), AllocError>
-        ensures played { OnOk result (Leads (play_order N.script (Order.Kill number)) played
-            (past self.old.journal) (past self.new.journal)) }
+        ensures obeyed { IsObeyed N.script N.from (Order.Kill number) result self.old self.new }
         ensures closed { is_open number (past self.old.journal) ≡ false → IsOk result }
-        ensures outside { outside_count (past self.new.journal) ≤ outside_count
-            (past self.old.journal) + 1 }
-        ensures law { Obeys N.script N.from.tables (past self.new.journal) }
-        ensures going { OnOk result (self.new.refused ≡ self.old.refused) }
-        ensures hears { Hears (past self.old.journal) (past self.new.journal)
-            (is_ok result) self.old.told self.new.told }
-        ensures same { OnErr result (self.new.deaf ≡ self.old.deaf
-            → past self.new.journal ≡ past self.old.journal) }
-        ensures err { OnErr result (self.new.deaf ≡ self.old.deaf
-            → self.new ≡ record self.old { journal = self.new.journal; refused = true }) }
-        ensures unheard { OnErr result (self.old.deaf ≡ false → self.new.deaf ≡ true
-            → Leads (play_order N.script (Order.Kill number)) played (past self.old.journal)
-            (past self.new.journal)) }
-        ensures deaf { self.old.deaf ≡ true → self.new ≡ self.old }
-        ensures stands { OnErr result (GoesOn (past self.old.journal) (past self.new.journal)) }
-        ensures asked { OnErr result (self.old.refused ≡ false
-            → IsAskedOnceMore N.from (past self.new.journal) self.new.engines) }
-        ensures refused { OnErr result (self.new.refused ≡ true) }
     {
         if self.deaf {
             return self.core.idle_kill(number);
@@ -288,26 +270,7 @@ impl<K: Keeper, N: Name, L: Listener> Factory<K, N, L> {
     /// Evicts a row of a cached entity from its region. What want of memory leaves is as after `step`.
     pub fn evict(&mut self, alloc: Global, key: Key) -> Result<(), AllocError>
         requires cached { is_cached N.script key.entity ≡ true }
-        ensures played { OnOk result (Leads (play_order N.script (Order.Evict key)) played
-            (past self.old.journal) (past self.new.journal)) }
-        ensures outside { outside_count (past self.new.journal) ≤ outside_count
-            (past self.old.journal) + 1 }
-        ensures law { Obeys N.script N.from.tables (past self.new.journal) }
-        ensures going { OnOk result (self.new.refused ≡ self.old.refused) }
-        ensures hears { Hears (past self.old.journal) (past self.new.journal)
-            (is_ok result) self.old.told self.new.told }
-        ensures same { OnErr result (self.new.deaf ≡ self.old.deaf
-            → past self.new.journal ≡ past self.old.journal) }
-        ensures err { OnErr result (self.new.deaf ≡ self.old.deaf
-            → self.new ≡ record self.old { journal = self.new.journal; refused = true }) }
-        ensures unheard { OnErr result (self.old.deaf ≡ false → self.new.deaf ≡ true
-            → Leads (play_order N.script (Order.Evict key)) played (past self.old.journal)
-            (past self.new.journal)) }
-        ensures deaf { self.old.deaf ≡ true → self.new ≡ self.old }
-        ensures stands { OnErr result (GoesOn (past self.old.journal) (past self.new.journal)) }
-        ensures asked { OnErr result (self.old.refused ≡ false
-            → IsAskedOnceMore N.from (past self.new.journal) self.new.engines) }
-        ensures refused { OnErr result (self.new.refused ≡ true) }
+        ensures { IsObeyed N.script N.from (Order.Evict key) result self.old self.new }
     {
         if self.deaf {
             self.core.lawful();
@@ -325,26 +288,7 @@ impl<K: Keeper, N: Name, L: Listener> Factory<K, N, L> {
     /// A restart: the sessions that are open are killed, and nothing is cached, locked, stamped or kept any more. What want of
     /// memory leaves is as after `step`.
     pub fn restart(&mut self, alloc: Global) -> Result<(), AllocError>
-        ensures played { OnOk result (Leads (play_order N.script Order.Restart) played
-            (past self.old.journal) (past self.new.journal)) }
-        ensures outside { outside_count (past self.new.journal) ≤ outside_count
-            (past self.old.journal) + 1 }
-        ensures law { Obeys N.script N.from.tables (past self.new.journal) }
-        ensures going { OnOk result (self.new.refused ≡ self.old.refused) }
-        ensures hears { Hears (past self.old.journal) (past self.new.journal)
-            (is_ok result) self.old.told self.new.told }
-        ensures same { OnErr result (self.new.deaf ≡ self.old.deaf
-            → past self.new.journal ≡ past self.old.journal) }
-        ensures err { OnErr result (self.new.deaf ≡ self.old.deaf
-            → self.new ≡ record self.old { journal = self.new.journal; refused = true }) }
-        ensures unheard { OnErr result (self.old.deaf ≡ false → self.new.deaf ≡ true
-            → Leads (play_order N.script Order.Restart) played (past self.old.journal)
-            (past self.new.journal)) }
-        ensures deaf { self.old.deaf ≡ true → self.new ≡ self.old }
-        ensures stands { OnErr result (GoesOn (past self.old.journal) (past self.new.journal)) }
-        ensures asked { OnErr result (self.old.refused ≡ false
-            → IsAskedOnceMore N.from (past self.new.journal) self.new.engines) }
-        ensures refused { OnErr result (self.new.refused ≡ true) }
+        ensures { IsObeyed N.script N.from Order.Restart result self.old self.new }
     {
         if self.deaf {
             self.core.lawful();

@@ -18,7 +18,7 @@ ghost use Rattle.hib_store.specs.Stores.{handed_back, is_store_fault};
 ghost use Rattle.hib_core.specs.Bound.{most_in, outside_count};
 ghost use Rattle.hib_session.specs.Sessions.{AreSessions};
 ghost use Rattle.hib_core.specs.Factory.{Does, IsOver, IsAsked, IsAskedOnceMore, HasGrown};
-ghost use Rattle.hib_core.specs.Playing.{played, Leads};
+ghost use Rattle.hib_core.specs.Orders.{IsCarriedOut};
 
 use crate::bounds::runs_are_short;
 use crate::outside::{self, opened};
@@ -246,25 +246,11 @@ impl<K: Keeper, N: Name> Core<K, N> {
     /// Kills a session, if it is open: no act of it is due from then on, and its locks stay until their time is over. If
     /// memory runs out nothing has changed but the answer of `refused`.
     pub fn kill(&mut self, number: SessionNo) -> Result<(), AllocError>
-        ensures played { OnOk result (Leads (play_order N.script (Order.Kill number)) played
-            (past self.old.journal) (past self.new.journal)) }
+        ensures carried { IsCarriedOut N.script N.from (Order.Kill number) result self.old self.new }
         ensures closed { is_open number (past self.old.journal) ≡ false → (IsOk result)
             × (past self.new.journal ≡ past self.old.journal) }
         ensures grown { OnOk result (is_open number (past self.old.journal) ≡ true
             → HasGrown (past self.old.journal) (past self.new.journal)) }
-        ensures outside { outside_count (past self.new.journal)
-            ≤ outside_count (past self.old.journal) + 1 }
-        ensures law { Obeys N.script N.from.tables (past self.new.journal) }
-        ensures going { OnOk result (self.new.refused ≡ self.old.refused) }
-        ensures same { OnErr result (past self.new.journal ≡ past self.old.journal) }
-        ensures asks { self.new.refused ≡ false
-            → IsAsked N.from (past self.new.journal) self.new.engines }
-        ensures asked { OnErr result (self.old.refused ≡ false
-            → IsAskedOnceMore N.from (past self.new.journal) self.new.engines) }
-        ensures err { OnErr result (self.new ≡ record self.old {
-          journal = self.new.journal;
-          refused = true;
-        }) }
     {
         let killed = outside::kill::<K, N>(
             number,
@@ -281,22 +267,8 @@ impl<K: Keeper, N: Name> Core<K, N> {
     /// Evicts a row of a cached entity from its region. If memory runs out nothing has changed but the answer of `refused`.
     pub fn evict(&mut self, alloc: Global, key: Key) -> Result<(), AllocError>
         requires cached { is_cached N.script key.entity ≡ true }
-        ensures played { OnOk result (Leads (play_order N.script (Order.Evict key)) played
-            (past self.old.journal) (past self.new.journal)) }
+        ensures carried { IsCarriedOut N.script N.from (Order.Evict key) result self.old self.new }
         ensures grown { OnOk result (HasGrown (past self.old.journal) (past self.new.journal)) }
-        ensures outside { outside_count (past self.new.journal)
-            ≤ outside_count (past self.old.journal) + 1 }
-        ensures law { Obeys N.script N.from.tables (past self.new.journal) }
-        ensures going { OnOk result (self.new.refused ≡ self.old.refused) }
-        ensures same { OnErr result (past self.new.journal ≡ past self.old.journal) }
-        ensures asks { self.new.refused ≡ false
-            → IsAsked N.from (past self.new.journal) self.new.engines }
-        ensures asked { OnErr result (self.old.refused ≡ false
-            → IsAskedOnceMore N.from (past self.new.journal) self.new.engines) }
-        ensures err { OnErr result (self.new ≡ record self.old {
-          journal = self.new.journal;
-          refused = true;
-        }) }
     {
         let evicted = outside::evict::<K, N>(alloc, key, &mut self.engines, &mut self.journal);
         if evicted.is_err() {
@@ -308,22 +280,8 @@ impl<K: Keeper, N: Name> Core<K, N> {
     /// A restart: the sessions that are open are killed, and nothing is cached, locked, stamped or kept any more. If memory
     /// runs out nothing has changed but the answer of `refused`.
     pub fn restart(&mut self) -> Result<(), AllocError>
-        ensures played { OnOk result (Leads (play_order N.script Order.Restart) played
-            (past self.old.journal) (past self.new.journal)) }
+        ensures carried { IsCarriedOut N.script N.from Order.Restart result self.old self.new }
         ensures grown { OnOk result (HasGrown (past self.old.journal) (past self.new.journal)) }
-        ensures outside { outside_count (past self.new.journal)
-            ≤ outside_count (past self.old.journal) + 1 }
-        ensures law { Obeys N.script N.from.tables (past self.new.journal) }
-        ensures going { OnOk result (self.new.refused ≡ self.old.refused) }
-        ensures same { OnErr result (past self.new.journal ≡ past self.old.journal) }
-        ensures asks { self.new.refused ≡ false
-            → IsAsked N.from (past self.new.journal) self.new.engines }
-        ensures asked { OnErr result (self.old.refused ≡ false
-            → IsAskedOnceMore N.from (past self.new.journal) self.new.engines) }
-        ensures err { OnErr result (self.new ≡ record self.old {
-          journal = self.new.journal;
-          refused = true;
-        }) }
     {
         let restarted = outside::restart::<K, N>(
             &mut self.sessions,

@@ -15,14 +15,14 @@ returns-in-Run-clause-named g c =
 
 pub returns-in-Kill-clause-named : goal.returns-in-Kill-clause-named
 returns-in-Kill-clause-named g c =
-    outside_named g.N.Name.script (Order.Kill c.in-Kill.session) c.args.self.now c.kill.new.self c.kill.result tt c.kill.ensures.played c.kill.ensures.same c.kill.ensures.unheard c.kill.ensures.deaf
+    outside_named g.N.Name.script (Order.Kill c.in-Kill.session) c.args.self.now c.kill.new.self c.kill.result tt c.kill.ensures.obeyed.leads c.kill.ensures.obeyed.same c.kill.ensures.obeyed.unheard c.kill.ensures.obeyed.deaf
 
 pub returns-in-Evict-clause-named : goal.returns-in-Evict-clause-named
 returns-in-Evict-clause-named g c =
     let sound : (is_cached g.N.Name.script c.in-Evict.key.entity ≡ true) × (is_identifier c.in-Evict.key.id ≡ true) =
     subst (λ (o : Order). IsSound g.N.Name.script o) c.in-Evict.is c.requires.sound in
-    outside_named g.N.Name.script (Order.Evict c.in-Evict.key) c.args.self.now c.evict.new.self c.evict.result sound.1 c.evict.ensures.played c.evict.ensures.same c.evict.ensures.unheard c.evict.ensures.deaf
+    outside_named g.N.Name.script (Order.Evict c.in-Evict.key) c.args.self.now c.evict.new.self c.evict.result sound.1 c.evict.ensures.leads c.evict.ensures.same c.evict.ensures.unheard c.evict.ensures.deaf
 
 pub returns-in-Restart-clause-named : goal.returns-in-Restart-clause-named
 returns-in-Restart-clause-named g c =
-    outside_named g.N.Name.script Order.Restart c.args.self.now c.restart.new.self c.restart.result tt c.restart.ensures.played c.restart.ensures.same c.restart.ensures.unheard c.restart.ensures.deaf
+    outside_named g.N.Name.script Order.Restart c.args.self.now c.restart.new.self c.restart.result tt c.restart.ensures.leads c.restart.ensures.same c.restart.ensures.unheard c.restart.ensures.deaf
