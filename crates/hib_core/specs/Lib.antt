@@ -2,4 +2,4 @@ pub mod Standing
 pub mod Factory
 pub mod Playing
 pub mod Bound
-pub mod Orders
+pub mod Calls

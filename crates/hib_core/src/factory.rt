@@ -18,7 +18,7 @@ ghost use Rattle.hib_store.specs.Stores.{handed_back, is_store_fault};
 ghost use Rattle.hib_core.specs.Bound.{most_in, outside_count};
 ghost use Rattle.hib_session.specs.Sessions.{AreSessions};
 ghost use Rattle.hib_core.specs.Factory.{Does, IsOver, IsAskedOnceMore, AreOver, Hears};
-ghost use Rattle.hib_core.specs.Orders.{IsObeyed};
+ghost use Rattle.hib_core.specs.Calls.{HasRun, IsObeyed};
 ghost use Rattle.hib_core.specs.Playing.{played, play_script, GoesOn, Leads, AreNamed};
 ghost use Rattle.hib_listeners.specs.Told.{tells};
 ghost use Rattle.hib_listeners.specs.Heard.{HaveHeard};
@@ -114,7 +114,7 @@ impl<K: Keeper, N: Name, L: Listener> Factory<K, N, L> {
             self.new.sessions }
         ensures done { result ≡ Ok Stepped.Done
             → IsOver N.script number (past self.old.journal) (past self.new.journal) }
-        ensures law { Obeys N.script N.from.tables (past self.new.journal) }
+        ensures ran { HasRun N.script N.from result self.old self.new }
         ensures killed { was_killed number (past self.old.journal) ≡ true
             → result ≡ Ok Stepped.Done }
         ensures inside { outside_count (past self.new.journal)
@@ -122,7 +122,6 @@ impl<K: Keeper, N: Name, L: Listener> Factory<K, N, L> {
         ensures fault { (e : Entry) → past self.new.journal ≡ e ∷ past self.old.journal
             → is_fault e.reply ≡ true
             → Rose self.old.engines.store.faults self.new.engines.store.faults }
-        ensures going { OnOk result (self.new.refused ≡ self.old.refused) }
         ensures hears { Hears (past self.old.journal) (past self.new.journal)
             (is_ok result) self.old.told self.new.told }
         ensures same { OnErr result (self.new.deaf ≡ self.old.deaf
@@ -137,10 +136,6 @@ impl<K: Keeper, N: Name, L: Listener> Factory<K, N, L> {
             (AreSessions N.script (past self.new.journal) self.new.sessions) }
         ensures others { (s : ℕ) → (number == s) ≡ false
             → slice_get self.new.sessions s ≡ slice_get self.old.sessions s }
-        ensures stands { OnErr result (GoesOn (past self.old.journal) (past self.new.journal)) }
-        ensures asked { OnErr result (self.old.refused ≡ false
-            → IsAskedOnceMore N.from (past self.new.journal) self.new.engines) }
-        ensures refused { OnErr result (self.new.refused ≡ true) }
     {
         if self.deaf {
             return self.core.idle_step(alloc, number);
@@ -225,12 +220,7 @@ impl<K: Keeper, N: Name, L: Listener> Factory<K, N, L> {
             (past self.old.journal) (past self.new.journal)) }
         ensures inside { outside_count (past self.new.journal)
             ≡ outside_count (past self.old.journal) }
-        ensures law { Obeys N.script N.from.tables (past self.new.journal) }
-        ensures going { OnOk result (self.new.refused ≡ self.old.refused) }
-        ensures stands { OnErr result (GoesOn (past self.old.journal) (past self.new.journal)) }
-        ensures asked { OnErr result (self.old.refused ≡ false
-            → IsAskedOnceMore N.from (past self.new.journal) self.new.engines) }
-        ensures refused { OnErr result (self.new.refused ≡ true) }
+        ensures ran { HasRun N.script N.from result self.old self.new }
     {
         if number.0 as usize >= self.sessions() {
             self.lawful();
@@ -310,13 +300,8 @@ impl<K: Keeper, N: Name, L: Listener> Factory<K, N, L> {
             (past self.old.journal) (past self.new.journal)) }
         ensures outside { outside_count (past self.new.journal) ≤ outside_count
             (past self.old.journal) + 1 }
-        ensures law { Obeys N.script N.from.tables (past self.new.journal) }
-        ensures going { OnOk result (self.new.refused ≡ self.old.refused) }
-        ensures stands { OnErr result (GoesOn (past self.old.journal) (past self.new.journal)) }
+        ensures ran { HasRun N.script N.from result self.old self.new }
         ensures named { AreNamed (past self.old.journal) (past self.new.journal) }
-        ensures asked { OnErr result (self.old.refused ≡ false
-            → IsAskedOnceMore N.from (past self.new.journal) self.new.engines) }
-        ensures refused { OnErr result (self.new.refused ≡ true) }
     {
         let _ = &self.deaf;
         match order {

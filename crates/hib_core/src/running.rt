@@ -7,6 +7,7 @@ ghost use Rattle.hib_journal.specs.Played.{has_next, play_sessions};
 ghost use Rattle.hib_law.specs.Law.{Obeys};
 ghost use Rattle.hib_core.specs.Bound.{outside_count};
 ghost use Rattle.hib_core.specs.Factory.{IsAskedOnceMore, AreOver};
+ghost use Rattle.hib_core.specs.Calls.{HasRun};
 ghost use Rattle.hib_core.specs.Playing.{played, play_all, GoesOn, Leads};
 
 use crate::factory::Factory;
@@ -29,12 +30,7 @@ impl<K: Keeper, N: Name, L: Listener> Factory<K, N, L> {
             ≡ has_next N.script (past self.old.journal) s) }
         ensures inside { outside_count (past self.new.journal)
             ≡ outside_count (past self.old.journal) }
-        ensures law { Obeys N.script N.from.tables (past self.new.journal) }
-        ensures going { OnOk result (self.new.refused ≡ self.old.refused) }
-        ensures stands { OnErr result (GoesOn (past self.old.journal) (past self.new.journal)) }
-        ensures asked { OnErr result (self.old.refused ≡ false
-            → IsAskedOnceMore N.from (past self.new.journal) self.new.engines) }
-        ensures refused { OnErr result (self.new.refused ≡ true) }
+        ensures ran { HasRun N.script N.from result self.old self.new }
     {
         'steps: loop {
             match self.step(alloc, number)? {
@@ -52,12 +48,7 @@ impl<K: Keeper, N: Name, L: Listener> Factory<K, N, L> {
         ensures over { OnOk result (AreOver N.script (past self.new.journal)) }
         ensures inside { outside_count (past self.new.journal)
             ≡ outside_count (past self.old.journal) }
-        ensures law { Obeys N.script N.from.tables (past self.new.journal) }
-        ensures going { OnOk result (self.new.refused ≡ self.old.refused) }
-        ensures stands { OnErr result (GoesOn (past self.old.journal) (past self.new.journal)) }
-        ensures asked { OnErr result (self.old.refused ≡ false
-            → IsAskedOnceMore N.from (past self.new.journal) self.new.engines) }
-        ensures refused { OnErr result (self.new.refused ≡ true) }
+        ensures ran { HasRun N.script N.from result self.old self.new }
     {
         for number in 0..self.sessions() {
             self.run_session(alloc, SessionNo(number as u32))?;

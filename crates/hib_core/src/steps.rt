@@ -18,7 +18,7 @@ ghost use Rattle.hib_store.specs.Stores.{handed_back, is_store_fault};
 ghost use Rattle.hib_core.specs.Bound.{most_in, outside_count};
 ghost use Rattle.hib_session.specs.Sessions.{AreSessions};
 ghost use Rattle.hib_core.specs.Factory.{Does, IsOver, IsAsked, IsAskedOnceMore, HasGrown};
-ghost use Rattle.hib_core.specs.Orders.{IsCarriedOut};
+ghost use Rattle.hib_core.specs.Calls.{IsCarriedOut};
 
 use crate::bounds::runs_are_short;
 use crate::outside::{self, opened};

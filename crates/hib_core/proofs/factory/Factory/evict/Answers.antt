@@ -3,7 +3,7 @@ use Rattle.hib_journal.specs.Types.{Order}
 use Rattle.hib_journal.specs.Kept.{past}
 use Rattle.hib_listeners.specs.Told.{tells}
 use Rattle.hib_core.specs.Factory.{HasGrown, FactoryState}
-use Rattle.hib_core.specs.Orders.{IsObeyed}
+use Rattle.hib_core.specs.Calls.{IsObeyed}
 use Rattle.hib_core.proofs.Hearing.{heard_same, heard_more, heard_told}
 use Rattle.hib_core.proofs.Obeyed.{whole, deaf_obeys, refused_obeys, told_obeys}
 use Rattle.hib_core.proofs.factory.Factory.evict.Goals as goal

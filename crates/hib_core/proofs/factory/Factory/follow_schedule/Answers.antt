@@ -13,7 +13,7 @@ loop-at-preserved g c =
     record {
       played = orders_more script c.loop-at.at c.order-order.result all (past c.args.self.now.journal) (past c.loop-at.self.journal) (past c.obey.new.self.journal)
           c.order-order.ensures.order c.loop-at.invariant.played c.in_ok-obey.ensures.played;
-      going = c.in_ok-obey.ensures.going ∙ c.loop-at.invariant.going;
+      going = c.in_ok-obey.ensures.ran.going ∙ c.loop-at.invariant.going;
       outside = let i = c.in_ok-obey.ensures.outside in let j = c.loop-at.invariant.outside in omega (arith, i, j);
       named = λ n. c.in_ok-obey.ensures.named (c.loop-at.invariant.named n);
     }
@@ -31,10 +31,10 @@ returns-in_err-obey-clause-stands g c =
     let all : Play = play_orders script script.schedule in
     let left : Play = play_orders script (drop c.loop-at.at script.schedule) in
     err_all c.from_residual.result _ (goes_then (past c.args.self.now.journal) (past c.loop-at.self.journal) (past c.obey.new.self.journal)
-    (goes_by all left (past c.args.self.now.journal) (past c.loop-at.self.journal) c.loop-at.invariant.played) c.in_err-obey.ensures.stands)
+    (goes_by all left (past c.args.self.now.journal) (past c.loop-at.self.journal) c.loop-at.invariant.played) c.in_err-obey.ensures.ran.stands)
 
 pub returns-in_err-obey-clause-asked : goal.returns-in_err-obey-clause-asked
-returns-in_err-obey-clause-asked g c = err_all c.from_residual.result _ (λ p. c.in_err-obey.ensures.asked (c.loop-at.invariant.going ∙ p))
+returns-in_err-obey-clause-asked g c = err_all c.from_residual.result _ (λ p. c.in_err-obey.ensures.ran.asked (c.loop-at.invariant.going ∙ p))
 
 pub returns-in_err-obey-clause-outside : goal.returns-in_err-obey-clause-outside
 returns-in_err-obey-clause-outside g c =

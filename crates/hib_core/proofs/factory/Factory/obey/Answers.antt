@@ -11,7 +11,7 @@ use Rattle.hib_core.proofs.factory.Factory.obey.Goals as goal
 pub returns-in-Run-clause-named : goal.returns-in-Run-clause-named
 returns-in-Run-clause-named g c =
     steps_named (play_steps g.N.Name.script c.in-Run.session c.in-Run.steps) (past c.args.self.now.journal) (past c.run_steps.new.self.journal) c.run_steps.result
-    c.run_steps.ensures.played c.run_steps.ensures.stands c.run_steps.ensures.inside
+    c.run_steps.ensures.played c.run_steps.ensures.ran.stands c.run_steps.ensures.inside
 
 pub returns-in-Kill-clause-named : goal.returns-in-Kill-clause-named
 returns-in-Kill-clause-named g c =

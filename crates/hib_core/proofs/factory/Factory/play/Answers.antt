@@ -19,15 +19,15 @@ returns-clause-leads g c = map_on c.finish.result _ _ c.finish.ensures.played (�
     script_leads g.N.Name.script (past c.args.self.now.journal) (past c.follow_schedule.new.self.journal) (past c.finish.new.self.journal) c.in_ok-follow_schedule.ensures.played p)
 
 pub returns-clause-going : goal.returns-clause-going
-returns-clause-going g c = map_on c.finish.result _ _ c.finish.ensures.going (λ p. p ∙ c.in_ok-follow_schedule.ensures.going)
+returns-clause-going g c = map_on c.finish.result _ _ c.finish.ensures.ran.going (λ p. p ∙ c.in_ok-follow_schedule.ensures.going)
 
 pub returns-clause-stands : goal.returns-clause-stands
-returns-clause-stands g c = map_err c.finish.result _ _ c.finish.ensures.stands (λ p.
+returns-clause-stands g c = map_err c.finish.result _ _ c.finish.ensures.ran.stands (λ p.
     goes_then (past c.args.self.now.journal) (past c.follow_schedule.new.self.journal) (past c.finish.new.self.journal)
     (goes_by (play_orders g.N.Name.script g.N.Name.script.schedule) played (past c.args.self.now.journal) (past c.follow_schedule.new.self.journal) c.in_ok-follow_schedule.ensures.played) p)
 
 pub returns-clause-asked : goal.returns-clause-asked
-returns-clause-asked g c = map_err c.finish.result _ _ c.finish.ensures.asked (λ p e. p (c.in_ok-follow_schedule.ensures.going ∙ e))
+returns-clause-asked g c = map_err c.finish.result _ _ c.finish.ensures.ran.asked (λ p e. p (c.in_ok-follow_schedule.ensures.going ∙ e))
 
 pub returns-in_err-follow_schedule-clause-outside : goal.returns-in_err-follow_schedule-clause-outside
 returns-in_err-follow_schedule-clause-outside g c = c.in_err-follow_schedule.ensures.outside
@@ -41,5 +41,5 @@ returns-clause-outside g c =
 pub returns-clause-named : goal.returns-clause-named
 returns-clause-named g c =
     let sessions : Play = play_sessions g.N.Name.script (range_with_len 0 (length g.N.Name.script.sessions)) in
-    λ n. steps_named sessions (past c.follow_schedule.new.self.journal) (past c.finish.new.self.journal) c.finish.result c.finish.ensures.played c.finish.ensures.stands c.finish.ensures.inside
+    λ n. steps_named sessions (past c.follow_schedule.new.self.journal) (past c.finish.new.self.journal) c.finish.result c.finish.ensures.played c.finish.ensures.ran.stands c.finish.ensures.inside
     (c.in_ok-follow_schedule.ensures.named n)

@@ -1,8 +1,8 @@
 use Rattle.std.proofs.Common.{Ok, ap, ◌∙◌}
 use Rattle.hib_journal.specs.Kept.{past}
 use Rattle.hib_core.specs.Playing.{play_all}
-use Rattle.hib_engines.proofs.Outcomes.{err_all}
-use Rattle.hib_core.proofs.Playing.{goes_by, goes_then, all_more, others_more, stay_more}
+use Rattle.hib_core.proofs.Playing.{goes_by, all_more, others_more, stay_more}
+use Rattle.hib_core.proofs.Obeyed.{runs_then}
 use Rattle.hib_core.proofs.factory.Factory.run_session.Goals as goal
 
 pub steps-preserved : goal.steps-preserved
@@ -15,14 +15,12 @@ steps-preserved g c =
           c.steps.invariant.others did;
       stay = stay_more g.N.Name.script c.args.number (past c.args.self.now.journal) (past c.steps.self.journal) (past c.step.new.self.journal) c.steps.self.sessions c.step.new.self.sessions
           c.steps.invariant.stay did;
-      going = c.in_ok-step.ensures.going ∙ c.steps.invariant.going;
+      going = c.in_ok-step.ensures.ran.going ∙ c.steps.invariant.going;
       inside = c.in_ok-step.ensures.inside ∙ c.steps.invariant.inside;
     }
 
-pub returns-in_err-step-clause-stands : goal.returns-in_err-step-clause-stands
-returns-in_err-step-clause-stands g c = err_all c.from_residual.result _ (goes_then (past c.args.self.now.journal) (past c.steps.self.journal) (past c.step.new.self.journal)
+pub returns-in_err-step-clause-ran : goal.returns-in_err-step-clause-ran
+returns-in_err-step-clause-ran g c =
+    runs_then g.N.Name.script g.N.Name.from c.from_residual.result _ c.args.self.now c.steps.self c.step.new.self c.from_residual.ensures.0
     (goes_by (play_all g.N.Name.script c.args.number) (play_all g.N.Name.script c.args.number) (past c.args.self.now.journal) (past c.steps.self.journal) c.steps.invariant.played)
-    c.in_err-step.ensures.stands)
-
-pub returns-in_err-step-clause-asked : goal.returns-in_err-step-clause-asked
-returns-in_err-step-clause-asked g c = err_all c.from_residual.result _ (λ p. c.in_err-step.ensures.asked (c.steps.invariant.going ∙ p))
+    c.steps.invariant.going c.in_err-step.ensures.ran

@@ -1,10 +1,11 @@
-use Rattle.std.proofs.Common.{Ok, is_ok, refl, sym, ap, subst, ◌∙◌}
+use Rattle.std.proofs.Common.{◌≡◌, Ok, is_ok, not, refl, sym, ap, subst, ◌∙◌}
 use Rattle.hib_journal.specs.Kept.{past}
 use Rattle.hib_journal.specs.Sessions.{Journal}
 use Rattle.hib_listeners.specs.Told.{tells}
 use Rattle.hib_core.specs.Factory.{HasGrown, FactoryState}
-use Rattle.hib_core.proofs.Hearing.{longer, heard_so, goes_by_one, heard_none, heard_same, heard_more, heard_told}
-use Rattle.hib_engines.proofs.Outcomes.{err_all}
+use Rattle.hib_core.specs.Calls.{HasRun}
+use Rattle.hib_core.proofs.Hearing.{longer, heard_so, heard_none, heard_same, heard_more, heard_told}
+use Rattle.hib_core.proofs.Obeyed.{whole, told_runs}
 use Rattle.hib_core.proofs.factory.Factory.step.Goals as goal
 use Rattle.hib_core.proofs.factory.Factory.step.Goals.{in-Ok, in-Err}
 
@@ -60,9 +61,18 @@ returns-after-tell-clause-hears g c =
       | in-Err w ↦ heard_so h new (is_ok c.tell.result) (is_ok c.match-tell.result) c.args.self.now.told next (ap is_ok w.in-Err.is ∙ sym (ap is_ok w.result-is)) told
     ]
 
-pub returns-after-tell-clause-stands : goal.returns-after-tell-clause-stands
-returns-after-tell-clause-stands g c =
+pub returns-after-tell-clause-ran : goal.returns-after-tell-clause-ran
+returns-after-tell-clause-ran g c =
+    let now = tells g.L.Listener.heard g.L.Listener.left c.self.inside.listeners in
+    let next = tells g.L.Listener.heard g.L.Listener.left c.tell.new.listeners in
+    let k = c.self.inside.core in
+    let m = c.step.new.self in
     let did = c.step.ensures.did (c.in_ok-step.was ∙ ap (λ z. Ok z) c.in-Did.is) in
-    err_all c.match-tell.result _
-    (goes_by_one (past c.args.self.now.journal) (past c.step.new.self.journal)
-    (subst (λ (h : Journal). HasGrown h (past c.step.new.self.journal)) (ap (λ (v : FactoryState). past v.journal) c.self.view_is) (did.entry, did.grown)))
+    let ran : is_ok c.tell.result ≡ is_ok c.match-tell.result → HasRun g.N.Name.script g.N.Name.from c.match-tell.result c.args.self.now (whole m next c.tell.new.deaf) = λ e.
+    subst (λ (v : FactoryState). HasRun g.N.Name.script g.N.Name.from c.match-tell.result v (whole m next c.tell.new.deaf)) c.self.view_is
+    (told_runs g.N.Name.script g.N.Name.from k m now next c.self.inside.deaf c.tell.new.deaf c.match-tell.result c.if-self.false (c.tell.ensures.deaf ∙ ap not e)
+    (did.entry, did.grown) c.step.ensures.law c.in_ok-step.ensures.going c.step.ensures.asks) in
+    elim c.match-tell.branch [
+      | in-Ok w ↦ ran (ap is_ok w.in-Ok.is ∙ sym (ap is_ok w.result-is))
+      | in-Err w ↦ ran (ap is_ok w.in-Err.is ∙ sym (ap is_ok w.result-is))
+    ]
