@@ -1,14 +1,13 @@
 // Sessions of a factory run to their ends.
-ghost use Rattle.std.specs.Prelude.{◌≡◌, ◌<◌, ◌==◌, ℕ, length, OnOk, OnErr, true, false};
+ghost use Rattle.std.specs.Prelude.{◌≡◌, ◌<◌, ◌==◌, ℕ, length, OnOk, false};
 ghost use Rattle.std.specs.List.{range_with_len};
 ghost use Rattle.hib_journal.specs.Kept.{past};
 ghost use Rattle.hib_journal.specs.Sessions.{own};
 ghost use Rattle.hib_journal.specs.Played.{has_next, play_sessions};
-ghost use Rattle.hib_law.specs.Law.{Obeys};
 ghost use Rattle.hib_core.specs.Bound.{outside_count};
-ghost use Rattle.hib_core.specs.Factory.{IsAskedOnceMore, AreOver};
+ghost use Rattle.hib_core.specs.Factory.{AreOver};
 ghost use Rattle.hib_core.specs.Calls.{HasRun};
-ghost use Rattle.hib_core.specs.Playing.{played, play_all, GoesOn, Leads};
+ghost use Rattle.hib_core.specs.Playing.{played, play_all, Leads};
 
 use crate::factory::Factory;
 use hib_base::SessionNo;

@@ -5,7 +5,7 @@ ghost use Rattle.hib_base.specs.declared.scripts.Order.{Order};
 ghost use Rattle.hib_base.specs.Valid.{is_valid};
 ghost use Rattle.hib_journal.specs.Sessions.{was_killed, is_open};
 ghost use Rattle.hib_journal.specs.Next.{is_cached};
-ghost use Rattle.hib_journal.specs.Played.{has_next, play_order};
+ghost use Rattle.hib_journal.specs.Played.{has_next};
 ghost use Rattle.hib_journal.specs.Legal.{IsLegal};
 ghost use Rattle.hib_journal.specs.Runs.{IsNumbered, told_committed, is_fault, fault_count, ask_count};
 ghost use Rattle.hib_base.specs.declared.entries.Entry.{Entry};

@@ -1,8 +1,8 @@
 // One turn of a session: the act that is due is answered by the session or by an engine, and its entry is added.
-ghost use Rattle.std.specs.Prelude.{ℕ, ◌≡◌, ◌≢◌, ◌∷◌, ◌<◌, ◌≤◌, ◌^◌, ◌+◌, ◌==◌, length, slice_get, is_some, IfOk, OnOk, OnErr, IsOk, Ok, None, false, true, IfSome};
+ghost use Rattle.std.specs.Prelude.{ℕ, ◌≡◌, ◌≢◌, ◌∷◌, ◌<◌, ◌^◌, ◌+◌, ◌==◌, length, slice_get, is_some, IfOk, OnOk, OnErr, IsOk, Ok, None, false, true, IfSome};
 ghost use Rattle.hib_base.specs.declared.entries.Entry.{Entry};
 ghost use Rattle.hib_journal.specs.Kept.{past};
-ghost use Rattle.hib_journal.specs.Sessions.{Journal as Past, own, was_killed};
+ghost use Rattle.hib_journal.specs.Sessions.{Journal as Past, was_killed};
 ghost use Rattle.hib_journal.specs.Next.{next};
 ghost use Rattle.hib_journal.specs.Played.{has_next};
 ghost use Rattle.hib_journal.specs.Runs.{is_fault};
