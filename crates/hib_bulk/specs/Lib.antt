@@ -1,0 +1,5 @@
+pub mod Types
+pub mod Kept
+pub mod Changed
+pub mod Regions
+pub mod Standing
