@@ -1,7 +1,7 @@
 -- After each call the region stands for the journal with that entry.
-use Rattle.std.proofs.Common.{◌≡◌, ℕ, ◌==◌, Bool, true, false, cond, ◌||◌, nat_le, ◌∷◌, refl, sym, ap, ◌∙◌, subst, arith, eq-eqb}
+use Rattle.std.proofs.Common.{◌≡◌, ℕ, Bool, true, false, cond, ◌||◌, nat_le, ◌∷◌, refl, sym, ap, ◌∙◌, subst, arith, eq-eqb}
 use Rattle.std.proofs.lemmas.Bool.{false≢true}
-use Rattle.hib_journal.specs.Types.{Key, Row, Act, Reply, Miss, Put, Unlocked, Inserted, Updated, Evicted, Entry}
+use Rattle.hib_journal.specs.Types.{Key, Act, Reply, Miss, Put, Unlocked, Inserted, Updated, Evicted, Entry}
 use Rattle.hib_journal.specs.Slot.{Slot, is_positive}
 use Rattle.hib_journal.specs.Regions as Regions
 use Rattle.hib_room_laws.specs.Elsewhere as Room
@@ -17,7 +17,7 @@ use Rattle.hib_bulk_law.specs.Legal.{given_back}
 use Rattle.hib_bulk_law.proofs.Entries.{Shape, shape, is_wide, plain_of, swept_of, plain_does, plain_sweeps, plain_rests}
 use Rattle.hib_bulk_region.specs.declared.answers.BulkPut.{BulkPut}
 use Rattle.hib_bulk_region.specs.declared.answers.BulkInserted.{BulkInserted}
-use Rattle.hib_bulk_region.specs.Region.{BulkState, shuts_item, has_old}
+use Rattle.hib_bulk_region.specs.Region.{BulkState, shuts_item}
 use Rattle.hib_bulk_region.specs.Answers.{put_reply, inserted_reply}
 use Rattle.hib_bulk_region.specs.Stands.{IsBulkRegion}
 use Rattle.hib_bulk_region.specs.Laws.{IsNext, IsElsewhere, is_of, GetGrows, PutGrows, LockGrows, UnlockGrows, UpdateGrows, InsertGrows, SweepGrows, LockAllGrows, UnlockAllGrows, Stays, Begins}
@@ -143,7 +143,7 @@ sweep_grows h e state k next old = record {
   holders = next.stands.holders ∙ sym (holders_stay k.entity h e (rw next.act refl) (rw next.act refl));
   unlock = next.stands.unlock ∙ sym (unlock_stays k.entity h e (rw next.act refl) (rw next.act refl));
   stands = subst (λ g. IsRegion (Inner.after_evict k.id e.tick state.inner) k.entity g) (sym (plain_sweeps e h k next.act)) (
-    Grow.evict_grows (plain h) (swept_of e k) state.inner k (
+      Grow.evict_grows (plain h) (swept_of e k) state.inner k (
       record {
         stands = next.stands.stands;
         part = next.part;
@@ -151,8 +151,8 @@ sweep_grows h e state k next old = record {
         act = refl;
         reply = ap (plain_reply (Act.Evict k)) next.reply ∙ ap (λ x. Reply.Evicted x) (sym (old_goes state (slot_in state.inner k.id) old));
       }
-    )
-  );
+      )
+      );
 }
 
 pub lock_all_grows : LockAllGrows

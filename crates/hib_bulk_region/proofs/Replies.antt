@@ -1,7 +1,7 @@
 -- What a region answers that lines may lock is the reply that is due.
 use Rattle.std.specs.Prelude.{unwrap_or}
 use Rattle.std.proofs.Common.{◌≡◌, ℕ, Bool, true, false, cond, [], Some, None, refl, ap, ◌∙◌}
-use Rattle.hib_journal.specs.Types.{Key, Script, Act, Reply, Put, Inserted, Updated}
+use Rattle.hib_journal.specs.Types.{Key, Script, Reply, Put, Inserted, Updated}
 use Rattle.hib_journal.specs.Slot.{Slot, slot}
 use Rattle.hib_rw_region.specs.Region.{slot_in}
 use Rattle.hib_rw_region.specs.Laws as Inner

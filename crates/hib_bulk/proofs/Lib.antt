@@ -1,0 +1,5 @@
+mod RegionList
+mod Placed
+mod Replies
+mod Kept
+mod Answered
