@@ -3,3 +3,4 @@ pub mod Kept
 pub mod Changed
 pub mod Regions
 pub mod Standing
+pub mod Run

@@ -1,23 +1,27 @@
 -- What a run with bulk lines keeps: its journal is legal, and its parts, sessions and lines stand for it.
-use Rattle.std.specs.Prelude.{◌≡◌, ◌≤◌, ◌<◌, ◌^◌, ℕ, suc, ◌+◌, Bool, true, false, cond, not, List, [], ◌∷◌, length, slice_get, IfSome, Some, None, Option, is_some}
+use Rattle.std.specs.Prelude.{◌≡◌, ◌≤◌, ◌<◌, ◌^◌, ◌==◌, ℕ, suc, ◌+◌, Bool, true, false, cond, List, [], ◌∷◌, length, slice_get, IfSome, Some, None, Option}
 use Rattle.hib_base.specs.Tables.{Tables, in_order}
-use Rattle.hib_journal.specs.Types.{Key, Script, Act, Reply, Strategy}
-use Rattle.hib_journal.specs.Sessions.{own, is_begun, deferred}
+use Rattle.hib_journal.specs.Types.{Key, Script, Act, Reply, Entry, Strategy}
+use Rattle.hib_journal.specs.Sessions.{Journal, own}
+use Rattle.hib_journal.specs.Lists as Lists
+use Rattle.hib_journal.specs.Next as Next
 use Rattle.hib_journal.specs.Next.{strategy, is_cached}
 use Rattle.hib_outside.specs.Causes.{Rose}
 use Rattle.hib_store.specs.Stores.{MeetsBelow}
 use Rattle.hib_session.specs.declared.session.Session.{Session}
-use Rattle.hib_session.specs.Session.{left_in}
+use Rattle.hib_session.specs.Session.{Follows, IsTaken, number_of, left_in}
 use Rattle.hib_engines.specs.Built.{IsBuilt}
 use Rattle.hib_engines.specs.Counts.{RoseBy}
+use Rattle.hib_engines.specs.Due.{IsDue}
 use Rattle.hib_engines.specs.Origin.{Origin}
 use Rattle.hib_bulk.specs.Types.{BulkDef, BulkAct, BulkReply, BulkEntry}
-use Rattle.hib_bulk_law.specs.Plain.{Bulked, plain}
-use Rattle.hib_bulk_law.specs.Acts.{next, acts_of, steps_of}
-use Rattle.hib_bulk_law.specs.Legal.{IsLegal, has_failed}
+use Rattle.hib_bulk_law.specs.Plain.{Bulked, plain, plain_reply}
+use Rattle.hib_bulk_law.specs.Wide.{is_old}
+use Rattle.hib_bulk_law.specs.Acts.{next, swept_for}
+use Rattle.hib_bulk_law.specs.Legal.{IsLegal}
 use Rattle.hib_bulk_law.specs.Law.{AtEachEntry, IsKeyCoherent, IsLoadView, AreInOrder}
 use Rattle.hib_bulk.specs.Changed.{is_fault}
-use Rattle.hib_bulk.specs.Standing.{PartsState, AreStanding}
+use Rattle.hib_bulk.specs.Standing.{PartsState, AreStanding, IsStill, entry_at}
 
 -- how many replies say that the keeper failed
 abbrev pub fault_count : Bulked → ℕ
@@ -46,9 +50,82 @@ pub record Obeys (script : Script) (lines : List BulkDef) (told : Option Tables)
   pub loads : (start : Tables) → told ≡ Some start → AtEachEntry (IsLoadView script lines start) h
   pub order : AreInOrder script lines h
 
--- ---- lines
+-- ---- a turn of a session
 
--- how far a line has come, and whether its change was answered by a fault
-pub record LineState : Type 0 where
-  pub steps : ℕ
-  pub failed : Bool
+-- the next entry
+abbrev pub entry_of : Bulked → ℕ → BulkAct → BulkReply → BulkEntry
+entry_of h s a r = entry_at (length h + 1) s a r
+
+-- the same as it is in the plain journal
+abbrev pub plain_entry : Bulked → ℕ → Act → BulkReply → Entry
+plain_entry h s a r = Lists.entry_at (length h + 1) (Some s) a (plain_reply a r)
+
+-- a reply, by what it is in the plain journal and by itself, if that is another
+abbrev pub whole_of : Reply → Option BulkReply → BulkReply
+whole_of r None = BulkReply.Plain r
+whole_of r (Some other) = other
+
+-- an entry of session s, by what it is in the plain journal
+abbrev pub bulk_of : ℕ → Entry → Option BulkReply → BulkEntry
+bulk_of s e other = record { tick = e.tick; session = s; part = e.part; act = BulkAct.Plain e.act; reply = whole_of e.reply other }
+
+-- an act is due in session y
+pub record IsTurn (script : Script) (h : Bulked) (y : Session) (a : Act) : Type 0 where
+  pub known : number_of y < length script.sessions
+  pub follows : Follows script y (own (number_of y) (plain h))
+  pub next : Next.next script (number_of y) (own (number_of y) (plain h)) ≡ Some a
+  pub due : IsDue script (own (number_of y) (plain h)) a
+
+-- what an act of s would meet is not old
+abbrev pub IsSwept : Script → Bulked → Act → Type 0
+IsSwept script h a = (k : Key) → swept_for a ≡ Some k → is_old script k h ≡ false
+
+-- an act of session s was answered
+pub record Answers (script : Script) (lines : List BulkDef) (from : Origin) (s : ℕ) (a : Act) (r : BulkReply) (h : Bulked) (x y : PartsState) : Type 0 where
+  pub run : IsRun script lines from (entry_of h s (BulkAct.Plain a) r ∷ h) y
+  pub taken : IsTaken script s (own s (plain h)) (plain_entry h s a r)
+  pub fault : is_fault r ≡ true → Rose x.store.faults y.store.faults
+
+-- an act of session y was answered, its entry added, and taken by the session
+pub record Serves (script : Script) (lines : List BulkDef) (from : Origin) (a : Act) (h new : Bulked) (x w : PartsState) (y z : Session) : Type 0 where
+  pub answer : BulkReply
+  pub grown : new ≡ entry_of h (number_of y) (BulkAct.Plain a) answer ∷ h
+  pub run : IsRun script lines from new w
+  pub follows : Follows script z (plain_entry h (number_of y) a answer ∷ own (number_of y) (plain h))
+  pub less : left_in script z < left_in script y
+  pub fault : is_fault answer ≡ true → Rose x.store.faults w.store.faults
+
+-- an old item was swept away before the next act of session y, and the entry added
+pub record Sweeps (script : Script) (lines : List BulkDef) (from : Origin) (s : ℕ) (k : Key) (h new : Bulked) (x w : PartsState) : Type 0 where
+  pub grown : new ≡ entry_of h s (BulkAct.Sweep k) BulkReply.Swept ∷ h
+  pub run : IsRun script lines from new w
+  pub swept : is_old script k new ≡ false
+  pub faults : w.store.faults ≡ x.store.faults
+
+-- nothing was added: the parts are as before, but for the keeper's counts, and the session follows what it followed
+pub record Leaves (script : Script) (h new : Bulked) (x w : PartsState) (y z : Session) : Type 0 where
+  pub same : new ≡ h
+  pub parts : IsStill x w
+  pub entities : w.store.entities ≡ x.store.entities
+  pub follows : (mine : Journal) → Follows script y mine → Follows script z mine
+
+-- a sweep that is due comes before an act, so that it counts for half of one
+abbrev pub sweeps : Option BulkAct → ℕ
+sweeps (Some (BulkAct.Sweep k)) = 1
+sweeps _ = 0
+
+-- how much is left of session y: a number that falls with each of its entries
+abbrev pub left_of : Script → List BulkDef → Bulked → Session → ℕ
+left_of script lines h y = left_in script y + left_in script y + sweeps (next script lines h (number_of y))
+
+-- the act that was due in session y was served, or what was old before it swept away
+pub record Moves (script : Script) (lines : List BulkDef) (from : Origin) (h new : Bulked) (x w : PartsState) (y z : Session) : Type 0 where
+  pub entry : BulkEntry
+  pub by : entry.session ≡ number_of y
+  pub grown : new ≡ entry ∷ h
+  pub due : next script lines h (number_of y) ≡ Some entry.act
+  pub run : IsRun script lines from new w
+  pub follows : Follows script z (own (number_of y) (plain new))
+  pub others : (s : ℕ) → (number_of y == s) ≡ false → own s (plain new) ≡ own s (plain h)
+  pub less : left_of script lines new z < left_of script lines h y
+  pub fault : is_fault entry.reply ≡ true → Rose x.store.faults w.store.faults

@@ -13,7 +13,7 @@ ghost use Rattle.hib_bulk.specs.Types.{BulkDef, BulkAct, BulkReply as Replied};
 ghost use Rattle.hib_bulk_law.specs.Plain.{Bulked as Past, plain};
 ghost use Rattle.hib_bulk_law.specs.Acts.{swept_for};
 ghost use Rattle.hib_bulk.specs.Changed.{is_fault};
-ghost use Rattle.hib_bulk.specs.Regions.{region_of, has_old_in};
+ghost use Rattle.hib_bulk.specs.Regions.{region_of, has_old_in, swept, IsAtRegion};
 ghost use Rattle.hib_bulk.specs.Standing.{AreStanding, IsStill, IsReady, IsAnswered, IsTold};
 
 use crate::region::Region;
@@ -62,6 +62,20 @@ impl<K: Keeper> Parts<K> {
     {
         let at = key.entity.0 as usize;
         at < self.regions.len() && self.regions[at].old(key.id)
+    }
+
+    /// Evicts an old item from the region of its key. It takes no memory.
+    pub fn sweep(&mut self, key: Key, now: Tick)
+        requires { has_old_in (region_of self.old.regions key.entity) key.id ≡ true }
+        ensures here { region_of self.new.regions key.entity
+            ≡ swept (region_of self.old.regions key.entity) key.id now }
+        ensures others { IsAtRegion key.entity self.old.regions self.new.regions }
+        ensures same { self.new ≡ record self.old { regions = self.new.regions } }
+    {
+        let at = key.entity.0 as usize;
+        if at < self.regions.len() {
+            self.regions[at].sweep(key.id, now);
+        }
     }
 
     /// What an act of a session's own does to the parts: End closes the session.
@@ -137,6 +151,7 @@ impl<K: Keeper> Parts<K> {
         ensures fault { IfOk result (λ r. is_fault (Replied.Plain r) ≡ true
             → Rose self.old.store.faults self.new.store.faults) }
         ensures faults { self.old.store.faults ≤ self.new.store.faults }
+        ensures entities { self.new.store.entities ≡ self.old.store.entities }
         ensures still { OnOk result (brings act.now ≡ true → IsStill self.old self.new) }
         ensures err { OnErr result (IsStill self.old self.new) }
     {
@@ -175,6 +190,7 @@ impl<K: Keeper> Parts<K> {
             → IsTold script.now lines told h (number_of session.now) now act.now r
             self.old self.new) }
         ensures faults { self.old.store.faults ≤ self.new.store.faults }
+        ensures entities { self.new.store.entities ≡ self.old.store.entities }
         ensures still { OnOk result (brings act.now ≡ true → IsStill self.old self.new) }
         ensures err { OnErr result (IsStill self.old self.new) }
     {

@@ -108,6 +108,7 @@ impl<K: Keeper> StoreEngine<K> {
         ensures fault { IfOk result (λ r. is_fault r ≡ true
             → Rose self.old.faults self.new.faults) }
         ensures faults { self.old.faults ≤ self.new.faults }
+        ensures entities { self.new.entities ≡ self.old.entities }
         ensures still { IsCounted self.old self.new }
     {
         let loaded = self.store.load(alloc, session, key)?;
@@ -130,6 +131,7 @@ impl<K: Keeper> StoreEngine<K> {
         ensures fault { IfOk result (λ r. is_fault r ≡ true
             → Rose self.old.faults self.new.faults) }
         ensures faults { self.old.faults ≤ self.new.faults }
+        ensures entities { self.new.entities ≡ self.old.entities }
         ensures still { IsCounted self.old self.new }
     {
         let Some(query) = script.queries.as_slice().get(query.0 as usize) else {
@@ -154,6 +156,7 @@ impl<K: Keeper> StoreEngine<K> {
         ensures calm { IfOk result (λ r. is_fault r ≡ false) }
         ensures faults { self.new.faults ≡ self.old.faults }
         ensures asked { self.new.asked ≡ self.old.asked }
+        ensures entities { self.new.entities ≡ self.old.entities }
         ensures err { OnErr result (self.new ≡ self.old) }
     {
         let change = change.copy(alloc)?;
@@ -171,6 +174,7 @@ impl<K: Keeper> StoreEngine<K> {
         ensures fault { IfOk result (λ r. is_fault r ≡ true
             → Rose self.old.faults self.new.faults) }
         ensures faults { self.old.faults ≤ self.new.faults }
+        ensures entities { self.new.entities ≡ self.old.entities }
         ensures err { OnErr result (IsCounted self.old self.new) }
     {
         let commit = self.store.commit(alloc, session)?;
@@ -183,6 +187,7 @@ impl<K: Keeper> StoreEngine<K> {
             → IsStored told l self.old → IsStoreServed script told l now session Act.Rollback result
             self.new }
         ensures calm { is_fault result ≡ false }
+        ensures entities { self.new.entities ≡ self.old.entities }
         ensures faults { self.new.faults ≡ self.old.faults }
         ensures asked { self.new.asked ≡ self.old.asked }
     {
@@ -208,6 +213,7 @@ impl<K: Keeper> StoreEngine<K> {
         ensures fault { IfOk result (λ r. is_fault r ≡ true
             → Rose self.old.faults self.new.faults) }
         ensures faults { self.old.faults ≤ self.new.faults }
+        ensures entities { self.new.entities ≡ self.old.entities }
         // A load and a list change nothing but the keeper's counts.
         ensures still { OnOk result (reads act.now ≡ true → IsCounted self.old self.new) }
         ensures err { OnErr result (IsCounted self.old self.new) }

@@ -244,10 +244,7 @@ impl<K: Keeper> Store<K> {
         ensures none { IfOk result (λ o. is_some o ≡ self.now.indexed) }
         ensures ordered { IfSome self.now.tables (λ m. in_order m ≡ true) }
     {
-        match &self.index {
-            Some(index) => Ok(Some(index.rows_met(alloc, entity, condition)?)),
-            None => Ok(None),
-        }
+        views::rows_met(alloc, &self.index, entity, condition)
     }
 
     /// Adds a change to a session's, which no other session sees. At an error nothing has changed.

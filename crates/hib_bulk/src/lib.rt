@@ -1,0 +1,15 @@
+//! Bulk changes: sessions over shared parts, and lines that change the rows which meet a condition under a lock on a whole region.
+#![tactic(auto)]
+
+mod changing;
+mod journal;
+mod lines;
+mod names;
+mod parts;
+mod region;
+mod storing;
+mod turns;
+
+pub use journal::Bulked;
+pub use names::Name;
+pub use region::Region;
