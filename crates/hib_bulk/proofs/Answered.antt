@@ -45,7 +45,7 @@ module _ (l : Laws) (w : Wide.Stays) (script : Script) (lines : List BulkDef) (t
   Kept r = AreKept script lines told h s now a r x
 
   its : (r : BulkReply) → Kept r
-  its r = kept l w script lines told h s now a r x k
+  its r = kept l w script lines told h s now a r x k.standing k.due.inside
 
   -- an act of no region leaves the regions
   regions_kept : (r : BulkReply) (ys : List Region) → (is_regional a ≡ true → ⊥) → ys ≡ x.regions → (n : ℕ) → IsPlaced script n (entry_at now s (BulkAct.Plain a) r ∷ h) (region_of ys n)

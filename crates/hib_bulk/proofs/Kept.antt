@@ -1,17 +1,20 @@
 -- The parts that an entry of a session isn't of stand for the entries with it.
-use Rattle.std.proofs.Common.{◌≡◌, ℕ, ◌==◌, Bool, true, false, cond, List, [], ◌∷◌, length, Some, None, Option, refl, sym, ap, ◌∙◌, subst}
-use Rattle.std.proofs.lemmas.Bool.{true≢false}
+use Rattle.std.proofs.Common.{◌≡◌, ℕ, ◌==◌, Bool, true, false, cond, List, [], ◌∷◌, length, Some, None, Option, refl, sym, ap, ◌∙◌, subst, arith}
+use Rattle.std.specs.Option.{option_map}
+use Rattle.std.proofs.lemmas.Bool.{true≢false, false≢true}
+use Rattle.std.proofs.lemmas.Option.{none-some}
 use Rattle.hib_base.specs.Tables.{Tables}
-use Rattle.hib_journal.specs.Types.{Script, Part, Act, Reply}
-use Rattle.hib_journal.specs.Sessions.{Journal, own, was_killed}
+use Rattle.hib_journal.specs.Types.{Key, Script, Part, Act, Reply}
 use Rattle.hib_journal.specs.Slot.{key_in}
+use Rattle.hib_journal.specs.Sessions.{Journal, own, was_killed}
+use Rattle.hib_journal.specs.Legal.{is_outside}
 use Rattle.hib_journal.specs.Lists as Lists
 use Rattle.hib_journal.specs.Lists.{unsaved}
 use Rattle.hib_journal.proofs.Open.{killed_same}
 use Rattle.hib_store.specs.Stores.{StoreState, changes_of}
 use Rattle.hib_engines.specs.Laws.{Laws}
 use Rattle.hib_engines.specs.Registry.{IsRegistry}
-use Rattle.hib_engines.specs.Region.{is_regional, acts_on}
+use Rattle.hib_engines.specs.Region.{is_of_key, is_regional, entity_in, acts_on}
 use Rattle.hib_engines.specs.Served.{is_for}
 use Rattle.hib_engines.specs.Stamps.{AreStamps}
 use Rattle.hib_engines.specs.Results.{AreResults}
@@ -30,7 +33,7 @@ use Rattle.hib_bulk_law.proofs.Entries.{plain_of, plain_does}
 use Rattle.hib_bulk_region.specs.Laws as Wide
 use Rattle.hib_bulk.specs.declared.region.Region.{Region}
 use Rattle.hib_bulk.specs.Regions.{region_of, IsPlaced}
-use Rattle.hib_bulk.specs.Standing.{PartsState, told_committed, ArePlain, AreStanding, IsReady, entry_at}
+use Rattle.hib_bulk.specs.Standing.{PartsState, told_committed, ArePlain, AreStanding, IsStill, entry_at}
 use Rattle.hib_bulk.proofs.Placed.{placed_kept}
 
 -- ---- what the plain journal gives
@@ -89,17 +92,17 @@ pub record AreKept (script : Script) (lines : List BulkDef) (told : Option Table
   pub results : is_for Part.Results a s ≡ false → AreResults script (Lists.entry_at now (Some s) a (plain_reply a r) ∷ plain h) x.results
 
 pub kept : Laws → Wide.Stays → (script : Script) (lines : List BulkDef) (told : Option Tables) (h : Bulked) (s now : ℕ) (a : Act) (r : BulkReply) (x : PartsState) →
-    IsReady script lines told h s now a x → AreKept script lines told h s now a r x
-kept l w script lines told h s now a r x k =
+    AreStanding script lines told h x → is_outside a ≡ false → AreKept script lines told h s now a r x
+kept l w script lines told h s now a r x k i =
     let q = plain_reply a r in
-    let p = k.standing.plain in
+    let p = k.plain in
     record {
-      rows = λ n. k.standing.rows ∙ rows_rest script lines told h (entry_at now s (BulkAct.Plain a) r) refl (commits_not s a r n);
-      changes = λ n. changes_stay (plain h) s now a q x.store p.changes n (inside_stops a k.due.inside);
+      rows = λ n. k.rows ∙ rows_rest script lines told h (entry_at now s (BulkAct.Plain a) r) refl (commits_not s a r n);
+      changes = λ n. changes_stay (plain h) s now a q x.store p.changes n (inside_stops a i);
       registry = λ n. registry_kept (plain h) (Some s) now a q x.registry p.registry n;
-      stamps = λ n. stamps_stay l script (plain h) (Some s) now a q x.stamps p.stamps n (not_outside a k.due.inside);
-      regions = λ n d. placed_kept w script h n s now a r (region_of x.regions n) (k.standing.regions n) d (not_outside a k.due.inside);
-      results = λ n. results_stay l script (plain h) (Some s) now a q x.results p.results n (not_outside a k.due.inside);
+      stamps = λ n. stamps_stay l script (plain h) (Some s) now a q x.stamps p.stamps n (not_outside a i);
+      regions = λ n d. placed_kept w script h n s now a r (region_of x.regions n) (k.regions n) d (not_outside a i);
+      results = λ n. results_stay l script (plain h) (Some s) now a q x.results p.results n (not_outside a i);
     }
 
 -- the parts stand for the entries with that of a plain act
@@ -113,3 +116,22 @@ standing_of script lines told h s now a r y rows p regions entities = record {
   regions = regions;
   entities = entities;
 }
+
+-- an act that names no entity is one of no region
+pub of_none : (a : Act) → entity_in a ≡ None → is_regional a ≡ true → ⊥
+of_none a p r = by_key (key_in a) p r
+  where
+    by_key : (o : Option Key) → option_map (λ k. k.entity) o ≡ None → is_of_key o ≡ true → ⊥
+    by_key None p r = false≢true r
+    by_key (Some k) p r = none-some k.entity (sym p)
+
+-- ---- parts that are as before
+
+pub still_same : (x y : PartsState) → y ≡ x → IsStill x y
+still_same x y e = subst (λ v. IsStill x v) (sym e) (record {
+  store = record { tables = refl; written = refl; faults = omega arith; later = omega arith; few = omega arith };
+  registry = refl;
+  stamps = refl;
+  regions = refl;
+  results = refl;
+})

@@ -1,8 +1,8 @@
 -- What a run with bulk lines keeps: its journal is legal, and its parts, sessions and lines stand for it.
-use Rattle.std.specs.Prelude.{◌≡◌, ◌≤◌, ◌<◌, ◌^◌, ◌==◌, ℕ, suc, ◌+◌, Bool, true, false, cond, List, [], ◌∷◌, length, slice_get, IfSome, Some, None, Option}
+use Rattle.std.specs.Prelude.{◌≡◌, ◌≤◌, ◌<◌, ◌^◌, ◌==◌, ℕ, suc, ◌+◌, Bool, true, false, cond, ◌&&◌, nat_lt, List, [], ◌∷◌, length, slice_get, IfSome, Some, None, Option}
 use Rattle.hib_base.specs.Tables.{Tables, in_order}
-use Rattle.hib_journal.specs.Types.{Key, Script, Act, Reply, Entry, Strategy}
-use Rattle.hib_journal.specs.Sessions.{Journal, own}
+use Rattle.hib_journal.specs.Types.{Key, Script, Act, Reply, Entry, Outcome, Strategy}
+use Rattle.hib_journal.specs.Sessions.{Journal, own, is_begun, deferred}
 use Rattle.hib_journal.specs.Lists as Lists
 use Rattle.hib_journal.specs.Next as Next
 use Rattle.hib_journal.specs.Next.{strategy, is_cached}
@@ -17,11 +17,12 @@ use Rattle.hib_engines.specs.Origin.{Origin}
 use Rattle.hib_bulk.specs.Types.{BulkDef, BulkAct, BulkReply, BulkEntry}
 use Rattle.hib_bulk_law.specs.Plain.{Bulked, plain, plain_reply}
 use Rattle.hib_bulk_law.specs.Wide.{is_old}
-use Rattle.hib_bulk_law.specs.Acts.{next, swept_for}
-use Rattle.hib_bulk_law.specs.Legal.{IsLegal}
+use Rattle.hib_bulk_law.specs.Rows.{line}
+use Rattle.hib_bulk_law.specs.Acts.{next, swept_for, acts_of, steps_of}
+use Rattle.hib_bulk_law.specs.Legal.{IsLegal, has_failed}
 use Rattle.hib_bulk_law.specs.Law.{AtEachEntry, IsKeyCoherent, IsLoadView, AreInOrder}
 use Rattle.hib_bulk.specs.Changed.{is_fault}
-use Rattle.hib_bulk.specs.Standing.{PartsState, AreStanding, IsStill, entry_at}
+use Rattle.hib_bulk.specs.Standing.{PartsState, AreStanding, IsStill, IsLate, entry_at}
 
 -- how many replies say that the keeper failed
 abbrev pub fault_count : Bulked → ℕ
@@ -128,4 +129,44 @@ pub record Moves (script : Script) (lines : List BulkDef) (from : Origin) (h new
   pub follows : Follows script z (own (number_of y) (plain new))
   pub others : (s : ℕ) → (number_of y == s) ≡ false → own s (plain new) ≡ own s (plain h)
   pub less : left_of script lines new z < left_of script lines h y
+  pub fault : is_fault entry.reply ≡ true → Rose x.store.faults w.store.faults
+
+-- ---- lines
+
+-- a line is open from its Begin to its End
+abbrev pub is_under_way : Bool → ℕ → Bool
+is_under_way cached m = nat_lt 0 m && nat_lt m (cond cached 5 3)
+
+-- how far a line has come, and whether its change was answered by a fault
+pub record IsLine (script : Script) (h : Bulked) (s : ℕ) (d : BulkDef) (steps : ℕ) (failed : Bool) : Type 0 where
+  pub steps : steps ≡ steps_of s h
+  pub failed : failed ≡ has_failed s h
+  pub begun : is_begun (own s (plain h)) ≡ is_under_way (is_cached script d.entity) steps
+  pub deferred : deferred (own s (plain h)) ≡ []
+
+-- over entries that the parts stand for, an act of line s is due at the next tick
+pub record IsLineTurn (script : Script) (lines : List BulkDef) (told : Option Tables) (h : Bulked) (s : ℕ) (d : BulkDef) (steps : ℕ) (failed : Bool) (a : BulkAct) (x : PartsState) : Type 0 where
+  pub legal : IsLegal script lines told h
+  pub standing : AreStanding script lines told h x
+  pub late : IsLate (length h + 1) (plain h)
+  pub few : length h < 2 ^ 62
+  pub known : nat_lt s (length script.sessions) ≡ false
+  pub line : line script lines s ≡ Some d
+  pub act : slice_get (acts_of script s d) steps ≡ Some a
+  pub stands : IsLine script h s d steps failed
+
+-- with what a line ends
+abbrev pub outcome_of : Bool → Outcome
+outcome_of true = Outcome.Fault
+outcome_of false = Outcome.Committed
+
+-- the act that was due in a line was answered, and its entry added
+pub record LineMoves (script : Script) (lines : List BulkDef) (from : Origin) (s : ℕ) (d : BulkDef) (h new : Bulked) (x w : PartsState) (steps : ℕ) (failed : Bool) : Type 0 where
+  pub entry : BulkEntry
+  pub by : entry.session ≡ s
+  pub grown : new ≡ entry ∷ h
+  pub due : next script lines h s ≡ Some entry.act
+  pub run : IsRun script lines from new w
+  pub stands : IsLine script new s d steps failed
+  pub others : (n : ℕ) → (s == n) ≡ false → own n (plain new) ≡ own n (plain h)
   pub fault : is_fault entry.reply ≡ true → Rose x.store.faults w.store.faults

@@ -61,7 +61,10 @@ impl<K: Keeper> Parts<K> {
         ensures { result ≡ has_old_in (region_of self.now.regions key.entity) key.id }
     {
         let at = key.entity.0 as usize;
-        at < self.regions.len() && self.regions[at].old(key.id)
+        if at < self.regions.len() {
+            return self.regions[at].old(key.id);
+        }
+        false
     }
 
     /// Evicts an old item from the region of its key. It takes no memory.

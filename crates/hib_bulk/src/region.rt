@@ -2,31 +2,41 @@
 ghost use Rattle.std.specs.Prelude.{◌≡◌, ◌≤◌, ◌<◌, ◌+◌, ◌-◌, ◌^◌, true, false, Some, IfOk, OnOk, OnErr};
 ghost use Rattle.hib_base.specs.declared.numbers.Key.{Key as KeySpec};
 ghost use Rattle.hib_bulk_law.specs.Acts.{swept_for};
+ghost use Rattle.hib_base.specs.declared.replies.Reply.{Reply};
 ghost use Rattle.hib_bulk_region.specs.Region.{has_old};
+ghost use Rattle.hib_bulk_region.specs.Answers.{put_reply as put_answer, inserted_reply as inserted_answer};
+ghost use Rattle.hib_bulk_region.specs.Steps.{got};
+ghost use Rattle.hib_bulk.specs.Types.{BulkReply as Replied};
 ghost use Rattle.hib_bulk.specs.Regions.{opened, has_old_in, swept, held_by, locked_all, unlocked_all, answer_by, state_after, answer_in, region_after};
 
-use hib_base::{Act, Got, Reply, Strategy, Tick};
+use hib_base::{Act, Got, Reply, Row, Strategy, Tick};
 use hib_bulk_law::BulkReply;
 use hib_bulk_region::{BulkGot, BulkInserted, BulkPut, BulkRegion};
 use std::alloc::{AllocError, Global};
 
-/// What was found, as a reply.
-fn got_reply(alloc: Global, got: BulkGot<'_>) -> Result<BulkReply, AllocError>
-    ensures { IfOk result (λ r. r ≡ Rattle.hib_bulk_region.specs.Answers.got_reply got) }
+/// A row that was found, as a reply.
+fn hit(alloc: Global, row: &Row) -> Result<BulkReply, AllocError>
+    ensures { IfOk result (λ r. r ≡ Replied.Plain (Reply.Hit row.now)) }
 {
-    match got {
+    let row = row.copy(alloc)?;
+    Ok(BulkReply::Plain(Reply::Hit(row)))
+}
+
+/// The row of an identifier that has no old item, or why there is none, as a reply.
+fn get(alloc: Global, region: &BulkRegion, id: u64, time: Tick) -> Result<BulkReply, AllocError>
+    requires { has_old region.now id ≡ false }
+    ensures { IfOk result (λ r. r ≡ got region.now id time) }
+{
+    match region.get(id, time) {
         BulkGot::Wide { holders } => Ok(BulkReply::Wide { holders }),
-        BulkGot::Plain(Got::Hit(row)) => {
-            let row = row.copy(alloc)?;
-            Ok(BulkReply::Plain(Reply::Hit(row)))
-        }
+        BulkGot::Plain(Got::Hit(row)) => hit(alloc, row),
         BulkGot::Plain(Got::Miss(miss)) => Ok(BulkReply::Plain(Reply::Miss(miss))),
     }
 }
 
 /// The answer to a row that was loaded, as a reply.
 fn put_reply(put: BulkPut) -> BulkReply
-    ensures { result ≡ Rattle.hib_bulk_region.specs.Answers.put_reply put }
+    ensures { result ≡ put_answer put }
 {
     match put {
         BulkPut::Wide { holders } => BulkReply::Wide { holders },
@@ -37,7 +47,7 @@ fn put_reply(put: BulkPut) -> BulkReply
 
 /// The answer to a row whose insert was committed, as a reply.
 fn inserted_reply(inserted: BulkInserted) -> BulkReply
-    ensures { result ≡ Rattle.hib_bulk_region.specs.Answers.inserted_reply inserted }
+    ensures { result ≡ inserted_answer inserted }
 {
     match inserted {
         BulkInserted::Wide { holders } => BulkReply::Wide { holders },
@@ -63,10 +73,7 @@ fn act_on(
     ensures err { OnErr result (region.new ≡ region.old) }
 {
     match act {
-        Act::Get { key, time } => {
-            let got = region.get(key.id, *time);
-            got_reply(alloc, got)
-        }
+        Act::Get { key, time } => get(alloc, region, key.id, *time),
         Act::Put {
             key,
             row,
