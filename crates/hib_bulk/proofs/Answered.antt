@@ -1,5 +1,5 @@
 -- What a part answers an act of a session, and what then stands.
-use Rattle.std.proofs.Common.{◌≡◌, inl, inr, ℕ, ◌==◌, Bool, true, false, List, [], ◌∷◌, length, Some, None, Option, refl, sym, ap, ◌∙◌, subst}
+use Rattle.std.proofs.Common.{◌≡◌, inl, inr, ℕ, ◌==◌, Bool, true, false, cond, List, [], ◌∷◌, length, Some, None, Option, refl, sym, ap, ◌∙◌, subst}
 use Rattle.std.proofs.lemmas.Bool.{true≢false, false≢true, eqb-true}
 use Rattle.std.proofs.lemmas.Option.{none-some, same_Some}
 use Rattle.std.specs.Option.{option_map, option_map_or}
@@ -12,12 +12,14 @@ use Rattle.hib_journal.specs.Legal as Legal
 use Rattle.hib_journal.specs.Lists as Lists
 use Rattle.hib_journal.specs.Lists.{unsaved, stored, stored_by, IsReplyOf}
 use Rattle.hib_journal.specs.Slot.{key_in}
+use Rattle.hib_journal.specs.Held.{is_begin}
+use Rattle.hib_journal.proofs.Open.{begun_open}
 use Rattle.hib_journal.specs.Next.{strategy}
 use Rattle.hib_session.specs.Session.{own_reply}
 use Rattle.hib_session.proofs.OwnReplies.{own_is, begins_only}
 use Rattle.hib_store.specs.Stores.{changes_of}
 use Rattle.hib_engines.specs.Laws.{Laws}
-use Rattle.hib_engines.specs.Registry.{IsRegistry, own_after}
+use Rattle.hib_engines.specs.Registry.{IsRegistry, own_after, time_of}
 use Rattle.hib_engines.specs.Region.{is_regional, acts_on, entity_in, Suits}
 use Rattle.hib_engines.specs.Served.{is_for, IsServed, HasQuery}
 use Rattle.hib_engines.specs.Stamps.{AreStamps}
@@ -28,6 +30,8 @@ use Rattle.hib_engines.specs.Bridged.{IsBridged}
 use Rattle.hib_engines.proofs.Answered.{own_has}
 use Rattle.hib_engines.proofs.Bridge.{deferred_of}
 use Rattle.hib_engines.proofs.OwnActs.{is_own, IsOwnAct, own_act, registry_own}
+use Rattle.hib_engines.proofs.Grows.{regional_part}
+use Rattle.hib_engines.proofs.RegionList.{of_region}
 use Rattle.hib_engines.proofs.RegionServed.{named}
 use Rattle.hib_bulk.specs.Types.{BulkDef, BulkAct, BulkReply, BulkEntry}
 use Rattle.hib_bulk_law.specs.Plain.{Bulked, plain, plain_reply}
@@ -193,3 +197,34 @@ module _ (l : Laws) (w : Wide.Stays) (script : Script) (lines : List BulkDef) (t
 
       here : (is_regional a ≡ true) × (acts_on a ≡ n)
       here = named (key_in a) n q
+
+-- ---- what is known of an act of a region that is due
+
+not_begin : (a : Act) (n : ℕ) → entity_in a ≡ Some n → is_begin a ≡ false
+not_begin Act.Begin n e = absurd (none-some n e)
+not_begin _ n e = refl
+
+-- its session is open, and has a time
+pub time_known : (script : Script) (lines : List BulkDef) (told : Option Tables) (h : Bulked) (s now : ℕ) (a : Act) (x : PartsState) → IsReady script lines told h s now a x → (n : ℕ) → entity_in a ≡ Some n →
+    time_of x.registry s ≡ Some (time s (plain h))
+time_known script lines told h s now a x k n e =
+    k.standing.plain.registry.each s
+    ∙ ap (λ b. cond b (Some (time s (plain h))) None) (begun_open s (plain h) (k.standing.plain.live s) ∙ k.due.within (not_begin a n e))
+
+-- its part and its entity
+pub regional_of : (script : Script) (a : Act) (s n : ℕ) → entity_in a ≡ Some n → Suits (strategy script (acts_on a)) a → (Legal.part_of a s ≡ Part.Region n) × Suits (strategy script n) a
+regional_of script a s n e u =
+    let t : (is_regional a ≡ true) × (acts_on a ≡ n) = named (key_in a) n e in
+    (regional_part a s t.0 ∙ ap (λ i. Part.Region i) t.1, subst (λ i. Suits (strategy script i) a) t.1 u)
+
+-- an act of another part names no entity
+pub of_other : (a : Act) (s : ℕ) → ((n : ℕ) → Legal.part_of a s ≡ Part.Region n → ⊥) → entity_in a ≡ None
+of_other a s f = by_entity (entity_in a) refl
+  where
+    by_entity : (o : Option ℕ) → entity_in a ≡ o → entity_in a ≡ None
+    by_entity None q = q
+    by_entity (Some n) q =
+        let t : (is_regional a ≡ true) × (acts_on a ≡ n) = named (key_in a) n q in absurd (f (acts_on a) (regional_part a s t.0))
+
+pub region_act : (a : Act) (s n : ℕ) → Legal.part_of a s ≡ Part.Region n → entity_in a ≡ Some n
+region_act a s n p = of_region a s n p

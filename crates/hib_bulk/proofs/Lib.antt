@@ -3,3 +3,4 @@ mod Placed
 mod Replies
 mod Kept
 mod Answered
+mod Going

@@ -1,6 +1,6 @@
 -- What a region answers an act of a session is due, and afterwards it stands for the entries with that one.
 use Rattle.std.specs.Prelude.{option_map}
-use Rattle.std.proofs.Common.{◌≡◌, ◌<◌, ◌⊎◌, inl, inr, ℕ, ◌==◌, Bool, true, false, cond, not, List, ◌∷◌, Some, None, Option, refl, sym, ap, ◌∙◌, subst}
+use Rattle.std.proofs.Common.{◌≡◌, ◌<◌, ◌⊎◌, inl, inr, ℕ, ◌==◌, Bool, true, false, cond, not, List, [], ◌∷◌, Some, None, Option, refl, sym, ap, ◌∙◌, subst}
 use Rattle.std.proofs.lemmas.Bool.{true≢false, false≢true}
 use Rattle.std.proofs.lemmas.Option.{none-some, same_Some}
 use Rattle.hib_base.specs.Tables.{Tables}
@@ -13,6 +13,7 @@ use Rattle.hib_journal.specs.Legal.{is_outside}
 use Rattle.hib_journal.specs.Due.{asks_store}
 use Rattle.hib_journal.specs.Regions as Regions
 use Rattle.hib_journal.specs.Runs as Runs
+use Rattle.hib_session.specs.Memory.{brings}
 use Rattle.hib_engines.specs.Region.{entity_in, is_regional, acts_on, Suits}
 use Rattle.hib_engines.proofs.Regions.{uncached_not, apart, is_read_write, is_read_only, is_nonstrict}
 use Rattle.hib_engines.proofs.Grows.{elsewhere}
@@ -254,3 +255,18 @@ placed_kept l script h n s now a r x p d q =
     let e : BulkEntry = entry_at now s (BulkAct.Plain a) r in
     let w = elsewhere a s n (plain_of e a) refl refl q d in
     placed_stays l script h e n x (record { part = w.part; act = w.key; stays = w.stays }) p
+
+-- no act of a region is due on an entity that is uncached
+pub none_due : (script : Script) (h : Bulked) (n : ℕ) (a : Act) (x : Region) → x ≡ Region.Uncached → IsPlaced script n h x → entity_in a ≡ Some n → Suits (strategy script n) a → ⊥
+none_due script h n a Region.Uncached e p q u = let k = keyed (key_in a) n q in unsuited (strategy script n) a k.0 k.1 p u
+none_due script h n a (Region.ReadWrite x) e p q u = absurd (cc)
+
+-- an act that brings something to its session changes no region
+pub brings_rest : (x : Region) (begun now : ℕ) (a : Act) → brings a ≡ true → region_after x begun now a ≡ x
+brings_rest Region.Uncached begun now a b = refl
+brings_rest (Region.ReadWrite x) begun now (Act.Put k r t f) b = absurd (false≢true b)
+brings_rest (Region.ReadWrite x) begun now (Act.Lock k v f) b = absurd (false≢true b)
+brings_rest (Region.ReadWrite x) begun now (Act.Unlock k i) b = absurd (false≢true b)
+brings_rest (Region.ReadWrite x) begun now (Act.AfterInsert k r f) b = absurd (false≢true b)
+brings_rest (Region.ReadWrite x) begun now (Act.AfterUpdate k i r) b = absurd (false≢true b)
+brings_rest (Region.ReadWrite x) begun now _ b = refl

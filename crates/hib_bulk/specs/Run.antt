@@ -31,7 +31,7 @@ fault_count (e ∷ h) = cond (is_fault e.reply) (suc (fault_count h)) (fault_cou
 
 -- regions are read-write or none; sessions and lines have numbers; a line reads entities of the mapping alone
 pub record AreBuilt (script : Script) (lines : List BulkDef) : Type 0 where
-  pub script : IsBuilt script
+  pub built : IsBuilt script
   pub numbers : length script.sessions + length lines < 2 ^ 32
   pub strategies : (n : ℕ) → is_cached script n ≡ true → strategy script n ≡ Strategy.ReadWrite
   pub below : (i : ℕ) (d : BulkDef) → slice_get lines i ≡ Some d → MeetsBelow (length script.mapping) d.entity d.condition
@@ -138,10 +138,10 @@ abbrev pub is_under_way : Bool → ℕ → Bool
 is_under_way cached m = nat_lt 0 m && nat_lt m (cond cached 5 3)
 
 -- how far a line has come, and whether its change was answered by a fault
-pub record IsLine (script : Script) (h : Bulked) (s : ℕ) (d : BulkDef) (steps : ℕ) (failed : Bool) : Type 0 where
-  pub steps : steps ≡ steps_of s h
-  pub failed : failed ≡ has_failed s h
-  pub begun : is_begun (own s (plain h)) ≡ is_under_way (is_cached script d.entity) steps
+pub record IsLine (script : Script) (h : Bulked) (s : ℕ) (d : BulkDef) (m : ℕ) (b : Bool) : Type 0 where
+  pub steps : m ≡ steps_of s h
+  pub failed : b ≡ has_failed s h
+  pub begun : is_begun (own s (plain h)) ≡ is_under_way (is_cached script d.entity) m
   pub deferred : deferred (own s (plain h)) ≡ []
 
 -- over entries that the parts stand for, an act of line s is due at the next tick

@@ -3,7 +3,6 @@
 
 mod changing;
 mod journal;
-mod lines;
 mod names;
 mod parts;
 mod region;

@@ -1,7 +1,8 @@
 // The parts of a run with bulk lines, and what they answer.
-ghost use Rattle.std.specs.Prelude.{◌≡◌, ◌≤◌, ◌<◌, ◌^◌, ◌∷◌, ◌+◌, [], ℕ, List, length, true, false, IfOk, OnOk, OnErr, Option, Some, None};
+ghost use Rattle.std.specs.Prelude.{◌≡◌, ◌≤◌, ◌<◌, ◌^◌, ◌∷◌, ◌+◌, [], ℕ, List, length, true, false, IfOk, IfSome, OnOk, OnErr, Option, Some, None};
 ghost use Rattle.hib_base.specs.Tables.{Tables};
 ghost use Rattle.hib_base.specs.declared.numbers.Key.{Key as KeySpec};
+ghost use Rattle.hib_journal.specs.Types.{Script as Said};
 ghost use Rattle.hib_journal.specs.Sessions.{own};
 ghost use Rattle.hib_outside.specs.Causes.{Rose};
 ghost use Rattle.hib_session.specs.Memory.{brings};
@@ -57,7 +58,7 @@ impl<K: Keeper> Model for Parts<K> {
 
 impl<K: Keeper> Parts<K> {
     /// Whether a key has an old item.
-    pub fn old(&self, key: Key) -> bool
+    fn old(&self, key: Key) -> bool
         ensures { result ≡ has_old_in (region_of self.now.regions key.entity) key.id }
     {
         let at = key.entity.0 as usize;
@@ -65,6 +66,20 @@ impl<K: Keeper> Parts<K> {
             return self.regions[at].old(key.id);
         }
         false
+    }
+
+    /// The key of the old item that an act would meet, if there is one.
+    pub fn old_for(&self, act: &Act) -> Option<Key>
+        ensures some { IfSome result (λ k. (swept_for act.now ≡ Some k)
+            × (has_old_in (region_of self.now.regions k.entity) k.id ≡ true)) }
+        ensures none { result ≡ None → (k : KeySpec) → swept_for act.now ≡ Some k
+            → has_old_in (region_of self.now.regions k.entity) k.id ≡ false }
+    {
+        match act {
+            Act::Get { key, .. } | Act::Put { key, .. } | Act::Lock { key, .. } if self.old(*key) =>
+                Some(*key),
+            _ => None,
+        }
     }
 
     /// Evicts an old item from the region of its key. It takes no memory.
@@ -105,7 +120,7 @@ impl<K: Keeper> Parts<K> {
         requires late { now ≤ 2 ^ 62 }
         requires swept { (k : KeySpec) → swept_for act.now ≡ Some k
             → has_old_in (region_of self.old.regions entity) k.id ≡ false }
-        ensures answered { IfOk result (λ r. (script : Rattle.hib_journal.specs.Types.Script)
+        ensures answered { IfOk result (λ r. (script : Said)
             (lines : List BulkDef) (told : Option Tables) (h : Past)
             → IsReady script lines told h session now act.now self.old
             → entity_in act.now ≡ Some entity

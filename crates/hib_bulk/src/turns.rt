@@ -5,11 +5,11 @@ ghost use Rattle.hib_journal.specs.Next.{next as next_plain};
 ghost use Rattle.hib_session.specs.Memory.{brings};
 ghost use Rattle.hib_session.specs.Session.{Follows, IsTaken, number_of, is_killed, is_ready, left_in};
 ghost use Rattle.hib_engines.specs.Due.{IsDue, HasQueries};
-ghost use Rattle.hib_bulk.specs.Types.{BulkAct as Doing};
+ghost use Rattle.hib_bulk.specs.Types.{BulkAct as Doing, BulkReply as Replied};
 ghost use Rattle.hib_bulk_law.specs.Plain.{plain, plain_reply, refusal_of};
-ghost use Rattle.hib_bulk_law.specs.Acts.{next, swept_for as swept_by};
+ghost use Rattle.hib_bulk_law.specs.Acts.{next};
 ghost use Rattle.hib_bulk.specs.Kept.{past};
-ghost use Rattle.hib_bulk.specs.Standing.{IsStill};
+ghost use Rattle.hib_bulk.specs.Standing.{IsStill, entry_at};
 ghost use Rattle.hib_bulk.specs.Regions.{region_of, has_old_in};
 ghost use Rattle.hib_bulk.specs.Run.{IsRun, IsTurn, IsSwept, whole_of, bulk_of, Answers, Serves, Sweeps, Leaves, Moves};
 
@@ -40,16 +40,6 @@ pub fn reserve_tick(journal: &mut Bulked) -> Result<Tick, AllocError>
     match tick_after(last, last) {
         Some(tick) => Ok(tick),
         None => Err(AllocError),
-    }
-}
-
-/// The key before whose act an old item is swept away.
-pub fn swept_for(act: &Act) -> Option<Key>
-    ensures { result ≡ swept_by act.now }
-{
-    match act {
-        Act::Get { key, .. } | Act::Put { key, .. } | Act::Lock { key, .. } => Some(*key),
-        _ => None,
     }
 }
 
@@ -98,7 +88,8 @@ fn due_act(alloc: Global, script: &Script, session: &Session) -> Result<Option<A
     ensures due { IfOk result (λ a. (mine : Plain) → Follows script.now session.now mine
         → IfSome a (IsDue script.now mine)) }
 {
-    session.next_act(alloc, script)
+    let act = session.next_act(alloc, script)?;
+    Ok(act)
 }
 
 /// The tick and the reply of the act that is due, which the session or a part has answered. The journal has room for its entry.
@@ -124,7 +115,6 @@ fn answered<K: Keeper, N: Name>(
     ensures still { OnOk result (brings act.now ≡ true → IsStill parts.old parts.new) }
     ensures err { OnErr result (IsStill parts.old parts.new) }
 {
-    wide::answers();
     let tick = reserve_tick(journal)?;
     let reply = parts.answer(alloc, script, session, act, tick)?;
     Ok((tick, reply))
@@ -213,6 +203,21 @@ fn serve<K: Keeper, N: Name>(
     Ok(())
 }
 
+/// The entry of a sweep.
+fn sweep_entry(key: Key, session: SessionNo, tick: Tick) -> BulkEntry
+    ensures { result ≡ entry_at tick session (Doing.Sweep key) Replied.Swept }
+{
+    let part = Part::Region(key.entity);
+    let act = BulkAct::Sweep { key };
+    BulkEntry {
+        tick,
+        session,
+        part,
+        act,
+        reply: BulkReply::Swept,
+    }
+}
+
 /// An old item is swept away before the act of a session that would meet it. If memory runs out nothing has changed.
 fn sweep<K: Keeper, N: Name>(
     key: Key,
@@ -231,14 +236,9 @@ fn sweep<K: Keeper, N: Name>(
     wide::grows();
     wide::stays();
     let tick = reserve_tick(journal)?;
+    let entry = sweep_entry(key, session, tick);
     parts.sweep(key, tick);
-    journal.push(BulkEntry {
-        tick,
-        session,
-        part: Part::Region(key.entity),
-        act: BulkAct::Sweep { key },
-        reply: BulkReply::Swept,
-    });
+    journal.push(entry);
     Ok(())
 }
 
@@ -271,11 +271,10 @@ pub fn take_turn<K: Keeper, N: Name>(
     let Some(act) = due_act(alloc, script, session)? else {
         return Ok(Stepped::Done);
     };
-    if let Some(key) = swept_for(&act) {
-        if parts.old(key) {
-            sweep::<K, N>(key, session.number(), parts, journal)?;
-            return Ok(Stepped::Did);
-        }
+    if let Some(key) = parts.old_for(&act) {
+        let number = session.number();
+        sweep::<K, N>(key, number, parts, journal)?;
+        return Ok(Stepped::Did);
     }
     serve::<K, N>(alloc, script, session, act, parts, journal)?;
     Ok(Stepped::Did)

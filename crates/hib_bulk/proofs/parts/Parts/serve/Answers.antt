@@ -1,4 +1,4 @@
-use Rattle.std.proofs.Common.{◌≡◌, List, refl, sym, ap, subst, ◌∙◌}
+use Rattle.std.proofs.Common.{◌≡◌, Some, refl, sym, ap, subst, ◌∙◌}
 use Rattle.hib_journal.specs.Types.{Part}
 use Rattle.hib_journal.specs.Sessions.{same_part, own}
 use Rattle.hib_bulk_law.specs.Plain.{plain}
