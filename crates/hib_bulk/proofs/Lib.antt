@@ -4,3 +4,4 @@ mod Replies
 mod Kept
 mod Answered
 mod Going
+mod Moved

@@ -1,7 +1,7 @@
 -- What a region answers an act of a session is due, and afterwards it stands for the entries with that one.
 use Rattle.std.specs.Prelude.{option_map}
-use Rattle.std.proofs.Common.{◌≡◌, ◌<◌, ◌⊎◌, inl, inr, ℕ, ◌==◌, Bool, true, false, cond, not, List, [], ◌∷◌, Some, None, Option, refl, sym, ap, ◌∙◌, subst}
-use Rattle.std.proofs.lemmas.Bool.{true≢false, false≢true}
+use Rattle.std.proofs.Common.{◌≡◌, ◌<◌, ◌⊎◌, inl, inr, ℕ, ◌+◌, ◌==◌, Bool, true, false, cond, not, List, [], ◌∷◌, Some, None, Option, length, eq-eqb, refl, sym, ap, ◌∙◌, subst}
+use Rattle.std.proofs.lemmas.Bool.{true≢false, false≢true, eqb-true, ne_eqb}
 use Rattle.std.proofs.lemmas.Option.{none-some, same_Some}
 use Rattle.hib_base.specs.Tables.{Tables}
 use Rattle.hib_journal.specs.Types.{Key, Row, Strategy, Script, Part, Act, Reply, Put, Unlocked, Inserted, Updated}
@@ -33,7 +33,10 @@ use Rattle.hib_bulk_region.specs.Laws as Wide
 use Rattle.hib_bulk_region.specs.Steps as Steps
 use Rattle.hib_bulk.specs.declared.region.Region.{Region}
 use Rattle.hib_bulk.specs.Changed.{is_fault}
-use Rattle.hib_bulk.specs.Regions.{answer_by, state_after, answer_in, region_after, IsOfEntity, IsPlaced}
+use Rattle.hib_bulk_law.specs.Wide.{is_old}
+use Rattle.hib_bulk_law.specs.Acts.{swept_for}
+use Rattle.hib_base.proofs.Tables.{Tested, tested}
+use Rattle.hib_bulk.specs.Regions.{answer_by, state_after, answer_in, region_after, region_of, has_old_in, swept, IsAtRegion, IsOfEntity, IsPlaced}
 use Rattle.hib_bulk.specs.Standing.{entry_at, IsLate}
 
 -- the laws of the regions, as their functions' clauses give them
@@ -270,3 +273,43 @@ brings_rest (Region.ReadWrite x) begun now (Act.Unlock k i) b = absurd (false≢
 brings_rest (Region.ReadWrite x) begun now (Act.AfterInsert k r f) b = absurd (false≢true b)
 brings_rest (Region.ReadWrite x) begun now (Act.AfterUpdate k i r) b = absurd (false≢true b)
 brings_rest (Region.ReadWrite x) begun now _ b = refl
+
+-- ---- old items
+
+pub swept_key : (a : Act) (k : Key) → swept_for a ≡ Some k → key_in a ≡ Some k
+swept_key (Act.Get j t) k p = p
+swept_key (Act.Put j r t f) k p = p
+swept_key (Act.Lock j v f) k p = p
+swept_key _ k p = absurd (none-some k p)
+
+pub old_is : Wide.FindsOld → (script : Script) (h : Bulked) (k : Key) (a : Act) (x : Region) → IsPlaced script k.entity h x → key_in a ≡ Some k → Suits (strategy script k.entity) a →
+    has_old_in x k.id ≡ is_old script k h
+old_is w script h k a Region.Uncached p q u = absurd (unsuited (strategy script k.entity) a k q p u)
+old_is w script h k a (Region.ReadWrite x) p q u = w script x k h (of_key script k x h p)
+
+-- ---- all regions, after that of entity n has changed
+
+pub regions_by : (P : ℕ → Region → Type 0) (n : ℕ) (xs ys : List Region) → IsAtRegion n xs ys → P n (region_of ys n) → ((m : ℕ) → (n == m) ≡ false → P m (region_of xs m)) → (m : ℕ) → P m (region_of ys m)
+regions_by P n xs ys at here others m = by_test (tested (n == m))
+  where
+    by_test : Tested (n == m) → P m (region_of ys m)
+    by_test (inl q) = subst (λ i. P i (region_of ys i)) (eqb-true n m q) here
+    by_test (inr q) = subst (λ z. P m z) (sym (at.others m q)) (others m q)
+
+other_way : (n m : ℕ) → (n == m) ≡ false → (m == n) ≡ false
+other_way n m p = ne_eqb m n (λ e. true≢false (sym (eq-eqb n m (sym e)) ∙ p))
+
+-- an old item is swept away
+pub placed_swept : Wide.SweepGrows → (script : Script) (h : Bulked) (s : ℕ) (k : Key) (x : Region) → IsLate (length h + 1) (plain h) → has_old_in x k.id ≡ true → IsPlaced script k.entity h x →
+    IsPlaced script k.entity (entry_at (length h + 1) s (BulkAct.Sweep k) BulkReply.Swept ∷ h) (swept x k.id (length h + 1))
+placed_swept w script h s k Region.Uncached late o p = absurd (false≢true o)
+placed_swept w script h s k (Region.ReadWrite x) late o p = record {
+  strategy = p.strategy;
+  capacity = p.capacity;
+  timeout = p.timeout;
+  stands = w h (entry_at (length h + 1) s (BulkAct.Sweep k) BulkReply.Swept) x k
+      (record { stands = p.stands; part = refl; later = late (λ d. same_part (Part.Region k.entity) d.part); act = refl; reply = refl }) o;
+}
+
+pub swept_elsewhere : (h : Bulked) (s m : ℕ) (k : Key) → (k.entity == m) ≡ false → Wide.IsElsewhere m (entry_at (length h + 1) s (BulkAct.Sweep k) BulkReply.Swept)
+swept_elsewhere h s m k d = record { part = other_way k.entity m d; act = d; stays = refl }

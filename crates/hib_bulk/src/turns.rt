@@ -22,7 +22,7 @@ use hib_base::{
 use hib_bulk_law::{BulkAct, BulkEntry, BulkReply};
 use hib_bulk_region::laws as wide;
 use hib_clock::next as tick_after;
-use hib_engines::Stepped;
+use hib_engines::{Stepped, laws};
 use hib_journal::part_of;
 use hib_outside::Keeper;
 use hib_session::Session;
@@ -204,11 +204,11 @@ fn serve<K: Keeper, N: Name>(
 }
 
 /// The entry of a sweep.
-fn sweep_entry(key: Key, session: SessionNo, tick: Tick) -> BulkEntry
-    ensures { result ≡ entry_at tick session (Doing.Sweep key) Replied.Swept }
+fn sweep_entry(key: &Key, session: SessionNo, tick: Tick) -> BulkEntry
+    ensures { result ≡ entry_at tick session (Doing.Sweep key.now) Replied.Swept }
 {
     let part = Part::Region(key.entity);
-    let act = BulkAct::Sweep { key };
+    let act = BulkAct::Sweep { key: *key };
     BulkEntry {
         tick,
         session,
@@ -233,10 +233,12 @@ fn sweep<K: Keeper, N: Name>(
     ensures same { OnErr result (past journal.new ≡ past journal.old) }
     ensures err { OnErr result (parts.new ≡ parts.old) }
 {
+    laws();
+    wide::answers();
     wide::grows();
     wide::stays();
     let tick = reserve_tick(journal)?;
-    let entry = sweep_entry(key, session, tick);
+    let entry = sweep_entry(&key, session, tick);
     parts.sweep(key, tick);
     journal.push(entry);
     Ok(())
