@@ -5,3 +5,5 @@ mod Kept
 mod Answered
 mod Going
 mod Moved
+mod Lined
+mod LineTurn

@@ -90,10 +90,10 @@ few_sweeps (Some (BulkAct.Sweep k)) = omega arith
 few_sweeps (Some _) = omega arith
 
 -- an entry of the session's act
-own_next : (h : Bulked) (s : ℕ) (a : Act) (r : BulkReply) → own s (plain (entry_of h s (BulkAct.Plain a) r ∷ h)) ≡ plain_entry h s a r ∷ own s (plain h)
+pub own_next : (h : Bulked) (s : ℕ) (a : Act) (r : BulkReply) → own s (plain (entry_of h s (BulkAct.Plain a) r ∷ h)) ≡ plain_entry h s a r ∷ own s (plain h)
 own_next h s a r = ap (own s) (plain_does (entry_of h s (BulkAct.Plain a) r) h a refl) ∙ own_self (plain h) s (length h + 1) a (plain_reply a r)
 
-others_next : (h : Bulked) (s n : ℕ) (a : Act) (r : BulkReply) → (s == n) ≡ false → own n (plain (entry_of h s (BulkAct.Plain a) r ∷ h)) ≡ own n (plain h)
+pub others_next : (h : Bulked) (s n : ℕ) (a : Act) (r : BulkReply) → (s == n) ≡ false → own n (plain (entry_of h s (BulkAct.Plain a) r ∷ h)) ≡ own n (plain h)
 others_next h s n a r d = ap (own n) (plain_does (entry_of h s (BulkAct.Plain a) r) h a refl) ∙ own_other (plain h) s n (length h + 1) a (plain_reply a r) d
 
 -- and of a sweep

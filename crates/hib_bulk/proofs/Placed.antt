@@ -296,7 +296,7 @@ regions_by P n xs ys at here others m = by_test (tested (n == m))
     by_test (inl q) = subst (λ i. P i (region_of ys i)) (eqb-true n m q) here
     by_test (inr q) = subst (λ z. P m z) (sym (at.others m q)) (others m q)
 
-other_way : (n m : ℕ) → (n == m) ≡ false → (m == n) ≡ false
+pub other_way : (n m : ℕ) → (n == m) ≡ false → (m == n) ≡ false
 other_way n m p = ne_eqb m n (λ e. true≢false (sym (eq-eqb n m (sym e)) ∙ p))
 
 -- an old item is swept away

@@ -3,6 +3,7 @@
 
 mod changing;
 mod journal;
+mod lines;
 mod names;
 mod parts;
 mod region;

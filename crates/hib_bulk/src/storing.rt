@@ -1,5 +1,5 @@
 // What a line changes of the committed rows.
-ghost use Rattle.std.specs.Prelude.{◌≡◌, true, None, Ok, IfOk, IfSome, OnErr};
+ghost use Rattle.std.specs.Prelude.{◌≡◌, ◌≤◌, true, None, Ok, IfOk, IfSome, OnErr};
 ghost use Rattle.hib_base.specs.Tables.{in_order};
 ghost use Rattle.hib_outside.specs.Causes.{Rose};
 ghost use Rattle.hib_store.specs.Stores.{MeetsBelow};
@@ -60,6 +60,8 @@ pub fn change_rows<K: Keeper>(
     requires below { MeetsBelow store.old.entities line.now.entity line.now.condition }
     ensures changed { IfOk result (λ r. IsChanged line.now r store.old store.new) }
     ensures fault { IfOk result (λ r. is_fault r ≡ true → Rose store.old.faults store.new.faults) }
+    ensures faults { store.old.faults ≤ store.new.faults }
+    ensures entities { store.new.entities ≡ store.old.entities }
     ensures err { OnErr result (IsCounted store.old store.new) }
 {
     bulks_are_changes();
