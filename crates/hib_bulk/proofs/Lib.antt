@@ -7,3 +7,4 @@ mod Going
 mod Moved
 mod Lined
 mod LineTurn
+mod Stepped

@@ -4,3 +4,4 @@ pub mod Changed
 pub mod Regions
 pub mod Standing
 pub mod Run
+pub mod Steps

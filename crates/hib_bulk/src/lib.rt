@@ -7,6 +7,7 @@ mod lines;
 mod names;
 mod parts;
 mod region;
+mod steps;
 mod storing;
 mod turns;
 
