@@ -8,3 +8,4 @@ mod Moved
 mod Lined
 mod LineTurn
 mod Stepped
+mod Obeyed

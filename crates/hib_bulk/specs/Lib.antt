@@ -5,3 +5,4 @@ pub mod Regions
 pub mod Standing
 pub mod Run
 pub mod Steps
+pub mod Factory

@@ -2,6 +2,7 @@
 #![tactic(auto)]
 
 mod changing;
+mod factory;
 mod journal;
 mod lines;
 mod names;
@@ -11,6 +12,7 @@ mod steps;
 mod storing;
 mod turns;
 
+pub use factory::BulkFactory;
 pub use journal::Bulked;
 pub use names::Name;
 pub use region::Region;
