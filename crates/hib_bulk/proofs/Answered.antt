@@ -1,11 +1,11 @@
 -- What a part answers an act of a session, and what then stands.
-use Rattle.std.proofs.Common.{◌≡◌, inl, inr, ℕ, ◌==◌, Bool, true, false, cond, List, [], ◌∷◌, length, Some, None, Option, refl, sym, ap, ◌∙◌, subst}
-use Rattle.std.proofs.lemmas.Bool.{true≢false, false≢true, eqb-true}
-use Rattle.std.proofs.lemmas.Option.{none-some, same_Some}
+use Rattle.std.proofs.Common.{◌≡◌, inl, inr, ℕ, ◌==◌, true, false, cond, List, ◌∷◌, length, Some, None, Option, refl, sym, ap, ◌∙◌, subst}
+use Rattle.std.proofs.lemmas.Bool.{eqb-true}
+use Rattle.std.proofs.lemmas.Option.{none-some}
 use Rattle.std.specs.Option.{option_map, option_map_or}
 use Rattle.hib_base.specs.Tables.{Tables, after_changes}
 use Rattle.hib_base.proofs.Tables.{Tested, tested}
-use Rattle.hib_journal.specs.Types.{Change, Commit, Script, Part, Act, Reply}
+use Rattle.hib_journal.specs.Types.{Commit, Script, Part, Act, Reply}
 use Rattle.hib_journal.specs.Sessions as Sessions
 use Rattle.hib_journal.specs.Sessions.{Journal, own, changes, deferred, same_part, time}
 use Rattle.hib_journal.specs.Legal as Legal
@@ -26,7 +26,6 @@ use Rattle.hib_engines.specs.Stamps.{AreStamps}
 use Rattle.hib_engines.specs.Results.{AreResults}
 use Rattle.hib_engines.specs.Store.{IsStored, IsStoreServed}
 use Rattle.hib_engines.specs.Due.{AreStored}
-use Rattle.hib_engines.specs.Bridged.{IsBridged}
 use Rattle.hib_engines.proofs.Answered.{own_has}
 use Rattle.hib_engines.proofs.Bridge.{deferred_of}
 use Rattle.hib_engines.proofs.OwnActs.{is_own, IsOwnAct, own_act, registry_own}
@@ -35,14 +34,14 @@ use Rattle.hib_engines.proofs.RegionList.{of_region}
 use Rattle.hib_engines.proofs.RegionServed.{named}
 use Rattle.hib_bulk.specs.Types.{BulkDef, BulkAct, BulkReply, BulkEntry}
 use Rattle.hib_bulk_law.specs.Plain.{Bulked, plain, plain_reply}
-use Rattle.hib_bulk_law.specs.Rows.{line, committed, committed_after, committer}
+use Rattle.hib_bulk_law.specs.Rows.{committed, committer}
 use Rattle.hib_bulk_region.specs.Laws as Wide
 use Rattle.hib_bulk.specs.declared.region.Region.{Region}
 use Rattle.hib_bulk.specs.Regions.{region_of, IsAtRegion, IsPlaced}
-use Rattle.hib_bulk.specs.Standing.{PartsState, told_committed, ArePlain, AreStanding, IsReady, IsAnswered, entry_at}
+use Rattle.hib_bulk.specs.Standing.{PartsState, told_committed, IsReady, IsAnswered, entry_at}
 use Rattle.hib_bulk.proofs.Placed.{IsRegional}
 use Rattle.hib_bulk.proofs.Replies.{due_plain, due_stored, quiet, unsaved_quiet, stored_quiet, told_quiet}
-use Rattle.hib_bulk.proofs.Kept.{AreKept, kept, plain_next, rows_rest, commits_not, bulk_none, standing_of}
+use Rattle.hib_bulk.proofs.Kept.{AreKept, kept, plain_next, bulk_none, standing_of}
 
 module _ (l : Laws) (w : Wide.Stays) (script : Script) (lines : List BulkDef) (told : Option Tables) (h : Bulked) (s now : ℕ) (a : Act) (x : PartsState) (k : IsReady script lines told h s now a x) where
   abbrev Kept : BulkReply → Type 0

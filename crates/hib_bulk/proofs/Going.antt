@@ -1,11 +1,10 @@
 -- A run with bulk lines goes on: with one entry more its journal is legal, and its parts stand for it.
 use Rattle.std.specs.Prelude.{option_map}
 use Rattle.std.specs.Option.{option_map_or, option_or}
-use Rattle.std.proofs.Common.{◌≡◌, ℕ, suc, ◌+◌, ◌≤◌, ◌<◌, ◌^◌, ◌==◌, Bool, true, false, cond, nat_lt, List, ◌∷◌, length, slice_get, Some, None, Option, refl, sym, ap, ◌∙◌, subst, arith, inl, inr}
-use Rattle.std.proofs.lemmas.Bool.{true≢false}
-use Rattle.hib_base.proofs.Tables.{Tested, tested, same_key_refl}
-use Rattle.hib_journal.specs.Types.{Key, Script, Act, Reply, Entry}
-use Rattle.hib_journal.specs.Sessions.{Journal, own}
+use Rattle.std.proofs.Common.{◌≡◌, ℕ, suc, ◌+◌, ◌≤◌, ◌<◌, ◌^◌, Bool, true, false, cond, nat_lt, List, ◌∷◌, length, slice_get, Some, None, Option, refl, sym, ap, ◌∙◌, subst, arith}
+use Rattle.hib_base.proofs.Tables.{same_key_refl}
+use Rattle.hib_journal.specs.Types.{Key, Script, Act}
+use Rattle.hib_journal.specs.Sessions.{own}
 use Rattle.hib_journal.specs.Slot.{slot_from, slot}
 use Rattle.hib_journal.specs.Next as Next
 use Rattle.hib_outside.specs.Causes.{Rose}
@@ -15,11 +14,10 @@ use Rattle.hib_bulk.specs.Types.{BulkDef, BulkAct, BulkReply, BulkEntry}
 use Rattle.hib_bulk_law.specs.Plain.{Bulked, plain}
 use Rattle.hib_bulk_law.specs.Rows.{line}
 use Rattle.hib_bulk_law.specs.Wide.{is_old, is_item_shut}
-use Rattle.hib_bulk_law.specs.Acts.{next, next_of_line, after_sweep, swept_for, acts_of, steps_of, part_of}
-use Rattle.hib_bulk_law.specs.Legal.{IsLegal, IsReply}
-use Rattle.hib_bulk_law.proofs.Entries.{no_next, tick_le, swept_of, plain_sweeps}
+use Rattle.hib_bulk_law.specs.Acts.{next, next_of_line, after_sweep, swept_for, acts_of, steps_of}
+use Rattle.hib_bulk_law.proofs.Entries.{no_next, tick_le, plain_sweeps}
 use Rattle.hib_bulk.specs.Changed.{is_fault}
-use Rattle.hib_bulk.specs.Standing.{PartsState, IsLate, IsAnswered, entry_at}
+use Rattle.hib_bulk.specs.Standing.{PartsState, IsLate, IsAnswered}
 use Rattle.hib_bulk.specs.Run.{fault_count, IsRun, IsSwept, entry_of}
 
 -- ---- the next act

@@ -1,12 +1,12 @@
 -- The parts that an entry of a session isn't of stand for the entries with it.
-use Rattle.std.proofs.Common.{◌≡◌, ℕ, ◌==◌, Bool, true, false, cond, List, [], ◌∷◌, length, Some, None, Option, refl, sym, ap, ◌∙◌, subst, arith}
+use Rattle.std.proofs.Common.{◌≡◌, ℕ, ◌==◌, true, false, List, ◌∷◌, length, Some, None, Option, refl, sym, ap, ◌∙◌, subst, arith}
 use Rattle.std.specs.Option.{option_map}
 use Rattle.std.proofs.lemmas.Bool.{true≢false, false≢true}
 use Rattle.std.proofs.lemmas.Option.{none-some}
 use Rattle.hib_base.specs.Tables.{Tables}
 use Rattle.hib_journal.specs.Types.{Key, Script, Part, Act, Reply}
 use Rattle.hib_journal.specs.Slot.{key_in}
-use Rattle.hib_journal.specs.Sessions.{Journal, own, was_killed}
+use Rattle.hib_journal.specs.Sessions.{Journal, own}
 use Rattle.hib_journal.specs.Legal.{is_outside}
 use Rattle.hib_journal.specs.Lists as Lists
 use Rattle.hib_journal.specs.Lists.{unsaved}
@@ -18,7 +18,6 @@ use Rattle.hib_engines.specs.Region.{is_of_key, is_regional, entity_in, acts_on}
 use Rattle.hib_engines.specs.Served.{is_for}
 use Rattle.hib_engines.specs.Stamps.{AreStamps}
 use Rattle.hib_engines.specs.Results.{AreResults}
-use Rattle.hib_engines.specs.Store.{IsStored}
 use Rattle.hib_engines.specs.Due.{IsDue}
 use Rattle.hib_engines.proofs.Bridge.{bridged_own, inside_stops, not_outside}
 use Rattle.hib_engines.proofs.Elsewhere.{registry_kept}
@@ -29,9 +28,8 @@ use Rattle.hib_bulk.specs.Types.{BulkDef, BulkAct, BulkReply, BulkEntry}
 use Rattle.hib_bulk_law.specs.Plain.{Bulked, plain, plain_reply}
 use Rattle.hib_bulk_law.specs.Rows.{line, committed, committed_after, changer, committer}
 use Rattle.hib_bulk_law.specs.Legal.{bulk_answer}
-use Rattle.hib_bulk_law.proofs.Entries.{plain_of, plain_does}
+use Rattle.hib_bulk_law.proofs.Entries.{plain_does}
 use Rattle.hib_bulk_region.specs.Laws as Wide
-use Rattle.hib_bulk.specs.declared.region.Region.{Region}
 use Rattle.hib_bulk.specs.Regions.{region_of, IsPlaced}
 use Rattle.hib_bulk.specs.Standing.{PartsState, told_committed, ArePlain, AreStanding, IsStill, entry_at}
 use Rattle.hib_bulk.proofs.Placed.{placed_kept}

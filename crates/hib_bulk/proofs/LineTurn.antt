@@ -1,16 +1,16 @@
 -- A turn of a line: what it asks of its region, and what it leaves of the journal, the parts and the line.
-use Rattle.std.proofs.Common.{◌≡◌, ◌⊎◌, inl, inr, ℕ, suc, ◌+◌, ◌-◌, ◌<◌, ◌≤◌, ◌^◌, ◌==◌, Bool, true, false, cond, ◌&&◌, ◌||◌, nat_lt, List, [], ◌∷◌, length, slice_get, Some, None, Option, refl, sym, ap, ◌∙◌, subst, arith, eq-eqb}
+use Rattle.std.proofs.Common.{◌≡◌, inl, inr, ℕ, suc, ◌+◌, ◌-◌, ◌<◌, ◌≤◌, ◌^◌, ◌==◌, Bool, true, false, cond, ◌&&◌, ◌||◌, nat_lt, List, [], ◌∷◌, length, slice_get, Some, None, Option, refl, sym, ap, ◌∙◌, subst, arith, eq-eqb}
 use Rattle.std.proofs.lemmas.Bool.{lt-ltb}
 use Rattle.hib_base.specs.Tables.{Tables}
-use Rattle.hib_journal.specs.Types.{Script, Part, Act, Reply}
+use Rattle.hib_journal.specs.Types.{Script, Part, Act}
 use Rattle.hib_journal.specs.Sessions.{own, is_begun, deferred}
 use Rattle.hib_journal.specs.Next.{is_cached}
 use Rattle.hib_outside.specs.Causes.{Rose}
 use Rattle.hib_engines.specs.Origin.{Origin}
 use Rattle.hib_bulk.specs.Types.{BulkDef, BulkAct, BulkReply, BulkEntry}
 use Rattle.hib_bulk_law.specs.Plain.{Bulked, plain}
-use Rattle.hib_bulk_law.specs.Rows.{line, committed}
-use Rattle.hib_bulk_law.specs.Wide.{wide_holders, locks_all, unlocks_all}
+use Rattle.hib_bulk_law.specs.Rows.{line}
+use Rattle.hib_bulk_law.specs.Wide.{wide_holders, locks_all}
 use Rattle.hib_bulk_law.specs.Acts.{next, acts_of, steps_of, part_of}
 use Rattle.hib_bulk_law.specs.Legal.{IsReply, IsLegal, has_failed, fails}
 use Rattle.hib_bulk_law.specs.Law.{AtEachEntry, IsGivenBack}

@@ -1,16 +1,14 @@
 -- What a part answers a line, and what then stands.
-use Rattle.std.specs.Prelude.{unwrap_or, option_map as mapped}
-use Rattle.std.proofs.Common.{◌≡◌, ◌⊎◌, inl, inr, ℕ, zero, suc, ◌+◌, ◌-◌, ◌<◌, ◌≤◌, ◌^◌, ◌==◌, Bool, true, false, cond, ◌&&◌, nat_lt, List, [], ◌∷◌, length, slice_get, Some, None, Option, IfSome, refl, sym, ap, ◌∙◌, subst, arith, eq-eqb}
+use Rattle.std.proofs.Common.{◌≡◌, ◌⊎◌, inl, inr, ℕ, zero, suc, ◌+◌, ◌==◌, Bool, true, false, cond, List, [], ◌∷◌, length, slice_get, Some, None, Option, IfSome, refl, sym, ap, ◌∙◌, subst}
 use Rattle.std.proofs.lemmas.Bool.{true≢false, false≢true}
 use Rattle.std.proofs.lemmas.Option.{none-some, same_Some}
-use Rattle.std.specs.Option.{option_map, option_map_or}
+use Rattle.std.specs.Option.{option_map_or}
 use Rattle.hib_base.specs.Tables.{Tables}
-use Rattle.hib_base.proofs.Tables.{Tested, tested}
-use Rattle.hib_journal.specs.Types.{Key, Script, Strategy, Part, Act, Reply, Outcome}
-use Rattle.hib_journal.specs.Sessions.{Journal, own, is_begun, deferred, same_part}
+use Rattle.hib_journal.specs.Types.{Key, Script, Part, Act, Reply, Outcome}
+use Rattle.hib_journal.specs.Sessions.{Journal, own, same_part}
 use Rattle.hib_journal.specs.Lists as Lists
 use Rattle.hib_journal.specs.Lists.{IsReplyOf}
-use Rattle.hib_journal.specs.Next.{strategy, is_cached, is_cached_by}
+use Rattle.hib_journal.specs.Next.{strategy, is_cached}
 use Rattle.hib_engines.specs.Laws.{Laws}
 use Rattle.hib_engines.specs.Registry.{IsRegistry}
 use Rattle.hib_engines.specs.Stamps.{AreStamps}
@@ -20,11 +18,10 @@ use Rattle.hib_engines.specs.Due.{IsDue}
 use Rattle.hib_store.specs.Stores.{changes_of, changes_in}
 use Rattle.hib_bulk.specs.Types.{BulkDef, BulkAct, BulkReply, BulkEntry}
 use Rattle.hib_bulk_law.specs.Plain.{Bulked, plain}
-use Rattle.hib_bulk_law.specs.Rows.{line, committed, found, bulked, changer, committer}
-use Rattle.hib_bulk_law.specs.Wide.{wide_holders, locks_all, unlocks_all}
-use Rattle.hib_bulk_law.specs.Acts.{acts_of, change_of, part_of}
-use Rattle.hib_bulk_law.specs.Legal.{IsReply, IsLegal, is_of_store, has_failed, reply_of}
-use Rattle.hib_bulk_law.specs.Law.{AtEachEntry, IsGivenBack}
+use Rattle.hib_bulk_law.specs.Rows.{committed, found, bulked, changer, committer}
+use Rattle.hib_bulk_law.specs.Wide.{wide_holders}
+use Rattle.hib_bulk_law.specs.Acts.{change_of, part_of}
+use Rattle.hib_bulk_law.specs.Legal.{IsReply, is_of_store, has_failed, reply_of}
 use Rattle.hib_bulk_law.proofs.Entries.{is_wide, plain_rests}
 use Rattle.hib_engines.proofs.Regions.{uncached_not}
 use Rattle.hib_bulk_region.specs.Region.{BulkState}
@@ -34,8 +31,8 @@ use Rattle.hib_bulk_region.specs.Laws as Wide
 use Rattle.hib_bulk.specs.declared.region.Region.{Region}
 use Rattle.hib_bulk.specs.Changed.{IsChanged, tables_changed}
 use Rattle.hib_bulk.specs.Regions.{region_of, held_by, locked_all, unlocked_all, IsAtRegion, IsOfEntity, IsPlaced}
-use Rattle.hib_bulk.specs.Standing.{PartsState, ArePlain, AreStanding, IsAnswered, told_committed, entry_at}
-use Rattle.hib_bulk.specs.Run.{IsLine, IsLineTurn, is_under_way, outcome_of}
+use Rattle.hib_bulk.specs.Standing.{PartsState, ArePlain, IsAnswered, told_committed, entry_at}
+use Rattle.hib_bulk.specs.Run.{IsLineTurn, is_under_way, outcome_of}
 use Rattle.hib_bulk.proofs.Placed.{placed_stays, regions_by, other_way}
 use Rattle.hib_bulk.proofs.Replies.{due_plain}
 use Rattle.hib_bulk.proofs.Kept.{AreKept, kept, plain_next, rows_rest, standing_of}

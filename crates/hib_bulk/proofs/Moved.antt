@@ -1,9 +1,7 @@
 -- A turn of a session: what it leaves of the journal, the parts and the session.
-use Rattle.std.specs.Prelude.{option_map}
-use Rattle.std.proofs.Common.{◌≡◌, inl, inr, ℕ, ◌+◌, ◌<◌, ◌≤◌, ◌^◌, ◌==◌, Bool, true, false, List, ◌∷◌, length, IfSome, Some, None, Option, refl, sym, ap, ◌∙◌, subst, arith, eq-eqb}
+use Rattle.std.proofs.Common.{◌≡◌, inl, ℕ, ◌+◌, ◌<◌, ◌≤◌, ◌^◌, ◌==◌, Bool, true, false, List, ◌∷◌, length, IfSome, Some, None, Option, refl, sym, ap, ◌∙◌, subst, arith}
 use Rattle.std.proofs.lemmas.Bool.{lt-ltb, false≢true}
 use Rattle.std.proofs.lemmas.Option.{same_Some}
-use Rattle.std.specs.Option.{option_or}
 use Rattle.hib_base.specs.Tables.{Tables}
 use Rattle.hib_journal.specs.Types.{Key, Script, Part, Act, Reply, Evicted, Entry}
 use Rattle.hib_journal.specs.Sessions.{Journal, own}
@@ -11,7 +9,7 @@ use Rattle.hib_journal.specs.Legal as Legal
 use Rattle.hib_journal.specs.Next as Next
 use Rattle.hib_journal.specs.Next.{strategy}
 use Rattle.hib_session.specs.declared.session.Session.{Session}
-use Rattle.hib_session.specs.Session.{Follows, IsTaken, number_of, left_in}
+use Rattle.hib_session.specs.Session.{Follows, number_of, left_in}
 use Rattle.hib_engines.specs.Origin.{Origin}
 use Rattle.hib_engines.specs.Laws.{Laws}
 use Rattle.hib_engines.specs.Due.{IsDue}
@@ -26,13 +24,13 @@ use Rattle.hib_bulk.specs.Types.{BulkDef, BulkAct, BulkReply, BulkEntry}
 use Rattle.hib_bulk_law.specs.Plain.{Bulked, plain, plain_reply}
 use Rattle.hib_bulk_law.specs.Rows.{line}
 use Rattle.hib_bulk_law.specs.Wide.{is_old}
-use Rattle.hib_bulk_law.specs.Acts.{next, next_of_line, after_sweep, swept_for, acts_of, steps_of}
+use Rattle.hib_bulk_law.specs.Acts.{next, swept_for}
 use Rattle.hib_bulk_law.proofs.Entries.{no_line, plain_does, plain_sweeps, swept_of}
 use Rattle.hib_bulk.specs.Regions.{region_of, has_old_in, swept, IsAtRegion, IsPlaced}
 use Rattle.hib_bulk.specs.Standing.{PartsState, ArePlain, AreStanding, IsStill, IsReady, IsTold}
 use Rattle.hib_bulk.proofs.Placed.{swept_key, old_is, regions_by, placed_swept, swept_elsewhere, placed_stays}
 use Rattle.hib_bulk.proofs.Kept.{rows_rest}
-use Rattle.hib_bulk.specs.Run.{IsRun, IsTurn, IsSwept, Answers, Serves, Sweeps, Leaves, Moves, entry_of, plain_entry, sweeps, left_of}
+use Rattle.hib_bulk.specs.Run.{IsRun, IsTurn, IsSwept, Answers, Serves, Sweeps, Leaves, Moves, entry_of, plain_entry, sweeps}
 use Rattle.hib_bulk.proofs.Going.{next_by, plain_due, sweep_due, goes_on, late, swept_not_old}
 
 pub known_none : (script : Script) (lines : List BulkDef) (s : ℕ) → s < length script.sessions → line script lines s ≡ None

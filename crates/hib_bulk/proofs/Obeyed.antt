@@ -1,5 +1,5 @@
 -- A run obeys the law, and what each step gives a factory.
-use Rattle.std.proofs.Common.{◌≡◌, ℕ, ◌+◌, ◌-◌, ◌<◌, ◌≤◌, true, List, IfSome, Some, Option, subst, arith}
+use Rattle.std.proofs.Common.{◌≡◌, ℕ, ◌+◌, ◌-◌, ◌≤◌, true, List, IfSome, Some, Option, subst, arith}
 use Rattle.hib_base.specs.Tables.{Tables, in_order}
 use Rattle.hib_journal.specs.Types.{Key, Script, Strategy}
 use Rattle.hib_journal.specs.Next.{strategy}

@@ -1,11 +1,11 @@
 -- What a region answers an act of a session is due, and afterwards it stands for the entries with that one.
 use Rattle.std.specs.Prelude.{option_map}
-use Rattle.std.proofs.Common.{◌≡◌, ◌<◌, ◌⊎◌, inl, inr, ℕ, ◌+◌, ◌==◌, Bool, true, false, cond, not, List, [], ◌∷◌, Some, None, Option, length, eq-eqb, refl, sym, ap, ◌∙◌, subst}
+use Rattle.std.proofs.Common.{◌≡◌, ◌⊎◌, inl, inr, ℕ, ◌+◌, ◌==◌, Bool, true, false, cond, not, List, [], ◌∷◌, Some, None, Option, length, eq-eqb, refl, sym, ◌∙◌, subst}
 use Rattle.std.proofs.lemmas.Bool.{true≢false, false≢true, eqb-true, ne_eqb}
 use Rattle.std.proofs.lemmas.Option.{none-some, same_Some}
 use Rattle.hib_base.specs.Tables.{Tables}
 use Rattle.hib_journal.specs.Types.{Key, Row, Strategy, Script, Part, Act, Reply, Put, Unlocked, Inserted, Updated}
-use Rattle.hib_journal.specs.Sessions.{same_part, last_tick, time, is_restart}
+use Rattle.hib_journal.specs.Sessions.{same_part, time, is_restart}
 use Rattle.hib_journal.specs.Slot.{Slot, key_in, is_positive}
 use Rattle.hib_journal.specs.Next.{strategy}
 use Rattle.hib_journal.specs.Legal as Legal

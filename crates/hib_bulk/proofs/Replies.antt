@@ -1,21 +1,21 @@
 -- The reply that a part gives is the one that a legal journal with bulk lines has.
 use Rattle.std.specs.Prelude.{unwrap_or, option_map}
-use Rattle.std.proofs.Common.{◌≡◌, ℕ, ◌⊎◌, inl, inr, Bool, true, false, cond, not, List, [], ◌∷◌, Some, None, Option, refl, sym, ap, ◌∙◌, subst}
+use Rattle.std.proofs.Common.{◌≡◌, ℕ, ◌⊎◌, inl, inr, true, false, List, [], ◌∷◌, Some, None, Option, refl, sym, ap, ◌∙◌, subst}
 use Rattle.std.proofs.lemmas.Bool.{true≢false, false≢true}
 use Rattle.std.proofs.lemmas.Option.{none-some}
-use Rattle.std.specs.Option.{option_map as mapped, option_map_or}
-use Rattle.hib_base.specs.Tables.{Tables, after_changes}
-use Rattle.hib_journal.specs.Types.{Change, Commit, Script, Part, Act, Reply, Entry}
+use Rattle.std.specs.Option.{option_map as mapped}
+use Rattle.hib_base.specs.Tables.{Tables}
+use Rattle.hib_journal.specs.Types.{Change, Script, Part, Act, Reply}
 use Rattle.hib_journal.specs.Sessions as Sessions
 use Rattle.hib_journal.specs.Sessions.{Journal, own, changes, changes_in, deferred}
 use Rattle.hib_journal.specs.Legal as Legal
 use Rattle.hib_journal.specs.Lists.{entry_at, unsaved, unsaved_after, stored, stored_by, IsReplyOf, IsStoreReply}
 use Rattle.hib_engines.specs.Served.{is_for}
 use Rattle.hib_engines.specs.Due.{AreStored}
-use Rattle.hib_bulk.specs.Types.{BulkDef, BulkAct, BulkReply, BulkEntry}
+use Rattle.hib_bulk.specs.Types.{BulkDef, BulkAct, BulkReply}
 use Rattle.hib_bulk_law.specs.Plain.{Bulked, plain}
 use Rattle.hib_bulk_law.specs.Rows.{committed}
-use Rattle.hib_bulk_law.specs.Legal.{bulk_answer, reply_of, fault_of, IsAnswer, IsReply}
+use Rattle.hib_bulk_law.specs.Legal.{bulk_answer, reply_of, IsAnswer, IsReply}
 use Rattle.hib_bulk.specs.Standing as Standing
 use Rattle.hib_bulk.specs.Standing.{told_committed}
 

@@ -1,21 +1,20 @@
 -- A step of a session or a line: what it leaves of the parts, the sessions and the lines.
 use Rattle.std.specs.Prelude.{slice_get, slice_set, get_or}
-use Rattle.std.proofs.Common.{◌≡◌, ◌≢◌, inl, inr, ℕ, suc, ◌+◌, ◌-◌, ◌<◌, ◌≤◌, ◌^◌, ◌==◌, Bool, true, false, cond, ◌&&◌, ◌||◌, nat_lt, List, ◌∷◌, length, Result, Ok, Err, Some, None, Option, refl, sym, ap, ◌∙◌, subst, arith, eq-eqb}
-use Rattle.std.proofs.lemmas.Bool.{true≢false, false≢true, eqb-true, ne_eqb}
+use Rattle.std.proofs.Common.{◌≡◌, ◌≢◌, inl, inr, ℕ, ◌+◌, ◌<◌, ◌==◌, Bool, false, ◌&&◌, ◌||◌, List, ◌∷◌, length, Result, Ok, Err, Some, None, refl, sym, ap, ◌∙◌, subst, arith, eq-eqb}
+use Rattle.std.proofs.lemmas.Bool.{true≢false, eqb-true, ne_eqb}
 use Rattle.std.proofs.lemmas.List.{get_or-set_same, get_or-set_other, length-set}
 use Rattle.std.proofs.lemmas.Option.{same_Some, slice_get_within, get_or_from_slice_get, slice_get-get_or}
 use Rattle.hib_base.proofs.Tables.{Tested, tested}
 use Rattle.hib_journal.specs.Types.{Script}
-use Rattle.hib_journal.specs.Sessions.{Journal, own, is_begun, deferred}
+use Rattle.hib_journal.specs.Sessions.{own, is_begun, deferred}
 use Rattle.hib_session.specs.declared.session.Session.{Session}
 use Rattle.hib_session.specs.Session.{Follows, number_of}
 use Rattle.hib_session.proofs.Together.{placed_here, placed_there}
 use Rattle.hib_engines.specs.Origin.{Origin}
 use Rattle.hib_engines.specs.declared.stepped.Stepped.{Stepped}
-use Rattle.hib_bulk.specs.Types.{BulkDef, BulkEntry}
+use Rattle.hib_bulk.specs.Types.{BulkDef}
 use Rattle.hib_bulk.specs.declared.lines.Progress.{Progress}
 use Rattle.hib_bulk_law.specs.Plain.{Bulked, plain}
-use Rattle.hib_bulk_law.specs.Rows.{line}
 use Rattle.hib_bulk_law.specs.Acts.{next, steps_of}
 use Rattle.hib_bulk_law.specs.Legal.{has_failed, fails}
 use Rattle.std.specs.declared.alloc.AllocError.{AllocError}
@@ -24,8 +23,8 @@ use Rattle.hib_engines.specs.Registry.{IsRegistry}
 use Rattle.hib_engines.specs.Stamps.{AreStamps}
 use Rattle.hib_engines.specs.Results.{AreResults}
 use Rattle.hib_bulk.specs.Regions.{region_of, IsPlaced}
-use Rattle.hib_bulk.specs.Standing.{PartsState, ArePlain, AreStanding, IsStill}
-use Rattle.hib_bulk.specs.Run.{IsRun, IsLine, Moves, Leaves, LineMoves, fault_count, is_under_way}
+use Rattle.hib_bulk.specs.Standing.{PartsState, ArePlain, IsStill}
+use Rattle.hib_bulk.specs.Run.{IsRun, IsLine, Moves, Leaves, LineMoves}
 use Rattle.hib_bulk.specs.Steps.{AreSessions, AreLines, Adds}
 
 -- ---- places in a list

@@ -1,6 +1,6 @@
 -- The regions of a script's entities, which bulk lines may lock as a whole.
-use Rattle.std.specs.Prelude.{◌≡◌, ◌≤◌, ◌<◌, ◌^◌, ℕ, ◌+◌, ◌-◌, ◌==◌, Bool, true, false, List, length, slice_get, Some, Option, unwrap_or}
-use Rattle.hib_journal.specs.Types.{Key, Strategy, Script, Act, Reply}
+use Rattle.std.specs.Prelude.{◌≡◌, ℕ, ◌==◌, Bool, false, List, length, slice_get, unwrap_or}
+use Rattle.hib_journal.specs.Types.{Strategy, Script, Act, Reply}
 use Rattle.hib_journal.specs.Next.{strategy, capacity}
 use Rattle.hib_journal.specs.Regions as Regions
 use Rattle.hib_rw_region.specs.Region.{slot_in, room_in}

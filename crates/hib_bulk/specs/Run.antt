@@ -1,5 +1,5 @@
 -- What a run with bulk lines keeps: its journal is legal, and its parts, sessions and lines stand for it.
-use Rattle.std.specs.Prelude.{◌≡◌, ◌≤◌, ◌<◌, ◌^◌, ◌==◌, ℕ, suc, ◌+◌, Bool, true, false, cond, ◌&&◌, nat_lt, List, [], ◌∷◌, length, slice_get, IfSome, Some, None, Option}
+use Rattle.std.specs.Prelude.{◌≡◌, ◌<◌, ◌^◌, ◌==◌, ℕ, suc, ◌+◌, Bool, true, false, cond, ◌&&◌, nat_lt, List, [], ◌∷◌, length, slice_get, IfSome, Some, None, Option}
 use Rattle.hib_base.specs.Tables.{Tables, in_order}
 use Rattle.hib_journal.specs.Types.{Key, Script, Act, Reply, Entry, Outcome, Strategy}
 use Rattle.hib_journal.specs.Sessions.{Journal, own, is_begun, deferred}

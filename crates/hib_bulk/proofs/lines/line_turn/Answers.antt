@@ -1,10 +1,10 @@
-use Rattle.std.proofs.Common.{◌≡◌, ◌+◌, ◌∷◌, ◌||◌, Bool, Some, None, slice_get, length, refl, sym, ap, ◌∙◌, subst}
+use Rattle.std.proofs.Common.{◌≡◌, ◌+◌, ◌∷◌, ◌||◌, slice_get, length, sym, ap, ◌∙◌, subst}
 use Rattle.hib_base.specs.declared.scripts.Script.{Script}
-use Rattle.hib_bulk.specs.Types.{BulkAct, BulkReply, BulkEntry}
+use Rattle.hib_bulk.specs.Types.{BulkEntry}
 use Rattle.hib_bulk_law.specs.Plain.{Bulked}
-use Rattle.hib_bulk_law.specs.Acts.{acts_of, part_of}
+use Rattle.hib_bulk_law.specs.Acts.{acts_of}
 use Rattle.hib_bulk.specs.Kept.{past}
-use Rattle.hib_bulk.specs.Standing.{entry_at, IsAnswered}
+use Rattle.hib_bulk.specs.Standing.{IsAnswered}
 use Rattle.hib_bulk.specs.Run.{IsLineTurn, LineMoves, entry_of}
 use Rattle.hib_bulk.proofs.LineTurn.{turn_of_line, due_of_line, few_hold, one_holds, entry_by, line_moves}
 use Rattle.hib_bulk.proofs.lines.line_turn.Goals as goal

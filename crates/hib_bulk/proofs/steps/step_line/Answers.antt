@@ -1,14 +1,8 @@
-use Rattle.std.proofs.Common.{◌≡◌, ◌+◌, Some, length, sym, ap, subst, ◌∙◌, refl}
-use Rattle.std.specs.Prelude.{slice_get, slice_set}
-use Rattle.std.proofs.lemmas.Option.{slice_get-get_or}
+use Rattle.std.proofs.Common.{◌≡◌, ◌+◌, Some, length, sym, ap, subst, ◌∙◌}
+use Rattle.std.specs.Prelude.{slice_get}
 use Rattle.hib_base.specs.declared.scripts.Script.{Script}
-use Rattle.hib_journal.specs.Sessions.{own}
-use Rattle.hib_session.specs.Session.{Follows, number_of}
-use Rattle.hib_bulk.specs.Types.{BulkDef}
-use Rattle.hib_bulk_law.specs.Plain.{plain}
 use Rattle.hib_bulk.specs.Kept.{past}
 use Rattle.hib_bulk.specs.Run.{IsLine}
-use Rattle.hib_bulk.specs.Steps.{AreSessions, AreLines}
 use Rattle.hib_bulk.proofs.Stepped.{line_at, def_at, line_turned}
 use Rattle.hib_bulk.proofs.steps.step_line.Goals as goal
 

@@ -1,14 +1,10 @@
-use Rattle.std.proofs.Common.{◌≡◌, ◌+◌, Some, length, sym, ap, subst, ◌∙◌, refl}
+use Rattle.std.proofs.Common.{◌≡◌, Some, sym, subst}
 use Rattle.std.specs.Prelude.{slice_get, slice_set}
-use Rattle.std.proofs.lemmas.Option.{slice_get-get_or}
-use Rattle.hib_base.specs.declared.scripts.Script.{Script}
 use Rattle.hib_journal.specs.Sessions.{own}
-use Rattle.hib_session.specs.Session.{Follows, number_of}
-use Rattle.hib_bulk.specs.Types.{BulkDef}
+use Rattle.hib_session.specs.Session.{Follows}
 use Rattle.hib_bulk_law.specs.Plain.{plain}
 use Rattle.hib_bulk.specs.Kept.{past}
-use Rattle.hib_bulk.specs.Run.{IsLine}
-use Rattle.hib_bulk.specs.Steps.{AreSessions, AreLines}
+use Rattle.hib_bulk.specs.Steps.{AreSessions}
 use Rattle.hib_bulk.proofs.Stepped.{turned, session_at}
 use Rattle.hib_bulk.proofs.steps.step_session.Goals as goal
 

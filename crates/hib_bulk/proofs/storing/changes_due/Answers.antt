@@ -1,4 +1,4 @@
-use Rattle.std.proofs.Common.{◌≡◌, true, List, [], ◌∷◌, map, Some, None, Option, IfSome, refl, sym, ap, ◌∙◌, subst}
+use Rattle.std.proofs.Common.{◌≡◌, true, List, [], ◌∷◌, map, Some, None, Option, IfSome, refl, ap, ◌∙◌, subst}
 use Rattle.hib_base.specs.Tables.{Tables, in_order}
 use Rattle.hib_journal.specs.Types.{Key, Row, Change}
 use Rattle.hib_query_eval.specs.Met.{met}

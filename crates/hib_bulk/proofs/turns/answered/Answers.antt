@@ -1,4 +1,4 @@
-use Rattle.std.proofs.Common.{◌+◌, length, sym, subst}
+use Rattle.std.proofs.Common.{sym, subst}
 use Rattle.hib_session.specs.Session.{number_of}
 use Rattle.hib_bulk.specs.Kept.{past}
 use Rattle.hib_bulk.specs.Standing.{IsReady, IsTold}

@@ -1,12 +1,12 @@
-use Rattle.std.proofs.Common.{◌≡◌, ◌∷◌, Some, true, false, sym, ap, ◌∙◌, subst}
+use Rattle.std.proofs.Common.{◌≡◌, Some, true, sym, ◌∙◌, subst}
 use Rattle.std.proofs.lemmas.Bool.{false≢true}
 use Rattle.hib_base.specs.declared.scripts.Script.{Script}
 use Rattle.hib_base.specs.declared.entries.Entry.{Entry}
-use Rattle.hib_journal.specs.Sessions.{Journal, own}
+use Rattle.hib_journal.specs.Sessions.{own}
 use Rattle.hib_session.specs.Session.{Follows, IsTaken, number_of}
 use Rattle.hib_session.specs.Memory.{brings}
 use Rattle.hib_engines.proofs.Outcomes.{err_all}
-use Rattle.hib_bulk_law.specs.Plain.{Bulked, plain}
+use Rattle.hib_bulk_law.specs.Plain.{plain}
 use Rattle.hib_bulk.specs.Kept.{past}
 use Rattle.hib_bulk.specs.Run.{plain_entry}
 use Rattle.hib_bulk.proofs.Moved.{entry_is, leaves_of, brings_so}

@@ -1,4 +1,4 @@
-use Rattle.std.proofs.Common.{◌≡◌, ◌+◌, ◌∷◌, length, sym, ap, ◌∙◌, subst}
+use Rattle.std.proofs.Common.{◌≡◌, ◌∷◌, ap, ◌∙◌, subst}
 use Rattle.hib_bulk.specs.Types.{BulkAct, BulkReply, BulkEntry}
 use Rattle.hib_bulk_law.specs.Plain.{Bulked}
 use Rattle.hib_bulk.specs.Kept.{past}

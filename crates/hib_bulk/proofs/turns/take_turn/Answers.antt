@@ -1,4 +1,4 @@
-use Rattle.std.proofs.Common.{◌≡◌, sym, ◌∙◌, subst}
+use Rattle.std.proofs.Common.{sym, ◌∙◌}
 use Rattle.hib_bulk.specs.Kept.{past}
 use Rattle.hib_bulk.specs.Run.{IsTurn, IsSwept}
 use Rattle.hib_bulk.proofs.Moved.{turn_of, old_of, moves_of}

@@ -1,4 +1,4 @@
-use Rattle.std.proofs.Common.{◌+◌, length, Some, refl, sym, subst}
+use Rattle.std.proofs.Common.{Some, refl, sym, subst}
 use Rattle.hib_journal.specs.Types.{Part, Act}
 use Rattle.hib_journal.specs.Lists as Lists
 use Rattle.hib_engines.specs.Registry.{IsRegistry}

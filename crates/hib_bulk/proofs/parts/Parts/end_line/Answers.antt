@@ -1,4 +1,4 @@
-use Rattle.std.proofs.Common.{refl, sym, ap, subst, ◌∙◌}
+use Rattle.std.proofs.Common.{refl, sym, subst}
 use Rattle.hib_journal.specs.Types.{Act, Reply}
 use Rattle.hib_bulk.specs.Types.{BulkAct, BulkReply}
 use Rattle.hib_bulk.specs.Standing.{PartsState, IsAnswered}

@@ -1,7 +1,7 @@
-use Rattle.std.proofs.Common.{◌≡◌, Some, refl, sym, ap, ◌∙◌, subst}
+use Rattle.std.proofs.Common.{◌≡◌, refl, sym, subst}
 use Rattle.hib_journal.specs.Types.{Act}
-use Rattle.hib_bulk.specs.Types.{BulkAct, BulkReply}
-use Rattle.hib_bulk.specs.Standing.{PartsState, IsAnswered}
+use Rattle.hib_bulk.specs.Types.{BulkAct}
+use Rattle.hib_bulk.specs.Standing.{IsAnswered}
 use Rattle.hib_bulk.specs.Run.{IsLineTurn}
 use Rattle.hib_engines.proofs.Outcomes.{map_ok}
 use Rattle.hib_bulk.proofs.Lined.{own_else}

@@ -1,11 +1,11 @@
-use Rattle.std.proofs.Common.{◌≡◌, Some, refl, sym, ap, subst, ◌∙◌}
+use Rattle.std.proofs.Common.{Some, refl, sym, ap, subst, ◌∙◌}
 use Rattle.hib_journal.specs.Types.{Part}
-use Rattle.hib_journal.specs.Sessions.{same_part, own}
+use Rattle.hib_journal.specs.Sessions.{same_part}
 use Rattle.hib_bulk_law.specs.Plain.{plain}
 use Rattle.hib_engines.proofs.Outcomes.{map_ok, map_on}
 use Rattle.hib_engines.proofs.Brought.{brings_none, store_reads, ok_all}
 use Rattle.hib_bulk.specs.Standing.{PartsState, IsReady, IsStill}
-use Rattle.hib_bulk.proofs.Kept.{of_none, still_same}
+use Rattle.hib_bulk.proofs.Kept.{of_none}
 use Rattle.hib_bulk.proofs.Replies.{quiet}
 use Rattle.hib_bulk.proofs.Answered.{registry_answered, store_answered, store_stands, stamps_answered, results_answered}
 use Rattle.hib_bulk.proofs.parts.Parts.serve.Goals as goal

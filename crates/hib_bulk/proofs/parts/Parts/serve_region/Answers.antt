@@ -1,17 +1,16 @@
-use Rattle.std.proofs.Common.{rules, vec_len, get_or, ◌≡◌, ◌<◌, ◌≤◌, ℕ, true, false, List, length, Some, None, refl, sym, ap, subst, ◌∙◌}
+use Rattle.std.proofs.Common.{rules, vec_len, get_or, ◌≡◌, ◌<◌, ◌≤◌, ℕ, false, List, length, None, refl, sym, ap, subst, ◌∙◌}
 use Rattle.std.proofs.lemmas.List.{places, set-get_or}
 use Rattle.std.proofs.lemmas.Option.{none-some, same_Some}
 use Rattle.std.specs.Prelude.{slice_set}
 use Rattle.hib_journal.specs.Sessions.{time}
 use Rattle.hib_bulk_law.specs.Plain.{plain}
 use Rattle.hib_engines.specs.Registry.{time_of}
-use Rattle.hib_engines.proofs.Outcomes.{both_ok, map_on, map_ok}
+use Rattle.hib_engines.proofs.Outcomes.{both_ok, map_on}
 use Rattle.hib_bulk.specs.declared.region.Region.{Region}
-use Rattle.hib_bulk.specs.Changed.{is_fault}
 use Rattle.hib_bulk.specs.Regions.{region_of, has_old_in, IsPlaced}
 use Rattle.hib_bulk.specs.Standing.{PartsState, IsReady}
 use Rattle.hib_bulk.proofs.RegionList.{none_past, region_at, region_put, at_region}
-use Rattle.hib_bulk.proofs.Placed.{WideAnswers, WideGrows, IsRegional, regional, calm_in, none_due, brings_rest}
+use Rattle.hib_bulk.proofs.Placed.{WideAnswers, WideGrows, IsRegional, regional, none_due, brings_rest}
 use Rattle.hib_bulk.proofs.Answered.{time_known, regional_of, region_answered}
 use Rattle.hib_bulk.proofs.parts.Parts.serve_region.Goals as goal
 

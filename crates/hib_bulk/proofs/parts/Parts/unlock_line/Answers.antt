@@ -1,4 +1,4 @@
-use Rattle.std.proofs.Common.{◌+◌, length, refl, sym, subst, ◌∙◌, ◌≡◌, ap}
+use Rattle.std.proofs.Common.{refl, sym, subst, ◌≡◌}
 use Rattle.hib_bulk.specs.Types.{BulkAct}
 use Rattle.hib_bulk.specs.Regions.{region_of, unlocked_all}
 use Rattle.hib_bulk.specs.Standing.{IsAnswered}
