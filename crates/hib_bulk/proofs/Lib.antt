@@ -9,3 +9,4 @@ mod Lined
 mod LineTurn
 mod Stepped
 mod Obeyed
+mod Begun

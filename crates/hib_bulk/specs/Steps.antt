@@ -27,3 +27,7 @@ pub record Adds (script : Script) (lines : List BulkDef) (s : ℕ) (h new : Bulk
   pub grown : new ≡ entry ∷ h
   pub due : next script lines h s ≡ Some entry.act
   pub others : (n : ℕ) → (s == n) ≡ false → own n (plain new) ≡ own n (plain h)
+
+-- a line that has done nothing
+abbrev pub fresh : BulkDef → Progress
+fresh d = record { steps = 0; failed = false }

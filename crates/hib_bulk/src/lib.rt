@@ -6,6 +6,7 @@ mod factory;
 mod journal;
 mod lines;
 mod names;
+mod opening;
 mod parts;
 mod region;
 mod steps;
