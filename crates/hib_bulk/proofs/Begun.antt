@@ -3,7 +3,7 @@ use Rattle.std.proofs.Common.{◌≡◌, ℕ, zero, suc, ◌+◌, ◌<◌, ◌�
 use Rattle.std.proofs.lemmas.List.{length-map, length-replicate}
 use Rattle.std.proofs.lemmas.Option.{none-some, same_Some}
 use Rattle.std.specs.Prelude.{slice_get}
-use Rattle.std.specs.Option.{option_map, option_map_or}
+use Rattle.std.specs.Option.{option_map_or}
 use Rattle.hib_base.specs.Tables.{Tables, in_order}
 use Rattle.hib_journal.specs.Types.{Script, Strategy, EntityDef}
 use Rattle.hib_journal.specs.Next.{strategy, strategy_in, capacity, is_cached_by}
@@ -18,14 +18,12 @@ use Rattle.hib_engines.specs.Registry.{IsRegistry}
 use Rattle.hib_engines.proofs.Bridge.{bridged_begins}
 use Rattle.hib_engines.proofs.Opened.{registry_begins}
 use Rattle.hib_store.specs.Stores.{changes_in}
-use Rattle.hib_bulk_law.specs.Rows.{committed}
 use Rattle.hib_bulk_region.specs.Laws as Wide
 use Rattle.hib_bulk.specs.Types.{BulkDef}
-use Rattle.hib_bulk.specs.declared.region.Region.{Region}
 use Rattle.hib_bulk.specs.declared.lines.Progress.{Progress}
 use Rattle.hib_bulk.specs.Regions.{region_of, opened, IsPlaced}
 use Rattle.hib_bulk.specs.Standing.{PartsState, AreStanding, told_committed}
-use Rattle.hib_bulk.specs.Run.{IsRun, IsLine, AreBuilt}
+use Rattle.hib_bulk.specs.Run.{IsLine, AreBuilt}
 use Rattle.hib_bulk.specs.Steps.{AreSessions, AreLines, fresh}
 use Rattle.hib_bulk.specs.Factory.{FactoryState, IsStanding}
 use Rattle.hib_bulk.specs.Kept.{past}

@@ -12,7 +12,7 @@ use Rattle.hib_bulk.specs.Standing.{PartsState}
 use Rattle.hib_bulk.specs.Run.{IsRun, Obeys}
 
 pub obeys : ((script : Script) (lines : List BulkDef) (start : Tables) (k : Key) → strategy script k.entity ≡ Strategy.ReadWrite → in_order start ≡ true → (h : Bulked) → IsLegal script lines (Some start) h →
-      IsKeyCoherent script lines start k h) →
+    IsKeyCoherent script lines start k h) →
     ((script : Script) (lines : List BulkDef) (start : Tables) (h : Bulked) → IsLegal script lines (Some start) h → AtEachEntry (IsLoadView script lines start) h) →
     ((script : Script) (lines : List BulkDef) (told : Option Tables) (h : Bulked) → IsLegal script lines told h → AreInOrder script lines h) →
     (script : Script) (lines : List BulkDef) (from : Origin) (h : Bulked) (x : PartsState) → IsRun script lines from h x → Obeys script lines from.tables h

@@ -205,8 +205,8 @@ regional w g script lines told h s now n begun a r (Region.ReadWrite x) y late e
     let k = keyed (key_in a) n e in
     let t : IsServedBy script lines h s now n x begun a =
     subst (λ i. IsServedBy script lines h s now i x begun a) k.2 (
-      served_at w g script lines h s now x begun late a k.0 k.1 b (subst (λ i. IsOfEntity script i x h) (sym k.2) p)
-      (subst (λ i. Suits (strategy script i) a) (sym k.2) u) o
+    served_at w g script lines h s now x begun late a k.0 k.1 b (subst (λ i. IsOfEntity script i x h) (sym k.2) p)
+    (subst (λ i. Suits (strategy script i) a) (sym k.2) u) o
     ) in
     subst (λ z. IsRegional script lines told h s now n a r z) (sym v) (subst (λ z. IsRegional script lines told h s now n a z (Region.ReadWrite (state_after x begun now a))) (sym q) (record {
       reply = kind_due script lines told h s now a (answer_by x begun now a) k.0 k.1 t.reply;

@@ -38,12 +38,7 @@ fn set_cells(alloc: Global, cells: &mut [Cell], sets: &[(u16, Cell)]) -> Result<
 }
 
 /// A row's change by a line: an update to the row with the cells set and the next version, or a delete.
-fn change_of(
-    alloc: Global,
-    change: &BulkChange,
-    key: Key,
-    row: &Row,
-) -> Result<Change, AllocError>
+fn change_of(alloc: Global, change: &BulkChange, key: Key, row: &Row) -> Result<Change, AllocError>
     ensures { IfOk result (λ c. c
         ≡ change_to (row_after change.now row.now) key row.now.version) }
 {

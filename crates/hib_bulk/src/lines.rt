@@ -91,7 +91,11 @@ fn has_failed(act: &BulkAct, reply: &BulkReply) -> bool
 fn outcome(failed: bool) -> Outcome
     ensures { result ≡ outcome_of failed }
 {
-    if failed { Outcome::Fault } else { Outcome::Committed }
+    if failed {
+        Outcome::Fault
+    } else {
+        Outcome::Committed
+    }
 }
 
 impl<K: Keeper> Parts<K> {

@@ -1,4 +1,4 @@
-use Rattle.std.proofs.Common.{◌≤◌, ℕ, [], length, map, ap, sym, ◌∙◌, subst}
+use Rattle.std.proofs.Common.{◌≤◌, ℕ, [], length, map, ap, ◌∙◌, subst}
 use Rattle.hib_base.specs.declared.scripts.Script.{Script}
 use Rattle.hib_base.specs.Tables.{Tables}
 use Rattle.std.specs.Prelude.{Option}
@@ -28,4 +28,5 @@ invariant_of-result g c =
           (subst (λ (n : ℕ). n ≤ parts.store.faults) (ap (λ (o : Origin). o.faults) from) c.in_ok-parts.ensures.faults)
           (c.in_ok-parts.ensures.entities ∙ ap (λ (s : Script). length s.mapping) q)
           (sessions_begin script xs (subst (λ (s : Script). Plainly.AreSessions s [] xs) q c.in-Ok.ensures))
-          (c.in-Ok-open_lines.ensures ∙ ap (map fresh) (c.deref.ensures.value ∙ c.requires.lines)))
+          (c.in-Ok-open_lines.ensures ∙ ap (map fresh) (c.deref.ensures.value ∙ c.requires.lines)),
+    )
