@@ -11,12 +11,7 @@ use std::alloc::{AllocError, Global};
 
 /// Whether a row is one of an entity and meets a condition.
 #[inline]
-fn is_met(
-    entity: EntityNo,
-    condition: &Option<Cond>,
-    view: &View<'_>,
-    row: &(Key, Row),
-) -> bool
+fn is_met(entity: EntityNo, condition: &Option<Cond>, view: &View<'_>, row: &(Key, Row)) -> bool
     ensures { result ≡ meets entity condition.now view.now row.now }
 {
     row.0.entity == entity && conditions::meets(view, &row.1, condition)
