@@ -9,7 +9,7 @@ ghost use Rattle.hib_journal.specs.Held.{is_begin};
 ghost use Rattle.hib_journal.specs.Sessions.{Journal};
 ghost use Rattle.hib_journal.specs.Lists.{entry_at, IsLate};
 ghost use Rattle.hib_journal.specs.Runs.{is_fault};
-ghost use Rattle.hib_engines.specs.Registry.{Each, floor_in, without, holds, IsRegistry};
+ghost use Rattle.hib_engines.specs.Registry.{Each, floor_in, without, time_of, holds, IsRegistry};
 ghost use Rattle.hib_engines.specs.Served.{IsServed};
 
 use hib_base::{Act, Reply, SessionNo, Tick};
@@ -123,6 +123,13 @@ impl Registry {
         ensures { result ≡ holds session self.now }
     {
         self.times.contains_key(&session)
+    }
+
+    /// When an open session began; none if it isn't open.
+    pub fn time(&self, session: SessionNo) -> Option<Tick>
+        ensures { result ≡ time_of self.now session }
+    {
+        self.times.get(&session).copied()
     }
 
     /// The open sessions, each once, in no order.

@@ -1,22 +1,25 @@
 // The engine of the store.
-ghost use Rattle.std.specs.Prelude.{◌≡◌, ◌≢◌, ◌≤◌, ◌∷◌, ℕ, [], Option, None, false, true, IfOk, IfErr, OnOk, OnErr, cond};
+ghost use Rattle.std.specs.Prelude.{◌≡◌, ◌≢◌, ◌≤◌, ◌∷◌, ℕ, [], Option, None, false, true, map, is_some, Ok, IfOk, IfErr, IfSome, OnOk, OnErr, cond};
 ghost use Rattle.std.specs.Option.{option_map};
 ghost use Rattle.hib_base.specs.Start.{start};
-ghost use Rattle.hib_base.specs.Tables.{Tables};
+ghost use Rattle.hib_base.specs.Tables.{Tables, in_order, commit_answer};
 ghost use Rattle.hib_base.specs.declared.entries.Act.{Act};
 ghost use Rattle.hib_base.specs.declared.replies.Reply.{Reply};
 ghost use Rattle.hib_base.specs.declared.scripts.Script.{Script as Said};
-ghost use Rattle.hib_journal.specs.Types.{Part};
+ghost use Rattle.hib_journal.specs.Types.{Part, Commit};
 ghost use Rattle.hib_journal.specs.Sessions.{Journal};
 ghost use Rattle.hib_journal.specs.Lists.{entry_at};
 ghost use Rattle.hib_journal.specs.Runs.{is_fault, asks};
 ghost use Rattle.hib_outside.specs.Causes.{Rose};
-ghost use Rattle.hib_store.specs.Stores.{changes_of, handed_back, is_store_fault};
+ghost use Rattle.hib_query_eval.specs.Met.{met};
+ghost use Rattle.hib_store.specs.Stores.{changes_of, handed_back, is_store_fault, tables_committed, MeetsBelow};
 ghost use Rattle.hib_engines.specs.Counts.{RoseWithin};
 ghost use Rattle.hib_engines.specs.Served.{is_for, HasQuery, reads};
 ghost use Rattle.hib_engines.specs.Store.{IsStored, IsStoreServed, IsCounted, reply_of_loaded, reply_of_listed};
 
-use hib_base::{Act, Change, Key, Mapping, QueryNo, Reply, Row, Script, SessionNo};
+use hib_base::{
+    Act, Change, Commit, Cond, EntityNo, Key, Mapping, QueryNo, Reply, Row, Script, SessionNo,
+};
 use hib_outside::Keeper;
 use hib_store::{Listed, Loaded, OpenFault, Store};
 use std::alloc::{AllocError, Global};
@@ -72,6 +75,8 @@ impl<K: Keeper> StoreEngine<K> {
         ensures faults { IfOk result (λ s. K.faults keeper ≤ s.faults) }
         ensures asked { IfOk result (λ s. s.asked ≡ K.asked keeper) }
         ensures written { IfOk result (λ s. s.written ≡ []) }
+        ensures entities { IfOk result (λ s. s.entities ≡ entities) }
+        ensures ordered { IfOk result (λ s. IfSome s.tables (λ m. in_order m ≡ true)) }
         ensures back { IfErr result (λ e. K.tables (handed_back e) ≡ K.tables keeper) }
         ensures back_faults { IfErr result (λ e. K.faults keeper ≤ K.faults (handed_back e)) }
         ensures back_asked { IfErr result (λ e. K.asked (handed_back e) ≡ K.asked keeper) }
@@ -103,6 +108,7 @@ impl<K: Keeper> StoreEngine<K> {
         ensures fault { IfOk result (λ r. is_fault r ≡ true
             → Rose self.old.faults self.new.faults) }
         ensures faults { self.old.faults ≤ self.new.faults }
+        ensures entities { self.new.entities ≡ self.old.entities }
         ensures still { IsCounted self.old self.new }
     {
         let loaded = self.store.load(alloc, session, key)?;
@@ -125,6 +131,7 @@ impl<K: Keeper> StoreEngine<K> {
         ensures fault { IfOk result (λ r. is_fault r ≡ true
             → Rose self.old.faults self.new.faults) }
         ensures faults { self.old.faults ≤ self.new.faults }
+        ensures entities { self.new.entities ≡ self.old.entities }
         ensures still { IsCounted self.old self.new }
     {
         let Some(query) = script.queries.as_slice().get(query.0 as usize) else {
@@ -149,6 +156,7 @@ impl<K: Keeper> StoreEngine<K> {
         ensures calm { IfOk result (λ r. is_fault r ≡ false) }
         ensures faults { self.new.faults ≡ self.old.faults }
         ensures asked { self.new.asked ≡ self.old.asked }
+        ensures entities { self.new.entities ≡ self.old.entities }
         ensures err { OnErr result (self.new ≡ self.old) }
     {
         let change = change.copy(alloc)?;
@@ -166,6 +174,7 @@ impl<K: Keeper> StoreEngine<K> {
         ensures fault { IfOk result (λ r. is_fault r ≡ true
             → Rose self.old.faults self.new.faults) }
         ensures faults { self.old.faults ≤ self.new.faults }
+        ensures entities { self.new.entities ≡ self.old.entities }
         ensures err { OnErr result (IsCounted self.old self.new) }
     {
         let commit = self.store.commit(alloc, session)?;
@@ -178,6 +187,7 @@ impl<K: Keeper> StoreEngine<K> {
             → IsStored told l self.old → IsStoreServed script told l now session Act.Rollback result
             self.new }
         ensures calm { is_fault result ≡ false }
+        ensures entities { self.new.entities ≡ self.old.entities }
         ensures faults { self.new.faults ≡ self.old.faults }
         ensures asked { self.new.asked ≡ self.old.asked }
     {
@@ -203,6 +213,7 @@ impl<K: Keeper> StoreEngine<K> {
         ensures fault { IfOk result (λ r. is_fault r ≡ true
             → Rose self.old.faults self.new.faults) }
         ensures faults { self.old.faults ≤ self.new.faults }
+        ensures entities { self.new.entities ≡ self.old.entities }
         // A load and a list change nothing but the keeper's counts.
         ensures still { OnOk result (reads act.now ≡ true → IsCounted self.old self.new) }
         ensures err { OnErr result (IsCounted self.old self.new) }
@@ -216,6 +227,49 @@ impl<K: Keeper> StoreEngine<K> {
             // No other act is asked of the store.
             _ => Ok(Reply::Done),
         }
+    }
+
+    /// Makes the index of the committed rows of the first entities, unless it stands. False only if the keeper failed; if the answer
+    /// is true the index stands. Nothing else changes, but for the keeper's counts.
+    pub fn ready_index(&mut self, alloc: Global) -> Result<bool, AllocError>
+        ensures indexed { IfOk result (λ b. b ≡ self.new.indexed) }
+        ensures fault { result ≡ Ok false → Rose self.old.faults self.new.faults }
+        ensures entities { self.new.entities ≡ self.old.entities }
+        ensures still { IsCounted self.old self.new }
+    {
+        self.store.ready_index(alloc)
+    }
+
+    /// The committed rows of an entity that meet a condition, if there is one, in order of keys. The entity, and those to which the
+    /// condition steps, are among the first. None exactly if the index of their rows doesn't stand. Fails for want of memory alone.
+    pub fn rows_met(
+        &self,
+        alloc: Global,
+        entity: EntityNo,
+        condition: &Option<Cond>,
+    ) -> Result<Option<Vec<&(Key, Row)>>, AllocError>
+        requires { MeetsBelow self.now.entities entity condition.now }
+        ensures met { IfOk result (λ o. IfSome o (λ v. IfSome self.now.tables
+            (λ m. map (λ r. r.now) v.items ≡ met entity condition.now m))) }
+        ensures none { IfOk result (λ o. is_some o ≡ self.now.indexed) }
+        ensures ordered { IfSome self.now.tables (λ m. in_order m ≡ true) }
+    {
+        self.store.rows_met(alloc, entity, condition)
+    }
+
+    /// Applies changes that no session has written to the committed rows, all of them or none. What sessions have written stays.
+    /// Committed changes the rows, and any other answer leaves them. A fault is answered only if the keeper failed in this call.
+    pub fn apply(&mut self, alloc: Global, changes: &[Change]) -> Result<Commit, AllocError>
+        ensures answer { IfOk result (λ answer. answer ≢ Commit.Fault → IfSome self.old.tables
+            (λ m. answer ≡ commit_answer changes.now m)) }
+        ensures tables { self.new.tables ≡ tables_committed result changes.now self.old.tables }
+        ensures written { self.new.written ≡ self.old.written }
+        ensures fault { result ≡ Ok Commit.Fault → Rose self.old.faults self.new.faults }
+        ensures faults { self.old.faults ≤ self.new.faults }
+        ensures asked { self.new.asked ≡ self.old.asked }
+        ensures entities { self.new.entities ≡ self.old.entities }
+    {
+        self.store.apply(alloc, changes)
     }
 
     /// A session was killed: what it has written and not committed is dropped. It takes no memory.

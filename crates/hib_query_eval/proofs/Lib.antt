@@ -11,3 +11,4 @@ pub mod Views
 pub mod Searched
 pub mod Enough
 pub mod Lowest
+pub mod Mets

@@ -7,3 +7,4 @@ pub mod Found
 pub mod Reads
 pub mod Applies
 pub mod Views
+pub mod Met

@@ -1,13 +1,14 @@
 // Rows, found by their cells.
-ghost use Rattle.std.specs.Prelude.{◌≡◌, ◌≢◌, true, IfOk, MatchOption};
+ghost use Rattle.std.specs.Prelude.{◌≡◌, ◌≢◌, true, map, IfOk, MatchOption};
 ghost use Rattle.hib_base.specs.Tables.{in_order, after_changes, commit_answer};
 ghost use Rattle.hib_journal.specs.Query.{gives};
 ghost use Rattle.hib_journal.specs.Types.{Commit};
+ghost use Rattle.hib_query_eval.specs.Met.{met};
 
 use crate::places::Place;
 use crate::view::View;
-use crate::{changing, listing, reading, searches};
-use hib_base::{Change, Key, Listing, Query, Row, Rows};
+use crate::{changing, listing, met, reading, searches};
+use hib_base::{Change, Cond, EntityNo, Key, Listing, Query, Row, Rows};
 use std::alloc::{AllocError, Global};
 use std::collections::BTreeSet;
 use std::marker::Model;
@@ -77,5 +78,19 @@ impl Index {
         let view = View::over(alloc, rows, changes)?;
         let met = searches::listed(alloc, query, rows, &self.places, changes, &view)?;
         listing::selected(alloc, query, &met)
+    }
+
+    /// The rows of an entity that meet a condition, if there is one. Fails for want of memory alone.
+    pub fn rows_met(
+        &self,
+        alloc: Global,
+        entity: EntityNo,
+        condition: &Option<Cond>,
+    ) -> Result<Vec<&(Key, Row)>, AllocError>
+        ensures ordered { in_order self.now ≡ true }
+        ensures met { IfOk result (λ v. map (λ r. r.now) v.items
+            ≡ met entity condition.now self.now) }
+    {
+        met::rows_met(alloc, entity, condition, self.rows.as_slice())
     }
 }

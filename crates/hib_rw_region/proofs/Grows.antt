@@ -47,7 +47,7 @@ module _ (state : RegionState) (k : Key) (h : Journal) (e : Entry) (a : Act) (r 
   hist_now = touched_by k h e a r next.act next.reply names goes
 
   -- nothing happens
-  same_region : touch_here a r ≡ None → evicted_in r ≡ None → IsRegion state k.entity (e ∷ h)
+  pub same_region : touch_here a r ≡ None → evicted_in r ≡ None → IsRegion state k.entity (e ∷ h)
   same_region p q = region state k.entity (e ∷ h)
       (standing_for state.timeout (last_of k.entity (e ∷ h)) state.slots (hist_of k.entity h) (hist_of k.entity (e ∷ h)) (λ i. hist_now i ∙ ap (λ o. option_map_or (λ t. (t, e.tick) ∷ (hist_of k.entity h i)) o (hist_of k.entity h i)) (quiet k.id i a r p q))
       (subst (IsStanding state.timeout state.slots (hist_of k.entity h)) (sym last_now) (standing_later state.timeout (last_of k.entity h) e.tick state.slots (hist_of k.entity h) (omega (arith, last_before)) before)))
@@ -101,7 +101,7 @@ module _ (state : RegionState) (k : Key) (h : Journal) (e : Entry) (a : Act) (r 
       by (Some t) p = refl
 
   -- a release of a slot that is held
-  released_region : (s : Kept) (n : ℕ) → kept_in state k.id ≡ Some s → IsFor (Touch.Releases n) (shown s) → touch_here a r ≡ Some (Touch.Releases n) → evicted_in r ≡ None → IsRegion (with_release k.id e.tick state) k.entity (e ∷ h)
+  pub released_region : (s : Kept) (n : ℕ) → kept_in state k.id ≡ Some s → IsFor (Touch.Releases n) (shown s) → touch_here a r ≡ Some (Touch.Releases n) → evicted_in r ≡ None → IsRegion (with_release k.id e.tick state) k.entity (e ∷ h)
   released_region s n there for here evicted =
       subst (λ o. IsRegion (record state { slots = changed_by k.id (released e.tick) state.slots o }) k.entity (e ∷ h)) (sym there)
       (touched_region None (Touch.Releases n) (released e.tick s) refl here evicted
@@ -109,7 +109,7 @@ module _ (state : RegionState) (k : Key) (h : Journal) (e : Entry) (a : Act) (r 
       (shown_released state.timeout n e.tick s for ∙ ap (λ o. touched state.timeout (Touch.Releases n) e.tick (shown_in o)) (sym there))
       (sym (there_place (ap is_some there))))
 
-  expired_region : touch_here a r ≡ Some Touch.Expires → evicted_in r ≡ None → IsRegion (with_slot k.id (barred e.tick (e.tick + state.timeout)) state) k.entity (e ∷ h)
+  pub expired_region : touch_here a r ≡ Some Touch.Expires → evicted_in r ≡ None → IsRegion (with_slot k.id (barred e.tick (e.tick + state.timeout)) state) k.entity (e ∷ h)
   expired_region here evicted = touched_region None Touch.Expires (barred e.tick (e.tick + state.timeout)) refl here evicted tt refl refl
 
 -- what an answer says of the slot
@@ -230,7 +230,7 @@ lock_grows h e state k version floor next =
 
 -- an answer that releases is of a slot with one holder more
 
-unlock_held : (o : Option Kept) (lock n : ℕ) → Regions.unlock (shown_in o) lock ≡ Unlocked.Released n → (s : Kept) × (o ≡ Some s) × IsFor (Touch.Releases n) (shown s)
+pub unlock_held : (o : Option Kept) (lock n : ℕ) → Regions.unlock (shown_in o) lock ≡ Unlocked.Released n → (s : Kept) × (o ≡ Some s) × IsFor (Touch.Releases n) (shown s)
 unlock_held None lock n p = absurd (none p)
   where
     none : Unlocked.Expired ≡ Unlocked.Released n → ⊥

@@ -30,6 +30,11 @@ kept_in state id = lookup (nat_eq id) state.slots
 abbrev pub slot_in : RegionState → ℕ → Slot
 slot_in state id = shown_in (kept_in state id)
 
+-- when an item was stored; none if there is no item
+abbrev pub stamp_in : Slot → Option ℕ
+stamp_in (Slot.Item r t) = Some t
+stamp_in _ = None
+
 -- the first key in order that may leave
 abbrev pub victim_in : ℕ → Slots → Option ℕ
 victim_in floor slots = first_key (filter (λ p. may_leave floor (shown p.1)) slots)

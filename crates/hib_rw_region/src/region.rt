@@ -5,7 +5,7 @@ ghost use Rattle.hib_journal.specs.Regions as Regions;
 ghost use Rattle.hib_journal.specs.Room.{has_entry};
 ghost use Rattle.hib_soft_lock.specs.Steps.{holders_in};
 ghost use Rattle.hib_room_laws.specs.Answers.{got_reply};
-ghost use Rattle.hib_rw_region.specs.Region.{kept_in, slot_in, room_in};
+ghost use Rattle.hib_rw_region.specs.Region.{kept_in, slot_in, stamp_in, room_in};
 ghost use Rattle.hib_rw_region.specs.Steps.{empty, with_slot, without, new_item, barred, after_put, after_insert as inserted, after_lock, after_unlock, after_update as updated, after_evict, after_clear};
 
 use crate::slots;
@@ -59,6 +59,16 @@ impl RwRegion {
             None => Got::Miss(Miss::Absent),
             Some(Slot::Item { row, stamp }) if *stamp < time => Got::Hit(row),
             Some(slot) => Got::Miss(slot.miss()),
+        }
+    }
+
+    /// When the item of an identifier was stored; none if it has no item.
+    pub fn stamp(&self, id: u64) -> Option<Tick>
+        ensures { result ≡ stamp_in (slot_in self.now id) }
+    {
+        match self.slots.get(&id) {
+            Some(Slot::Item { stamp, .. }) => Some(*stamp),
+            _ => None,
         }
     }
 

@@ -10,9 +10,11 @@ use Rattle.hib_outside.proofs.Orders.{in_order_changes}
 use Rattle.hib_journal.specs.Query.{reads, gives, mentions}
 use Rattle.hib_journal.specs.Room.{key}
 use Rattle.hib_journal.proofs.Untouched.{gives_alike}
+use Rattle.hib_query_eval.specs.Met.{met}
+use Rattle.hib_query_eval.proofs.Mets.{met_alike}
 use Rattle.hib_query_eval.proofs.Laid.{kept, row_at_kept, in_order_kept, same_tables, row_at_with_absent}
-use Rattle.hib_store.specs.Types.{Key, Change, Commit, Query}
-use Rattle.hib_store.specs.Stores.{AreOf, IsIndexed, IsListed, if_applied, index_left, tables_answered}
+use Rattle.hib_store.specs.Types.{Key, Change, Commit, Cond, Query}
+use Rattle.hib_store.specs.Stores.{AreOf, IsIndexed, IsListed, MeetsBelow, if_applied, index_left, tables_answered}
 use Rattle.hib_store.specs.declared.store.Listed.{Listed}
 use Rattle.hib_journal.specs.Types.{Cell}
 
@@ -104,3 +106,26 @@ pub listed_of : (n : ℕ) (q : Query) (cs : List Change) (rows : Tables) (told :
     → IfSome told (λ m. AreOf n rows m) → ((k : ℕ) → reads q k ≡ true → k < n) → cells ≡ gives q (after_changes cs rows) → IsListed told cs q (Listed.List cells)
 listed_of n q cs rows None cells o p a f e = tt
 listed_of n q cs rows (Some m) cells o p a f e = e ∙ gives_of n q cs rows m p o a f
+
+-- the rows of an entity that meet a condition which steps only to the first entities are the same over their rows
+pub met_of : (n e : ℕ) (c : Option Cond) (rows m : Tables) → in_order rows ≡ true → in_order m ≡ true → AreOf n rows m → MeetsBelow n e c → met e c rows ≡ met e c m
+met_of n e c rows m o p a f =
+    met_alike e c rows m
+    (same_tables (kept own rows) (kept own m) (in_order_kept own rows o) (in_order_kept own m p)
+    (λ k. row_at_kept own rows k ∙ at k (tested (k.entity == e)) ∙ sym (row_at_kept own m k)))
+    (λ k i t. a (key k i) (f k (or_right (e == k) (option_map_or (mentions k) c false) t)))
+  where
+    own : ℕ → Bool
+    own k = k == e
+
+    at : (k : Key) → Tested (k.entity == e) → cond (k.entity == e) (row_at rows k) None ≡ cond (k.entity == e) (row_at m k) None
+    at k (inl s) =
+        let q : e ≡ k.entity = sym (eqb-true k.entity e s) in
+        ap (λ o. cond (k.entity == e) o None) (a k (f k.entity (or_left (e == k.entity) (option_map_or (mentions k.entity) c false) (eq-eqb e k.entity q))))
+    at k (inr s) = rw s refl
+
+-- and so they are if the keeper tells its rows
+pub met_told : (n e : ℕ) (c : Option Cond) (rows found : Tables) (told : Option Tables) → IfSome told (λ m. in_order m ≡ true) → in_order rows ≡ true → IfSome told (λ m. AreOf n rows m)
+    → MeetsBelow n e c → found ≡ met e c rows → IfSome told (λ m. found ≡ met e c m)
+met_told n e c rows found None o p a f g = tt
+met_told n e c rows found (Some m) o p a f g = g ∙ met_of n e c rows m p o a f

@@ -1,13 +1,13 @@
 -- The store: what its keeper tells, and each session's written changes.
-use Rattle.std.specs.Prelude.{◌≡◌, ℕ, ◌<◌, IfSome, Bool, true, false, List, [], nat_eq, Some, None, Option, Result, Ok, Err}
+use Rattle.std.specs.Prelude.{◌≡◌, ℕ, ◌<◌, ◌==◌, ◌||◌, IfSome, Bool, true, false, List, [], nat_eq, Some, None, Option, Result, Ok, Err}
 use Rattle.std.specs.List.{list_any}
 use Rattle.std.specs.Map.{lookup}
-use Rattle.std.specs.Option.{option_map}
+use Rattle.std.specs.Option.{option_map, option_map_or}
 use Rattle.std.specs.declared.alloc.AllocError.{AllocError}
 use Rattle.hib_base.specs.Keys.{same_key}
 use Rattle.hib_base.specs.Tables.{Tables, row_at, after_changes, commit_answer, key_of}
-use Rattle.hib_journal.specs.Query.{gives, reads}
-use Rattle.hib_store.specs.Types.{Key, Change, Commit, Query}
+use Rattle.hib_journal.specs.Query.{gives, reads, mentions}
+use Rattle.hib_store.specs.Types.{Key, Change, Commit, Cond, Query}
 use Rattle.hib_store.specs.declared.asking.Loaded.{Loaded}
 use Rattle.hib_store.specs.declared.store.Listed.{Listed}
 use Rattle.hib_store.specs.declared.store.OpenFault.{OpenFault}
@@ -96,6 +96,10 @@ IsIndexed entities index told = IfSome index (λ rows. IfSome told (λ m. AreOf 
 -- a query reads only the first entities
 abbrev pub ReadsBelow : ℕ → Query → Type 0
 ReadsBelow entities q = (n : ℕ) → reads q n ≡ true → n < entities
+
+-- an entity, and those to which a condition steps, if there is one, are among the first
+abbrev pub MeetsBelow : ℕ → ℕ → Option Cond → Type 0
+MeetsBelow entities entity c = (n : ℕ) → ((entity == n) || option_map_or (mentions n) c false) ≡ true → n < entities
 
 abbrev pub if_applied : Commit → Tables → Option Tables
 if_applied Commit.Committed rows = Some rows

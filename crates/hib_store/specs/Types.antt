@@ -4,3 +4,4 @@ pub use Rattle.hib_base.specs.declared.rows.Row.{Row}
 pub use Rattle.hib_base.specs.declared.rows.Change.{Change}
 pub use Rattle.hib_base.specs.declared.replies.Commit.{Commit}
 pub use Rattle.hib_base.specs.declared.scripts.Query.{Query}
+pub use Rattle.hib_base.specs.declared.scripts.Cond.{Cond}

@@ -1,5 +1,5 @@
 // The store over a keeper.
-ghost use Rattle.std.specs.Prelude.{◌≡◌, ◌≢◌, ◌+◌, ◌≤◌, ℕ, [], ◌∷◌, ◌++◌, true, false, Ok, IfOk, IfErr, IfSome, OnOk, OnErr};
+ghost use Rattle.std.specs.Prelude.{◌≡◌, ◌≢◌, ◌+◌, ◌≤◌, ℕ, [], ◌∷◌, ◌++◌, true, false, map, is_some, Ok, IfOk, IfErr, IfSome, OnOk, OnErr};
 ghost use Rattle.std.specs.Option.{option_map};
 ghost use Rattle.hib_base.specs.Start.{start};
 ghost use Rattle.hib_base.specs.Tables.{Tables, row_at, row_left, last_on, after_changes, commit_answer, in_order};
@@ -8,7 +8,7 @@ ghost use Rattle.hib_outside.specs.Causes.{Rose};
 use crate::asking::{self, Loaded};
 use crate::written::Written;
 use crate::{queries, views, written};
-use hib_base::{Change, Commit, Key, Listing, Mapping, Query, Row, SessionNo};
+use hib_base::{Change, Commit, Cond, EntityNo, Key, Listing, Mapping, Query, Row, SessionNo};
 use hib_outside::{KeepFault, Keeper};
 use hib_query_eval::Index;
 use std::alloc::{AllocError, Global};
@@ -64,7 +64,8 @@ impl<K: Keeper> Model for Store<K> {
 }
 
 impl<K: Keeper> Store<K> {
-    ghost use Rattle.hib_store.specs.Stores.{changes_of, is_in, IsView, IsListed, ReadsBelow, StandsCommitted, names_change, tables_committed, handed_back, is_store_fault};
+    ghost use Rattle.hib_query_eval.specs.Met.{met};
+    ghost use Rattle.hib_store.specs.Stores.{changes_of, is_in, IsView, IsListed, ReadsBelow, MeetsBelow, StandsCommitted, names_change, tables_committed, handed_back, is_store_fault};
     ghost use Rattle.hib_store.specs.declared.asking.Loaded.{Loaded};
     ghost use Rattle.hib_store.specs.declared.store.Listed.{Listed};
     ghost use Rattle.hib_store.specs.Types.{Commit};
@@ -213,6 +214,39 @@ impl<K: Keeper> Store<K> {
         views::answered(alloc, &self.index, query, changes)
     }
 
+    /// Makes the index of the committed rows of the first entities, unless it stands. False only if the keeper failed; if the answer
+    /// is true the index stands. The keeper is asked at most once. At every answer and error the rows and the changes stay.
+    pub fn ready_index(&mut self, alloc: Global) -> Result<bool, AllocError>
+        ensures indexed { IfOk result (λ b. b ≡ self.new.indexed) }
+        ensures fault { result ≡ Ok false → Rose self.old.faults self.new.faults }
+        ensures faults { self.old.faults ≤ self.new.faults }
+        ensures asked { (self.old.asked ≤ self.new.asked) × (self.new.asked ≤ self.old.asked + 1) }
+        ensures tables { self.new.tables ≡ self.old.tables }
+        ensures written { self.new.written ≡ self.old.written }
+        ensures entities { self.new.entities ≡ self.old.entities }
+        ensures kept { self.old.indexed ≡ true → self.new ≡ self.old }
+    {
+        asking::make_index(alloc, &mut self.keeper, &mut self.index, self.entities)?;
+        Ok(self.index.is_some())
+    }
+
+    /// The committed rows of an entity that meet a condition, if there is one, in order of keys. The entity, and those to which the
+    /// condition steps, are among the first. None exactly if the index of their rows doesn't stand. Fails for want of memory alone.
+    pub fn rows_met(
+        &self,
+        alloc: Global,
+        entity: EntityNo,
+        condition: &Option<Cond>,
+    ) -> Result<Option<Vec<&(Key, Row)>>, AllocError>
+        requires { MeetsBelow self.now.entities entity condition.now }
+        ensures met { IfOk result (λ o. IfSome o (λ v. IfSome self.now.tables
+            (λ m. map (λ r. r.now) v.items ≡ met entity condition.now m))) }
+        ensures none { IfOk result (λ o. is_some o ≡ self.now.indexed) }
+        ensures ordered { IfSome self.now.tables (λ m. in_order m ≡ true) }
+    {
+        views::rows_met(alloc, &self.index, entity, condition)
+    }
+
     /// Adds a change to a session's, which no other session sees. At an error nothing has changed.
     pub fn write(
         &mut self,
@@ -286,6 +320,25 @@ impl<K: Keeper> Store<K> {
         let commit = asking::apply(alloc, &mut self.keeper, changes)?;
         self.index = views::left(alloc, self.index.take(), &commit, changes);
         written::drop_session(&mut self.written, session);
+        Ok(commit)
+    }
+
+    /// Applies changes that no session has written to the committed rows, all of them or none. The first change that doesn't apply
+    /// decides. What sessions have written stays, and at an error the rows stay, too. The index is dropped after Fault; after
+    /// Committed it may be, for want of memory.
+    pub fn apply(&mut self, alloc: Global, changes: &[Change]) -> Result<Commit, AllocError>
+        ensures answer { IfOk result (λ answer. answer ≢ Commit.Fault → IfSome self.old.tables
+            (λ m. answer ≡ commit_answer changes.now m)) }
+        ensures fault { result ≡ Ok Commit.Fault → Rose self.old.faults self.new.faults }
+        ensures faults { self.old.faults ≤ self.new.faults }
+        ensures asked { self.new.asked ≡ self.old.asked }
+        ensures tables { self.new.tables ≡ tables_committed result changes.now self.old.tables }
+        ensures written { self.new.written ≡ self.old.written }
+        ensures entities { self.new.entities ≡ self.old.entities }
+        ensures indexed { StandsCommitted result self.old.indexed self.new.indexed }
+    {
+        let commit = asking::apply(alloc, &mut self.keeper, changes)?;
+        self.index = views::left(alloc, self.index.take(), &commit, changes);
         Ok(commit)
     }
 }

@@ -1,14 +1,15 @@
 // What a query gives over a session's view.
-ghost use Rattle.std.specs.Prelude.{◌≡◌, ◌≢◌, ◌<◌, ℕ, true, Option, None, Some, Ok, IfOk, IfSome, IsSome, is_some, MatchOption, MatchResult};
+ghost use Rattle.std.specs.Prelude.{◌≡◌, ◌≢◌, ◌<◌, ℕ, true, map, Option, None, Some, Ok, IfOk, IfSome, IsSome, is_some, MatchOption, MatchResult};
 ghost use Rattle.hib_base.specs.Tables.{Tables, after_changes, in_order};
 ghost use Rattle.hib_journal.specs.Query.{gives, reads};
+ghost use Rattle.hib_query_eval.specs.Met.{met};
 ghost use Rattle.hib_query_eval.specs.Reads.{read_by};
 ghost use Rattle.hib_store.specs.declared.store.Listed.{Listed};
-ghost use Rattle.hib_store.specs.Stores.{IsIndexed, IsListed, StandsAfter, index_left};
+ghost use Rattle.hib_store.specs.Stores.{IsIndexed, IsListed, MeetsBelow, StandsAfter, index_left};
 ghost use Rattle.hib_store.specs.Types.{Commit};
 
 use crate::store::Listed;
-use hib_base::{Change, Commit, Listing, Query, Rows};
+use hib_base::{Change, Commit, Cond, EntityNo, Key, Listing, Query, Row, Rows};
 use hib_query_eval::Index;
 use std::alloc::{AllocError, Global};
 
@@ -42,6 +43,25 @@ pub fn answered(
     match index {
         Some(index) => Ok(Listed::List(index.gives(alloc, query, changes)?)),
         None => Ok(Listed::Fault),
+    }
+}
+
+/// The rows of an entity that meet a condition, of those of an index; none if there is no index.
+pub fn rows_met<'a>(
+    alloc: Global,
+    index: &'a Option<Index>,
+    entity: EntityNo,
+    condition: &Option<Cond>,
+) -> Result<Option<Vec<&'a (Key, Row)>>, AllocError>
+    ensures met { (n : ℕ) (told : Option Tables) → IfSome told (λ m. in_order m ≡ true)
+        → IsIndexed n index.now told → MeetsBelow n entity condition.now
+        → IfOk result (λ o. IfSome o (λ v. IfSome told
+        (λ m. map (λ r. r.now) v.items ≡ met entity condition.now m))) }
+    ensures none { IfOk result (λ o. is_some o ≡ is_some index.now) }
+{
+    match index {
+        Some(index) => Ok(Some(index.rows_met(alloc, entity, condition)?)),
+        None => Ok(None),
     }
 }
 

@@ -1,0 +1,12 @@
+mod RegionList
+mod Placed
+mod Replies
+mod Kept
+mod Answered
+mod Going
+mod Moved
+mod Lined
+mod LineTurn
+mod Stepped
+mod Obeyed
+mod Begun

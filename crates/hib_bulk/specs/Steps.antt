@@ -1,0 +1,33 @@
+-- The sessions and the lines of a run, each as far as its own entries, and a step of one of them.
+use Rattle.std.specs.Prelude.{◌≡◌, ℕ, ◌+◌, ◌==◌, false, List, ◌∷◌, length, slice_get, Some}
+use Rattle.hib_journal.specs.Types.{Script}
+use Rattle.hib_journal.specs.Sessions.{own}
+use Rattle.hib_session.specs.declared.session.Session.{Session}
+use Rattle.hib_session.specs.Session.{Follows, number_of}
+use Rattle.hib_bulk.specs.Types.{BulkDef, BulkEntry}
+use Rattle.hib_bulk.specs.declared.lines.Progress.{Progress}
+use Rattle.hib_bulk_law.specs.Plain.{Bulked, plain}
+use Rattle.hib_bulk_law.specs.Acts.{next}
+use Rattle.hib_bulk.specs.Run.{IsLine}
+
+pub record AreSessions (script : Script) (h : Bulked) (xs : List Session) : Type 0 where
+  pub all : length xs ≡ length script.sessions
+  pub numbers : (s : ℕ) (y : Session) → slice_get xs s ≡ Some y → number_of y ≡ s
+  pub follow : (s : ℕ) (y : Session) → slice_get xs s ≡ Some y → Follows script y (own s (plain h))
+
+-- the lines are numbered after the sessions
+pub record AreLines (script : Script) (lines : List BulkDef) (h : Bulked) (ps : List Progress) : Type 0 where
+  pub all : length ps ≡ length lines
+  pub stand : (i : ℕ) (d : BulkDef) (p : Progress) → slice_get lines i ≡ Some d → slice_get ps i ≡ Some p → IsLine script h (length script.sessions + i) d p.steps p.failed
+
+-- the act that was due in s was answered, and its entry added
+pub record Adds (script : Script) (lines : List BulkDef) (s : ℕ) (h new : Bulked) : Type 0 where
+  pub entry : BulkEntry
+  pub by : entry.session ≡ s
+  pub grown : new ≡ entry ∷ h
+  pub due : next script lines h s ≡ Some entry.act
+  pub others : (n : ℕ) → (s == n) ≡ false → own n (plain new) ≡ own n (plain h)
+
+-- a line that has done nothing
+abbrev pub fresh : BulkDef → Progress
+fresh d = record { steps = 0; failed = false }

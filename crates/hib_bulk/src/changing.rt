@@ -1,0 +1,80 @@
+// What a line makes of the rows that it finds.
+ghost use Rattle.std.specs.Prelude.{◌≡◌, set, map, IfOk, OnOk};
+ghost use Rattle.hib_journal.specs.Held.{next_version, with_cells};
+ghost use Rattle.hib_bulk_law.specs.Rows.{row_after, change_to};
+
+use hib_base::{Cell, Change, Changes, Key, Row, Seq, copy_cells};
+use hib_bulk_law::{BulkChange, BulkDef};
+use std::alloc::{AllocError, Global};
+
+/// The version after one more change.
+fn version_after(version: Option<u32>) -> Option<u32>
+    ensures { result ≡ next_version version }
+{
+    match version {
+        None => None,
+        Some(u32::MAX) => Some(u32::MAX),
+        Some(v) => Some(v + 1),
+    }
+}
+
+fn set_cell(cells: &mut [Cell], place: usize, cell: Cell)
+    ensures { cells.new ≡ set cells.old place cell }
+{
+    if place < cells.len() {
+        cells[place] = cell;
+    }
+}
+
+/// Sets copies of cells; a place that the row doesn't have is passed over.
+fn set_cells(alloc: Global, cells: &mut [Cell], sets: &[(u16, Cell)]) -> Result<(), AllocError>
+    ensures { OnOk result (cells.new ≡ with_cells sets.now cells.old) }
+{
+    for pair in sets {
+        let cell = pair.1.copy(alloc)?;
+        set_cell(cells, pair.0 as usize, cell);
+    }
+    Ok(())
+}
+
+/// A row's change by a line: an update to the row with the cells set and the next version, or a delete.
+fn change_of(alloc: Global, change: &BulkChange, key: Key, row: &Row) -> Result<Change, AllocError>
+    ensures { IfOk result (λ c. c
+        ≡ change_to (row_after change.now row.now) key row.now.version) }
+{
+    match change {
+        BulkChange::Set(sets) => {
+            let mut cells = copy_cells(alloc, &row.cells)?.into_vec();
+            set_cells(alloc, &mut cells, sets.as_slice())?;
+            Ok(Change::Update {
+                key,
+                expected: row.version,
+                row: Row {
+                    version: version_after(row.version),
+                    cells: Seq::from_vec(cells),
+                },
+            })
+        }
+        BulkChange::Delete => Ok(Change::Delete {
+            key,
+            expected: row.version,
+        }),
+    }
+}
+
+/// The changes of rows by a line, in their order. Fails for want of memory alone.
+pub fn changes_of(
+    alloc: Global,
+    line: &BulkDef,
+    rows: &[&(Key, Row)],
+) -> Result<Changes, AllocError>
+    ensures { IfOk result (λ cs. cs ≡ map (λ p. change_to (row_after line.now.change p.now.1)
+        p.now.0 p.now.1.version) rows.now) }
+{
+    let mut changes = Changes::new(alloc);
+    for row in rows {
+        let change = change_of(alloc, &line.change, row.0, &row.1)?;
+        changes.push(change)?;
+    }
+    Ok(changes)
+}

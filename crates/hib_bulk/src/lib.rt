@@ -1,0 +1,19 @@
+//! Bulk changes: sessions over shared parts, and lines that change the rows which meet a condition under a lock on a whole region.
+#![tactic(auto)]
+
+mod changing;
+mod factory;
+mod journal;
+mod lines;
+mod names;
+mod opening;
+mod parts;
+mod region;
+mod steps;
+mod storing;
+mod turns;
+
+pub use factory::BulkFactory;
+pub use journal::Bulked;
+pub use names::Name;
+pub use region::Region;

@@ -1,0 +1,88 @@
+// A step of a run with bulk lines: one act of a session or of a line, if one is due.
+ghost use Rattle.std.specs.Prelude.{◌≡◌, ◌≢◌, ◌+◌, ◌<◌, ◌^◌, List, length, slice_get, Ok, Some, None};
+ghost use Rattle.hib_session.specs.declared.session.Session.{Session as Actor};
+ghost use Rattle.hib_bulk.specs.declared.lines.Progress.{Progress as Come};
+ghost use Rattle.hib_bulk_law.specs.Acts.{next};
+ghost use Rattle.hib_bulk.specs.Kept.{past};
+ghost use Rattle.hib_bulk.specs.Run.{IsRun};
+ghost use Rattle.hib_bulk.specs.Steps.{AreSessions, AreLines, Adds};
+
+use crate::journal::Bulked;
+use crate::lines::{Progress, line_turn};
+use crate::names::Name;
+use crate::parts::Parts;
+use crate::turns::take_turn;
+use hib_base::{Script, SessionNo};
+use hib_bulk_law::BulkDef;
+use hib_engines::Stepped;
+use hib_outside::Keeper;
+use hib_session::Session;
+use std::alloc::{AllocError, Global};
+
+/// One act of the session of this number, or the sweep that is due before it. If memory runs out nothing has changed, but for the
+/// keeper's counts.
+pub fn step_session<K: Keeper, N: Name>(
+    alloc: Global,
+    script: &Script,
+    number: SessionNo,
+    sessions: &mut Vec<Session>,
+    parts: &mut Parts<K>,
+    journal: &mut Bulked,
+) -> Result<Stepped, AllocError>
+    requires script { script.now ≡ N.script }
+    requires known { number < length N.script.sessions }
+    requires run { IsRun N.script N.lines N.from (past journal.old) parts.old }
+    requires sessions { AreSessions N.script (past journal.old) sessions.old.items }
+    ensures run { IsRun N.script N.lines N.from (past journal.new) parts.new }
+    ensures sessions { AreSessions N.script (past journal.new) sessions.new.items }
+    ensures lines { (ps : List Come) → AreLines N.script N.lines (past journal.old) ps
+        → AreLines N.script N.lines (past journal.new) ps }
+    ensures did { result ≡ Ok Stepped.Did
+        → Adds N.script N.lines number (past journal.old) (past journal.new) }
+    ensures done { result ≡ Ok Stepped.Done
+        → next N.script N.lines (past journal.new) number ≡ None }
+    ensures same { result ≢ Ok Stepped.Did → past journal.new ≡ past journal.old }
+{
+    let session = &mut sessions[number.0 as usize];
+    take_turn::<K, N>(alloc, script, session, parts, journal)
+}
+
+/// The number of a line: they come after the sessions.
+fn line_number(script: &Script, at: usize) -> SessionNo
+    requires { length script.now.sessions + at < 2 ^ 32 }
+    ensures { result ≡ length script.now.sessions + at }
+{
+    SessionNo((script.sessions.len() + at) as u32)
+}
+
+/// One act of a line, if it isn't at its end. If memory runs out nothing has changed, but for the keeper's counts.
+pub fn step_line<K: Keeper, N: Name>(
+    alloc: Global,
+    script: &Script,
+    lines: &[BulkDef],
+    at: usize,
+    progress: &mut Vec<Progress>,
+    parts: &mut Parts<K>,
+    journal: &mut Bulked,
+) -> Result<Stepped, AllocError>
+    requires script { script.now ≡ N.script }
+    requires lines { lines.now ≡ N.lines }
+    requires known { at < length N.lines }
+    requires run { IsRun N.script N.lines N.from (past journal.old) parts.old }
+    requires progress { AreLines N.script N.lines (past journal.old) progress.old.items }
+    ensures run { IsRun N.script N.lines N.from (past journal.new) parts.new }
+    ensures progress { AreLines N.script N.lines (past journal.new) progress.new.items }
+    ensures sessions { (xs : List Actor) → AreSessions N.script (past journal.old) xs
+        → AreSessions N.script (past journal.new) xs }
+    ensures did { result ≡ Ok Stepped.Did
+        → Adds N.script N.lines (length N.script.sessions + at) (past journal.old)
+        (past journal.new) }
+    ensures done { result ≡ Ok Stepped.Done
+        → next N.script N.lines (past journal.new) (length N.script.sessions + at) ≡ None }
+    ensures same { result ≢ Ok Stepped.Did → past journal.new ≡ past journal.old }
+{
+    let line = &lines[at];
+    let number = line_number(script, at);
+    let mine = &mut progress[at];
+    line_turn::<K, N>(alloc, script, line, number, mine, parts, journal)
+}

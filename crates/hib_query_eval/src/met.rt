@@ -1,0 +1,52 @@
+// Which rows of an entity meet a condition.
+ghost use Rattle.std.specs.Prelude.{◌≡◌, map, true, IfOk};
+ghost use Rattle.std.specs.List.{filter};
+ghost use Rattle.hib_base.specs.Tables.{in_order};
+ghost use Rattle.hib_query_eval.specs.Met.{meets, met};
+
+use crate::conditions;
+use crate::view::View;
+use hib_base::{Cond, EntityNo, Key, Row};
+use std::alloc::{AllocError, Global};
+
+/// Whether a row is one of an entity and meets a condition.
+#[inline]
+fn is_met(entity: EntityNo, condition: &Option<Cond>, view: &View<'_>, row: &(Key, Row)) -> bool
+    ensures { result ≡ meets entity condition.now view.now row.now }
+{
+    row.0.entity == entity && conditions::meets(view, &row.1, condition)
+}
+
+/// The rows of an entity that meet a condition over a view, of some of its rows.
+fn met_of<'a>(
+    alloc: Global,
+    entity: EntityNo,
+    condition: &Option<Cond>,
+    rows: &'a [(Key, Row)],
+    view: &View<'_>,
+) -> Result<Vec<&'a (Key, Row)>, AllocError>
+    ensures { IfOk result (λ v. map (λ r. r.now) v.items
+        ≡ filter (meets entity condition.now view.now) rows.now) }
+{
+    let mut met = Vec::new(alloc);
+    for row in rows {
+        if is_met(entity, condition, view, row) {
+            met.push(row)?;
+        }
+    }
+    Ok(met)
+}
+
+/// The rows of an entity that meet a condition, if there is one, of rows in order of keys. Fails for want of memory alone.
+pub fn rows_met<'a>(
+    alloc: Global,
+    entity: EntityNo,
+    condition: &Option<Cond>,
+    rows: &'a [(Key, Row)],
+) -> Result<Vec<&'a (Key, Row)>, AllocError>
+    requires { in_order rows.now ≡ true }
+    ensures { IfOk result (λ v. map (λ r. r.now) v.items ≡ met entity condition.now rows.now) }
+{
+    let view = View::of(alloc, rows);
+    met_of(alloc, entity, condition, rows, &view)
+}
