@@ -1,0 +1,473 @@
+// One turn of a session: an act of its plan is answered, or one at a collection's region that comes before or after it.
+ghost use Rattle.std.specs.Prelude.{◌≡◌, ◌+◌, ◌<◌, ◌≤◌, ◌^◌, length, IfOk, IfSome, OnOk, OnErr, Some, None, true, is_some};
+ghost use Rattle.hib_base.specs.declared.entries.Act.{Act};
+ghost use Rattle.hib_journal.specs.Sessions.{Journal as Past, own, time_in, floor_in};
+ghost use Rattle.hib_journal.specs.Next.{next};
+ghost use Rattle.hib_journal.specs.Regions as Regions;
+ghost use Rattle.hib_journal.specs.Lists.{entry_at};
+ghost use Rattle.hib_rw_region.specs.Region.{slot_in};
+ghost use Rattle.hib_session.specs.Session.{Follows, is_ready, number_of};
+ghost use Rattle.hib_engines.specs.Due.{IsDue, HasQueries};
+ghost use Rattle.hib_engines.specs.Engines.{IsStill};
+ghost use Rattle.hib_collections_law.specs.declared.entries.MemberAct.{MemberAct};
+ghost use Rattle.hib_collections_law.specs.Gathered.{Due, due, plain};
+ghost use Rattle.hib_collections.specs.Kept.{past};
+ghost use Rattle.hib_collections.specs.Gatherers.{AreGatherers, IsGatherer};
+ghost use Rattle.hib_collections.specs.Run.{Does, IsGot, IsRun, IsTurn, Leaves, Serves, Turns, list_of_hit};
+
+use crate::before::{Before, comes_before};
+use crate::gathered::Gathered;
+use crate::members::Gatherer;
+use crate::names::Name;
+use crate::places::Place;
+use crate::shared::Shared;
+use hib_base::{
+    Act, Entry, Got, Listing, Reply, Row, Script, SessionNo, Tick, copy_cells,
+};
+use hib_collections_law::{Defs, GatherEntry, MemberAct, MemberEntry};
+use hib_journal::part_of;
+use hib_outside::Keeper;
+use hib_rw_region::RwRegion;
+use hib_session::Session;
+use std::alloc::{AllocError, Global};
+
+/// What a turn did.
+pub enum Turned {
+    /// One entry more, which is the newest of the journal.
+    Did,
+    /// One entry more, a hit, that stands for this entry of the session's plan.
+    Hit(Entry),
+    /// The session is at its end.
+    Done,
+}
+
+/// The act that is due in a session by its plan.
+fn due_act(alloc: Global, script: &Script, session: &Session) -> Result<Option<Act>, AllocError>
+    requires queries { HasQueries script.now }
+    ensures act { IfOk result (λ a. (mine : Past) → Follows script.now session.now mine
+        → a ≡ next script.now (number_of session.now) mine) }
+    ensures due { IfOk result (λ a. (mine : Past) → Follows script.now session.now mine
+        → IfSome a (IsDue script.now mine)) }
+{
+    let act = session.next_act(alloc, script)?;
+    Ok(act)
+}
+
+/// Makes room for one more entry, and gives its tick: one more than there are entries.
+fn reserve_tick(journal: &mut Gathered) -> Result<Tick, AllocError>
+    ensures tick { IfOk result (λ t. t ≡ length (past journal.old) + 1) }
+    ensures few { OnOk result (length (past journal.old) + 1 < 2 ^ 62) }
+    ensures room { OnOk result (0 < journal.new.spare) }
+    ensures same { past journal.new ≡ past journal.old }
+{
+    journal.reserve()?;
+    Ok(Tick(journal.len() as u64 + 1))
+}
+
+/// The act of the plan is answered, taken by its session, and its entry added: all of it, or if memory runs out nothing.
+fn serve_plain<K: Keeper, N: Name>(
+    alloc: Global,
+    script: &Script,
+    gatherer: &mut Gatherer,
+    shared: &mut Shared<K>,
+    act: Act,
+) -> Result<Turned, AllocError>
+    requires script { script.now ≡ N.script }
+    requires run { IsRun N.script N.defs N.from (past shared.old.journal) shared.old.engines
+        shared.old.regions.items }
+    requires turn { IsTurn N.script (past shared.old.journal) gatherer.old act }
+    requires ready { is_ready script.now gatherer.old.session ≡ true }
+    requires due { due N.script N.defs (number_of gatherer.old.session) (past shared.old.journal)
+        ≡ Some (Due.Plain act) }
+    ensures ok { IfOk result (Serves N.script N.defs N.from (number_of gatherer.old.session)
+        (past shared.old.journal) (past shared.new.journal) shared.old.engines shared.new.engines
+        shared.new.regions.items gatherer.new) }
+    ensures err { OnErr result (Leaves N.script (past shared.old.journal) (past shared.new.journal)
+        shared.old.engines shared.new.engines shared.old.regions.items shared.new.regions.items
+        gatherer.old gatherer.new) }
+{
+    let tick = reserve_tick(&mut shared.journal)?;
+    let reply = shared
+        .engines
+        .answer(alloc, script, &gatherer.session, &act, tick)?;
+    let listed = gatherer.notes.copy_listed(alloc, &act, &reply)?;
+    let number = gatherer.session.number();
+    let part = part_of(&act, number);
+    let entry = Entry {
+        tick,
+        session: Some(number),
+        part,
+        act,
+        reply,
+    };
+    gatherer.session.advance(alloc, script, &entry)?;
+    gatherer.notes.note(&entry.act, listed);
+    shared.journal.push(GatherEntry::Plain(entry));
+    Ok(Turned::Did)
+}
+
+/// What a region has of an owner, for a reader of this time.
+fn got(alloc: Global, region: &RwRegion, owner: u64, time: Tick) -> Result<Reply, AllocError>
+    ensures { IfOk result (λ r. r ≡ Regions.got (slot_in region.now owner) time) }
+{
+    match region.get(owner, time) {
+        Got::Hit(row) => {
+            let row = row.copy(alloc)?;
+            Ok(Reply::Hit(row))
+        }
+        Got::Miss(miss) => Ok(Reply::Miss(miss)),
+    }
+}
+
+/// A copy of the members that a hit answers.
+fn members_in(alloc: Global, reply: &Reply) -> Result<Option<Listing>, AllocError>
+    ensures { IfOk result (λ l. l ≡ list_of_hit reply.now) }
+{
+    match reply {
+        Reply::Hit(row) => {
+            let list = copy_cells(alloc, &row.cells)?;
+            Ok(Some(list))
+        }
+        _ => Ok(None),
+    }
+}
+
+/// The entry of an act at a collection's region.
+fn member_entry(
+    tick: Tick,
+    session: SessionNo,
+    place: Place,
+    act: MemberAct,
+    reply: Reply,
+) -> MemberEntry
+    ensures { result ≡ record {
+      tick = tick;
+      session = session;
+      collection = place.0;
+      owner = place.1;
+      act = act;
+      reply = reply;
+    } }
+{
+    MemberEntry {
+        tick,
+        session,
+        collection: place.collection,
+        owner: place.owner,
+        act,
+        reply,
+    }
+}
+
+/// The members of an owner were refused at this tick. It takes no memory.
+fn serve_miss<K: Keeper, N: Name>(
+    gatherer: &mut Gatherer,
+    shared: &mut Shared<K>,
+    place: Place,
+    tick: Tick,
+    reply: Reply,
+) -> Turned
+    requires run { IsRun N.script N.defs N.from (past shared.old.journal) shared.old.engines
+        shared.old.regions.items }
+    requires member { IsGatherer N.script (past shared.old.journal)
+        (number_of gatherer.old.session) gatherer.old }
+    requires tick { tick ≡ length (past shared.old.journal) + 1 }
+    requires few { length (past shared.old.journal) + 1 < 2 ^ 62 }
+    requires room { 0 < shared.old.journal.spare }
+    requires due { due N.script N.defs (number_of gatherer.old.session) (past shared.old.journal)
+        ≡ Some (Due.Member place (MemberAct.Get (time_in (own (number_of gatherer.old.session)
+        (plain N.script (past shared.old.journal)))))) }
+    requires got { IsGot N.script N.defs (past shared.old.journal) place
+        (number_of gatherer.old.session) reply }
+    requires miss { list_of_hit reply ≡ None }
+    ensures { Serves N.script N.defs N.from (number_of gatherer.old.session)
+        (past shared.old.journal) (past shared.new.journal) shared.old.engines shared.new.engines
+        shared.new.regions.items gatherer.new result }
+{
+    let number = gatherer.session.number();
+    let act = MemberAct::Get {
+        time: gatherer.session.time(),
+    };
+    let entry = member_entry(tick, number, place, act, reply);
+    gatherer.notes.miss(place);
+    shared.journal.push(GatherEntry::Member(entry));
+    Turned::Did
+}
+
+/// The members of an owner were answered at this tick: the session takes them as the list that is due. If memory runs out nothing
+/// has changed.
+fn serve_hit<K: Keeper, N: Name>(
+    alloc: Global,
+    script: &Script,
+    gatherer: &mut Gatherer,
+    shared: &mut Shared<K>,
+    place: Place,
+    entry: Entry,
+    reply: Reply,
+) -> Result<Turned, AllocError>
+    requires script { script.now ≡ N.script }
+    requires run { IsRun N.script N.defs N.from (past shared.old.journal) shared.old.engines
+        shared.old.regions.items }
+    requires turn { IsTurn N.script (past shared.old.journal) gatherer.old entry.act }
+    requires few { length (past shared.old.journal) + 1 < 2 ^ 62 }
+    requires room { 0 < shared.old.journal.spare }
+    requires due { due N.script N.defs (number_of gatherer.old.session) (past shared.old.journal)
+        ≡ Some (Due.Member place (MemberAct.Get (time_in (own (number_of gatherer.old.session)
+        (plain N.script (past shared.old.journal)))))) }
+    requires got { IsGot N.script N.defs (past shared.old.journal) place
+        (number_of gatherer.old.session) reply }
+    requires hit { IfSome (list_of_hit reply) (λ l. entry ≡ entry_at
+        (length (past shared.old.journal) + 1) (Some (number_of gatherer.old.session)) entry.act
+        (Reply.Listed l)) }
+    requires is_hit { is_some (list_of_hit reply) ≡ true }
+    ensures ok { IfOk result (Serves N.script N.defs N.from (number_of gatherer.old.session)
+        (past shared.old.journal) (past shared.new.journal) shared.old.engines shared.new.engines
+        shared.new.regions.items gatherer.new) }
+    ensures err { OnErr result (Leaves N.script (past shared.old.journal) (past shared.new.journal)
+        shared.old.engines shared.new.engines shared.old.regions.items shared.new.regions.items
+        gatherer.old gatherer.new) }
+{
+    let act = MemberAct::Get {
+        time: gatherer.session.time(),
+    };
+    gatherer.session.advance(alloc, script, &entry)?;
+    gatherer.notes.settle();
+    let number = gatherer.session.number();
+    let member = member_entry(entry.tick, number, place, act, reply);
+    shared.journal.push(GatherEntry::Member(member));
+    Ok(Turned::Hit(entry))
+}
+
+/// A collection is asked for the members of an owner, before a list of them. A hit takes the place of the list. If memory runs out
+/// nothing has changed.
+fn serve_get<K: Keeper, N: Name>(
+    alloc: Global,
+    script: &Script,
+    gatherer: &mut Gatherer,
+    shared: &mut Shared<K>,
+    act: Act,
+    place: Place,
+) -> Result<Turned, AllocError>
+    requires script { script.now ≡ N.script }
+    requires run { IsRun N.script N.defs N.from (past shared.old.journal) shared.old.engines
+        shared.old.regions.items }
+    requires turn { IsTurn N.script (past shared.old.journal) gatherer.old act }
+    requires due { due N.script N.defs (number_of gatherer.old.session) (past shared.old.journal)
+        ≡ Some (Due.Member place (MemberAct.Get (time_in (own (number_of gatherer.old.session)
+        (plain N.script (past shared.old.journal)))))) }
+    ensures ok { IfOk result (Serves N.script N.defs N.from (number_of gatherer.old.session)
+        (past shared.old.journal) (past shared.new.journal) shared.old.engines shared.new.engines
+        shared.new.regions.items gatherer.new) }
+    ensures err { OnErr result (Leaves N.script (past shared.old.journal) (past shared.new.journal)
+        shared.old.engines shared.new.engines shared.old.regions.items shared.new.regions.items
+        gatherer.old gatherer.new) }
+{
+    let tick = reserve_tick(&mut shared.journal)?;
+    let time = gatherer.session.time();
+    let region = &shared.regions[usize::from(place.collection)];
+    let reply = got(alloc, region, place.owner, time)?;
+    match members_in(alloc, &reply)? {
+        Some(list) => {
+            let number = gatherer.session.number();
+            let part = part_of(&act, number);
+            let entry = Entry {
+                tick,
+                session: Some(number),
+                part,
+                act,
+                reply: Reply::Listed(list),
+            };
+            serve_hit::<K, N>(alloc, script, gatherer, shared, place, entry, reply)
+        }
+        None => Ok(serve_miss::<K, N>(gatherer, shared, place, tick, reply)),
+    }
+}
+
+/// Members that were listed after a miss are offered to the region of their collection. If memory runs out nothing has changed.
+fn serve_put<K: Keeper, N: Name>(
+    gatherer: &mut Gatherer,
+    shared: &mut Shared<K>,
+    place: Place,
+    cells: Listing,
+) -> Result<Turned, AllocError>
+    requires run { IsRun N.script N.defs N.from (past shared.old.journal) shared.old.engines
+        shared.old.regions.items }
+    requires member { IsGatherer N.script (past shared.old.journal)
+        (number_of gatherer.old.session) gatherer.old }
+    requires listed { gatherer.old.notes.listed ≡ Some (place, cells) }
+    ensures ok { IfOk result (Serves N.script N.defs N.from (number_of gatherer.old.session)
+        (past shared.old.journal) (past shared.new.journal) shared.old.engines shared.new.engines
+        shared.new.regions.items gatherer.new) }
+    ensures err { OnErr result (Leaves N.script (past shared.old.journal) (past shared.new.journal)
+        shared.old.engines shared.new.engines shared.old.regions.items shared.new.regions.items
+        gatherer.old gatherer.new) }
+{
+    let tick = reserve_tick(&mut shared.journal)?;
+    let time = gatherer.session.time();
+    let floor = gatherer.session.floor();
+    let row = Row {
+        version: None,
+        cells,
+    };
+    let region = &mut shared.regions[usize::from(place.collection)];
+    let put = region.put(place.owner, row, time, floor, tick)?;
+    let list = gatherer.notes.take_listed();
+    let act = MemberAct::Put { list, time, floor };
+    let number = gatherer.session.number();
+    let entry = member_entry(tick, number, place, act, Reply::Put(put));
+    shared.journal.push(GatherEntry::Member(entry));
+    Ok(Turned::Did)
+}
+
+/// An owner is locked before a row is written whose owner it is or was. If memory runs out nothing has changed.
+fn serve_lock<K: Keeper, N: Name>(
+    gatherer: &mut Gatherer,
+    shared: &mut Shared<K>,
+    place: Place,
+) -> Result<Turned, AllocError>
+    requires run { IsRun N.script N.defs N.from (past shared.old.journal) shared.old.engines
+        shared.old.regions.items }
+    requires member { IsGatherer N.script (past shared.old.journal)
+        (number_of gatherer.old.session) gatherer.old }
+    requires due { due N.script N.defs (number_of gatherer.old.session) (past shared.old.journal)
+        ≡ Some (Due.Member place (MemberAct.Lock (floor_in (own (number_of gatherer.old.session)
+        (plain N.script (past shared.old.journal)))))) }
+    ensures ok { IfOk result (Serves N.script N.defs N.from (number_of gatherer.old.session)
+        (past shared.old.journal) (past shared.new.journal) shared.old.engines shared.new.engines
+        shared.new.regions.items gatherer.new) }
+    ensures err { OnErr result (Leaves N.script (past shared.old.journal) (past shared.new.journal)
+        shared.old.engines shared.new.engines shared.old.regions.items shared.new.regions.items
+        gatherer.old gatherer.new) }
+{
+    gatherer.notes.reserve()?;
+    let tick = reserve_tick(&mut shared.journal)?;
+    let floor = gatherer.session.floor();
+    let region = &mut shared.regions[usize::from(place.collection)];
+    let locked = region.lock(place.owner, None, floor, tick)?;
+    gatherer.notes.lock(place, locked.id);
+    let act = MemberAct::Lock { floor };
+    let number = gatherer.session.number();
+    let entry = member_entry(tick, number, place, act, Reply::Locked(locked));
+    shared.journal.push(GatherEntry::Member(entry));
+    Ok(Turned::Did)
+}
+
+/// A lock is given back before the end of the transaction. If memory runs out nothing has changed.
+fn serve_unlock<K: Keeper, N: Name>(
+    gatherer: &mut Gatherer,
+    shared: &mut Shared<K>,
+    place: Place,
+    lock: Tick,
+) -> Result<Turned, AllocError>
+    requires run { IsRun N.script N.defs N.from (past shared.old.journal) shared.old.engines
+        shared.old.regions.items }
+    requires member { IsGatherer N.script (past shared.old.journal)
+        (number_of gatherer.old.session) gatherer.old }
+    requires due { due N.script N.defs (number_of gatherer.old.session) (past shared.old.journal)
+        ≡ Some (Due.Member place (MemberAct.Unlock lock)) }
+    ensures ok { IfOk result (Serves N.script N.defs N.from (number_of gatherer.old.session)
+        (past shared.old.journal) (past shared.new.journal) shared.old.engines shared.new.engines
+        shared.new.regions.items gatherer.new) }
+    ensures err { OnErr result (Leaves N.script (past shared.old.journal) (past shared.new.journal)
+        shared.old.engines shared.new.engines shared.old.regions.items shared.new.regions.items
+        gatherer.old gatherer.new) }
+{
+    let tick = reserve_tick(&mut shared.journal)?;
+    let region = &mut shared.regions[usize::from(place.collection)];
+    let unlocked = region.unlock(place.owner, lock, tick)?;
+    gatherer.notes.unlock();
+    let act = MemberAct::Unlock { lock };
+    let number = gatherer.session.number();
+    let entry = member_entry(tick, number, place, act, Reply::Unlocked(unlocked));
+    shared.journal.push(GatherEntry::Member(entry));
+    Ok(Turned::Did)
+}
+
+/// The act that is due by the plan, or what comes before it.
+fn serve<K: Keeper, N: Name>(
+    alloc: Global,
+    script: &Script,
+    defs: &Defs,
+    gatherer: &mut Gatherer,
+    shared: &mut Shared<K>,
+    act: Act,
+) -> Result<Turned, AllocError>
+    requires script { script.now ≡ N.script }
+    requires defs { defs.now ≡ N.defs }
+    requires run { IsRun N.script N.defs N.from (past shared.old.journal) shared.old.engines
+        shared.old.regions.items }
+    requires turn { IsTurn N.script (past shared.old.journal) gatherer.old act }
+    requires ready { is_ready script.now gatherer.old.session ≡ true }
+    requires unlisted { gatherer.old.notes.listed ≡ None }
+    ensures ok { IfOk result (Serves N.script N.defs N.from (number_of gatherer.old.session)
+        (past shared.old.journal) (past shared.new.journal) shared.old.engines shared.new.engines
+        shared.new.regions.items gatherer.new) }
+    ensures err { OnErr result (Leaves N.script (past shared.old.journal) (past shared.new.journal)
+        shared.old.engines shared.new.engines shared.old.regions.items shared.new.regions.items
+        gatherer.old gatherer.new) }
+{
+    match comes_before(script, defs, &gatherer.session, &gatherer.notes, &act) {
+        Before::Nothing => serve_plain::<K, N>(alloc, script, gatherer, shared, act),
+        Before::Get(place) => serve_get::<K, N>(alloc, script, gatherer, shared, act, place),
+        Before::Lock(place) => serve_lock::<K, N>(gatherer, shared, place),
+        Before::Unlock(place, lock) => serve_unlock::<K, N>(gatherer, shared, place, lock),
+    }
+}
+
+/// One act of a session, if one is due. If memory runs out nothing has changed, but for the keeper's counts.
+fn take_turn<K: Keeper, N: Name>(
+    alloc: Global,
+    script: &Script,
+    defs: &Defs,
+    gatherer: &mut Gatherer,
+    shared: &mut Shared<K>,
+) -> Result<Turned, AllocError>
+    requires script { script.now ≡ N.script }
+    requires defs { defs.now ≡ N.defs }
+    requires run { IsRun N.script N.defs N.from (past shared.old.journal) shared.old.engines
+        shared.old.regions.items }
+    requires member { IsGatherer N.script (past shared.old.journal)
+        (number_of gatherer.old.session) gatherer.old }
+    ensures ok { IfOk result (Turns N.script N.defs N.from (number_of gatherer.old.session)
+        (past shared.old.journal) (past shared.new.journal) shared.old.engines shared.new.engines
+        shared.old.regions.items shared.new.regions.items gatherer.old gatherer.new) }
+    ensures err { OnErr result (Leaves N.script (past shared.old.journal) (past shared.new.journal)
+        shared.old.engines shared.new.engines shared.old.regions.items shared.new.regions.items
+        gatherer.old gatherer.new) }
+{
+    if let Some((place, list)) = gatherer.notes.copy_of_listed(alloc)? {
+        return serve_put::<K, N>(gatherer, shared, place, list);
+    }
+    gatherer.session.ready(alloc, script)?;
+    let Some(act) = due_act(alloc, script, &gatherer.session)? else {
+        return Ok(Turned::Done);
+    };
+    serve::<K, N>(alloc, script, defs, gatherer, shared, act)
+}
+
+/// One act of the session of this number, if one is due. If memory runs out nothing has changed, but for the keeper's counts.
+pub fn turn<K: Keeper, N: Name>(
+    alloc: Global,
+    script: &Script,
+    defs: &Defs,
+    number: SessionNo,
+    gatherers: &mut Vec<Gatherer>,
+    shared: &mut Shared<K>,
+) -> Result<Turned, AllocError>
+    requires script { script.now ≡ N.script }
+    requires defs { defs.now ≡ N.defs }
+    requires known { number < length N.script.sessions }
+    requires run { IsRun N.script N.defs N.from (past shared.old.journal) shared.old.engines
+        shared.old.regions.items }
+    requires sessions { AreGatherers N.script (past shared.old.journal) gatherers.old.items }
+    ensures run { IsRun N.script N.defs N.from (past shared.new.journal) shared.new.engines
+        shared.new.regions.items }
+    ensures sessions { AreGatherers N.script (past shared.new.journal) gatherers.new.items }
+    ensures ok { IfOk result (Does N.script N.defs number (past shared.old.journal)
+        (past shared.new.journal) shared.old.engines shared.new.engines) }
+    ensures same { OnErr result (past shared.new.journal ≡ past shared.old.journal) }
+    ensures err { OnErr result (IsStill shared.old.engines shared.new.engines) }
+{
+    let gatherer = &mut gatherers[number.0 as usize];
+    take_turn::<K, N>(alloc, script, defs, gatherer, shared)
+}
