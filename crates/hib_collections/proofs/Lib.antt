@@ -1,1 +1,11 @@
 pub mod Compared
+pub mod Firsts
+pub mod Entries
+pub mod Known
+pub mod Lists
+pub mod Opened
+pub mod Regions
+pub mod Served
+pub mod Playing
+pub mod Begun
+pub mod Turned

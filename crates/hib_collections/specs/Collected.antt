@@ -1,18 +1,13 @@
 -- The regions of collections, which stand for the entries on them.
-use Rattle.std.specs.Prelude.{◌≡◌, ℕ, List, length, slice_get, Some}
+use Rattle.std.specs.Prelude.{ℕ, List}
 use Rattle.hib_journal.specs.Types.{Script}
-use Rattle.hib_rw_region.specs.Region.{RegionState}
-use Rattle.hib_rw_region.specs.Stands.{IsRegion}
+use Rattle.hib_engines.specs.declared.region.Region.{Region}
+use Rattle.hib_engines.specs.Region.{IsPlaced}
+use Rattle.hib_engines.specs.Regions.{region_of}
 use Rattle.hib_collections_law.specs.declared.entries.Def.{Def}
 use Rattle.hib_collections_law.specs.Types.{Gathered}
-use Rattle.hib_collections_law.specs.Gathered.{regions}
+use Rattle.hib_collections_law.specs.Gathered.{region_script, regions}
 
--- the region of a collection stands for the entries on it
-pub record IsCollected (script : Script) (d : Def) (c : ℕ) (g : Gathered) (r : RegionState) : Type 0 where
-  pub capacity : r.capacity ≡ d.capacity
-  pub timeout : r.timeout ≡ script.timeout
-  pub stands : IsRegion r c (regions g)
-
-pub record AreCollected (script : Script) (defs : List Def) (g : Gathered) (rs : List RegionState) : Type 0 where
-  pub all : length rs ≡ length defs
-  pub each : (c : ℕ) (d : Def) (r : RegionState) → slice_get defs c ≡ Some d → slice_get rs c ≡ Some r → IsCollected script d c g r
+-- each collection has a read-write region by its place
+abbrev pub AreCollected : Script → List Def → Gathered → List Region → Type 0
+AreCollected script defs g rs = (n : ℕ) → IsPlaced (region_script script defs) n (regions g) (region_of rs n)

@@ -4,3 +4,6 @@ pub mod Before
 pub mod Collected
 pub mod Gatherers
 pub mod Run
+pub mod Played
+pub mod Obeyed
+pub mod Gather

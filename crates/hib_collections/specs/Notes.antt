@@ -1,5 +1,5 @@
 -- What is noted of a session beside what it remembers itself.
-use Rattle.std.specs.Prelude.{◌≡◌, ℕ, Bool, List, Option, option_map, None}
+use Rattle.std.specs.Prelude.{◌≡◌, ℕ, Bool, List, [], ◌∷◌, ◌++◌, Option, option_map, None}
 use Rattle.std.specs.List.{list_any}
 use Rattle.hib_journal.specs.Types.{Cell, Act, Reply}
 use Rattle.hib_collections_law.specs.Types.{Gathered}
@@ -29,3 +29,8 @@ pub record AreNoted (n : NotesState) (mine : Gathered) : Type 0 where
 abbrev pub listed_from : Option (ℕ × ℕ) → Act → Reply → Option ((ℕ × ℕ) × List Cell)
 listed_from missed (Act.List q) (Reply.Listed l) = option_map (λ p. (p, l)) missed
 listed_from missed _ _ = None
+
+-- the locks after one was answered
+abbrev pub locks_with : ℕ × ℕ → Reply → List Held → List Held
+locks_with p (Reply.Locked l) hs = hs ++ (p, l.id) ∷ []
+locks_with p r hs = hs

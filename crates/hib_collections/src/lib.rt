@@ -5,6 +5,7 @@
 #![tactic(auto)]
 
 mod before;
+mod gather;
 mod gathered;
 mod locks;
 mod members;
@@ -13,8 +14,12 @@ mod notes;
 mod owners;
 mod places;
 mod shared;
+mod steps;
+mod telling;
 mod turns;
 
+pub use gather::{Gather, GatherRefused};
 pub use gathered::Gathered;
 pub use hib_collections_law::{Def, Defs, GatherEntry, MemberAct, MemberEntry};
 pub use names::Name;
+pub use steps::Core;

@@ -1,7 +1,7 @@
 // What is noted of a session beside what it remembers itself.
-ghost use Rattle.std.specs.Prelude.{◌≡◌, ◌∷◌, [], ◌++◌, drop, Some, None, IfOk, OnOk, IfSome, IsSome, true, is_some};
-ghost use Rattle.hib_collections_law.specs.Gathered.{unless_begun};
-ghost use Rattle.hib_collections.specs.Notes.{listed_from};
+ghost use Rattle.std.specs.Prelude.{◌≡◌, [], drop, Some, None, IfOk, OnOk, IfSome, IsSome, if◌then◌else◌, true, is_some};
+ghost use Rattle.hib_collections_law.specs.Gathered.{is_miss, unless_begun};
+ghost use Rattle.hib_collections.specs.Notes.{listed_from, locks_with};
 
 use crate::locks::Locks;
 use crate::places::Place;
@@ -57,6 +57,13 @@ impl Notes {
         ensures { result ≡ is_some self.now.missed }
     {
         self.missed.is_some()
+    }
+
+    /// Whether it was answered a list after it was refused the members, and has offered it to nobody.
+    pub fn has_listed(&self) -> bool
+        ensures { result ≡ is_some self.now.listed }
+    {
+        self.listed.is_some()
     }
 
     /// The list that it was answered after it was refused the members of an owner: the owner, and a copy of the list.
@@ -116,13 +123,16 @@ impl Notes {
         self.listed = listed;
     }
 
-    /// The members of an owner were refused. It takes no memory.
-    pub fn miss(&mut self, place: Place)
+    /// The members of an owner were asked for, and this was answered, no hit. It takes no memory.
+    pub fn miss(&mut self, place: Place, reply: &Reply)
         ensures locks { self.new.locks ≡ self.old.locks }
-        ensures missed { self.new.missed ≡ Some place }
+        ensures missed { self.new.missed ≡ (if is_miss reply.now then Some place else None) }
         ensures listed { self.new.listed ≡ None }
     {
-        self.missed = Some(place);
+        self.missed = match reply {
+            Reply::Miss(_) => Some(place),
+            _ => None,
+        };
         self.listed = None;
     }
 
@@ -147,14 +157,16 @@ impl Notes {
         self.locks.reserve()
     }
 
-    /// A lock was taken. It takes no memory.
-    pub fn lock(&mut self, place: Place, lock: Tick)
+    /// A lock was answered. It takes no memory.
+    pub fn lock(&mut self, place: Place, reply: &Reply)
         requires { self.old.room ≡ true }
-        ensures locks { self.new.locks ≡ self.old.locks ++ (place, lock) ∷ [] }
+        ensures locks { self.new.locks ≡ locks_with place reply.now self.old.locks }
         ensures missed { self.new.missed ≡ None }
         ensures listed { self.new.listed ≡ None }
     {
-        self.locks.take(place, lock);
+        if let Reply::Locked(locked) = reply {
+            self.locks.take(place, locked.id);
+        }
         self.missed = None;
         self.listed = None;
     }

@@ -1,4 +1,8 @@
 // Owners of collections.
+ghost use Rattle.std.specs.Prelude.{◌≡◌};
+ghost use Rattle.hib_journal.specs.Room.{key};
+
+use hib_base::{EntityNo, Key};
 use std::marker::Model;
 
 /// An owner of a collection. Contracts see the pair.
@@ -18,4 +22,16 @@ impl Model for Place {
     ghost view = { λ p. (p.collection, p.owner) };
 
     ghost inverse = { λ p. record { collection = p.0; owner = p.1 } };
+}
+
+impl Place {
+    /// The owner as a key: its collection is taken for an entity, by its place.
+    pub fn key(self) -> Key
+        ensures { result ≡ key self.0 self.1 }
+    {
+        Key {
+            entity: EntityNo(self.collection),
+            id: self.owner,
+        }
+    }
 }

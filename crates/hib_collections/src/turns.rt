@@ -1,19 +1,25 @@
 // One turn of a session: an act of its plan is answered, or one at a collection's region that comes before or after it.
-ghost use Rattle.std.specs.Prelude.{◌≡◌, ◌+◌, ◌<◌, ◌≤◌, ◌^◌, length, IfOk, IfSome, OnOk, OnErr, Some, None, true, is_some};
+ghost use Rattle.std.specs.Prelude.{◌≡◌, ◌+◌, ◌<◌, ◌≤◌, ◌^◌, ℕ, List, Option, length, IfOk, IfSome, OnOk, OnErr, Some, None, true, false, is_some};
+ghost use Rattle.hib_base.specs.Tables.{Tables};
 ghost use Rattle.hib_base.specs.declared.entries.Act.{Act};
-ghost use Rattle.hib_journal.specs.Sessions.{Journal as Past, own, time_in, floor_in};
+ghost use Rattle.hib_base.specs.declared.scripts.Script.{Script as Said};
+ghost use Rattle.hib_journal.specs.Sessions.{Journal, own, time_in, floor_in};
 ghost use Rattle.hib_journal.specs.Next.{next};
-ghost use Rattle.hib_journal.specs.Regions as Regions;
 ghost use Rattle.hib_journal.specs.Lists.{entry_at};
-ghost use Rattle.hib_rw_region.specs.Region.{slot_in};
+ghost use Rattle.hib_journal.specs.Room.{key};
+ghost use Rattle.hib_journal.specs.Runs.{is_fault};
 ghost use Rattle.hib_session.specs.Session.{Follows, is_ready, number_of};
 ghost use Rattle.hib_engines.specs.Due.{IsDue, HasQueries};
 ghost use Rattle.hib_engines.specs.Engines.{IsStill};
+ghost use Rattle.hib_engines.specs.Served.{reads};
+ghost use Rattle.hib_collections_law.specs.declared.entries.Def.{Def};
 ghost use Rattle.hib_collections_law.specs.declared.entries.MemberAct.{MemberAct};
-ghost use Rattle.hib_collections_law.specs.Gathered.{Due, due, plain};
+ghost use Rattle.hib_collections_law.specs.Types.{Gathered as Past};
+ghost use Rattle.hib_collections_law.specs.Gathered.{Due, IsGathered, due, plain, region_act};
+ghost use Rattle.hib_collections.specs.Collected.{AreCollected};
 ghost use Rattle.hib_collections.specs.Kept.{past};
 ghost use Rattle.hib_collections.specs.Gatherers.{AreGatherers, IsGatherer};
-ghost use Rattle.hib_collections.specs.Run.{Does, IsGot, IsRun, IsTurn, Leaves, Serves, Turns, list_of_hit};
+ghost use Rattle.hib_collections.specs.Run.{Does, IsAnsweredAt, IsKept, IsRun, IsTurn, Leaves, Serves, Turns, is_done, list_of_hit};
 
 use crate::before::{Before, comes_before};
 use crate::gathered::Gathered;
@@ -22,16 +28,17 @@ use crate::names::Name;
 use crate::places::Place;
 use crate::shared::Shared;
 use hib_base::{
-    Act, Entry, Got, Listing, Reply, Row, Script, SessionNo, Tick, copy_cells,
+    Act, EntityNo, Entry, Listing, Reply, Row, Script, SessionNo, Tick, copy_cells,
 };
 use hib_collections_law::{Defs, GatherEntry, MemberAct, MemberEntry};
+use hib_engines::{Region, laws, lists_leave, serve_region};
 use hib_journal::part_of;
 use hib_outside::Keeper;
-use hib_rw_region::RwRegion;
 use hib_session::Session;
 use std::alloc::{AllocError, Global};
 
 /// What a turn did.
+#[derive(Drop)]
 pub enum Turned {
     /// One entry more, which is the newest of the journal.
     Did,
@@ -41,27 +48,75 @@ pub enum Turned {
     Done,
 }
 
+impl Turned {
+    /// Whether it did nothing.
+    pub fn is_done(&self) -> bool
+        ensures { result ≡ is_done self.now }
+    {
+        match self {
+            Turned::Did | Turned::Hit(_) => false,
+            Turned::Done => true,
+        }
+    }
+}
+
 /// The act that is due in a session by its plan.
 fn due_act(alloc: Global, script: &Script, session: &Session) -> Result<Option<Act>, AllocError>
     requires queries { HasQueries script.now }
-    ensures act { IfOk result (λ a. (mine : Past) → Follows script.now session.now mine
+    ensures act { IfOk result (λ a. (mine : Journal) → Follows script.now session.now mine
         → a ≡ next script.now (number_of session.now) mine) }
-    ensures due { IfOk result (λ a. (mine : Past) → Follows script.now session.now mine
+    ensures due { IfOk result (λ a. (mine : Journal) → Follows script.now session.now mine
         → IfSome a (IsDue script.now mine)) }
 {
     let act = session.next_act(alloc, script)?;
     Ok(act)
 }
 
-/// Makes room for one more entry, and gives its tick: one more than there are entries.
-fn reserve_tick(journal: &mut Gathered) -> Result<Tick, AllocError>
+/// Makes a session and the journal ready for one more entry, and gives its tick: one more than there are entries. At an error all is
+/// as before but for the room.
+fn prepare(
+    alloc: Global,
+    script: &Script,
+    gatherer: &mut Gatherer,
+    journal: &mut Gathered,
+) -> Result<Tick, AllocError>
     ensures tick { IfOk result (λ t. t ≡ length (past journal.old) + 1) }
     ensures few { OnOk result (length (past journal.old) + 1 < 2 ^ 62) }
     ensures room { OnOk result (0 < journal.new.spare) }
+    ensures ready { OnOk result (is_ready script.now gatherer.new.session ≡ true) }
+    ensures locks { OnOk result (gatherer.new.notes.room ≡ true) }
     ensures same { past journal.new ≡ past journal.old }
+    ensures kept { IsKept script.now gatherer.old gatherer.new }
 {
+    gatherer.notes.reserve()?;
+    gatherer.session.ready(alloc, script)?;
     journal.reserve()?;
     Ok(Tick(journal.len() as u64 + 1))
+}
+
+/// An act at an owner is answered by the region of its collection, at this tick. A read leaves the regions as they are, and so does
+/// want of memory.
+fn answer_at(
+    alloc: Global,
+    regions: &mut Vec<Region>,
+    place: Place,
+    act: &Act,
+    tick: Tick,
+) -> Result<Reply, AllocError>
+    requires { tick ≤ 2 ^ 62 }
+    ensures answered { IfOk result (λ r. (script : Said) (defs : List Def) (told : Option Tables)
+        (g : Past) (s : ℕ) (x : MemberAct) → IsGathered script defs told g
+        → due script defs s g ≡ Some (Due.Member place x)
+        → act.now ≡ region_act (key place.0 place.1) x → tick ≡ length g + 1
+        → AreCollected script defs g regions.old.items
+        → IsAnsweredAt script defs g s tick place x r regions.new.items) }
+    ensures calm { IfOk result (λ r. is_fault r ≡ false) }
+    ensures still { OnOk result (reads act.now ≡ true → regions.new.items ≡ regions.old.items) }
+    ensures err { OnErr result (regions.new.items ≡ regions.old.items) }
+{
+    laws();
+    let collection = EntityNo(place.collection);
+    serve_region(alloc, regions, collection, act, tick)
 }
 
 /// The act of the plan is answered, taken by its session, and its entry added: all of it, or if memory runs out nothing.
@@ -71,10 +126,14 @@ fn serve_plain<K: Keeper, N: Name>(
     gatherer: &mut Gatherer,
     shared: &mut Shared<K>,
     act: Act,
+    tick: Tick,
 ) -> Result<Turned, AllocError>
     requires script { script.now ≡ N.script }
     requires run { IsRun N.script N.defs N.from (past shared.old.journal) shared.old.engines
         shared.old.regions.items }
+    requires tick { tick ≡ length (past shared.old.journal) + 1 }
+    requires few { length (past shared.old.journal) + 1 < 2 ^ 62 }
+    requires room { 0 < shared.old.journal.spare }
     requires turn { IsTurn N.script (past shared.old.journal) gatherer.old act }
     requires ready { is_ready script.now gatherer.old.session ≡ true }
     requires due { due N.script N.defs (number_of gatherer.old.session) (past shared.old.journal)
@@ -86,7 +145,6 @@ fn serve_plain<K: Keeper, N: Name>(
         shared.old.engines shared.new.engines shared.old.regions.items shared.new.regions.items
         gatherer.old gatherer.new) }
 {
-    let tick = reserve_tick(&mut shared.journal)?;
     let reply = shared
         .engines
         .answer(alloc, script, &gatherer.session, &act, tick)?;
@@ -104,19 +162,6 @@ fn serve_plain<K: Keeper, N: Name>(
     gatherer.notes.note(&entry.act, listed);
     shared.journal.push(GatherEntry::Plain(entry));
     Ok(Turned::Did)
-}
-
-/// What a region has of an owner, for a reader of this time.
-fn got(alloc: Global, region: &RwRegion, owner: u64, time: Tick) -> Result<Reply, AllocError>
-    ensures { IfOk result (λ r. r ≡ Regions.got (slot_in region.now owner) time) }
-{
-    match region.get(owner, time) {
-        Got::Hit(row) => {
-            let row = row.copy(alloc)?;
-            Ok(Reply::Hit(row))
-        }
-        Got::Miss(miss) => Ok(Reply::Miss(miss)),
-    }
 }
 
 /// A copy of the members that a hit answers.
@@ -177,9 +222,12 @@ fn serve_miss<K: Keeper, N: Name>(
     requires due { due N.script N.defs (number_of gatherer.old.session) (past shared.old.journal)
         ≡ Some (Due.Member place (MemberAct.Get (time_in (own (number_of gatherer.old.session)
         (plain N.script (past shared.old.journal)))))) }
-    requires got { IsGot N.script N.defs (past shared.old.journal) place
-        (number_of gatherer.old.session) reply }
+    requires answered { IsAnsweredAt N.script N.defs (past shared.old.journal)
+        (number_of gatherer.old.session) tick place (MemberAct.Get (time_in
+        (own (number_of gatherer.old.session) (plain N.script (past shared.old.journal))))) reply
+        shared.old.regions.items }
     requires miss { list_of_hit reply ≡ None }
+    requires calm { is_fault reply ≡ false }
     ensures { Serves N.script N.defs N.from (number_of gatherer.old.session)
         (past shared.old.journal) (past shared.new.journal) shared.old.engines shared.new.engines
         shared.new.regions.items gatherer.new result }
@@ -188,8 +236,8 @@ fn serve_miss<K: Keeper, N: Name>(
     let act = MemberAct::Get {
         time: gatherer.session.time(),
     };
+    gatherer.notes.miss(place, &reply);
     let entry = member_entry(tick, number, place, act, reply);
-    gatherer.notes.miss(place);
     shared.journal.push(GatherEntry::Member(entry));
     Turned::Did
 }
@@ -214,8 +262,10 @@ fn serve_hit<K: Keeper, N: Name>(
     requires due { due N.script N.defs (number_of gatherer.old.session) (past shared.old.journal)
         ≡ Some (Due.Member place (MemberAct.Get (time_in (own (number_of gatherer.old.session)
         (plain N.script (past shared.old.journal)))))) }
-    requires got { IsGot N.script N.defs (past shared.old.journal) place
-        (number_of gatherer.old.session) reply }
+    requires answered { IsAnsweredAt N.script N.defs (past shared.old.journal)
+        (number_of gatherer.old.session) entry.tick place (MemberAct.Get (time_in
+        (own (number_of gatherer.old.session) (plain N.script (past shared.old.journal))))) reply
+        shared.old.regions.items }
     requires hit { IfSome (list_of_hit reply) (λ l. entry ≡ entry_at
         (length (past shared.old.journal) + 1) (Some (number_of gatherer.old.session)) entry.act
         (Reply.Listed l)) }
@@ -227,6 +277,7 @@ fn serve_hit<K: Keeper, N: Name>(
         shared.old.engines shared.new.engines shared.old.regions.items shared.new.regions.items
         gatherer.old gatherer.new) }
 {
+    lists_leave();
     let act = MemberAct::Get {
         time: gatherer.session.time(),
     };
@@ -247,10 +298,14 @@ fn serve_get<K: Keeper, N: Name>(
     shared: &mut Shared<K>,
     act: Act,
     place: Place,
+    tick: Tick,
 ) -> Result<Turned, AllocError>
     requires script { script.now ≡ N.script }
     requires run { IsRun N.script N.defs N.from (past shared.old.journal) shared.old.engines
         shared.old.regions.items }
+    requires tick { tick ≡ length (past shared.old.journal) + 1 }
+    requires few { length (past shared.old.journal) + 1 < 2 ^ 62 }
+    requires room { 0 < shared.old.journal.spare }
     requires turn { IsTurn N.script (past shared.old.journal) gatherer.old act }
     requires due { due N.script N.defs (number_of gatherer.old.session) (past shared.old.journal)
         ≡ Some (Due.Member place (MemberAct.Get (time_in (own (number_of gatherer.old.session)
@@ -262,13 +317,14 @@ fn serve_get<K: Keeper, N: Name>(
         shared.old.engines shared.new.engines shared.old.regions.items shared.new.regions.items
         gatherer.old gatherer.new) }
 {
-    let tick = reserve_tick(&mut shared.journal)?;
-    let time = gatherer.session.time();
-    let region = &shared.regions[usize::from(place.collection)];
-    let reply = got(alloc, region, place.owner, time)?;
+    let number = gatherer.session.number();
+    let get = Act::Get {
+        key: place.key(),
+        time: gatherer.session.time(),
+    };
+    let reply = answer_at(alloc, &mut shared.regions, place, &get, tick)?;
     match members_in(alloc, &reply)? {
         Some(list) => {
-            let number = gatherer.session.number();
             let part = part_of(&act, number);
             let entry = Entry {
                 tick,
@@ -285,13 +341,18 @@ fn serve_get<K: Keeper, N: Name>(
 
 /// Members that were listed after a miss are offered to the region of their collection. If memory runs out nothing has changed.
 fn serve_put<K: Keeper, N: Name>(
+    alloc: Global,
     gatherer: &mut Gatherer,
     shared: &mut Shared<K>,
     place: Place,
     cells: Listing,
+    tick: Tick,
 ) -> Result<Turned, AllocError>
     requires run { IsRun N.script N.defs N.from (past shared.old.journal) shared.old.engines
         shared.old.regions.items }
+    requires tick { tick ≡ length (past shared.old.journal) + 1 }
+    requires few { length (past shared.old.journal) + 1 < 2 ^ 62 }
+    requires room { 0 < shared.old.journal.spare }
     requires member { IsGatherer N.script (past shared.old.journal)
         (number_of gatherer.old.session) gatherer.old }
     requires listed { gatherer.old.notes.listed ≡ Some (place, cells) }
@@ -302,33 +363,42 @@ fn serve_put<K: Keeper, N: Name>(
         shared.old.engines shared.new.engines shared.old.regions.items shared.new.regions.items
         gatherer.old gatherer.new) }
 {
-    let tick = reserve_tick(&mut shared.journal)?;
+    let number = gatherer.session.number();
     let time = gatherer.session.time();
     let floor = gatherer.session.floor();
-    let row = Row {
-        version: None,
-        cells,
+    let put = Act::Put {
+        key: place.key(),
+        row: Row {
+            version: None,
+            cells,
+        },
+        time,
+        floor,
     };
-    let region = &mut shared.regions[usize::from(place.collection)];
-    let put = region.put(place.owner, row, time, floor, tick)?;
+    let reply = answer_at(alloc, &mut shared.regions, place, &put, tick)?;
     let list = gatherer.notes.take_listed();
     let act = MemberAct::Put { list, time, floor };
-    let number = gatherer.session.number();
-    let entry = member_entry(tick, number, place, act, Reply::Put(put));
+    let entry = member_entry(tick, number, place, act, reply);
     shared.journal.push(GatherEntry::Member(entry));
     Ok(Turned::Did)
 }
 
 /// An owner is locked before a row is written whose owner it is or was. If memory runs out nothing has changed.
 fn serve_lock<K: Keeper, N: Name>(
+    alloc: Global,
     gatherer: &mut Gatherer,
     shared: &mut Shared<K>,
     place: Place,
+    tick: Tick,
 ) -> Result<Turned, AllocError>
     requires run { IsRun N.script N.defs N.from (past shared.old.journal) shared.old.engines
         shared.old.regions.items }
+    requires tick { tick ≡ length (past shared.old.journal) + 1 }
+    requires few { length (past shared.old.journal) + 1 < 2 ^ 62 }
+    requires room { 0 < shared.old.journal.spare }
     requires member { IsGatherer N.script (past shared.old.journal)
         (number_of gatherer.old.session) gatherer.old }
+    requires locks { gatherer.old.notes.room ≡ true }
     requires due { due N.script N.defs (number_of gatherer.old.session) (past shared.old.journal)
         ≡ Some (Due.Member place (MemberAct.Lock (floor_in (own (number_of gatherer.old.session)
         (plain N.script (past shared.old.journal)))))) }
@@ -339,28 +409,34 @@ fn serve_lock<K: Keeper, N: Name>(
         shared.old.engines shared.new.engines shared.old.regions.items shared.new.regions.items
         gatherer.old gatherer.new) }
 {
-    gatherer.notes.reserve()?;
-    let tick = reserve_tick(&mut shared.journal)?;
-    let floor = gatherer.session.floor();
-    let region = &mut shared.regions[usize::from(place.collection)];
-    let locked = region.lock(place.owner, None, floor, tick)?;
-    gatherer.notes.lock(place, locked.id);
-    let act = MemberAct::Lock { floor };
     let number = gatherer.session.number();
-    let entry = member_entry(tick, number, place, act, Reply::Locked(locked));
+    let floor = gatherer.session.floor();
+    let lock = Act::Lock {
+        key: place.key(),
+        version: None,
+        floor,
+    };
+    let reply = answer_at(alloc, &mut shared.regions, place, &lock, tick)?;
+    gatherer.notes.lock(place, &reply);
+    let entry = member_entry(tick, number, place, MemberAct::Lock { floor }, reply);
     shared.journal.push(GatherEntry::Member(entry));
     Ok(Turned::Did)
 }
 
 /// A lock is given back before the end of the transaction. If memory runs out nothing has changed.
 fn serve_unlock<K: Keeper, N: Name>(
+    alloc: Global,
     gatherer: &mut Gatherer,
     shared: &mut Shared<K>,
     place: Place,
     lock: Tick,
+    tick: Tick,
 ) -> Result<Turned, AllocError>
     requires run { IsRun N.script N.defs N.from (past shared.old.journal) shared.old.engines
         shared.old.regions.items }
+    requires tick { tick ≡ length (past shared.old.journal) + 1 }
+    requires few { length (past shared.old.journal) + 1 < 2 ^ 62 }
+    requires room { 0 < shared.old.journal.spare }
     requires member { IsGatherer N.script (past shared.old.journal)
         (number_of gatherer.old.session) gatherer.old }
     requires due { due N.script N.defs (number_of gatherer.old.session) (past shared.old.journal)
@@ -372,13 +448,14 @@ fn serve_unlock<K: Keeper, N: Name>(
         shared.old.engines shared.new.engines shared.old.regions.items shared.new.regions.items
         gatherer.old gatherer.new) }
 {
-    let tick = reserve_tick(&mut shared.journal)?;
-    let region = &mut shared.regions[usize::from(place.collection)];
-    let unlocked = region.unlock(place.owner, lock, tick)?;
-    gatherer.notes.unlock();
-    let act = MemberAct::Unlock { lock };
     let number = gatherer.session.number();
-    let entry = member_entry(tick, number, place, act, Reply::Unlocked(unlocked));
+    let unlock = Act::Unlock {
+        key: place.key(),
+        lock,
+    };
+    let reply = answer_at(alloc, &mut shared.regions, place, &unlock, tick)?;
+    gatherer.notes.unlock();
+    let entry = member_entry(tick, number, place, MemberAct::Unlock { lock }, reply);
     shared.journal.push(GatherEntry::Member(entry));
     Ok(Turned::Did)
 }
@@ -391,11 +468,16 @@ fn serve<K: Keeper, N: Name>(
     gatherer: &mut Gatherer,
     shared: &mut Shared<K>,
     act: Act,
+    tick: Tick,
 ) -> Result<Turned, AllocError>
     requires script { script.now ≡ N.script }
     requires defs { defs.now ≡ N.defs }
     requires run { IsRun N.script N.defs N.from (past shared.old.journal) shared.old.engines
         shared.old.regions.items }
+    requires tick { tick ≡ length (past shared.old.journal) + 1 }
+    requires few { length (past shared.old.journal) + 1 < 2 ^ 62 }
+    requires room { 0 < shared.old.journal.spare }
+    requires locks { gatherer.old.notes.room ≡ true }
     requires turn { IsTurn N.script (past shared.old.journal) gatherer.old act }
     requires ready { is_ready script.now gatherer.old.session ≡ true }
     requires unlisted { gatherer.old.notes.listed ≡ None }
@@ -407,10 +489,10 @@ fn serve<K: Keeper, N: Name>(
         gatherer.old gatherer.new) }
 {
     match comes_before(script, defs, &gatherer.session, &gatherer.notes, &act) {
-        Before::Nothing => serve_plain::<K, N>(alloc, script, gatherer, shared, act),
-        Before::Get(place) => serve_get::<K, N>(alloc, script, gatherer, shared, act, place),
-        Before::Lock(place) => serve_lock::<K, N>(gatherer, shared, place),
-        Before::Unlock(place, lock) => serve_unlock::<K, N>(gatherer, shared, place, lock),
+        Before::Nothing => serve_plain::<K, N>(alloc, script, gatherer, shared, act, tick),
+        Before::Get(place) => serve_get::<K, N>(alloc, script, gatherer, shared, act, place, tick),
+        Before::Lock(place) => serve_lock::<K, N>(alloc, gatherer, shared, place, tick),
+        Before::Unlock(place, lock) => serve_unlock::<K, N>(alloc, gatherer, shared, place, lock, tick),
     }
 }
 
@@ -435,14 +517,37 @@ fn take_turn<K: Keeper, N: Name>(
         shared.old.engines shared.new.engines shared.old.regions.items shared.new.regions.items
         gatherer.old gatherer.new) }
 {
+    let tick = prepare(alloc, script, gatherer, &mut shared.journal)?;
     if let Some((place, list)) = gatherer.notes.copy_of_listed(alloc)? {
-        return serve_put::<K, N>(gatherer, shared, place, list);
+        return serve_put::<K, N>(alloc, gatherer, shared, place, list, tick);
     }
-    gatherer.session.ready(alloc, script)?;
     let Some(act) = due_act(alloc, script, &gatherer.session)? else {
         return Ok(Turned::Done);
     };
-    serve::<K, N>(alloc, script, defs, gatherer, shared, act)
+    serve::<K, N>(alloc, script, defs, gatherer, shared, act, tick)
+}
+
+/// Whether anything is due in the session of this number. Fails for want of memory alone.
+pub fn has_turn<N: Name>(
+    alloc: Global,
+    script: &Script,
+    number: SessionNo,
+    gatherers: &[Gatherer],
+    journal: &Gathered,
+) -> Result<bool, AllocError>
+    requires script { script.now ≡ N.script }
+    requires queries { HasQueries N.script }
+    requires known { number < length N.script.sessions }
+    requires sessions { AreGatherers N.script (past journal.now) gatherers.now }
+    ensures { IfOk result (λ b. b ≡ is_some (due N.script N.defs number (past journal.now))) }
+{
+    let _ = journal;
+    let gatherer = &gatherers[number.0 as usize];
+    if gatherer.notes.has_listed() {
+        return Ok(true);
+    }
+    let act = due_act(alloc, script, &gatherer.session)?;
+    Ok(act.is_some())
 }
 
 /// One act of the session of this number, if one is due. If memory runs out nothing has changed, but for the keeper's counts.
