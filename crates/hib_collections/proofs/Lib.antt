@@ -9,3 +9,5 @@ pub mod Served
 pub mod Playing
 pub mod Begun
 pub mod Turned
+pub mod Left
+pub mod Taken

@@ -84,3 +84,13 @@ module _ (script : Script) (defs : List Def) (g : Gathered) where
       v = subst (λ z. IsServed (λ m. IsPlaced (region_script script defs) p.0 m (region_of qs p.0)) (region_script script defs) (regions g) (Some s) now z r) e
           (f (region_script script defs) (regions g) (Some s) (c p.0) late (ap entity_in e ∙ entity_is (key p.0 p.1) x)
           (subst (λ z. Suits z a) (sym (is_region script defs p.0 def.0 def.1).strategy) (subst (λ z. Suits Strategy.ReadWrite z) (sym e) (suits (key p.0 p.1) x))))
+
+  -- the same, of a region by a number that is the collection's
+  pub answered_by : Laws → (told : Option Tables) (s now n : ℕ) (p : ℕ × ℕ) (x : MemberAct) (a : Act) (r : Reply) (rs qs : List Region) → n ≡ p.0 → IsGathered script defs told g →
+      Gathered.due script defs s g ≡ Some (Due.Member p x) → a ≡ region_act (key p.0 p.1) x → now ≡ length g + 1 → AreCollected script defs g rs →
+      ((v : Script) (l : Journal) (by : Option ℕ) → IsPlaced v n l (region_of rs n) → IsLate (Part.Region n) now l → entity_in a ≡ Some n → Suits (strategy v n) a →
+      IsServed (λ m. IsPlaced v n m (region_of qs n)) v l by now a r) → IsAtRegion n rs qs → IsAnsweredAt script defs g s now p x r qs
+  answered_by w told s now n p x a r rs qs e l d f t c =
+      subst (λ (i : ℕ). ((v : Script) (l : Journal) (by : Option ℕ) → IsPlaced v i l (region_of rs i) → IsLate (Part.Region i) now l → entity_in a ≡ Some i → Suits (strategy v i) a →
+      IsServed (λ m. IsPlaced v i m (region_of qs i)) v l by now a r) → IsAtRegion i rs qs → IsAnsweredAt script defs g s now p x r qs) (sym e)
+      (λ h at. answered_at w told s now p x a r rs qs l d f t c h at)

@@ -59,6 +59,20 @@ entry_is now n s c o a b r e q d p =
     q ∙ (ap (λ z. record { tick = now; session = z; collection = c; owner = o; act = a; reply = r }) d
     ∙ ap (λ z. record { tick = now; session = s; collection = c; owner = o; act = z; reply = r }) p)
 
+pub plain_is : (t n s : ℕ) (a : Act) (r : Reply) (p : Part) → n ≡ s → p ≡ part_of a n →
+    ◌≡◌ {A = Entry} (record { tick = t; session = Some n; part = p; act = a; reply = r }) (entry_at t (Some s) a r)
+plain_is t n s a r p d q =
+    ap (λ v. record { tick = t; session = Some n; part = v; act = a; reply = r }) q ∙ ap (λ m. record { tick = t; session = Some m; part = part_of a m; act = a; reply = r }) d
+
+pub brings_so : (b : Bool) → (b ≡ false → ⊥) → b ≡ true
+brings_so true f = refl
+brings_so false f = absurd (f refl)
+
+pub taken_at : (script : Script) (g : Gathered) (u : Gatherer) (a : Act) (r : Reply) (now : ℕ) → IsTurn script g u a →
+    ((q : Reply) → own_reply script (own (number_of u.session) (plain script g)) a ≡ Some q → r ≡ q) →
+    IsTaken script (number_of u.session) (own (number_of u.session) (plain script g)) (entry_at now (Some (number_of u.session)) a r)
+taken_at script g u a r now t f = record { due = t.next; own = f }
+
 pub some_of : {A : Type 0} (o : Option A) → is_some o ≡ true → (x : A) × (o ≡ Some x)
 some_of None e = absurd (false≢true e)
 some_of (Some x) e = (x, refl)

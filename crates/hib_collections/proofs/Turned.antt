@@ -105,6 +105,11 @@ module _ (script : Script) (ys : List Gatherer) (s : ℕ) (u v : Gatherer) (at :
           (subst (λ n. IsGatherer script g n v) e (kept_member script g s u v k (w.each s u at)))
       by_test t z p (inr q) = w.each t z (there t z q p)
 
+-- a session that was read at a place
+pub at_place : (script : Script) (g : Gathered) (ys : List Gatherer) (i s : ℕ) (y : Gatherer) → AreGatherers script g ys → i ≡ s → s < length script.sessions → y ≡ get_or ys i y → slice_get ys s ≡ Some y
+at_place script g ys i s y w e l v =
+    slice_get-get_or ys s y (subst (λ n. s < n) (sym w.all) l) ∙ ap Some (sym (subst (λ n. y ≡ get_or ys n y) e v))
+
 -- what a turn comes to among all sessions
 pub record HasTurned {E : Type 0} (script : Script) (defs : List Def) (from : Origin) (s : ℕ) (r : Result Turned E) (g new : Gathered) (x y : EnginesState) (qs : List Region) (zs : List Gatherer) : Type 0 where
   pub run : IsRun script defs from new y qs

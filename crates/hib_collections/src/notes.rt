@@ -1,5 +1,6 @@
 // What is noted of a session beside what it remembers itself.
-ghost use Rattle.std.specs.Prelude.{◌≡◌, [], drop, Some, None, IfOk, OnOk, IfSome, IsSome, if◌then◌else◌, true, is_some};
+ghost use Rattle.std.specs.Prelude.{◌≡◌, [], drop, Some, None, IfOk, OnOk, OnErr, IfSome, IsSome, if◌then◌else◌, true, is_some};
+ghost use Rattle.hib_session.specs.Memory.{brings};
 ghost use Rattle.hib_collections_law.specs.Gathered.{is_miss, unless_begun};
 ghost use Rattle.hib_collections.specs.Notes.{listed_from, locks_with};
 
@@ -92,14 +93,15 @@ impl Notes {
         list
     }
 
-    /// A copy of a list that is answered after members were refused.
+    /// A copy of a list that is answered after members were refused. It takes memory for a list alone.
     pub fn copy_listed(
         &self,
         alloc: Global,
         act: &Act,
         reply: &Reply,
     ) -> Result<Option<(Place, Listing)>, AllocError>
-        ensures { IfOk result (λ l. l ≡ listed_from self.now.missed act.now reply.now) }
+        ensures listed { IfOk result (λ l. l ≡ listed_from self.now.missed act.now reply.now) }
+        ensures fails { OnErr result (brings act.now ≡ true) }
     {
         match (self.missed, act, reply) {
             (Some(place), Act::List { .. }, Reply::Listed(list)) => {

@@ -25,6 +25,13 @@ impl Model for Place {
 }
 
 impl Place {
+    /// The collection, taken for an entity.
+    pub fn entity(self) -> EntityNo
+        ensures { result ≡ self.0 }
+    {
+        EntityNo(self.collection)
+    }
+
     /// The owner as a key: its collection is taken for an entity, by its place.
     pub fn key(self) -> Key
         ensures { result ≡ key self.0 self.1 }

@@ -28,7 +28,7 @@ use crate::names::Name;
 use crate::places::Place;
 use crate::shared::Shared;
 use hib_base::{
-    Act, EntityNo, Entry, Listing, Reply, Row, Script, SessionNo, Tick, copy_cells,
+    Act, Entry, Listing, Reply, Row, Script, SessionNo, Tick, copy_cells,
 };
 use hib_collections_law::{Defs, GatherEntry, MemberAct, MemberEntry};
 use hib_engines::{Region, laws, lists_leave, serve_region};
@@ -115,8 +115,8 @@ fn answer_at(
     ensures err { OnErr result (regions.new.items ≡ regions.old.items) }
 {
     laws();
-    let collection = EntityNo(place.collection);
-    serve_region(alloc, regions, collection, act, tick)
+    let entity = place.entity();
+    serve_region(alloc, regions, entity, act, tick)
 }
 
 /// The act of the plan is answered, taken by its session, and its entry added: all of it, or if memory runs out nothing.
