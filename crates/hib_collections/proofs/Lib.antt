@@ -11,3 +11,4 @@ pub mod Begun
 pub mod Turned
 pub mod Left
 pub mod Taken
+pub mod Hearing

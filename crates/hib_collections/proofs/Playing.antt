@@ -3,11 +3,14 @@ use Rattle.std.specs.Prelude.{is_some, option_and_then, slice_get}
 use Rattle.std.specs.Option.{option_map_or}
 use Rattle.std.proofs.Common.{◌≡◌, ◌≢◌, ℕ, zero, suc, ◌+◌, ◌-◌, ◌<◌, ◌≤◌, ◌==◌, add-one, Bool, true, false, List, [], ◌∷◌, ◌++◌, reverse, drop, length, append_assoc, append-nil, Some, None, Option, refl, sym, ap, ◌∙◌, subst, arith, inl, inr}
 use Rattle.std.proofs.lemmas.Bool.{true≢false, eqb-true}
+use Rattle.std.proofs.lemmas.Option.{slice_get_past}
 use Rattle.std.proofs.lemmas.List.{reverse-append, reverse-reverse, drop_all}
 use Rattle.std.specs.List.{range_with_len}
 use Rattle.hib_base.proofs.Tables.{Tested, tested}
-use Rattle.hib_journal.specs.Types.{Order, Script}
-use Rattle.hib_journal.specs.Sessions.{is_empty, own}
+use Rattle.hib_journal.specs.Types.{Mode, Order, Script, SessionDef}
+use Rattle.hib_journal.specs.Plan.{Plan, left_of, first_act}
+use Rattle.hib_journal.specs.Next.{next, blocks}
+use Rattle.hib_journal.specs.Sessions.{Journal, is_empty, own}
 use Rattle.hib_engines.proofs.Bridge.{self_by}
 use Rattle.hib_collections_law.specs.declared.entries.Def.{Def}
 use Rattle.hib_collections_law.specs.declared.entries.GatherEntry.{GatherEntry}
@@ -16,6 +19,7 @@ use Rattle.hib_collections_law.specs.Gathered
 use Rattle.hib_collections_law.specs.Gathered.{is_by, mine, plain}
 use Rattle.hib_collections.specs.Played.{Play, Playing, GoesOn, Leads, has_next, is_played, play_all, play_order, play_orders, play_script, play_sessions, play_steps, played}
 use Rattle.hib_collections.proofs.Entries.{own_other, mine_other}
+use Rattle.hib_collections.proofs.Turned.{by_other}
 
 pub leads_none : (all left : Play) (g : Gathered) → ((rest : Gathered) → all g rest ≡ left g rest) → Leads all left g g
 leads_none all left g f = record { added = []; grown = refl; plays = f }
@@ -170,3 +174,19 @@ module _ (script : Script) (defs : List Def) where
       by_test (inl p) = let e : n ≡ s = eqb-true n s p in subst (λ m. has_next script defs new m ≡ false) e o
       by_test (inr p) = let d : n ≢ s = λ e. true≢false (sym (ap (λ m. n == m) (sym e) ∙ self_by n) ∙ p) in
           g s p ∙ f s (omega (arith, l, d))
+
+  pub stay_more : (n : ℕ) (old mid new : Gathered) (x : GatherEntry) → new ≡ x ∷ mid → is_by n x ≡ true →
+      ((s : ℕ) → (n == s) ≡ false → has_next script defs mid s ≡ has_next script defs old s) → (s : ℕ) → (n == s) ≡ false → has_next script defs new s ≡ has_next script defs old s
+  stay_more n old mid new x e b f s d = ap (λ g. has_next script defs g s) e ∙ (next_other s mid x (by_other n s x b d) ∙ f s d)
+
+  pub unknown_leads : (s n : ℕ) (g : Gathered) → has_next script defs g s ≡ false → Leads (play_steps script defs s n) played g g
+  unknown_leads s n g p = leads_none (play_steps script defs s n) played g (no_step s n g p)
+
+-- nothing of its plan is due in a session that isn't there
+over_left : (mine : Journal) → left_of Plan.Over mine ≡ Plan.Over
+over_left [] = refl
+over_left (e ∷ m) = rw (over_left m) refl
+
+pub unknown : (script : Script) (s : ℕ) (mine : Journal) → length script.sessions ≤ s → next script s mine ≡ None
+unfolding next
+unknown script s mine l = ap (λ (o : Option SessionDef). first_act (left_of (blocks script Mode.Normal true (option_map_or (λ d. d.statements) o []) []) mine)) (slice_get_past script.sessions s l) ∙ ap first_act (over_left mine)

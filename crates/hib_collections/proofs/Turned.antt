@@ -29,7 +29,7 @@ use Rattle.hib_collections.specs.Run.{Does, HasMoved, HasRested, IsKept, IsRun, 
 use Rattle.hib_collections.proofs.Entries.{own_other, mine_other}
 
 -- an entry of one session is of no other
-by_other : (s t : ℕ) (x : GatherEntry) → is_by s x ≡ true → (s == t) ≡ false → is_by t x ≡ false
+pub by_other : (s t : ℕ) (x : GatherEntry) → is_by s x ≡ true → (s == t) ≡ false → is_by t x ≡ false
 by_other s t (GatherEntry.Plain e) p d = by_session e.session p
   where
     by_session : (o : Option ℕ) → is_session s o ≡ true → is_session t o ≡ false

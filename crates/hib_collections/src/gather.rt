@@ -1,5 +1,5 @@
 // A run with collections: sessions over engines and over the regions of collections, the journal of their steps, and the listeners.
-ghost use Rattle.std.specs.Prelude.{◌≡◌, ◌<◌, ◌≤◌, ◌^◌, [], length, is_ok, OnOk, OnErr, IfOk, IfErr, Ok, true, false};
+ghost use Rattle.std.specs.Prelude.{◌≡◌, ◌<◌, ◌≤◌, ◌^◌, ℕ, [], ◌∷◌, length, slice_get, Some, is_ok, OnOk, OnErr, IfOk, IfErr, Ok, true, false};
 ghost use Rattle.hib_journal.specs.Runs.{told_committed, fault_count};
 ghost use Rattle.hib_outside.specs.Causes.{Rose};
 ghost use Rattle.hib_store.specs.Stores.{handed_back, is_store_fault};
@@ -14,16 +14,16 @@ ghost use Rattle.hib_collections.specs.Kept.{past};
 ghost use Rattle.hib_collections.specs.Run.{AreSet, IsAskedOnceMore, ask_count, says_fault};
 ghost use Rattle.hib_collections.specs.Obeyed.{Obeys};
 ghost use Rattle.hib_collections.specs.Gather.{Hears, HasStepped, IsOver, heard_in};
-ghost use Rattle.hib_collections.specs.Played.{GoesOn};
+ghost use Rattle.hib_collections.specs.Played.{GoesOn, has_next};
 
 use crate::gathered::Gathered;
 use crate::names::Name;
 use crate::steps::Core;
 use crate::telling::tell;
-use hib_base::{Script, SessionNo};
+use hib_base::{Order, Script, SessionNo};
 use hib_collections_law::Defs;
 use hib_engines::Stepped;
-use hib_listeners::{Listeners, nothing_was_told};
+use hib_listeners::{Listeners, nothing_was_told, telling_goes_on};
 use hib_outside::{Keeper, Listener};
 use hib_store::OpenFault;
 use std::alloc::{AllocError, Global};
@@ -139,12 +139,14 @@ impl<K: Keeper, N: Name, L: Listener> Gather<K, N, L> {
             → IsAskedOnceMore N.script N.from (past self.new.journal) self.new.engines) }
         ensures refused { OnErr result (self.new.refused ≡ true) }
     {
+        telling_goes_on();
         if self.deaf {
-            self.lawful();
+            self.core.lawful();
             return self.core.idle_step(alloc, number);
         }
-        let turned = self.core.step(alloc, number)?;
-        self.lawful();
+        let stepped = self.core.step(alloc, number);
+        self.core.lawful();
+        let turned = stepped?;
         if turned.is_done() {
             return Ok(Stepped::Done);
         }
@@ -177,6 +179,38 @@ impl<K: Keeper, N: Name, L: Listener> Gather<K, N, L> {
         ensures { result.now ≡ N.defs }
     {
         self.core.defs()
+    }
+
+    /// How many sessions there are. In others nothing is due.
+    pub fn sessions(&self) -> usize
+        ensures count { result ≡ length N.script.sessions }
+        ensures few { result < 2 ^ 32 }
+        ensures unknown { (s : ℕ) → length N.script.sessions ≤ s
+            → has_next N.script N.defs (past self.now.journal) s ≡ false }
+    {
+        self.core.sessions()
+    }
+
+    /// How many orders the schedule has.
+    pub fn orders(&self) -> usize
+        ensures count { result ≡ length N.script.schedule }
+    {
+        self.core.orders()
+    }
+
+    /// An order of the schedule.
+    pub fn order(&self, at: usize) -> Order
+        requires there { at < length N.script.schedule }
+        ensures { slice_get N.script.schedule at ≡ Some result }
+    {
+        self.core.order(at)
+    }
+
+    /// The journal is short. It does nothing.
+    pub fn short(&self)
+        ensures { length (past self.now.journal) < 2 ^ 62 }
+    {
+        self.core.short();
     }
 
     /// Whether memory ran out in a call, a listener's among them.

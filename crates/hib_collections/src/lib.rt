@@ -13,6 +13,7 @@ mod names;
 mod notes;
 mod owners;
 mod places;
+mod running;
 mod shared;
 mod steps;
 mod telling;

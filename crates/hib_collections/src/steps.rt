@@ -1,5 +1,5 @@
 // The steps of a run with collections, each of which adds one entry to its journal, whoever hears of it.
-ghost use Rattle.std.specs.Prelude.{◌≡◌, ◌≢◌, ◌≤◌, ◌<◌, [], length, OnOk, OnErr, IfOk, IfErr, Ok, false, true};
+ghost use Rattle.std.specs.Prelude.{◌≡◌, ◌≢◌, ◌≤◌, ◌<◌, ◌^◌, ℕ, [], length, slice_get, Some, OnOk, OnErr, IfOk, IfErr, Ok, false, true};
 ghost use Rattle.hib_journal.specs.Runs.{told_committed, fault_count};
 ghost use Rattle.hib_outside.specs.Causes.{Rose};
 ghost use Rattle.hib_store.specs.Stores.{handed_back, is_store_fault};
@@ -8,7 +8,7 @@ ghost use Rattle.hib_engines.specs.Engines.{IsStill};
 ghost use Rattle.hib_engines.specs.Origin.{told_start};
 ghost use Rattle.hib_collections_law.specs.Gathered.{plain};
 ghost use Rattle.hib_collections.specs.Kept.{past};
-ghost use Rattle.hib_collections.specs.Run.{AreSet, Does, IsAskedOnceMore, ask_count};
+ghost use Rattle.hib_collections.specs.Run.{AreSet, Does, IsAsked, IsAskedOnceMore, ask_count};
 ghost use Rattle.hib_collections.specs.Obeyed.{Obeys};
 ghost use Rattle.hib_collections.specs.Played.{has_next};
 
@@ -17,8 +17,8 @@ use crate::members::{Gatherer, open_all};
 use crate::names::Name;
 use crate::shared::{Shared, open_regions};
 use crate::turns::{Turned, has_turn, turn};
-use hib_base::{Script, SessionNo};
-use hib_collections_law::{Defs, collections_cohere};
+use hib_base::{Order, Script, SessionNo};
+use hib_collections_law::{Defs, collections_cohere, sessions_end};
 use hib_engines::{Engines, Stepped};
 use hib_outside::Keeper;
 use hib_store::OpenFault;
@@ -112,6 +112,8 @@ impl<K: Keeper, N: Name> Core<K, N> {
         ensures does { IfOk result (Does N.script N.defs number (past self.old.journal)
             (past self.new.journal) self.old.engines self.new.engines) }
         ensures going { OnOk result (self.new.refused ≡ self.old.refused) }
+        ensures within { OnOk result (self.old.refused ≡ false
+            → IsAsked N.script N.from (past self.new.journal) self.new.engines) }
         ensures same { OnErr result (past self.new.journal ≡ past self.old.journal) }
         ensures still { OnErr result (IsStill self.old.engines self.new.engines) }
         ensures asked { OnErr result (self.old.refused ≡ false
@@ -173,6 +175,39 @@ impl<K: Keeper, N: Name> Core<K, N> {
         ensures { result.now ≡ N.defs }
     {
         &self.defs
+    }
+
+    /// How many sessions there are. In others nothing is due.
+    pub fn sessions(&self) -> usize
+        ensures count { result ≡ length N.script.sessions }
+        ensures few { result < 2 ^ 32 }
+        ensures unknown { (s : ℕ) → length N.script.sessions ≤ s
+            → has_next N.script N.defs (past self.now.journal) s ≡ false }
+    {
+        sessions_end();
+        self.script.sessions.len()
+    }
+
+    /// How many orders the schedule has.
+    pub fn orders(&self) -> usize
+        ensures count { result ≡ length N.script.schedule }
+    {
+        self.script.schedule.len()
+    }
+
+    /// An order of the schedule.
+    pub fn order(&self, at: usize) -> Order
+        requires there { at < length N.script.schedule }
+        ensures { slice_get N.script.schedule at ≡ Some result }
+    {
+        *self.script.schedule.at(at)
+    }
+
+    /// The journal is short. It does nothing.
+    pub fn short(&self)
+        ensures { length (past self.now.journal) < 2 ^ 62 }
+    {
+        let _ = &self.shared;
     }
 
     /// Whether memory ran out in a call.
