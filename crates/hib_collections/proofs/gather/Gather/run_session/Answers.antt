@@ -16,7 +16,7 @@ steps-preserved g c =
       going = c.in_ok-step.ensures.going ∙ c.steps.invariant.going;
     }
 
-pub steps-smaller : goal.steps-decreases
+pub steps-smaller : goal.steps-smaller
 steps-smaller g c =
     let did = c.step.ensures.did (c.in_ok-step.was ∙ ap (λ z. Ok z) c.in-Did.is) in
     let e = ap length did.grown in
