@@ -4,6 +4,7 @@
 //! a collection's region before or after that. The law of such journals stands in `hib_collections_law`.
 #![tactic(auto)]
 
+mod at_owners;
 mod before;
 mod gather;
 mod gathered;

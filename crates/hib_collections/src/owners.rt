@@ -112,11 +112,7 @@ fn free(locks: &Locks, collection: u16, owner: Option<u64>) -> Option<Place>
 }
 
 /// The first of two owners of a collection that isn't locked.
-fn first_free(
-    locks: &Locks,
-    collection: u16,
-    owners: (Option<u64>, Option<u64>),
-) -> Option<Place>
+fn first_free(locks: &Locks, collection: u16, owners: (Option<u64>, Option<u64>)) -> Option<Place>
     ensures { result ≡ find (λ p. not (is_locked locks.now.held p))
         (map (λ o. (collection, o)) (option_to_list owners.0 ++ option_to_list owners.1)) }
 {
@@ -147,12 +143,7 @@ fn free_in(
 }
 
 /// The first owner that is to be locked before a change is written, by the row that was there; there is none if all are locked.
-pub fn to_lock(
-    defs: &Defs,
-    change: &Change,
-    old: Option<&Row>,
-    locks: &Locks,
-) -> Option<Place>
+pub fn to_lock(defs: &Defs, change: &Change, old: Option<&Row>, locks: &Locks) -> Option<Place>
     requires few { length defs.now ≤ 64 }
     ensures { result ≡ find (λ p. not (is_locked locks.now.held p))
         (owners_from 0 defs.now (option_copied old.entry) change.now) }

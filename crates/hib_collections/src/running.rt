@@ -17,12 +17,7 @@ use std::alloc::{AllocError, Global};
 impl<K: Keeper, N: Name, L: Listener> Gather<K, N, L> {
     /// Runs a session for so many steps, or to its end if that comes before; one that isn't there has none. If memory runs out
     /// the steps so far stand.
-    fn run_steps(
-        &mut self,
-        alloc: Global,
-        number: SessionNo,
-        steps: u32,
-    ) -> Result<(), AllocError>
+    fn run_steps(&mut self, alloc: Global, number: SessionNo, steps: u32) -> Result<(), AllocError>
         ensures played { OnOk result (Leads (play_steps N.script N.defs number steps) played
             (past self.old.journal) (past self.new.journal)) }
         ensures law { Obeys N.script N.defs N.from.tables (past self.new.journal) }

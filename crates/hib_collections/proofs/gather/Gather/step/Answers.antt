@@ -30,13 +30,13 @@ returns-in_err-turned-clause-hears g c =
 pub returns-then-is_done-clause-fault : goal.returns-then-is_done-clause-fault
 returns-then-is_done-clause-fault g c = λ x p _.
     let rest = rested g.N.Name.script g.N.Name.defs c.args.number (past c.self.inside.core.journal) (past c.step-stepped.new.self.journal) c.self.inside.core.engines c.step-stepped.new.self.engines
-        c.in_ok-turned.turned (sym c.is_done.ensures ∙ c.if-is_done.true) c.in_ok-turned.ensures.does in
+    c.in_ok-turned.turned (sym c.is_done.ensures ∙ c.if-is_done.true) c.in_ok-turned.ensures.does in
     absurd (further (past c.args.self.now.journal) x (sym (rest.same ∙ ap (λ (v : GatherState). past v.journal) c.self.view_is) ∙ p))
 
 pub returns-then-is_done-clause-hears : goal.returns-then-is_done-clause-hears
 returns-then-is_done-clause-hears g c =
     let rest = rested g.N.Name.script g.N.Name.defs c.args.number (past c.self.inside.core.journal) (past c.step-stepped.new.self.journal) c.self.inside.core.engines c.step-stepped.new.self.engines
-        c.in_ok-turned.turned (sym c.is_done.ensures ∙ c.if-is_done.true) c.in_ok-turned.ensures.does in
+    c.in_ok-turned.turned (sym c.is_done.ensures ∙ c.if-is_done.true) c.in_ok-turned.ensures.does in
     hears_same g.N.Name.script (past c.args.self.now.journal) (past c.step-stepped.new.self.journal) _ c.args.self.now.told (tells g.L.Listener.heard g.L.Listener.left c.self.inside.listeners)
     (rest.same ∙ ap (λ (v : GatherState). past v.journal) c.self.view_is) (ap (λ (v : GatherState). v.told) c.self.view_is)
 
@@ -48,11 +48,11 @@ invariant_of-self-in_err-tell g c =
     let now = tells g.L.Listener.heard g.L.Listener.left c.self.inside.listeners in
     let next = tells g.L.Listener.heard g.L.Listener.left c.tell.new.listeners in
     let did = moved script g.N.Name.defs c.args.number old new c.self.inside.core.engines c.step-stepped.new.self.engines
-        c.in_ok-turned.turned (sym c.is_done.ensures ∙ c.if-is_done.false) c.in_ok-turned.ensures.does in
+    c.in_ok-turned.turned (sym c.is_done.ensures ∙ c.if-is_done.false) c.in_ok-turned.ensures.does in
     subst (λ b. HaveHeard b (heard_in script new) g.N.Name.told next) (sym c.tell.ensures.deaf)
     (heard_turn script g.N.Name.defs c.args.number old new c.self.inside.core.engines c.step-stepped.new.self.engines c.telling_goes_on.ensures
-        c.in_ok-turned.turned (is_ok c.tell.result) g.N.Name.told now next did (λ e h p. c.tell.ensures.told e h (ap past c.journal.ensures ∙ p))
-        (subst (λ b. HaveHeard b (heard_in script old) g.N.Name.told now) c.if-self.false c.self.invariant))
+    c.in_ok-turned.turned (is_ok c.tell.result) g.N.Name.told now next did (λ e h p. c.tell.ensures.told e h (ap past c.journal.ensures ∙ p))
+    (subst (λ b. HaveHeard b (heard_in script old) g.N.Name.told now) c.if-self.false c.self.invariant))
 
 pub invariant_of-self-2 : goal.invariant_of-self-2
 invariant_of-self-2 g c =
@@ -62,11 +62,11 @@ invariant_of-self-2 g c =
     let now = tells g.L.Listener.heard g.L.Listener.left c.self.inside.listeners in
     let next = tells g.L.Listener.heard g.L.Listener.left c.tell.new.listeners in
     let did = moved script g.N.Name.defs c.args.number old new c.self.inside.core.engines c.step-stepped.new.self.engines
-        c.in_ok-turned.turned (sym c.is_done.ensures ∙ c.if-is_done.false) c.in_ok-turned.ensures.does in
+    c.in_ok-turned.turned (sym c.is_done.ensures ∙ c.if-is_done.false) c.in_ok-turned.ensures.does in
     subst (λ b. HaveHeard b (heard_in script new) g.N.Name.told next) (sym c.tell.ensures.deaf)
     (heard_turn script g.N.Name.defs c.args.number old new c.self.inside.core.engines c.step-stepped.new.self.engines c.telling_goes_on.ensures
-        c.in_ok-turned.turned (is_ok c.tell.result) g.N.Name.told now next did (λ e h p. c.tell.ensures.told e h (ap past c.journal.ensures ∙ p))
-        (subst (λ b. HaveHeard b (heard_in script old) g.N.Name.told now) c.if-self.false c.self.invariant))
+    c.in_ok-turned.turned (is_ok c.tell.result) g.N.Name.told now next did (λ e h p. c.tell.ensures.told e h (ap past c.journal.ensures ∙ p))
+    (subst (λ b. HaveHeard b (heard_in script old) g.N.Name.told now) c.if-self.false c.self.invariant))
 
 pub returns-in_err-tell-clause-hears : goal.returns-in_err-tell-clause-hears
 returns-in_err-tell-clause-hears g c =
@@ -78,10 +78,10 @@ returns-in_err-tell-clause-hears g c =
     let next = tells g.L.Listener.heard g.L.Listener.left c.tell.new.listeners in
     let y = c.step-stepped.new.self.engines in
     let did = moved_at script defs c.args.number (past c.self.inside.core.journal) new c.self.inside.core.engines y old c.args.self.now.engines
-        c.in_ok-turned.turned (ap (λ (v : GatherState). past v.journal) c.self.view_is) (ap (λ (v : GatherState). v.engines) c.self.view_is)
-        (sym c.is_done.ensures ∙ c.if-is_done.false) c.in_ok-turned.ensures.does in
+    c.in_ok-turned.turned (ap (λ (v : GatherState). past v.journal) c.self.view_is) (ap (λ (v : GatherState). v.engines) c.self.view_is)
+    (sym c.is_done.ensures ∙ c.if-is_done.false) c.in_ok-turned.ensures.does in
     let told = hears_turn script defs c.args.number old new c.args.self.now.engines y c.in_ok-turned.turned (is_ok c.tell.result) now next did
-        (λ e h p. c.tell.ensures.told e h (ap past c.journal.ensures ∙ p)) in
+    (λ e h p. c.tell.ensures.told e h (ap past c.journal.ensures ∙ p)) in
     subst (λ ts. Hears (plain script old) (plain script new) (is_ok c.from_residual-in_err-tell.result) ts next) (ap (λ (v : GatherState). v.told) c.self.view_is)
     (heard_so (plain script old) (plain script new) (is_ok c.tell.result) (is_ok c.from_residual-in_err-tell.result) now next (ap is_ok c.in_err-tell.was ∙ sym (none_ok c.from_residual-in_err-tell.result c.from_residual-in_err-tell.ensures.0)) told)
 
@@ -91,10 +91,10 @@ returns-in_err-tell-clause-unheard g c =
     let y = c.step-stepped.new.self.engines in
     let old = past c.args.self.now.journal in
     let did = moved_at g.N.Name.script g.N.Name.defs c.args.number (past c.self.inside.core.journal) new c.self.inside.core.engines y old c.args.self.now.engines
-        c.in_ok-turned.turned (ap (λ (v : GatherState). past v.journal) c.self.view_is) (ap (λ (v : GatherState). v.engines) c.self.view_is)
-        (sym c.is_done.ensures ∙ c.if-is_done.false) c.in_ok-turned.ensures.does in
+    c.in_ok-turned.turned (ap (λ (v : GatherState). past v.journal) c.self.view_is) (ap (λ (v : GatherState). v.engines) c.self.view_is)
+    (sym c.is_done.ensures ∙ c.if-is_done.false) c.in_ok-turned.ensures.does in
     let f : c.args.self.now.deaf ≡ false → c.tell.new.deaf ≡ true → HasStepped g.N.Name.script g.N.Name.defs c.args.number old new =
-        λ _ _. stepped g.N.Name.script g.N.Name.defs c.args.number old new c.args.self.now.engines y c.in_ok-turned.turned did in
+    λ _ _. stepped g.N.Name.script g.N.Name.defs c.args.number old new c.args.self.now.engines y c.in_ok-turned.turned did in
     err_all c.from_residual-in_err-tell.result _ f
 
 pub returns-in_err-tell-clause-stands : goal.returns-in_err-tell-clause-stands
@@ -103,8 +103,8 @@ returns-in_err-tell-clause-stands g c =
     let y = c.step-stepped.new.self.engines in
     let old = past c.args.self.now.journal in
     let did = moved_at g.N.Name.script g.N.Name.defs c.args.number (past c.self.inside.core.journal) new c.self.inside.core.engines y old c.args.self.now.engines
-        c.in_ok-turned.turned (ap (λ (v : GatherState). past v.journal) c.self.view_is) (ap (λ (v : GatherState). v.engines) c.self.view_is)
-        (sym c.is_done.ensures ∙ c.if-is_done.false) c.in_ok-turned.ensures.does in
+    c.in_ok-turned.turned (ap (λ (v : GatherState). past v.journal) c.self.view_is) (ap (λ (v : GatherState). v.engines) c.self.view_is)
+    (sym c.is_done.ensures ∙ c.if-is_done.false) c.in_ok-turned.ensures.does in
     err_all c.from_residual-in_err-tell.result _ (goes_one g.N.Name.script g.N.Name.defs c.args.number old new c.args.self.now.engines y c.in_ok-turned.turned did)
 
 pub returns-in_err-tell-clause-asked : goal.returns-in_err-tell-clause-asked
@@ -112,8 +112,8 @@ returns-in_err-tell-clause-asked g c =
     let new = past c.step-stepped.new.self.journal in
     let y = c.step-stepped.new.self.engines in
     let f : c.args.self.now.refused ≡ false → IsAskedOnceMore g.N.Name.script g.N.Name.from new y =
-        λ e. once_more g.N.Name.script g.N.Name.from new y
-            (c.in_ok-turned.ensures.within (first_off c.self.inside.core.refused c.self.inside.deaf (ap (λ (v : GatherState). v.refused) c.self.view_is ∙ e))) in
+    λ e. once_more g.N.Name.script g.N.Name.from new y
+    (c.in_ok-turned.ensures.within (first_off c.self.inside.core.refused c.self.inside.deaf (ap (λ (v : GatherState). v.refused) c.self.view_is ∙ e))) in
     err_all c.from_residual-in_err-tell.result _ f
 
 pub returns-clause-did : goal.returns-clause-did
@@ -122,8 +122,8 @@ returns-clause-did g c = λ _.
     let y = c.step-stepped.new.self.engines in
     let old = past c.args.self.now.journal in
     let did = moved_at g.N.Name.script g.N.Name.defs c.args.number (past c.self.inside.core.journal) new c.self.inside.core.engines y old c.args.self.now.engines
-        c.in_ok-turned.turned (ap (λ (v : GatherState). past v.journal) c.self.view_is) (ap (λ (v : GatherState). v.engines) c.self.view_is)
-        (sym c.is_done.ensures ∙ c.if-is_done.false) c.in_ok-turned.ensures.does in
+    c.in_ok-turned.turned (ap (λ (v : GatherState). past v.journal) c.self.view_is) (ap (λ (v : GatherState). v.engines) c.self.view_is)
+    (sym c.is_done.ensures ∙ c.if-is_done.false) c.in_ok-turned.ensures.does in
     stepped g.N.Name.script g.N.Name.defs c.args.number old new c.args.self.now.engines y c.in_ok-turned.turned did
 
 pub returns-clause-hears : goal.returns-clause-hears
@@ -136,9 +136,9 @@ returns-clause-hears g c =
     let next = tells g.L.Listener.heard g.L.Listener.left c.tell.new.listeners in
     let y = c.step-stepped.new.self.engines in
     let did = moved_at script defs c.args.number (past c.self.inside.core.journal) new c.self.inside.core.engines y old c.args.self.now.engines
-        c.in_ok-turned.turned (ap (λ (v : GatherState). past v.journal) c.self.view_is) (ap (λ (v : GatherState). v.engines) c.self.view_is)
-        (sym c.is_done.ensures ∙ c.if-is_done.false) c.in_ok-turned.ensures.does in
+    c.in_ok-turned.turned (ap (λ (v : GatherState). past v.journal) c.self.view_is) (ap (λ (v : GatherState). v.engines) c.self.view_is)
+    (sym c.is_done.ensures ∙ c.if-is_done.false) c.in_ok-turned.ensures.does in
     let told = hears_turn script defs c.args.number old new c.args.self.now.engines y c.in_ok-turned.turned (is_ok c.tell.result) now next did
-        (λ e h p. c.tell.ensures.told e h (ap past c.journal.ensures ∙ p)) in
+    (λ e h p. c.tell.ensures.told e h (ap past c.journal.ensures ∙ p)) in
     subst (λ ts. Hears (plain script old) (plain script new) _ ts next) (ap (λ (v : GatherState). v.told) c.self.view_is)
     (heard_so (plain script old) (plain script new) (is_ok c.tell.result) _ now next (ap is_ok c.in_ok-tell.was) told)

@@ -20,7 +20,7 @@ use Rattle.std.proofs.Common.{drop}
 use Rattle.hib_collections_law.specs.Gathered.{Held}
 use Rattle.hib_collections.proofs.Served.{entry_is, member_serves}
 use Rattle.hib_collections.proofs.Left.{leaves_same, kept_same}
-use Rattle.hib_collections.proofs.turns.serve_unlock.Goals as goal
+use Rattle.hib_collections.proofs.at_owners.serve_unlock.Goals as goal
 
 pub returns-in_err-reply-clause-err : goal.returns-in_err-reply-clause-err
 returns-in_err-reply-clause-err g c =
@@ -49,7 +49,7 @@ returns-clause-ok g c =
     let at = c.requires.member in
     let y = MemberAct.Unlock c.args.lock in
     let answer = c.in_ok-reply.ensures.answered script defs from.tables j s y c.requires.run.gathered due
-        (ap (λ k. Act.Unlock k c.args.lock) c.key.ensures) c.requires.tick c.requires.run.regions in
+    (ap (λ k. Act.Unlock k c.args.lock) c.key.ensures) c.requires.tick c.requires.run.regions in
     member_serves script defs from j x rs s x u (record { session = u.session; notes = c.unlock.new.self }) c.args.tick c.args.place y c.in_ok-reply.reply (past c.push.new.self) c.answer_at.new.regions.items
     c.requires.tick c.requires.few answer refl c.in_ok-reply.ensures.calm
     (c.push.ensures.past ∙ ap (λ m. GatherEntry.Member m ∷ j) (entry_is c.args.tick c.number-number.result s c.args.place.0 c.args.place.1 (MemberAct.Unlock c.args.lock) y c.in_ok-reply.reply

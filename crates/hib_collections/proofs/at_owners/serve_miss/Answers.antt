@@ -17,7 +17,7 @@ use Rattle.hib_collections.specs.Kept.{past}
 use Rattle.hib_collections.specs.Collected.{AreCollected}
 use Rattle.hib_collections.specs.Run.{IsRun, IsTurn, IsKept, Leaves, Serves}
 use Rattle.hib_collections.proofs.Served.{entry_is, get_miss, member_serves}
-use Rattle.hib_collections.proofs.turns.serve_miss.Goals as goal
+use Rattle.hib_collections.proofs.at_owners.serve_miss.Goals as goal
 
 pub returns : goal.returns
 returns g c =

@@ -21,7 +21,7 @@ use Rattle.hib_collections.specs.Run.{IsRun, IsTurn, IsKept, IsAnsweredAt, Leave
 use Rattle.hib_collections.specs.Gatherers.{IsGatherer}
 use Rattle.hib_collections.proofs.Left.{kept_by, kept_same, leaves_same, leaves_still}
 use Rattle.hib_collections.proofs.Served.{entry_is, get_miss, hit_serves, lock_same, member_serves, plain_is, plain_serves, ready_at, some_of, taken_at}
-use Rattle.hib_collections.proofs.turns.serve_hit.Goals as goal
+use Rattle.hib_collections.proofs.at_owners.serve_hit.Goals as goal
 
 pub returns-in_err-advance-clause-err : goal.returns-in_err-advance-clause-err
 returns-in_err-advance-clause-err g c =

@@ -23,7 +23,7 @@ use Rattle.hib_collections.proofs.Left.{kept_by, kept_same, leaves_same, leaves_
 use Rattle.hib_collections.proofs.Served.{entry_is, get_miss, hit_serves, lock_same, member_serves, plain_is, plain_serves, ready_at, some_of, taken_at}
 use Rattle.std.specs.Prelude.{IfSome}
 use Rattle.hib_collections.proofs.Taken.{due_put}
-use Rattle.hib_collections.proofs.turns.serve_put.Goals as goal
+use Rattle.hib_collections.proofs.at_owners.serve_put.Goals as goal
 
 pub returns-in_err-reply-clause-err : goal.returns-in_err-reply-clause-err
 returns-in_err-reply-clause-err g c =

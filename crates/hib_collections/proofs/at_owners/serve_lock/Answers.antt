@@ -20,7 +20,7 @@ use Rattle.hib_collections_law.specs.Gathered.{Held}
 use Rattle.hib_collections.specs.Notes.{locks_with}
 use Rattle.hib_collections.proofs.Served.{entry_is, lock_same, member_serves}
 use Rattle.hib_collections.proofs.Left.{leaves_same, kept_same}
-use Rattle.hib_collections.proofs.turns.serve_lock.Goals as goal
+use Rattle.hib_collections.proofs.at_owners.serve_lock.Goals as goal
 
 pub returns-in_err-reply-clause-err : goal.returns-in_err-reply-clause-err
 returns-in_err-reply-clause-err g c =
@@ -51,7 +51,7 @@ returns-clause-ok g c =
     let at = c.requires.member in
     let y = MemberAct.Lock f in
     let answer = c.in_ok-reply.ensures.answered script defs from.tables j s y c.requires.run.gathered due
-        (ap (λ k. Act.Lock k None c.floor-floor.result) c.key.ensures ∙ ap (λ z. Act.Lock (key c.args.place.0 c.args.place.1) None z) floors) c.requires.tick c.requires.run.regions in
+    (ap (λ k. Act.Lock k None c.floor-floor.result) c.key.ensures ∙ ap (λ z. Act.Lock (key c.args.place.0 c.args.place.1) None z) floors) c.requires.tick c.requires.run.regions in
     member_serves script defs from j x rs s x u (record { session = u.session; notes = c.lock.new.self }) c.args.tick c.args.place y c.in_ok-reply.reply (past c.push.new.self) c.answer_at.new.regions.items
     c.requires.tick c.requires.few answer refl c.in_ok-reply.ensures.calm
     (c.push.ensures.past ∙ ap (λ m. GatherEntry.Member m ∷ j) (entry_is c.args.tick c.number-number.result s c.args.place.0 c.args.place.1 (MemberAct.Lock c.floor-floor.result) y c.in_ok-reply.reply
