@@ -1,5 +1,4 @@
 -- What a run with collections is opened with stands for the empty journal.
-use Rattle.std.specs.Option.{option_map}
 use Rattle.std.proofs.Common.{◌≡◌, ℕ, ◌≤◌, true, List, [], ◌∷◌, map, Some, None, Option, IfSome, refl, ap, sym, ◌∙◌, subst, arith}
 use Rattle.hib_base.specs.Tables.{Tables, in_order}
 use Rattle.hib_outside.proofs.Orders.{in_order_with_absent, in_order_widened}

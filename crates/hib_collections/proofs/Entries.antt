@@ -1,17 +1,9 @@
 -- What one more entry of a journal with collections is to its sessions and to what is read of it.
 use Rattle.std.specs.Option.{option_map_or}
-use Rattle.std.proofs.Common.{◌≡◌, ℕ, suc, ◌+◌, ◌≤◌, ◌==◌, inl, inr, Bool, true, false, cond, List, [], ◌∷◌, ◌++◌, length, Some, None, Option, refl, ap, sym, ◌∙◌, subst, arith}
-use Rattle.std.proofs.lemmas.Bool.{true≢false}
-use Rattle.hib_base.proofs.Tables.{Tested, tested}
-use Rattle.hib_base.specs.Tables.{Tables}
-use Rattle.hib_journal.specs.Types.{Cell, Script, Act, Reply, Entry}
-use Rattle.hib_journal.specs.Sessions.{Journal, own, is_session, was_killed}
-use Rattle.hib_journal.specs.Legal.{is_outside}
+use Rattle.std.proofs.Common.{◌≡◌, ℕ, true, false, List, ◌∷◌, Some, None, Option, refl}
+use Rattle.hib_journal.specs.Types.{Cell, Script, Act, Reply}
+use Rattle.hib_journal.specs.Sessions.{own}
 use Rattle.hib_journal.specs.Lists.{entry_at}
-use Rattle.hib_journal.specs.Runs.{fault_count, is_fault}
-use Rattle.hib_journal.proofs.Open.{killed_same}
-use Rattle.hib_law.proofs.Basics.{none_some, some_same}
-use Rattle.hib_collections_law.specs.declared.entries.Def.{Def}
 use Rattle.hib_collections_law.specs.declared.entries.MemberEntry.{MemberEntry}
 use Rattle.hib_collections_law.specs.declared.entries.GatherEntry.{GatherEntry}
 use Rattle.hib_collections_law.specs.Types.{Gathered}

@@ -1,7 +1,7 @@
 -- What listeners have heard of a run with collections, after a step and if none was taken.
-use Rattle.std.proofs.Common.{◌≡◌, ℕ, ◌≤◌, suc, Bool, true, false, not, is_ok, is_err, is_some, List, [], ◌∷◌, ◌++◌, ◌||◌, length, reverse, Result, Ok, Err, Some, None, Option, refl, sym, ◌∙◌, ap, subst, arith}
+use Rattle.std.proofs.Common.{◌≡◌, ℕ, ◌≤◌, suc, Bool, true, false, not, is_ok, is_err, is_some, List, [], ◌∷◌, ◌++◌, ◌||◌, length, reverse, Result, Ok, Err, refl, sym, ◌∙◌, ap, subst, arith}
 use Rattle.std.proofs.lemmas.Bool.{true≢false}
-use Rattle.std.proofs.lemmas.List.{reverse-append, reverse-reverse}
+use Rattle.std.proofs.lemmas.List.{reverse-append}
 use Rattle.hib_journal.specs.Types.{Entry, Script}
 use Rattle.hib_journal.specs.Sessions.{Journal}
 use Rattle.hib_engines.specs.Engines.{EnginesState}
@@ -12,11 +12,10 @@ use Rattle.hib_outside.specs.Causes.{Rose}
 use Rattle.hib_collections_law.specs.declared.entries.Def.{Def}
 use Rattle.hib_collections_law.specs.declared.entries.GatherEntry.{GatherEntry}
 use Rattle.hib_collections_law.specs.Types.{Gathered}
-use Rattle.hib_collections_law.specs.Gathered.{due, plain}
+use Rattle.hib_collections_law.specs.Gathered.{plain}
 use Rattle.hib_collections.specs.Gather.{AreHeard, HasStepped, Hears, IsOver, heard_in}
-use Rattle.hib_collections.specs.Kept.{Kept, past}
 use Rattle.hib_collections.specs.Played.{GoesOn}
-use Rattle.hib_collections.specs.Run.{Does, HasMoved, HasRested, IsAsked, IsAskedOnceMore, is_done, says_fault, told_at, told_in}
+use Rattle.hib_collections.specs.Run.{Does, HasMoved, HasRested, IsAsked, IsAskedOnceMore, is_done, says_fault, told_in}
 use Rattle.hib_collections.specs.declared.turns.Turned.{Turned}
 
 longer : (h : Journal) (e : Entry) → h ≡ e ∷ h → ⊥

@@ -1,13 +1,13 @@
 -- The owners that a session is to lock, by what it holds of the row that it is to change.
 use Rattle.std.specs.Prelude.{not}
 use Rattle.std.specs.List.{find}
-use Rattle.std.proofs.Common.{◌≡◌, ℕ, suc, ◌==◌, cond, List, [], ◌∷◌, ◌++◌, map, Some, None, Option, refl, ap, sym, ◌∙◌, subst}
+use Rattle.std.proofs.Common.{◌≡◌, ℕ, suc, ◌==◌, cond, List, [], ◌∷◌, ◌++◌, map, Some, Option, refl, ap, sym, ◌∙◌}
 use Rattle.hib_base.specs.Tables.{Tables, key_of}
 use Rattle.hib_journal.specs.Types.{Key, Row, Change, Script, Act}
 use Rattle.hib_journal.specs.Sessions.{Journal, own}
 use Rattle.hib_collections_law.specs.declared.entries.Def.{Def}
 use Rattle.hib_collections_law.specs.Types.{Gathered}
-use Rattle.hib_collections_law.specs.Gathered.{Due, Held, IsGathered, due_in, due_write, is_locked, known, locks_in, owners, owners_from, plain, to_lock}
+use Rattle.hib_collections_law.specs.Gathered.{Held, IsGathered, due_in, is_locked, known, locks_in, owners, owners_from, plain, to_lock}
 use Rattle.hib_collections_law.proofs.Knows.{update_known, delete_known}
 use Rattle.hib_collections.specs.Before.{IsKnown, base_in}
 

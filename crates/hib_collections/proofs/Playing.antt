@@ -1,7 +1,7 @@
 -- A run that goes on by the definition of what is played.
-use Rattle.std.specs.Prelude.{is_some, option_and_then, slice_get}
+use Rattle.std.specs.Prelude.{option_and_then, slice_get}
 use Rattle.std.specs.Option.{option_map_or}
-use Rattle.std.proofs.Common.{◌≡◌, ◌≢◌, ℕ, zero, suc, ◌+◌, ◌-◌, ◌<◌, ◌≤◌, ◌==◌, add-one, Bool, true, false, List, [], ◌∷◌, ◌++◌, reverse, drop, length, append_assoc, append-nil, Some, None, Option, refl, sym, ap, ◌∙◌, subst, arith, inl, inr}
+use Rattle.std.proofs.Common.{◌≡◌, ◌≢◌, ℕ, zero, suc, ◌+◌, ◌-◌, ◌<◌, ◌≤◌, ◌==◌, add-one, true, false, List, [], ◌∷◌, ◌++◌, reverse, drop, length, append_assoc, append-nil, Some, None, Option, refl, sym, ap, ◌∙◌, subst, arith, inl, inr}
 use Rattle.std.proofs.lemmas.Bool.{true≢false, eqb-true}
 use Rattle.std.proofs.lemmas.Option.{slice_get_past}
 use Rattle.std.proofs.lemmas.List.{reverse-append, reverse-reverse, drop_all}
@@ -15,7 +15,6 @@ use Rattle.hib_engines.proofs.Bridge.{self_by}
 use Rattle.hib_collections_law.specs.declared.entries.Def.{Def}
 use Rattle.hib_collections_law.specs.declared.entries.GatherEntry.{GatherEntry}
 use Rattle.hib_collections_law.specs.Types.{Gathered}
-use Rattle.hib_collections_law.specs.Gathered
 use Rattle.hib_collections_law.specs.Gathered.{is_by, mine, plain}
 use Rattle.hib_collections.specs.Played.{Play, Playing, GoesOn, Leads, has_next, is_played, play_all, play_order, play_orders, play_script, play_sessions, play_steps, played}
 use Rattle.hib_collections.proofs.Entries.{own_other, mine_other}

@@ -1,17 +1,15 @@
 -- The regions of the collections answer as is due, and stand for the journal with one more entry.
 use Rattle.std.specs.Prelude.{slice_get}
-use Rattle.std.proofs.Common.{◌≡◌, ℕ, zero, suc, ◌+◌, ◌<◌, ◌≤◌, ◌==◌, Bool, true, false, List, [], ◌∷◌, length, Some, None, Option, refl, ap, sym, ◌∙◌, subst, arith}
-use Rattle.std.proofs.lemmas.Bool.{true≢false}
+use Rattle.std.proofs.Common.{◌≡◌, ℕ, zero, suc, ◌+◌, ◌<◌, ◌==◌, false, List, [], ◌∷◌, length, Some, Option, refl, ap, sym, ◌∙◌, subst, arith}
 use Rattle.hib_base.specs.Tables.{Tables}
 use Rattle.hib_journal.specs.Types.{Key, Part, Script, Strategy, Act, Reply}
-use Rattle.hib_journal.specs.Sessions.{Journal, is_restart, last_tick, same_part}
+use Rattle.hib_journal.specs.Sessions.{Journal, is_restart, same_part}
 use Rattle.hib_journal.specs.Next.{strategy}
-use Rattle.hib_journal.specs.Legal.{reply_of}
 use Rattle.hib_journal.specs.Lists.{IsLate}
 use Rattle.hib_journal.specs.Room.{key}
 use Rattle.hib_engines.specs.declared.region.Region.{Region}
 use Rattle.hib_engines.specs.Laws.{Laws}
-use Rattle.hib_engines.specs.Region.{acts_on, entity_in, is_regional, IsPlaced, Suits}
+use Rattle.hib_engines.specs.Region.{acts_on, entity_in, IsPlaced, Suits}
 use Rattle.hib_engines.specs.Regions.{region_of, IsAtRegion}
 use Rattle.hib_engines.specs.Served.{IsServed}
 use Rattle.hib_engines.proofs.Elsewhere.{region_kept}
@@ -19,7 +17,6 @@ use Rattle.hib_engines.proofs.RegionList.{regions_at}
 use Rattle.hib_collections_law.specs.declared.entries.Def.{Def}
 use Rattle.hib_collections_law.specs.declared.entries.MemberAct.{MemberAct}
 use Rattle.hib_collections_law.specs.declared.entries.MemberEntry.{MemberEntry}
-use Rattle.hib_collections_law.specs.declared.entries.GatherEntry.{GatherEntry}
 use Rattle.hib_collections_law.specs.Types.{Gathered}
 use Rattle.hib_collections_law.specs.Gathered
 use Rattle.hib_collections_law.specs.Gathered.{Due, IsGathered, region_act, region_script, regions}

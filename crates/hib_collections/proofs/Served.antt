@@ -1,15 +1,13 @@
 -- A run with collections goes on: with one entry more its journal is legal, and its engines, regions and sessions stand for it.
 use Rattle.std.specs.Prelude.{is_some}
-use Rattle.std.proofs.Common.{◌≡◌, ℕ, suc, ◌+◌, ◌<◌, ◌≤◌, ◌^◌, ◌==◌, Bool, true, false, cond, List, [], ◌∷◌, ◌++◌, length, Some, None, Option, refl, ap, sym, ◌∙◌, subst, arith}
+use Rattle.std.proofs.Common.{◌≡◌, ℕ, ◌+◌, ◌<◌, ◌≤◌, ◌^◌, Bool, true, false, cond, List, ◌∷◌, length, Some, None, Option, refl, ap, sym, ◌∙◌, subst, arith}
 use Rattle.std.proofs.lemmas.Bool.{true≢false, false≢true}
-use Rattle.hib_base.specs.Tables.{Tables}
 use Rattle.hib_journal.specs.Types.{Cell, Row, Script, Part, Act, Reply, Entry}
-use Rattle.hib_journal.specs.Sessions.{Journal, own, changes, last_tick, same_part, was_killed}
+use Rattle.hib_journal.specs.Sessions.{Journal, own, same_part, was_killed}
 use Rattle.hib_journal.specs.Next.{next}
-use Rattle.hib_journal.specs.Legal.{part_of, reply_of, is_outside}
+use Rattle.hib_journal.specs.Legal.{part_of, is_outside}
 use Rattle.hib_journal.specs.Lists.{entry_at}
-use Rattle.hib_journal.specs.Room.{key}
-use Rattle.hib_journal.specs.Runs.{asks, fault_count, is_fault}
+use Rattle.hib_journal.specs.Runs.{fault_count, is_fault}
 use Rattle.hib_journal.proofs.Open.{killed_same}
 use Rattle.hib_law.proofs.Basics.{none_some, some_same}
 use Rattle.hib_session.specs.Session.{Follows, IsTaken, number_of, own_reply}
@@ -31,10 +29,9 @@ use Rattle.hib_collections_law.proofs.Apart.{are_plain}
 use Rattle.hib_collections_law.proofs.Dues.{Cause, after_member}
 use Rattle.hib_collections.specs.declared.members.Gatherer.{Gatherer}
 use Rattle.hib_collections.specs.declared.turns.Turned.{Turned}
-use Rattle.hib_collections.specs.Collected.{AreCollected}
 use Rattle.hib_collections.specs.Gatherers.{IsGatherer}
 use Rattle.hib_collections.specs.Notes.{AreNoted, listed_from, locks_with}
-use Rattle.hib_collections.specs.Run.{IsAnsweredAt, IsRun, IsTurn, Serves, asks_at, list_of_hit}
+use Rattle.hib_collections.specs.Run.{IsAnsweredAt, IsRun, IsTurn, Serves, list_of_hit}
 use Rattle.hib_collections.proofs.Entries.{plain_member, plain_hit, mine_self}
 
 -- the list that is noted is the one that was listed

@@ -1,7 +1,7 @@
 -- What is due in a session, by its plan, by what is noted of it and by what comes before; and a turn that was prepared.
 use Rattle.std.specs.Prelude.{is_some}
 use Rattle.std.specs.Option.{option_map}
-use Rattle.std.proofs.Common.{◌≡◌, ℕ, ◌+◌, Bool, true, false, List, [], ◌∷◌, length, Some, None, Option, Result, Ok, Err, IfOk, IfSome, OnErr, refl, ap, sym, ◌∙◌, subst, arith}
+use Rattle.std.proofs.Common.{◌≡◌, ℕ, true, false, List, Some, None, Option, Result, Ok, Err, IfOk, IfSome, OnErr, refl, ap, sym, ◌∙◌, subst}
 use Rattle.std.proofs.lemmas.Bool.{true≢false}
 use Rattle.hib_base.specs.Tables.{Tables}
 use Rattle.hib_journal.specs.Types.{Cell, Script, Act}
@@ -10,7 +10,7 @@ use Rattle.hib_journal.specs.Next.{next}
 use Rattle.hib_session.specs.Session.{Follows, number_of}
 use Rattle.hib_engines.specs.declared.region.Region.{Region}
 use Rattle.hib_engines.specs.Due.{IsDue}
-use Rattle.hib_engines.specs.Engines.{EnginesState, IsStill}
+use Rattle.hib_engines.specs.Engines.{EnginesState}
 use Rattle.hib_engines.specs.Origin.{Origin}
 use Rattle.hib_collections_law.specs.declared.entries.Def.{Def}
 use Rattle.hib_collections_law.specs.declared.entries.MemberAct.{MemberAct}
@@ -23,10 +23,9 @@ use Rattle.hib_collections.specs.declared.turns.Turned.{Turned}
 use Rattle.hib_collections.specs.Before.{IsKnown, due_by}
 use Rattle.hib_collections.specs.Gatherers.{IsGatherer}
 use Rattle.hib_collections.specs.Notes.{AreNoted}
-use Rattle.hib_collections.specs.Run.{IsKept, IsRun, IsTurn, Leaves, Rests, Serves, Turns, is_done}
+use Rattle.hib_collections.specs.Run.{IsKept, IsTurn, Leaves, Rests, Serves, Turns}
 use Rattle.hib_collections.proofs.Known.{known_due}
 use Rattle.hib_collections.proofs.Left.{kept_then, leaves_same}
-use Rattle.hib_collections.proofs.Turned.{kept_member}
 
 module _ (script : Script) (defs : List Def) (g : Gathered) (u : Gatherer) where
   -- what was listed after a miss is to be put

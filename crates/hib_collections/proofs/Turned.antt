@@ -1,16 +1,16 @@
 -- A turn of a session among all sessions.
-use Rattle.std.specs.Prelude.{is_some, slice_get, slice_set}
-use Rattle.std.proofs.Common.{◌≡◌, ℕ, ◌<◌, ◌==◌, inl, inr, Bool, true, false, List, [], ◌∷◌, length, get_or, Some, None, Option, Result, Ok, Err, OnErr, IfOk, refl, ap, sym, ◌∙◌, subst, arith}
-use Rattle.std.proofs.lemmas.Bool.{eqb-true, true≢false, false≢true}
+use Rattle.std.specs.Prelude.{slice_get, slice_set}
+use Rattle.std.proofs.Common.{◌≡◌, ℕ, ◌<◌, ◌==◌, inl, inr, true, false, List, ◌∷◌, length, get_or, Some, None, Option, Result, Ok, Err, OnErr, IfOk, refl, ap, sym, ◌∙◌, subst, arith}
+use Rattle.std.proofs.lemmas.Bool.{eqb-true, true≢false}
 use Rattle.std.proofs.lemmas.List.{get_or-set_same, get_or-set_other, length-set}
 use Rattle.std.proofs.lemmas.Option.{slice_get_within, slice_get-get_or, get_or_from_slice_get}
 use Rattle.hib_base.proofs.Tables.{Tested, tested}
-use Rattle.hib_journal.specs.Types.{Script, Entry}
-use Rattle.hib_journal.specs.Sessions.{Journal, own, is_session}
+use Rattle.hib_journal.specs.Types.{Script}
+use Rattle.hib_journal.specs.Sessions.{own, is_session}
 use Rattle.hib_law.proofs.Basics.{some_same}
 use Rattle.hib_session.specs.Session.{Follows, number_of}
 use Rattle.hib_engines.specs.declared.region.Region.{Region}
-use Rattle.hib_engines.specs.Engines.{EnginesState, AreStanding, IsStill}
+use Rattle.hib_engines.specs.Engines.{EnginesState, IsStill}
 use Rattle.hib_engines.specs.Origin.{Origin}
 use Rattle.hib_engines.proofs.Bridge.{self_by}
 use Rattle.hib_engines.proofs.Rose.{rose_on}
@@ -25,7 +25,7 @@ use Rattle.hib_collections.specs.declared.turns.Turned.{Turned}
 use Rattle.hib_collections.specs.Collected.{AreCollected}
 use Rattle.hib_collections.specs.Gatherers.{IsGatherer, AreGatherers}
 use Rattle.hib_collections.specs.Notes.{AreNoted}
-use Rattle.hib_collections.specs.Run.{Does, HasMoved, HasRested, IsKept, IsRun, Leaves, Rests, Serves, Turns}
+use Rattle.hib_collections.specs.Run.{Does, HasMoved, IsKept, IsRun, Leaves, Serves, Turns}
 use Rattle.hib_collections.proofs.Entries.{own_other, mine_other}
 
 -- an entry of one session is of no other

@@ -1,5 +1,5 @@
 -- What comes before an act that is due in a session.
-use Rattle.std.specs.Prelude.{◌≡◌, None, Option, option_and_then}
+use Rattle.std.specs.Prelude.{◌≡◌, Option, option_and_then}
 use Rattle.hib_journal.specs.Types.{Key, Row, Change, Act}
 use Rattle.hib_journal.specs.Sessions.{Journal, time_in, floor_in}
 use Rattle.hib_journal.specs.Held.{held}

@@ -1,5 +1,5 @@
 -- What a run with collections keeps: its journal is legal, and its engines, regions and sessions stand for it.
-use Rattle.std.specs.Prelude.{◌≡◌, ℕ, ◌+◌, ◌≤◌, ◌<◌, ◌^◌, Bool, true, false, cond, List, [], ◌∷◌, ◌++◌, length, slice_get, is_some, Some, None, Option, unwrap_or}
+use Rattle.std.specs.Prelude.{◌≡◌, ℕ, ◌+◌, ◌≤◌, ◌<◌, ◌^◌, Bool, true, false, cond, List, [], ◌∷◌, ◌++◌, length, is_some, Some, None, Option, unwrap_or}
 use Rattle.std.specs.List.{list_all}
 use Rattle.hib_base.specs.Tables.{Tables, in_order}
 use Rattle.hib_base.specs.Valid.{is_valid}
@@ -25,7 +25,6 @@ use Rattle.hib_collections_law.specs.Gathered.{IsGathered, due, due_in, is_by, p
 use Rattle.hib_collections.specs.Collected.{AreCollected}
 use Rattle.hib_collections.specs.Gatherers.{IsGatherer}
 use Rattle.hib_collections.specs.Kept.{Kept}
-use Rattle.hib_collections.specs.Notes.{AreNoted}
 use Rattle.hib_collections.specs.declared.members.Gatherer.{Gatherer}
 use Rattle.hib_collections.specs.declared.turns.Turned.{Turned}
 

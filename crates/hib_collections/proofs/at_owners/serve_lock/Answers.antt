@@ -1,21 +1,13 @@
-use Rattle.std.proofs.Common.{◌≡◌, ℕ, List, ◌∷◌, Some, None, Option, refl, ap, sym, ◌∙◌, subst}
-use Rattle.hib_base.specs.Tables.{Tables}
-use Rattle.hib_journal.specs.Types.{Script, Act, Entry, Reply}
-use Rattle.hib_journal.specs.Sessions.{Journal, own, time_in, floor_in}
+use Rattle.std.proofs.Common.{List, ◌∷◌, None, refl, ap, ◌∙◌}
+use Rattle.hib_journal.specs.Types.{Act}
+use Rattle.hib_journal.specs.Sessions.{own, floor_in}
 use Rattle.hib_journal.specs.Room.{key}
-use Rattle.hib_session.specs.Session.{Follows, IsTaken, number_of}
-use Rattle.hib_engines.specs.declared.region.Region.{Region}
-use Rattle.hib_engines.specs.Engines.{IsReady, IsTold}
+use Rattle.hib_session.specs.Session.{number_of}
 use Rattle.hib_engines.proofs.Outcomes.{err_all}
-use Rattle.hib_engines.proofs.Still.{still_same}
 use Rattle.hib_collections_law.specs.declared.entries.MemberAct.{MemberAct}
 use Rattle.hib_collections_law.specs.declared.entries.GatherEntry.{GatherEntry}
-use Rattle.hib_collections_law.specs.Gathered
-use Rattle.hib_collections_law.specs.Gathered.{Due, plain}
-use Rattle.hib_collections.specs.declared.members.Gatherer.{Gatherer}
+use Rattle.hib_collections_law.specs.Gathered.{plain}
 use Rattle.hib_collections.specs.Kept.{past}
-use Rattle.hib_collections.specs.Collected.{AreCollected}
-use Rattle.hib_collections.specs.Run.{IsRun, IsTurn, IsKept, Leaves, Serves}
 use Rattle.hib_collections_law.specs.Gathered.{Held}
 use Rattle.hib_collections.specs.Notes.{locks_with}
 use Rattle.hib_collections.proofs.Served.{entry_is, lock_same, member_serves}

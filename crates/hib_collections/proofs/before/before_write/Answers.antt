@@ -1,6 +1,5 @@
-use Rattle.std.proofs.Common.{sym, ◌∙◌, ap, subst}
+use Rattle.std.proofs.Common.{◌∙◌, ap}
 use Rattle.std.specs.Option.{option_copied}
-use Rattle.hib_journal.specs.Types.{Act, Change}
 use Rattle.hib_collections_law.specs.Gathered.{due_write}
 use Rattle.hib_collections.specs.Before.{base_in}
 use Rattle.hib_collections.proofs.Known.{lock_known}

@@ -1,4 +1,4 @@
-use Rattle.std.proofs.Common.{◌≡◌, sym, subst, ◌∙◌}
+use Rattle.std.proofs.Common.{sym, subst, ◌∙◌}
 use Rattle.hib_journal.specs.Types.{Script}
 use Rattle.hib_engines.specs.Due.{HasQueries}
 use Rattle.hib_collections.specs.Kept.{past}

@@ -1,27 +1,12 @@
-use Rattle.std.proofs.Common.{◌≡◌, ◌+◌, ℕ, true, false, length, List, ◌∷◌, Some, None, Option, refl, ap, sym, ◌∙◌, subst}
-use Rattle.std.proofs.lemmas.Bool.{false≢true}
-use Rattle.hib_base.specs.Tables.{Tables}
-use Rattle.hib_journal.specs.Types.{Cell, Script, Act, Entry, Reply}
-use Rattle.hib_journal.specs.Sessions.{Journal, own, time_in, floor_in}
-use Rattle.hib_journal.specs.Lists.{entry_at}
-use Rattle.hib_journal.specs.Room.{key}
-use Rattle.hib_session.specs.Memory.{brings}
-use Rattle.hib_session.specs.Session.{Follows, IsTaken, number_of}
-use Rattle.hib_engines.specs.declared.region.Region.{Region}
-use Rattle.hib_engines.specs.Engines.{IsReady, IsTold}
+use Rattle.std.proofs.Common.{◌≡◌, refl, sym, ◌∙◌, subst}
+use Rattle.hib_journal.specs.Types.{Script}
+use Rattle.hib_session.specs.Session.{number_of}
 use Rattle.hib_engines.proofs.Outcomes.{err_all}
-use Rattle.hib_collections_law.specs.declared.entries.MemberAct.{MemberAct}
-use Rattle.hib_collections_law.specs.declared.entries.GatherEntry.{GatherEntry}
-use Rattle.hib_collections_law.specs.Gathered
-use Rattle.hib_collections_law.specs.Gathered.{Due, Held, plain}
-use Rattle.hib_collections.specs.declared.members.Gatherer.{Gatherer}
 use Rattle.hib_collections.specs.Kept.{past}
-use Rattle.hib_collections.specs.Notes.{locks_with}
-use Rattle.hib_collections.specs.Run.{IsRun, IsTurn, IsKept, IsAnsweredAt, Leaves, Serves}
+use Rattle.hib_collections.specs.Run.{IsKept}
 use Rattle.hib_collections.specs.Gatherers.{IsGatherer}
-use Rattle.hib_collections.proofs.Left.{kept_by, kept_same, leaves_same, leaves_still}
-use Rattle.hib_collections.proofs.Served.{entry_is, get_miss, hit_serves, lock_same, member_serves, plain_is, plain_serves, ready_at, some_of, taken_at}
-use Rattle.hib_collections.proofs.Taken.{due_none, leaves_then, over_at, rests_of, turn_at, turns_of}
+use Rattle.hib_collections.proofs.Left.{leaves_same}
+use Rattle.hib_collections.proofs.Taken.{due_none, leaves_then, over_at, rests_of, turns_of}
 use Rattle.hib_collections.proofs.Turned.{kept_member, kept_run}
 use Rattle.hib_engines.specs.Due.{HasQueries}
 use Rattle.hib_engines.proofs.Still.{still_same}

@@ -1,4 +1,4 @@
-use Rattle.std.proofs.Common.{sym, subst, ◌∙◌}
+use Rattle.std.proofs.Common.{sym, subst}
 use Rattle.std.specs.Prelude.{slice_set}
 use Rattle.hib_collections.specs.Kept.{past}
 use Rattle.hib_collections.specs.Gatherers.{AreGatherers, IsGatherer}

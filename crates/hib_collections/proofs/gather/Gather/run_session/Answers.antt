@@ -1,4 +1,4 @@
-use Rattle.std.proofs.Common.{◌≡◌, ◌<◌, ◌-◌, ◌^◌, length, Ok, ap, arith, ◌∙◌}
+use Rattle.std.proofs.Common.{length, Ok, ap, arith, ◌∙◌}
 use Rattle.hib_engines.proofs.Outcomes.{err_all}
 use Rattle.hib_collections.specs.Kept.{past}
 use Rattle.hib_collections.specs.Played.{play_all}

@@ -1,14 +1,12 @@
 use Rattle.std.proofs.Common.{◌≡◌, true, false, is_ok, refl, sym, ap, subst, ◌∙◌}
-use Rattle.hib_engines.specs.Engines.{EnginesState}
 use Rattle.hib_engines.proofs.Outcomes.{err_all}
 use Rattle.hib_listeners.specs.Told.{tells}
 use Rattle.hib_listeners.specs.Heard.{HaveHeard}
-use Rattle.hib_collections_law.specs.Types.{Gathered}
 use Rattle.hib_collections_law.specs.Gathered.{plain}
 use Rattle.hib_collections.specs.Gather.{GatherState, HasStepped, Hears, heard_in}
 use Rattle.hib_collections.specs.Kept.{past}
 use Rattle.hib_collections.specs.Run.{IsAskedOnceMore}
-use Rattle.hib_collections.proofs.Hearing.{faulty, first_off, further, goes_one, heard_none, heard_so, heard_turn, hears_same, hears_turn, moved, moved_at, none_ok, once_more, rested, stepped}
+use Rattle.hib_collections.proofs.Hearing.{first_off, further, goes_one, heard_none, heard_so, heard_turn, hears_same, hears_turn, moved, moved_at, none_ok, once_more, rested, stepped}
 use Rattle.hib_collections.proofs.gather.Gather.step.Goals as goal
 
 pub returns-then-self-clause-fault : goal.returns-then-self-clause-fault
