@@ -12,3 +12,4 @@ pub mod Turned
 pub mod Left
 pub mod Taken
 pub mod Hearing
+pub mod Texts

@@ -7,3 +7,4 @@ pub mod Run
 pub mod Played
 pub mod Obeyed
 pub mod Gather
+pub mod Text
