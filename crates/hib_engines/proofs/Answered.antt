@@ -250,6 +250,12 @@ failed_still l script told h s now a r x k f n = record {
       stored_standing l script told h s now a r x x k (failing_store a s p) (failed_stored told h s now a r x p k.standing.store) refl refl refl refl;
 }
 
+-- a list that is due leaves the engines as they are, whatever it is answered
+pub list_left : Laws → (script : Script) (told : Option Tables) (h : Journal) (s now q : ℕ) (r : Reply) (x : EnginesState) → IsReady script told h s now (Act.List q) x →
+    AreStanding script told (entry_at now (Some s) (Act.List q) r ∷ h) x
+list_left l script told h s now q r x k =
+    stored_standing l script told h s now (Act.List q) r x x k refl (failed_stored told h s now (Act.List q) r x refl k.standing.store) refl refl refl refl
+
 -- a commit that failed leaves what a kill does
 commit_fault : (b : Bool) (f r : Reply) → cond b None (Some f) ≡ Some r → r ≡ f
 commit_fault true f r p = absurd (none-some r p)

@@ -1,5 +1,5 @@
 -- What an entry of another part leaves: each engine goes on standing.
-use Rattle.std.specs.Prelude.{◌≡◌, ◌==◌, ℕ, true, false, ◌∷◌, Option, unwrap_or}
+use Rattle.std.specs.Prelude.{◌≡◌, ◌==◌, ℕ, true, false, ◌∷◌, Some, Option, unwrap_or}
 use Rattle.hib_base.specs.Tables.{Tables}
 use Rattle.hib_journal.specs.Types.{Script, Part, Act, Reply}
 use Rattle.hib_journal.specs.Sessions.{Journal, is_restart}
@@ -14,6 +14,7 @@ use Rattle.hib_engines.specs.Served.{is_for}
 use Rattle.hib_engines.specs.Stamps.{AreStamps}
 use Rattle.hib_engines.specs.Results.{AreResults}
 use Rattle.hib_engines.specs.Store.{IsStored}
+use Rattle.hib_engines.specs.Engines.{EnginesState, AreStanding, IsReady}
 
 abbrev pub RegistryStays : Type 0
 RegistryStays = (l : Journal) (by : Option ℕ) (now : ℕ) (a : Act) (r : Reply) (x : Opened) → IsRegistry x l
@@ -35,3 +36,8 @@ ResultsStay = (script : Script) (l : Journal) (by : Option ℕ) (now : ℕ) (a :
 abbrev pub RegionStays : Type 0
 RegionStays = (script : Script) (l : Journal) (n : ℕ) (by : Option ℕ) (now : ℕ) (a : Act) (r : Reply) (x : Region) → IsPlaced script n l x
     → (is_regional a ≡ true → (acts_on a == n) ≡ false) → is_restart a ≡ false → IsPlaced script n (entry_at now by a r ∷ l) x
+
+-- a list is answered by the store, which stays as it is
+abbrev pub ListsLeave : Type 0
+ListsLeave = (script : Script) (told : Option Tables) (h : Journal) (s now q : ℕ) (r : Reply) (x : EnginesState)
+    → IsReady script told h s now (Act.List q) x → AreStanding script told (entry_at now (Some s) (Act.List q) r ∷ h) x

@@ -1,6 +1,6 @@
 // The laws of the parts, in one place.
 ghost use Rattle.hib_engines.specs.Laws.{Laws};
-ghost use Rattle.hib_engines.specs.Stays.{RegistryStays, StoreStays, StampsStay, ResultsStay, RegionStays};
+ghost use Rattle.hib_engines.specs.Stays.{RegistryStays, StoreStays, StampsStay, ResultsStay, RegionStays, ListsLeave};
 
 use hib_other_regions::laws as items;
 use hib_query_cache::{
@@ -36,6 +36,14 @@ pub fn entries_elsewhere()
     ensures stamps { StampsStay }
     ensures results { ResultsStay }
     ensures region { RegionStays }
+{
+    laws();
+}
+
+/// A list that is due leaves all engines as they are, whatever it is answered: so they stand for the entries with one that none
+/// of them was asked.
+pub fn lists_leave()
+    ensures { ListsLeave }
 {
     laws();
 }

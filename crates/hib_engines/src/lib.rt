@@ -18,7 +18,7 @@ mod stepped;
 mod store;
 
 pub use engines::Engines;
-pub use joined::{entries_elsewhere, laws};
+pub use joined::{entries_elsewhere, laws, lists_leave};
 pub use names::Name;
 pub use region::Region;
 pub use registry::Registry;

@@ -1,8 +1,9 @@
 // A session of a script.
-ghost use Rattle.std.specs.Prelude.{◌≡◌, ◌∷◌, ◌<◌, ◌≤◌, ◌||◌, cond, [], true, false, None, IfOk, IsOk, IfSome, OnOk, OnErr, Some, is_some};
+ghost use Rattle.std.specs.Prelude.{◌≡◌, ◌∷◌, ◌<◌, ◌≤◌, ◌||◌, cond, [], true, false, None, IfOk, IsOk, IfSome, OnOk, OnErr, Some, is_some, option_and_then};
+ghost use Rattle.std.specs.Option.{option_copied};
 ghost use Rattle.hib_base.specs.declared.replies.Reply.{Reply};
 ghost use Rattle.hib_base.specs.declared.scripts.Script.{Script};
-ghost use Rattle.hib_journal.specs.Sessions.{Journal, changes_in, is_begun};
+ghost use Rattle.hib_journal.specs.Sessions.{Journal, time_in, floor_in, changes_in, is_begun};
 ghost use Rattle.hib_journal.specs.Held.{held};
 ghost use Rattle.hib_journal.specs.Legal.{unless_removed, set_unless};
 ghost use Rattle.hib_journal.specs.Next.{next, is_in, strategy};
@@ -16,7 +17,8 @@ use crate::control::Control;
 use crate::memory::Memory;
 use crate::written::Written;
 use hib_base::{
-    Act, EntityNo, Entry, Held, Key, Reply, Row, Script, SessionNo, State, Strategy, strategy_of,
+    Act, Change, EntityNo, Entry, Held, Key, Reply, Row, Script, SessionNo, State, Strategy, Tick,
+    strategy_of,
 };
 use std::alloc::{AllocError, Global};
 use std::mem;
@@ -101,6 +103,41 @@ impl Session {
         ensures { result ≡ is_killed self.now }
     {
         self.killed
+    }
+
+    /// The tick of its last begin, or 0.
+    pub fn time(&self) -> Tick
+        ensures { (script : Script) (mine : Journal) → Follows script self.now mine
+            → result ≡ time_in mine }
+    {
+        self.memory.time
+    }
+
+    /// The floor that its last begin was answered, or 0.
+    pub fn floor(&self) -> Tick
+        ensures { (script : Script) (mine : Journal) → Follows script self.now mine
+            → result ≡ floor_in mine }
+    {
+        self.memory.floor
+    }
+
+    /// The changes that it has written since its last begin, in order.
+    pub fn changes(&self) -> &[Change]
+        ensures { (script : Script) (mine : Journal) → Follows script self.now mine
+            → result.now ≡ changes_in mine }
+    {
+        self.memory.changes.as_slice()
+    }
+
+    /// The row of a key that it has read or written last; none if it doesn't hold the key, or has made it new.
+    pub fn base(&self, key: Key) -> Option<&Row>
+        ensures { (script : Script) (mine : Journal) → Follows script self.now mine
+            → option_copied result ≡ option_and_then (λ i. i.base) (held mine key) }
+    {
+        match self.memory.find(key) {
+            Some(held) => held.base.as_ref(),
+            None => None,
+        }
     }
 
     /// No act of the session is due from now on. It takes no memory.

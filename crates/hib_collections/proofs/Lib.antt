@@ -1,0 +1,15 @@
+pub mod Compared
+pub mod Firsts
+pub mod Entries
+pub mod Known
+pub mod Lists
+pub mod Opened
+pub mod Regions
+pub mod Served
+pub mod Playing
+pub mod Begun
+pub mod Turned
+pub mod Left
+pub mod Taken
+pub mod Hearing
+pub mod Texts

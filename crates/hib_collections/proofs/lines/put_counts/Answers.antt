@@ -1,0 +1,11 @@
+use Rattle.std.proofs.Common.{◌<◌, length, ap, arith}
+use Rattle.hib_collections.proofs.Texts.{counts_at}
+use Rattle.hib_collections.proofs.lines.put_counts.Goals as goal
+
+pub loop-at-preserved : goal.loop-at-preserved
+loop-at-preserved c =
+    let e = c.as_slice-def-items.ensures in
+    let t = c.loop-at-test.true in
+    let n = ap length e in
+    let low : c.loop-at.at < length c.args.defs.now = omega (arith, t, n) in
+    counts_at c.args.entries.now c.as_slice-def-items.result.now c.args.defs.now c.loop-at.at c.def-item.result e low c.def-item.is c.args.out.now.items c.loop-at.out.items c.put_count.new.out.items c.loop-at.invariant c.in_ok-put_count.ensures

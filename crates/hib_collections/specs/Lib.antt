@@ -1,0 +1,10 @@
+pub mod Kept
+pub mod Notes
+pub mod Before
+pub mod Collected
+pub mod Gatherers
+pub mod Run
+pub mod Played
+pub mod Obeyed
+pub mod Gather
+pub mod Text
