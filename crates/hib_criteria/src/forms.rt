@@ -148,7 +148,8 @@ pub fn read_form(
     Ok(ended(draft))
 }
 
-fn empty(alloc: Global) -> Form
+/// The form of a line of which nothing is read.
+pub fn empty(alloc: Global) -> Form
     ensures { result ≡ lines.empty }
 {
     Form {
@@ -182,7 +183,7 @@ fn ended(draft: Draft) -> Option<Form>
 }
 
 /// The line after one more token, or none if it can't stand there.
-fn step(
+pub fn step(
     alloc: Global,
     mapping: &[EntityDef],
     draft: Draft,
@@ -284,7 +285,8 @@ fn step_from(mapping: &[EntityDef], form: Form, frames: Frames, token: &Token) -
     at(chosen(form, entity), frames, Place::Chosen)
 }
 
-fn chosen(mut form: Form, entity: Option<EntityNo>) -> Form
+/// The line reads this entity, if its name is known.
+pub fn chosen(mut form: Form, entity: Option<EntityNo>) -> Form
     ensures { result ≡ lines.chosen form entity }
 {
     form.unknown = form.unknown || entity.is_none();

@@ -1,6 +1,7 @@
-//! The query that a line of a script is.
+//! The query that a line of a script is, and the condition that tokens are.
 #![tactic(auto)]
 
+mod alone;
 mod clauses;
 mod conditions;
 mod errors;
@@ -8,5 +9,6 @@ mod forms;
 mod queries;
 mod terms;
 
+pub use alone::check_condition;
 pub use errors::CriteriaError;
 pub use queries::check;

@@ -76,7 +76,7 @@ fn whole(alloc: Global, nodes: Nodes) -> Result<Option<Cond>, CriteriaError>
 }
 
 /// The first thing that is wrong with a line of this form, if anything.
-fn kind(form: &Form) -> Option<Kind>
+pub fn kind(form: &Form) -> Option<Kind>
     ensures { result ≡ query.kind_of form.now }
 {
     if is_reserved(form.name.as_slice()) {

@@ -9,7 +9,7 @@ use Rattle.hib_base.specs.declared.refusals.Kind.{Kind}
 use Rattle.hib_base.specs.declared.refusals.Refused.{Refused}
 use Rattle.hib_base.proofs.Gives.{Gives, Then, then_cond}
 use Rattle.hib_base.proofs.Lists.{all_more}
-use Rattle.hib_lex.specs.Lines.{lines_of, content_of, tokens_or_bad, with_content, with_line, lexing, lex_of}
+use Rattle.hib_lex.specs.Lines.{lines_of, content_of, tokens_or_bad, with_content, with_line, lexing, lex_after}
 use Rattle.hib_lex.specs.Tokens as lines
 use Rattle.hib_lex.specs.Tokens.{Place, Scan, is_lexical, is_blank, path_at, natural_of, negative_of, number_of, or_path, bare_of, with_bare, is_end, is_zero, is_positive, size_of, tokens_of}
 use Rattle.hib_lex.specs.declared.lexer.Token.{Token}
@@ -159,5 +159,5 @@ lexing_lexed (Err r) ls g = tt
 lexing_lexed (Ok done) [] g = g
 lexing_lexed (Ok done) (l ∷ ls) g = lexing_lexed (with_line done l) ls (with_content_lexed done (content_of l) g (content_lexed l))
 
-pub text_lexed : (text : List ℕ) → Gives (lex_of text) (λ l. are_lines_lexed l.lines ≡ true)
-text_lexed text = lexing_lexed (Ok (record { lines = []; count = 0 })) (lines_of text) refl
+pub text_lexed : (before : ℕ) (text : List ℕ) → Gives (lex_after before text) (λ l. are_lines_lexed l.lines ≡ true)
+text_lexed before text = lexing_lexed (Ok (record { lines = []; count = before })) (lines_of text) refl

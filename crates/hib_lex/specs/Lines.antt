@@ -59,9 +59,14 @@ lexing (Err r) ls = Err r
 lexing (Ok done) [] = Ok done
 lexing (Ok done) (l ∷ ls) = lexing (with_line done l) ls
 
--- the lines of a text that say something, with their tokens, or the first bad line
+-- the lines of a text that say something, with their tokens, or the first bad line. Other lines stand before it, so many that its
+-- first one has the next number
+abbrev pub lex_after : ℕ → List ℕ → Result Lines Refused
+lex_after n text = lexing (Ok (record { lines = []; count = n })) (lines_of text)
+
+-- the same of a text before which there is none
 abbrev pub lex_of : List ℕ → Result Lines Refused
-lex_of text = lexing (Ok (record { lines = []; count = 0 })) (lines_of text)
+lex_of text = lex_after 0 text
 
 -- the first bad line is the one that is refused; want of memory says nothing
 abbrev pub IsWhere : Result Lines Refused → LexError → Type 0

@@ -41,15 +41,25 @@ enum Content {
 ///
 /// Errors: `Refused` exactly if a line breaks a rule, with the first such line, and with the first of the kinds byte,
 /// long and token that it has; `NoMemory` if there is none left. Nothing else is changed.
-#[tactic(auto, using(crate::proofs::Texts::lexing_done, crate::proofs::Texts::length_fits))]
 pub fn lex(alloc: Global, text: &[u8]) -> Result<Lines, LexError>
     requires { length text.now < 2 ^ 31 }
     ensures lines { IfOk result (λ l. format.lex_of text.now ≡ Ok l) }
     ensures refused { IfErr result (format.IsWhere (format.lex_of text.now)) }
 {
+    lex_after(alloc, 0, text)
+}
+
+/// The lines of a text before which so many others stand: the first one has the next number, and their count is that of all lines
+/// so far. Else it is as `lex` says.
+#[tactic(auto, using(crate::proofs::Texts::lexing_done, crate::proofs::Texts::length_fits))]
+pub fn lex_after(alloc: Global, before: u32, text: &[u8]) -> Result<Lines, LexError>
+    requires { before + length text.now < 2 ^ 31 }
+    ensures lines { IfOk result (λ l. format.lex_after before text.now ≡ Ok l) }
+    ensures refused { IfErr result (format.IsWhere (format.lex_after before text.now)) }
+{
     let mut done = Lines {
         lines: Seq::new(alloc),
-        count: 0,
+        count: before,
     };
     let mut start = 0;
     while start < text.len() {

@@ -14,7 +14,7 @@ use Rattle.hib_base.proofs.Gives.{Gives, given}
 use Rattle.hib_base.proofs.Valid as rules
 use Rattle.hib_criteria.specs.Query.{said, parts_in}
 use Rattle.hib_criteria.proofs.Declared.{is_said_below, are_nodes_below, targets_below}
-use Rattle.hib_lex.specs.Lines.{lex_of}
+use Rattle.hib_lex.specs.Lines.{lex_after}
 use Rattle.hib_lex.specs.declared.lines.Line.{Line}
 use Rattle.hib_lex.specs.declared.lines.Lines.{Lines}
 use Rattle.hib_lex.proofs.Lexed.{are_lexed, are_lines_lexed, text_lexed}
@@ -131,7 +131,7 @@ valid s i =
     })
 
 -- a script that the lines of a text are
-pub read_valid : (text : List ℕ) (l : Lines) (x : Result Script ScriptError) → lex_of text ≡ Ok l → IfOk x (λ s. script_in (Ok l) ≡ Ok (outline_of s)) → IfOk x (λ s. is_valid s ≡ true)
-read_valid text l (Ok s) e h =
-    valid s (given (script_in (Ok l)) IsKept (outline_of s) (lines_kept l (given (lex_of text) (λ l. are_lines_lexed l.lines ≡ true) l (text_lexed text) e)) h)
-read_valid text l (Err x) e h = h
+pub read_valid : (before : ℕ) (text : List ℕ) (l : Lines) (x : Result Script ScriptError) → lex_after before text ≡ Ok l → IfOk x (λ s. script_in (Ok l) ≡ Ok (outline_of s)) → IfOk x (λ s. is_valid s ≡ true)
+read_valid before text l (Ok s) e h =
+    valid s (given (script_in (Ok l)) IsKept (outline_of s) (lines_kept l (given (lex_after before text) (λ l. are_lines_lexed l.lines ≡ true) l (text_lexed before text) e)) h)
+read_valid before text l (Err x) e h = h

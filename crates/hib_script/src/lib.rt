@@ -11,4 +11,4 @@ mod reader;
 mod sessions;
 
 pub use errors::ScriptError;
-pub use reader::read;
+pub use reader::{read, read_lines};

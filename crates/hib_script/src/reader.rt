@@ -1,10 +1,11 @@
 // The script of a text.
 ghost use Rattle.hib_base.specs.Valid.{is_valid};
+ghost use Rattle.hib_lex.specs.Lines.{lex_after};
 ghost use Rattle.hib_script.specs.Script.{begins_column};
 ghost use Rattle.hib_script.specs.Drafts.{reader_of};
 ghost use Rattle.hib_script.specs.Outline.{outline_of};
 ghost use Rattle.hib_script.specs.Script as order;
-ghost use Rattle.std.specs.Prelude.{◌≡◌, ◌+◌, ◌^◌, ◌<◌, length, drop, IfOk, IfErr, OnOk, Ok, true};
+ghost use Rattle.std.specs.Prelude.{◌≡◌, ◌+◌, ◌^◌, ◌<◌, ℕ, List, length, drop, IfOk, IfErr, OnOk, Ok, true};
 
 use crate::drafts::{Draft, close, start};
 use crate::errors::{LineError, ScriptError};
@@ -34,8 +35,20 @@ pub fn read(alloc: Global, text: &[u8]) -> Result<Script, ScriptError>
     }
 }
 
-/// The script of the lines of a text.
-fn read_lines(alloc: Global, lines: &Lines) -> Result<Script, ScriptError>
+/// The script that the lines of a text are. It keeps the rules of scripts, as `read` says.
+///
+/// Errors: as of `read`, but for the kinds of bytes, length and tokens, which no line has that is there.
+pub fn read_lines(alloc: Global, lines: &Lines) -> Result<Script, ScriptError>
+    ensures script { IfOk result (λ s. order.script_in (Ok lines.now) ≡ Ok (outline_of s)) }
+    ensures valid { (before : ℕ) (text : List ℕ) → lex_after before text ≡ Ok lines.now
+        → IfOk result (λ s. is_valid s ≡ true) }
+    ensures refused { IfErr result (order.IsWhere (order.script_in (Ok lines.now))) }
+{
+    script_said(alloc, lines)
+}
+
+/// The script that the lines say.
+fn script_said(alloc: Global, lines: &Lines) -> Result<Script, ScriptError>
     ensures script { IfOk result (λ s. order.script_in (Ok lines.now) ≡ Ok (outline_of s)) }
     ensures refused { IfErr result (order.IsWhere (order.script_in (Ok lines.now))) }
 {

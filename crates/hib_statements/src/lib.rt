@@ -14,5 +14,6 @@ pub use errors::StatementError;
 pub use given::Given;
 pub use named::NamedSessions;
 pub use orders::order;
+pub use parts::{Pairs, read_pairs};
 pub use rows::row;
 pub use statements::statement;
