@@ -1,6 +1,6 @@
 use Rattle.std.proofs.Common.{length}
-use Rattle.hib_audit_input.proofs.Whole.{rest_few, few_entries, whole_read}
-use Rattle.hib_audit_input.proofs.input.read.Goals as goal
+use Rattle.hib_input.proofs.Whole.{rest_few, few_entries, whole_read}
+use Rattle.hib_input.proofs.with_journal.read_with_journal.Goals as goal
 
 pub returns-in-Ok-clause-few : goal.returns-in-Ok-clause-few
 returns-in-Ok-clause-few c = few_entries c.read_cut.result _ (length c.args.text.now) c.read_cut.ensures.lines (rest_few c.args.text.now _ _)

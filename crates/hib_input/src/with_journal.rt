@@ -4,12 +4,14 @@ ghost use Rattle.hib_base.specs.Valid.{is_valid};
 ghost use Rattle.hib_lex.specs.Lines.{lines_of};
 ghost use Rattle.hib_script.specs.Outline.{outline_of};
 ghost use Rattle.hib_journal_json.specs.Entries.{AreLines};
-ghost use Rattle.hib_audit_input.specs.Input.{cut, script_of_lines, IsInput, IsWholeInput, IsWhere, IsRefusedBehind, IsBadCut};
-ghost use Rattle.hib_audit_input.specs.declared.faults.InputFault.TheVariants as faults;
+ghost use Rattle.hib_input.specs.Cut.{script_of_lines};
+ghost use Rattle.hib_input.specs.WithJournal.{IsInput, IsWholeInput, IsWhere, IsRefusedBehind, IsBadCut};
+ghost use Rattle.hib_input.specs.declared.faults.InputFault.TheVariants as faults;
 
 use crate::cutting::{Cut, cut_of};
 use crate::faults::InputFault;
-use hib_base::{Kind, Refused, Script};
+use crate::unmarked::without_mark;
+use hib_base::{Kind, Script};
 use hib_journal::Journal;
 use hib_journal_json::JournalFault;
 use hib_script::ScriptError;
@@ -17,29 +19,11 @@ use std::alloc::Global;
 
 /// A script, and a journal in its names.
 #[derive(Drop)]
-pub struct Input {
+pub struct WithJournal {
     /// The script, which is valid.
     pub script: Script,
     /// The journal, whatever its entries say.
     pub journal: Journal,
-}
-
-/// Why a text without a line `journal` is refused: its first bad line as a script, or else that the line is missing.
-fn without_mark(alloc: Global, text: &[u8], lines: usize) -> InputFault
-    requires small { length text.now < 2 ^ 31 }
-    requires none { cut (lines_of text.now) ≡ None }
-    requires few { lines ≤ length text.now + 1 }
-    requires count { lines ≡ length (lines_of text.now) }
-    ensures { IsWhere text.now result }
-{
-    match hib_script::read(alloc, text) {
-        Ok(_) => InputFault::Refused(Refused {
-            line: lines as u32,
-            kind: Kind::Journal,
-        }),
-        Err(ScriptError::Refused(refused)) => InputFault::Refused(refused),
-        Err(ScriptError::NoMemory) => InputFault::NoMemory,
-    }
 }
 
 /// The journal after a script, whose lines begin with this number.
@@ -48,21 +32,26 @@ fn read_behind(
     script: Script,
     behind: &[u8],
     first: u32,
-) -> Result<Input, InputFault>
+) -> Result<WithJournal, InputFault>
     requires { is_valid script ≡ true }
     ensures script { IfOk result (λ i. i.script ≡ script) }
     ensures lines { IfOk result (λ i. AreLines script (lines_of behind.now) i.journal.list) }
     ensures refused { IfErr result (IsRefusedBehind script (lines_of behind.now) first) }
 {
     match hib_journal_json::read(alloc, &script, behind, first) {
-        Ok(journal) => Ok(Input { script, journal }),
+        Ok(journal) => Ok(WithJournal { script, journal }),
         Err(JournalFault::Refused(refused)) => Err(InputFault::Refused(refused)),
         Err(JournalFault::NoMemory) => Err(InputFault::NoMemory),
     }
 }
 
 /// The script before a line `journal`, and the journal after it; so many lines stand before it.
-fn read_cut(alloc: Global, before: &[u8], behind: &[u8], lines: usize) -> Result<Input, InputFault>
+fn read_cut(
+    alloc: Global,
+    before: &[u8],
+    behind: &[u8],
+    lines: usize,
+) -> Result<WithJournal, InputFault>
     requires small { length before.now < 2 ^ 31 }
     requires few { lines ≤ length before.now + 1 }
     requires count { lines ≡ length (lines_of before.now) }
@@ -84,7 +73,7 @@ fn read_cut(alloc: Global, before: &[u8], behind: &[u8], lines: usize) -> Result
 ///
 /// Errors: `Refused` exactly if the text has not this form, with its first bad line by the rules of a script, and else the
 /// first line after it that is no entry's; `NoMemory` if there is none left.
-pub fn read(alloc: Global, text: &[u8]) -> Result<Input, InputFault>
+pub fn read_with_journal(alloc: Global, text: &[u8]) -> Result<WithJournal, InputFault>
     requires { length text.now < 2 ^ 31 }
     ensures input { IfOk result (λ i. IsInput text.now i.script i.journal.list) }
     ensures valid { IfOk result (λ i. is_valid i.script ≡ true) }
@@ -93,7 +82,7 @@ pub fn read(alloc: Global, text: &[u8]) -> Result<Input, InputFault>
     // A text that has the form is refused for want of memory alone.
     ensures whole { IsWholeInput text.now → IfErr result (λ f. f ≡ faults.NoMemory) }
 {
-    match cut_of(text) {
+    match cut_of(text, b"journal") {
         Ok(
             Cut {
                 before,
@@ -101,6 +90,6 @@ pub fn read(alloc: Global, text: &[u8]) -> Result<Input, InputFault>
                 lines,
             },
         ) => read_cut(alloc, &text[..before], &text[behind..], lines),
-        Err(lines) => Err(without_mark(alloc, text, lines)),
+        Err(lines) => Err(without_mark(alloc, text, lines, Kind::Journal)),
     }
 }

@@ -8,9 +8,10 @@ use Rattle.hib_lex.specs.Lines.{line_feed, before_lines, lines_of}
 use Rattle.hib_script.specs.Outline.{Outline, outline_of}
 use Rattle.hib_journal_json.specs.Entries.{AreLines}
 use Rattle.hib_journal_json.proofs.Journals.{same_length, none_bad}
-use Rattle.hib_audit_input.specs.declared.faults.InputFault.{InputFault}
-use Rattle.hib_audit_input.specs.declared.input.Input.{Input}
-use Rattle.hib_audit_input.specs.Input.{TextLines, cut, script_of_lines, IsBadCut, IsWholeInput}
+use Rattle.hib_input.specs.declared.faults.InputFault.{InputFault}
+use Rattle.hib_input.specs.declared.with_journal.WithJournal.{WithJournal}
+use Rattle.hib_input.specs.Cut.{TextLines, script_of_lines}
+use Rattle.hib_input.specs.WithJournal.{cut_off, IsBadCut, IsWholeInput}
 
 -- ---- a text has no more lines than bytes
 
@@ -32,7 +33,7 @@ rest_few text n k =
     let part : length (take n (drop k text)) ≤ length text = simp (length-take, length-drop) (omega arith) in
     omega (arith, few, part)
 
-pub few_entries : (r : Result Input InputFault) (ls : TextLines) (n : ℕ) → IfOk r (λ i. AreLines i.script ls i.journal.list) → length ls ≤ n → IfOk r (λ i. length i.journal.list ≤ n)
+pub few_entries : (r : Result WithJournal InputFault) (ls : TextLines) (n : ℕ) → IfOk r (λ i. AreLines i.script ls i.journal.list) → length ls ≤ n → IfOk r (λ i. length i.journal.list ≤ n)
 few_entries (Err f) ls n a h = tt
 few_entries (Ok i) ls n a h = subst (λ m. m ≤ n) (same_length i.script ls i.journal.list a) h
 
@@ -68,8 +69,8 @@ not_bad before behind said (InputFault.Refused r) is lines (inr bad) =
 from_place : (text : List ℕ) (start : ℕ) → take (length text - start) (drop start text) ≡ drop start text
 from_place text start = take_all (length text - start) (drop start text) (simp length-drop (omega arith))
 
-pub whole_read : (text : List ℕ) (b k : ℕ) (r : Result Input InputFault) → IfErr r (IsBadCut (lines_of (take b text)) (lines_of (take (length text - k) (drop k text)))) →
-    cut (lines_of text) ≡ Some (lines_of (take b text), lines_of (drop k text)) → IsWholeInput text → IfErr r (λ f. f ≡ InputFault.NoMemory)
+pub whole_read : (text : List ℕ) (b k : ℕ) (r : Result WithJournal InputFault) → IfErr r (IsBadCut (lines_of (take b text)) (lines_of (take (length text - k) (drop k text)))) →
+    cut_off text ≡ Some (lines_of (take b text), lines_of (drop k text)) → IsWholeInput text → IfErr r (λ f. f ≡ InputFault.NoMemory)
 whole_read text b k (Ok i) bad here w = tt
 whole_read text b k (Err f) bad here w =
     let same : (w.before ≡ lines_of (take b text)) × (w.behind ≡ lines_of (drop k text)) = first_part w.before _ w.behind _ (sym w.cut ∙ here) in

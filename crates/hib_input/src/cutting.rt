@@ -1,14 +1,14 @@
-// Where the line `journal` cuts a text.
+// Where a line cuts a text.
 ghost use Rattle.std.specs.Prelude.{◌≡◌, ◌≤◌, ◌+◌, IfOk, IfErr, length, take, drop, Some, None};
 ghost use Rattle.hib_lex.specs.Lines.{lines_of};
-ghost use Rattle.hib_audit_input.specs.Input.{is_mark, cut};
+ghost use Rattle.hib_input.specs.Cut.{is_mark, cut};
 
 use hib_lex::line_length;
 
 /// Where a text is cut.
 #[derive(Clone, Copy)]
 pub struct Cut {
-    /// The bytes before the line `journal`.
+    /// The bytes before the line.
     pub before: usize,
     /// The bytes before what comes after that line.
     pub behind: usize,
@@ -16,23 +16,23 @@ pub struct Cut {
     pub lines: usize,
 }
 
-/// Whether a line ends the script.
-fn is_mark(line: &[u8]) -> bool
-    ensures { result ≡ is_mark line.now }
+/// Whether a line is exactly this word.
+fn is_mark(word: &[u8], line: &[u8]) -> bool
+    ensures { result ≡ is_mark word.now line.now }
 {
-    line == b"journal".as_slice()
+    line == word
 }
 
-/// Where the first line that is exactly `journal` cuts a text; or the number of lines, if there is none.
+/// Where the first line that is exactly this word cuts a text; or the number of lines, if there is none.
 #[tactic(auto, using(hib_lex::proofs::Texts::length_fits))]
-pub fn cut_of(text: &[u8]) -> Result<Cut, usize>
-    ensures within { IfOk result (λ c. (c.before ≤ length text.now)
+pub fn cut_of(text: &[u8], word: &[u8]) -> Result<Cut, usize>
+    ensures within { IfOk result (λ c. (c.before ≤ c.behind)
         × (c.behind ≤ length text.now)) }
     ensures lines { IfOk result (λ c. c.lines ≡ length (lines_of (take c.before text.now))) }
     ensures short { IfOk result (λ c. c.lines ≤ c.before) }
-    ensures cut { IfOk result (λ c. cut (lines_of text.now)
+    ensures cut { IfOk result (λ c. cut word.now (lines_of text.now)
         ≡ Some (lines_of (take c.before text.now), lines_of (drop c.behind text.now))) }
-    ensures none { IfErr result (λ n. cut (lines_of text.now) ≡ None) }
+    ensures none { IfErr result (λ n. cut word.now (lines_of text.now) ≡ None) }
     ensures count { IfErr result (λ n. n ≡ length (lines_of text.now)) }
     ensures few { IfErr result (λ n. n ≤ length text.now + 1) }
 {
@@ -40,7 +40,7 @@ pub fn cut_of(text: &[u8]) -> Result<Cut, usize>
     let mut count = 0;
     while start < text.len() {
         let end = start + line_length(&text[start..]);
-        if is_mark(&text[start..end]) {
+        if is_mark(word, &text[start..end]) {
             return Ok(Cut {
                 before: start,
                 behind: text.len().min(end + 1),

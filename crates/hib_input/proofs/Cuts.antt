@@ -1,4 +1,4 @@
--- The place at which the line `journal` cuts a text.
+-- The place at which a line cuts a text.
 use Rattle.std.proofs.Common.{◌≡◌, ℕ, zero, suc, ◌+◌, ◌-◌, ◌<◌, ◌≤◌, Bool, true, false, cond, not, ◌&&◌, ◌==◌, List, [], ◌∷◌, ◌++◌, length, take, drop, get_or, Option, Some, None, option_map, refl, sym, ap, ◌∙◌, append_assoc, arith, add-one, min, nat_le}
 use Rattle.std.specs.List.{list_all}
 use Rattle.std.proofs.lemmas.List.{append-nil, append_cancel_right, drop_all, length-drop, take_all, length-append, length-take, get_or-drop}
@@ -6,7 +6,7 @@ use Rattle.std.proofs.lemmas.Bool.Decides.{nat_tests}
 use Rattle.hib_lex.specs.Lines.{line_feed, before_lines, lines_of, line_length}
 use Rattle.hib_lex.proofs.Texts.{lines_first}
 use Rattle.hib_journal_json.proofs.Journals.{line_here}
-use Rattle.hib_audit_input.specs.Input.{TextLines, is_mark, with_first, cut}
+use Rattle.hib_input.specs.Cut.{TextLines, is_mark, with_first, cut}
 
 -- ---- a text is cut after a line feed
 
@@ -45,36 +45,36 @@ from_place text start = take_all (length text - start) (drop start text) (simp l
 
 -- ---- the lines so far
 
-pub record SoFar (text : List ℕ) (start count : ℕ) : Type 0 where
+pub record SoFar (w text : List ℕ) (start count : ℕ) : Type 0 where
   pub before : TextLines
   pub split : lines_of text ≡ before ++ lines_of (drop start text)
   pub counted : length before ≡ count
-  pub unmarked : list_all (λ l. not (is_mark l)) before ≡ true
+  pub unmarked : list_all (λ l. not (is_mark w l)) before ≡ true
   pub text_before : start ≤ length text → before ≡ lines_of (take start text)
 
-pub at_start : (text : List ℕ) → SoFar text 0 0
-at_start text = record { before = []; split = refl; counted = refl; unmarked = refl; text_before = λ h. refl }
+pub at_start : (w text : List ℕ) → SoFar w text 0 0
+at_start w text = record { before = []; split = refl; counted = refl; unmarked = refl; text_before = λ h. refl }
 
 -- lines that aren't the mark stay before the cut
 abbrev behind_all : TextLines → TextLines × TextLines → TextLines × TextLines
 behind_all ls c = (ls ++ c.0, c.1)
 
-cut_on : (before ls : TextLines) → list_all (λ l. not (is_mark l)) before ≡ true → cut (before ++ ls) ≡ option_map (behind_all before) (cut ls)
-cut_on [] ls h = same (cut ls)
+cut_on : (w : List ℕ) (before ls : TextLines) → list_all (λ l. not (is_mark w l)) before ≡ true → cut w (before ++ ls) ≡ option_map (behind_all before) (cut w ls)
+cut_on w [] ls h = same (cut w ls)
   where
     same : (o : Option (TextLines × TextLines)) → o ≡ option_map (behind_all []) o
     same None = refl
     same (Some c) = refl
-cut_on (l ∷ before) ls h = by (is_mark l) h (λ e. cut_on before ls e)
+cut_on w (l ∷ before) ls h = by (is_mark w l) h (λ e. cut_on w before ls e)
   where
     more : (o : Option (TextLines × TextLines)) → option_map (with_first l) (option_map (behind_all before) o) ≡ option_map (behind_all (l ∷ before)) o
     more None = refl
     more (Some c) = refl
 
-    by : (b : Bool) → (not b && list_all (λ k. not (is_mark k)) before) ≡ true → (list_all (λ k. not (is_mark k)) before ≡ true → cut (before ++ ls) ≡ option_map (behind_all before) (cut ls)) →
-        cond b (Some ([], before ++ ls)) (option_map (with_first l) (cut (before ++ ls))) ≡ option_map (behind_all (l ∷ before)) (cut ls)
+    by : (b : Bool) → (not b && list_all (λ k. not (is_mark w k)) before) ≡ true → (list_all (λ k. not (is_mark w k)) before ≡ true → cut w (before ++ ls) ≡ option_map (behind_all before) (cut w ls)) →
+        cond b (Some ([], before ++ ls)) (option_map (with_first l) (cut w (before ++ ls))) ≡ option_map (behind_all (l ∷ before)) (cut w ls)
     by true e rest = absurd (cc)
-    by false e rest = ap (option_map (with_first l)) (rest e) ∙ more (cut ls)
+    by false e rest = ap (option_map (with_first l)) (rest e) ∙ more (cut w ls)
 
 -- the rest of a text from a place after its end on is nothing
 drop_least : (text : List ℕ) (i : ℕ) → drop (min (length text) i) text ≡ drop i text
@@ -87,20 +87,20 @@ drop_least text i = by (nat_le i (length text)) refl
         let m : length text ≤ i = grind (arith, nat_tests) in
         ap (λ n. drop n text) s ∙ (drop_all (length text) text (omega arith) ∙ sym (drop_all i text m))
 
-pub found : (text : List ℕ) (start size count : ℕ) → SoFar text start count → start < length text → size ≡ line_length (take (length text - start) (drop start text)) →
-    is_mark (take (start + size - start) (drop start text)) ≡ true → cut (lines_of text) ≡ Some (lines_of (take start text), lines_of (drop (min (length text) (start + size + 1)) text))
-found text start size count s h k m =
+pub found : (w text : List ℕ) (start size count : ℕ) → SoFar w text start count → start < length text → size ≡ line_length (take (length text - start) (drop start text)) →
+    is_mark w (take (start + size - start) (drop start text)) ≡ true → cut w (lines_of text) ≡ Some (lines_of (take start text), lines_of (drop (min (length text) (start + size + 1)) text))
+found w text start size count s h k m =
     let line : List ℕ = take (start + size - start) (drop start text) in
     let rest : TextLines = lines_of (drop (start + size + 1) text) in
-    let here : cut (line ∷ rest) ≡ Some ([], rest) = rw m refl in
-    ap cut (s.split ∙ ap (λ ls. s.before ++ ls) (line_here text start size h k))
-    ∙ (cut_on s.before (line ∷ rest) s.unmarked
+    let here : cut w (line ∷ rest) ≡ Some ([], rest) = rw m refl in
+    ap (cut w) (s.split ∙ ap (λ ls. s.before ++ ls) (line_here text start size h k))
+    ∙ (cut_on w s.before (line ∷ rest) s.unmarked
     ∙ (ap (option_map (behind_all s.before)) here
     ∙ (ap (λ ls. Some (ls, rest)) (append-nil s.before ∙ s.text_before (omega (arith, h)))
     ∙ ap (λ xs. Some (lines_of (take start text), lines_of xs)) (sym (drop_least text (start + size + 1))))))
 
-pub counted_before : (text : List ℕ) (start count : ℕ) → SoFar text start count → start < length text → count ≡ length (lines_of (take start text))
-counted_before text start count s h = sym s.counted ∙ ap length (s.text_before (omega (arith, h)))
+pub counted_before : (w text : List ℕ) (start count : ℕ) → SoFar w text start count → start < length text → count ≡ length (lines_of (take start text))
+counted_before w text start count s h = sym s.counted ∙ ap length (s.text_before (omega (arith, h)))
 
 -- ---- one line more
 
@@ -119,9 +119,9 @@ feed_at text start size h k m =
     let at : get_or (drop start text) (line_length (drop start text)) 0 ≡ 10 = feed_behind (drop start text) inside in
     sym (get_or-drop start text size 0) ∙ (ap (λ n. get_or (drop start text) n 0) same ∙ at)
 
-pub goes_on : (text : List ℕ) (start size count : ℕ) → SoFar text start count → start < length text → size ≡ line_length (take (length text - start) (drop start text)) →
-    is_mark (take (start + size - start) (drop start text)) ≡ false → SoFar text (start + size + 1) (count + 1)
-goes_on text start size count s h k m =
+pub goes_on : (w text : List ℕ) (start size count : ℕ) → SoFar w text start count → start < length text → size ≡ line_length (take (length text - start) (drop start text)) →
+    is_mark w (take (start + size - start) (drop start text)) ≡ false → SoFar w text (start + size + 1) (count + 1)
+goes_on w text start size count s h k m =
     let line : List ℕ = take (start + size - start) (drop start text) in
     let behind : List ℕ = drop (start + size + 1) text in
     let more : lines_of text ≡ (s.before ++ line ∷ []) ++ lines_of behind =
@@ -130,7 +130,7 @@ goes_on text start size count s h k m =
       before = s.before ++ line ∷ [];
       split = more;
       counted = length-append s.before (line ∷ []) ∙ ap (λ n. n + 1) s.counted;
-      unmarked = list_all_more (λ l. not (is_mark l)) s.before line s.unmarked (ap not m);
+      unmarked = list_all_more (λ l. not (is_mark w l)) s.before line s.unmarked (ap not m);
       text_before = λ within.
           let inside : start + size < length text = omega (arith, within) in
           let cut_here : lines_of text ≡ lines_of (take (start + size + 1) text) ++ lines_of behind =
@@ -139,10 +139,10 @@ goes_on text start size count s h k m =
     }
 
 -- no line is the mark
-pub not_found : (text : List ℕ) (start count : ℕ) → SoFar text start count → length text ≤ start → cut (lines_of text) ≡ None
-not_found text start count s h =
-    ap cut (s.split ∙ ap (λ ls. s.before ++ lines_of ls) (drop_all start text h)) ∙ cut_on s.before [] s.unmarked
+pub not_found : (w text : List ℕ) (start count : ℕ) → SoFar w text start count → length text ≤ start → cut w (lines_of text) ≡ None
+not_found w text start count s h =
+    ap (cut w) (s.split ∙ ap (λ ls. s.before ++ lines_of ls) (drop_all start text h)) ∙ cut_on w s.before [] s.unmarked
 
-pub counted_all : (text : List ℕ) (start count : ℕ) → SoFar text start count → length text ≤ start → count ≡ length (lines_of text)
-counted_all text start count s h =
+pub counted_all : (w text : List ℕ) (start count : ℕ) → SoFar w text start count → length text ≤ start → count ≡ length (lines_of text)
+counted_all w text start count s h =
     sym s.counted ∙ ap length (sym (s.split ∙ (ap (λ ls. s.before ++ lines_of ls) (drop_all start text h) ∙ append-nil s.before)))

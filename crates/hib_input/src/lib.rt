@@ -1,0 +1,12 @@
+//! What comes after a script in a text: the line `journal` and a journal as JSON lines, or a word and the lines of a section.
+#![tactic(auto)]
+
+mod cutting;
+mod faults;
+mod unmarked;
+mod with_journal;
+mod with_section;
+
+pub use faults::InputFault;
+pub use with_journal::{WithJournal, read_with_journal};
+pub use with_section::{WithSection, read_with_section};
