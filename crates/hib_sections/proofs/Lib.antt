@@ -1,0 +1,4 @@
+pub mod Scheduled
+pub mod Declared
+pub mod Fit
+pub mod Five
