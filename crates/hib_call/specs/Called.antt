@@ -4,7 +4,7 @@ use Rattle.std.specs.Io.KnownBytes.{IsAtEnd}
 use Rattle.hib_outside.specs.Causes.{Rose}
 use Rattle.hib_call.specs.declared.status.Status.{Status}
 use Rattle.hib_call.specs.Command.{Command}
-use Rattle.hib_call.specs.Ends.{IsAfterRun, IsCompleted, IsEarly}
+use Rattle.hib_call.specs.Ends.{IsAfterRun, IsEarly}
 use Rattle.hib_call.specs.Outside.{Outside}
 use Rattle.hib_call.specs.Streams.{ReadsFew}
 
@@ -64,5 +64,5 @@ pub record IsCalled {I R : Type 0} (c : Command I R) (old new : Outside) (answer
   pub long : answer ≡ Status.TooLong → IfSome old.left (λ bytes. c.limit < length bytes)
   -- at most one piece of 4,096 bytes beyond the limit is read
   pub few : ReadsFew (c.limit + 4096) old.left new.left
-  -- all is done if source and sink don't fail, unless memory runs out or the keeper doesn't take the script's rows
-  pub complete : HasInput c old.left → (Rose old.read_faults new.read_faults → ⊥) → (Rose old.write_faults new.write_faults → ⊥) → IsCompleted answer
+  -- the input is run if source and sink don't fail, unless memory runs out
+  pub complete : HasInput c old.left → (Rose old.read_faults new.read_faults → ⊥) → (Rose old.write_faults new.write_faults → ⊥) → IsAfterRun answer ⊎ IsEarly answer

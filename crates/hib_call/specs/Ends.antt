@@ -47,13 +47,3 @@ IsWritten (Status.Illegal n k) text old new = Appends old new text
 IsWritten Status.WriteFault text old new = TakesFront old new text
 IsWritten Status.NoMemory text old new = TakesFront old new text
 IsWritten _ text old new = new ≡ old
-
--- all was done, a journal that isn't legal was found so, a run over parts is torn, memory ran out, or the keeper didn't take the
--- script's rows
-abbrev pub IsCompleted : Status → Type 0
-IsCompleted Status.Done = ⊤
-IsCompleted (Status.Illegal n k) = ⊤
-IsCompleted (Status.Torn torn) = ⊤
-IsCompleted Status.NoMemory = ⊤
-IsCompleted Status.StoreFault = ⊤
-IsCompleted _ = ⊥

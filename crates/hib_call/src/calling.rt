@@ -1,11 +1,12 @@
 // A call, whatever its command is.
 ghost use Rattle.std.specs.Prelude.{◌≡◌, ◌<◌, ◌+◌, length, Err, IfOk, IfErr, IfSome};
 ghost use Rattle.hib_outside.specs.Causes.{Rose};
-ghost use Rattle.hib_listeners.specs.Told.{tells};
 ghost use Rattle.hib_call.specs.Called.{HasInput, HasNone, HasRead, IsCalled};
 ghost use Rattle.hib_call.specs.Ends.{Comes};
+ghost use Rattle.hib_call.specs.Outside.{outside, shared_by};
 ghost use Rattle.hib_call.specs.Streams.{ReadsFew};
 
+use crate::lent::Lent;
 use crate::status::Status;
 use crate::streams::{ReadStop, read_all};
 use crate::tasks::{InputFault, Outcome, Ran, Task};
@@ -17,10 +18,8 @@ use std::alloc::Global;
 pub struct Called<R, K, L> {
     /// How it ended.
     pub status: Status,
-    /// The keeper that was handed in.
-    pub keeper: K,
-    /// The listeners that stayed.
-    pub listeners: Vec<L>,
+    /// The keeper that was handed in, and the listeners that stayed.
+    pub lent: Lent<K, L>,
     /// What was run, if something was.
     pub run: Option<R>,
 }
@@ -55,97 +54,55 @@ fn input_of<T: Task, S: Source>(alloc: Global, task: &T, source: &mut S) -> Resu
     }
 }
 
-/// Reads the input of a command to the source's end, runs it over the keeper and tells the run. The run is of any input that is read,
-/// over this keeper; the listeners hear of it. Whatever the status, the keeper is handed back, with the listeners that stayed.
+/// Reads the input of a command to the source's end, runs it over what is lent and tells the run. The run is of any input that is
+/// read; the listeners hear of it. Whatever the status, the keeper is handed back, with the listeners that stayed.
 pub fn call<
     T: Task,
     S: Source,
     W: Sink,
     K: Keeper,
     L: Listener,
-    F: FnOnce(T::Input, K, Vec<L>) -> Ran<T::Run, K, L>,
+    F: FnOnce(T::Input, Lent<K, L>) -> Ran<T::Run, K, L>,
 >(
     alloc: Global,
     task: &T,
     source: &mut S,
     out: &mut W,
-    keeper: K,
-    listeners: Vec<L>,
+    lent: Lent<K, L>,
     run: F,
 ) -> Called<T::Run, K, L>
-    requires may { (input : T.Input) → T.is_sound input → F.pre run input keeper listeners }
-    requires comes { (input : T.Input) (ran : _) → T.is_sound input
-        → F.post run input keeper listeners ran
+    requires may { (input : T.Input) → T.is_sound input → F.pre run input lent }
+    requires comes { (input : T.Input) (ran : _) → T.is_sound input → F.post run input lent ran
         → Comes (T.command task.now) input
-        (record {
-          tables = K.tables keeper;
-          faults = K.faults keeper;
-          asked = K.asked keeper;
-          told = tells L.heard L.left listeners.items;
-        })
-        (record {
-          tables = K.tables ran.keeper;
-          faults = K.faults ran.keeper;
-          asked = K.asked ran.keeper;
-          told = tells L.heard L.left ran.listeners.items;
-        })
+        (shared_by K.tables K.faults K.asked L.heard L.left lent.keeper lent.listeners.items)
+        (shared_by K.tables K.faults K.asked L.heard L.left ran.lent.keeper ran.lent.listeners.items)
         ran.outcome }
     ensures { IsCalled (T.command task.now)
-        (record {
-          left = S.left source.old;
-          read_faults = S.faults source.old;
-          taken = W.taken out.old;
-          write_faults = W.faults out.old;
-          shared = record {
-            tables = K.tables keeper;
-            faults = K.faults keeper;
-            asked = K.asked keeper;
-            told = tells L.heard L.left listeners.items;
-          };
-        })
-        (record {
-          left = S.left source.new;
-          read_faults = S.faults source.new;
-          taken = W.taken out.new;
-          write_faults = W.faults out.new;
-          shared = record {
-            tables = K.tables result.keeper;
-            faults = K.faults result.keeper;
-            asked = K.asked result.keeper;
-            told = tells L.heard L.left result.listeners.items;
-          };
-        })
+        (outside (S.left source.old) (S.faults source.old) (W.taken out.old) (W.faults out.old)
+        (shared_by K.tables K.faults K.asked L.heard L.left lent.keeper lent.listeners.items))
+        (outside (S.left source.new) (S.faults source.new) (W.taken out.new) (W.faults out.new)
+        (shared_by K.tables K.faults K.asked L.heard L.left result.lent.keeper
+        result.lent.listeners.items))
         result.status result.run }
 {
     let input = match input_of(alloc, task, source) {
         Ok(input) => input,
         Err(status) => return Called {
             status,
-            keeper,
-            listeners,
+            lent,
             run: None,
         },
     };
-    let Ran {
-        outcome,
-        keeper,
-        listeners,
-    } = run(input, keeper, listeners);
+    let Ran { outcome, lent } = run(input, lent);
     match outcome {
         Outcome::Over(run) => {
             let status = task.tell(alloc, &run, out);
             Called {
                 status,
-                keeper,
-                listeners,
+                lent,
                 run: Some(run),
             }
         }
-        Outcome::Stopped(status, run) => Called {
-            status,
-            keeper,
-            listeners,
-            run,
-        },
+        Outcome::Stopped(status, run) => Called { status, lent, run },
     }
 }

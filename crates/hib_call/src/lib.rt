@@ -5,11 +5,13 @@
 #![tactic(auto)]
 
 mod calling;
+mod lent;
 mod status;
 mod streams;
 mod tasks;
 
 pub use calling::{Called, call};
+pub use lent::Lent;
 pub use status::{Status, put_illegal, status_line};
 pub use streams::NothingLeft;
 pub use tasks::{InputFault, Outcome, Ran, Task, tell_text};

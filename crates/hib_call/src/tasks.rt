@@ -4,6 +4,7 @@ ghost use Rattle.hib_outside.specs.Causes.{Rose};
 ghost use Rattle.hib_call.specs.Command.{Command};
 ghost use Rattle.hib_call.specs.Ends.{IsAfterRun, IsWhere, IsWritten};
 
+use crate::lent::Lent;
 use crate::status::Status;
 use hib_base::Refused;
 use hib_outside::{Sink, write_all};
@@ -32,10 +33,8 @@ pub enum Outcome<R> {
 pub struct Ran<R, K, L> {
     /// What it came to.
     pub outcome: Outcome<R>,
-    /// The keeper.
-    pub keeper: K,
-    /// The listeners that stayed.
-    pub listeners: Vec<L>,
+    /// The keeper, and the listeners that stayed.
+    pub lent: Lent<K, L>,
 }
 
 /// A command. Its run is handed in beside it: a trait's method can't run what may be sent to a thread.

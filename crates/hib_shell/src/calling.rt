@@ -2,7 +2,7 @@
 ghost use Rattle.std.specs.Prelude.{◌≡◌, ◌≢◌, ◌↔◌, cond, false, length, IfOk, None};
 ghost use Rattle.std.specs.Option.{option_map_or};
 ghost use Rattle.hib_outside.specs.Causes.{Rose};
-ghost use Rattle.hib_top.specs.Words.{way_asked};
+ghost use Rattle.hib_top.specs.Words.{asked_in};
 ghost use Rattle.hib_words.specs.Commands.{asked_of};
 ghost use Rattle.hib_words.specs.Topics.{is_traced};
 
@@ -66,8 +66,8 @@ pub fn call<R: Threads + Wait + Sync, K: Keeper>(
     keeper: K,
 ) -> (Status, K)
     ensures usage { result.0 ≢ Status.NoMemory
-        → ((result.0 ≡ Status.Usage) ↔ (way_asked words.now ≡ None)) }
-    ensures idle { way_asked words.now ≡ None → K.tables result.1 ≡ K.tables keeper }
+        → ((result.0 ≡ Status.Usage) ↔ (asked_in words.now ≡ None)) }
+    ensures idle { asked_in words.now ≡ None → K.tables result.1 ≡ K.tables keeper }
     ensures store { result.0 ≡ Status.StoreFault → Rose (K.faults keeper) (K.faults result.1) }
 {
     let Ok(listeners) = listeners_asked(host, command) else {

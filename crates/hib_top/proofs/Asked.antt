@@ -1,23 +1,17 @@
--- What words have the program do has 1 to 64 workers.
-use Rattle.std.proofs.Common.{◌≡◌, ◌≤◌, ℕ, Bool, true, false, ◌&&◌, List, [], ◌∷◌, Option, Some, None, IfSome, refl, arith}
+-- What words ask for has 1 to 64 workers.
+use Rattle.std.proofs.Common.{◌≡◌, ◌≤◌, ℕ, Bool, true, false, ◌&&◌, List, [], ◌∷◌, Option, Some, None, IfSome, Result, Ok, Err, refl, sym, subst, arith}
 use Rattle.std.proofs.lemmas.Bool.Decides.{nat_tests}
-use Rattle.std.specs.Prelude.{nat_le, cond, option_map, option_and_then, ⊤, map, string_bytes}
-use Rattle.std.specs.declared.string.String.{String}
-use Rattle.std.specs.declared.alloc.Global.{Global}
+use Rattle.std.specs.Prelude.{IfOk, nat_le, cond, option_map, option_and_then}
 use Rattle.std.specs.Str.Parse.{digits_value}
 use Rattle.hib_words.specs.Given.{Text, options_in}
+use Rattle.hib_words.specs.declared.words.Command.{Command}
 use Rattle.hib_words.specs.declared.forms.Verb.{Verb}
 use Rattle.hib_words.specs.declared.forms.Verb.TheVariants.{Play, Work, Make, Audit}
-use Rattle.hib_words.specs.Commands.{Asked, Chosen, play, work, make, audit, asked, chosen_in, command, form_of, settings_in, is_numeral, number_between, verb_named}
-use Rattle.hib_top.specs.declared.ways.Way.{Way}
-use Rattle.hib_top.specs.Words.{HasFew, way_in, way_asked}
+use Rattle.hib_words.specs.Commands.{Asked, Chosen, play, work, make, asked, chosen_in, command, form_of, settings_in, asked_of, is_numeral, number_between, verb_named}
+use Rattle.hib_top.specs.Words.{HasFew}
 
 abbrev IsFew : ℕ → Type 0
 IsFew n = (1 ≤ n) × (n ≤ 64)
-
-abbrev AskedFew : Asked → Type 0
-AskedFew (work n split s) = IsFew n
-AskedFew _ = ⊤
 
 then_all : {A B : Type 0} (o : Option A) (f : A → Option B) (P : B → Type 0) → ((a : A) → IfSome (f a) P) → IfSome (option_and_then f o) P
 then_all None f P all = tt
@@ -46,35 +40,23 @@ of_text text false = tt
 number_few : (text : Text) → IfSome (number_between 1 64 text) IsFew
 number_few text = of_text text (is_numeral text)
 
-asked_few : (verb : Verb) (chosen : Chosen) → IfSome (asked verb chosen) AskedFew
-asked_few Play chosen = map_all (settings_in chosen) play AskedFew (λ s. tt)
-asked_few Work chosen = then_each (option_and_then (number_between 1 64) chosen.workers) (λ n. option_map (work n chosen.split) (settings_in chosen)) IsFew AskedFew
+asked_few : (verb : Verb) (chosen : Chosen) → IfSome (asked verb chosen) HasFew
+asked_few Play chosen = map_all (settings_in chosen) play HasFew (λ s. tt)
+asked_few Work chosen = then_each (option_and_then (number_between 1 64) chosen.workers) (λ n. option_map (work n chosen.split) (settings_in chosen)) IsFew HasFew
     (then_all chosen.workers (number_between 1 64) IsFew number_few)
-    (λ n few. map_all (settings_in chosen) (work n chosen.split) AskedFew (λ s. few))
-asked_few Make chosen = map_all (option_and_then (number_between 0 4294967295) chosen.seed) (λ n. make n chosen.text) AskedFew (λ n. tt)
+    (λ n few. map_all (settings_in chosen) (work n chosen.split) HasFew (λ s. few))
+asked_few Make chosen = map_all (option_and_then (number_between 0 4294967295) chosen.seed) (λ n. make n chosen.text) HasFew (λ n. tt)
 asked_few Audit chosen = tt
 
-command_few : (words : List Text) → IfSome (command words) AskedFew
+command_few : (words : List Text) → IfSome (command words) HasFew
 command_few [] = tt
-command_few (word ∷ rest) = then_all (verb_named word) (λ verb. option_and_then (λ given. asked verb (chosen_in given)) (options_in (form_of verb) rest)) AskedFew
-    (λ verb. then_all (options_in (form_of verb) rest) (λ given. asked verb (chosen_in given)) AskedFew (λ given. asked_few verb (chosen_in given)))
+command_few (word ∷ rest) = then_all (verb_named word) (λ verb. option_and_then (λ given. asked verb (chosen_in given)) (options_in (form_of verb) rest)) HasFew
+    (λ verb. then_all (options_in (form_of verb) rest) (λ given. asked verb (chosen_in given)) HasFew (λ given. asked_few verb (chosen_in given)))
 
--- what a command has the program do has few workers
-way_few : (a : Asked) → AskedFew a → HasFew (way_in a)
-way_few (work n true s) few = few
-way_few (work n false s) few = few
-way_few (play s) few = tt
-way_few (make n t) few = printed t
-  where
-    printed : (b : Bool) → HasFew (cond b (Way.Printed n) (Way.Made n))
-    printed true = tt
-    printed false = tt
-way_few audit few = tt
+few_command : (o : Option Command) → IfSome (option_map asked_of o) HasFew → IfSome o (λ c. HasFew (asked_of c))
+few_command None few = tt
+few_command (Some c) few = few
 
-then_map : {A B : Type 0} (o : Option A) (f : A → B) (Q : A → Type 0) (P : B → Type 0) → IfSome o Q → ((a : A) → Q a → P (f a)) → IfSome (option_map f o) P
-then_map None f Q P q all = tt
-then_map (Some a) f Q P q all = all a q
-
-pub few_asked : (words : List (String Global)) → IfSome (way_asked words) HasFew
-unfolding way_asked
-few_asked words = then_map (command (map string_bytes words)) way_in AskedFew HasFew (command_few (map string_bytes words)) way_few
+pub few_read : {E : Type 0} (words : List Text) (r : Result (Option Command) E) → IfOk r (λ o. option_map asked_of o ≡ command words) → IfOk r (λ o. IfSome o (λ c. HasFew (asked_of c)))
+few_read words (Err e) read = tt
+few_read words (Ok o) read = few_command o (subst (λ (a : Option Asked). IfSome a HasFew) (sym read) (command_few words))

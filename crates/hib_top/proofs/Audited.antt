@@ -8,8 +8,7 @@ use Rattle.hib_call.specs.Ends.{IsAfterRun, IsWritten}
 use Rattle.hib_top.specs.Auditing.{IsSaid, status_said}
 
 pub is_said : (a : Audit) → IsSaid (status_said a) a
-is_said Audit.Legal = refl
-is_said (Audit.Illegal entry kind) = refl
+is_said a = inl refl
 
 pub said_written : (a : Audit) (text : List ℕ) (taken written : Option (List ℕ)) → IsWritten Status.Done text taken written → IsWritten (status_said a) text taken written
 said_written Audit.Legal text taken written w = w
@@ -26,7 +25,7 @@ not_write_fault (Audit.Illegal entry kind) e = absurd (cc)
 -- if it couldn't be written
 pub not_said : (answer : Status) (a : Audit) → ((answer ≡ Status.Done) ⊎ (answer ≡ Status.WriteFault)) → answer ≢ Status.Done → IsSaid answer a
 not_said answer a (inl e) other = absurd (other e)
-not_said answer a (inr e) other = subst (λ (s : Status). IsSaid s a) (sym e) tt
+not_said answer a (inr e) other = inr (inl e)
 
 -- a text has fewer entries than an audit takes
 pub few_entries : (k : Kept) → length k.list ≤ 67108864 → length (past k) < 2 ^ 32

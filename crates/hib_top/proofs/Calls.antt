@@ -1,20 +1,27 @@
 -- The call of a command is what the words have the program do.
-use Rattle.std.proofs.Common.{◌≡◌, ◌≢◌, ◌+◌, ℕ, [], Option, Some, None, refl, sym, ◌∙◌, ap, subst, inl, inr}
+use Rattle.std.proofs.Common.{◌≡◌, ◌≢◌, ◌+◌, ℕ, true, false, List, [], Option, Some, None, refl, sym, ◌∙◌, ap, subst, inl, inr}
 use Rattle.hib_outside.specs.Causes.{Rose}
 use Rattle.hib_journal.specs.Kept.{Kept, past}
 use Rattle.hib_call.proofs.Taken.{reads_none}
 use Rattle.hib_call.specs.declared.status.Status.{Status}
 use Rattle.hib_call.specs.Called.{IsCalled, ComesTo}
-use Rattle.hib_call.specs.Command.{Command}
-use Rattle.hib_call.specs.Outside.{Outside}
+use Rattle.hib_call.specs.Command as Calls
+use Rattle.hib_base.specs.Tables.{Tables}
+use Rattle.hib_journal.specs.Types.{Entry}
+use Rattle.hib_call.specs.Outside.{Outside, outside, shared_by}
 use Rattle.hib_top.specs.declared.telling.Played.{Played}
-use Rattle.hib_top.specs.declared.ways.Turns.{Turns}
-use Rattle.hib_top.specs.declared.ways.Way.{Way}
+use Rattle.hib_top.specs.declared.turns.Turns.{Turns}
 use Rattle.hib_top.specs.declared.call.Side.{Side}
 use Rattle.hib_top.specs.Call.{Does, DoesIf, HandsBack, IsKept, Promised, unread}
 use Rattle.hib_top.specs.Auditing.{auditing}
 use Rattle.hib_top.specs.Making.{making, printing}
 use Rattle.hib_top.specs.Running.{running}
+use Rattle.hib_top.specs.Words.{asked_alone, asked_in, if_alone, is_alone, telling_of}
+use Rattle.hib_words.specs.Commands.{Asked, asked_of, command, play, work, make, audit}
+use Rattle.hib_words.specs.declared.words.Command.{Command}
+use Rattle.std.specs.declared.string.String.{String}
+use Rattle.std.specs.declared.alloc.Global.{Global}
+use Rattle.std.specs.Prelude.{◌↔◌, map, option_map, option_and_then, string_bytes}
 
 -- ---- a call in which memory ran out before anything was done
 no_read_fault : Status.NoMemory ≡ Status.ReadFault → ⊥
@@ -29,7 +36,7 @@ no_store_fault e = cc
 not_long : Status.NoMemory ≡ Status.TooLong → ⊥
 not_long e = cc
 
-short_call : {I R : Type 0} (c : Command I R) (o : Outside) → IsCalled c o o Status.NoMemory None
+short_call : {I R : Type 0} (c : Calls.Command I R) (o : Outside) → IsCalled c o o Status.NoMemory None
 short_call c o = record {
   came = inl (tt, record { shared = refl; written = refl });
   read = λ e. absurd (no_read_fault e);
@@ -37,38 +44,38 @@ short_call c o = record {
   store = λ e. absurd (no_store_fault e);
   long = λ e. absurd (not_long e);
   few = reads_none (c.limit + 4096) o.left;
-  complete = λ has read write. tt;
+  complete = λ has read write. inl tt;
 }
 
-idle_by : (way : Way) (o : Outside) (journal : Kept) → past journal ≡ [] → Does way o o Status.NoMemory journal
-idle_by (Way.Run Turns.Scheduled telling) o journal e = (None, e, short_call (running Turns.Scheduled telling) o)
-idle_by (Way.Run (Turns.OnWorkers n) telling) o journal e = (None, e, short_call (running (Turns.OnWorkers n) telling) o)
-idle_by (Way.Run (Turns.OnParts n) telling) o journal e = (None, e, short_call (running (Turns.OnParts n) telling) o)
-idle_by (Way.Made n) o journal e = (None, e, short_call (making n) (unread o), record { left = refl; faults = refl })
-idle_by (Way.Printed n) o journal e = (None, e, short_call (printing n) (unread o), record { left = refl; faults = refl })
-idle_by Way.Audited o journal e = (None, e, short_call auditing o)
+idle_by : (asked : Asked) (o : Outside) (journal : Kept) → past journal ≡ [] → Does asked o o Status.NoMemory journal
+idle_by (play s) o journal e = (None, e, short_call (running Turns.Scheduled (telling_of s.journal)) o)
+idle_by (work n false s) o journal e = (None, e, short_call (running (Turns.OnWorkers n) (telling_of s.journal)) o)
+idle_by (work n true s) o journal e = (None, e, short_call (running (Turns.OnParts n) (telling_of s.journal)) o)
+idle_by (make n false) o journal e = (None, e, short_call (making n) (unread o), record { left = refl; faults = refl })
+idle_by (make n true) o journal e = (None, e, short_call (printing n) (unread o), record { left = refl; faults = refl })
+idle_by audit o journal e = (None, e, short_call auditing o)
 
-pub idle_if : (way : Option Way) (o : Outside) (journal : Kept) → past journal ≡ [] → DoesIf way o o Status.NoMemory journal
+pub idle_if : (asked : Option Asked) (o : Outside) (journal : Kept) → past journal ≡ [] → DoesIf asked o o Status.NoMemory journal
 unfolding DoesIf
 idle_if None o journal e = (refl, e)
-idle_if (Some way) o journal e = idle_by way o journal e
+idle_if (Some asked) o journal e = idle_by asked o journal e
 
-pub none_does : (way : Option Way) (o : Outside) (answer : Status) (journal : Kept) → None ≡ way → past journal ≡ [] → DoesIf way o o answer journal
+pub none_does : (asked : Option Asked) (o : Outside) (answer : Status) (journal : Kept) → None ≡ asked → past journal ≡ [] → DoesIf asked o o answer journal
 unfolding DoesIf
-none_does way o answer journal w e = subst (λ (z : Option Way). DoesIf z o o answer journal) w (refl, e)
+none_does asked o answer journal w e = subst (λ (z : Option Asked). DoesIf z o o answer journal) w (refl, e)
 
-pub some_does : (way : Option Way) (w : Way) (old new : Outside) (answer : Status) (journal : Kept) → Some w ≡ way → Does w old new answer journal → DoesIf way old new answer journal
+pub some_does : (asked : Option Asked) (a : Asked) (old new : Outside) (answer : Status) (journal : Kept) → Some a ≡ asked → Does a old new answer journal → DoesIf asked old new answer journal
 unfolding DoesIf
-some_does way w old new answer journal e d = subst (λ (z : Option Way). DoesIf z old new answer journal) e d
+some_does asked a old new answer journal e d = subst (λ (z : Option Asked). DoesIf z old new answer journal) e d
 
 -- ---- words without a form are told from others
-usage_by : {I R : Type 0} (c : Command I R) (old new : Outside) (run : Option R) → ComesTo c old new Status.Usage run → ⊥
+usage_by : {I R : Type 0} (c : Calls.Command I R) (old new : Outside) (run : Option R) → ComesTo c old new Status.Usage run → ⊥
 usage_by c old new None (inl n) = n.0
 usage_by c old new None (inr s) = s.4
 usage_by c old new (Some r) (inl t) = t.4
 usage_by c old new (Some r) (inr s) = s.4
 
-pub not_usage : {I R : Type 0} (c : Command I R) (old new : Outside) (answer : Status) (run : Option R) → IsCalled c old new answer run → answer ≢ Status.Usage
+pub not_usage : {I R : Type 0} (c : Calls.Command I R) (old new : Outside) (answer : Status) (run : Option R) → IsCalled c old new answer run → answer ≢ Status.Usage
 not_usage c old new answer run called e = usage_by c old new run (subst (λ (s : Status). ComesTo c old new s run) e called.came)
 
 -- ---- the journal that is handed back
@@ -80,11 +87,13 @@ pub none_kept : (n : ℕ) (answer : Status) (run : Option Played) (journal : Kep
 none_kept n answer run journal a e = subst (λ (s : Status). IsKept (Turns.OnParts n) s run journal) (sym a) e
 
 -- ---- a store fault is answered only if one came
-pub store_by : (way : Way) (old new : Outside) (answer : Status) (journal : Kept) → Does way old new answer journal → answer ≡ Status.StoreFault → Rose old.shared.faults new.shared.faults
-store_by (Way.Run turns telling) old new answer journal d = d.2.store
-store_by (Way.Made n) old new answer journal d = d.2.store
-store_by (Way.Printed n) old new answer journal d = d.2.store
-store_by Way.Audited old new answer journal d = d.2.store
+pub store_by : (asked : Asked) (old new : Outside) (answer : Status) (journal : Kept) → Does asked old new answer journal → answer ≡ Status.StoreFault → Rose old.shared.faults new.shared.faults
+store_by (play s) old new answer journal d = d.2.store
+store_by (work n false s) old new answer journal d = d.2.store
+store_by (work n true s) old new answer journal d = d.2.store
+store_by (make n false) old new answer journal d = d.2.store
+store_by (make n true) old new answer journal d = d.2.store
+store_by audit old new answer journal d = d.2.store
 
 not_usage_fault : Status.StoreFault ≡ Status.Usage → ⊥
 not_usage_fault e = cc
@@ -92,15 +101,98 @@ not_usage_fault e = cc
 not_short_fault : Status.StoreFault ≡ Status.NoMemory → ⊥
 not_short_fault e = cc
 
-pub store_if : (way : Option Way) (old new : Outside) (answer : Status) (journal : Kept) (side : Side) → Promised way old new answer journal side → answer ≡ Status.StoreFault → Rose old.shared.faults new.shared.faults
+pub store_if : (asked : Option Asked) (old new : Outside) (answer : Status) (journal : Kept) (side : Side) → Promised asked old new answer journal side → answer ≡ Status.StoreFault → Rose old.shared.faults new.shared.faults
 unfolding DoesIf
 store_if None old new answer journal side p e = absurd (not_usage_fault (sym e ∙ (p.usage (λ s. not_short_fault (sym e ∙ s))).1 refl))
-store_if (Some way) old new answer journal side p e = store_by way old new answer journal p.does e
+store_if (Some asked) old new answer journal side p e = store_by asked old new answer journal p.does e
 
 -- ---- and words without a form change no table
 none_by : (old new : Outside) (answer : Status) (journal : Kept) → DoesIf None old new answer journal → new.shared.tables ≡ old.shared.tables
 unfolding DoesIf
 none_by old new answer journal d = ap (λ (o : Outside). o.shared.tables) d.0
 
-pub none_tables : (way : Option Way) (old new : Outside) (answer : Status) (journal : Kept) (side : Side) → Promised way old new answer journal side → way ≡ None → new.shared.tables ≡ old.shared.tables
-none_tables way old new answer journal side p e = none_by old new answer journal (subst (λ (w : Option Way). DoesIf w old new answer journal) e p.does)
+pub none_tables : (asked : Option Asked) (old new : Outside) (answer : Status) (journal : Kept) (side : Side) → Promised asked old new answer journal side → asked ≡ None → new.shared.tables ≡ old.shared.tables
+none_tables asked old new answer journal side p e = none_by old new answer journal (subst (λ (w : Option Asked). DoesIf w old new answer journal) e p.does)
+
+-- ---- what words ask for, by the command that they are
+pub asked_some : (words : List (String Global)) (o : Option Command) (c : Command) → o ≡ Some c → option_map asked_of o ≡ command (map string_bytes words) → Some (asked_of c) ≡ asked_in words
+unfolding asked_in
+asked_some words o c p e = ap (option_map asked_of) (sym p) ∙ e
+
+pub asked_none : (words : List (String Global)) (o : Option Command) → o ≡ None → option_map asked_of o ≡ command (map string_bytes words) → None ≡ asked_in words
+unfolding asked_in
+asked_none words o p e = ap (option_map asked_of) (sym p) ∙ e
+
+alone_by : (a : Asked) → is_alone a ≡ true → Some a ≡ if_alone a
+alone_by a e = rw e refl
+
+pub alone_some : (words : List (String Global)) (a : Asked) → Some a ≡ asked_in words → is_alone a ≡ true → Some a ≡ asked_alone words
+unfolding asked_alone
+alone_some words a e alone = alone_by a alone ∙ ap (option_and_then if_alone) e
+
+not_alone_by : (a : Asked) → is_alone a ≡ false → None ≡ if_alone a
+not_alone_by a e = rw e refl
+
+pub alone_none : (words : List (String Global)) → None ≡ asked_in words → None ≡ asked_alone words
+unfolding asked_alone
+alone_none words e = ap (option_and_then if_alone) e
+
+pub alone_other : (words : List (String Global)) (a : Asked) → Some a ≡ asked_in words → is_alone a ≡ false → None ≡ asked_alone words
+unfolding asked_alone
+alone_other words a e other = not_alone_by a other ∙ ap (option_and_then if_alone) e
+
+-- ---- whether a call ends as for words without a form
+some_none : (a : Asked) → ◌≡◌ {A = Option Asked} (Some a) None → ⊥
+some_none a e = cc
+
+pub usage_some : (asked : Option Asked) (a : Asked) (answer : Status) → Some a ≡ asked → answer ≢ Status.Usage → answer ≢ Status.NoMemory → ((answer ≡ Status.Usage) ↔ (asked ≡ None))
+usage_some asked a answer e other m = (λ u. absurd (other u), λ none. absurd (some_none a (e ∙ none)))
+
+pub usage_none : (asked : Option Asked) (answer : Status) → None ≡ asked → answer ≡ Status.Usage → answer ≢ Status.NoMemory → ((answer ≡ Status.Usage) ↔ (asked ≡ None))
+usage_none asked answer e u m = (λ v. sym e, λ none. u)
+
+pub usage_short : (asked : Option Asked) (answer : Status) → answer ≡ Status.NoMemory → answer ≢ Status.NoMemory → ((answer ≡ Status.Usage) ↔ (asked ≡ None))
+usage_short asked answer e m = absurd (m e)
+
+-- ---- what is promised of a call, by what its words are
+pub promised_some : (words : List (String Global)) (o : Option Command) (c : Command) (old new : Outside) (answer : Status) (journal : Kept) (side : Side) → o ≡ Some c →
+    option_map asked_of o ≡ command (map string_bytes words) → Does (asked_of c) old new answer journal → answer ≢ Status.Usage → side ≡ Side.Nothing → Promised (asked_in words) old new answer journal side
+promised_some words o c old new answer journal side p e d u n =
+    let said : Some (asked_of c) ≡ asked_in words = asked_some words o c p e in
+    record {
+      does = some_does (asked_in words) (asked_of c) old new answer journal said d;
+      usage = usage_some (asked_in words) (asked_of c) answer said u;
+      nothing = n;
+    }
+
+pub promised_none : (asked : Option Asked) (old new : Outside) (answer : Status) (journal : Kept) (side : Side) → None ≡ asked → new ≡ old → past journal ≡ [] → answer ≡ Status.Usage → side ≡ Side.Nothing →
+    Promised asked old new answer journal side
+promised_none asked old new answer journal side p e j u n = record {
+  does = subst (λ (z : Outside). DoesIf asked old z answer journal) (sym e) (none_does asked old answer journal p j);
+  usage = usage_none asked answer p u;
+  nothing = n;
+}
+
+pub promised_short : (asked : Option Asked) (old new : Outside) (answer : Status) (journal : Kept) (side : Side) → new ≡ old → past journal ≡ [] → answer ≡ Status.NoMemory → side ≡ Side.Nothing →
+    Promised asked old new answer journal side
+promised_short asked old new answer journal side e j m n = record {
+  does = subst (λ (z : Outside). DoesIf asked old z answer journal) (sym e) (subst (λ (a : Status). DoesIf asked old old a journal) (sym m) (idle_if asked old journal j));
+  usage = usage_short asked answer m;
+  nothing = n;
+}
+
+pub promised_alone : (words : List (String Global)) (o : Option Command) (c : Command) (old new : Outside) (answer : Status) (journal : Kept) (side : Side) → o ≡ Some c →
+    option_map asked_of o ≡ command (map string_bytes words) → is_alone (asked_of c) ≡ true → Does (asked_of c) old new answer journal → answer ≢ Status.Usage → side ≡ Side.Nothing → Promised (asked_alone words) old new answer journal side
+promised_alone words o c old new answer journal side p e alone d u n =
+    let said : Some (asked_of c) ≡ asked_alone words = alone_some words (asked_of c) (asked_some words o c p e) alone in
+    record {
+      does = some_does (asked_alone words) (asked_of c) old new answer journal said d;
+      usage = usage_some (asked_alone words) (asked_of c) answer said u;
+      nothing = n;
+    }
+
+-- the keeper and the listeners are the ones that were handed in
+pub handed_back : {A B : Type 0} (tables : A → Option Tables) (faults asked : A → ℕ) (heard : B → Option (List Entry)) (left : B → Option ℕ) (k l : A) (xs ys : List B)
+    (rest : Option (List ℕ)) (r : ℕ) (taken : Option (List ℕ)) (w : ℕ) → l ≡ k → ys ≡ xs →
+    outside rest r taken w (shared_by tables faults asked heard left l ys) ≡ outside rest r taken w (shared_by tables faults asked heard left k xs)
+handed_back tables faults asked heard left k l xs ys rest r taken w e f = rw (e, f) refl

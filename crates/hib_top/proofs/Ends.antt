@@ -6,7 +6,7 @@ use Rattle.hib_listeners.specs.Told.{Told}
 use Rattle.hib_outside.specs.Causes.{Rose}
 use Rattle.hib_journal.specs.Kept.{Kept, past}
 use Rattle.hib_journal.specs.Runs.{ask_count}
-use Rattle.hib_core.specs.Standing.{RoseBy, RoseWithin}
+use Rattle.hib_core.specs.Standing.{Origin, RoseBy, RoseWithin}
 use Rattle.hib_joined.specs.Joined.{AreApart}
 use Rattle.hib_merge.specs.declared.tearing.Torn.{Torn}
 use Rattle.hib_store.specs.Stores.{is_store_fault}
@@ -16,9 +16,9 @@ use Rattle.hib_call.specs.declared.tasks.Outcome.{Outcome}
 use Rattle.hib_call.specs.Ends.{Comes}
 use Rattle.hib_call.specs.Outside.{Shared}
 use Rattle.hib_top.specs.declared.telling.Played.{Played}
-use Rattle.hib_top.specs.declared.ways.Telling.{Telling}
-use Rattle.hib_top.specs.declared.ways.Turns.{Turns}
-use Rattle.hib_top.specs.Running.{IsFinished, IsRun, IsUnrun, opening_status, running}
+use Rattle.hib_top.specs.declared.telling.Telling.{Telling}
+use Rattle.hib_top.specs.declared.turns.Turns.{Turns}
+use Rattle.hib_top.specs.Running.{IsFinished, IsRun, IsUnrun, opening_status, origin, running}
 
 abbrev ComesBy : Turns → Script → Shared → Shared → Outcome Played → Type 0
 ComesBy turns script old new outcome = Comes (running turns Telling.Report) script old new outcome
@@ -74,3 +74,14 @@ once_more before asked now made kept a k r =
 
 pub none_failed : (before n now : ℕ) → RoseBy before n now → RoseBy before 0 now
 none_failed before n now r = omega (arith, r)
+
+-- ---- a run of this name is over what is lent
+lent_named : (script : Script) (from : Origin) (told : List Told) (old : Shared) → origin script old ≡ from → old.told ≡ told →
+    ◌≡◌ {A = Shared} (record { tables = old.tables; faults = from.faults; asked = from.asked; told = told }) old
+lent_named script from told old o h =
+    subst (λ (x : Origin). ◌≡◌ {A = Shared} (record { tables = old.tables; faults = x.faults; asked = x.asked; told = told }) old) o
+    (subst (λ (ts : List Told). ◌≡◌ {A = Shared} (record { tables = old.tables; faults = old.faults; asked = old.asked; told = ts }) old) h refl)
+
+pub told_by : (turns : Turns) (script : Script) (from : Origin) (told : List Told) (old new : Shared) (outcome : Outcome Played) → origin script old ≡ from → old.told ≡ told →
+    ComesBy turns script (record { tables = old.tables; faults = from.faults; asked = from.asked; told = told }) new outcome → ComesBy turns script old new outcome
+told_by turns script from told old new outcome o h c = subst (λ (x : Shared). ComesBy turns script x new outcome) (lent_named script from told old o h) c

@@ -17,7 +17,7 @@ use Rattle.hib_core.specs.Bound.{most_in, outside_count}
 use Rattle.hib_core.specs.Standing.{Origin}
 use Rattle.hib_core.proofs.Evictions.{all_named}
 use Rattle.hib_joined.specs.Run.{IsOneRun}
-use Rattle.hib_top.specs.declared.ways.Turns.{Turns}
+use Rattle.hib_top.specs.declared.turns.Turns.{Turns}
 use Rattle.hib_top.specs.Running.{IsFinished, IsPlayed}
 use Rattle.hib_top.proofs.Finished.{all_ended}
 use Rattle.hib_top.proofs.Formed.{Formed, Limit, few_entries, start_formed}

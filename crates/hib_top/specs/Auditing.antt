@@ -1,5 +1,5 @@
 -- The audit of a journal that comes after its script.
-use Rattle.std.specs.Prelude.{◌≡◌, ◌↔◌, ℕ, ⊤, List, length, Some, None, Option, ◌++◌, codes}
+use Rattle.std.specs.Prelude.{◌≡◌, ◌↔◌, ◌⊎◌, ℕ, List, length, Some, None, Option, ◌++◌, codes}
 use Rattle.std.specs.Fmt.{decimal}
 use Rattle.hib_journal.specs.Types.{Script}
 use Rattle.hib_journal.specs.Kept.{past}
@@ -8,8 +8,8 @@ use Rattle.hib_journal.specs.Sessions.{Journal}
 use Rattle.hib_audit.specs.declared.verdict.Audit.{Audit}
 use Rattle.hib_audit.specs.Audit.{IsFound, IsLawful}
 use Rattle.hib_audit.specs.Breaks.{start_rows}
-use Rattle.hib_audit_input.specs.Input.{IsInput, IsBadInput, IsWholeInput}
-use Rattle.hib_audit_input.specs.declared.input.Input.{Input}
+use Rattle.hib_input.specs.WithJournal.{IsInput, IsBadInput, IsWholeInput}
+use Rattle.hib_input.specs.declared.with_journal.WithJournal.{WithJournal}
 use Rattle.hib_call.specs.declared.status.Status.{Status}
 use Rattle.hib_call.specs.Command.{Command}
 use Rattle.hib_call.specs.Ends.{IsWritten}
@@ -24,7 +24,7 @@ pub record IsJudged (script : Script) (h : Journal) (a : Audit) : Type 0 where
   pub found : IsFound script (start_rows script) h a
 
 -- the journal was judged, and nothing was run
-pub record Judges (input : Input) (old new : Shared) (judged : Judged) : Type 0 where
+pub record Judges (input : WithJournal) (old new : Shared) (judged : Judged) : Type 0 where
   pub count : judged.count ≡ length input.journal.list
   pub said : IsJudged input.script (past input.journal) judged.audit
   pub same : new ≡ old
@@ -44,18 +44,14 @@ status_said (Audit.Illegal entry kind) = Status.Illegal entry kind
 
 -- the status says it too, unless it could not be written
 abbrev pub IsSaid : Status → Audit → Type 0
-IsSaid Status.Done a = a ≡ Audit.Legal
-IsSaid (Status.Illegal n k) a = a ≡ Audit.Illegal n k
-IsSaid Status.WriteFault a = ⊤
-IsSaid Status.NoMemory a = ⊤
-IsSaid _ a = ⊥
+IsSaid answer a = (answer ≡ status_said a) ⊎ ((answer ≡ Status.WriteFault) ⊎ (answer ≡ Status.NoMemory))
 
 pub record Tells (judged : Judged) (answer : Status) (taken written : Option (List ℕ)) : Type 0 where
   pub said : IsSaid answer judged.audit
   pub text : IsWritten answer (verdict_text judged.count judged.audit) taken written
 
 -- ---- the command
-abbrev pub auditing : Command Input Judged
+abbrev pub auditing : Command WithJournal Judged
 auditing = record {
   limit = 67108864;
   reads = λ text input. IsInput text input.script input.journal.list;

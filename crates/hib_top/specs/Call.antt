@@ -1,5 +1,5 @@
 -- What a call of the program promises, whatever its words.
-use Rattle.std.specs.Prelude.{◌≡◌, ◌≢◌, ◌↔◌, [], Some, None, Option}
+use Rattle.std.specs.Prelude.{◌≡◌, ◌≢◌, ◌↔◌, Bool, true, false, [], Some, None, Option}
 use Rattle.hib_journal.specs.Kept.{Kept, past}
 use Rattle.hib_journal.specs.Types.{Script}
 use Rattle.hib_call.specs.declared.status.Status.{Status}
@@ -8,11 +8,12 @@ use Rattle.hib_call.specs.Outside.{Outside}
 use Rattle.hib_top.specs.declared.audit.Judged.{Judged}
 use Rattle.hib_top.specs.declared.call.Side.{Side}
 use Rattle.hib_top.specs.declared.telling.Played.{Played}
-use Rattle.hib_top.specs.declared.ways.Turns.{Turns}
-use Rattle.hib_top.specs.declared.ways.Way.{Way}
+use Rattle.hib_top.specs.declared.turns.Turns.{Turns}
 use Rattle.hib_top.specs.Auditing.{auditing}
 use Rattle.hib_top.specs.Making.{making, printing}
 use Rattle.hib_top.specs.Running.{running}
+use Rattle.hib_top.specs.Words.{telling_of}
+use Rattle.hib_words.specs.Commands.{Asked, play, work, make, audit}
 
 -- the journal handed back is the run's; it is empty if there is none
 abbrev pub HandsBack : Option Played → Kept → Type 0
@@ -32,21 +33,26 @@ pub record IsUnread (old new : Outside) : Type 0 where
   pub left : new.left ≡ old.left
   pub faults : new.read_faults ≡ old.read_faults
 
--- what the words have it do is done by the call of a command
-abbrev pub Does : Way → Outside → Outside → Status → Kept → Type 0
-Does (Way.Run turns telling) old new answer journal = (run : Option Played) × IsKept turns answer run journal × IsCalled (running turns telling) old new answer run
-Does (Way.Made n) old new answer journal = (run : Option Played) × IsKept Turns.Scheduled answer run journal × IsCalled (making n) (unread old) (unread new) answer run × IsUnread old new
-Does (Way.Printed n) old new answer journal = (run : Option Script) × (past journal ≡ []) × IsCalled (printing n) (unread old) (unread new) answer run × IsUnread old new
-Does Way.Audited old new answer journal = (run : Option Judged) × (past journal ≡ []) × IsCalled auditing old new answer run
+-- what is asked for is done by the call of a command
+abbrev pub DoesRun : Turns → Bool → Outside → Outside → Status → Kept → Type 0
+DoesRun turns lines old new answer journal = (run : Option Played) × IsKept turns answer run journal × IsCalled (running turns (telling_of lines)) old new answer run
+
+abbrev pub Does : Asked → Outside → Outside → Status → Kept → Type 0
+Does (play s) old new answer journal = DoesRun Turns.Scheduled s.journal old new answer journal
+Does (work n false s) old new answer journal = DoesRun (Turns.OnWorkers n) s.journal old new answer journal
+Does (work n true s) old new answer journal = DoesRun (Turns.OnParts n) s.journal old new answer journal
+Does (make n false) old new answer journal = (run : Option Played) × IsKept Turns.Scheduled answer run journal × IsCalled (making n) (unread old) (unread new) answer run × IsUnread old new
+Does (make n true) old new answer journal = (run : Option Script) × (past journal ≡ []) × IsCalled (printing n) (unread old) (unread new) answer run × IsUnread old new
+Does audit old new answer journal = (run : Option Judged) × (past journal ≡ []) × IsCalled auditing old new answer run
 
 -- and if the words have no form, nothing is done
-unfoldable pub DoesIf : Option Way → Outside → Outside → Status → Kept → Type 0
+unfoldable pub DoesIf : Option Asked → Outside → Outside → Status → Kept → Type 0
 DoesIf None old new answer journal = (new ≡ old) × (past journal ≡ [])
-DoesIf (Some way) old new answer journal = Does way old new answer journal
+DoesIf (Some asked) old new answer journal = Does asked old new answer journal
 
-pub record Promised (way : Option Way) (old new : Outside) (answer : Status) (journal : Kept) (side : Side) : Type 0 where
-  pub does : DoesIf way old new answer journal
+pub record Promised (asked : Option Asked) (old new : Outside) (answer : Status) (journal : Kept) (side : Side) : Type 0 where
+  pub does : DoesIf asked old new answer journal
   -- unless memory runs out, words without a form are told from others
-  pub usage : answer ≢ Status.NoMemory → ((answer ≡ Status.Usage) ↔ (way ≡ None))
+  pub usage : answer ≢ Status.NoMemory → ((answer ≡ Status.Usage) ↔ (asked ≡ None))
   -- no command has a journal of another kind
   pub nothing : side ≡ Side.Nothing

@@ -5,21 +5,18 @@ use Rattle.hib_make.specs.Made.{made}
 use Rattle.hib_print.specs.Printed.{printed}
 use Rattle.hib_call.specs.Command.{Command}
 use Rattle.hib_call.specs.Ends.{IsWritten}
-use Rattle.hib_top.specs.declared.ways.Turns.{Turns}
-use Rattle.hib_top.specs.declared.ways.Telling.{Telling}
+use Rattle.hib_top.specs.declared.turns.Turns.{Turns}
+use Rattle.hib_top.specs.declared.telling.Telling.{Telling}
 use Rattle.hib_top.specs.declared.telling.Played.{Played}
-use Rattle.hib_top.specs.Running.{Leaves, Stops, Tells}
+use Rattle.hib_top.specs.Running.{running}
 
 -- the script of a number is made, run by its schedule, and summed up
 abbrev pub making : ℕ → Command Script Played
-making n = record {
+making n = record (running Turns.Scheduled (Telling.Summary n)) {
   limit = 0;
   reads = λ text script. script ≡ made n;
   refuses = λ text refused. ⊥;
   has_form = λ text. ⊤;
-  leaves = Leaves Turns.Scheduled;
-  stops = Stops Turns.Scheduled;
-  tells = Tells (Telling.Summary n);
 }
 
 -- it is written, and nothing is run

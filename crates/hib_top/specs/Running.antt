@@ -15,7 +15,7 @@ use Rattle.hib_joined.specs.Joined.{AreApart}
 use Rattle.hib_listeners.specs.Heard.{HaveHeard}
 use Rattle.hib_listeners.specs.Told.{Told}
 use Rattle.hib_core.specs.Bound.{most_in, outside_count}
-use Rattle.hib_core.specs.Standing.{RoseBy, RoseWithin, told_start}
+use Rattle.hib_core.specs.Standing.{Origin, RoseBy, RoseWithin, told_start}
 use Rattle.hib_report.specs.Report.{report, summary}
 use Rattle.hib_json_lines.specs.Line.{json_lines}
 use Rattle.hib_formed.specs.Fitting.{AreFit}
@@ -27,8 +27,8 @@ use Rattle.hib_call.specs.Command.{Command}
 use Rattle.hib_call.specs.Ends.{IsWritten}
 use Rattle.hib_call.specs.Outside.{Shared}
 use Rattle.hib_store.specs.declared.store.OpenFault.{OpenFault}
-use Rattle.hib_top.specs.declared.ways.Turns.{Turns}
-use Rattle.hib_top.specs.declared.ways.Telling.{Telling}
+use Rattle.hib_top.specs.declared.turns.Turns.{Turns}
+use Rattle.hib_top.specs.declared.telling.Telling.{Telling}
 use Rattle.hib_top.specs.declared.telling.Played.{Played}
 
 -- by its schedule: the entries are those of its orders, one after the other, and then of the rest of each session. On workers
@@ -75,6 +75,10 @@ AreHandedBack true es start now = HaveHeard false es start now ⊎ HaveHeard tru
 abbrev pub most_asked : Bool → Journal → ℕ
 most_asked false h = ask_count h
 most_asked true h = ask_count h + 1
+
+-- what a run begins with, over what is lent to it
+abbrev pub origin : Script → Shared → Origin
+origin script old = record { tables = told_start script old.tables; faults = old.faults; asked = old.asked }
 
 -- a run: what the keeper and the listeners tell after it is what its journal says. It begins with the rows that the keeper kept,
 -- with the script's rows; short says whether memory ran out

@@ -2,12 +2,12 @@
 ghost use Rattle.std.specs.Prelude.{◌≡◌, ◌≤◌, length, true, IfOk};
 ghost use Rattle.hib_base.specs.Valid.{is_valid};
 ghost use Rattle.hib_call.specs.Ends.{Comes};
-ghost use Rattle.hib_listeners.specs.Told.{tells};
+ghost use Rattle.hib_call.specs.Outside.{shared_by};
 ghost use Rattle.hib_top.specs.Auditing.{auditing, status_said, verdict_text};
 
 use hib_audit::Audit;
-use hib_audit_input::Input;
-use hib_call::{InputFault, Outcome, Ran, Status, Task, put_illegal, tell_text};
+use hib_call::{InputFault, Lent, Outcome, Ran, Status, Task, put_illegal, tell_text};
+use hib_input::{WithJournal, read_with_journal};
 use hib_outside::{Keeper, Listener, Sink};
 use std::alloc::{AllocError, Global};
 
@@ -23,28 +23,18 @@ pub struct Judged {
     pub audit: Audit,
 }
 
-/// Judges a journal, and hands the keeper and the listeners back as they are.
+/// Judges a journal, and hands back what is lent as it is.
 pub fn judge_journal<K: Keeper, L: Listener>(
     alloc: Global,
-    input: Input,
-    keeper: K,
-    listeners: Vec<L>,
+    input: WithJournal,
+    lent: Lent<K, L>,
 ) -> Ran<Judged, K, L>
     requires valid { is_valid input.script ≡ true }
     requires few { length input.journal.list ≤ 67108864 }
     ensures judged { Comes auditing input
-        (record {
-          tables = K.tables keeper;
-          faults = K.faults keeper;
-          asked = K.asked keeper;
-          told = tells L.heard L.left listeners.items;
-        })
-        (record {
-          tables = K.tables result.keeper;
-          faults = K.faults result.keeper;
-          asked = K.asked result.keeper;
-          told = tells L.heard L.left result.listeners.items;
-        })
+        (shared_by K.tables K.faults K.asked L.heard L.left lent.keeper lent.listeners.items)
+        (shared_by K.tables K.faults K.asked L.heard L.left result.lent.keeper
+        result.lent.listeners.items)
         result.outcome }
 {
     let outcome = match hib_audit::audit(alloc, &input.script, &input.journal) {
@@ -54,11 +44,7 @@ pub fn judge_journal<K: Keeper, L: Listener>(
         }),
         Err(_) => Outcome::Stopped(Status::NoMemory, None),
     };
-    Ran {
-        outcome,
-        keeper,
-        listeners,
-    }
+    Ran { outcome, lent }
 }
 
 /// What is said of a journal, as a line.
@@ -94,7 +80,7 @@ fn status_of(audit: Audit) -> Status
 pub struct Judge;
 
 impl Task for Judge {
-    type Input = Input;
+    type Input = WithJournal;
 
     type Run = Judged;
 
@@ -107,11 +93,11 @@ impl Task for Judge {
         LIMIT
     }
 
-    fn read(&self, alloc: Global, text: &[u8]) -> Result<Input, InputFault> {
-        match hib_audit_input::read(alloc, text) {
+    fn read(&self, alloc: Global, text: &[u8]) -> Result<WithJournal, InputFault> {
+        match read_with_journal(alloc, text) {
             Ok(input) => Ok(input),
-            Err(hib_audit_input::InputFault::Refused(refused)) => Err(InputFault::Refused(refused)),
-            Err(hib_audit_input::InputFault::NoMemory) => Err(InputFault::NoMemory),
+            Err(hib_input::InputFault::Refused(refused)) => Err(InputFault::Refused(refused)),
+            Err(hib_input::InputFault::NoMemory) => Err(InputFault::NoMemory),
         }
     }
 

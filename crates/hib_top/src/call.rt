@@ -1,10 +1,11 @@
 // The calls that a program makes with its words.
-ghost use Rattle.std.specs.Prelude.{◌≡◌, ◌≢◌, ◌≤◌, ℕ, [], length, true};
+ghost use Rattle.std.specs.Prelude.{◌≡◌, ◌≢◌, ◌≤◌, IfOk, IfSome, ℕ, [], length, map, option_map, string_bytes, true};
 ghost use Rattle.hib_base.specs.Valid.{is_valid};
+ghost use Rattle.hib_call.specs.Outside.{outside, shared_by};
 ghost use Rattle.hib_journal.specs.Kept.{past};
-ghost use Rattle.hib_listeners.specs.Told.{tells};
-ghost use Rattle.hib_top.specs.declared.ways.Turns.{Turns};
-ghost use Rattle.hib_top.specs.Words.{HasFew, is_alone, way_alone, way_asked};
+ghost use Rattle.hib_top.specs.declared.turns.Turns.{Turns};
+ghost use Rattle.hib_words.specs.Commands.{asked_of, command};
+ghost use Rattle.hib_top.specs.Words.{HasFew, asked_alone, asked_in, is_alone, telling_of};
 ghost use Rattle.hib_top.specs.Call.{Does, HandsBack, IsKept, Promised};
 
 use crate::audit::{Judge, judge_journal};
@@ -12,13 +13,14 @@ use crate::make::{Make, Print};
 use crate::play::play_script;
 use crate::reading::Run;
 use crate::split::split_script;
-use crate::telling::Played;
-use crate::ways::{Turns, Way, way_alone, way_asked};
+use crate::telling::{Played, Telling};
+use crate::turns::Turns;
 use crate::work::work_script;
-use hib_call::{Called, NothingLeft, Outcome, Ran, Status, call};
+use hib_call::{Called, Lent, NothingLeft, Outcome, Ran, Status, call};
 use hib_journal::Journal;
 use hib_outside::{Gate, Keeper, Listener, Sink, Source};
-use std::alloc::Global;
+use hib_words::Command;
+use std::alloc::{AllocError, Global};
 use std::sync::Wait;
 use std::thread::Threads;
 
@@ -44,153 +46,237 @@ pub struct Ended<K, L> {
     pub side: Side,
 }
 
-/// The journal that is handed back of a run; it is empty if there is none.
-fn journal_of(alloc: Global, run: Option<Played>) -> Journal
-    ensures { HandsBack run result }
+/// What is handed back, with no journal of another kind.
+fn ended_with<K: Keeper, L: Listener>(
+    status: Status,
+    lent: Lent<K, L>,
+    journal: Journal,
+) -> Ended<K, L>
+    ensures status { result.status ≡ status }
+    ensures keeper { result.keeper ≡ lent.keeper }
+    ensures listeners { result.listeners ≡ lent.listeners }
+    ensures journal { result.journal ≡ journal }
+    ensures side { result.side ≡ Side.Nothing }
 {
-    match run {
-        Some(run) => run.journal,
-        None => Journal::open(alloc),
+    let Lent { keeper, listeners } = lent;
+    Ended {
+        status,
+        keeper,
+        journal,
+        listeners,
+        side: Side::Nothing,
     }
 }
 
-/// The same of a run over parts, of which none is handed back if memory ran out.
-fn journal_over(alloc: Global, status: &Status, run: Option<Played>) -> Journal
-    ensures { (n : ℕ) → IsKept (Turns.OnParts n) status.now run result }
+/// What is handed back of a command whose run has a journal; it is empty if there is no run.
+fn with_journal<K: Keeper, L: Listener>(alloc: Global, called: Called<Played, K, L>) -> Ended<K, L>
+    ensures status { result.status ≡ called.status }
+    ensures keeper { result.keeper ≡ called.lent.keeper }
+    ensures listeners { result.listeners ≡ called.lent.listeners }
+    ensures journal { HandsBack called.run result.journal }
+    ensures side { result.side ≡ Side.Nothing }
 {
-    if status.is_short() {
-        return Journal::open(alloc);
+    let Called { status, lent, run } = called;
+    let journal = match run {
+        Some(run) => run.journal,
+        None => Journal::open(alloc),
+    };
+    ended_with(status, lent, journal)
+}
+
+/// The same of a run over parts, of which no journal is handed back if memory ran out.
+fn with_whole_journal<K: Keeper, L: Listener>(
+    alloc: Global,
+    called: Called<Played, K, L>,
+) -> Ended<K, L>
+    ensures status { result.status ≡ called.status }
+    ensures keeper { result.keeper ≡ called.lent.keeper }
+    ensures listeners { result.listeners ≡ called.lent.listeners }
+    ensures journal { (n : ℕ) → IsKept (Turns.OnParts n) called.status called.run result.journal }
+    ensures side { result.side ≡ Side.Nothing }
+{
+    if called.status.is_short() {
+        ended_with(called.status, called.lent, Journal::open(alloc))
+    } else {
+        with_journal(alloc, called)
     }
-    journal_of(alloc, run)
+}
+
+/// How a run is told, by whether its journal is asked for.
+fn telling_of(journal: bool) -> Telling
+    ensures { result ≡ telling_of journal }
+{
+    if journal {
+        Telling::JsonLines
+    } else {
+        Telling::Report
+    }
+}
+
+/// What the words ask for; none if they have no form.
+#[tactic(auto, using(crate::proofs::Asked::few_read))]
+fn command_in(alloc: Global, words: &[String]) -> Result<Option<Command>, AllocError>
+    ensures asked { IfOk result (λ o. option_map asked_of o ≡ command (map string_bytes words.now)) }
+    ensures few { IfOk result (λ o. IfSome o (λ c. HasFew (asked_of c))) }
+{
+    hib_words::read(alloc, words)
+}
+
+/// Whether a command takes no threads.
+fn is_alone(command: &Command) -> bool
+    ensures { result ≡ is_alone (asked_of command.now) }
+{
+    !matches!(command, Command::Work { .. })
 }
 
 /// Does what takes no threads.
 fn serve_alone<S: Source, W: Sink, K: Keeper, L: Listener>(
     alloc: Global,
-    way: Way,
+    command: &Command,
     script: &mut S,
     out: &mut W,
-    keeper: K,
-    listeners: Vec<L>,
+    lent: Lent<K, L>,
 ) -> Ended<K, L>
-    requires { is_alone way ≡ true }
-    ensures does { Does way
-        (record {
-          left = S.left script.old;
-          read_faults = S.faults script.old;
-          taken = W.taken out.old;
-          write_faults = W.faults out.old;
-          shared = record {
-            tables = K.tables keeper;
-            faults = K.faults keeper;
-            asked = K.asked keeper;
-            told = tells L.heard L.left listeners.items;
-          };
-        })
-        (record {
-          left = S.left script.new;
-          read_faults = S.faults script.new;
-          taken = W.taken out.new;
-          write_faults = W.faults out.new;
-          shared = record {
-            tables = K.tables result.keeper;
-            faults = K.faults result.keeper;
-            asked = K.asked result.keeper;
-            told = tells L.heard L.left result.listeners.items;
-          };
-        })
+    requires { is_alone (asked_of command.now) ≡ true }
+    ensures does { Does (asked_of command.now)
+        (outside (S.left script.old) (S.faults script.old) (W.taken out.old) (W.faults out.old)
+        (shared_by K.tables K.faults K.asked L.heard L.left lent.keeper lent.listeners.items))
+        (outside (S.left script.new) (S.faults script.new) (W.taken out.new) (W.faults out.new)
+        (shared_by K.tables K.faults K.asked L.heard L.left result.keeper
+        result.listeners.items))
         result.status result.journal }
     ensures usage { result.status ≢ Status.Usage }
     ensures side { result.side ≡ Side.Nothing }
 {
-    match way {
-        Way::Run(Turns::Scheduled, telling) => {
+    match command {
+        Command::Play { options } => {
             let task = Run {
                 turns: Turns::Scheduled,
-                telling,
+                telling: telling_of(options.journal),
             };
             let called = call(
                 alloc,
                 &task,
                 script,
                 out,
-                keeper,
-                listeners,
-                |script, keeper, listeners|
+                lent,
+                |script, lent|
                     requires { is_valid script ≡ true }
-                { play_script(alloc, script, keeper, listeners) },
+                { play_script(alloc, script, lent) },
             );
-            Ended {
-                status: called.status,
-                keeper: called.keeper,
-                journal: journal_of(alloc, called.run),
-                listeners: called.listeners,
-                side: Side::Nothing,
-            }
+            with_journal(alloc, called)
         }
-        Way::Run(Turns::OnWorkers(_) | Turns::OnParts(_), _) => unreachable!(),
-        Way::Made(seed) => {
+        Command::Work { .. } => unreachable!(),
+        Command::Make { seed, text: false } => {
             let called = call(
                 alloc,
-                &Make { seed },
+                &Make { seed: *seed },
                 &mut NothingLeft,
                 out,
-                keeper,
-                listeners,
-                |script, keeper, listeners|
+                lent,
+                |script, lent|
                     requires { is_valid script ≡ true }
-                { play_script(alloc, script, keeper, listeners) },
+                { play_script(alloc, script, lent) },
             );
-            Ended {
-                status: called.status,
-                keeper: called.keeper,
-                journal: journal_of(alloc, called.run),
-                listeners: called.listeners,
-                side: Side::Nothing,
-            }
+            with_journal(alloc, called)
         }
-        Way::Printed(seed) => {
+        Command::Make { seed, text: true } => {
             let called = call(
                 alloc,
-                &Print { seed },
+                &Print { seed: *seed },
                 &mut NothingLeft,
                 out,
-                keeper,
-                listeners,
-                |script, keeper, listeners| Ran {
+                lent,
+                |script, lent| Ran {
                     outcome: Outcome::Over(script),
-                    keeper,
-                    listeners,
+                    lent,
                 },
             );
-            Ended {
-                status: called.status,
-                keeper: called.keeper,
-                journal: Journal::open(alloc),
-                listeners: called.listeners,
-                side: Side::Nothing,
-            }
+            ended_with(called.status, called.lent, Journal::open(alloc))
         }
-        Way::Audited => {
+        Command::Audit => {
             let called = call(
                 alloc,
                 &Judge,
                 script,
                 out,
-                keeper,
-                listeners,
-                |input, keeper, listeners|
+                lent,
+                |input, lent|
                     requires { (is_valid input.script ≡ true) × (length input.journal.list ≤ 67108864) }
-                { judge_journal(alloc, input, keeper, listeners) },
+                { judge_journal(alloc, input, lent) },
             );
-            Ended {
-                status: called.status,
-                keeper: called.keeper,
-                journal: Journal::open(alloc),
-                listeners: called.listeners,
-                side: Side::Nothing,
-            }
+            ended_with(called.status, called.lent, Journal::open(alloc))
         }
+    }
+}
+
+/// Does what is asked.
+fn serve<R: Threads + Wait + Sync, S: Source, W: Sink, K: Keeper, G: Gate, L: Listener>(
+    rt: &R,
+    alloc: Global,
+    command: &Command,
+    script: &mut S,
+    out: &mut W,
+    lent: Lent<K, L>,
+    gate: &G,
+) -> Ended<K, L>
+    requires { HasFew (asked_of command.now) }
+    ensures does { Does (asked_of command.now)
+        (outside (S.left script.old) (S.faults script.old) (W.taken out.old) (W.faults out.old)
+        (shared_by K.tables K.faults K.asked L.heard L.left lent.keeper lent.listeners.items))
+        (outside (S.left script.new) (S.faults script.new) (W.taken out.new) (W.faults out.new)
+        (shared_by K.tables K.faults K.asked L.heard L.left result.keeper
+        result.listeners.items))
+        result.status result.journal }
+    ensures usage { result.status ≢ Status.Usage }
+    ensures side { result.side ≡ Side.Nothing }
+{
+    match command {
+        Command::Work {
+            workers,
+            split: false,
+            options,
+        } => {
+            let workers = *workers;
+            let task = Run {
+                turns: Turns::OnWorkers(workers),
+                telling: telling_of(options.journal),
+            };
+            let called = call(
+                alloc,
+                &task,
+                script,
+                out,
+                lent,
+                |script, lent|
+                    requires { (is_valid script ≡ true) × (1 ≤ workers) × (workers ≤ 64) }
+                { work_script(rt, alloc, script, lent, workers, gate) },
+            );
+            with_journal(alloc, called)
+        }
+        Command::Work {
+            workers,
+            split: true,
+            options,
+        } => {
+            let workers = *workers;
+            let task = Run {
+                turns: Turns::OnParts(workers),
+                telling: telling_of(options.journal),
+            };
+            let called = call(
+                alloc,
+                &task,
+                script,
+                out,
+                lent,
+                |script, lent|
+                    requires { (is_valid script ≡ true) × (1 ≤ workers) × (workers ≤ 64) }
+                { split_script(rt, alloc, script, lent, workers, gate) },
+            );
+            with_whole_journal(alloc, called)
+        }
+        _ => serve_alone(alloc, command, script, out, lent),
     }
 }
 
@@ -211,149 +297,25 @@ pub fn play_words<S: Source, W: Sink, K: Keeper, L: Listener>(
     keeper: K,
     listeners: Vec<L>,
 ) -> Ended<K, L>
-    ensures { Promised (way_alone words.now)
-        (record {
-          left = S.left script.old;
-          read_faults = S.faults script.old;
-          taken = W.taken out.old;
-          write_faults = W.faults out.old;
-          shared = record {
-            tables = K.tables keeper;
-            faults = K.faults keeper;
-            asked = K.asked keeper;
-            told = tells L.heard L.left listeners.items;
-          };
-        })
-        (record {
-          left = S.left script.new;
-          read_faults = S.faults script.new;
-          taken = W.taken out.new;
-          write_faults = W.faults out.new;
-          shared = record {
-            tables = K.tables result.keeper;
-            faults = K.faults result.keeper;
-            asked = K.asked result.keeper;
-            told = tells L.heard L.left result.listeners.items;
-          };
-        })
+    ensures { Promised (asked_alone words.now)
+        (outside (S.left script.old) (S.faults script.old) (W.taken out.old) (W.faults out.old)
+        (shared_by K.tables K.faults K.asked L.heard L.left keeper listeners.items))
+        (outside (S.left script.new) (S.faults script.new) (W.taken out.new) (W.faults out.new)
+        (shared_by K.tables K.faults K.asked L.heard L.left result.keeper
+        result.listeners.items))
         result.status result.journal result.side }
 {
-    match way_alone(alloc, words) {
-        Ok(Some(way)) => serve_alone(alloc, way, script, out, keeper, listeners),
-        Ok(None) => Ended {
-            status: Status::Usage,
-            keeper,
-            journal: Journal::open(alloc),
-            listeners,
-            side: Side::Nothing,
-        },
-        Err(_) => Ended {
-            status: Status::NoMemory,
-            keeper,
-            journal: Journal::open(alloc),
-            listeners,
-            side: Side::Nothing,
-        },
-    }
-}
-
-/// Does what is asked.
-fn serve<R: Threads + Wait + Sync, S: Source, W: Sink, K: Keeper, G: Gate, L: Listener>(
-    rt: &R,
-    alloc: Global,
-    way: Way,
-    script: &mut S,
-    out: &mut W,
-    keeper: K,
-    gate: &G,
-    listeners: Vec<L>,
-) -> Ended<K, L>
-    requires { HasFew way }
-    ensures does { Does way
-        (record {
-          left = S.left script.old;
-          read_faults = S.faults script.old;
-          taken = W.taken out.old;
-          write_faults = W.faults out.old;
-          shared = record {
-            tables = K.tables keeper;
-            faults = K.faults keeper;
-            asked = K.asked keeper;
-            told = tells L.heard L.left listeners.items;
-          };
-        })
-        (record {
-          left = S.left script.new;
-          read_faults = S.faults script.new;
-          taken = W.taken out.new;
-          write_faults = W.faults out.new;
-          shared = record {
-            tables = K.tables result.keeper;
-            faults = K.faults result.keeper;
-            asked = K.asked result.keeper;
-            told = tells L.heard L.left result.listeners.items;
-          };
-        })
-        result.status result.journal }
-    ensures usage { result.status ≢ Status.Usage }
-    ensures side { result.side ≡ Side.Nothing }
-{
-    match way {
-        Way::Run(Turns::OnWorkers(workers), telling) => {
-            let task = Run {
-                turns: Turns::OnWorkers(workers),
-                telling,
-            };
-            let called = call(
-                alloc,
-                &task,
-                script,
-                out,
-                keeper,
-                listeners,
-                |script, keeper, listeners|
-                    requires { (is_valid script ≡ true) × (1 ≤ workers) × (workers ≤ 64) }
-                { work_script(rt, alloc, script, keeper, workers, gate, listeners) },
-            );
-            Ended {
-                status: called.status,
-                keeper: called.keeper,
-                journal: journal_of(alloc, called.run),
-                listeners: called.listeners,
-                side: Side::Nothing,
+    let lent = Lent { keeper, listeners };
+    match command_in(alloc, words) {
+        Ok(Some(command)) => {
+            if is_alone(&command) {
+                serve_alone(alloc, &command, script, out, lent)
+            } else {
+                ended_with(Status::Usage, lent, Journal::open(alloc))
             }
         }
-        Way::Run(Turns::OnParts(workers), telling) => {
-            let task = Run {
-                turns: Turns::OnParts(workers),
-                telling,
-            };
-            let Called {
-                status,
-                keeper,
-                listeners,
-                run,
-            } = call(
-                alloc,
-                &task,
-                script,
-                out,
-                keeper,
-                listeners,
-                |script, keeper, listeners|
-                    requires { (is_valid script ≡ true) × (1 ≤ workers) × (workers ≤ 64) }
-                { split_script(rt, alloc, script, keeper, workers, gate, listeners) },
-            );
-            let journal = journal_over(alloc, &status, run);
-            Ended {
-                status,
-                keeper,
-                journal,
-                listeners,
-                side: Side::Nothing,
-            }
-        }
-        way => serve_alone(alloc, way, script, out, keeper, listeners),
+        Ok(None) => ended_with(Status::Usage, lent, Journal::open(alloc)),
+        Err(_) => ended_with(Status::NoMemory, lent, Journal::open(alloc)),
     }
 }
 
@@ -372,48 +334,18 @@ pub fn top<R: Threads + Wait + Sync, S: Source, W: Sink, K: Keeper, G: Gate, L: 
     gate: &G,
     listeners: Vec<L>,
 ) -> Ended<K, L>
-    ensures { Promised (way_asked words.now)
-        (record {
-          left = S.left script.old;
-          read_faults = S.faults script.old;
-          taken = W.taken out.old;
-          write_faults = W.faults out.old;
-          shared = record {
-            tables = K.tables keeper;
-            faults = K.faults keeper;
-            asked = K.asked keeper;
-            told = tells L.heard L.left listeners.items;
-          };
-        })
-        (record {
-          left = S.left script.new;
-          read_faults = S.faults script.new;
-          taken = W.taken out.new;
-          write_faults = W.faults out.new;
-          shared = record {
-            tables = K.tables result.keeper;
-            faults = K.faults result.keeper;
-            asked = K.asked result.keeper;
-            told = tells L.heard L.left result.listeners.items;
-          };
-        })
+    ensures { Promised (asked_in words.now)
+        (outside (S.left script.old) (S.faults script.old) (W.taken out.old) (W.faults out.old)
+        (shared_by K.tables K.faults K.asked L.heard L.left keeper listeners.items))
+        (outside (S.left script.new) (S.faults script.new) (W.taken out.new) (W.faults out.new)
+        (shared_by K.tables K.faults K.asked L.heard L.left result.keeper
+        result.listeners.items))
         result.status result.journal result.side }
 {
-    match way_asked(alloc, words) {
-        Ok(Some(way)) => serve(rt, alloc, way, script, out, keeper, gate, listeners),
-        Ok(None) => Ended {
-            status: Status::Usage,
-            keeper,
-            journal: Journal::open(alloc),
-            listeners,
-            side: Side::Nothing,
-        },
-        Err(_) => Ended {
-            status: Status::NoMemory,
-            keeper,
-            journal: Journal::open(alloc),
-            listeners,
-            side: Side::Nothing,
-        },
+    let lent = Lent { keeper, listeners };
+    match command_in(alloc, words) {
+        Ok(Some(command)) => serve(rt, alloc, &command, script, out, lent, gate),
+        Ok(None) => ended_with(Status::Usage, lent, Journal::open(alloc)),
+        Err(_) => ended_with(Status::NoMemory, lent, Journal::open(alloc)),
     }
 }

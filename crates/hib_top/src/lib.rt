@@ -9,10 +9,11 @@ mod play;
 mod reading;
 mod split;
 mod telling;
-mod ways;
+mod turns;
+mod unrun;
 mod work;
 
 pub use audit::Judged;
 pub use call::{Ended, Side, play_words, top};
-pub use telling::Played;
-pub use ways::{Telling, Turns, Way};
+pub use telling::{Played, Telling};
+pub use turns::Turns;

@@ -1,6 +1,5 @@
 // Made scripts: their runs, and their texts.
-use crate::telling::{Played, tell_run};
-use crate::ways::Telling;
+use crate::telling::{Played, Telling, tell_run};
 use hib_base::Script;
 use hib_call::{InputFault, Status, Task, tell_text};
 use hib_outside::Sink;

@@ -1,6 +1,6 @@
 // A script that is read, run and told.
-use crate::telling::{Played, tell_run};
-use crate::ways::{Telling, Turns};
+use crate::telling::{Played, Telling, tell_run};
+use crate::turns::Turns;
 use hib_base::Script;
 use hib_call::{InputFault, Status, Task};
 use hib_outside::Sink;

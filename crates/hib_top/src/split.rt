@@ -1,20 +1,21 @@
 // The run of a script over parts under locks of their own.
 ghost use Rattle.std.specs.Prelude.{◌≡◌, ◌⊎◌, ◌≤◌, true, false, None, Option};
-ghost use Rattle.hib_base.specs.Tables.{Tables};
 ghost use Rattle.hib_base.specs.Valid.{is_valid};
+ghost use Rattle.hib_base.specs.Tables.{Tables};
 ghost use Rattle.hib_call.specs.Ends.{Comes};
 ghost use Rattle.hib_core.specs.Standing.{told_start};
+ghost use Rattle.hib_call.specs.Outside.{shared, shared_by};
 ghost use Rattle.hib_joined.specs.Run.{CameToOne};
 ghost use Rattle.hib_listeners.specs.Heard.{HaveHeard};
 ghost use Rattle.hib_listeners.specs.Told.{tells};
-ghost use Rattle.hib_top.specs.Running.{running};
-ghost use Rattle.hib_top.specs.declared.ways.Telling.{Telling};
-ghost use Rattle.hib_top.specs.declared.ways.Turns.{Turns};
+ghost use Rattle.hib_top.specs.Running.{origin, running};
+ghost use Rattle.hib_top.specs.declared.telling.Telling.{Telling};
+ghost use Rattle.hib_top.specs.declared.turns.Turns.{Turns};
 
-use crate::play::not_run;
 use crate::telling::Played;
+use crate::unrun::not_run;
 use hib_base::{Entry, Script};
-use hib_call::{Outcome, Ran, Status};
+use hib_call::{Lent, Outcome, Ran, Status};
 use hib_core::{Name, runs_are_short};
 use hib_formed::entries_are_formed;
 use hib_joined::{Joined, JoinedRun, run_joined};
@@ -70,18 +71,9 @@ fn hear_joined<N: Name, K: Keeper, L: Listener>(
         (K.asked keeper) }
     ensures { (kept : Option Tables) → told_start N.script kept ≡ N.from.tables
         → Comes (running (Turns.OnParts workers) Telling.Report) N.script
-        (record {
-          tables = kept;
-          faults = N.from.faults;
-          asked = N.from.asked;
-          told = tells L.heard L.left listeners.items;
-        })
-        (record {
-          tables = K.tables result.keeper;
-          faults = K.faults result.keeper;
-          asked = K.asked result.keeper;
-          told = tells L.heard L.left result.listeners.items;
-        })
+        (shared kept N.from.faults N.from.asked (tells L.heard L.left listeners.items))
+        (shared_by K.tables K.faults K.asked L.heard L.left result.lent.keeper
+        result.lent.listeners.items)
         result.outcome }
 {
     lists_are_given();
@@ -93,19 +85,16 @@ fn hear_joined<N: Name, K: Keeper, L: Listener>(
             let (outcome, listeners) = hear_run(alloc, Played { script, journal }, listeners);
             Ran {
                 outcome,
-                keeper,
-                listeners,
+                lent: Lent { keeper, listeners },
             }
         }
         Joined::Torn(torn) => Ran {
             outcome: Outcome::Stopped(Status::Torn(torn), None),
-            keeper,
-            listeners,
+            lent: Lent { keeper, listeners },
         },
         Joined::NoMemory => Ran {
             outcome: Outcome::Stopped(Status::NoMemory, None),
-            keeper,
-            listeners,
+            lent: Lent { keeper, listeners },
         },
     }
 }
@@ -115,34 +104,22 @@ fn split_named<N: Name + Send + Sync, R: Threads + Wait + Sync, K: Keeper, L: Li
     rt: &R,
     alloc: Global,
     script: Script,
-    keeper: K,
+    lent: Lent<K, L>,
     workers: u32,
     gate: &G,
-    listeners: Vec<L>,
 ) -> Ran<Played, K, L>
     requires workers { (1 ≤ workers) × (workers ≤ 64) }
     requires script { script ≡ N.script }
     requires valid { is_valid N.script ≡ true }
-    requires from { record {
-      tables = told_start N.script (K.tables keeper);
-      faults = K.faults keeper;
-      asked = K.asked keeper;
-    } ≡ N.from }
+    requires from { origin N.script
+        (shared_by K.tables K.faults K.asked L.heard L.left lent.keeper lent.listeners.items) ≡ N.from }
     ensures { Comes (running (Turns.OnParts workers) Telling.Report) N.script
-        (record {
-          tables = K.tables keeper;
-          faults = N.from.faults;
-          asked = N.from.asked;
-          told = tells L.heard L.left listeners.items;
-        })
-        (record {
-          tables = K.tables result.keeper;
-          faults = K.faults result.keeper;
-          asked = K.asked result.keeper;
-          told = tells L.heard L.left result.listeners.items;
-        })
+        (shared_by K.tables K.faults K.asked L.heard L.left lent.keeper lent.listeners.items)
+        (shared_by K.tables K.faults K.asked L.heard L.left result.lent.keeper
+        result.lent.listeners.items)
         result.outcome }
 {
+    let Lent { keeper, listeners } = lent;
     match run_joined::<R, K, N, G>(rt, alloc, &script, keeper, workers, gate) {
         Ok(JoinedRun { keeper, joined }) => hear_joined::<N, K, L>(
             alloc, script, joined, workers, keeper, listeners,
@@ -151,33 +128,23 @@ fn split_named<N: Name + Send + Sync, R: Threads + Wait + Sync, K: Keeper, L: Li
     }
 }
 
-/// Runs a script over a keeper over parts under locks of their own, each session to its end. The listeners hear of the entries after the
-/// run. If memory runs out, or the run is torn, there is no journal.
+/// Runs a script over parts under locks of their own, each session to its end. The listeners hear of the entries after the run. If
+/// memory runs out, or the run is torn, there is no journal.
 pub fn split_script<R: Threads + Wait + Sync, K: Keeper, L: Listener, G: Gate>(
     rt: &R,
     alloc: Global,
     script: Script,
-    keeper: K,
+    lent: Lent<K, L>,
     workers: u32,
     gate: &G,
-    listeners: Vec<L>,
 ) -> Ran<Played, K, L>
     requires workers { (1 ≤ workers) × (workers ≤ 64) }
     requires valid { is_valid script ≡ true }
     ensures { Comes (running (Turns.OnParts workers) Telling.Report) script
-        (record {
-          tables = K.tables keeper;
-          faults = K.faults keeper;
-          asked = K.asked keeper;
-          told = tells L.heard L.left listeners.items;
-        })
-        (record {
-          tables = K.tables result.keeper;
-          faults = K.faults result.keeper;
-          asked = K.asked result.keeper;
-          told = tells L.heard L.left result.listeners.items;
-        })
+        (shared_by K.tables K.faults K.asked L.heard L.left lent.keeper lent.listeners.items)
+        (shared_by K.tables K.faults K.asked L.heard L.left result.lent.keeper
+        result.lent.listeners.items)
         result.outcome }
 {
-    split_named::<Brand, R, K, L, G>(rt, alloc, script, keeper, workers, gate, listeners)
+    split_named::<Brand, R, K, L, G>(rt, alloc, script, lent, workers, gate)
 }

@@ -6,9 +6,8 @@ ghost use Rattle.hib_json_lines.specs.Line.{json_lines};
 ghost use Rattle.hib_outside.specs.Causes.{Rose};
 ghost use Rattle.hib_report.specs.Report.{report, summary};
 ghost use Rattle.hib_top.specs.Running.{AreTellable, Tells, told_by};
-ghost use Rattle.hib_top.specs.declared.ways.Telling.{Telling};
+ghost use Rattle.hib_top.specs.declared.telling.Telling.{Telling};
 
-use crate::ways::Telling;
 use hib_base::Script;
 use hib_call::{Status, tell_text};
 use hib_journal::Journal;
@@ -16,6 +15,17 @@ use hib_journal_json::are_entries;
 use hib_outside::Sink;
 use hib_report::WriteStop;
 use std::alloc::{AllocError, Global};
+
+/// How a run is told.
+#[derive(Clone, Copy, Debug, PartialEq, Eq)]
+pub enum Telling {
+    /// By the report of its journal.
+    Report,
+    /// By its journal, each entry as a JSON line.
+    JsonLines,
+    /// By the number that its script was made from, and the summary of its journal.
+    Summary(u32),
+}
 
 /// A run of a script.
 #[derive(Drop)]

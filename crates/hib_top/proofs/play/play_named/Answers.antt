@@ -10,9 +10,9 @@ use Rattle.hib_core.specs.Standing.{Origin, told_start}
 use Rattle.hib_listeners.specs.Heard.{HaveHeard}
 use Rattle.hib_listeners.specs.Told.{tells}
 use Rattle.hib_top.specs.declared.telling.Played.{Played}
-use Rattle.hib_top.specs.declared.ways.Turns.{Turns}
+use Rattle.hib_top.specs.declared.turns.Turns.{Turns}
 use Rattle.hib_top.specs.Running.{IsPlayed}
-use Rattle.hib_top.proofs.Ends.{heard_either, once_more, over, stopped}
+use Rattle.hib_top.proofs.Ends.{heard_either, once_more, over, stopped, told_by}
 use Rattle.hib_top.proofs.Finished.{all_ended}
 use Rattle.hib_top.proofs.Formed.{few_entries, start_formed}
 use Rattle.hib_top.proofs.play.play_named.Goals as goal
@@ -45,11 +45,12 @@ returns g c =
           (c.ticks_are_early.ensures.early h c.close-keeper.ensures.numbered small) named c.close-keeper.ensures.legal;
       committed = c.close-keeper.ensures.rows;
     } in
-    let start : told_start g.N.Name.script (g.K.Keeper.tables c.args.keeper) ≡ g.N.Name.from.tables = ap (λ (o : Origin). o.tables) c.requires.from in
-    let begun : IsPlayed turns g.N.Name.script (told_start g.N.Name.script (g.K.Keeper.tables c.args.keeper)) (g.K.Keeper.tables c.close-keeper.result.0) h =
+    let start : told_start g.N.Name.script (g.K.Keeper.tables c.args.lent.keeper) ≡ g.N.Name.from.tables = ap (λ (o : Origin). o.tables) c.requires.from in
+    let begun : IsPlayed turns g.N.Name.script (told_start g.N.Name.script (g.K.Keeper.tables c.args.lent.keeper)) (g.K.Keeper.tables c.close-keeper.result.0) h =
     subst (λ (t : Option Tables). IsPlayed turns g.N.Name.script t (g.K.Keeper.tables c.close-keeper.result.0) h) (sym start) played in
     let run : Played = record { script = c.close-keeper.result.1; journal = c.close-keeper.result.2 } in
-    elim c.match-finished.branch [
+    told_by turns g.N.Name.script g.N.Name.from g.N.Name.told _ _ _ c.requires.from c.requires.told
+    (elim c.match-finished.branch [
       | in-Ok-finished w ↦ (let going : c.play-finished.new.self.refused ≡ false = w.in-Ok-finished.ensures.going ∙ c.in-Ok.ensures.going in
           let ordered : is_played g.N.Name.script h ≡ true =
           subst (λ (k : Kept). is_played g.N.Name.script (past k) ≡ true) (sym c.close-keeper.ensures.journal) (w.in-Ok-finished.ensures.played c.in-Ok.ensures.empty) in
@@ -70,4 +71,4 @@ returns g c =
             asked = once_more _ _ _ _ _ c.close-keeper.ensures.count c.close-keeper.ensures.journal (w.in-Err-finished.ensures.asked c.in-Ok.ensures.going);
             listeners = heard_either _ _ _ _ c.close-keeper.ensures.heard;
           }
-    ]
+    ])

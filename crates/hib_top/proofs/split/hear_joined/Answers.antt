@@ -5,7 +5,7 @@ use Rattle.hib_core.specs.Standing.{told_start}
 use Rattle.hib_joined.specs.declared.joining.Joined.{Joined}
 use Rattle.hib_joined.specs.Run.{CameToOne, IsOneRun}
 use Rattle.hib_top.specs.declared.telling.Played.{Played}
-use Rattle.hib_top.specs.declared.ways.Turns.{Turns}
+use Rattle.hib_top.specs.declared.turns.Turns.{Turns}
 use Rattle.hib_top.specs.Running.{IsPlayed}
 use Rattle.hib_top.proofs.Ends.{lost, none_failed, over}
 use Rattle.hib_top.proofs.OverParts.{is_finished, is_played}

@@ -9,9 +9,9 @@ use Rattle.hib_core.specs.Standing.{Origin, told_start}
 use Rattle.hib_listeners.specs.Heard.{HaveHeard}
 use Rattle.hib_listeners.specs.Told.{tells}
 use Rattle.hib_top.specs.declared.telling.Played.{Played}
-use Rattle.hib_top.specs.declared.ways.Turns.{Turns}
+use Rattle.hib_top.specs.declared.turns.Turns.{Turns}
 use Rattle.hib_top.specs.Running.{IsPlayed}
-use Rattle.hib_top.proofs.Ends.{heard_either, once_more, over, stopped}
+use Rattle.hib_top.proofs.Ends.{heard_either, once_more, over, stopped, told_by}
 use Rattle.hib_top.proofs.Finished.{all_ended}
 use Rattle.hib_top.proofs.Formed.{few_entries, start_formed}
 use Rattle.hib_top.proofs.work.work_named.Goals as goal
@@ -37,11 +37,12 @@ returns g c =
           (c.ticks_are_early.ensures.early h c.close-keeper.ensures.numbered small) named c.close-keeper.ensures.legal;
       committed = c.close-keeper.ensures.rows;
     } in
-    let start : told_start g.N.Name.script (g.K.Keeper.tables c.args.keeper) ≡ g.N.Name.from.tables = ap (λ (o : Origin). o.tables) c.requires.from in
-    let begun : IsPlayed turns g.N.Name.script (told_start g.N.Name.script (g.K.Keeper.tables c.args.keeper)) (g.K.Keeper.tables c.close-keeper.result.0) h =
+    let start : told_start g.N.Name.script (g.K.Keeper.tables c.args.lent.keeper) ≡ g.N.Name.from.tables = ap (λ (o : Origin). o.tables) c.requires.from in
+    let begun : IsPlayed turns g.N.Name.script (told_start g.N.Name.script (g.K.Keeper.tables c.args.lent.keeper)) (g.K.Keeper.tables c.close-keeper.result.0) h =
     subst (λ (t : Option Tables). IsPlayed turns g.N.Name.script t (g.K.Keeper.tables c.close-keeper.result.0) h) (sym start) played in
     let run : Played = record { script = c.close-keeper.result.1; journal = c.close-keeper.result.2 } in
-    elim c.if-out_of_memory.branch [
+    told_by turns g.N.Name.script g.N.Name.from g.N.Name.told _ _ _ c.requires.from c.requires.told
+    (elim c.if-out_of_memory.branch [
       | then-out_of_memory w ↦ stopped turns g.N.Name.script _ _ run _ w.outcome-is
           record {
             of = c.close-keeper.ensures.script;
@@ -61,4 +62,4 @@ returns g c =
             listeners = subst (λ (b : Bool). HaveHeard b c.close-keeper.result.2.list g.N.Name.told (tells g.L.Listener.heard g.L.Listener.left c.close-keeper.result.3.items)) (c.close-keeper.ensures.deaf going) c.close-keeper.ensures.heard;
           }
           (all_ended turns g.N.Name.script h (subst (λ (k : Kept). AreOver g.N.Name.script (past k)) (sym c.close-keeper.ensures.journal) (c.work-factory.ensures.over w.if-out_of_memory.false)) inside))
-    ]
+    ])
