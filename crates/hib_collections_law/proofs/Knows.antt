@@ -1,13 +1,12 @@
 -- A row that a session is to update or delete is held by it, and what it holds of it is the last that its entries tell.
 use Rattle.std.specs.Prelude.{is_some, option_and_then}
-use Rattle.std.proofs.Common.{◌≡◌, ℕ, inl, inr, Bool, true, false, cond, ◌||◌, List, [], ◌∷◌, Some, None, Option, refl, ap, sym, ◌∙◌, subst}
+use Rattle.std.proofs.Common.{◌≡◌, ℕ, inl, inr, true, false, ◌||◌, List, [], ◌∷◌, Some, Option, refl, ap, sym, ◌∙◌, subst}
 use Rattle.std.proofs.lemmas.Bool.{or_parts}
-use Rattle.hib_base.specs.Keys.{same_key}
 use Rattle.hib_base.specs.Tables.{Tables}
 use Rattle.hib_base.proofs.Tables.{Tested, tested, same_key_eq, same_key_refl}
-use Rattle.hib_journal.specs.Types.{Key, Row, Change, Script, Act, Reply, Entry}
+use Rattle.hib_journal.specs.Types.{Key, Row, Change, Script, Act, Entry}
 use Rattle.hib_journal.specs.Sessions.{Journal, own, is_by, changes_in}
-use Rattle.hib_journal.specs.Held.{Arrival, arrival, held}
+use Rattle.hib_journal.specs.Held.{held}
 use Rattle.hib_journal.specs.Legal.{reply_of}
 use Rattle.hib_journal.specs.Next.{is_in}
 use Rattle.hib_journal.proofs.Plans.{AllRight}
@@ -19,7 +18,8 @@ use Rattle.hib_collections_law.specs.Gathered.{IsGathered, due_in, known, plain}
 use Rattle.hib_collections_law.proofs.Apart.{are_plain}
 use Rattle.hib_collections_law.proofs.Bases.{known_base}
 use Rattle.hib_collections_law.proofs.Done.{order_of}
-use Rattle.hib_collections_law.proofs.WriteRules.{AllowedWrite, Holds, allowed_mine}
+use Rattle.hib_collections_law.proofs.HeldKeys.{Holds}
+use Rattle.hib_collections_law.proofs.WriteRules.{AllowedWrite, allowed_mine}
 
 -- entries of one session
 abbrev AreOf : ℕ → Journal → Type 0
