@@ -237,6 +237,7 @@ impl<K: Keeper, N: Name, L: Listener> Gather<K, N, L> {
             ≡ told_committed N.from.tables (plain N.script (past result.3)) }
         ensures faults { RoseBy N.from.faults (fault_count (plain N.script (past result.3)))
             (K.faults result.0) }
+        ensures count { K.asked result.0 ≡ self.engines.store.asked }
         ensures asked { self.refused ≡ false → RoseWithin N.from.asked
             (ask_count N.script (past result.3)) (K.asked result.0) }
         ensures heard { HaveHeard self.deaf (heard_in N.script (past result.3)) N.told

@@ -125,63 +125,65 @@ fn put_entry(
     out.extend_from_slice(b"\n")
 }
 
-fn is_hit_of(collection: u16, entry: &GatherEntry) -> bool
+fn is_hit_of(collection: usize, entry: &GatherEntry) -> bool
     ensures { result ≡ is_on collection is_hit entry.now }
 {
     match entry {
         GatherEntry::Member(entry) => {
-            entry.collection == collection && matches!(entry.reply, Reply::Hit(_))
+            usize::from(entry.collection) == collection && matches!(entry.reply, Reply::Hit(_))
         }
         GatherEntry::Plain(_) => false,
     }
 }
 
-fn is_miss_of(collection: u16, entry: &GatherEntry) -> bool
+fn is_miss_of(collection: usize, entry: &GatherEntry) -> bool
     ensures { result ≡ is_on collection is_miss entry.now }
 {
     match entry {
         GatherEntry::Member(entry) => {
-            entry.collection == collection && matches!(entry.reply, Reply::Miss(_))
+            usize::from(entry.collection) == collection && matches!(entry.reply, Reply::Miss(_))
         }
         GatherEntry::Plain(_) => false,
     }
 }
 
-fn is_stored_of(collection: u16, entry: &GatherEntry) -> bool
+fn is_stored_of(collection: usize, entry: &GatherEntry) -> bool
     ensures { result ≡ is_on collection is_stored entry.now }
 {
     match entry {
         GatherEntry::Member(entry) => {
-            entry.collection == collection && matches!(entry.reply, Reply::Put(Put::Stored { .. }))
+            usize::from(entry.collection) == collection
+                && matches!(entry.reply, Reply::Put(Put::Stored { .. }))
         }
         GatherEntry::Plain(_) => false,
     }
 }
 
-fn is_lock_of(collection: u16, entry: &GatherEntry) -> bool
+fn is_lock_of(collection: usize, entry: &GatherEntry) -> bool
     ensures { result ≡ is_on collection is_locked entry.now }
 {
     match entry {
         GatherEntry::Member(entry) => {
-            entry.collection == collection && matches!(entry.act, MemberAct::Lock { .. })
+            usize::from(entry.collection) == collection
+                && matches!(entry.act, MemberAct::Lock { .. })
         }
         GatherEntry::Plain(_) => false,
     }
 }
 
-fn hits_of(entries: &[GatherEntry], collection: u16) -> usize
+fn hits_of(entries: &[GatherEntry], collection: usize) -> usize
     ensures { result ≡ count_by (is_on collection is_hit) entries.now }
 {
     entries.iter().filter(|e| is_hit_of(collection, e)).count()
 }
 
-fn misses_of(entries: &[GatherEntry], collection: u16) -> usize
+fn misses_of(entries: &[GatherEntry], collection: usize) -> usize
     ensures { result ≡ count_by (is_on collection is_miss) entries.now }
 {
     entries.iter().filter(|e| is_miss_of(collection, e)).count()
 }
 
-fn puts_of(entries: &[GatherEntry], collection: u16) -> usize
+fn puts_of(entries: &[GatherEntry], collection: usize) -> usize
     ensures { result ≡ count_by (is_on collection is_stored) entries.now }
 {
     entries
@@ -190,7 +192,7 @@ fn puts_of(entries: &[GatherEntry], collection: u16) -> usize
         .count()
 }
 
-fn locks_of(entries: &[GatherEntry], collection: u16) -> usize
+fn locks_of(entries: &[GatherEntry], collection: usize) -> usize
     ensures { result ≡ count_by (is_on collection is_locked) entries.now }
 {
     entries.iter().filter(|e| is_lock_of(collection, e)).count()
@@ -219,7 +221,7 @@ fn put_counted(
     alloc: Global,
     out: &mut Vec<u8>,
     entries: &[GatherEntry],
-    collection: u16,
+    collection: usize,
 ) -> Result<(), AllocError>
     ensures { OnOk result (out.new.items
         ≡ out.old.items ++ counted_text entries.now collection) }
@@ -236,7 +238,7 @@ fn put_count(
     alloc: Global,
     out: &mut Vec<u8>,
     entries: &[GatherEntry],
-    collection: u16,
+    collection: usize,
     def: &Def,
 ) -> Result<(), AllocError>
     ensures { OnOk result (out.new.items
@@ -253,11 +255,10 @@ fn put_counts(
     entries: &[GatherEntry],
     defs: &Defs,
 ) -> Result<(), AllocError>
-    requires few { length defs.now ≤ 64 }
     ensures { OnOk result (out.new.items ≡ out.old.items ++ counts_text entries.now 0 defs.now) }
 {
     for (at, def) in defs.as_slice().iter().enumerate() {
-        put_count(alloc, out, entries, at as u16, def)?;
+        put_count(alloc, out, entries, at, def)?;
     }
     Ok(())
 }
@@ -286,7 +287,6 @@ pub fn text(
     defs: &Defs,
     journal: &Gathered,
 ) -> Result<Bytes, AllocError>
-    requires few { length defs.now ≤ 64 }
     ensures { IfOk result (λ b. b ≡ gathered_text script.now defs.now journal.now.list) }
 {
     let entries = journal.as_slice();

@@ -21,6 +21,7 @@ pub use engines::Engines;
 pub use joined::{entries_elsewhere, laws, lists_leave};
 pub use names::Name;
 pub use region::Region;
+pub use region_list::serve_region;
 pub use registry::Registry;
 pub use results::ResultsEngine;
 pub use stamps::StampsEngine;
