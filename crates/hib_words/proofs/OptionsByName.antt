@@ -13,7 +13,7 @@ use Rattle.hib_words.specs.Commands.{Chosen, chosen_in, form_of, word_of}
 use Rattle.hib_words.specs.Matched.{HoldsGiven, IsProper}
 use Rattle.hib_words.specs.declared.forms.OptionName.TheVariants as name
 use Rattle.hib_words.specs.declared.forms.Verb.{Verb}
-use Rattle.hib_words.specs.declared.forms.Verb.TheVariants.{Play, Work, Make, Audit}
+use Rattle.hib_words.specs.declared.forms.Verb.TheVariants.{Play, Work, Make, Audit, Collect}
 use Rattle.hib_words.proofs.Getters.{has_flag, flag_given, flag_not_given, value_given}
 
 -- what `get_flag` and `get_str` ensure
@@ -64,42 +64,49 @@ journal_name Play = refl
 journal_name Work = refl
 journal_name Make = refl
 journal_name Audit = refl
+journal_name Collect = refl
 
 trace_name : IsFlagName (word_of name.Trace)
 trace_name Play = refl
 trace_name Work = refl
 trace_name Make = refl
 trace_name Audit = refl
+trace_name Collect = refl
 
 split_name : IsFlagName (word_of name.Split)
 split_name Play = refl
 split_name Work = refl
 split_name Make = refl
 split_name Audit = refl
+split_name Collect = refl
 
 text_name : IsFlagName (word_of name.Text)
 text_name Play = refl
 text_name Work = refl
 text_name Make = refl
 text_name Audit = refl
+text_name Collect = refl
 
 file_name : IsValueName (word_of name.File)
 file_name Play = (refl, refl)
 file_name Work = (refl, refl)
 file_name Make = (refl, refl)
 file_name Audit = (refl, refl)
+file_name Collect = (refl, refl)
 
 workers_name : IsValueName (word_of name.Workers)
 workers_name Play = (refl, refl)
 workers_name Work = (refl, refl)
 workers_name Make = (refl, refl)
 workers_name Audit = (refl, refl)
+workers_name Collect = (refl, refl)
 
 seed_name : IsValueName (word_of name.Seed)
 seed_name Play = (refl, refl)
 seed_name Work = (refl, refl)
 seed_name Make = (refl, refl)
 seed_name Audit = (refl, refl)
+seed_name Collect = (refl, refl)
 
 pub all_read : (v : Verb) (r : Option Given) (m : ArgMatches) → HoldsGiven (form_of v) r (Some m)
     → (journal trace split text : Bool) (file workers seed : Option (Bor Text))

@@ -18,6 +18,8 @@ pub enum Verb {
     Make,
     /// Says whether a journal is legal for a script.
     Audit,
+    /// Runs a script with collections by its schedule.
+    Collect,
 }
 
 /// An option, which each command that has it takes at most once.
@@ -61,6 +63,7 @@ impl Verb {
             Verb::Work => "work",
             Verb::Make => "make",
             Verb::Audit => "audit",
+            Verb::Collect => "collect",
         }
     }
 
@@ -72,7 +75,7 @@ impl Verb {
             Verb::Play => &PLAY_OPTIONS,
             Verb::Work => &WORK_OPTIONS,
             Verb::Make => &MAKE_OPTIONS,
-            Verb::Audit => &[],
+            Verb::Audit | Verb::Collect => &[],
         }
     }
 }
@@ -86,6 +89,7 @@ pub fn verb_named(word: &str) -> Option<Verb>
         "work" => Some(Verb::Work),
         "make" => Some(Verb::Make),
         "audit" => Some(Verb::Audit),
+        "collect" => Some(Verb::Collect),
         _ => None,
     }
 }

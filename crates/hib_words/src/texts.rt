@@ -26,6 +26,9 @@ A journal may be kept, and judged later, behind its script and a line 'journal':
   hib play --journal < made.hib > lines
   (cat made.hib; echo journal; cat lines) | hib audit
 
+Collections are declared after a line 'collections', behind the script:
+  hib collect < examples/sections/moved.hib
+
 The words --help and --version stand alone: beside another word they are no command.
 
 Exit status, which a line on standard error explains if it isn't 0:
@@ -69,6 +72,9 @@ Why a line of a script is refused, at status 3:
   last           it ends a session whose last statement is no commit and no rollback
   no-end         the input ends inside a session or a schedule
   journal        no line 'journal' follows the script, or this one is no entry's
+  section        no line 'collections' follows the script
+  order          it is an order other than 'run', of a script with a section
+  plain          the rows of the entity have no versions
 
 docs/SCRIPT.md tells what a script may say, docs/JOURNAL.md what a report says, docs/CLAIMS.md what is proved.
 ";
@@ -81,6 +87,7 @@ impl Verb {
             Verb::Work => "hib work",
             Verb::Make => "hib make",
             Verb::Audit => "hib audit",
+            Verb::Collect => "hib collect",
         }
     }
 
@@ -91,6 +98,7 @@ impl Verb {
             Verb::Work => "Runs a script on several workers, and writes the report of its journal",
             Verb::Make => "Makes a script from a number, runs it and sums it up",
             Verb::Audit => "Says whether a journal is legal for a script",
+            Verb::Collect => "Runs a script with collections, and writes its journal",
         }
     }
 }
@@ -102,7 +110,13 @@ impl OptionName {
     }
 }
 
-const VERBS: [Verb; 4] = [Verb::Play, Verb::Work, Verb::Make, Verb::Audit];
+const VERBS: [Verb; 5] = [
+    Verb::Play,
+    Verb::Work,
+    Verb::Make,
+    Verb::Audit,
+    Verb::Collect,
+];
 
 /// A command with its options, as the help shows them.
 fn shown<'a>(alloc: Global, verb: Verb, name: &'a str) -> Result<Command<'a>, AllocError> {

@@ -36,6 +36,8 @@ pub enum Command {
     },
     /// A journal is judged.
     Audit,
+    /// A script is run with collections.
+    Collect,
 }
 
 /// The options of both `play` and `work`.
@@ -205,6 +207,7 @@ fn command_from(alloc: Global, verb: Verb, found: &Found<'_>) -> Result<Option<C
         Verb::Work => work(alloc, found),
         Verb::Make => Ok(make(found)),
         Verb::Audit => Ok(Some(Command::Audit)),
+        Verb::Collect => Ok(Some(Command::Collect)),
     }
 }
 
