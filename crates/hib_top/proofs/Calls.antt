@@ -12,12 +12,13 @@ use Rattle.hib_call.specs.Outside.{Outside, outside, shared_by}
 use Rattle.hib_top.specs.declared.telling.Played.{Played}
 use Rattle.hib_top.specs.declared.turns.Turns.{Turns}
 use Rattle.hib_top.specs.declared.call.Side.{Side}
-use Rattle.hib_top.specs.Call.{Does, DoesIf, HandsBack, IsKept, Promised, unread}
+use Rattle.hib_top.specs.Call.{DoesIf, HandsBack, IsDone, IsKept, Promised, unread}
 use Rattle.hib_top.specs.Auditing.{auditing}
+use Rattle.hib_top.specs.Collecting.{collecting}
 use Rattle.hib_top.specs.Making.{making, printing}
 use Rattle.hib_top.specs.Running.{running}
 use Rattle.hib_top.specs.Words.{asked_alone, asked_in, if_alone, is_alone, telling_of}
-use Rattle.hib_words.specs.Commands.{Asked, asked_of, command, play, work, make, audit}
+use Rattle.hib_words.specs.Commands.{Asked, asked_of, command, play, work, make, audit, collect}
 use Rattle.hib_words.specs.declared.words.Command.{Command}
 use Rattle.std.specs.declared.string.String.{String}
 use Rattle.std.specs.declared.alloc.Global.{Global}
@@ -47,26 +48,27 @@ short_call c o = record {
   complete = λ has read write. inl tt;
 }
 
-idle_by : (asked : Asked) (o : Outside) (journal : Kept) → past journal ≡ [] → Does asked o o Status.NoMemory journal
-idle_by (play s) o journal e = (None, e, short_call (running Turns.Scheduled (telling_of s.journal)) o)
-idle_by (work n false s) o journal e = (None, e, short_call (running (Turns.OnWorkers n) (telling_of s.journal)) o)
-idle_by (work n true s) o journal e = (None, e, short_call (running (Turns.OnParts n) (telling_of s.journal)) o)
-idle_by (make n false) o journal e = (None, e, short_call (making n) (unread o), record { left = refl; faults = refl })
-idle_by (make n true) o journal e = (None, e, short_call (printing n) (unread o), record { left = refl; faults = refl })
-idle_by audit o journal e = (None, e, short_call auditing o)
+idle_by : (asked : Asked) (o : Outside) (journal : Kept) → past journal ≡ [] → IsDone asked o o Status.NoMemory journal Side.Nothing
+idle_by (play s) o journal e = ((None, e, short_call (running Turns.Scheduled (telling_of s.journal)) o), refl)
+idle_by (work n false s) o journal e = ((None, e, short_call (running (Turns.OnWorkers n) (telling_of s.journal)) o), refl)
+idle_by (work n true s) o journal e = ((None, e, short_call (running (Turns.OnParts n) (telling_of s.journal)) o), refl)
+idle_by (make n false) o journal e = ((None, e, short_call (making n) (unread o), record { left = refl; faults = refl }), refl)
+idle_by (make n true) o journal e = ((None, e, short_call (printing n) (unread o), record { left = refl; faults = refl }), refl)
+idle_by audit o journal e = ((None, e, short_call auditing o), refl)
+idle_by collect o journal e = (e, (None, refl, short_call collecting o))
 
-pub idle_if : (asked : Option Asked) (o : Outside) (journal : Kept) → past journal ≡ [] → DoesIf asked o o Status.NoMemory journal
+pub idle_if : (asked : Option Asked) (o : Outside) (journal : Kept) (side : Side) → past journal ≡ [] → side ≡ Side.Nothing → DoesIf asked o o Status.NoMemory journal side
 unfolding DoesIf
-idle_if None o journal e = (refl, e)
-idle_if (Some asked) o journal e = idle_by asked o journal e
+idle_if None o journal side e n = (refl, e, n)
+idle_if (Some asked) o journal side e n = subst (λ (z : Side). IsDone asked o o Status.NoMemory journal z) (sym n) (idle_by asked o journal e)
 
-pub none_does : (asked : Option Asked) (o : Outside) (answer : Status) (journal : Kept) → None ≡ asked → past journal ≡ [] → DoesIf asked o o answer journal
+pub none_does : (asked : Option Asked) (o : Outside) (answer : Status) (journal : Kept) (side : Side) → None ≡ asked → past journal ≡ [] → side ≡ Side.Nothing → DoesIf asked o o answer journal side
 unfolding DoesIf
-none_does asked o answer journal w e = subst (λ (z : Option Asked). DoesIf z o o answer journal) w (refl, e)
+none_does asked o answer journal side w e n = subst (λ (z : Option Asked). DoesIf z o o answer journal side) w (refl, e, n)
 
-pub some_does : (asked : Option Asked) (a : Asked) (old new : Outside) (answer : Status) (journal : Kept) → Some a ≡ asked → Does a old new answer journal → DoesIf asked old new answer journal
+pub some_does : (asked : Option Asked) (a : Asked) (old new : Outside) (answer : Status) (journal : Kept) (side : Side) → Some a ≡ asked → IsDone a old new answer journal side → DoesIf asked old new answer journal side
 unfolding DoesIf
-some_does asked a old new answer journal e d = subst (λ (z : Option Asked). DoesIf z old new answer journal) e d
+some_does asked a old new answer journal side e d = subst (λ (z : Option Asked). DoesIf z old new answer journal side) e d
 
 -- ---- words without a form are told from others
 usage_by : {I R : Type 0} (c : Calls.Command I R) (old new : Outside) (run : Option R) → ComesTo c old new Status.Usage run → ⊥
@@ -87,13 +89,14 @@ pub none_kept : (n : ℕ) (answer : Status) (run : Option Played) (journal : Kep
 none_kept n answer run journal a e = subst (λ (s : Status). IsKept (Turns.OnParts n) s run journal) (sym a) e
 
 -- ---- a store fault is answered only if one came
-pub store_by : (asked : Asked) (old new : Outside) (answer : Status) (journal : Kept) → Does asked old new answer journal → answer ≡ Status.StoreFault → Rose old.shared.faults new.shared.faults
-store_by (play s) old new answer journal d = d.2.store
-store_by (work n false s) old new answer journal d = d.2.store
-store_by (work n true s) old new answer journal d = d.2.store
-store_by (make n false) old new answer journal d = d.2.store
-store_by (make n true) old new answer journal d = d.2.store
-store_by audit old new answer journal d = d.2.store
+pub store_by : (asked : Asked) (old new : Outside) (answer : Status) (journal : Kept) (side : Side) → IsDone asked old new answer journal side → answer ≡ Status.StoreFault → Rose old.shared.faults new.shared.faults
+store_by (play s) old new answer journal side d = d.0.2.store
+store_by (work n false s) old new answer journal side d = d.0.2.store
+store_by (work n true s) old new answer journal side d = d.0.2.store
+store_by (make n false) old new answer journal side d = d.0.2.store
+store_by (make n true) old new answer journal side d = d.0.2.store
+store_by audit old new answer journal side d = d.0.2.store
+store_by collect old new answer journal side d = d.1.2.store
 
 not_usage_fault : Status.StoreFault ≡ Status.Usage → ⊥
 not_usage_fault e = cc
@@ -104,15 +107,15 @@ not_short_fault e = cc
 pub store_if : (asked : Option Asked) (old new : Outside) (answer : Status) (journal : Kept) (side : Side) → Promised asked old new answer journal side → answer ≡ Status.StoreFault → Rose old.shared.faults new.shared.faults
 unfolding DoesIf
 store_if None old new answer journal side p e = absurd (not_usage_fault (sym e ∙ (p.usage (λ s. not_short_fault (sym e ∙ s))).1 refl))
-store_if (Some asked) old new answer journal side p e = store_by asked old new answer journal p.does e
+store_if (Some asked) old new answer journal side p e = store_by asked old new answer journal side p.does e
 
 -- ---- and words without a form change no table
-none_by : (old new : Outside) (answer : Status) (journal : Kept) → DoesIf None old new answer journal → new.shared.tables ≡ old.shared.tables
+none_by : (old new : Outside) (answer : Status) (journal : Kept) (side : Side) → DoesIf None old new answer journal side → new.shared.tables ≡ old.shared.tables
 unfolding DoesIf
-none_by old new answer journal d = ap (λ (o : Outside). o.shared.tables) d.0
+none_by old new answer journal side d = ap (λ (o : Outside). o.shared.tables) d.0
 
 pub none_tables : (asked : Option Asked) (old new : Outside) (answer : Status) (journal : Kept) (side : Side) → Promised asked old new answer journal side → asked ≡ None → new.shared.tables ≡ old.shared.tables
-none_tables asked old new answer journal side p e = none_by old new answer journal (subst (λ (w : Option Asked). DoesIf w old new answer journal) e p.does)
+none_tables asked old new answer journal side p e = none_by old new answer journal side (subst (λ (w : Option Asked). DoesIf w old new answer journal side) e p.does)
 
 -- ---- what words ask for, by the command that they are
 pub asked_some : (words : List (String Global)) (o : Option Command) (c : Command) → o ≡ Some c → option_map asked_of o ≡ command (map string_bytes words) → Some (asked_of c) ≡ asked_in words
@@ -156,39 +159,35 @@ usage_short asked answer e m = absurd (m e)
 
 -- ---- what is promised of a call, by what its words are
 pub promised_some : (words : List (String Global)) (o : Option Command) (c : Command) (old new : Outside) (answer : Status) (journal : Kept) (side : Side) → o ≡ Some c →
-    option_map asked_of o ≡ command (map string_bytes words) → Does (asked_of c) old new answer journal → answer ≢ Status.Usage → side ≡ Side.Nothing → Promised (asked_in words) old new answer journal side
-promised_some words o c old new answer journal side p e d u n =
+    option_map asked_of o ≡ command (map string_bytes words) → IsDone (asked_of c) old new answer journal side → answer ≢ Status.Usage → Promised (asked_in words) old new answer journal side
+promised_some words o c old new answer journal side p e d u =
     let said : Some (asked_of c) ≡ asked_in words = asked_some words o c p e in
     record {
-      does = some_does (asked_in words) (asked_of c) old new answer journal said d;
+      does = some_does (asked_in words) (asked_of c) old new answer journal side said d;
       usage = usage_some (asked_in words) (asked_of c) answer said u;
-      nothing = n;
     }
 
 pub promised_none : (asked : Option Asked) (old new : Outside) (answer : Status) (journal : Kept) (side : Side) → None ≡ asked → new ≡ old → past journal ≡ [] → answer ≡ Status.Usage → side ≡ Side.Nothing →
     Promised asked old new answer journal side
 promised_none asked old new answer journal side p e j u n = record {
-  does = subst (λ (z : Outside). DoesIf asked old z answer journal) (sym e) (none_does asked old answer journal p j);
+  does = subst (λ (z : Outside). DoesIf asked old z answer journal side) (sym e) (none_does asked old answer journal side p j n);
   usage = usage_none asked answer p u;
-  nothing = n;
 }
 
 pub promised_short : (asked : Option Asked) (old new : Outside) (answer : Status) (journal : Kept) (side : Side) → new ≡ old → past journal ≡ [] → answer ≡ Status.NoMemory → side ≡ Side.Nothing →
     Promised asked old new answer journal side
 promised_short asked old new answer journal side e j m n = record {
-  does = subst (λ (z : Outside). DoesIf asked old z answer journal) (sym e) (subst (λ (a : Status). DoesIf asked old old a journal) (sym m) (idle_if asked old journal j));
+  does = subst (λ (z : Outside). DoesIf asked old z answer journal side) (sym e) (subst (λ (a : Status). DoesIf asked old old a journal side) (sym m) (idle_if asked old journal side j n));
   usage = usage_short asked answer m;
-  nothing = n;
 }
 
 pub promised_alone : (words : List (String Global)) (o : Option Command) (c : Command) (old new : Outside) (answer : Status) (journal : Kept) (side : Side) → o ≡ Some c →
-    option_map asked_of o ≡ command (map string_bytes words) → is_alone (asked_of c) ≡ true → Does (asked_of c) old new answer journal → answer ≢ Status.Usage → side ≡ Side.Nothing → Promised (asked_alone words) old new answer journal side
-promised_alone words o c old new answer journal side p e alone d u n =
+    option_map asked_of o ≡ command (map string_bytes words) → is_alone (asked_of c) ≡ true → IsDone (asked_of c) old new answer journal side → answer ≢ Status.Usage → Promised (asked_alone words) old new answer journal side
+promised_alone words o c old new answer journal side p e alone d u =
     let said : Some (asked_of c) ≡ asked_alone words = alone_some words (asked_of c) (asked_some words o c p e) alone in
     record {
-      does = some_does (asked_alone words) (asked_of c) old new answer journal said d;
+      does = some_does (asked_alone words) (asked_of c) old new answer journal side said d;
       usage = usage_some (asked_alone words) (asked_of c) answer said u;
-      nothing = n;
     }
 
 -- the keeper and the listeners are the ones that were handed in

@@ -76,7 +76,7 @@ pub none_failed : (before n now : ℕ) → RoseBy before n now → RoseBy before
 none_failed before n now r = omega (arith, r)
 
 -- ---- a run of this name is over what is lent
-lent_named : (script : Script) (from : Origin) (told : List Told) (old : Shared) → origin script old ≡ from → old.told ≡ told →
+pub lent_named : (script : Script) (from : Origin) (told : List Told) (old : Shared) → origin script old ≡ from → old.told ≡ told →
     ◌≡◌ {A = Shared} (record { tables = old.tables; faults = from.faults; asked = from.asked; told = told }) old
 lent_named script from told old o h =
     subst (λ (x : Origin). ◌≡◌ {A = Shared} (record { tables = old.tables; faults = x.faults; asked = x.asked; told = told }) old) o

@@ -5,3 +5,4 @@ pub mod Audited
 pub mod Formed
 pub mod OverParts
 pub mod Calls
+pub mod Gathers

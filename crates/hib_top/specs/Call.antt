@@ -10,10 +10,12 @@ use Rattle.hib_top.specs.declared.call.Side.{Side}
 use Rattle.hib_top.specs.declared.telling.Played.{Played}
 use Rattle.hib_top.specs.declared.turns.Turns.{Turns}
 use Rattle.hib_top.specs.Auditing.{auditing}
+use Rattle.hib_top.specs.Collecting.{collecting}
+use Rattle.hib_top.specs.declared.collect.Collected.{Collected}
 use Rattle.hib_top.specs.Making.{making, printing}
 use Rattle.hib_top.specs.Running.{running}
 use Rattle.hib_top.specs.Words.{telling_of}
-use Rattle.hib_words.specs.Commands.{Asked, play, work, make, audit}
+use Rattle.hib_words.specs.Commands.{Asked, play, work, make, audit, collect}
 
 -- the journal handed back is the run's; it is empty if there is none
 abbrev pub HandsBack : Option Played → Kept → Type 0
@@ -37,6 +39,16 @@ pub record IsUnread (old new : Outside) : Type 0 where
 abbrev pub DoesRun : Turns → Bool → Outside → Outside → Status → Kept → Type 0
 DoesRun turns lines old new answer journal = (run : Option Played) × IsKept turns answer run journal × IsCalled (running turns (telling_of lines)) old new answer run
 
+-- the journal of another kind is the run's
+abbrev pub IsSide : Option Collected → Side → Type 0
+IsSide None side = side ≡ Side.Nothing
+IsSide (Some run) side = side ≡ Side.Gathered run.journal
+
+-- of a command whose journal is of another kind, and of the others
+abbrev pub DoesAside : Asked → Outside → Outside → Status → Side → Type 0
+DoesAside collect old new answer side = (run : Option Collected) × IsSide run side × IsCalled collecting old new answer run
+DoesAside asked old new answer side = side ≡ Side.Nothing
+
 abbrev pub Does : Asked → Outside → Outside → Status → Kept → Type 0
 Does (play s) old new answer journal = DoesRun Turns.Scheduled s.journal old new answer journal
 Does (work n false s) old new answer journal = DoesRun (Turns.OnWorkers n) s.journal old new answer journal
@@ -44,15 +56,17 @@ Does (work n true s) old new answer journal = DoesRun (Turns.OnParts n) s.journa
 Does (make n false) old new answer journal = (run : Option Played) × IsKept Turns.Scheduled answer run journal × IsCalled (making n) (unread old) (unread new) answer run × IsUnread old new
 Does (make n true) old new answer journal = (run : Option Script) × (past journal ≡ []) × IsCalled (printing n) (unread old) (unread new) answer run × IsUnread old new
 Does audit old new answer journal = (run : Option Judged) × (past journal ≡ []) × IsCalled auditing old new answer run
+Does collect old new answer journal = past journal ≡ []
+
+abbrev pub IsDone : Asked → Outside → Outside → Status → Kept → Side → Type 0
+IsDone asked old new answer journal side = Does asked old new answer journal × DoesAside asked old new answer side
 
 -- and if the words have no form, nothing is done
-unfoldable pub DoesIf : Option Asked → Outside → Outside → Status → Kept → Type 0
-DoesIf None old new answer journal = (new ≡ old) × (past journal ≡ [])
-DoesIf (Some asked) old new answer journal = Does asked old new answer journal
+unfoldable pub DoesIf : Option Asked → Outside → Outside → Status → Kept → Side → Type 0
+DoesIf None old new answer journal side = (new ≡ old) × (past journal ≡ []) × (side ≡ Side.Nothing)
+DoesIf (Some asked) old new answer journal side = IsDone asked old new answer journal side
 
 pub record Promised (asked : Option Asked) (old new : Outside) (answer : Status) (journal : Kept) (side : Side) : Type 0 where
-  pub does : DoesIf asked old new answer journal
+  pub does : DoesIf asked old new answer journal side
   -- unless memory runs out, words without a form are told from others
   pub usage : answer ≢ Status.NoMemory → ((answer ≡ Status.Usage) ↔ (asked ≡ None))
-  -- no command has a journal of another kind
-  pub nothing : side ≡ Side.Nothing

@@ -3,3 +3,4 @@ pub mod Running
 pub mod Making
 pub mod Auditing
 pub mod Call
+pub mod Collecting

@@ -6,9 +6,11 @@ ghost use Rattle.hib_journal.specs.Kept.{past};
 ghost use Rattle.hib_top.specs.declared.turns.Turns.{Turns};
 ghost use Rattle.hib_words.specs.Commands.{asked_of, command};
 ghost use Rattle.hib_top.specs.Words.{HasFew, asked_alone, asked_in, is_alone, telling_of};
-ghost use Rattle.hib_top.specs.Call.{Does, HandsBack, IsKept, Promised};
+ghost use Rattle.hib_collections.specs.Run.{AreSet};
+ghost use Rattle.hib_top.specs.Call.{HandsBack, IsDone, IsKept, IsSide, Promised};
 
 use crate::audit::{Judge, judge_journal};
+use crate::collect::{Collect, Collected, collect_script};
 use crate::make::{Make, Print};
 use crate::play::play_script;
 use crate::reading::Run;
@@ -17,6 +19,7 @@ use crate::telling::{Played, Telling};
 use crate::turns::Turns;
 use crate::work::work_script;
 use hib_call::{Called, Lent, NothingLeft, Outcome, Ran, Status, call};
+use hib_collections::Gathered;
 use hib_journal::Journal;
 use hib_outside::{Gate, Keeper, Listener, Sink, Source};
 use hib_words::Command;
@@ -25,10 +28,12 @@ use std::sync::Wait;
 use std::thread::Threads;
 
 /// The journal of a command whose entries aren't those of a script's sessions alone.
-#[derive(Clone, Copy, Debug, PartialEq, Eq)]
+#[derive(Drop)]
 pub enum Side {
-    /// There is none: no command of today has one.
+    /// There is none.
     Nothing,
+    /// That of a run with collections.
+    Gathered(Gathered),
 }
 
 /// What a call of the program hands back.
@@ -102,6 +107,29 @@ fn with_whole_journal<K: Keeper, L: Listener>(
     }
 }
 
+/// What is handed back of a run with collections, whose journal is of another kind.
+fn with_side<K: Keeper, L: Listener>(alloc: Global, called: Called<Collected, K, L>) -> Ended<K, L>
+    ensures status { result.status ≡ called.status }
+    ensures keeper { result.keeper ≡ called.lent.keeper }
+    ensures listeners { result.listeners ≡ called.lent.listeners }
+    ensures journal { past result.journal ≡ [] }
+    ensures side { IsSide called.run result.side }
+{
+    let Called { status, lent, run } = called;
+    let Lent { keeper, listeners } = lent;
+    let side = match run {
+        Some(run) => Side::Gathered(run.journal),
+        None => Side::Nothing,
+    };
+    Ended {
+        status,
+        keeper,
+        journal: Journal::open(alloc),
+        listeners,
+        side,
+    }
+}
+
 /// How a run is told, by whether its journal is asked for.
 fn telling_of(journal: bool) -> Telling
     ensures { result ≡ telling_of journal }
@@ -138,15 +166,14 @@ fn serve_alone<S: Source, W: Sink, K: Keeper, L: Listener>(
     lent: Lent<K, L>,
 ) -> Ended<K, L>
     requires { is_alone (asked_of command.now) ≡ true }
-    ensures does { Does (asked_of command.now)
+    ensures does { IsDone (asked_of command.now)
         (outside (S.left script.old) (S.faults script.old) (W.taken out.old) (W.faults out.old)
         (shared_by K.tables K.faults K.asked L.heard L.left lent.keeper lent.listeners.items))
         (outside (S.left script.new) (S.faults script.new) (W.taken out.new) (W.faults out.new)
         (shared_by K.tables K.faults K.asked L.heard L.left result.keeper
         result.listeners.items))
-        result.status result.journal }
+        result.status result.journal result.side }
     ensures usage { result.status ≢ Status.Usage }
-    ensures side { result.side ≡ Side.Nothing }
 {
     match command {
         Command::Play { options } => {
@@ -207,6 +234,19 @@ fn serve_alone<S: Source, W: Sink, K: Keeper, L: Listener>(
             );
             ended_with(called.status, called.lent, Journal::open(alloc))
         }
+        Command::Collect => {
+            let called = call(
+                alloc,
+                &Collect,
+                script,
+                out,
+                lent,
+                |input, lent|
+                    requires { AreSet input.script input.defs }
+                { collect_script(alloc, input, lent) },
+            );
+            with_side(alloc, called)
+        }
     }
 }
 
@@ -221,15 +261,14 @@ fn serve<R: Threads + Wait + Sync, S: Source, W: Sink, K: Keeper, G: Gate, L: Li
     gate: &G,
 ) -> Ended<K, L>
     requires { HasFew (asked_of command.now) }
-    ensures does { Does (asked_of command.now)
+    ensures does { IsDone (asked_of command.now)
         (outside (S.left script.old) (S.faults script.old) (W.taken out.old) (W.faults out.old)
         (shared_by K.tables K.faults K.asked L.heard L.left lent.keeper lent.listeners.items))
         (outside (S.left script.new) (S.faults script.new) (W.taken out.new) (W.faults out.new)
         (shared_by K.tables K.faults K.asked L.heard L.left result.keeper
         result.listeners.items))
-        result.status result.journal }
+        result.status result.journal result.side }
     ensures usage { result.status ≢ Status.Usage }
-    ensures side { result.side ≡ Side.Nothing }
 {
     match command {
         Command::Work {

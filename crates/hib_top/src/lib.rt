@@ -4,6 +4,7 @@
 
 mod audit;
 mod call;
+mod collect;
 mod make;
 mod play;
 mod reading;
@@ -15,5 +16,6 @@ mod work;
 
 pub use audit::Judged;
 pub use call::{Ended, Side, play_words, top};
+pub use collect::{Collected, Gathering};
 pub use telling::{Played, Telling};
 pub use turns::Turns;

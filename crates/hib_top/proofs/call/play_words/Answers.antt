@@ -6,7 +6,7 @@ use Rattle.hib_top.proofs.call.play_words.Goals as goal
 
 pub returns-then-is_alone : goal.returns-then-is_alone
 returns-then-is_alone g c =
-    promised_alone c.args.words.now _ c.in-Ok-Some.command _ _ _ _ _ c.in-Ok-Some.field-0-is c.in-Ok-Some.ensures.asked (search rules) c.serve_alone.ensures.does c.serve_alone.ensures.usage c.serve_alone.ensures.side
+    promised_alone c.args.words.now _ c.in-Ok-Some.command _ _ _ _ _ c.in-Ok-Some.field-0-is c.in-Ok-Some.ensures.asked (search rules) c.serve_alone.ensures.does c.serve_alone.ensures.usage
 
 pub returns-in-Ok-Some : goal.returns-in-Ok-Some
 returns-in-Ok-Some g c =

@@ -5,7 +5,7 @@ use Rattle.hib_top.proofs.call.top.Goals as goal
 
 pub returns-in-Ok-Some : goal.returns-in-Ok-Some
 returns-in-Ok-Some g c =
-    promised_some c.args.words.now _ c.in-Ok-Some.command _ _ _ _ _ c.in-Ok-Some.field-0-is c.in-Ok-Some.ensures.asked c.serve.ensures.does c.serve.ensures.usage c.serve.ensures.side
+    promised_some c.args.words.now _ c.in-Ok-Some.command _ _ _ _ _ c.in-Ok-Some.field-0-is c.in-Ok-Some.ensures.asked c.serve.ensures.does c.serve.ensures.usage
 
 pub returns-in-Ok-None : goal.returns-in-Ok-None
 returns-in-Ok-None g c =
