@@ -18,6 +18,7 @@ use Rattle.hib_top.specs.Collecting.{collecting}
 use Rattle.hib_top.specs.Making.{making, printing}
 use Rattle.hib_top.specs.Running.{running}
 use Rattle.hib_top.specs.Words.{asked_alone, asked_in, if_alone, is_alone, telling_of}
+use Rattle.hib_top.proofs.Ends.{not_fault}
 use Rattle.hib_words.specs.Commands.{Asked, asked_of, command, play, work, make, audit, collect}
 use Rattle.hib_words.specs.declared.words.Command.{Command}
 use Rattle.std.specs.declared.string.String.{String}
@@ -31,9 +32,6 @@ no_read_fault e = cc
 no_write_fault : Status.NoMemory ≡ Status.WriteFault → ⊥
 no_write_fault e = cc
 
-no_store_fault : Status.NoMemory ≡ Status.StoreFault → ⊥
-no_store_fault e = cc
-
 not_long : Status.NoMemory ≡ Status.TooLong → ⊥
 not_long e = cc
 
@@ -42,7 +40,7 @@ short_call c o = record {
   came = inl (tt, record { shared = refl; written = refl });
   read = λ e. absurd (no_read_fault e);
   write = λ e. absurd (no_write_fault e);
-  store = λ e. absurd (no_store_fault e);
+  store = λ e. absurd (not_fault e);
   long = λ e. absurd (not_long e);
   few = reads_none (c.limit + 4096) o.left;
   complete = λ has read write. inl tt;

@@ -4,8 +4,7 @@ use Rattle.hib_journal.specs.Types.{Script, Entry}
 use Rattle.hib_listeners.specs.Heard.{HaveHeard}
 use Rattle.hib_listeners.specs.Told.{Told}
 use Rattle.hib_outside.specs.Causes.{Rose}
-use Rattle.hib_journal.specs.Kept.{Kept, past}
-use Rattle.hib_journal.specs.Runs.{ask_count}
+use Rattle.hib_journal.specs.Kept.{past}
 use Rattle.hib_core.specs.Standing.{Origin, RoseBy, RoseWithin}
 use Rattle.hib_joined.specs.Joined.{AreApart}
 use Rattle.hib_merge.specs.declared.tearing.Torn.{Torn}
@@ -27,7 +26,7 @@ pub over : (turns : Turns) (script : Script) (old new : Shared) (run : Played) (
     ComesBy turns script old new outcome
 over turns script old new run outcome e r f = subst (ComesBy turns script old new) (sym e) (r, f)
 
-not_fault : Status.NoMemory ≡ Status.StoreFault → ⊥
+pub not_fault : Status.NoMemory ≡ Status.StoreFault → ⊥
 not_fault e = cc
 
 torn_not_fault : (torn : Torn) → Status.Torn torn ≡ Status.StoreFault → ⊥
@@ -67,10 +66,10 @@ heard_either false es start now h = inl h
 heard_either true es start now h = inr h
 
 -- ---- counts
--- what a factory says that was asked once more, of what it hands back
-pub once_more : (before asked now : ℕ) (made kept : Kept) → now ≡ asked → kept ≡ made → RoseWithin before (ask_count (past made) + 1) asked → RoseWithin before (ask_count (past kept) + 1) now
-once_more before asked now made kept a k r =
-    subst (λ (j : Kept). RoseWithin before (ask_count (past j) + 1) now) (sym k) (subst (λ (n : ℕ). RoseWithin before (ask_count (past made) + 1) n) (sym a) r)
+-- what a run says that was asked once more, of what it hands back
+pub once_more : {J : Type 0} (count : J → ℕ) (before asked now : ℕ) (made kept : J) → now ≡ asked → kept ≡ made → RoseWithin before (count made + 1) asked → RoseWithin before (count kept + 1) now
+once_more count before asked now made kept a k r =
+    subst (λ j. RoseWithin before (count j + 1) now) (sym k) (subst (λ (n : ℕ). RoseWithin before (count made + 1) n) (sym a) r)
 
 pub none_failed : (before n now : ℕ) → RoseBy before n now → RoseBy before 0 now
 none_failed before n now r = omega (arith, r)

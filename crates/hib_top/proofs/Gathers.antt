@@ -1,14 +1,13 @@
 -- What a run with collections comes to, and what its text says.
-use Rattle.std.proofs.Common.{◌≡◌, ◌+◌, ℕ, true, List, length, Result, Ok, Err, Some, None, refl, sym, ◌∙◌, ap, subst}
+use Rattle.std.proofs.Common.{◌≡◌, ℕ, true, List, Ok, Err, Some, refl, sym, ◌∙◌, ap, subst}
 use Rattle.std.specs.Prelude.{codes}
 use Rattle.hib_base.specs.Valid.{is_valid}
 use Rattle.hib_base.specs.declared.refusals.Refused.{Refused}
 use Rattle.hib_journal.specs.Types.{Script}
 use Rattle.hib_listeners.specs.Told.{Told}
-use Rattle.hib_core.specs.Standing.{Origin, RoseWithin}
+use Rattle.hib_core.specs.Standing.{Origin}
 use Rattle.hib_collections_law.specs.declared.entries.Def.{Def}
-use Rattle.hib_collections.specs.Kept.{Kept, past}
-use Rattle.hib_collections.specs.Run.{AreSet, ask_count}
+use Rattle.hib_collections.specs.Run.{AreSet}
 use Rattle.hib_input.specs.WithSection.{Sectioned, section_of}
 use Rattle.hib_sections.specs.Collections.{AreFit, collections_of}
 use Rattle.hib_call.specs.declared.status.Status.{Status}
@@ -19,7 +18,7 @@ use Rattle.hib_top.specs.declared.collect.Gathering.{Gathering}
 use Rattle.hib_top.specs.declared.collect.Collected.{Collected}
 use Rattle.hib_top.specs.Collecting.{IsCollected, Leaves, collecting, gathering_of, if_sectioned, with_collections}
 use Rattle.hib_top.specs.Running.{origin}
-use Rattle.hib_top.proofs.Ends.{lent_named}
+use Rattle.hib_top.proofs.Ends.{lent_named, not_fault}
 
 -- ---- what a text says
 pub both_said : (text : List ℕ) (s : Sectioned) (ds : List Def) → section_of (codes "collections") text ≡ Ok s → collections_of s.script.mapping s.before.lines s.behind.lines ≡ Ok ds →
@@ -39,20 +38,12 @@ are_set script ds v f = record { valid = v; few = f.few; versioned = f.versioned
 abbrev ComesBy : Gathering → Shared → Shared → Outcome Collected → Type 0
 ComesBy input old new outcome = Comes collecting input old new outcome
 
-not_fault : Status.NoMemory ≡ Status.StoreFault → ⊥
-not_fault e = cc
-
 pub over : (input : Gathering) (old new : Shared) (run : Collected) (outcome : Outcome Collected) → outcome ≡ Outcome.Over run → Leaves input old new run → ComesBy input old new outcome
 over input old new run outcome e l = subst (ComesBy input old new) (sym e) l
 
 pub stopped : (input : Gathering) (old new : Shared) (run : Collected) (outcome : Outcome Collected) → outcome ≡ Outcome.Stopped Status.NoMemory (Some run) → IsCollected true input old new run →
     ComesBy input old new outcome
 stopped input old new run outcome e r = subst (ComesBy input old new) (sym e) (r, tt, λ p. absurd (not_fault p))
-
--- what a run says that was asked once more, of what it hands back
-pub once_more : (script : Script) (before asked now : ℕ) (made kept : Kept) → now ≡ asked → kept ≡ made → RoseWithin before (ask_count script (past made) + 1) asked → RoseWithin before (ask_count script (past kept) + 1) now
-once_more script before asked now made kept a k r =
-    subst (λ (j : Kept). RoseWithin before (ask_count script (past j) + 1) now) (sym k) (subst (λ (n : ℕ). RoseWithin before (ask_count script (past made) + 1) n) (sym a) r)
 
 -- ---- a run of this name is over what is lent
 input_named : (input : Gathering) (script : Script) (defs : List Def) → input.script ≡ script → input.defs ≡ defs → ◌≡◌ {A = Gathering} (record { script = script; defs = defs }) input

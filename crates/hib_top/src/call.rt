@@ -43,7 +43,8 @@ pub struct Ended<K, L> {
     pub status: Status,
     /// The keeper that was handed in.
     pub keeper: K,
-    /// The journal of the run; empty if nothing was run, and if a run over parts is torn or memory ran out in it.
+    /// The journal of the run; empty if nothing was run, if the run's journal is of another kind, and if a run over parts is torn or
+    /// memory ran out in it.
     pub journal: Journal,
     /// The listeners that stayed.
     pub listeners: Vec<L>,
@@ -322,12 +323,14 @@ fn serve<R: Threads + Wait + Sync, S: Source, W: Sink, K: Keeper, G: Gate, L: Li
 /// Does what the words say, except for `work`, of which the words have no form here; so it takes no lock, and returns. `play` reads
 /// a script from the source, runs it over the keeper by its schedule and writes the report of its journal to the sink. `make` makes
 /// the script of a number, and runs it and writes that number and the summary; or it writes the script. `audit` reads a script and a
-/// journal after it, and says whether the journal is legal. If the words have no form, nothing is read.
+/// journal after it, and says whether the journal is legal. `collect` reads a script and collections after it, runs the script by its
+/// schedule and writes the journal with the entries at collections, which `side` has. If the words have no form, nothing is read.
 ///
-/// Whatever the status, the journal handed back is legal for the script, from the keeper's tables as they were handed in and the
-/// script's rows beside them, and obeys the law; its k-th entry has tick k, and the keeper's tables are those that its commits
-/// gave. If the keeper tells its tables and they fit the script's mapping, each entry of a run that came to its end is well formed.
-/// The listeners hear of each entry in the step that adds it.
+/// Whatever the status, the journal of a run is legal for the script, from the keeper's tables as they were handed in and the
+/// script's rows beside them; its k-th entry has tick k, and the keeper's tables are those that its commits gave. It obeys the law;
+/// that of `collect` obeys the law of collections, if the keeper tells its tables and they fit the script's mapping. If they do, each
+/// entry of another run that came to its end is well formed. The listeners hear of each entry in the step that adds it, but for
+/// those at collections; a hit there they hear as the list that it stands for.
 pub fn play_words<S: Source, W: Sink, K: Keeper, L: Listener>(
     alloc: Global,
     words: &[String],

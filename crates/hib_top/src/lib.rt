@@ -1,5 +1,5 @@
-//! The top call: what the words ask for is the call of a command. A script is read or made, run over a keeper, by its schedule or on
-//! workers, and told; or a journal that comes after its script is judged.
+//! The top call: what the words ask for is the call of a command. A script is read or made, run over a keeper, by its schedule, on
+//! workers or with collections, and told; or a journal that comes after its script is judged.
 #![tactic(auto)]
 
 mod audit;

@@ -6,12 +6,13 @@ use Rattle.hib_collections_law.specs.Gathered.{plain}
 use Rattle.hib_collections.specs.Gather.{heard_in}
 use Rattle.hib_collections.specs.Kept.{Kept, past}
 use Rattle.hib_collections.specs.Obeyed.{Obeys}
+use Rattle.hib_collections.specs.Run.{ask_count}
 use Rattle.hib_collections.specs.Played.{AreOver, is_played}
 use Rattle.hib_listeners.specs.Heard.{HaveHeard}
 use Rattle.hib_listeners.specs.Told.{tells}
 use Rattle.hib_top.specs.declared.collect.Collected.{Collected}
-use Rattle.hib_top.proofs.Ends.{heard_either}
-use Rattle.hib_top.proofs.Gathers.{once_more, over, stopped, told_by}
+use Rattle.hib_top.proofs.Ends.{heard_either, once_more}
+use Rattle.hib_top.proofs.Gathers.{over, stopped, told_by}
 use Rattle.hib_top.proofs.collect.collect_named.Goals as goal
 use Rattle.hib_top.proofs.collect.collect_named.Goals.{in-Ok-finished, in-Err-finished}
 
@@ -51,7 +52,7 @@ returns g c =
             obeys = obeys;
             rows = rows;
             faults = c.close-keeper.ensures.faults;
-            asked = once_more script _ _ _ _ _ c.close-keeper.ensures.count c.close-keeper.ensures.journal (w.in-Err-finished.ensures.asked c.in-Ok.ensures.going);
+            asked = once_more (λ (k : Kept). ask_count script (past k)) _ _ _ _ _ c.close-keeper.ensures.count c.close-keeper.ensures.journal (w.in-Err-finished.ensures.asked c.in-Ok.ensures.going);
             listeners = heard_either _ _ _ _ c.close-keeper.ensures.heard;
           }
     ])

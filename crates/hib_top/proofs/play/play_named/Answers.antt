@@ -3,7 +3,7 @@ use Rattle.hib_base.specs.Tables.{Tables}
 use Rattle.hib_journal.specs.Kept.{Kept, past}
 use Rattle.hib_journal.specs.Played.{is_played}
 use Rattle.hib_journal.specs.Sessions.{Journal}
-use Rattle.hib_journal.specs.Runs.{name_identifiers}
+use Rattle.hib_journal.specs.Runs.{ask_count, name_identifiers}
 use Rattle.hib_core.specs.Bound.{most_in, outside_count}
 use Rattle.hib_core.specs.Factory.{AreOver}
 use Rattle.hib_core.specs.Standing.{Origin, told_start}
@@ -68,7 +68,7 @@ returns g c =
             of = c.close-keeper.ensures.script;
             played = begun;
             faults = c.close-keeper.ensures.faults;
-            asked = once_more _ _ _ _ _ c.close-keeper.ensures.count c.close-keeper.ensures.journal (w.in-Err-finished.ensures.asked c.in-Ok.ensures.going);
+            asked = once_more (λ (k : Kept). ask_count (past k)) _ _ _ _ _ c.close-keeper.ensures.count c.close-keeper.ensures.journal (w.in-Err-finished.ensures.asked c.in-Ok.ensures.going);
             listeners = heard_either _ _ _ _ c.close-keeper.ensures.heard;
           }
     ])

@@ -1,7 +1,7 @@
 use Rattle.std.proofs.Common.{◌≡◌, ◌≤◌, ◌+◌, ◌^◌, Bool, true, false, length, Option, sym, ◌∙◌, ap, subst, arith}
 use Rattle.hib_base.specs.Tables.{Tables}
 use Rattle.hib_journal.specs.Kept.{Kept, past}
-use Rattle.hib_journal.specs.Runs.{name_identifiers}
+use Rattle.hib_journal.specs.Runs.{ask_count, name_identifiers}
 use Rattle.hib_core.specs.Bound.{most_in, outside_count}
 use Rattle.hib_core.specs.Factory.{AreOver}
 use Rattle.hib_core.proofs.Evictions.{all_named}
@@ -48,7 +48,7 @@ returns g c =
             of = c.close-keeper.ensures.script;
             played = begun;
             faults = c.close-keeper.ensures.faults;
-            asked = once_more _ _ _ _ _ c.close-keeper.ensures.count c.close-keeper.ensures.journal
+            asked = once_more (λ (k : Kept). ask_count (past k)) _ _ _ _ _ c.close-keeper.ensures.count c.close-keeper.ensures.journal
                 (c.work-factory.ensures.worked.asked c.in-Ok.ensures.going (sym c.work-factory.ensures.memory ∙ w.if-out_of_memory.true));
             listeners = heard_either _ _ _ _ c.close-keeper.ensures.heard;
           }
