@@ -5,6 +5,7 @@ use Rattle.std.proofs.lemmas.Option.{none-some, same_Some}
 use Rattle.std.specs.Prelude.{slice_get}
 use Rattle.std.specs.Option.{option_map_or}
 use Rattle.hib_base.specs.Tables.{Tables, in_order}
+use Rattle.hib_base.proofs.Valid.{Rules, rules}
 use Rattle.hib_journal.specs.Types.{Script, Strategy, EntityDef}
 use Rattle.hib_journal.specs.Next.{strategy, strategy_in, capacity, is_cached_by}
 use Rattle.hib_update_stamps.specs.Stamped.{unstamped}
@@ -16,6 +17,7 @@ use Rattle.hib_engines.specs.Laws.{Laws}
 use Rattle.hib_engines.specs.Origin.{Origin}
 use Rattle.hib_engines.specs.Registry.{IsRegistry}
 use Rattle.hib_engines.proofs.Bridge.{bridged_begins}
+use Rattle.hib_engines.proofs.Ready.{ready}
 use Rattle.hib_engines.proofs.Opened.{registry_begins}
 use Rattle.hib_store.specs.Stores.{changes_in}
 use Rattle.hib_bulk_region.specs.Laws as Wide
@@ -23,10 +25,19 @@ use Rattle.hib_bulk.specs.Types.{BulkDef}
 use Rattle.hib_bulk.specs.declared.lines.Progress.{Progress}
 use Rattle.hib_bulk.specs.Regions.{region_of, opened, IsPlaced}
 use Rattle.hib_bulk.specs.Standing.{PartsState, AreStanding, told_committed}
-use Rattle.hib_bulk.specs.Run.{IsLine, AreBuilt}
+use Rattle.hib_bulk.specs.Run.{IsLine, AreBuilt, AreSet}
 use Rattle.hib_bulk.specs.Steps.{AreSessions, AreLines, fresh}
 use Rattle.hib_bulk.specs.Factory.{FactoryState, IsStanding}
 use Rattle.hib_bulk.specs.Kept.{past}
+
+-- what a run asks of its script and its lines is all that its steps need
+pub built_of : (script : Script) (lines : List BulkDef) → AreSet script lines → AreBuilt script lines
+built_of script lines w = record {
+  built = ready script w.valid;
+  numbers = let r : Rules script = rules script w.valid in let n = r.sessions in let m = w.few in omega (arith, n, m);
+  strategies = w.strategies;
+  below = w.below;
+}
 
 region_in : (timeout : ℕ) (ds : List EntityDef) (n : ℕ) →
     region_of (map (λ d. opened d.strategy d.capacity timeout) ds) n ≡ opened (strategy_in (slice_get ds n)) (option_map_or (λ d. d.capacity) (slice_get ds n) 0) timeout

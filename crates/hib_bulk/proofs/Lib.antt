@@ -10,3 +10,5 @@ mod LineTurn
 mod Stepped
 mod Obeyed
 mod Begun
+mod Due
+mod Appended

@@ -1,18 +1,19 @@
 -- A step of a session or a line: what it leaves of the parts, the sessions and the lines.
 use Rattle.std.specs.Prelude.{slice_get, slice_set, get_or}
-use Rattle.std.proofs.Common.{◌≡◌, ◌≢◌, inl, inr, ℕ, ◌+◌, ◌<◌, ◌==◌, Bool, false, ◌&&◌, ◌||◌, List, ◌∷◌, length, Result, Ok, Err, Some, None, refl, sym, ap, ◌∙◌, subst, arith, eq-eqb}
+use Rattle.std.proofs.Common.{◌≡◌, ◌≢◌, inl, inr, ℕ, ◌+◌, ◌<◌, ◌==◌, Bool, true, false, ◌&&◌, ◌||◌, List, ◌∷◌, length, Result, Ok, Err, Some, None, refl, sym, ap, ◌∙◌, subst, arith, eq-eqb}
 use Rattle.std.proofs.lemmas.Bool.{true≢false, eqb-true, ne_eqb}
 use Rattle.std.proofs.lemmas.List.{get_or-set_same, get_or-set_other, length-set}
 use Rattle.std.proofs.lemmas.Option.{same_Some, slice_get_within, get_or_from_slice_get, slice_get-get_or}
 use Rattle.hib_base.proofs.Tables.{Tested, tested}
 use Rattle.hib_journal.specs.Types.{Script}
 use Rattle.hib_journal.specs.Sessions.{own, is_begun, deferred}
+use Rattle.hib_outside.specs.Causes.{Rose}
 use Rattle.hib_session.specs.declared.session.Session.{Session}
 use Rattle.hib_session.specs.Session.{Follows, number_of}
 use Rattle.hib_session.proofs.Together.{placed_here, placed_there}
 use Rattle.hib_engines.specs.Origin.{Origin}
 use Rattle.hib_engines.specs.declared.stepped.Stepped.{Stepped}
-use Rattle.hib_bulk.specs.Types.{BulkDef}
+use Rattle.hib_bulk.specs.Types.{BulkDef, BulkEntry}
 use Rattle.hib_bulk.specs.declared.lines.Progress.{Progress}
 use Rattle.hib_bulk_law.specs.Plain.{Bulked, plain}
 use Rattle.hib_bulk_law.specs.Acts.{next, steps_of}
@@ -22,10 +23,11 @@ use Rattle.hib_store.specs.Stores.{changes_in}
 use Rattle.hib_engines.specs.Registry.{IsRegistry}
 use Rattle.hib_engines.specs.Stamps.{AreStamps}
 use Rattle.hib_engines.specs.Results.{AreResults}
+use Rattle.hib_bulk.specs.Changed.{is_fault}
 use Rattle.hib_bulk.specs.Regions.{region_of, IsPlaced}
 use Rattle.hib_bulk.specs.Standing.{PartsState, ArePlain, IsStill}
 use Rattle.hib_bulk.specs.Run.{IsRun, IsLine, Moves, Leaves, LineMoves}
-use Rattle.hib_bulk.specs.Steps.{AreSessions, AreLines, Adds}
+use Rattle.hib_bulk.specs.Steps.{AreSessions, AreLines, Adds, HasTurned}
 
 -- ---- places in a list
 
@@ -170,15 +172,23 @@ lines_same script lines h i ps y z w v q = record {
 pub session_at : (script : Script) (h : Bulked) (xs : List Session) (i s : ℕ) (y : Session) → AreSessions script h xs → i ≡ s → s < length script.sessions → y ≡ get_or xs i y → slice_get xs s ≡ Some y
 session_at script h xs i s y w e l v = slice_get-get_or xs s y (subst (λ n. s < n) (sym w.all) l) ∙ ap Some (sym (subst (λ n. y ≡ get_or xs n y) e v))
 
-pub record Turned (script : Script) (lines : List BulkDef) (from : Origin) (s : ℕ) (r : Result Stepped AllocError) (h new : Bulked) (w : PartsState) (xs ys : List Session) : Type 0 where
-  pub run : IsRun script lines from new w
+pub record Turned (script : Script) (lines : List BulkDef) (from : Origin) (s : ℕ) (r : Result Stepped AllocError) (h new : Bulked) (x w : PartsState) (ys : List Session) : Type 0 where
+  pub turned : HasTurned script lines from s r h new x w
   pub sessions : AreSessions script new ys
   pub rest : (ps : List Progress) → AreLines script lines h ps → AreLines script lines new ps
-  pub did : r ≡ Ok Stepped.Did → Adds script lines s h new
-  pub done : r ≡ Ok Stepped.Done → next script lines new s ≡ None
-  pub same : r ≢ Ok Stepped.Did → new ≡ h
 
-done_not : ◌≡◌ {A = Result Stepped AllocError} (Ok Stepped.Done) (Ok Stepped.Did) → ⊥
+-- the one entry that was added
+same_entry : (e f : BulkEntry) (h new : Bulked) → new ≡ e ∷ h → new ≡ f ∷ h → e ≡ f
+same_entry e f h new p q = cc
+
+no_entry : (e : BulkEntry) (h new : Bulked) → new ≡ h → new ≡ e ∷ h → ⊥
+no_entry e h new p q = let l = ap length (sym p ∙ q) in omega (arith, l)
+
+fault_by : (e : BulkEntry) (h new : Bulked) (x w : PartsState) → new ≡ e ∷ h → (is_fault e.reply ≡ true → Rose x.store.faults w.store.faults) →
+    (f : BulkEntry) → new ≡ f ∷ h → is_fault f.reply ≡ true → Rose x.store.faults w.store.faults
+fault_by e h new x w p g f q i = g (subst (λ (z : BulkEntry). is_fault z.reply ≡ true) (sym (same_entry e f h new p q)) i)
+
+pub done_not : ◌≡◌ {A = Result Stepped AllocError} (Ok Stepped.Done) (Ok Stepped.Did) → ⊥
 done_not p = cc
 
 did_not : ◌≡◌ {A = Result Stepped AllocError} (Ok Stepped.Did) (Ok Stepped.Done) → ⊥
@@ -189,7 +199,7 @@ err_not e t p = cc
 
 pub turned : (script : Script) (lines : List BulkDef) (from : Origin) (s : ℕ) (r : Result Stepped AllocError) (h new : Bulked) (x w : PartsState) (xs : List Session) (y z : Session) → s < length script.sessions →
     IsRun script lines from h x → AreSessions script h xs → slice_get xs s ≡ Some y → number_of z ≡ number_of y → (r ≡ Ok Stepped.Did → Moves script lines from h new x w y z) →
-    (r ≡ Ok Stepped.Done → next script lines h (number_of y) ≡ None) → (r ≢ Ok Stepped.Did → Leaves script h new x w y z) → Turned script lines from s r h new w xs (slice_set xs s z)
+    (r ≡ Ok Stepped.Done → next script lines h (number_of y) ≡ None) → (r ≢ Ok Stepped.Did → Leaves script h new x w y z) → Turned script lines from s r h new x w (slice_set xs s z)
 turned script lines from s r h new x w xs y z l run all p k did done still = by_result r refl
   where
     here : number_of y ≡ s
@@ -204,35 +214,44 @@ turned script lines from s r h new x w xs y z l run all p k did done still = by_
       others = λ n q. m.others n (ap (λ i. i == n) here ∙ q);
     }
 
-    by_move : r ≡ Ok Stepped.Did → Moves script lines from h new x w y z → Turned script lines from s r h new w xs (slice_set xs s z)
+    by_move : r ≡ Ok Stepped.Did → Moves script lines from h new x w y z → Turned script lines from s r h new x w (slice_set xs s z)
     by_move e m = record {
-      run = m.run;
+      turned = record {
+        run = m.run;
+        did = λ i. adds m;
+        done = λ i. absurd (did_not (sym e ∙ i));
+        same = λ i. absurd (i e);
+        still = λ i. absurd (i e);
+        fault = fault_by m.entry h new x w m.grown m.fault;
+      };
       sessions = sessions_on script h new s xs y z all p k (subst (λ n. Follows script z (own n (plain new))) here m.follows) (adds m).others;
       rest = λ ps g. lines_rest script lines h new s ps l g (adds m);
-      did = λ i. adds m;
-      done = λ i. absurd (did_not (sym e ∙ i));
-      same = λ i. absurd (i e);
     }
 
-    by_leave : (r ≡ Ok Stepped.Did → ⊥) → Leaves script h new x w y z → Turned script lines from s r h new w xs (slice_set xs s z)
+    by_leave : (r ≡ Ok Stepped.Did → ⊥) → Leaves script h new x w y z → Turned script lines from s r h new x w (slice_set xs s z)
     by_leave f v = record {
-      run = run_still script lines from h new x w run v.parts v.entities v.same;
+      turned = record {
+        run = run_still script lines from h new x w run v.parts v.entities v.same;
+        did = λ i. absurd (f i);
+        done = λ i. ap (λ j. next script lines j s) v.same ∙ subst (λ n. next script lines h n ≡ None) here (done i);
+        same = λ i. v.same;
+        still = λ i. v.parts;
+        fault = λ e q i. absurd (no_entry e h new v.same q);
+      };
       sessions = sessions_on script h new s xs y z all p k
           (subst (λ (j : Bulked). Follows script z (own s (plain j))) (sym v.same) (v.follows (own s (plain h)) (all.follow s y p))) (λ n q. ap (λ j. own n (plain j)) v.same);
       rest = λ ps g. subst (λ (j : Bulked). AreLines script lines j ps) (sym v.same) g;
-      did = λ i. absurd (f i);
-      done = λ i. ap (λ j. next script lines j s) v.same ∙ subst (λ n. next script lines h n ≡ None) here (done i);
-      same = λ i. v.same;
     }
 
-    by_result : (q : Result Stepped AllocError) → r ≡ q → Turned script lines from s r h new w xs (slice_set xs s z)
+    by_result : (q : Result Stepped AllocError) → r ≡ q → Turned script lines from s r h new x w (slice_set xs s z)
     by_result (Ok Stepped.Did) e = by_move e (did e)
     by_result (Ok Stepped.Done) e = by_leave (λ i. done_not (sym e ∙ i)) (still (λ i. done_not (sym e ∙ i)))
     by_result (Err u) e = by_leave (λ i. err_not u Stepped.Did (sym e ∙ i)) (still (λ i. err_not u Stepped.Did (sym e ∙ i)))
 
 -- ---- a step of a line
 
-pub record LineTurned (script : Script) (lines : List BulkDef) (i : ℕ) (r : Result Stepped AllocError) (h new : Bulked) (ps : List Progress) : Type 0 where
+pub record LineTurned (script : Script) (lines : List BulkDef) (from : Origin) (s : ℕ) (r : Result Stepped AllocError) (h new : Bulked) (x w : PartsState) (ps : List Progress) : Type 0 where
+  pub turned : HasTurned script lines from s r h new x w
   pub progress : AreLines script lines new ps
   pub rest : (xs : List Session) → AreSessions script h xs → AreSessions script new xs
 
@@ -247,24 +266,45 @@ pub adds_line : (script : Script) (lines : List BulkDef) (from : Origin) (s : �
 adds_line script lines from s d h new x w m b v = record { entry = v.entry; by = v.by; grown = v.grown; due = v.due; others = v.others }
 
 pub line_turned : (script : Script) (lines : List BulkDef) (from : Origin) (i s : ℕ) (r : Result Stepped AllocError) (h new : Bulked) (x w : PartsState) (ps : List Progress) (y z : Progress) (d : BulkDef) →
-    s ≡ length script.sessions + i → AreLines script lines h ps → slice_get ps i ≡ Some y → slice_get lines i ≡ Some d → (r ≡ Ok Stepped.Did → LineMoves script lines from s d h new x w z.steps z.failed) →
-    (r ≢ Ok Stepped.Did → (new ≡ h) × (z ≡ y)) → LineTurned script lines i r h new (slice_set ps i z)
-line_turned script lines from i s r h new x w ps y z d q all p k did same = by_result r refl
+    s ≡ length script.sessions + i → IsRun script lines from h x → AreLines script lines h ps → slice_get ps i ≡ Some y → slice_get lines i ≡ Some d →
+    (r ≡ Ok Stepped.Did → LineMoves script lines from s d h new x w z.steps z.failed) → (r ≡ Ok Stepped.Done → next script lines h s ≡ None) →
+    (r ≢ Ok Stepped.Did → (new ≡ h) × (z ≡ y)) → (r ≢ Ok Stepped.Did → IsStill x w) → w.store.entities ≡ x.store.entities →
+    LineTurned script lines from (length script.sessions + i) r h new x w (slice_set ps i z)
+line_turned script lines from i s r h new x w ps y z d q run all p k did done same still entities = by_result r refl
   where
-    by_move : LineMoves script lines from s d h new x w z.steps z.failed → LineTurned script lines i r h new (slice_set ps i z)
-    by_move m = let o : Adds script lines (length script.sessions + i) h new = subst (λ n. Adds script lines n h new) q (adds_line script lines from s d h new x w z.steps z.failed m) in record {
+    its : ℕ
+    its = length script.sessions + i
+
+    by_move : r ≡ Ok Stepped.Did → LineMoves script lines from s d h new x w z.steps z.failed → LineTurned script lines from its r h new x w (slice_set ps i z)
+    by_move u m = let o : Adds script lines its h new = subst (λ n. Adds script lines n h new) q (adds_line script lines from s d h new x w z.steps z.failed m) in record {
+      turned = record {
+        run = m.run;
+        did = λ j. o;
+        done = λ j. absurd (did_not (sym u ∙ j));
+        same = λ j. absurd (j u);
+        still = λ j. absurd (j u);
+        fault = fault_by m.entry h new x w m.grown m.fault;
+      };
       progress = lines_on script lines h new i ps y z all p
           (λ e f. subst (λ n. IsLine script new n e z.steps z.failed) q (subst (λ u. IsLine script new s u z.steps z.failed) (same_Some d e (sym k ∙ f)) m.stands)) o;
       rest = λ xs g. sessions_rest script lines h new i xs g o;
     }
 
-    by_leave : (new ≡ h) × (z ≡ y) → LineTurned script lines i r h new (slice_set ps i z)
-    by_leave v = record {
+    by_leave : (r ≡ Ok Stepped.Did → ⊥) → IsStill x w → (new ≡ h) × (z ≡ y) → LineTurned script lines from its r h new x w (slice_set ps i z)
+    by_leave f t v = record {
+      turned = record {
+        run = run_still script lines from h new x w run t entities v.0;
+        did = λ j. absurd (f j);
+        done = λ j. ap (λ n. next script lines n its) v.0 ∙ subst (λ n. next script lines h n ≡ None) q (done j);
+        same = λ j. v.0;
+        still = λ j. t;
+        fault = λ e u j. absurd (no_entry e h new v.0 u);
+      };
       progress = subst (λ (j : Bulked). AreLines script lines j (slice_set ps i z)) (sym v.0) (lines_same script lines h i ps y z all p v.1);
       rest = λ xs g. subst (λ (j : Bulked). AreSessions script j xs) (sym v.0) g;
     }
 
-    by_result : (q : Result Stepped AllocError) → r ≡ q → LineTurned script lines i r h new (slice_set ps i z)
-    by_result (Ok Stepped.Did) e = by_move (did e)
-    by_result (Ok Stepped.Done) e = by_leave (same (λ i. done_not (sym e ∙ i)))
-    by_result (Err u) e = by_leave (same (λ i. err_not u Stepped.Did (sym e ∙ i)))
+    by_result : (q : Result Stepped AllocError) → r ≡ q → LineTurned script lines from its r h new x w (slice_set ps i z)
+    by_result (Ok Stepped.Did) e = by_move e (did e)
+    by_result (Ok Stepped.Done) e = let n : r ≢ Ok Stepped.Did = λ i. done_not (sym e ∙ i) in by_leave n (still n) (same n)
+    by_result (Err u) e = let n : r ≢ Ok Stepped.Did = λ i. err_not u Stepped.Did (sym e ∙ i) in by_leave n (still n) (same n)

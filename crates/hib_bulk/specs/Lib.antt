@@ -5,4 +5,6 @@ pub mod Regions
 pub mod Standing
 pub mod Run
 pub mod Steps
+pub mod Played
 pub mod Factory
+pub mod Text

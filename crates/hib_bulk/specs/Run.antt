@@ -1,6 +1,7 @@
 -- What a run with bulk lines keeps: its journal is legal, and its parts, sessions and lines stand for it.
-use Rattle.std.specs.Prelude.{◌≡◌, ◌<◌, ◌^◌, ◌==◌, ℕ, suc, ◌+◌, Bool, true, false, cond, ◌&&◌, nat_lt, List, [], ◌∷◌, length, slice_get, IfSome, Some, None, Option}
+use Rattle.std.specs.Prelude.{◌≡◌, ◌<◌, ◌≤◌, ◌^◌, ◌==◌, ℕ, suc, ◌+◌, Bool, true, false, cond, ◌&&◌, nat_lt, List, [], ◌∷◌, length, slice_get, IfSome, Some, None, Option}
 use Rattle.hib_base.specs.Tables.{Tables, in_order}
+use Rattle.hib_base.specs.Valid.{is_valid}
 use Rattle.hib_journal.specs.Types.{Key, Script, Act, Reply, Entry, Outcome, Strategy}
 use Rattle.hib_journal.specs.Sessions.{Journal, own, is_begun, deferred}
 use Rattle.hib_journal.specs.Lists as Lists
@@ -29,7 +30,15 @@ abbrev pub fault_count : Bulked → ℕ
 fault_count [] = 0
 fault_count (e ∷ h) = cond (is_fault e.reply) (suc (fault_count h)) (fault_count h)
 
--- regions are read-write or none; sessions and lines have numbers; a line reads entities of the mapping alone
+-- what a run asks of its script and its lines: the script is valid, its regions are read-write or none, there are 100 lines at most, and
+-- a line reads entities of the mapping alone
+pub record AreSet (script : Script) (lines : List BulkDef) : Type 0 where
+  pub valid : is_valid script ≡ true
+  pub few : length lines ≤ 100
+  pub strategies : (n : ℕ) → is_cached script n ≡ true → strategy script n ≡ Strategy.ReadWrite
+  pub below : (i : ℕ) (d : BulkDef) → slice_get lines i ≡ Some d → MeetsBelow (length script.mapping) d.entity d.condition
+
+-- what of it the steps need, and that sessions and lines have numbers
 pub record AreBuilt (script : Script) (lines : List BulkDef) : Type 0 where
   pub built : IsBuilt script
   pub numbers : length script.sessions + length lines < 2 ^ 32

@@ -1,15 +1,19 @@
 // The factory with bulk lines: sessions and lines over shared parts, with the journal of their steps.
-ghost use Rattle.std.specs.Prelude.{◌≡◌, ◌≢◌, ◌≤◌, ◌+◌, ◌<◌, [], true, length, Ok, None, IfOk, IfErr};
+ghost use Rattle.std.specs.Prelude.{◌≡◌, ◌≢◌, ◌≤◌, ◌+◌, ◌<◌, ◌^◌, [], ◌∷◌, ℕ, true, false, length, slice_get, Ok, Some, None, IfOk, IfErr};
 ghost use Rattle.hib_outside.specs.Causes.{Rose};
 ghost use Rattle.hib_store.specs.Stores.{handed_back, is_store_fault};
 ghost use Rattle.hib_engines.specs.Counts.{RoseBy};
 ghost use Rattle.hib_engines.specs.Origin.{told_start};
+ghost use Rattle.hib_playing.specs.Playing.{GoesOn};
+ghost use Rattle.hib_bulk.specs.Types.{BulkEntry};
 ghost use Rattle.hib_bulk_law.specs.Acts.{next};
 ghost use Rattle.hib_bulk_law.specs.Legal.{IsLegal};
+ghost use Rattle.hib_bulk.specs.Changed.{is_fault};
 ghost use Rattle.hib_bulk.specs.Kept.{past};
-ghost use Rattle.hib_bulk.specs.Run.{AreBuilt, Obeys, fault_count};
-ghost use Rattle.hib_bulk.specs.Standing.{told_committed};
-ghost use Rattle.hib_bulk.specs.Steps.{Adds};
+ghost use Rattle.hib_bulk.specs.Run.{AreSet, Obeys, fault_count};
+ghost use Rattle.hib_bulk.specs.Standing.{IsStill, told_committed};
+ghost use Rattle.hib_bulk.specs.Steps.{Adds, HasTurned};
+ghost use Rattle.hib_bulk.specs.Played.{has_next, number_count};
 
 use crate::journal::Bulked;
 use crate::lines::Progress;
@@ -17,8 +21,8 @@ use crate::names::Name;
 use crate::opening::open_lines;
 use crate::parts::Parts;
 use crate::steps::{step_line, step_session};
-use hib_base::{Script, SessionNo};
-use hib_bulk_law::{BulkDef, loads_are_views, rows_cohere, steps_are_in_order};
+use hib_base::{Order, Script, SessionNo};
+use hib_bulk_law::{BulkDefs, Bulks, loads_are_views, rows_cohere, steps_are_in_order};
 use hib_engines::Stepped;
 use hib_outside::Keeper;
 use hib_session::{Session, open_all};
@@ -30,7 +34,7 @@ use std::marker::{Model, PhantomData};
 /// the name's rows.
 pub struct BulkFactory<K: Keeper, N: Name> {
     script: Script,
-    lines: Vec<BulkDef>,
+    bulks: Bulks,
     parts: Parts<K>,
     sessions: Vec<Session>,
     progress: Vec<Progress>,
@@ -51,7 +55,7 @@ impl<K: Keeper, N: Name> Model for BulkFactory<K, N> {
       progress = f.progress.items;
     } };
 
-    ghost invariant = { λ f. (f.script ≡ N.script) × (f.lines.items ≡ N.lines)
+    ghost invariant = { λ f. (f.script ≡ N.script) × (f.bulks.lines ≡ N.lines) × (f.bulks.orders ≡ N.orders)
         × IsStanding N.script N.lines N.from (record {
           journal = f.journal;
           parts = f.parts;
@@ -66,12 +70,13 @@ impl<K: Keeper, N: Name> BulkFactory<K, N> {
     pub fn open(
         alloc: Global,
         script: Script,
-        lines: Vec<BulkDef>,
+        bulks: Bulks,
         keeper: K,
     ) -> Result<BulkFactory<K, N>, OpenFault<K>>
         requires script { script ≡ N.script }
-        requires lines { lines.items ≡ N.lines }
-        requires built { AreBuilt N.script N.lines }
+        requires lines { bulks.lines ≡ N.lines }
+        requires orders { bulks.orders ≡ N.orders }
+        requires set { AreSet N.script N.lines }
         requires from { record {
           tables = told_start N.script (K.tables keeper);
           faults = K.faults keeper;
@@ -87,13 +92,13 @@ impl<K: Keeper, N: Name> BulkFactory<K, N> {
         let Ok(sessions) = open_all(alloc, &script) else {
             return Err(OpenFault::NoMemory(keeper));
         };
-        let Ok(progress) = open_lines(alloc, &lines) else {
+        let Ok(progress) = open_lines(alloc, bulks.lines.as_slice()) else {
             return Err(OpenFault::NoMemory(keeper));
         };
         let parts = Parts::open(alloc, &script, keeper)?;
         Ok(BulkFactory {
             script,
-            lines,
+            bulks,
             parts,
             sessions,
             progress,
@@ -102,15 +107,11 @@ impl<K: Keeper, N: Name> BulkFactory<K, N> {
         })
     }
 
-    /// One step of a session or a line: the act that is due in it, if one is. Lines are numbered after the sessions. If memory runs
-    /// out no entry is added.
-    pub fn step(&mut self, alloc: Global, number: SessionNo) -> Result<Stepped, AllocError>
+    /// One act of a session or a line, if one is due in it.
+    fn turn(&mut self, alloc: Global, number: SessionNo) -> Result<Stepped, AllocError>
         requires known { number < length N.script.sessions + length N.lines }
-        ensures did { result ≡ Ok Stepped.Did
-            → Adds N.script N.lines number (past self.old.journal) (past self.new.journal) }
-        ensures done { result ≡ Ok Stepped.Done
-            → next N.script N.lines (past self.new.journal) number ≡ None }
-        ensures same { result ≢ Ok Stepped.Did → past self.new.journal ≡ past self.old.journal }
+        ensures { HasTurned N.script N.lines N.from number result (past self.old.journal)
+            (past self.new.journal) self.old.parts self.new.parts }
     {
         let at = number.0 as usize;
         let sessions = self.sessions.len();
@@ -127,13 +128,34 @@ impl<K: Keeper, N: Name> BulkFactory<K, N> {
             step_line::<K, N>(
                 alloc,
                 &self.script,
-                &self.lines,
+                self.bulks.lines.as_slice(),
                 at - sessions,
                 &mut self.progress,
                 &mut self.parts,
                 &mut self.journal,
             )
         }
+    }
+
+    /// One step of a session or a line: the act that is due in it, if one is. Lines are numbered after the sessions. If memory runs
+    /// out no entry is added, and nothing has changed but the keeper's counts; so a later call may succeed.
+    pub fn step(&mut self, alloc: Global, number: SessionNo) -> Result<Stepped, AllocError>
+        requires known { number < length N.script.sessions + length N.lines }
+        ensures did { result ≡ Ok Stepped.Did
+            → Adds N.script N.lines number (past self.old.journal) (past self.new.journal) }
+        ensures done { result ≡ Ok Stepped.Done
+            → next N.script N.lines (past self.new.journal) number ≡ None }
+        ensures same { result ≢ Ok Stepped.Did → past self.new.journal ≡ past self.old.journal }
+        ensures still { result ≢ Ok Stepped.Did → IsStill self.old.parts self.new.parts }
+        ensures fault { (e : BulkEntry) → past self.new.journal ≡ e ∷ past self.old.journal
+            → is_fault e.reply ≡ true
+            → Rose self.old.parts.store.faults self.new.parts.store.faults }
+        ensures stands { GoesOn (past self.old.journal) (past self.new.journal) }
+        ensures law { Obeys N.script N.lines N.from.tables (past self.new.journal) }
+    {
+        let stepped = self.turn(alloc, number);
+        self.lawful();
+        stepped
     }
 
     /// The journal obeys the law.
@@ -154,10 +176,57 @@ impl<K: Keeper, N: Name> BulkFactory<K, N> {
         &self.journal
     }
 
-    /// The keeper, the script, the lines and the journal, with what the factory promises of them.
-    pub fn close(self) -> (K, Script, Vec<BulkDef>, Bulked)
+    /// The script of this name.
+    pub fn script(&self) -> &Script
+        ensures { result.now ≡ N.script }
+    {
+        &self.script
+    }
+
+    /// The lines of this name.
+    pub fn lines(&self) -> &BulkDefs
+        ensures { result.now ≡ N.lines }
+    {
+        &self.bulks.lines
+    }
+
+    /// How many sessions and lines there are. In other numbers nothing is due.
+    pub fn numbers(&self) -> usize
+        ensures count { result ≡ number_count N.script N.lines }
+        ensures few { result < 2 ^ 32 }
+        ensures unknown { (s : ℕ) → number_count N.script N.lines ≤ s
+            → has_next N.script N.lines (past self.now.journal) s ≡ false }
+    {
+        self.script.sessions.len() + self.bulks.lines.len()
+    }
+
+    /// How many orders there are.
+    pub fn orders(&self) -> usize
+        ensures count { result ≡ length N.orders }
+    {
+        self.bulks.orders.len()
+    }
+
+    /// An order: which session or line does how many steps.
+    pub fn order(&self, at: usize) -> Order
+        requires there { at < length N.orders }
+        ensures { slice_get N.orders at ≡ Some result }
+    {
+        *self.bulks.orders.at(at)
+    }
+
+    /// The journal is short. It does nothing.
+    pub fn short(&self)
+        ensures { length (past self.now.journal) ≤ 2 ^ 62 }
+    {
+        let _ = self.journal.len();
+    }
+
+    /// The keeper, the script, the lines with their orders, and the journal, with what the factory promises of them.
+    pub fn close(self) -> (K, Script, Bulks, Bulked)
         ensures script { result.1 ≡ N.script }
-        ensures lines { result.2.items ≡ N.lines }
+        ensures lines { result.2.lines ≡ N.lines }
+        ensures orders { result.2.orders ≡ N.orders }
         ensures journal { result.3 ≡ self.journal }
         ensures legal { IsLegal N.script N.lines N.from.tables (past result.3) }
         ensures law { Obeys N.script N.lines N.from.tables (past result.3) }
@@ -168,7 +237,7 @@ impl<K: Keeper, N: Name> BulkFactory<K, N> {
         self.lawful();
         let BulkFactory {
             script,
-            lines,
+            bulks,
             parts,
             sessions: _,
             progress: _,
@@ -182,13 +251,6 @@ impl<K: Keeper, N: Name> BulkFactory<K, N> {
             regions: _,
             results: _,
         } = parts;
-        (store.close(), script, lines, journal)
-    }
-
-    /// The script of this name.
-    pub fn script(&self) -> &Script
-        ensures { result.now ≡ N.script }
-    {
-        &self.script
+        (store.close(), script, bulks, journal)
     }
 }

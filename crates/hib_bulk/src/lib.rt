@@ -9,11 +9,14 @@ mod names;
 mod opening;
 mod parts;
 mod region;
+mod running;
 mod steps;
 mod storing;
+mod texts;
 mod turns;
 
 pub use factory::BulkFactory;
 pub use journal::Bulked;
 pub use names::Name;
 pub use region::Region;
+pub use texts::text;

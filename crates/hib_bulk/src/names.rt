@@ -5,6 +5,7 @@ use std::marker::Brand;
 pub trait Name {
     ghost use Rattle.std.specs.Prelude.{List};
     ghost use Rattle.hib_base.specs.declared.scripts.Script.{Script};
+    ghost use Rattle.hib_base.specs.declared.scripts.Order.{Order};
     ghost use Rattle.hib_bulk.specs.Types.{BulkDef};
     ghost use Rattle.hib_engines.specs.Origin.{Origin};
 
@@ -13,6 +14,9 @@ pub trait Name {
 
     /// The bulk lines.
     ghost lines: { List BulkDef };
+
+    /// Which session or line does how many steps, in turn.
+    ghost orders: { List Order };
 
     /// The committed rows at the start, if the keeper tells them, and its counts.
     ghost from: { Origin };
@@ -32,6 +36,8 @@ impl Name for Brand {
     } };
 
     ghost lines = { [] };
+
+    ghost orders = { [] };
 
     ghost from = { record { tables = None; faults = 0; asked = 0 } };
 }

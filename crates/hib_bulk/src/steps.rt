@@ -1,11 +1,10 @@
 // A step of a run with bulk lines: one act of a session or of a line, if one is due.
-ghost use Rattle.std.specs.Prelude.{◌≡◌, ◌≢◌, ◌+◌, ◌<◌, ◌^◌, List, length, slice_get, Ok, Some, None};
+ghost use Rattle.std.specs.Prelude.{◌≡◌, ◌+◌, ◌<◌, ◌^◌, List, length};
 ghost use Rattle.hib_session.specs.declared.session.Session.{Session as Actor};
 ghost use Rattle.hib_bulk.specs.declared.lines.Progress.{Progress as Come};
-ghost use Rattle.hib_bulk_law.specs.Acts.{next};
 ghost use Rattle.hib_bulk.specs.Kept.{past};
 ghost use Rattle.hib_bulk.specs.Run.{IsRun};
-ghost use Rattle.hib_bulk.specs.Steps.{AreSessions, AreLines, Adds};
+ghost use Rattle.hib_bulk.specs.Steps.{AreSessions, AreLines, HasTurned};
 
 use crate::journal::Bulked;
 use crate::lines::{Progress, line_turn};
@@ -33,15 +32,11 @@ pub fn step_session<K: Keeper, N: Name>(
     requires known { number < length N.script.sessions }
     requires run { IsRun N.script N.lines N.from (past journal.old) parts.old }
     requires sessions { AreSessions N.script (past journal.old) sessions.old.items }
-    ensures run { IsRun N.script N.lines N.from (past journal.new) parts.new }
+    ensures turned { HasTurned N.script N.lines N.from number result (past journal.old)
+        (past journal.new) parts.old parts.new }
     ensures sessions { AreSessions N.script (past journal.new) sessions.new.items }
     ensures lines { (ps : List Come) → AreLines N.script N.lines (past journal.old) ps
         → AreLines N.script N.lines (past journal.new) ps }
-    ensures did { result ≡ Ok Stepped.Did
-        → Adds N.script N.lines number (past journal.old) (past journal.new) }
-    ensures done { result ≡ Ok Stepped.Done
-        → next N.script N.lines (past journal.new) number ≡ None }
-    ensures same { result ≢ Ok Stepped.Did → past journal.new ≡ past journal.old }
 {
     let session = &mut sessions[number.0 as usize];
     take_turn::<K, N>(alloc, script, session, parts, journal)
@@ -70,16 +65,11 @@ pub fn step_line<K: Keeper, N: Name>(
     requires known { at < length N.lines }
     requires run { IsRun N.script N.lines N.from (past journal.old) parts.old }
     requires progress { AreLines N.script N.lines (past journal.old) progress.old.items }
-    ensures run { IsRun N.script N.lines N.from (past journal.new) parts.new }
+    ensures turned { HasTurned N.script N.lines N.from (length N.script.sessions + at) result
+        (past journal.old) (past journal.new) parts.old parts.new }
     ensures progress { AreLines N.script N.lines (past journal.new) progress.new.items }
     ensures sessions { (xs : List Actor) → AreSessions N.script (past journal.old) xs
         → AreSessions N.script (past journal.new) xs }
-    ensures did { result ≡ Ok Stepped.Did
-        → Adds N.script N.lines (length N.script.sessions + at) (past journal.old)
-        (past journal.new) }
-    ensures done { result ≡ Ok Stepped.Done
-        → next N.script N.lines (past journal.new) (length N.script.sessions + at) ≡ None }
-    ensures same { result ≢ Ok Stepped.Did → past journal.new ≡ past journal.old }
 {
     let line = &lines[at];
     let number = line_number(script, at);

@@ -17,8 +17,8 @@ take_turn-requires-clause-follows g c κs within =
     let place : slice_get xs c.args.number ≡ Some y = session_at script h xs c.number.inside.0 c.args.number y c.requires.sessions c.number.view_is c.requires.known c.index_mut-session.ensures.value in
     subst (λ n. Follows script y (own n (plain h))) (sym (c.requires.sessions.numbers c.args.number y place)) (c.requires.sessions.follow c.args.number y place)
 
-pub returns-clause-run : goal.returns-clause-run
-returns-clause-run g c =
+pub returns-clause-turned : goal.returns-clause-turned
+returns-clause-turned g c =
     let script = g.N.Name.script in
     let lines = g.N.Name.lines in
     let from = g.N.Name.from in
@@ -29,7 +29,7 @@ returns-clause-run g c =
     let place : slice_get xs c.args.number ≡ Some y = session_at script h xs c.number.inside.0 c.args.number y c.requires.sessions c.number.view_is c.requires.known c.index_mut-session.ensures.value in
     let t = turned script lines from c.args.number c.take_turn.result h (past c.take_turn.new.journal) c.args.parts.now c.take_turn.new.parts xs y z c.requires.known c.requires.run c.requires.sessions place
     c.take_turn.ensures.number c.take_turn.ensures.did c.take_turn.ensures.done c.take_turn.ensures.still in
-    t.run
+    t.turned
 
 pub returns-clause-sessions : goal.returns-clause-sessions
 returns-clause-sessions g c =
@@ -58,45 +58,3 @@ returns-clause-lines g c =
     let t = turned script lines from c.args.number c.take_turn.result h (past c.take_turn.new.journal) c.args.parts.now c.take_turn.new.parts xs y z c.requires.known c.requires.run c.requires.sessions place
     c.take_turn.ensures.number c.take_turn.ensures.did c.take_turn.ensures.done c.take_turn.ensures.still in
     t.rest
-
-pub returns-clause-did : goal.returns-clause-did
-returns-clause-did g c =
-    let script = g.N.Name.script in
-    let lines = g.N.Name.lines in
-    let from = g.N.Name.from in
-    let h = past c.args.journal.now in
-    let xs = c.args.sessions.now.items in
-    let y = c.index_mut-session.result.now in
-    let z = c.take_turn.new.session in
-    let place : slice_get xs c.args.number ≡ Some y = session_at script h xs c.number.inside.0 c.args.number y c.requires.sessions c.number.view_is c.requires.known c.index_mut-session.ensures.value in
-    let t = turned script lines from c.args.number c.take_turn.result h (past c.take_turn.new.journal) c.args.parts.now c.take_turn.new.parts xs y z c.requires.known c.requires.run c.requires.sessions place
-    c.take_turn.ensures.number c.take_turn.ensures.did c.take_turn.ensures.done c.take_turn.ensures.still in
-    t.did
-
-pub returns-clause-done : goal.returns-clause-done
-returns-clause-done g c =
-    let script = g.N.Name.script in
-    let lines = g.N.Name.lines in
-    let from = g.N.Name.from in
-    let h = past c.args.journal.now in
-    let xs = c.args.sessions.now.items in
-    let y = c.index_mut-session.result.now in
-    let z = c.take_turn.new.session in
-    let place : slice_get xs c.args.number ≡ Some y = session_at script h xs c.number.inside.0 c.args.number y c.requires.sessions c.number.view_is c.requires.known c.index_mut-session.ensures.value in
-    let t = turned script lines from c.args.number c.take_turn.result h (past c.take_turn.new.journal) c.args.parts.now c.take_turn.new.parts xs y z c.requires.known c.requires.run c.requires.sessions place
-    c.take_turn.ensures.number c.take_turn.ensures.did c.take_turn.ensures.done c.take_turn.ensures.still in
-    t.done
-
-pub returns-clause-same : goal.returns-clause-same
-returns-clause-same g c =
-    let script = g.N.Name.script in
-    let lines = g.N.Name.lines in
-    let from = g.N.Name.from in
-    let h = past c.args.journal.now in
-    let xs = c.args.sessions.now.items in
-    let y = c.index_mut-session.result.now in
-    let z = c.take_turn.new.session in
-    let place : slice_get xs c.args.number ≡ Some y = session_at script h xs c.number.inside.0 c.args.number y c.requires.sessions c.number.view_is c.requires.known c.index_mut-session.ensures.value in
-    let t = turned script lines from c.args.number c.take_turn.result h (past c.take_turn.new.journal) c.args.parts.now c.take_turn.new.parts xs y z c.requires.known c.requires.run c.requires.sessions place
-    c.take_turn.ensures.number c.take_turn.ensures.did c.take_turn.ensures.done c.take_turn.ensures.still in
-    t.same
