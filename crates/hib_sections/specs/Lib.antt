@@ -1,2 +1,5 @@
 pub mod Schedules
 pub mod Collections
+pub mod Before
+pub mod BulkLines
+pub mod Bulks
