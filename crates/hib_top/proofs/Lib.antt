@@ -6,3 +6,4 @@ pub mod Formed
 pub mod OverParts
 pub mod Calls
 pub mod Gathers
+pub mod Bulks

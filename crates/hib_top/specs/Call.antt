@@ -10,12 +10,14 @@ use Rattle.hib_top.specs.declared.call.Side.{Side}
 use Rattle.hib_top.specs.declared.telling.Played.{Played}
 use Rattle.hib_top.specs.declared.turns.Turns.{Turns}
 use Rattle.hib_top.specs.Auditing.{auditing}
+use Rattle.hib_top.specs.Bulking.{bulking}
 use Rattle.hib_top.specs.Collecting.{collecting}
+use Rattle.hib_top.specs.declared.bulk.BulkRun.{BulkRun}
 use Rattle.hib_top.specs.declared.collect.Collected.{Collected}
 use Rattle.hib_top.specs.Making.{making, printing}
 use Rattle.hib_top.specs.Running.{running}
 use Rattle.hib_top.specs.Words.{telling_of}
-use Rattle.hib_words.specs.Commands.{Asked, play, work, make, audit, collect}
+use Rattle.hib_words.specs.Commands.{Asked, play, work, make, audit, collect, bulk}
 
 -- the journal handed back is the run's; it is empty if there is none
 abbrev pub HandsBack : Option Played → Kept → Type 0
@@ -40,13 +42,20 @@ abbrev pub DoesRun : Turns → Bool → Outside → Outside → Status → Kept 
 DoesRun turns lines old new answer journal = (run : Option Played) × IsKept turns answer run journal × IsCalled (running turns (telling_of lines)) old new answer run
 
 -- the journal of another kind is the run's
-abbrev pub IsSide : Option Collected → Side → Type 0
-IsSide None side = side ≡ Side.Nothing
-IsSide (Some run) side = side ≡ Side.Gathered run.journal
+abbrev pub IsSide : {R : Type 0} → (R → Side) → Option R → Side → Type 0
+IsSide journal_of None side = side ≡ Side.Nothing
+IsSide journal_of (Some run) side = side ≡ journal_of run
+
+abbrev pub gathered_of : Collected → Side
+gathered_of run = Side.Gathered run.journal
+
+abbrev pub bulked_of : BulkRun → Side
+bulked_of run = Side.Bulked run.journal
 
 -- of a command whose journal is of another kind, and of the others
 abbrev pub DoesAside : Asked → Outside → Outside → Status → Side → Type 0
-DoesAside collect old new answer side = (run : Option Collected) × IsSide run side × IsCalled collecting old new answer run
+DoesAside collect old new answer side = (run : Option Collected) × IsSide gathered_of run side × IsCalled collecting old new answer run
+DoesAside bulk old new answer side = (run : Option BulkRun) × IsSide bulked_of run side × IsCalled bulking old new answer run
 DoesAside asked old new answer side = side ≡ Side.Nothing
 
 abbrev pub Does : Asked → Outside → Outside → Status → Kept → Type 0
@@ -57,6 +66,7 @@ Does (make n false) old new answer journal = (run : Option Played) × IsKept Tur
 Does (make n true) old new answer journal = (run : Option Script) × (past journal ≡ []) × IsCalled (printing n) (unread old) (unread new) answer run × IsUnread old new
 Does audit old new answer journal = (run : Option Judged) × (past journal ≡ []) × IsCalled auditing old new answer run
 Does collect old new answer journal = past journal ≡ []
+Does bulk old new answer journal = past journal ≡ []
 
 abbrev pub IsDone : Asked → Outside → Outside → Status → Kept → Side → Type 0
 IsDone asked old new answer journal side = Does asked old new answer journal × DoesAside asked old new answer side

@@ -4,3 +4,4 @@ pub mod Making
 pub mod Auditing
 pub mod Call
 pub mod Collecting
+pub mod Bulking

@@ -6,10 +6,12 @@ ghost use Rattle.hib_journal.specs.Kept.{past};
 ghost use Rattle.hib_top.specs.declared.turns.Turns.{Turns};
 ghost use Rattle.hib_words.specs.Commands.{asked_of, command};
 ghost use Rattle.hib_top.specs.Words.{HasFew, asked_alone, asked_in, is_alone, telling_of};
+ghost use Rattle.hib_bulk.specs.Run.{AreSet as AreLinesSet};
 ghost use Rattle.hib_collections.specs.Run.{AreSet};
-ghost use Rattle.hib_top.specs.Call.{HandsBack, IsDone, IsKept, IsSide, Promised};
+ghost use Rattle.hib_top.specs.Call.{HandsBack, IsDone, IsKept, IsSide, Promised, bulked_of, gathered_of};
 
 use crate::audit::{Judge, judge_journal};
+use crate::bulk::{Bulk, BulkRun, bulk_script};
 use crate::collect::{Collect, Collected, collect_script};
 use crate::make::{Make, Print};
 use crate::play::play_script;
@@ -18,6 +20,7 @@ use crate::split::split_script;
 use crate::telling::{Played, Telling};
 use crate::turns::Turns;
 use crate::work::work_script;
+use hib_bulk::Bulked;
 use hib_call::{Called, Lent, NothingLeft, Outcome, Ran, Status, call};
 use hib_collections::Gathered;
 use hib_journal::Journal;
@@ -34,6 +37,8 @@ pub enum Side {
     Nothing,
     /// That of a run with collections.
     Gathered(Gathered),
+    /// That of a run with bulk changes.
+    Bulked(Bulked),
 }
 
 /// What a call of the program hands back.
@@ -108,20 +113,40 @@ fn with_whole_journal<K: Keeper, L: Listener>(
     }
 }
 
-/// What is handed back of a run with collections, whose journal is of another kind.
-fn with_side<K: Keeper, L: Listener>(alloc: Global, called: Called<Collected, K, L>) -> Ended<K, L>
-    ensures status { result.status ≡ called.status }
-    ensures keeper { result.keeper ≡ called.lent.keeper }
-    ensures listeners { result.listeners ≡ called.lent.listeners }
-    ensures journal { past result.journal ≡ [] }
-    ensures side { IsSide called.run result.side }
+/// The journal of a run with collections.
+fn gathered(run: Option<Collected>) -> Side
+    ensures { IsSide gathered_of run result }
 {
-    let Called { status, lent, run } = called;
-    let Lent { keeper, listeners } = lent;
-    let side = match run {
+    match run {
         Some(run) => Side::Gathered(run.journal),
         None => Side::Nothing,
-    };
+    }
+}
+
+/// The journal of a run with bulk changes.
+fn bulked(run: Option<BulkRun>) -> Side
+    ensures { IsSide bulked_of run result }
+{
+    match run {
+        Some(run) => Side::Bulked(run.journal),
+        None => Side::Nothing,
+    }
+}
+
+/// What is handed back of a run whose journal is of another kind.
+fn aside<K: Keeper, L: Listener>(
+    alloc: Global,
+    status: Status,
+    lent: Lent<K, L>,
+    side: Side,
+) -> Ended<K, L>
+    ensures status { result.status ≡ status }
+    ensures keeper { result.keeper ≡ lent.keeper }
+    ensures listeners { result.listeners ≡ lent.listeners }
+    ensures journal { past result.journal ≡ [] }
+    ensures side { result.side ≡ side }
+{
+    let Lent { keeper, listeners } = lent;
     Ended {
         status,
         keeper,
@@ -129,6 +154,33 @@ fn with_side<K: Keeper, L: Listener>(alloc: Global, called: Called<Collected, K,
         listeners,
         side,
     }
+}
+
+/// What is handed back of a run with collections.
+fn with_gathered<K: Keeper, L: Listener>(
+    alloc: Global,
+    called: Called<Collected, K, L>,
+) -> Ended<K, L>
+    ensures status { result.status ≡ called.status }
+    ensures keeper { result.keeper ≡ called.lent.keeper }
+    ensures listeners { result.listeners ≡ called.lent.listeners }
+    ensures journal { past result.journal ≡ [] }
+    ensures side { IsSide gathered_of called.run result.side }
+{
+    let Called { status, lent, run } = called;
+    aside(alloc, status, lent, gathered(run))
+}
+
+/// What is handed back of a run with bulk changes.
+fn with_bulked<K: Keeper, L: Listener>(alloc: Global, called: Called<BulkRun, K, L>) -> Ended<K, L>
+    ensures status { result.status ≡ called.status }
+    ensures keeper { result.keeper ≡ called.lent.keeper }
+    ensures listeners { result.listeners ≡ called.lent.listeners }
+    ensures journal { past result.journal ≡ [] }
+    ensures side { IsSide bulked_of called.run result.side }
+{
+    let Called { status, lent, run } = called;
+    aside(alloc, status, lent, bulked(run))
 }
 
 /// How a run is told, by whether its journal is asked for.
@@ -246,7 +298,20 @@ fn serve_alone<S: Source, W: Sink, K: Keeper, L: Listener>(
                     requires { AreSet input.script input.defs }
                 { collect_script(alloc, input, lent) },
             );
-            with_side(alloc, called)
+            with_gathered(alloc, called)
+        }
+        Command::Bulk => {
+            let called = call(
+                alloc,
+                &Bulk,
+                script,
+                out,
+                lent,
+                |input, lent|
+                    requires { AreLinesSet input.script input.bulks.lines }
+                { bulk_script(alloc, input, lent) },
+            );
+            with_bulked(alloc, called)
         }
     }
 }
@@ -324,7 +389,9 @@ fn serve<R: Threads + Wait + Sync, S: Source, W: Sink, K: Keeper, G: Gate, L: Li
 /// a script from the source, runs it over the keeper by its schedule and writes the report of its journal to the sink. `make` makes
 /// the script of a number, and runs it and writes that number and the summary; or it writes the script. `audit` reads a script and a
 /// journal after it, and says whether the journal is legal. `collect` reads a script and collections after it, runs the script by its
-/// schedule and writes the journal with the entries at collections, which `side` has. If the words have no form, nothing is read.
+/// schedule and writes the journal with the entries at collections, which `side` has. `bulk` reads a script, and bulk changes and their
+/// schedule after it, runs the script with them and writes the journal of both, which `side` has. If the words have no form, nothing
+/// is read.
 ///
 /// Whatever the status, the journal of a run is legal for the script, from the keeper's tables as they were handed in and the
 /// script's rows beside them; its k-th entry has tick k, and the keeper's tables are those that its commits gave. It obeys the law;

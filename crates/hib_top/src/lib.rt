@@ -3,6 +3,7 @@
 #![tactic(auto)]
 
 mod audit;
+mod bulk;
 mod call;
 mod collect;
 mod make;
@@ -15,6 +16,7 @@ mod unrun;
 mod work;
 
 pub use audit::Judged;
+pub use bulk::{BulkRun, Bulking};
 pub use call::{Ended, Side, play_words, top};
 pub use collect::{Collected, Gathering};
 pub use telling::{Played, Telling};

@@ -10,7 +10,7 @@ use Rattle.hib_words.specs.Given.{Text, Form, Given, is_given, options_in, value
 use Rattle.hib_words.specs.declared.forms.OptionName.{OptionName}
 use Rattle.hib_words.specs.declared.forms.OptionName.TheVariants as name
 use Rattle.hib_words.specs.declared.forms.Verb.{Verb}
-use Rattle.hib_words.specs.declared.forms.Verb.TheVariants.{Play, Work, Make, Audit, Collect}
+use Rattle.hib_words.specs.declared.forms.Verb.TheVariants.{Play, Work, Make, Audit, Collect, Bulk}
 use Rattle.hib_words.specs.declared.words.Command.{Command}
 use Rattle.hib_words.specs.declared.words.Command.TheVariants as variant
 use Rattle.hib_words.specs.declared.words.Options.{Options}
@@ -24,6 +24,7 @@ verb_word Work = codes "work"
 verb_word Make = codes "make"
 verb_word Audit = codes "audit"
 verb_word Collect = codes "collect"
+verb_word Bulk = codes "bulk"
 
 abbrev pub word_of : OptionName → Text
 word_of name.Journal = codes "journal"
@@ -46,6 +47,7 @@ options_of Work = name.Workers ∷ name.Split ∷ name.Journal ∷ name.File ∷
 options_of Make = name.Seed ∷ name.Text ∷ []
 options_of Audit = []
 options_of Collect = []
+options_of Bulk = []
 
 abbrev pub form_of : Verb → Form
 form_of verb = map (λ o. (word_of o, is_valued o)) (options_of verb)
@@ -58,6 +60,7 @@ verb_named word =
     else if bytes_eq word (verb_word Make) then Some Make
     else if bytes_eq word (verb_word Audit) then Some Audit
     else if bytes_eq word (verb_word Collect) then Some Collect
+    else if bytes_eq word (verb_word Bulk) then Some Bulk
     else None
 
 -- ---- values
@@ -114,6 +117,7 @@ pub data Asked : Type 0 where
   make : ℕ → Bool → Asked
   audit : Asked
   collect : Asked
+  bulk : Asked
 
 -- none if the file's path is no value
 abbrev pub settings_in : Chosen → Option Settings
@@ -128,6 +132,7 @@ asked Work chosen = option_and_then (λ n. option_map (work n chosen.split) (set
 asked Make chosen = option_map (λ n. make n chosen.text) (option_and_then (number_between 0 4294967295) chosen.seed)
 asked Audit chosen = Some audit
 asked Collect chosen = Some collect
+asked Bulk chosen = Some bulk
 
 -- the command that words are, without the program's name; none if they have no form
 abbrev pub command : List Text → Option Asked
@@ -146,3 +151,4 @@ asked_of (variant.Work workers split options) = work workers split (settings_of 
 asked_of (variant.Make seed text) = make seed text
 asked_of variant.Audit = audit
 asked_of variant.Collect = collect
+asked_of variant.Bulk = bulk

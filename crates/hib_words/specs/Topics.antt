@@ -2,7 +2,7 @@
 use Rattle.std.specs.Prelude.{Bool, false, List, [], ◌∷◌, Option, Some, None, if◌then◌else◌, codes}
 use Rattle.std.specs.Str.{bytes_eq}
 use Rattle.hib_words.specs.Given.{Text}
-use Rattle.hib_words.specs.Commands.{Asked, play, work, make, audit, collect}
+use Rattle.hib_words.specs.Commands.{Asked, play, work, make, audit, collect, bulk}
 use Rattle.hib_words.specs.declared.topics.Topic.{Topic}
 
 abbrev pub topic_named : Text → Option Topic
@@ -23,6 +23,7 @@ file_of (work n p s) = s.file
 file_of (make n t) = None
 file_of audit = None
 file_of collect = None
+file_of bulk = None
 
 -- its steps are told on standard error
 abbrev pub is_traced : Asked → Bool
@@ -31,3 +32,4 @@ is_traced (work n p s) = s.trace
 is_traced (make n t) = false
 is_traced audit = false
 is_traced collect = false
+is_traced bulk = false

@@ -20,6 +20,8 @@ pub enum Verb {
     Audit,
     /// Runs a script with collections by its schedule.
     Collect,
+    /// Runs a script with bulk changes.
+    Bulk,
 }
 
 /// An option, which each command that has it takes at most once.
@@ -64,6 +66,7 @@ impl Verb {
             Verb::Make => "make",
             Verb::Audit => "audit",
             Verb::Collect => "collect",
+            Verb::Bulk => "bulk",
         }
     }
 
@@ -75,7 +78,7 @@ impl Verb {
             Verb::Play => &PLAY_OPTIONS,
             Verb::Work => &WORK_OPTIONS,
             Verb::Make => &MAKE_OPTIONS,
-            Verb::Audit | Verb::Collect => &[],
+            Verb::Audit | Verb::Collect | Verb::Bulk => &[],
         }
     }
 }
@@ -90,6 +93,7 @@ pub fn verb_named(word: &str) -> Option<Verb>
         "make" => Some(Verb::Make),
         "audit" => Some(Verb::Audit),
         "collect" => Some(Verb::Collect),
+        "bulk" => Some(Verb::Bulk),
         _ => None,
     }
 }

@@ -29,6 +29,9 @@ A journal may be kept, and judged later, behind its script and a line 'journal':
 Collections are declared after a line 'collections', behind the script:
   hib collect < examples/sections/moved.hib
 
+Bulk changes and their schedule stand after a line 'bulk', behind the script:
+  hib bulk < examples/sections/sale.hib
+
 The words --help and --version stand alone: beside another word they are no command.
 
 Exit status, which a line on standard error explains if it isn't 0:
@@ -55,7 +58,7 @@ Why a line of a script is refused, at status 3:
   many-columns   it is one more column than an entity may have
   entity-taken   an entity of this name was declared before
   column-taken   the entity has a column of this name
-  strategy       it names none of the four strategies
+  strategy       it names none of the four; before bulk changes, read-only or nonstrict
   capacity       the capacity is out of its range
   column-type    it names none of the four types
   ref-unknown    the entity that it refers to isn't declared yet
@@ -72,9 +75,10 @@ Why a line of a script is refused, at status 3:
   last           it ends a session whose last statement is no commit and no rollback
   no-end         the input ends inside a session or a schedule
   journal        no line 'journal' follows the script, or this one is no entry's
-  section        no line 'collections' follows the script
-  order          it is an order other than 'run', of a script with a section
+  section        no line 'collections' or 'bulk' follows the script
+  order          an order other than 'run' before collections, or a schedule before bulk changes
   plain          the rows of the entity have no versions
+  cached         it keeps the results of a query, before bulk changes
 
 docs/SCRIPT.md tells what a script may say, docs/JOURNAL.md what a report says, docs/CLAIMS.md what is proved.
 ";
@@ -88,6 +92,7 @@ impl Verb {
             Verb::Make => "hib make",
             Verb::Audit => "hib audit",
             Verb::Collect => "hib collect",
+            Verb::Bulk => "hib bulk",
         }
     }
 
@@ -99,6 +104,7 @@ impl Verb {
             Verb::Make => "Makes a script from a number, runs it and sums it up",
             Verb::Audit => "Says whether a journal is legal for a script",
             Verb::Collect => "Runs a script with collections, and writes its journal",
+            Verb::Bulk => "Runs a script with bulk changes, and writes its journal",
         }
     }
 }
@@ -110,12 +116,13 @@ impl OptionName {
     }
 }
 
-const VERBS: [Verb; 5] = [
+const VERBS: [Verb; 6] = [
     Verb::Play,
     Verb::Work,
     Verb::Make,
     Verb::Audit,
     Verb::Collect,
+    Verb::Bulk,
 ];
 
 /// A command with its options, as the help shows them.

@@ -38,6 +38,8 @@ pub enum Command {
     Audit,
     /// A script is run with collections.
     Collect,
+    /// A script is run with bulk changes.
+    Bulk,
 }
 
 /// The options of both `play` and `work`.
@@ -208,6 +210,7 @@ fn command_from(alloc: Global, verb: Verb, found: &Found<'_>) -> Result<Option<C
         Verb::Make => Ok(make(found)),
         Verb::Audit => Ok(Some(Command::Audit)),
         Verb::Collect => Ok(Some(Command::Collect)),
+        Verb::Bulk => Ok(Some(Command::Bulk)),
     }
 }
 
