@@ -3,6 +3,7 @@ ghost use Rattle.std.specs.Prelude.{◌≡◌, ◌≢◌, ◌↔◌, cond, false
 ghost use Rattle.std.specs.Option.{option_map_or};
 ghost use Rattle.hib_outside.specs.Causes.{Rose};
 ghost use Rattle.hib_top.specs.Words.{asked_in};
+ghost use Rattle.hib_shell.specs.Called.{IsTopCall};
 ghost use Rattle.hib_words.specs.Commands.{asked_of};
 ghost use Rattle.hib_words.specs.Topics.{is_traced};
 
@@ -56,8 +57,9 @@ pub fn listeners_asked(
     Ok(listeners)
 }
 
-/// Calls the top call with the words, over this keeper: the script comes by standard input, the text goes to standard output.
-#[tactic(auto, using(hib_top::proofs::Calls::none_tables, hib_top::proofs::Calls::store_if))]
+/// Calls the top call with the words, over this keeper: the script comes by standard input, the text goes to standard output. It ends
+/// as the top call does, and leaves the keeper as that does.
+#[tactic(auto, using(hib_top::proofs::Calls::none_tables, hib_top::proofs::Calls::store_if, crate::proofs::Came::idle_call))]
 pub fn call<R: Threads + Wait + Sync, K: Keeper>(
     rt: &R,
     host: &HostRuntime,
@@ -65,6 +67,10 @@ pub fn call<R: Threads + Wait + Sync, K: Keeper>(
     command: &Option<Command>,
     keeper: K,
 ) -> (Status, K)
+    ensures came { IsTopCall (asked_in words.now)
+        (record { tables = K.tables keeper; faults = K.faults keeper; asked = K.asked keeper })
+        (record { tables = K.tables result.1; faults = K.faults result.1; asked = K.asked result.1 })
+        result.0 }
     ensures usage { result.0 ≢ Status.NoMemory
         → ((result.0 ≡ Status.Usage) ↔ (asked_in words.now ≡ None)) }
     ensures idle { asked_in words.now ≡ None → K.tables result.1 ≡ K.tables keeper }
