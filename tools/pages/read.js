@@ -82,6 +82,9 @@ function readRow(words, entities) {
   return [keyOf(entity, id), rowOf(entities.get(entity).versioned ? cells : [NO_VERSION, ...cells])];
 }
 
+// The words with which a section begins behind the script of another command.
+const SECTIONS = ['collections', 'bulk'];
+
 // What each first word of a line says; sessions and the schedule have lines of their own, which the page doesn't need.
 const LINES = {
   hib() {},
@@ -108,6 +111,7 @@ function readScript(text) {
     const words = tokensOf(line), [word] = words;
     if (!words.length || line.trimStart()[0] === '#') return;
     if (inside) { inside = word !== 'end'; return; }
+    if (SECTIONS.includes(line)) throw new Error(`the script has a section \`${line}\`, and the page doesn't draw the journals of its command`);
     try {
       LINES[word](script, words);
     } catch (fault) {
