@@ -33,7 +33,7 @@ int posix_memalign(void **p, size_t a, size_t n) { static int (*f)(void **, size
 void *aligned_alloc(size_t a, size_t n) { static void *(*f)(size_t, size_t); if (!f) f = dlsym(RTLD_NEXT, "aligned_alloc"); return fails() ? 0 : f(a, n); }
 """
 NEVER = 1 << 60
-WAYS = [["play"], ["play", "--trace"], ["play", "--journal"], ["work", "--workers", "1"], ["work", "--workers", "2", "--journal"], ["play", "--file"], ["audit"]]
+WAYS = [["play"], ["play", "--trace"], ["play", "--journal"], ["work", "--workers", "1"], ["work", "--workers", "2", "--journal"], ["play", "--file"], ["audit"], ["collect"]]
 
 
 class Room:
@@ -106,7 +106,7 @@ def all_fail():
         for words in WAYS:
             for then_all in (False, True):
                 runs = refused = 0
-                for name, script in world.WORKED:
+                for name, script in list(world.examples_of(words[0])) or world.WORKED:
                     total, without = sweep(room, words, name, script, then_all)
                     runs, refused = runs + total, refused + without
                 how = "and all after it" if then_all else "alone"

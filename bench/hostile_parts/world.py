@@ -38,6 +38,18 @@ RESULTS = text([
     *session("s", "list low", "commit"), *session("u", "list low", "commit"), *session("w", "list low", "commit"), "schedule", "run t1 3", "run t2 3",
     "run t1 1", "run t2 1", "run t1 6", "run s 6", "run t2 3", "run u 5", "run t2 3", "run w 7", "end"])
 WORKED = [("an insert", INSERT), ("two writers", WRITERS), ("kept results", RESULTS)]
+COMMANDS = {b"collections": "collect"}
+
+
+def examples_of(command):
+    """The examples whose section this command reads: the name and the text of each."""
+    folder = f"{TOP}/examples/sections"
+    for name in sorted(os.listdir(folder)):
+        if name.endswith(".hib"):
+            with open(f"{folder}/{name}", "rb") as it:
+                script = it.read()
+            if command in [COMMANDS.get(line) for line in script.splitlines()]:
+                yield name, script
 
 
 class Came:
