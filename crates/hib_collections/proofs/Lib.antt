@@ -7,6 +7,7 @@ pub mod Opened
 pub mod Regions
 pub mod Served
 pub mod Playing
+pub mod Going
 pub mod Begun
 pub mod Turned
 pub mod Left

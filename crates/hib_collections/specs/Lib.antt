@@ -7,5 +7,6 @@ pub mod Run
 pub mod Played
 pub mod Obeyed
 pub mod Gather
+pub mod Calls
 pub mod Text
 pub mod Counted

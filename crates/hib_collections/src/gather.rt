@@ -1,5 +1,5 @@
 // A run with collections: sessions over engines and over the regions of collections, the journal of their steps, and the listeners.
-ghost use Rattle.std.specs.Prelude.{◌≡◌, ◌<◌, ◌≤◌, ◌^◌, ℕ, [], ◌∷◌, length, slice_get, Some, is_ok, OnOk, OnErr, IfOk, IfErr, Ok, true, false};
+ghost use Rattle.std.specs.Prelude.{◌≡◌, ◌<◌, ◌≤◌, ◌^◌, ℕ, [], ◌∷◌, length, slice_get, Some, is_ok, OnErr, IfOk, IfErr, Ok, true, false};
 ghost use Rattle.hib_journal.specs.Runs.{told_committed, fault_count};
 ghost use Rattle.hib_outside.specs.Causes.{Rose};
 ghost use Rattle.hib_store.specs.Stores.{handed_back, is_store_fault};
@@ -11,10 +11,11 @@ ghost use Rattle.hib_listeners.specs.Heard.{HaveHeard};
 ghost use Rattle.hib_collections_law.specs.declared.entries.GatherEntry.{GatherEntry};
 ghost use Rattle.hib_collections_law.specs.Gathered.{plain};
 ghost use Rattle.hib_collections.specs.Kept.{past};
-ghost use Rattle.hib_collections.specs.Run.{AreSet, IsAskedOnceMore, ask_count, says_fault};
+ghost use Rattle.hib_collections.specs.Run.{AreSet, ask_count, says_fault};
+ghost use Rattle.hib_collections.specs.Calls.{HasRun};
 ghost use Rattle.hib_collections.specs.Obeyed.{Obeys};
 ghost use Rattle.hib_collections.specs.Gather.{Hears, HasStepped, IsOver, heard_in};
-ghost use Rattle.hib_collections.specs.Played.{GoesOn, has_next};
+ghost use Rattle.hib_collections.specs.Played.{has_next};
 
 use crate::gathered::Gathered;
 use crate::names::Name;
@@ -120,11 +121,10 @@ impl<K: Keeper, N: Name, L: Listener> Gather<K, N, L> {
             (past self.old.journal) (past self.new.journal) }
         ensures done { result ≡ Ok Stepped.Done → IsOver N.script N.defs number
             (past self.old.journal) (past self.new.journal) }
-        ensures law { Obeys N.script N.defs N.from.tables (past self.new.journal) }
+        ensures ran { HasRun N.script N.defs N.from result self.old self.new }
         ensures fault { (x : GatherEntry) → past self.new.journal ≡ x ∷ past self.old.journal
             → says_fault x ≡ true
             → Rose self.old.engines.store.faults self.new.engines.store.faults }
-        ensures going { OnOk result (self.new.refused ≡ self.old.refused) }
         ensures hears { Hears (plain N.script (past self.old.journal))
             (plain N.script (past self.new.journal)) (is_ok result) self.old.told self.new.told }
         ensures same { OnErr result (self.new.deaf ≡ self.old.deaf
@@ -134,10 +134,6 @@ impl<K: Keeper, N: Name, L: Listener> Gather<K, N, L> {
         ensures unheard { OnErr result (self.old.deaf ≡ false → self.new.deaf ≡ true
             → HasStepped N.script N.defs number (past self.old.journal) (past self.new.journal)) }
         ensures deaf { self.old.deaf ≡ true → self.new ≡ self.old }
-        ensures stands { OnErr result (GoesOn (past self.old.journal) (past self.new.journal)) }
-        ensures asked { OnErr result (self.old.refused ≡ false
-            → IsAskedOnceMore N.script N.from (past self.new.journal) self.new.engines) }
-        ensures refused { OnErr result (self.new.refused ≡ true) }
     {
         telling_goes_on();
         if self.deaf {

@@ -1,11 +1,10 @@
 // A run with collections plays its schedule, and its sessions run to their ends.
-ghost use Rattle.std.specs.Prelude.{◌≡◌, ◌<◌, ◌==◌, ℕ, [], length, OnOk, OnErr, true, false};
+ghost use Rattle.std.specs.Prelude.{◌≡◌, ◌<◌, ◌==◌, ℕ, [], length, OnOk, true, false};
 ghost use Rattle.std.specs.List.{range_with_len};
 ghost use Rattle.hib_base.specs.declared.scripts.Order.{Order};
 ghost use Rattle.hib_collections.specs.Kept.{past};
-ghost use Rattle.hib_collections.specs.Obeyed.{Obeys};
-ghost use Rattle.hib_collections.specs.Run.{IsAskedOnceMore};
-ghost use Rattle.hib_collections.specs.Played.{played, has_next, is_played, play_all, play_order, play_orders, play_script, play_sessions, play_steps, AreOver, GoesOn, Leads};
+ghost use Rattle.hib_collections.specs.Calls.{HasRun};
+ghost use Rattle.hib_collections.specs.Played.{played, has_next, is_played, play_all, play_order, play_orders, play_script, play_sessions, play_steps, AreOver, Leads};
 
 use crate::gather::Gather;
 use crate::names::Name;
@@ -20,12 +19,7 @@ impl<K: Keeper, N: Name, L: Listener> Gather<K, N, L> {
     fn run_steps(&mut self, alloc: Global, number: SessionNo, steps: u32) -> Result<(), AllocError>
         ensures played { OnOk result (Leads (play_steps N.script N.defs number steps) played
             (past self.old.journal) (past self.new.journal)) }
-        ensures law { Obeys N.script N.defs N.from.tables (past self.new.journal) }
-        ensures going { OnOk result (self.new.refused ≡ self.old.refused) }
-        ensures stands { OnErr result (GoesOn (past self.old.journal) (past self.new.journal)) }
-        ensures asked { OnErr result (self.old.refused ≡ false
-            → IsAskedOnceMore N.script N.from (past self.new.journal) self.new.engines) }
-        ensures refused { OnErr result (self.new.refused ≡ true) }
+        ensures ran { HasRun N.script N.defs N.from result self.old self.new }
     {
         if number.0 as usize >= self.sessions() {
             self.lawful();
@@ -51,12 +45,7 @@ impl<K: Keeper, N: Name, L: Listener> Gather<K, N, L> {
         ensures stay { OnOk result ((s : ℕ) → (number == s) ≡ false
             → has_next N.script N.defs (past self.new.journal) s
             ≡ has_next N.script N.defs (past self.old.journal) s) }
-        ensures law { Obeys N.script N.defs N.from.tables (past self.new.journal) }
-        ensures going { OnOk result (self.new.refused ≡ self.old.refused) }
-        ensures stands { OnErr result (GoesOn (past self.old.journal) (past self.new.journal)) }
-        ensures asked { OnErr result (self.old.refused ≡ false
-            → IsAskedOnceMore N.script N.from (past self.new.journal) self.new.engines) }
-        ensures refused { OnErr result (self.new.refused ≡ true) }
+        ensures ran { HasRun N.script N.defs N.from result self.old self.new }
     {
         'steps: loop {
             self.short();
@@ -73,12 +62,7 @@ impl<K: Keeper, N: Name, L: Listener> Gather<K, N, L> {
             (Leads (play_sessions N.script N.defs (range_with_len 0 (length N.script.sessions)))
             played (past self.old.journal) (past self.new.journal)) }
         ensures over { OnOk result (AreOver N.script N.defs (past self.new.journal)) }
-        ensures law { Obeys N.script N.defs N.from.tables (past self.new.journal) }
-        ensures going { OnOk result (self.new.refused ≡ self.old.refused) }
-        ensures stands { OnErr result (GoesOn (past self.old.journal) (past self.new.journal)) }
-        ensures asked { OnErr result (self.old.refused ≡ false
-            → IsAskedOnceMore N.script N.from (past self.new.journal) self.new.engines) }
-        ensures refused { OnErr result (self.new.refused ≡ true) }
+        ensures ran { HasRun N.script N.defs N.from result self.old self.new }
     {
         for number in 0..self.sessions() {
             self.run_session(alloc, SessionNo(number as u32))?;
@@ -91,12 +75,7 @@ impl<K: Keeper, N: Name, L: Listener> Gather<K, N, L> {
     fn obey(&mut self, alloc: Global, order: Order) -> Result<(), AllocError>
         ensures played { OnOk result (Leads (play_order N.script N.defs order) played
             (past self.old.journal) (past self.new.journal)) }
-        ensures law { Obeys N.script N.defs N.from.tables (past self.new.journal) }
-        ensures going { OnOk result (self.new.refused ≡ self.old.refused) }
-        ensures stands { OnErr result (GoesOn (past self.old.journal) (past self.new.journal)) }
-        ensures asked { OnErr result (self.old.refused ≡ false
-            → IsAskedOnceMore N.script N.from (past self.new.journal) self.new.engines) }
-        ensures refused { OnErr result (self.new.refused ≡ true) }
+        ensures ran { HasRun N.script N.defs N.from result self.old self.new }
     {
         let Order::Run { session, steps } = order else {
             self.lawful();
@@ -109,17 +88,13 @@ impl<K: Keeper, N: Name, L: Listener> Gather<K, N, L> {
     fn follow_schedule(&mut self, alloc: Global) -> Result<(), AllocError>
         ensures played { OnOk result (Leads (play_orders N.script N.defs N.script.schedule) played
             (past self.old.journal) (past self.new.journal)) }
-        ensures law { OnErr result (Obeys N.script N.defs N.from.tables (past self.new.journal)) }
-        ensures going { OnOk result (self.new.refused ≡ self.old.refused) }
-        ensures stands { OnErr result (GoesOn (past self.old.journal) (past self.new.journal)) }
-        ensures asked { OnErr result (self.old.refused ≡ false
-            → IsAskedOnceMore N.script N.from (past self.new.journal) self.new.engines) }
-        ensures refused { OnErr result (self.new.refused ≡ true) }
+        ensures ran { HasRun N.script N.defs N.from result self.old self.new }
     {
         for at in 0..self.orders() {
             let order = self.order(at);
             self.obey(alloc, order)?;
         }
+        self.lawful();
         Ok(())
     }
 
@@ -131,12 +106,7 @@ impl<K: Keeper, N: Name, L: Listener> Gather<K, N, L> {
         ensures leads { OnOk result (Leads (play_script N.script N.defs) played
             (past self.old.journal) (past self.new.journal)) }
         ensures over { OnOk result (AreOver N.script N.defs (past self.new.journal)) }
-        ensures law { Obeys N.script N.defs N.from.tables (past self.new.journal) }
-        ensures going { OnOk result (self.new.refused ≡ self.old.refused) }
-        ensures stands { OnErr result (GoesOn (past self.old.journal) (past self.new.journal)) }
-        ensures asked { OnErr result (self.old.refused ≡ false
-            → IsAskedOnceMore N.script N.from (past self.new.journal) self.new.engines) }
-        ensures refused { OnErr result (self.new.refused ≡ true) }
+        ensures ran { HasRun N.script N.defs N.from result self.old self.new }
     {
         self.follow_schedule(alloc)?;
         self.finish(alloc)

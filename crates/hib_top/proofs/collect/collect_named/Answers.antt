@@ -30,7 +30,7 @@ returns g c =
     let run : Collected = record { script = c.close-keeper.result.1; defs = c.close-keeper.result.2; journal = c.close-keeper.result.3 } in
     told_by c.args.input script defs g.N.Name.from g.N.Name.told _ _ _ c.requires.script c.requires.defs c.requires.from c.requires.told
     (elim c.match-finished.branch [
-      | in-Ok-finished w ↦ (let going : c.play-finished.new.self.refused ≡ false = w.in-Ok-finished.ensures.going ∙ c.in-Ok.ensures.going in
+      | in-Ok-finished w ↦ (let going : c.play-finished.new.self.refused ≡ false = w.in-Ok-finished.ensures.ran.going ∙ c.in-Ok.ensures.going in
           over _ _ _ run _ w.outcome-is
           record {
             collected = record {
@@ -52,7 +52,7 @@ returns g c =
             obeys = obeys;
             rows = rows;
             faults = c.close-keeper.ensures.faults;
-            asked = once_more (λ (k : Kept). ask_count script (past k)) _ _ _ _ _ c.close-keeper.ensures.count c.close-keeper.ensures.journal (w.in-Err-finished.ensures.asked c.in-Ok.ensures.going);
+            asked = once_more (λ (k : Kept). ask_count script (past k)) _ _ _ _ _ c.close-keeper.ensures.count c.close-keeper.ensures.journal (w.in-Err-finished.ensures.ran.asked c.in-Ok.ensures.going);
             listeners = heard_either _ _ _ _ c.close-keeper.ensures.heard;
           }
     ])

@@ -1,9 +1,9 @@
 use Rattle.std.proofs.Common.{◌<◌, ◌≤◌, length, ℕ, ◌∙◌, ◌-◌, subst}
 use Rattle.std.specs.List.{range_with_len}
-use Rattle.hib_engines.proofs.Outcomes.{err_all}
 use Rattle.hib_collections.specs.Kept.{past}
 use Rattle.hib_collections.specs.Played.{Play, play_sessions}
-use Rattle.hib_collections.proofs.Playing.{goes_by, goes_then, over_more, sessions_done, sessions_more}
+use Rattle.hib_collections.proofs.Going.{runs_then}
+use Rattle.hib_collections.proofs.Playing.{goes_by, over_more, sessions_done, sessions_more}
 use Rattle.hib_collections.proofs.gather.Gather.finish.Goals as goal
 
 pub loop-number-preserved : goal.loop-number-preserved
@@ -16,7 +16,7 @@ loop-number-preserved g c =
       played = sessions_more script defs n (length script.sessions) all (past c.args.self.now.journal) (past c.loop-number.self.journal) (past c.run_session.new.self.journal)
           (subst (λ (m : ℕ). n < m) c.sessions-number-end.ensures.count c.loop-number-test.true) c.loop-number.invariant.played c.in_ok-run_session.ensures.played;
       over = over_more script defs n (past c.loop-number.self.journal) (past c.run_session.new.self.journal) c.loop-number.invariant.over c.in_ok-run_session.ensures.over c.in_ok-run_session.ensures.stay;
-      going = c.in_ok-run_session.ensures.going ∙ c.loop-number.invariant.going;
+      going = c.in_ok-run_session.ensures.ran.going ∙ c.loop-number.invariant.going;
     }
 
 pub returns-clause-played : goal.returns-clause-played
@@ -26,13 +26,10 @@ returns-clause-played g c =
     sessions_done script g.N.Name.defs c.loop-number.number (length script.sessions) all (past c.args.self.now.journal) (past c.loop-number.self.journal)
     (subst (λ (m : ℕ). m ≤ c.loop-number.number) c.sessions-number-end.ensures.count c.loop-number-test.false) c.loop-number.invariant.played
 
-pub returns-in_err-run_session-clause-stands : goal.returns-in_err-run_session-clause-stands
-returns-in_err-run_session-clause-stands g c =
+pub returns-in_err-run_session-clause-ran : goal.returns-in_err-run_session-clause-ran
+returns-in_err-run_session-clause-ran g c =
     let script = g.N.Name.script in
     let all : Play = play_sessions script g.N.Name.defs (range_with_len 0 (length script.sessions)) in
     let left : Play = play_sessions script g.N.Name.defs (range_with_len c.loop-number.number (length script.sessions - c.loop-number.number)) in
-    err_all c.from_residual.result _ (goes_then (past c.args.self.now.journal) (past c.loop-number.self.journal) (past c.run_session.new.self.journal)
-    (goes_by all left (past c.args.self.now.journal) (past c.loop-number.self.journal) c.loop-number.invariant.played) c.in_err-run_session.ensures.stands)
-
-pub returns-in_err-run_session-clause-asked : goal.returns-in_err-run_session-clause-asked
-returns-in_err-run_session-clause-asked g c = err_all c.from_residual.result _ (λ p. c.in_err-run_session.ensures.asked (c.loop-number.invariant.going ∙ p))
+    runs_then script g.N.Name.defs g.N.Name.from c.from_residual.result _ c.args.self.now c.loop-number.self c.run_session.new.self c.from_residual.ensures.0
+    (goes_by all left (past c.args.self.now.journal) (past c.loop-number.self.journal) c.loop-number.invariant.played) c.loop-number.invariant.going c.in_err-run_session.ensures.ran

@@ -1,8 +1,8 @@
 use Rattle.std.proofs.Common.{length, Ok, ap, arith, ◌∙◌}
-use Rattle.hib_engines.proofs.Outcomes.{err_all}
 use Rattle.hib_collections.specs.Kept.{past}
 use Rattle.hib_collections.specs.Played.{play_all}
-use Rattle.hib_collections.proofs.Playing.{all_more, all_over, goes_by, goes_then, stay_more}
+use Rattle.hib_collections.proofs.Going.{runs_then}
+use Rattle.hib_collections.proofs.Playing.{all_more, all_over, goes_by, stay_more}
 use Rattle.hib_collections.proofs.gather.Gather.run_session.Goals as goal
 
 pub steps-preserved : goal.steps-preserved
@@ -13,7 +13,7 @@ steps-preserved g c =
           c.steps.invariant.played did.grown did.due did.by;
       stay = stay_more g.N.Name.script g.N.Name.defs c.args.number (past c.args.self.now.journal) (past c.steps.self.journal) (past c.step.new.self.journal) did.entry did.grown did.by
           c.steps.invariant.stay;
-      going = c.in_ok-step.ensures.going ∙ c.steps.invariant.going;
+      going = c.in_ok-step.ensures.ran.going ∙ c.steps.invariant.going;
     }
 
 pub steps-smaller : goal.steps-smaller
@@ -28,10 +28,8 @@ returns-in-Done-clause-played g c =
     let over = c.step.ensures.done (c.in_ok-step.was ∙ ap (λ z. Ok z) c.in-Done.is) in
     all_over g.N.Name.script g.N.Name.defs c.args.number (past c.args.self.now.journal) (past c.steps.self.journal) (past c.step.new.self.journal) c.steps.invariant.played over.same over.over
 
-pub returns-in_err-step-clause-stands : goal.returns-in_err-step-clause-stands
-returns-in_err-step-clause-stands g c = err_all c.from_residual.result _ (goes_then (past c.args.self.now.journal) (past c.steps.self.journal) (past c.step.new.self.journal)
+pub returns-in_err-step-clause-ran : goal.returns-in_err-step-clause-ran
+returns-in_err-step-clause-ran g c =
+    runs_then g.N.Name.script g.N.Name.defs g.N.Name.from c.from_residual.result _ c.args.self.now c.steps.self c.step.new.self c.from_residual.ensures.0
     (goes_by (play_all g.N.Name.script g.N.Name.defs c.args.number) (play_all g.N.Name.script g.N.Name.defs c.args.number) (past c.args.self.now.journal) (past c.steps.self.journal) c.steps.invariant.played)
-    c.in_err-step.ensures.stands)
-
-pub returns-in_err-step-clause-asked : goal.returns-in_err-step-clause-asked
-returns-in_err-step-clause-asked g c = err_all c.from_residual.result _ (λ p. c.in_err-step.ensures.asked (c.steps.invariant.going ∙ p))
+    c.steps.invariant.going c.in_err-step.ensures.ran

@@ -1,4 +1,4 @@
-use Rattle.std.proofs.Common.{◌≡◌, true, false, is_ok, refl, sym, ap, subst, ◌∙◌}
+use Rattle.std.proofs.Common.{◌≡◌, ◌||◌, true, false, not, is_ok, refl, sym, ap, subst, ◌∙◌}
 use Rattle.hib_engines.proofs.Outcomes.{err_all}
 use Rattle.hib_listeners.specs.Told.{tells}
 use Rattle.hib_listeners.specs.Heard.{HaveHeard}
@@ -6,6 +6,7 @@ use Rattle.hib_collections_law.specs.Gathered.{plain}
 use Rattle.hib_collections.specs.Gather.{GatherState, HasStepped, Hears, heard_in}
 use Rattle.hib_collections.specs.Kept.{past}
 use Rattle.hib_collections.specs.Run.{IsAskedOnceMore}
+use Rattle.hib_collections.proofs.Going.{or_true, stopped}
 use Rattle.hib_collections.proofs.Hearing.{first_off, further, goes_one, heard_none, heard_so, heard_turn, hears_same, hears_turn, moved, moved_at, none_ok, once_more, rested, stepped}
 use Rattle.hib_collections.proofs.gather.Gather.step.Goals as goal
 
@@ -95,24 +96,23 @@ returns-in_err-tell-clause-unheard g c =
     λ _ _. stepped g.N.Name.script g.N.Name.defs c.args.number old new c.args.self.now.engines y c.in_ok-turned.turned did in
     err_all c.from_residual-in_err-tell.result _ f
 
-pub returns-in_err-tell-clause-stands : goal.returns-in_err-tell-clause-stands
-returns-in_err-tell-clause-stands g c =
+pub returns-in_err-tell-clause-ran : goal.returns-in_err-tell-clause-ran
+returns-in_err-tell-clause-ran g c =
     let new = past c.step-stepped.new.self.journal in
     let y = c.step-stepped.new.self.engines in
     let old = past c.args.self.now.journal in
     let did = moved_at g.N.Name.script g.N.Name.defs c.args.number (past c.self.inside.core.journal) new c.self.inside.core.engines y old c.args.self.now.engines
     c.in_ok-turned.turned (ap (λ (v : GatherState). past v.journal) c.self.view_is) (ap (λ (v : GatherState). v.engines) c.self.view_is)
     (sym c.is_done.ensures ∙ c.if-is_done.false) c.in_ok-turned.ensures.does in
-    err_all c.from_residual-in_err-tell.result _ (goes_one g.N.Name.script g.N.Name.defs c.args.number old new c.args.self.now.engines y c.in_ok-turned.turned did)
-
-pub returns-in_err-tell-clause-asked : goal.returns-in_err-tell-clause-asked
-returns-in_err-tell-clause-asked g c =
-    let new = past c.step-stepped.new.self.journal in
-    let y = c.step-stepped.new.self.engines in
     let f : c.args.self.now.refused ≡ false → IsAskedOnceMore g.N.Name.script g.N.Name.from new y =
     λ e. once_more g.N.Name.script g.N.Name.from new y
     (c.in_ok-turned.ensures.within (first_off c.self.inside.core.refused c.self.inside.deaf (ap (λ (v : GatherState). v.refused) c.self.view_is ∙ e))) in
-    err_all c.from_residual-in_err-tell.result _ f
+    let next = tells g.L.Listener.heard g.L.Listener.left c.tell.new.listeners in
+    let deaf : c.tell.new.deaf ≡ true = c.tell.ensures.deaf ∙ ap (λ r. not (is_ok r)) c.in_err-tell.was in
+    stopped g.N.Name.script g.N.Name.defs g.N.Name.from c.from_residual-in_err-tell.result c.args.self.now
+    (record { journal = c.step-stepped.new.self.journal; engines = y; refused = c.step-stepped.new.self.refused || c.tell.new.deaf; told = next; deaf = c.tell.new.deaf })
+    c.from_residual-in_err-tell.ensures.0 c.lawful.ensures (goes_one g.N.Name.script g.N.Name.defs c.args.number old new c.args.self.now.engines y c.in_ok-turned.turned did) f
+    (ap (λ b. c.step-stepped.new.self.refused || b) deaf ∙ or_true c.step-stepped.new.self.refused)
 
 pub returns-clause-did : goal.returns-clause-did
 returns-clause-did g c = λ _.
