@@ -1,0 +1,5 @@
+pub mod Types
+pub mod Nodes
+pub mod Legal
+pub mod Law
+pub mod Apart

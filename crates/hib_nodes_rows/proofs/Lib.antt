@@ -1,0 +1,3 @@
+pub mod Run
+mod OldItem
+mod FencedPut
