@@ -1,12 +1,14 @@
 pub mod Outcomes
 pub mod QueryTables
 pub mod Opened
+pub mod Least
 pub mod Indexed
 pub mod Regions
 pub mod Grows
 pub mod Calm
 pub mod RegistryServed
 pub mod RegionServed
+pub mod FenceServed
 pub mod StampsServed
 pub mod ResultsServed
 pub mod Stored

@@ -82,11 +82,11 @@ none_some t p = cc
 pub same_some : (t u : ℕ) → Some t ≡ Some u → t ≡ u
 same_some t u p = cc
 
-closed : (o : Bool) (t : ℕ) → None ≡ shown o t → o ≡ false
+pub closed : (o : Bool) (t : ℕ) → None ≡ shown o t → o ≡ false
 closed true t p = absurd (none_some t p)
 closed false t p = refl
 
-opened : (o : Bool) (t u : ℕ) → Some u ≡ shown o t → (o ≡ true) × (t ≡ u)
+pub opened : (o : Bool) (t u : ℕ) → Some u ≡ shown o t → (o ≡ true) × (t ≡ u)
 opened true t u p = (refl, sym (same_some u t p))
 opened false t u p = absurd (none_some u (sym p))
 

@@ -2,6 +2,7 @@ pub mod Served
 pub mod Counts
 pub mod Registry
 pub mod Region
+pub mod Fenced
 pub mod Stamps
 pub mod Results
 pub mod Store

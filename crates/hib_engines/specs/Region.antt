@@ -4,6 +4,7 @@ use Rattle.std.specs.Option.{option_map}
 use Rattle.hib_journal.specs.Types.{Key, Row, Strategy, Script, Act, Reply, Put, Locked, Unlocked, Inserted, Updated, Evicted, Miss}
 use Rattle.hib_journal.specs.Sessions.{Journal}
 use Rattle.hib_journal.specs.Slot.{key_in}
+use Rattle.hib_journal.specs.Room.{has_entry}
 use Rattle.hib_journal.specs.Next.{strategy, capacity, is_cached_by}
 use Rattle.hib_journal.specs.Regions as Regions
 use Rattle.hib_other_regions.specs.Items.{ItemsState, item_in, oldest_in}
@@ -52,6 +53,11 @@ unlock _ id lock = Unlocked.Expired
 abbrev pub after_unlock : Region → ℕ → ℕ → ℕ → Region
 after_unlock (Region.ReadWrite x) id lock now = Region.ReadWrite (Slots.after_unlock id lock now x)
 after_unlock x id lock now = x
+
+-- whether a lock is given back without memory: no key of the region has to get a slot for it
+abbrev pub has_slot : Region → ℕ → Bool
+has_slot (Region.ReadWrite x) id = has_entry (slot_in x id)
+has_slot _ id = true
 
 abbrev pub insert : Region → ℕ → ℕ → Inserted
 insert (Region.ReadOnly x) id floor = cond (is_some (item_in x id)) Inserted.Present (Inserted.Stored (oldest_in x))

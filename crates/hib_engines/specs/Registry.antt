@@ -1,9 +1,9 @@
 -- The open sessions, and that they are those of a journal.
-use Rattle.std.specs.Prelude.{◌≡◌, ℕ, ◌≤◌, ◌<◌, Bool, false, cond, not, nat_eq, ◌==◌, List, [], ◌∷◌, ◌++◌, map, Some, None, Option}
+use Rattle.std.specs.Prelude.{◌≡◌, ℕ, ◌≤◌, ◌<◌, Bool, true, false, cond, not, nat_eq, ◌==◌, List, [], ◌∷◌, ◌++◌, map, Some, None, Option, unwrap_or}
 use Rattle.std.specs.List.{filter, list_any}
 use Rattle.std.specs.Map.{lookup}
 use Rattle.hib_journal.specs.Types.{Part, Act}
-use Rattle.hib_journal.specs.Sessions.{Journal, is_open, time, same_part, last_tick}
+use Rattle.hib_journal.specs.Sessions.{Journal, is_open, time, floor, same_part, last_tick}
 
 -- sessions with their times
 abbrev pub Opened : Type 0
@@ -13,6 +13,10 @@ Opened = List (ℕ × ℕ)
 abbrev pub floor_in : Opened → ℕ → ℕ
 floor_in [] now = now
 floor_in (p ∷ ps) now = p.1
+
+abbrev pub least_in : Opened → Option ℕ
+least_in [] = None
+least_in (p ∷ ps) = Some p.1
 
 abbrev pub without : ℕ → Opened → Opened
 without s ps = filter (λ p. not (p.0 == s)) ps
@@ -69,6 +73,13 @@ pub record IsRegistry (open_sessions : List (ℕ × ℕ)) (h : Journal) : Type 0
   pub rising : AreRising open_sessions
   pub since : Each (λ t. 1 ≤ t) open_sessions
   pub until : Each (λ t. t ≤ last_of h) open_sessions
+
+-- the least time of the open sessions, and none exactly where none is open: so it is the floor, until one begins
+pub record IsLeast (o : Option ℕ) (h : Journal) : Type 0 where
+  pub none : o ≡ None → (s : ℕ) → is_open s h ≡ false
+  pub some : (t : ℕ) → o ≡ Some t → (s : ℕ) × (is_open s h ≡ true) × (time s h ≡ t)
+  pub least : (t : ℕ) → o ≡ Some t → (s : ℕ) → is_open s h ≡ true → t ≤ time s h
+  pub floor : (now : ℕ) → last_of h < now → floor h now ≡ unwrap_or o now
 
 -- ---- how they are kept: the sessions by their times, and the times by their sessions
 

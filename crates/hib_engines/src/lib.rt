@@ -6,6 +6,7 @@
 #![tactic(auto)]
 
 mod engines;
+mod fences;
 mod joined;
 mod names;
 mod queries;
@@ -18,10 +19,11 @@ mod stepped;
 mod store;
 
 pub use engines::Engines;
+pub use fences::fence_entries;
 pub use joined::{entries_elsewhere, laws, lists_leave};
 pub use names::Name;
 pub use region::Region;
-pub use region_list::serve_region;
+pub use region_list::{fence_region, open_regions, serve_region};
 pub use registry::Registry;
 pub use results::ResultsEngine;
 pub use stamps::StampsEngine;

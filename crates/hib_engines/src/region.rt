@@ -1,19 +1,21 @@
 // The engine of a region of an entity, by its strategy.
-ghost use Rattle.std.specs.Prelude.{◌≡◌, ◌≤◌, ◌<◌, ◌^◌, ◌∷◌, ℕ, Option, Some, None, true, false, IfOk, OnOk, OnErr};
+ghost use Rattle.std.specs.Prelude.{◌≡◌, ◌≤◌, ◌<◌, ◌^◌, ◌∷◌, ℕ, Option, Some, None, true, false, IsOk, IfOk, OnOk, OnErr};
 ghost use Rattle.hib_base.specs.declared.entries.Act.{Act};
 ghost use Rattle.hib_base.specs.declared.replies.Reply.{Reply};
 ghost use Rattle.hib_base.specs.declared.scripts.Script.{Script as Said};
-ghost use Rattle.hib_journal.specs.Types.{Part};
+ghost use Rattle.hib_journal.specs.Types.{Part, Strategy};
 ghost use Rattle.hib_journal.specs.Sessions.{Journal};
 ghost use Rattle.hib_journal.specs.Next.{strategy};
 ghost use Rattle.hib_journal.specs.Lists.{entry_at, IsLate};
 ghost use Rattle.hib_journal.specs.Runs.{is_fault};
-ghost use Rattle.hib_engines.specs.Region.{answer_in, region_after, emptied, entity_in, IsPlaced, Suits};
+ghost use Rattle.hib_engines.specs.Fenced.{IsFenced};
+ghost use Rattle.hib_engines.specs.Region.{answer_in, region_after, emptied, entity_in, has_slot, IsPlaced, Suits};
 ghost use Rattle.hib_engines.specs.Served.{IsServed, reads};
 
 use crate::joined::laws;
 use hib_base::{
-    Act, Evicted, Got, Inserted, Locked, Miss, Put, Reply, Row, Strategy, Tick, Unlocked, Updated,
+    Act, Evicted, Got, Inserted, Key, Locked, Miss, Put, Reply, Row, Strategy, Tick, Unlocked,
+    Updated,
 };
 use hib_other_regions::{NonstrictRegion, ReadOnlyRegion};
 use hib_rw_region::RwRegion;
@@ -112,7 +114,7 @@ impl Region {
         }
     }
 
-    /// A lock is given back.
+    /// A lock is given back. It takes no memory if the key has a slot.
     fn unlock(&mut self, id: u64, lock: Tick, now: Tick) -> Result<Unlocked, AllocError>
         requires { now ≤ 2 ^ 62 }
         ensures answer { IfOk result (λ u. u
@@ -120,6 +122,7 @@ impl Region {
         ensures state { OnOk result (self.new
             ≡ Rattle.hib_engines.specs.Region.after_unlock self.old id lock now) }
         ensures err { OnErr result (self.new ≡ self.old) }
+        ensures there { has_slot self.old id ≡ true → IsOk result }
     {
         match self {
             Region::ReadWrite(slots) => slots.unlock(id, lock, now),
@@ -280,6 +283,7 @@ impl Region {
             _ => Ok(Reply::Done),
         }
     }
+
     /// Answers an act that is asked of the region, at this tick. At an error nothing has changed.
     pub fn serve(&mut self, alloc: Global, act: &Act, now: Tick) -> Result<Reply, AllocError>
         requires { now ≤ 2 ^ 62 }
@@ -294,5 +298,29 @@ impl Region {
     {
         laws();
         self.act_on(alloc, act, now)
+    }
+
+    /// A fence of a key: its lock is taken at this tick for no session, and given back at the next one. It takes its memory with
+    /// the lock, so that both are done or neither. At an error nothing has changed.
+    pub fn fence(
+        &mut self,
+        key: Key,
+        floor: Tick,
+        now: Tick,
+    ) -> Result<(Locked, Unlocked), AllocError>
+        requires { now < 2 ^ 62 }
+        ensures fenced { IfOk result (λ f. (script : Said) (l : Journal)
+            → IsPlaced script key.entity l self.old → IsLate (Part.Region key.entity) now l
+            → strategy script key.entity ≡ Strategy.ReadWrite
+            → IsFenced (λ m. IsPlaced script key.entity m self.new) script l now key floor f.0 f.1) }
+        ensures err { OnErr result (self.new ≡ self.old) }
+    {
+        laws();
+        let locked = self.lock(key.id, None, floor, now)?;
+        match self.unlock(key.id, locked.id, Tick(now.0 + 1)) {
+            Ok(unlocked) => Ok((locked, unlocked)),
+            // The key has its lock.
+            Err(_) => unreachable!(),
+        }
     }
 }

@@ -1,17 +1,18 @@
 // The regions of a script's entities, one for each.
-ghost use Rattle.std.specs.Prelude.{◌≡◌, ◌≤◌, ◌^◌, Some, map, true, false, IfOk, OnOk, OnErr, Option, ℕ};
+ghost use Rattle.std.specs.Prelude.{◌≡◌, ◌≤◌, ◌<◌, ◌^◌, Some, map, true, false, IfOk, OnOk, OnErr, Option, ℕ};
 ghost use Rattle.hib_base.specs.declared.scripts.Script.{Script as Said};
-ghost use Rattle.hib_journal.specs.Types.{Part};
+ghost use Rattle.hib_journal.specs.Types.{Part, Strategy};
 ghost use Rattle.hib_journal.specs.Sessions.{Journal};
 ghost use Rattle.hib_journal.specs.Next.{strategy};
 ghost use Rattle.hib_journal.specs.Lists.{IsLate};
 ghost use Rattle.hib_journal.specs.Runs.{is_fault};
+ghost use Rattle.hib_engines.specs.Fenced.{IsFenced};
 ghost use Rattle.hib_engines.specs.Region.{empty, entity_in, IsPlaced, Suits};
 ghost use Rattle.hib_engines.specs.Regions.{region_of, IsAtRegion, AreEmptied};
 ghost use Rattle.hib_engines.specs.Served.{IsServed, reads};
 
 use crate::region::Region;
-use hib_base::{Act, EntityNo, Reply, Script, Tick};
+use hib_base::{Act, EntityNo, Key, Locked, Reply, Script, Tick, Unlocked};
 use std::alloc::{AllocError, Global};
 
 /// The regions of a script's entities, which are empty. Fails for want of memory alone.
@@ -62,4 +63,30 @@ pub fn serve_region(
     }
     // No act is due on an entity that isn't cached.
     Ok(Reply::Done)
+}
+
+/// A fence of a key in the region of its entity, at this tick and the next one. One that has no region isn't fenced: that is answered
+/// as if memory ran out. At an error nothing has changed.
+pub fn fence_region(
+    regions: &mut Vec<Region>,
+    key: Key,
+    floor: Tick,
+    now: Tick,
+) -> Result<(Locked, Unlocked), AllocError>
+    requires { now < 2 ^ 62 }
+    ensures fenced { IfOk result (λ f. (script : Said) (l : Journal)
+        → IsPlaced script key.entity l (region_of regions.old.items key.entity)
+        → IsLate (Part.Region key.entity) now l
+        → strategy script key.entity ≡ Strategy.ReadWrite
+        → IsFenced (λ m. IsPlaced script key.entity m (region_of regions.new.items key.entity))
+        script l now key floor f.0 f.1) }
+    ensures others { OnOk result (IsAtRegion key.entity regions.old.items regions.new.items) }
+    ensures err { OnErr result (regions.new.items ≡ regions.old.items) }
+{
+    let entity = key.entity;
+    let at = entity.0 as usize;
+    if at < regions.len() {
+        return regions[at].fence(key, floor, now);
+    }
+    Err(AllocError)
 }

@@ -9,7 +9,7 @@ ghost use Rattle.hib_journal.specs.Held.{is_begin};
 ghost use Rattle.hib_journal.specs.Sessions.{Journal};
 ghost use Rattle.hib_journal.specs.Lists.{entry_at, IsLate};
 ghost use Rattle.hib_journal.specs.Runs.{is_fault};
-ghost use Rattle.hib_engines.specs.Registry.{Each, floor_in, without, time_of, holds, IsRegistry};
+ghost use Rattle.hib_engines.specs.Registry.{Each, floor_in, least_in, without, time_of, holds, IsRegistry, IsLeast};
 ghost use Rattle.hib_engines.specs.Served.{IsServed};
 
 use hib_base::{Act, Reply, SessionNo, Tick};
@@ -57,6 +57,23 @@ impl Registry {
             Some((oldest, _)) => Tick(*oldest),
             None => now,
         }
+    }
+
+    /// The time of the session that has been open for longest, if one is open.
+    fn oldest(&self) -> Option<Tick>
+        ensures { result ≡ least_in self.now }
+    {
+        match self.begun.first_key_value() {
+            Some((oldest, _)) => Some(Tick(*oldest)),
+            None => None,
+        }
+    }
+
+    /// The least time of the open sessions; none exactly if none is open.
+    pub fn least(&self) -> Option<Tick>
+        ensures { (l : Journal) → IsRegistry self.now l → IsLeast result l }
+    {
+        self.oldest()
     }
 
     /// Whether all open sessions began before this tick.
