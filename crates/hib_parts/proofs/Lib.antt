@@ -6,5 +6,6 @@ pub mod Stores
 pub mod Registries
 pub mod ResultSteps
 pub mod Regions
+pub mod Fences
 pub mod Placing
 pub mod Run

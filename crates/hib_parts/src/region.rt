@@ -1,15 +1,17 @@
 // The region of an entity, with the list of its entries.
 ghost use Rattle.std.specs.Prelude.{◌≡◌, ◌<◌, ◌≤◌, ◌^◌, [], length, OnOk, OnErr};
 ghost use Rattle.hib_base.specs.declared.entries.Part.{Part};
+ghost use Rattle.hib_base.specs.declared.scripts.Strategy.{Strategy};
 ghost use Rattle.hib_journal.specs.Kept.{past};
+ghost use Rattle.hib_journal.specs.Next.{strategy};
 ghost use Rattle.hib_split_law.specs.Apart.{IsPartLegal};
 ghost use Rattle.hib_engines.specs.Built.{IsBuilt};
-ghost use Rattle.hib_parts.specs.Listed.{AreOf, IsDueOn, IsEntered, IsLater, IsKept, last_of};
+ghost use Rattle.hib_parts.specs.Listed.{AreFenced, AreOf, IsDueOn, IsEntered, IsLater, IsKept, last_of};
 
 use crate::entering::{enter_answer, prepared};
-use crate::worker::Worker;
-use hib_base::{EntityNo, Script, Tick};
-use hib_engines::{Name, Region, laws};
+use crate::worker::{Worker, add};
+use hib_base::{EntityNo, Key, Script, Tick};
+use hib_engines::{Name, Region, fence_entries, laws};
 use hib_journal::Journal;
 use std::alloc::{AllocError, Global};
 use std::marker::{Model, PhantomData};
@@ -106,6 +108,26 @@ impl<N: Name> RegionPart<N> {
         let reply = self.region.serve(alloc, &acts.0, now)?;
         enter_answer(alloc, script, worker, &mut self.list, acts, reply, now)?;
         self.last = now;
+        Ok(())
+    }
+
+    /// A fence of a key of this region: its lock is taken at this tick, which is after the last one, for no session, and given back at
+    /// the next one. Both entries are added, or if memory runs out none is, and nothing has changed.
+    pub fn fence(&mut self, key: Key, floor: Tick, now: Tick) -> Result<(), AllocError>
+        requires entity { key.entity ≡ self.old.entity }
+        requires strategy { strategy N.script key.entity ≡ Strategy.ReadWrite }
+        requires later { last_of self.old.list < now }
+        requires bounded { now < 2 ^ 62 }
+        ensures entity { self.new.entity ≡ self.old.entity }
+        ensures fenced { OnOk result (AreFenced now key floor self.old.list self.new.list) }
+        ensures same { OnErr result (self.new ≡ self.old) }
+    {
+        self.list.reserve_two()?;
+        let (locked, unlocked) = self.region.fence(key, floor, now)?;
+        let (lock, unlock) = fence_entries(&key, floor, now, &locked, &unlocked);
+        self.last = unlock.tick;
+        add(&mut self.list, lock);
+        add(&mut self.list, unlock);
         Ok(())
     }
 

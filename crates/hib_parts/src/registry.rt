@@ -6,6 +6,7 @@ ghost use Rattle.hib_journal.specs.Kept.{past};
 ghost use Rattle.hib_session.specs.Session.{own_reply};
 ghost use Rattle.hib_split_law.specs.Apart.{IsPartLegal};
 ghost use Rattle.hib_engines.specs.Built.{IsBuilt};
+ghost use Rattle.hib_engines.specs.Registry.{IsLeast};
 ghost use Rattle.hib_parts.specs.Listed.{AreOf, IsDueAct, IsDueOn, IsEntered, IsLater, IsKept, last_of};
 
 use crate::entering::{enter_answer, prepared};
@@ -70,6 +71,13 @@ impl<N: Name> RegistryPart<N> {
         ensures legal { IsPartLegal N.script N.from.tables (past result.now) }
     {
         &self.list
+    }
+
+    /// The least time of its open sessions; none exactly if none is open.
+    pub fn least(&self) -> Option<Tick>
+        ensures { IsLeast result self.now }
+    {
+        self.registry.least()
     }
 
     /// The script is one that parts take. It does nothing.

@@ -1,5 +1,5 @@
 // A session with the list of its own entries.
-ghost use Rattle.std.specs.Prelude.{◌≡◌, ◌<◌, ◌≤◌, ◌^◌, [], ◌∷◌, Some, true, false, IfOk, IfSome, IsSome, IsOk, OnOk, OnErr};
+ghost use Rattle.std.specs.Prelude.{◌≡◌, ◌+◌, ◌<◌, ◌≤◌, ◌^◌, [], ◌∷◌, Some, true, false, IfOk, IfSome, IsSome, IsOk, OnOk, OnErr};
 ghost use Rattle.hib_base.specs.declared.entries.Part.{Part};
 ghost use Rattle.hib_journal.specs.Kept.{past};
 ghost use Rattle.hib_journal.specs.Legal;
@@ -20,7 +20,8 @@ use std::marker::{Model, PhantomData};
 /// Adds an entry to a list that has room for it. It takes no memory.
 pub fn add(list: &mut Journal, entry: Entry)
     requires { 0 < list.old.spare }
-    ensures { past list.new ≡ entry ∷ past list.old }
+    ensures past { past list.new ≡ entry ∷ past list.old }
+    ensures spare { list.new.spare + 1 ≡ list.old.spare }
 {
     let _ = list.push(entry);
 }

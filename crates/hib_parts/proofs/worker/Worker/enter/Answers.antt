@@ -7,4 +7,4 @@ use Rattle.hib_parts.proofs.worker.Worker.enter.Goals as goal
 pub invariant_of-self-2 : goal.invariant_of-self-2
 invariant_of-self-2 g c =
     worker_more c.args.script.now g.N.Name.script c.self.inside.session c.advance.new.self (past c.self.inside.list) (past c.add.new.list) c.self.inside.last c.args.entry c.requires.script c.self.invariant
-    (subst (λ (v : WorkerState). IsDueEntry g.N.Name.script v.number v.list c.args.entry) (sym c.self.view_is) c.requires.due) c.add.ensures c.advance.ensures.number c.in_ok-advance.ensures.follows
+    (subst (λ (v : WorkerState). IsDueEntry g.N.Name.script v.number v.list c.args.entry) (sym c.self.view_is) c.requires.due) c.add.ensures.past c.advance.ensures.number c.in_ok-advance.ensures.follows
