@@ -1,0 +1,96 @@
+-- What a turn of a session comes to, from what its calls have answered.
+use Rattle.std.proofs.Common.{◌≡◌, ◌≤◌, ◌<◌, ◌+◌, ◌^◌, ℕ, Bool, true, false, cond, ◌==◌, List, [], ◌∷◌, ◌++◌, length, slice_get, Some, None, Option, refl, sym, ap, ◌∙◌, subst, arith, inl, inr}
+use Rattle.std.proofs.lemmas.Bool.{eq-eqb}
+use Rattle.std.specs.List.{list_all}
+use Rattle.hib_base.specs.Tables.{Tables}
+use Rattle.hib_base.proofs.Tables.{Tested, tested}
+use Rattle.hib_journal.specs.Types.{Key, Script, Part, Act, Reply, Entry}
+use Rattle.hib_journal.specs.Sessions.{Journal, own, is_by}
+use Rattle.hib_journal.specs.Legal.{part_of}
+use Rattle.hib_journal.specs.Lists.{entry_at}
+use Rattle.hib_journal.specs.Next.{next}
+use Rattle.hib_session.specs.declared.session.Session.{Session}
+use Rattle.hib_session.specs.Session.{Follows, IsTaken, number_of, left_in}
+use Rattle.hib_engines.specs.Due.{IsDue}
+use Rattle.hib_engines.specs.Origin.{Origin}
+use Rattle.hib_nodes_law.specs.declared.nodes.NodeEntry.{NodeEntry}
+use Rattle.hib_nodes_law.specs.Types.{Noded, Nodings}
+use Rattle.hib_nodes_law.specs.Nodes.{entries}
+use Rattle.hib_nodes_law.specs.Legal.{node_of}
+use Rattle.hib_nodes.specs.Kept.{past}
+use Rattle.hib_nodes.specs.Standing.{PartsState, IsReady, IsTold, entry_on, is_node}
+use Rattle.hib_nodes.specs.Queue.{QueuesState, AreQueues, AreWaiting, queue_in, other_node}
+use Rattle.hib_nodes.specs.Run.{IsRun, AreSet}
+use Rattle.hib_nodes.specs.Shared.{SharedState, IsShared, IsTurn, Serves}
+use Rattle.hib_nodes.specs.Turns.{keys_at, is_committed}
+use Rattle.hib_nodes.proofs.Running.{before_next, runs_on}
+use Rattle.hib_nodes.proofs.Turned.{committed_keys, queues_more}
+
+-- a place is a node, and so is the node of a session that has none
+placed : (ps : Nodings) (s : ℕ) → list_all (λ p. is_node p.1) ps ≡ true → is_node (node_of ps s) ≡ true
+placed [] s a = refl
+placed (p ∷ ps) s a =
+    let w : (is_node p.1 ≡ true) × (list_all (λ p. is_node p.1) ps ≡ true) = Rattle.std.proofs.lemmas.Bool.and_parts (is_node p.1) (list_all (λ p. is_node p.1) ps) a in
+    by_test (tested (p.0 == s)) w.0 (placed ps s w.1)
+  where
+    by_test : Tested (p.0 == s) → is_node p.1 ≡ true → is_node (node_of ps s) ≡ true → is_node (cond (p.0 == s) p.1 (node_of ps s)) ≡ true
+    by_test (inl t) i j = rw t i
+    by_test (inr t) i j = rw t j
+
+pub at_node : (script : Script) (places : Nodings) (s : ℕ) → AreSet script places → is_node (node_of places s) ≡ true
+at_node script places s w = placed places s w.nodes
+
+-- the parts are ready for the act that is due
+pub ready_of : (script : Script) (places : Nodings) (from : Origin) (h : Noded) (x : PartsState) (y : Session) (a : Act) → IsRun script places from h x → IsTurn script h y a →
+    IsReady script from.tables h (node_of places (number_of y)) (number_of y) (length h + 1) a x
+ready_of script places from h x y a run turn = record {
+  standing = run.standing;
+  node = at_node script places (number_of y) run.set;
+  late = before_next script places from h x run;
+  due = turn.due;
+}
+
+pub taken_of : (script : Script) (h : Noded) (n : ℕ) (x z : PartsState) (told : Option Tables) (y : Session) (a : Act) (r : Reply) → IsTurn script h y a →
+    IsTold script told h n (number_of y) (length h + 1) a r x z → IsTaken script (number_of y) (own (number_of y) (entries h)) (entry_at (length h + 1) (Some (number_of y)) a r)
+taken_of script h n x z told y a r turn v = record { due = turn.next; own = v.mine }
+
+own_grown : (s : ℕ) (n now : ℕ) (a : Act) (r : Reply) (h : Noded) → own s (entries (entry_on n (entry_at now (Some s) a r) ∷ h)) ≡ entry_at now (Some s) a r ∷ own s (entries h)
+own_grown s n now a r h = rw (eq-eqb s s refl) refl
+
+pub serves_of : (script : Script) (places : Nodings) (from : Origin) (a : Act) (r : Reply) (x w : SharedState) (q : QueuesState) (y z : Session) (e : Entry) (ks : List Key) →
+    IsShared script places from x → IsTurn script (past x.journal) y a → length (past x.journal) < 2 ^ 62 →
+    IsTold script from.tables (past x.journal) (node_of places (number_of y)) (number_of y) (length (past x.journal) + 1) a r x.parts w.parts → x.parts.store.faults ≤ w.parts.store.faults →
+    e ≡ entry_at (length (past x.journal) + 1) (Some (number_of y)) a r → past w.journal ≡ entry_on (node_of places (number_of y)) e ∷ past x.journal →
+    number_of z ≡ number_of y → Follows script z (e ∷ own (number_of y) (entries (past x.journal))) → left_in script z < left_in script y →
+    AreWaiting x.queues q → ks ≡ keys_at script a (own (number_of y) (entries (past x.journal))) →
+    (queue_in w.queues (other_node (node_of places (number_of y)))).pairs ≡ (queue_in q (other_node (node_of places (number_of y)))).pairs ++ cond (is_committed e.reply) ks [] →
+    (queue_in w.queues (other_node (node_of places (number_of y)))).taken ≡ (queue_in q (other_node (node_of places (number_of y)))).taken →
+    queue_in w.queues (other_node (other_node (node_of places (number_of y)))) ≡ queue_in q (other_node (other_node (node_of places (number_of y)))) →
+    Serves script places from a x w y z
+serves_of script places from a r x w q y z e ks shared turn few told faults is grown number follows less waits keys pairs taken other = record {
+  answer = r;
+  grown = grown ∙ ap (λ (t : Entry). entry_on n t ∷ h) is;
+  shared = record {
+    run = subst (λ g. IsRun script places from g w.parts) (sym (grown ∙ ap (λ (t : Entry). entry_on n t ∷ h) is))
+        (runs_on script places from h s a r x.parts w.parts shared.run few turn.next (at_node script places s shared.run.set) told faults);
+    queues = subst (λ g. AreQueues script g w.queues) (sym (grown ∙ ap (λ (t : Entry). entry_on n t ∷ h) is))
+        (queues_more script h (entry_on n (entry_at (length h + 1) (Some s) a r)) s (cond (is_committed r) ks []) x.queues q w.queues shared.queues refl (at_node script places s shared.run.set) waits
+        (committed_keys script h n s (length h + 1) a r ∙ ap (λ js. cond (is_committed r) js []) (sym keys))
+        (pairs ∙ ap (λ (t : Entry). (queue_in q (other_node n)).pairs ++ cond (is_committed t.reply) ks []) is) taken other);
+  };
+  number = number;
+  follows = subst (λ g. Follows script z (own s (entries g))) (sym (grown ∙ ap (λ (t : Entry). entry_on n t ∷ h) is))
+      (subst (λ m. Follows script z m) (sym (own_grown s n (length h + 1) a r h)) (subst (λ (t : Entry). Follows script z (t ∷ own s (entries h))) is follows));
+  less = less;
+  asked = told.asked;
+  fault = told.fault;
+}
+  where
+    h : Noded
+    h = past x.journal
+
+    s : ℕ
+    s = number_of y
+
+    n : ℕ
+    n = node_of places (number_of y)

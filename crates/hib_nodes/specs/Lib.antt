@@ -1,0 +1,10 @@
+pub mod Kept
+pub mod Standing
+pub mod Parts
+pub mod Fencing
+pub mod Queue
+pub mod Run
+pub mod Shared
+pub mod Turns
+pub mod Placed
+pub mod Played

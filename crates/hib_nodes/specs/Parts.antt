@@ -1,0 +1,17 @@
+-- The parts with another state of one node.
+use Rattle.std.specs.Prelude.{◌≡◌, ℕ, true, false, cond, ◌==◌}
+use Rattle.hib_nodes.specs.Standing.{NodeState, PartsState, is_node, node_in}
+
+abbrev pub with_node : ℕ → NodeState → PartsState → PartsState
+with_node n y x = cond (n == 2) (record x { second = y }) (record x { first = y })
+
+-- what is shared is as before
+pub record AreShared (x y : PartsState) : Type 0 where
+  pub store : y.store ≡ x.store
+  pub stamps : y.stamps ≡ x.stamps
+  pub results : y.results ≡ x.results
+
+-- nothing but node n has changed
+pub record IsAlone (n : ℕ) (x y : PartsState) : Type 0 where
+  pub shared : AreShared x y
+  pub others : (m : ℕ) → is_node m ≡ true → (n == m) ≡ false → node_in y m ≡ node_in x m

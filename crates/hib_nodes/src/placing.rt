@@ -1,0 +1,25 @@
+// The node of each session.
+ghost use Rattle.std.specs.Prelude.{◌<◌, ◌≤◌, ◌^◌, IfOk};
+ghost use Rattle.hib_nodes.specs.Placed.{ArePlaced};
+
+use hib_base::SessionNo;
+use std::alloc::{AllocError, Global};
+
+/// The node of each of so many sessions, by its number: the first that is named for it, or 1. Fails for want of memory alone.
+pub fn nodes_of(
+    alloc: Global,
+    places: &[(SessionNo, u8)],
+    sessions: usize,
+) -> Result<Vec<u8>, AllocError>
+    ensures { IfOk result (λ v. ArePlaced places.now sessions v.items) }
+{
+    let mut nodes = vec![in alloc; 1; sessions]?;
+    for back in 0..places.len() {
+        let (session, node) = places[places.len() - 1 - back];
+        let at = session.0 as usize;
+        if at < sessions {
+            nodes[at] = node;
+        }
+    }
+    Ok(nodes)
+}
