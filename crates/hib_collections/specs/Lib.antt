@@ -8,3 +8,4 @@ pub mod Played
 pub mod Obeyed
 pub mod Gather
 pub mod Text
+pub mod Counted

@@ -6,6 +6,7 @@
 
 mod at_owners;
 mod before;
+mod counting;
 mod gather;
 mod gathered;
 mod lines;

@@ -1,9 +1,11 @@
 // The text of a journal with collections.
-ghost use Rattle.std.specs.Prelude.{◌≡◌, ◌≤◌, ◌++◌, OnOk, IfOk, count_by, flat_map, length};
-ghost use Rattle.hib_collections.specs.Text.{count_text, counted_text, counts_text, entry_text, gathered_text, is_hit, is_locked, is_miss, is_on, is_stored, member_act_text, member_reply_text, member_text, numbers_text, owner_text};
+ghost use Rattle.std.specs.Prelude.{◌≡◌, ◌≤◌, ◌++◌, OnOk, IfOk, flat_map, length};
+ghost use Rattle.hib_collections.specs.Counted.{total_text};
+ghost use Rattle.hib_collections.specs.Text.{counts_text, entry_text, gathered_text, member_act_text, member_reply_text, member_text, numbers_text, owner_text};
 
+use crate::counting::{Counts, counts_of};
 use crate::gathered::Gathered;
-use hib_base::{Bytes, Put, Reply, Script, Seq};
+use hib_base::{Bytes, Reply, Script, Seq};
 use hib_collections_law::{Def, Defs, GatherEntry, MemberAct, MemberEntry};
 use hib_report::{line, put_reply};
 use hib_texts::{put_labelled, put_list, put_number, put_session};
@@ -125,128 +127,25 @@ fn put_entry(
     out.extend_from_slice(b"\n")
 }
 
-fn is_hit_of(collection: usize, entry: &GatherEntry) -> bool
-    ensures { result ≡ is_on collection is_hit entry.now }
-{
-    match entry {
-        GatherEntry::Member(entry) => {
-            usize::from(entry.collection) == collection && matches!(entry.reply, Reply::Hit(_))
-        }
-        GatherEntry::Plain(_) => false,
-    }
-}
-
-fn is_miss_of(collection: usize, entry: &GatherEntry) -> bool
-    ensures { result ≡ is_on collection is_miss entry.now }
-{
-    match entry {
-        GatherEntry::Member(entry) => {
-            usize::from(entry.collection) == collection && matches!(entry.reply, Reply::Miss(_))
-        }
-        GatherEntry::Plain(_) => false,
-    }
-}
-
-fn is_stored_of(collection: usize, entry: &GatherEntry) -> bool
-    ensures { result ≡ is_on collection is_stored entry.now }
-{
-    match entry {
-        GatherEntry::Member(entry) => {
-            usize::from(entry.collection) == collection
-                && matches!(entry.reply, Reply::Put(Put::Stored { .. }))
-        }
-        GatherEntry::Plain(_) => false,
-    }
-}
-
-fn is_lock_of(collection: usize, entry: &GatherEntry) -> bool
-    ensures { result ≡ is_on collection is_locked entry.now }
-{
-    match entry {
-        GatherEntry::Member(entry) => {
-            usize::from(entry.collection) == collection
-                && matches!(entry.act, MemberAct::Lock { .. })
-        }
-        GatherEntry::Plain(_) => false,
-    }
-}
-
-fn hits_of(entries: &[GatherEntry], collection: usize) -> usize
-    ensures { result ≡ count_by (is_on collection is_hit) entries.now }
-{
-    entries.iter().filter(|e| is_hit_of(collection, e)).count()
-}
-
-fn misses_of(entries: &[GatherEntry], collection: usize) -> usize
-    ensures { result ≡ count_by (is_on collection is_miss) entries.now }
-{
-    entries.iter().filter(|e| is_miss_of(collection, e)).count()
-}
-
-fn puts_of(entries: &[GatherEntry], collection: usize) -> usize
-    ensures { result ≡ count_by (is_on collection is_stored) entries.now }
-{
-    entries
-        .iter()
-        .filter(|e| is_stored_of(collection, e))
-        .count()
-}
-
-fn locks_of(entries: &[GatherEntry], collection: usize) -> usize
-    ensures { result ≡ count_by (is_on collection is_locked) entries.now }
-{
-    entries.iter().filter(|e| is_lock_of(collection, e)).count()
-}
-
 /// The four numbers of a collection's line, and its end.
-fn put_numbers(
-    alloc: Global,
-    out: &mut Vec<u8>,
-    hits: usize,
-    misses: usize,
-    puts: usize,
-    locks: usize,
-) -> Result<(), AllocError>
-    ensures { OnOk result (out.new.items
-        ≡ out.old.items ++ numbers_text hits misses puts locks) }
+fn put_numbers(alloc: Global, out: &mut Vec<u8>, counts: &Counts) -> Result<(), AllocError>
+    ensures { OnOk result (out.new.items ≡ out.old.items
+        ++ numbers_text counts.now.hits counts.now.misses counts.now.puts counts.now.locks) }
 {
-    put_labelled(alloc, out, b" hits ", hits as u64)?;
-    put_labelled(alloc, out, b" misses ", misses as u64)?;
-    put_labelled(alloc, out, b" puts ", puts as u64)?;
-    put_labelled(alloc, out, b" locks ", locks as u64)?;
+    put_labelled(alloc, out, b" hits ", counts.hits as u64)?;
+    put_labelled(alloc, out, b" misses ", counts.misses as u64)?;
+    put_labelled(alloc, out, b" puts ", counts.puts as u64)?;
+    put_labelled(alloc, out, b" locks ", counts.locks as u64)?;
     out.extend_from_slice(b"\n")
 }
 
-fn put_counted(
-    alloc: Global,
-    out: &mut Vec<u8>,
-    entries: &[GatherEntry],
-    collection: usize,
-) -> Result<(), AllocError>
-    ensures { OnOk result (out.new.items
-        ≡ out.old.items ++ counted_text entries.now collection) }
-{
-    let hits = hits_of(entries, collection);
-    let misses = misses_of(entries, collection);
-    let puts = puts_of(entries, collection);
-    let locks = locks_of(entries, collection);
-    put_numbers(alloc, out, hits, misses, puts, locks)
-}
-
-/// What the entries come to for a collection.
-fn put_count(
-    alloc: Global,
-    out: &mut Vec<u8>,
-    entries: &[GatherEntry],
-    collection: usize,
-    def: &Def,
-) -> Result<(), AllocError>
-    ensures { OnOk result (out.new.items
-        ≡ out.old.items ++ count_text entries.now collection def.now) }
+/// The line of a collection, with what the entries come to for it.
+fn put_count(alloc: Global, out: &mut Vec<u8>, def: &Def, counts: &Counts) -> Result<(), AllocError>
+    ensures { OnOk result (out.new.items ≡ out.old.items ++ total_text def.now counts.now) }
 {
     out.extend_from_slice(b"collection ")?;
     out.extend_from_slice(def.name.as_slice())?;
-    put_counted(alloc, out, entries, collection)
+    put_numbers(alloc, out, counts)
 }
 
 fn put_counts(
@@ -257,8 +156,9 @@ fn put_counts(
 ) -> Result<(), AllocError>
     ensures { OnOk result (out.new.items ≡ out.old.items ++ counts_text entries.now 0 defs.now) }
 {
+    let counts = counts_of(alloc, entries, defs.len())?;
     for (at, def) in defs.as_slice().iter().enumerate() {
-        put_count(alloc, out, entries, at, def)?;
+        put_count(alloc, out, def, &counts[at])?;
     }
     Ok(())
 }
