@@ -11,7 +11,8 @@ loop-at-preserved c =
     let t = c.loop-at-test.true in
     let n = ap length e in
     let low : c.loop-at.at < length c.args.defs.now = omega (arith, t, n) in
-    let counted : c.index.result.now ≡ counts_on c.loop-at.at c.args.entries.now = c.index.ensures ∙ c.in_ok-counts.ensures.counts c.loop-at.at c.index.result.now low in
+    let below : c.loop-at.at < c.len.result = omega (arith, t, n, c.len.ensures) in
+    let counted : c.index.result.now ≡ counts_on c.loop-at.at c.args.entries.now = c.index.ensures ∙ c.in_ok-counts.ensures.counts c.loop-at.at c.index.result.now below in
     let line = λ (k : Counts). c.loop-at.out.items ++ total_text c.def-item.result k in
     let next : c.put_count.new.out.items ≡ c.loop-at.out.items ++ count_text c.args.entries.now c.loop-at.at c.def-item.result = c.in_ok-put_count.ensures ∙ ap line counted in
     counts_at c.args.entries.now c.as_slice-def-items.result.now c.args.defs.now c.loop-at.at c.def-item.result e low c.def-item.is c.args.out.now.items c.loop-at.out.items c.put_count.new.out.items c.loop-at.invariant next
