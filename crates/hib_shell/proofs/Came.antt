@@ -1,5 +1,5 @@
 -- A call that memory ran out in before the top call was made.
-use Rattle.std.proofs.Common.{◌≡◌, List, [], Option, None, refl}
+use Rattle.std.proofs.Common.{◌≡◌, [], Option, None, refl}
 use Rattle.hib_journal.specs.Kept.{Kept, past}
 use Rattle.hib_words.specs.Commands.{Asked}
 use Rattle.hib_call.specs.declared.status.Status.{Status}

@@ -10,7 +10,7 @@ use Rattle.hib_bulk_law.specs.declared.bulks.BulkDef.{BulkDef}
 use Rattle.hib_bulk_law.specs.declared.bulks.Bulks.{Bulks}
 use Rattle.hib_bulk.specs.Run.{AreSet}
 use Rattle.hib_input.specs.WithSection.{Sectioned, section_of}
-use Rattle.hib_sections.specs.BulkLines.{BulkSaid, said_of}
+use Rattle.hib_sections.specs.BulkLines.{said_of}
 use Rattle.hib_sections.specs.Bulks.{AreFit, bulks_of}
 use Rattle.hib_call.specs.declared.status.Status.{Status}
 use Rattle.hib_call.specs.declared.tasks.Outcome.{Outcome}

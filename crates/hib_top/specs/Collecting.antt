@@ -1,5 +1,5 @@
 -- The run of a script with collections.
-use Rattle.std.specs.Prelude.{◌≡◌, ℕ, ◌+◌, Bool, true, false, List, length, codes, Some, None, Option, Result, Ok, Err}
+use Rattle.std.specs.Prelude.{◌≡◌, ℕ, ◌+◌, Bool, true, false, List, codes, Some, None, Option, Result, Ok, Err}
 use Rattle.hib_base.specs.declared.refusals.Refused.{Refused}
 use Rattle.hib_core.specs.Standing.{RoseBy, RoseWithin, told_start}
 use Rattle.hib_journal.specs.Runs.{told_committed, fault_count}

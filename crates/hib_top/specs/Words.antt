@@ -3,7 +3,7 @@ use Rattle.std.specs.Prelude.{◌≤◌, Bool, true, false, if◌then◌else◌,
 use Rattle.std.specs.String.{string_bytes}
 use Rattle.std.specs.declared.string.String.{String}
 use Rattle.std.specs.declared.alloc.Global.{Global}
-use Rattle.hib_words.specs.Commands.{Asked, play, work, make, audit, command}
+use Rattle.hib_words.specs.Commands.{Asked, work, command}
 use Rattle.hib_top.specs.declared.telling.Telling.{Telling}
 
 -- what they ask for; none if they have no form

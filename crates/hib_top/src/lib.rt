@@ -1,5 +1,5 @@
 //! The top call: what the words ask for is the call of a command. A script is read or made, run over a keeper, by its schedule, on
-//! workers or with collections, and told; or a journal that comes after its script is judged.
+//! workers, with collections or with bulk changes, and told; or a journal that comes after its script is judged.
 #![tactic(auto)]
 
 mod audit;

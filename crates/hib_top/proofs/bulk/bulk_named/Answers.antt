@@ -1,4 +1,4 @@
-use Rattle.std.proofs.Common.{◌≡◌, true, Option, refl, sym, ◌∙◌, ap, subst}
+use Rattle.std.proofs.Common.{◌≡◌, true, Option, refl, sym, ap, subst}
 use Rattle.hib_base.specs.Tables.{Tables}
 use Rattle.hib_core.specs.Standing.{Origin, told_start}
 use Rattle.hib_bulk_law.specs.Legal.{IsLegal}
