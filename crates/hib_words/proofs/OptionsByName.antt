@@ -13,7 +13,7 @@ use Rattle.hib_words.specs.Commands.{Chosen, chosen_in, form_of, word_of}
 use Rattle.hib_words.specs.Matched.{HoldsGiven, IsProper}
 use Rattle.hib_words.specs.declared.forms.OptionName.TheVariants as name
 use Rattle.hib_words.specs.declared.forms.Verb.{Verb}
-use Rattle.hib_words.specs.declared.forms.Verb.TheVariants.{Play, Work, Make, Audit, Collect, Bulk}
+use Rattle.hib_words.specs.declared.forms.Verb.TheVariants.{Play, Work, Make, Audit, Collect, Bulk, Nodes}
 use Rattle.hib_words.proofs.Getters.{has_flag, flag_given, flag_not_given, value_given}
 
 -- what `get_flag` and `get_str` ensure
@@ -66,6 +66,7 @@ journal_name Make = refl
 journal_name Audit = refl
 journal_name Collect = refl
 journal_name Bulk = refl
+journal_name Nodes = refl
 
 trace_name : IsFlagName (word_of name.Trace)
 trace_name Play = refl
@@ -74,6 +75,7 @@ trace_name Make = refl
 trace_name Audit = refl
 trace_name Collect = refl
 trace_name Bulk = refl
+trace_name Nodes = refl
 
 split_name : IsFlagName (word_of name.Split)
 split_name Play = refl
@@ -82,6 +84,7 @@ split_name Make = refl
 split_name Audit = refl
 split_name Collect = refl
 split_name Bulk = refl
+split_name Nodes = refl
 
 text_name : IsFlagName (word_of name.Text)
 text_name Play = refl
@@ -90,6 +93,7 @@ text_name Make = refl
 text_name Audit = refl
 text_name Collect = refl
 text_name Bulk = refl
+text_name Nodes = refl
 
 file_name : IsValueName (word_of name.File)
 file_name Play = (refl, refl)
@@ -98,6 +102,7 @@ file_name Make = (refl, refl)
 file_name Audit = (refl, refl)
 file_name Collect = (refl, refl)
 file_name Bulk = (refl, refl)
+file_name Nodes = (refl, refl)
 
 workers_name : IsValueName (word_of name.Workers)
 workers_name Play = (refl, refl)
@@ -106,6 +111,7 @@ workers_name Make = (refl, refl)
 workers_name Audit = (refl, refl)
 workers_name Collect = (refl, refl)
 workers_name Bulk = (refl, refl)
+workers_name Nodes = (refl, refl)
 
 seed_name : IsValueName (word_of name.Seed)
 seed_name Play = (refl, refl)
@@ -114,6 +120,7 @@ seed_name Make = (refl, refl)
 seed_name Audit = (refl, refl)
 seed_name Collect = (refl, refl)
 seed_name Bulk = (refl, refl)
+seed_name Nodes = (refl, refl)
 
 pub all_read : (v : Verb) (r : Option Given) (m : ArgMatches) → HoldsGiven (form_of v) r (Some m)
     → (journal trace split text : Bool) (file workers seed : Option (Bor Text))

@@ -16,7 +16,7 @@ use Rattle.hib_words.specs.Clap.{app_for, built_rules, built_shape}
 use Rattle.hib_words.specs.Commands.{form_of, verb_word}
 use Rattle.hib_words.specs.Matched.{HoldsGiven, is_fit}
 use Rattle.hib_words.specs.declared.forms.Verb.{Verb}
-use Rattle.hib_words.specs.declared.forms.Verb.TheVariants.{Play, Work, Make, Audit, Collect, Bulk}
+use Rattle.hib_words.specs.declared.forms.Verb.TheVariants.{Play, Work, Make, Audit, Collect, Bulk, Nodes}
 use Rattle.hib_words.proofs.Agree.{Answers, answers}
 use Rattle.hib_words.proofs.Getters.{IsProperEnd, proper}
 use Rattle.hib_words.proofs.Fit.{fit_words, unfit_none}
@@ -31,6 +31,7 @@ simple Make = refl
 simple Audit = refl
 simple Collect = refl
 simple Bulk = refl
+simple Nodes = refl
 
 pub free : (v : Verb) → is_simple_and_free (app v) ≡ true
 free Play = refl
@@ -39,6 +40,7 @@ free Make = refl
 free Audit = refl
 free Collect = refl
 free Bulk = refl
+free Nodes = refl
 
 abbrev flat : Text → Form → App
 flat name form = record { top = built_shape name form; subs = [] }
@@ -61,6 +63,7 @@ fault_is Make words = flat_fault (verb_word Make) (form_of Make) (drop 1 words)
 fault_is Audit words = flat_fault (verb_word Audit) (form_of Audit) (drop 1 words)
 fault_is Collect words = flat_fault (verb_word Collect) (form_of Collect) (drop 1 words)
 fault_is Bulk words = flat_fault (verb_word Bulk) (form_of Bulk) (drop 1 words)
+fault_is Nodes words = flat_fault (verb_word Nodes) (form_of Nodes) (drop 1 words)
 
 matches_are : (v : Verb) (words : List Text) → matches_of (app v) words ≡ rows_after (built_rules (form_of v)) [] (drop 1 words)
 matches_are Play words = refl
@@ -69,6 +72,7 @@ matches_are Make words = refl
 matches_are Audit words = refl
 matches_are Collect words = refl
 matches_are Bulk words = refl
+matches_are Nodes words = refl
 
 pub all_of_texts : {X : Type 0} (f : X → Text) (xs : List X) → list_all (λ x. is_fit (f x)) (drop 1 xs) ≡ list_all is_fit (drop 1 (map f xs))
 all_of_texts f [] = refl

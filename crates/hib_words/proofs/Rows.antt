@@ -3,7 +3,7 @@ use Rattle.std.proofs.Common.{◌≡◌, ◌==◌, Bool, true, false, refl, List
 use Rattle.std.specs.Prelude.{codes, is_none}
 use Rattle.std.specs.List.{list_all, slice_split}
 use Rattle.hib_words.specs.Given.{Text, options_from}
-use Rattle.hib_words.specs.Commands.{Asked, Settings, command, play, work, make, audit, collect, bulk}
+use Rattle.hib_words.specs.Commands.{Asked, Settings, command, play, work, make, audit, collect, bulk, nodes}
 
 -- the command of a line
 abbrev at : Text → Option Asked
@@ -117,6 +117,10 @@ bulks_1 : at (codes "bulk") ≡ Some (bulk)
 unfolding options_from
 bulks_1 = refl
 
+nodes_1 : at (codes "nodes") ≡ Some (nodes)
+unfolding options_from
+nodes_1 = refl
+
 -- ---- words that have none
 
 no_words : command [] ≡ None
@@ -125,7 +129,7 @@ no_words = refl
 -- the first word is the command, and no other stands before it
 commands : are_none (
     codes "" ∷ codes "help" ∷ codes "--help" ∷ codes "--version" ∷ codes "PLAY" ∷ codes "pla" ∷ codes "plays" ∷
-    codes " play" ∷ codes "collects" ∷ codes "bulks" ∷ codes "nodes" ∷ codes "-- play" ∷ codes "--journal play" ∷
+    codes " play" ∷ codes "collects" ∷ codes "bulks" ∷ codes "node" ∷ codes "-- play" ∷ codes "--journal play" ∷
     codes "--split work --workers 1" ∷ codes "split --workers 1" ∷ codes "x play" ∷ []) ≡ true
 unfolding options_from
 commands = refl
@@ -139,7 +143,7 @@ others : are_none (
     codes "work --workers 1 --spli" ∷ codes "work --workers 1 --Split" ∷ codes "work --workers 1 -s" ∷
     codes "work --workers 1 split" ∷ codes "work --worker 1" ∷ codes "work --workers 1 --text" ∷
     codes "make --seed 1 --journal" ∷ codes "make --seed 1 x" ∷ codes "audit --journal" ∷ codes "audit x" ∷
-    codes "audit audit" ∷ codes "collect x" ∷ codes "collect --journal" ∷ codes "collect collect" ∷ codes "bulk x" ∷ codes "bulk --journal" ∷ []) ≡ true
+    codes "audit audit" ∷ codes "collect x" ∷ codes "collect --journal" ∷ codes "collect collect" ∷ codes "bulk x" ∷ codes "bulk --journal" ∷ codes "nodes x" ∷ codes "nodes --split" ∷ []) ≡ true
 unfolding options_from
 others = refl
 

@@ -10,7 +10,7 @@ use Rattle.hib_words.specs.Given.{Text, Form, Given, is_given, options_in, value
 use Rattle.hib_words.specs.declared.forms.OptionName.{OptionName}
 use Rattle.hib_words.specs.declared.forms.OptionName.TheVariants as name
 use Rattle.hib_words.specs.declared.forms.Verb.{Verb}
-use Rattle.hib_words.specs.declared.forms.Verb.TheVariants.{Play, Work, Make, Audit, Collect, Bulk}
+use Rattle.hib_words.specs.declared.forms.Verb.TheVariants.{Play, Work, Make, Audit, Collect, Bulk, Nodes}
 use Rattle.hib_words.specs.declared.words.Command.{Command}
 use Rattle.hib_words.specs.declared.words.Command.TheVariants as variant
 use Rattle.hib_words.specs.declared.words.Options.{Options}
@@ -25,6 +25,7 @@ verb_word Make = codes "make"
 verb_word Audit = codes "audit"
 verb_word Collect = codes "collect"
 verb_word Bulk = codes "bulk"
+verb_word Nodes = codes "nodes"
 
 abbrev pub word_of : OptionName → Text
 word_of name.Journal = codes "journal"
@@ -48,6 +49,7 @@ options_of Make = name.Seed ∷ name.Text ∷ []
 options_of Audit = []
 options_of Collect = []
 options_of Bulk = []
+options_of Nodes = []
 
 abbrev pub form_of : Verb → Form
 form_of verb = map (λ o. (word_of o, is_valued o)) (options_of verb)
@@ -61,6 +63,7 @@ verb_named word =
     else if bytes_eq word (verb_word Audit) then Some Audit
     else if bytes_eq word (verb_word Collect) then Some Collect
     else if bytes_eq word (verb_word Bulk) then Some Bulk
+    else if bytes_eq word (verb_word Nodes) then Some Nodes
     else None
 
 -- ---- values
@@ -118,6 +121,7 @@ pub data Asked : Type 0 where
   audit : Asked
   collect : Asked
   bulk : Asked
+  nodes : Asked
 
 -- none if the file's path is no value
 abbrev pub settings_in : Chosen → Option Settings
@@ -133,6 +137,7 @@ asked Make chosen = option_map (λ n. make n chosen.text) (option_and_then (numb
 asked Audit chosen = Some audit
 asked Collect chosen = Some collect
 asked Bulk chosen = Some bulk
+asked Nodes chosen = Some nodes
 
 -- the command that words are, without the program's name; none if they have no form
 abbrev pub command : List Text → Option Asked
@@ -152,3 +157,4 @@ asked_of (variant.Make seed text) = make seed text
 asked_of variant.Audit = audit
 asked_of variant.Collect = collect
 asked_of variant.Bulk = bulk
+asked_of variant.Nodes = nodes

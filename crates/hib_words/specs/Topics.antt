@@ -2,7 +2,7 @@
 use Rattle.std.specs.Prelude.{Bool, false, List, [], ◌∷◌, Option, Some, None, if◌then◌else◌, codes}
 use Rattle.std.specs.Str.{bytes_eq}
 use Rattle.hib_words.specs.Given.{Text}
-use Rattle.hib_words.specs.Commands.{Asked, play, work, make, audit, collect, bulk}
+use Rattle.hib_words.specs.Commands.{Asked, play, work, make, audit, collect, bulk, nodes}
 use Rattle.hib_words.specs.declared.topics.Topic.{Topic}
 
 abbrev pub topic_named : Text → Option Topic
@@ -24,6 +24,7 @@ file_of (make n t) = None
 file_of audit = None
 file_of collect = None
 file_of bulk = None
+file_of nodes = None
 
 -- its steps are told on standard error
 abbrev pub is_traced : Asked → Bool
@@ -33,3 +34,4 @@ is_traced (make n t) = false
 is_traced audit = false
 is_traced collect = false
 is_traced bulk = false
+is_traced nodes = false

@@ -22,6 +22,8 @@ pub enum Verb {
     Collect,
     /// Runs a script with bulk changes.
     Bulk,
+    /// Runs a script at two nodes over one store.
+    Nodes,
 }
 
 /// An option, which each command that has it takes at most once.
@@ -67,6 +69,7 @@ impl Verb {
             Verb::Audit => "audit",
             Verb::Collect => "collect",
             Verb::Bulk => "bulk",
+            Verb::Nodes => "nodes",
         }
     }
 
@@ -78,7 +81,7 @@ impl Verb {
             Verb::Play => &PLAY_OPTIONS,
             Verb::Work => &WORK_OPTIONS,
             Verb::Make => &MAKE_OPTIONS,
-            Verb::Audit | Verb::Collect | Verb::Bulk => &[],
+            Verb::Audit | Verb::Collect | Verb::Bulk | Verb::Nodes => &[],
         }
     }
 }
@@ -94,6 +97,7 @@ pub fn verb_named(word: &str) -> Option<Verb>
         "audit" => Some(Verb::Audit),
         "collect" => Some(Verb::Collect),
         "bulk" => Some(Verb::Bulk),
+        "nodes" => Some(Verb::Nodes),
         _ => None,
     }
 }

@@ -32,6 +32,9 @@ Collections are declared after a line 'collections', behind the script:
 Bulk changes and their schedule stand after a line 'bulk', behind the script:
   hib bulk < examples/sections/sale.hib
 
+Where sessions are, and their schedule with deliveries, stand after a line 'nodes', behind the script:
+  hib nodes < examples/sections/twins.hib
+
 The words --help and --version stand alone: beside another word they are no command.
 
 Exit status, which a line on standard error explains if it isn't 0:
@@ -58,7 +61,7 @@ Why a line of a script is refused, at status 3:
   many-columns   it is one more column than an entity may have
   entity-taken   an entity of this name was declared before
   column-taken   the entity has a column of this name
-  strategy       it names none of the four; before bulk changes, read-only or nonstrict
+  strategy       it names none of the four; before bulk changes or nodes, read-only or nonstrict
   capacity       the capacity is out of its range
   column-type    it names none of the four types
   ref-unknown    the entity that it refers to isn't declared yet
@@ -75,10 +78,10 @@ Why a line of a script is refused, at status 3:
   last           it ends a session whose last statement is no commit and no rollback
   no-end         the input ends inside a session or a schedule
   journal        no line 'journal' follows the script, or this one is no entry's
-  section        no line 'collections' or 'bulk' follows the script
-  order          an order other than 'run' before collections, or a schedule before bulk changes
+  section        no line 'collections', 'bulk' or 'nodes' follows the script
+  order          an order other than 'run' before collections; any schedule before bulk or nodes
   plain          the rows of the entity have no versions
-  cached         it keeps the results of a query, before bulk changes
+  cached         it keeps the results of a query, before bulk changes or nodes
 
 docs/SCRIPT.md tells what a script may say, docs/JOURNAL.md what a report says, docs/CLAIMS.md what is proved.
 ";
@@ -93,6 +96,7 @@ impl Verb {
             Verb::Audit => "hib audit",
             Verb::Collect => "hib collect",
             Verb::Bulk => "hib bulk",
+            Verb::Nodes => "hib nodes",
         }
     }
 
@@ -105,6 +109,7 @@ impl Verb {
             Verb::Audit => "Says whether a journal is legal for a script",
             Verb::Collect => "Runs a script with collections, and writes its journal",
             Verb::Bulk => "Runs a script with bulk changes, and writes its journal",
+            Verb::Nodes => "Runs a script at two nodes over one store, and writes its journal",
         }
     }
 }
@@ -116,13 +121,14 @@ impl OptionName {
     }
 }
 
-const VERBS: [Verb; 6] = [
+const VERBS: [Verb; 7] = [
     Verb::Play,
     Verb::Work,
     Verb::Make,
     Verb::Audit,
     Verb::Collect,
     Verb::Bulk,
+    Verb::Nodes,
 ];
 
 /// A command with its options, as the help shows them.

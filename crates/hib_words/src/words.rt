@@ -40,6 +40,8 @@ pub enum Command {
     Collect,
     /// A script is run with bulk changes.
     Bulk,
+    /// A script is run at two nodes over one store.
+    Nodes,
 }
 
 /// The options of both `play` and `work`.
@@ -211,6 +213,7 @@ fn command_from(alloc: Global, verb: Verb, found: &Found<'_>) -> Result<Option<C
         Verb::Audit => Ok(Some(Command::Audit)),
         Verb::Collect => Ok(Some(Command::Collect)),
         Verb::Bulk => Ok(Some(Command::Bulk)),
+        Verb::Nodes => Ok(Some(Command::Nodes)),
     }
 }
 
