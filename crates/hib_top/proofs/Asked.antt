@@ -6,7 +6,7 @@ use Rattle.std.specs.Str.Parse.{digits_value}
 use Rattle.hib_words.specs.Given.{Text, options_in}
 use Rattle.hib_words.specs.declared.words.Command.{Command}
 use Rattle.hib_words.specs.declared.forms.Verb.{Verb}
-use Rattle.hib_words.specs.declared.forms.Verb.TheVariants.{Play, Work, Make, Audit, Collect, Bulk}
+use Rattle.hib_words.specs.declared.forms.Verb.TheVariants.{Play, Work, Make, Audit, Collect, Bulk, Nodes}
 use Rattle.hib_words.specs.Commands.{Asked, Chosen, play, work, make, asked, chosen_in, command, form_of, settings_in, asked_of, is_numeral, number_between, verb_named}
 use Rattle.hib_top.specs.Words.{HasFew}
 
@@ -49,6 +49,7 @@ asked_few Make chosen = map_all (option_and_then (number_between 0 4294967295) c
 asked_few Audit chosen = tt
 asked_few Collect chosen = tt
 asked_few Bulk chosen = tt
+asked_few Nodes chosen = tt
 
 command_few : (words : List Text) → IfSome (command words) HasFew
 command_few [] = tt

@@ -1,5 +1,5 @@
 -- What a run with bulk changes comes to, and what its text says.
-use Rattle.std.proofs.Common.{◌≡◌, ℕ, true, List, Ok, Err, Some, refl, sym, ◌∙◌, ap, subst}
+use Rattle.std.proofs.Common.{◌≡◌, ℕ, true, List, Ok, Err, refl, ◌∙◌, ap, subst}
 use Rattle.std.specs.Prelude.{codes, map}
 use Rattle.hib_base.specs.Valid.{is_valid}
 use Rattle.hib_base.specs.declared.refusals.Refused.{Refused}
@@ -12,15 +12,14 @@ use Rattle.hib_bulk.specs.Run.{AreSet}
 use Rattle.hib_input.specs.WithSection.{Sectioned, section_of}
 use Rattle.hib_sections.specs.BulkLines.{said_of}
 use Rattle.hib_sections.specs.Bulks.{AreFit, bulks_of}
-use Rattle.hib_call.specs.declared.status.Status.{Status}
 use Rattle.hib_call.specs.declared.tasks.Outcome.{Outcome}
 use Rattle.hib_call.specs.Ends.{Comes}
 use Rattle.hib_call.specs.Outside.{Shared}
 use Rattle.hib_top.specs.declared.bulk.Bulking.{Bulking}
 use Rattle.hib_top.specs.declared.bulk.BulkRun.{BulkRun}
-use Rattle.hib_top.specs.Bulking.{IsBulked, Leaves, bulking, bulking_of, if_sectioned, with_bulks}
+use Rattle.hib_top.specs.Bulking.{bulking, bulking_of, if_sectioned, with_bulks}
 use Rattle.hib_top.specs.Running.{origin}
-use Rattle.hib_top.proofs.Ends.{lent_named, not_fault}
+use Rattle.hib_top.proofs.Ends.{lent_named}
 
 -- ---- what a text says
 pub both_said : (text : List ℕ) (s : Sectioned) (ds : List BulkDef) (os : List Order) → section_of (codes "bulk") text ≡ Ok s →
@@ -36,18 +35,10 @@ no_bulks text s r e d = ap if_sectioned e ∙ ap (with_bulks s.script) d
 pub are_set : (script : Script) (ds : List BulkDef) → is_valid script ≡ true → AreFit script.mapping ds → AreSet script ds
 are_set script ds v f = record { valid = v; few = f.few; strategies = f.strategies; below = f.below }
 
--- ---- what a run comes to
+-- ---- a run of this name is over what is lent
 abbrev ComesBy : Bulking → Shared → Shared → Outcome BulkRun → Type 0
 ComesBy input old new outcome = Comes bulking input old new outcome
 
-pub over : (input : Bulking) (old new : Shared) (run : BulkRun) (outcome : Outcome BulkRun) → outcome ≡ Outcome.Over run → Leaves input old new run → ComesBy input old new outcome
-over input old new run outcome e l = subst (ComesBy input old new) (sym e) l
-
-pub stopped : (input : Bulking) (old new : Shared) (run : BulkRun) (outcome : Outcome BulkRun) → outcome ≡ Outcome.Stopped Status.NoMemory (Some run) → IsBulked input old new run →
-    ComesBy input old new outcome
-stopped input old new run outcome e r = subst (ComesBy input old new) (sym e) (r, tt, λ p. absurd (not_fault p))
-
--- ---- a run of this name is over what is lent
 input_named : (input : Bulking) (script : Script) (lines : List BulkDef) (orders : List Order) → input.script ≡ script → input.bulks.lines ≡ lines → input.bulks.orders ≡ orders →
     ◌≡◌ {A = Bulking} (record { script = script; bulks = record { lines = lines; orders = orders } }) input
 input_named input script lines orders a b c =

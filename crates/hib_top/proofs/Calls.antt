@@ -17,10 +17,11 @@ use Rattle.hib_top.specs.Auditing.{auditing}
 use Rattle.hib_top.specs.Bulking.{bulking}
 use Rattle.hib_top.specs.Collecting.{collecting}
 use Rattle.hib_top.specs.Making.{making, printing}
+use Rattle.hib_top.specs.Placing.{placing}
 use Rattle.hib_top.specs.Running.{running}
 use Rattle.hib_top.specs.Words.{asked_alone, asked_in, if_alone, is_alone, telling_of}
 use Rattle.hib_top.proofs.Ends.{not_fault}
-use Rattle.hib_words.specs.Commands.{Asked, asked_of, command, play, work, make, audit, collect, bulk}
+use Rattle.hib_words.specs.Commands.{Asked, asked_of, command, play, work, make, audit, collect, bulk, nodes}
 use Rattle.hib_words.specs.declared.words.Command.{Command}
 use Rattle.std.specs.declared.string.String.{String}
 use Rattle.std.specs.declared.alloc.Global.{Global}
@@ -56,6 +57,7 @@ idle_by (make n true) o journal e = ((None, e, short_call (printing n) (unread o
 idle_by audit o journal e = ((None, e, short_call auditing o), refl)
 idle_by collect o journal e = (e, (None, refl, short_call collecting o))
 idle_by bulk o journal e = (e, (None, refl, short_call bulking o))
+idle_by nodes o journal e = (e, (None, refl, short_call placing o))
 
 pub idle_if : (asked : Option Asked) (o : Outside) (journal : Kept) (side : Side) → past journal ≡ [] → side ≡ Side.Nothing → DoesIf asked o o Status.NoMemory journal side
 unfolding DoesIf
@@ -98,6 +100,7 @@ store_by (make n true) old new answer journal side d = d.0.2.store
 store_by audit old new answer journal side d = d.0.2.store
 store_by collect old new answer journal side d = d.1.2.store
 store_by bulk old new answer journal side d = d.1.2.store
+store_by nodes old new answer journal side d = d.1.2.store
 
 not_usage_fault : Status.StoreFault ≡ Status.Usage → ⊥
 not_usage_fault e = cc

@@ -12,6 +12,7 @@ use Rattle.hib_store.specs.Stores.{is_store_fault}
 use Rattle.hib_store.specs.declared.store.OpenFault.{OpenFault}
 use Rattle.hib_call.specs.declared.status.Status.{Status}
 use Rattle.hib_call.specs.declared.tasks.Outcome.{Outcome}
+use Rattle.hib_call.specs.Command as Calls
 use Rattle.hib_call.specs.Ends.{Comes}
 use Rattle.hib_call.specs.Outside.{Shared}
 use Rattle.hib_top.specs.declared.telling.Played.{Played}
@@ -19,15 +20,27 @@ use Rattle.hib_top.specs.declared.telling.Telling.{Telling}
 use Rattle.hib_top.specs.declared.turns.Turns.{Turns}
 use Rattle.hib_top.specs.Running.{IsFinished, IsRun, IsUnrun, opening_status, origin, running}
 
+pub not_fault : Status.NoMemory ≡ Status.StoreFault → ⊥
+not_fault e = cc
+
+-- ---- of any command
+-- a run came to its end
+pub run_over : {I R : Type 0} (command : Calls.Command I R) (input : I) (old new : Shared) (run : R) (outcome : Outcome R) → outcome ≡ Outcome.Over run → command.leaves input old new run →
+    Comes command input old new outcome
+run_over command input old new run outcome e l = subst (Comes command input old new) (sym e) l
+
+-- memory ran out in it
+pub run_stopped : {I R : Type 0} (command : Calls.Command I R) (input : I) (old new : Shared) (run : R) (outcome : Outcome R) → outcome ≡ Outcome.Stopped Status.NoMemory (Some run) →
+    command.stops input old new Status.NoMemory (Some run) → Comes command input old new outcome
+run_stopped command input old new run outcome e r = subst (Comes command input old new) (sym e) (r, tt, λ p. absurd (not_fault p))
+
+-- ---- of the run of a script
 abbrev ComesBy : Turns → Script → Shared → Shared → Outcome Played → Type 0
 ComesBy turns script old new outcome = Comes (running turns Telling.Report) script old new outcome
 
 pub over : (turns : Turns) (script : Script) (old new : Shared) (run : Played) (outcome : Outcome Played) → outcome ≡ Outcome.Over run → IsRun turns false script old new run → IsFinished turns script (past run.journal) →
     ComesBy turns script old new outcome
 over turns script old new run outcome e r f = subst (ComesBy turns script old new) (sym e) (r, f)
-
-pub not_fault : Status.NoMemory ≡ Status.StoreFault → ⊥
-not_fault e = cc
 
 torn_not_fault : (torn : Torn) → Status.Torn torn ≡ Status.StoreFault → ⊥
 torn_not_fault torn e = cc

@@ -1,5 +1,5 @@
 -- What a run with collections comes to, and what its text says.
-use Rattle.std.proofs.Common.{◌≡◌, ℕ, true, List, Ok, Err, Some, refl, sym, ◌∙◌, ap, subst}
+use Rattle.std.proofs.Common.{◌≡◌, ℕ, true, List, Ok, Err, refl, ◌∙◌, ap, subst}
 use Rattle.std.specs.Prelude.{codes}
 use Rattle.hib_base.specs.Valid.{is_valid}
 use Rattle.hib_base.specs.declared.refusals.Refused.{Refused}
@@ -10,15 +10,14 @@ use Rattle.hib_collections_law.specs.declared.entries.Def.{Def}
 use Rattle.hib_collections.specs.Run.{AreSet}
 use Rattle.hib_input.specs.WithSection.{Sectioned, section_of}
 use Rattle.hib_sections.specs.Collections.{AreFit, collections_of}
-use Rattle.hib_call.specs.declared.status.Status.{Status}
 use Rattle.hib_call.specs.declared.tasks.Outcome.{Outcome}
 use Rattle.hib_call.specs.Ends.{Comes}
 use Rattle.hib_call.specs.Outside.{Shared}
 use Rattle.hib_top.specs.declared.collect.Gathering.{Gathering}
 use Rattle.hib_top.specs.declared.collect.Collected.{Collected}
-use Rattle.hib_top.specs.Collecting.{IsCollected, Leaves, collecting, gathering_of, if_sectioned, with_collections}
+use Rattle.hib_top.specs.Collecting.{collecting, gathering_of, if_sectioned, with_collections}
 use Rattle.hib_top.specs.Running.{origin}
-use Rattle.hib_top.proofs.Ends.{lent_named, not_fault}
+use Rattle.hib_top.proofs.Ends.{lent_named}
 
 -- ---- what a text says
 pub both_said : (text : List ℕ) (s : Sectioned) (ds : List Def) → section_of (codes "collections") text ≡ Ok s → collections_of s.script.mapping s.before.lines s.behind.lines ≡ Ok ds →
@@ -34,18 +33,10 @@ no_collections text s r e d = ap if_sectioned e ∙ ap (with_collections s.scrip
 pub are_set : (script : Script) (ds : List Def) → is_valid script ≡ true → AreFit script.mapping ds → AreSet script ds
 are_set script ds v f = record { valid = v; few = f.few; versioned = f.versioned }
 
--- ---- what a run comes to
+-- ---- a run of this name is over what is lent
 abbrev ComesBy : Gathering → Shared → Shared → Outcome Collected → Type 0
 ComesBy input old new outcome = Comes collecting input old new outcome
 
-pub over : (input : Gathering) (old new : Shared) (run : Collected) (outcome : Outcome Collected) → outcome ≡ Outcome.Over run → Leaves input old new run → ComesBy input old new outcome
-over input old new run outcome e l = subst (ComesBy input old new) (sym e) l
-
-pub stopped : (input : Gathering) (old new : Shared) (run : Collected) (outcome : Outcome Collected) → outcome ≡ Outcome.Stopped Status.NoMemory (Some run) → IsCollected true input old new run →
-    ComesBy input old new outcome
-stopped input old new run outcome e r = subst (ComesBy input old new) (sym e) (r, tt, λ p. absurd (not_fault p))
-
--- ---- a run of this name is over what is lent
 input_named : (input : Gathering) (script : Script) (defs : List Def) → input.script ≡ script → input.defs ≡ defs → ◌≡◌ {A = Gathering} (record { script = script; defs = defs }) input
 input_named input script defs a b =
     subst (λ (s : Script). ◌≡◌ {A = Gathering} (record { script = s; defs = defs }) input) a

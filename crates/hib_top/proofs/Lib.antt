@@ -7,3 +7,4 @@ pub mod OverParts
 pub mod Calls
 pub mod Gathers
 pub mod Bulks
+pub mod Places

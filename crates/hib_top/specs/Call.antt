@@ -14,10 +14,12 @@ use Rattle.hib_top.specs.Bulking.{bulking}
 use Rattle.hib_top.specs.Collecting.{collecting}
 use Rattle.hib_top.specs.declared.bulk.BulkRun.{BulkRun}
 use Rattle.hib_top.specs.declared.collect.Collected.{Collected}
+use Rattle.hib_top.specs.declared.nodes.NodeRun.{NodeRun}
 use Rattle.hib_top.specs.Making.{making, printing}
+use Rattle.hib_top.specs.Placing.{placing}
 use Rattle.hib_top.specs.Running.{running}
 use Rattle.hib_top.specs.Words.{telling_of}
-use Rattle.hib_words.specs.Commands.{Asked, play, work, make, audit, collect, bulk}
+use Rattle.hib_words.specs.Commands.{Asked, play, work, make, audit, collect, bulk, nodes}
 
 -- the journal handed back is the run's; it is empty if there is none
 abbrev pub HandsBack : Option Played → Kept → Type 0
@@ -52,10 +54,14 @@ gathered_of run = Side.Gathered run.journal
 abbrev pub bulked_of : BulkRun → Side
 bulked_of run = Side.Bulked run.journal
 
+abbrev pub noded_of : NodeRun → Side
+noded_of run = Side.Noded run.journal
+
 -- of a command whose journal is of another kind, and of the others
 abbrev pub DoesAside : Asked → Outside → Outside → Status → Side → Type 0
 DoesAside collect old new answer side = (run : Option Collected) × IsSide gathered_of run side × IsCalled collecting old new answer run
 DoesAside bulk old new answer side = (run : Option BulkRun) × IsSide bulked_of run side × IsCalled bulking old new answer run
+DoesAside nodes old new answer side = (run : Option NodeRun) × IsSide noded_of run side × IsCalled placing old new answer run
 DoesAside asked old new answer side = side ≡ Side.Nothing
 
 abbrev pub Does : Asked → Outside → Outside → Status → Kept → Type 0
@@ -67,6 +73,7 @@ Does (make n true) old new answer journal = (run : Option Script) × (past journ
 Does audit old new answer journal = (run : Option Judged) × (past journal ≡ []) × IsCalled auditing old new answer run
 Does collect old new answer journal = past journal ≡ []
 Does bulk old new answer journal = past journal ≡ []
+Does nodes old new answer journal = past journal ≡ []
 
 abbrev pub IsDone : Asked → Outside → Outside → Status → Kept → Side → Type 0
 IsDone asked old new answer journal side = Does asked old new answer journal × DoesAside asked old new answer side

@@ -5,3 +5,4 @@ pub mod Auditing
 pub mod Call
 pub mod Collecting
 pub mod Bulking
+pub mod Placing

@@ -8,12 +8,14 @@ ghost use Rattle.hib_words.specs.Commands.{asked_of, command};
 ghost use Rattle.hib_top.specs.Words.{HasFew, asked_alone, asked_in, is_alone, telling_of};
 ghost use Rattle.hib_bulk.specs.Run.{AreSet as AreLinesSet};
 ghost use Rattle.hib_collections.specs.Run.{AreSet};
-ghost use Rattle.hib_top.specs.Call.{HandsBack, IsDone, IsKept, IsSide, Promised, bulked_of, gathered_of};
+ghost use Rattle.hib_nodes.specs.Run.{AreSet as ArePlacesSet};
+ghost use Rattle.hib_top.specs.Call.{HandsBack, IsDone, IsKept, IsSide, Promised, bulked_of, gathered_of, noded_of};
 
 use crate::audit::{Judge, judge_journal};
 use crate::bulk::{Bulk, BulkRun, bulk_script};
 use crate::collect::{Collect, Collected, collect_script};
 use crate::make::{Make, Print};
+use crate::nodes::{AtNodes, NodeRun, nodes_script};
 use crate::play::play_script;
 use crate::reading::Run;
 use crate::split::split_script;
@@ -24,6 +26,7 @@ use hib_bulk::Bulked;
 use hib_call::{Called, Lent, NothingLeft, Outcome, Ran, Status, call};
 use hib_collections::Gathered;
 use hib_journal::Journal;
+use hib_nodes::Noded;
 use hib_outside::{Gate, Keeper, Listener, Sink, Source};
 use hib_words::Command;
 use std::alloc::{AllocError, Global};
@@ -39,6 +42,8 @@ pub enum Side {
     Gathered(Gathered),
     /// That of a run with bulk changes.
     Bulked(Bulked),
+    /// That of a run at two nodes.
+    Noded(Noded),
 }
 
 /// What a call of the program hands back.
@@ -133,6 +138,16 @@ fn bulked(run: Option<BulkRun>) -> Side
     }
 }
 
+/// The journal of a run at two nodes.
+fn noded(run: Option<NodeRun>) -> Side
+    ensures { IsSide noded_of run result }
+{
+    match run {
+        Some(run) => Side::Noded(run.journal),
+        None => Side::Nothing,
+    }
+}
+
 /// What is handed back of a run whose journal is of another kind.
 fn aside<K: Keeper, L: Listener>(
     alloc: Global,
@@ -181,6 +196,18 @@ fn with_bulked<K: Keeper, L: Listener>(alloc: Global, called: Called<BulkRun, K,
 {
     let Called { status, lent, run } = called;
     aside(alloc, status, lent, bulked(run))
+}
+
+/// What is handed back of a run at two nodes.
+fn with_noded<K: Keeper, L: Listener>(alloc: Global, called: Called<NodeRun, K, L>) -> Ended<K, L>
+    ensures status { result.status ≡ called.status }
+    ensures keeper { result.keeper ≡ called.lent.keeper }
+    ensures listeners { result.listeners ≡ called.lent.listeners }
+    ensures journal { past result.journal ≡ [] }
+    ensures side { IsSide noded_of called.run result.side }
+{
+    let Called { status, lent, run } = called;
+    aside(alloc, status, lent, noded(run))
 }
 
 /// How a run is told, by whether its journal is asked for.
@@ -313,6 +340,19 @@ fn serve_alone<S: Source, W: Sink, K: Keeper, L: Listener>(
             );
             with_bulked(alloc, called)
         }
+        Command::Nodes => {
+            let called = call(
+                alloc,
+                &AtNodes,
+                script,
+                out,
+                lent,
+                |input, lent|
+                    requires { ArePlacesSet input.script input.places.nodes }
+                { nodes_script(alloc, input, lent) },
+            );
+            with_noded(alloc, called)
+        }
     }
 }
 
@@ -390,15 +430,16 @@ fn serve<R: Threads + Wait + Sync, S: Source, W: Sink, K: Keeper, G: Gate, L: Li
 /// the script of a number, and runs it and writes that number and the summary; or it writes the script. `audit` reads a script and a
 /// journal after it, and says whether the journal is legal. `collect` reads a script and collections after it, runs the script by its
 /// schedule and writes the journal with the entries at collections, which `side` has. `bulk` reads a script, and bulk changes and their
-/// schedule after it, runs the script with them and writes the journal of both, which `side` has. If the words have no form, nothing
-/// is read.
+/// schedule after it, runs the script with them and writes the journal of both, which `side` has. `nodes` reads a script, and places of
+/// its sessions and their schedule after it, runs the script at two nodes and writes its journal, which `side` has. If the words have
+/// no form, nothing is read.
 ///
 /// Whatever the status, the journal of a run is legal for the script, from the keeper's tables as they were handed in and the
 /// script's rows beside them; its k-th entry has tick k, and the keeper's tables are those that its commits and its bulk changes gave.
 /// That of `play` and `make` obeys the law; if such a run came to its end, and the keeper tells tables that fit the script's mapping,
 /// each of its entries is well formed. That of `collect` obeys the law of collections if the keeper tells such tables, and that of
-/// `bulk` the law of bulk changes. The listeners hear of each entry in the step that adds it, but for those at collections; a hit there
-/// they hear as the list that it stands for. Of `bulk` they hear nothing.
+/// `bulk` the law of bulk changes, and that of `nodes` the law of two nodes. The listeners hear of each entry in the step that adds it, but for those at collections; a hit there
+/// they hear as the list that it stands for. Of `bulk` and `nodes` they hear nothing.
 pub fn play_words<S: Source, W: Sink, K: Keeper, L: Listener>(
     alloc: Global,
     words: &[String],

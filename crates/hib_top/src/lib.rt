@@ -1,5 +1,5 @@
 //! The top call: what the words ask for is the call of a command. A script is read or made, run over a keeper, by its schedule, on
-//! workers, with collections or with bulk changes, and told; or a journal that comes after its script is judged.
+//! workers, with collections, with bulk changes or at two nodes, and told; or a journal that comes after its script is judged.
 #![tactic(auto)]
 
 mod audit;
@@ -7,6 +7,7 @@ mod bulk;
 mod call;
 mod collect;
 mod make;
+mod nodes;
 mod play;
 mod reading;
 mod split;
@@ -19,5 +20,6 @@ pub use audit::Judged;
 pub use bulk::{BulkRun, Bulking};
 pub use call::{Ended, Side, play_words, top};
 pub use collect::{Collected, Gathering};
+pub use nodes::{NodeRun, Placing};
 pub use telling::{Played, Telling};
 pub use turns::Turns;

@@ -8,7 +8,9 @@ use Rattle.hib_bulk.specs.Run.{Obeys}
 use Rattle.hib_bulk.specs.Standing.{told_committed}
 use Rattle.hib_bulk_law.specs.declared.bulks.Bulks.{Bulks}
 use Rattle.hib_top.specs.declared.bulk.BulkRun.{BulkRun}
-use Rattle.hib_top.proofs.Bulks.{bulks_named, over, stopped, told_by}
+use Rattle.hib_top.specs.Bulking.{bulking}
+use Rattle.hib_top.proofs.Bulks.{bulks_named, told_by}
+use Rattle.hib_top.proofs.Ends.{run_over, run_stopped}
 use Rattle.hib_top.proofs.bulk.bulk_named.Goals as goal
 use Rattle.hib_top.proofs.bulk.bulk_named.Goals.{in-Ok-finished, in-Err-finished}
 
@@ -31,7 +33,7 @@ returns g c =
     let run : BulkRun = record { script = c.close-keeper.result.1; bulks = c.close-keeper.result.2; journal = c.close-keeper.result.3 } in
     told_by c.args.input script lines orders g.N.Name.from _ _ _ c.requires.script c.requires.lines c.requires.orders c.requires.from
     (elim c.match-finished.branch [
-      | in-Ok-finished w ↦ over _ _ _ run _ w.outcome-is
+      | in-Ok-finished w ↦ run_over bulking _ _ _ run _ w.outcome-is
           record {
             bulked = record {
               script = c.close-keeper.ensures.script;
@@ -45,7 +47,7 @@ returns g c =
             over = subst (λ (k : Kept). AreOver script lines (past k)) (sym c.close-keeper.ensures.journal) w.in-Ok-finished.ensures.over;
             played = subst (λ (k : Kept). is_played script lines orders (past k) ≡ true) (sym c.close-keeper.ensures.journal) (w.in-Ok-finished.ensures.played c.in-Ok.ensures.empty);
           }
-      | in-Err-finished w ↦ stopped _ _ _ run _ w.outcome-is
+      | in-Err-finished w ↦ run_stopped bulking _ _ _ run _ w.outcome-is
           record {
             script = c.close-keeper.ensures.script;
             bulks = bulks;

@@ -11,8 +11,9 @@ use Rattle.hib_collections.specs.Played.{AreOver, is_played}
 use Rattle.hib_listeners.specs.Heard.{HaveHeard}
 use Rattle.hib_listeners.specs.Told.{tells}
 use Rattle.hib_top.specs.declared.collect.Collected.{Collected}
-use Rattle.hib_top.proofs.Ends.{heard_either, once_more}
-use Rattle.hib_top.proofs.Gathers.{over, stopped, told_by}
+use Rattle.hib_top.specs.Collecting.{collecting}
+use Rattle.hib_top.proofs.Ends.{heard_either, once_more, run_over, run_stopped}
+use Rattle.hib_top.proofs.Gathers.{told_by}
 use Rattle.hib_top.proofs.collect.collect_named.Goals as goal
 use Rattle.hib_top.proofs.collect.collect_named.Goals.{in-Ok-finished, in-Err-finished}
 
@@ -31,7 +32,7 @@ returns g c =
     told_by c.args.input script defs g.N.Name.from g.N.Name.told _ _ _ c.requires.script c.requires.defs c.requires.from c.requires.told
     (elim c.match-finished.branch [
       | in-Ok-finished w ↦ (let going : c.play-finished.new.self.refused ≡ false = w.in-Ok-finished.ensures.going ∙ c.in-Ok.ensures.going in
-          over _ _ _ run _ w.outcome-is
+          run_over collecting _ _ _ run _ w.outcome-is
           record {
             collected = record {
               script = c.close-keeper.ensures.script;
@@ -45,7 +46,7 @@ returns g c =
             over = subst (λ (k : Kept). AreOver script defs (past k)) (sym c.close-keeper.ensures.journal) w.in-Ok-finished.ensures.over;
             played = subst (λ (k : Kept). is_played script defs (past k) ≡ true) (sym c.close-keeper.ensures.journal) (w.in-Ok-finished.ensures.played c.in-Ok.ensures.empty);
           })
-      | in-Err-finished w ↦ stopped _ _ _ run _ w.outcome-is
+      | in-Err-finished w ↦ run_stopped collecting _ _ _ run _ w.outcome-is
           record {
             script = c.close-keeper.ensures.script;
             defs = c.close-keeper.ensures.defs;
