@@ -33,7 +33,7 @@ int posix_memalign(void **p, size_t a, size_t n) { static int (*f)(void **, size
 void *aligned_alloc(size_t a, size_t n) { static void *(*f)(size_t, size_t); if (!f) f = dlsym(RTLD_NEXT, "aligned_alloc"); return fails() ? 0 : f(a, n); }
 """
 NEVER = 1 << 60
-WAYS = [["play"], ["play", "--trace"], ["play", "--journal"], ["work", "--workers", "1"], ["work", "--workers", "2", "--journal"], ["play", "--file"], ["audit"], ["collect"], ["bulk"]]
+WAYS = [["play"], ["play", "--trace"], ["play", "--journal"], ["work", "--workers", "1"], ["work", "--workers", "2", "--journal"], ["play", "--file"], ["audit"], ["collect"], ["bulk"], ["nodes"]]
 
 
 class Room:

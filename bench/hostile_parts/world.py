@@ -38,7 +38,7 @@ RESULTS = text([
     *session("s", "list low", "commit"), *session("u", "list low", "commit"), *session("w", "list low", "commit"), "schedule", "run t1 3", "run t2 3",
     "run t1 1", "run t2 1", "run t1 6", "run s 6", "run t2 3", "run u 5", "run t2 3", "run w 7", "end"])
 WORKED = [("an insert", INSERT), ("two writers", WRITERS), ("kept results", RESULTS)]
-COMMANDS = {b"collections": "collect", b"bulk": "bulk"}
+COMMANDS = {b"collections": "collect", b"bulk": "bulk", b"nodes": "nodes"}
 
 
 def examples_of(command):

@@ -83,7 +83,7 @@ function readRow(words, entities) {
 }
 
 // The words with which a section begins behind the script of another command.
-const SECTIONS = ['collections', 'bulk'];
+const SECTIONS = ['collections', 'bulk', 'nodes'];
 
 // What each first word of a line says; sessions and the schedule have lines of their own, which the page doesn't need.
 const LINES = {

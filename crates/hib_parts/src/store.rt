@@ -1,10 +1,11 @@
 // The store, with the list of its entries.
-ghost use Rattle.std.specs.Prelude.{◌≡◌, ◌≤◌, ◌^◌, [], true, false, IfOk, IfErr, OnOk, OnErr};
+ghost use Rattle.std.specs.Prelude.{◌≡◌, ◌≤◌, ◌^◌, [], ◌∷◌, true, false, IfOk, IfErr, OnOk, OnErr};
 ghost use Rattle.std.specs.Option.{option_map};
+ghost use Rattle.hib_base.specs.declared.entries.Entry.{Entry};
 ghost use Rattle.hib_base.specs.declared.entries.Part.{Part};
 ghost use Rattle.hib_journal.specs.Kept.{past};
 ghost use Rattle.hib_journal.specs.Lists.{stored};
-ghost use Rattle.hib_journal.specs.Runs.{fault_count};
+ghost use Rattle.hib_journal.specs.Runs.{fault_count, is_fault};
 ghost use Rattle.hib_outside.specs.Causes.{Rose};
 ghost use Rattle.hib_store.specs.Stores.{handed_back, is_store_fault};
 ghost use Rattle.hib_split_law.specs.Apart.{IsPartLegal, store_ask_count};
@@ -145,7 +146,7 @@ impl<K: Keeper, N: Name> StorePart<K, N> {
     }
 
     /// One act of a session: the act that is due in it, which is on the store, is answered at this tick, which is after the last
-    /// ticks of both. Its entry goes to both lists. If memory runs out both lists are as before, the keeper was asked once at
+    /// ticks of both. Its entry goes to both lists, with a fault only if the keeper failed. If memory runs out both lists are as before, the keeper was asked once at
     /// most, and `refused` says so from then on.
     pub fn serve(
         &mut self,
@@ -160,6 +161,8 @@ impl<K: Keeper, N: Name> StorePart<K, N> {
         ensures number { worker.new.number ≡ worker.old.number }
         ensures entered { OnOk result (IsEntered now self.old.list self.new.list worker.old
             worker.new) }
+        ensures fault { OnOk result ((e : Entry) → self.new.list ≡ e ∷ self.old.list
+            → is_fault e.reply ≡ true → Rose self.old.faults self.new.faults) }
         ensures going { OnOk result (self.new.refused ≡ self.old.refused) }
         ensures kept { OnErr result (IsKept worker.old worker.new) }
         ensures same { OnErr result (self.new.list ≡ self.old.list) }

@@ -1,7 +1,10 @@
 // The steps of one session after the other, with no thread and no lock.
-ghost use Rattle.std.specs.Prelude.{◌≡◌, ◌<◌, ◌≤◌, ◌^◌, None, Ok, Some, IfOk, IfSome, OnOk, OnErr, [], length, map, slice_get};
+ghost use Rattle.std.specs.Prelude.{◌≡◌, ◌<◌, ◌≤◌, ◌^◌, None, Ok, Some, IfOk, IfSome, OnOk, OnErr, [], ◌∷◌, true, length, map, slice_get};
+ghost use Rattle.hib_base.specs.declared.entries.Entry.{Entry};
 ghost use Rattle.hib_base.specs.declared.entries.Part.{Part};
 ghost use Rattle.hib_journal.specs.Next.{next};
+ghost use Rattle.hib_journal.specs.Runs.{is_fault};
+ghost use Rattle.hib_outside.specs.Causes.{Rose};
 ghost use Rattle.hib_clock.specs.Due.{due};
 ghost use Rattle.hib_parts.specs.Listed.{IsDueOn, IsEnteredDue, IsKept, IsOwnEntered, RegionState, last_of};
 ghost use Rattle.hib_parts.specs.Run.{GoesOn, IsFirst, IsStepOn, list_on, part_lists};
@@ -69,6 +72,8 @@ pub fn step_store<K: Keeper, N: Name>(
     ensures entered { OnOk result (IsEnteredDue store.old.list store.new.list worker.old
         worker.new) }
     ensures less { OnOk result (worker.new.left < worker.old.left) }
+    ensures fault { OnOk result ((e : Entry) → store.new.list ≡ e ∷ store.old.list
+        → is_fault e.reply ≡ true → Rose store.old.faults store.new.faults) }
     ensures kept { OnErr result (IsKept worker.old worker.new) }
     ensures same { OnErr result (store.new.list ≡ store.old.list) }
 {

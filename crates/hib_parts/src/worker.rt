@@ -1,5 +1,6 @@
 // A session with the list of its own entries.
 ghost use Rattle.std.specs.Prelude.{◌≡◌, ◌+◌, ◌<◌, ◌≤◌, ◌^◌, [], ◌∷◌, Some, true, false, IfOk, IfSome, IsSome, IsOk, OnOk, OnErr};
+ghost use Rattle.std.specs.Option.{option_map};
 ghost use Rattle.hib_base.specs.declared.entries.Part.{Part};
 ghost use Rattle.hib_journal.specs.Kept.{past};
 ghost use Rattle.hib_journal.specs.Legal;
@@ -10,7 +11,7 @@ ghost use Rattle.hib_session.specs.Session.{own_reply};
 ghost use Rattle.hib_split_law.specs.Apart.{IsOwnLegal};
 ghost use Rattle.hib_parts.specs.Listed.{AreBy, IsDueAct, IsDueEntry, IsDueOn, IsKept, IsOwnEntered, last_of};
 
-use hib_base::{Act, Entry, Reply, Script, SessionNo, Tick};
+use hib_base::{Act, Entry, Part, Reply, Script, SessionNo, Tick};
 use hib_engines::Name;
 use hib_journal::{Journal, part_of};
 use hib_session::Session;
@@ -121,6 +122,18 @@ impl<N: Name> Worker<N> {
     {
         let act = self.session.next_act(alloc, script)?;
         Ok(act)
+    }
+
+    /// The part that the act is on which is due; none exactly if none is, after the last end of the session.
+    pub fn part(&self, alloc: Global, script: &Script) -> Result<Option<Part>, AllocError>
+        requires { script.now ≡ N.script }
+        ensures { IfOk result (λ p. p ≡ option_map (λ a. Legal.part_of a self.now.number)
+            (next N.script self.now.number self.now.list)) }
+    {
+        match self.next(alloc, script)? {
+            Some(act) => Ok(Some(part_of(&act, self.number()))),
+            None => Ok(None),
+        }
     }
 
     /// The act that is due, if there is one.
