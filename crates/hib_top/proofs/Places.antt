@@ -1,7 +1,6 @@
 -- What a run at two nodes comes to, and what its text says.
 use Rattle.std.proofs.Common.{◌≡◌, ℕ, true, List, Ok, Err, refl, ◌∙◌, ap, subst}
 use Rattle.std.specs.Prelude.{codes}
-use Rattle.std.specs.List.{list_all}
 use Rattle.hib_base.specs.Valid.{is_valid}
 use Rattle.hib_base.specs.declared.refusals.Refused.{Refused}
 use Rattle.hib_journal.specs.Types.{Script}
@@ -10,7 +9,6 @@ use Rattle.hib_nodes_law.specs.declared.nodes.NodeOrder.{NodeOrder}
 use Rattle.hib_nodes_law.specs.declared.nodes.Places.{Places as Said}
 use Rattle.hib_nodes_law.specs.Types.{Nodings}
 use Rattle.hib_nodes.specs.Run.{AreSet}
-use Rattle.hib_nodes.specs.Standing.{is_node}
 use Rattle.hib_input.specs.WithSection.{Sectioned, section_of}
 use Rattle.hib_sections.specs.Places.{AreFit, places_of}
 use Rattle.hib_call.specs.declared.tasks.Outcome.{Outcome}
@@ -33,8 +31,8 @@ no_section text r e = ap if_sectioned e
 pub no_places : (text : List ℕ) (s : Sectioned) (r : Refused) → section_of (codes "nodes") text ≡ Ok s → places_of s.script.mapping s.script.sessions s.before.lines s.behind ≡ Err r → placing_of text ≡ Err r
 no_places text s r e d = ap if_sectioned e ∙ ap (with_places s.script) d
 
-pub are_set : (script : Script) (ps : Nodings) → is_valid script ≡ true → list_all (λ p. is_node p.1) ps ≡ true → AreSet script ps
-are_set script ps v n = record { valid = v; nodes = n }
+pub are_set : (script : Script) (ps : Nodings) (os : List NodeOrder) → is_valid script ≡ true → AreFit script.mapping script.sessions ps os → AreSet script ps
+are_set script ps os v f = record { valid = v; nodes = f.nodes }
 
 -- ---- a run of this name is over what is lent
 abbrev ComesBy : Placing → Shared → Shared → Outcome NodeRun → Type 0
