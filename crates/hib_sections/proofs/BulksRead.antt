@@ -4,8 +4,9 @@ use Rattle.std.proofs.lemmas.List.{drop_all}
 use Rattle.hib_base.specs.declared.refusals.Refused.{Refused}
 use Rattle.hib_base.specs.declared.scripts.EntityDef.{EntityDef}
 use Rattle.hib_lex.specs.declared.lines.Line.{Line}
-use Rattle.hib_sections.specs.Bulks.{Read, after, at_line, reading}
+use Rattle.hib_sections.specs.Bulks.{Read, after, reading}
 use Rattle.hib_sections.specs.Collections.{IsWhere}
+use Rattle.hib_sections.specs.Sections.{at_line}
 use Rattle.hib_sections.specs.declared.errors.SectionError.{SectionError}
 
 abbrev with_next : List EntityDef → Read → Line → Result Read Refused
