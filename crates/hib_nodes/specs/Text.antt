@@ -3,7 +3,7 @@ use Rattle.std.specs.Prelude.{ℕ, List, ◌++◌, length, codes, flat_map}
 use Rattle.std.specs.Fmt.{decimal}
 use Rattle.hib_journal.specs.Types.{Entry, Script}
 use Rattle.hib_report.specs.Lines.{act_text, actor_text, part_text, reply_text}
-use Rattle.hib_nodes_law.specs.Types.{NodeEntry}
+use Rattle.hib_nodes_law.specs.declared.nodes.NodeEntry.{NodeEntry}
 
 -- when it was, at which node, who did it, and where
 abbrev pub head_text : Script → ℕ → Entry → List ℕ

@@ -18,7 +18,8 @@ use Rattle.hib_lex.specs.declared.lines.Line.{Line}
 use Rattle.hib_lex.specs.declared.lines.Lines.{Lines}
 use Rattle.hib_mapping.specs.Parts.{is_a_word, is_a_number, is_within, number_up_to, word_of}
 use Rattle.hib_statements.specs.Orders.{order_of, run_from, run_of, session_at, small32}
-use Rattle.hib_nodes_law.specs.Types.{NodeOrder, Nodings}
+use Rattle.hib_nodes_law.specs.Types.{Nodings}
+use Rattle.hib_nodes_law.specs.declared.nodes.NodeOrder.{NodeOrder}
 use Rattle.hib_nodes_law.specs.declared.nodes.Places.{Places}
 use Rattle.hib_sections.specs.Before.{fault_before}
 use Rattle.hib_sections.specs.Places.{Read, AreFit, after, after_at, after_places, are_once, deliver_of, delivery, ended, ended_at, if_known, in_schedule, is_given, is_node, is_placed, node_of, paired, place_of, places_of, reading, run_alone, start, with_order, with_place}

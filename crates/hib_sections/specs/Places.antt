@@ -14,7 +14,8 @@ use Rattle.hib_lex.specs.declared.lines.Line.{Line}
 use Rattle.hib_lex.specs.declared.lines.Lines.{Lines}
 use Rattle.hib_mapping.specs.Parts.{is_a_word, is_a_number, is_within, word_of}
 use Rattle.hib_statements.specs.Orders.{order_of, session_at}
-use Rattle.hib_nodes_law.specs.Types.{NodeOrder, Nodings}
+use Rattle.hib_nodes_law.specs.Types.{Nodings}
+use Rattle.hib_nodes_law.specs.declared.nodes.NodeOrder.{NodeOrder}
 use Rattle.hib_sections.specs.Before.{fault_before}
 use Rattle.hib_sections.specs.Sections.{alone, at_line, names, unless_before}
 use Rattle.hib_sections.specs.declared.bulks.Place.{Place}
