@@ -22,7 +22,8 @@ use Rattle.hib_nodes_law.specs.Types.{Nodings}
 use Rattle.hib_nodes_law.specs.declared.nodes.NodeOrder.{NodeOrder}
 use Rattle.hib_nodes_law.specs.declared.nodes.Places.{Places}
 use Rattle.hib_sections.specs.Before.{fault_before}
-use Rattle.hib_sections.specs.Places.{Read, AreFit, after, after_at, after_places, are_once, deliver_of, delivery, ended, ended_at, if_known, in_schedule, is_given, is_node, is_placed, node_of, paired, place_of, places_of, reading, run_alone, start, with_order, with_place}
+use Rattle.hib_sections.specs.Places.{Read, AreFit, after, after_at, after_places, deliver_of, delivery, ended, ended_at, if_known, in_schedule, is_given, is_node, node_of, paired, place_of, places_of, reading, run_alone, start, with_order, with_place}
+use Rattle.hib_sections.specs.Placed.{are_once, is_placed}
 use Rattle.hib_sections.specs.Sections.{actor, alone, at_line, names, unless_before}
 use Rattle.hib_sections.specs.declared.bulks.Place.{Place}
 use Rattle.hib_sections.specs.declared.errors.SectionError.{SectionError}

@@ -4,4 +4,5 @@ pub mod Before
 pub mod Sections
 pub mod BulkLines
 pub mod Bulks
+pub mod Placed
 pub mod Places

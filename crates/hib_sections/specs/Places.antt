@@ -1,6 +1,6 @@
 -- The section of places: the nodes of sessions, and then a schedule of runs and deliveries, if there is one.
-use Rattle.std.specs.Prelude.{◌≡◌, ◌≤◌, ◌==◌, ◌&&◌, ◌||◌, ℕ, Bool, true, false, if◌then◌else◌, not, nat_le, nat_lt, List, [], ◌∷◌, ◌++◌, length, codes, slice_get, Option, Some, None, Result, Ok, Err}
-use Rattle.std.specs.List.{list_all, list_any}
+use Rattle.std.specs.Prelude.{◌≡◌, ◌≤◌, ◌==◌, ◌&&◌, ◌||◌, ℕ, Bool, true, false, if◌then◌else◌, nat_le, nat_lt, List, [], ◌∷◌, ◌++◌, length, codes, slice_get, Option, Some, None, Result, Ok, Err}
+use Rattle.std.specs.List.{list_all}
 use Rattle.hib_base.specs.Scripts.{strategy_in, is_cached_in}
 use Rattle.hib_base.specs.declared.refusals.Kind.{Kind}
 use Rattle.hib_base.specs.declared.refusals.Refused.{Refused}
@@ -17,6 +17,7 @@ use Rattle.hib_statements.specs.Orders.{order_of, session_at}
 use Rattle.hib_nodes_law.specs.Types.{Nodings}
 use Rattle.hib_nodes_law.specs.declared.nodes.NodeOrder.{NodeOrder}
 use Rattle.hib_sections.specs.Before.{fault_before}
+use Rattle.hib_sections.specs.Placed.{are_once, is_placed}
 use Rattle.hib_sections.specs.Sections.{alone, at_line, names, unless_before}
 use Rattle.hib_sections.specs.declared.bulks.Place.{Place}
 use Rattle.hib_sections.specs.declared.places.Reading.{Reading}
@@ -41,9 +42,6 @@ node_of t =
     else Err Kind.Number
 
 -- ---- place SESSION N
-abbrev pub is_placed : Nodings → ℕ → Bool
-is_placed ps s = list_any (λ p. s == p.0) ps
-
 abbrev pub paired : ℕ → Result ℕ Kind → Result (ℕ × ℕ) Kind
 paired s (Err k) = Err k
 paired s (Ok n) = Ok (s, n)
@@ -131,15 +129,11 @@ abbrev pub is_given : ℕ → NodeOrder → Bool
 is_given count (NodeOrder.Run s n) = nat_lt s count
 is_given count (NodeOrder.Deliver n) = is_node n
 
-abbrev pub are_once : Nodings → Bool
-are_once [] = true
-are_once (p ∷ ps) = not (is_placed ps p.0) && are_once ps
-
 -- sessions of the script are at nodes, each named once; there are at most 20,000 orders, and what is cached is cached under soft locks
-pub record AreFit (m : List EntityDef) (sessions : List SessionDef) (nodes : Nodings) (orders : List NodeOrder) : Type 0 where
-  pub nodes : list_all (λ p. is_node p.1) nodes ≡ true
-  pub sessions : list_all (λ p. nat_lt p.0 (length sessions)) nodes ≡ true
-  pub once : are_once nodes ≡ true
-  pub orders : list_all (is_given (length sessions)) orders ≡ true
-  pub few : length orders ≤ 20000
+pub record AreFit (m : List EntityDef) (ss : List SessionDef) (ps : Nodings) (os : List NodeOrder) : Type 0 where
+  pub nodes : list_all (λ p. is_node p.1) ps ≡ true
+  pub sessions : list_all (λ p. nat_lt p.0 (length ss)) ps ≡ true
+  pub once : are_once ps ≡ true
+  pub orders : list_all (is_given (length ss)) os ≡ true
+  pub few : length os ≤ 20000
   pub strategies : (n : ℕ) → is_cached_in m n ≡ true → strategy_in (slice_get m n) ≡ Strategy.ReadWrite

@@ -1,6 +1,6 @@
 // The nodes that sessions are given.
 ghost use Rattle.std.specs.Prelude.{◌≡◌, ◌∷◌, [], ◌++◌, OnOk, OnErr};
-ghost use Rattle.hib_sections.specs.Places.{is_placed};
+ghost use Rattle.hib_sections.specs.Placed.{is_placed};
 
 use hib_base::{Seq, SessionNo};
 use hib_nodes_law::Nodings;
@@ -19,7 +19,7 @@ impl Model for Placed {
     ghost use Rattle.std.specs.Prelude.{◌≡◌, ◌==◌, ℕ};
     ghost use Rattle.std.specs.List.{list_any};
     ghost use Rattle.hib_nodes_law.specs.Types.{Nodings as NodingsOf};
-    ghost use Rattle.hib_sections.specs.Places.{is_placed};
+    ghost use Rattle.hib_sections.specs.Placed.{is_placed};
 
     ghost Value = { NodingsOf };
 
