@@ -1,12 +1,11 @@
 -- Bulk lines that were read are few, and step to entities of the mapping alone; what is cached is cached under soft locks.
-use Rattle.std.proofs.Common.{◌≡◌, ◌<◌, ◌≤◌, ◌+◌, ◌==◌, ◌&&◌, ◌||◌, ℕ, zero, suc, Bool, true, false, not, nat_lt, List, [], ◌∷◌, ◌++◌, length, Option, Some, None, Result, Ok, Err, codes, refl, subst, sym, ◌∙◌, ap, arith, inl, inr}
+use Rattle.std.proofs.Common.{◌≡◌, ◌<◌, ◌≤◌, ◌==◌, ◌&&◌, ◌||◌, ℕ, zero, suc, Bool, true, false, not, nat_lt, List, [], ◌∷◌, length, Option, Some, None, Result, Ok, Err, codes, refl, subst, sym, ◌∙◌, ap, arith}
 use Rattle.std.specs.Prelude.{nat_le, map, slice_get, IfOk, bytes_eq}
-use Rattle.std.specs.Option.{option_map, option_map_or}
-use Rattle.std.specs.List.{find, list_all}
-use Rattle.std.proofs.lemmas.Bool.{and_parts, and_from, ltb-true, eqb-true, true≢false, false≢true}
+use Rattle.std.specs.Option.{option_map_or}
+use Rattle.std.specs.List.{list_all}
+use Rattle.std.proofs.lemmas.Bool.{and_parts, and_from, ltb-true, eqb-true, false≢true}
 use Rattle.std.proofs.lemmas.Bool.Decides.{nat_tests}
 use Rattle.std.proofs.lemmas.List.{length-append, length-map}
-use Rattle.hib_base.specs.Scripts.{strategy_in, is_cached_by, is_cached_in}
 use Rattle.hib_base.specs.declared.refusals.Kind.{Kind}
 use Rattle.hib_base.specs.declared.refusals.Refused.{Refused}
 use Rattle.hib_base.specs.declared.scripts.Cond.{Cond}
@@ -16,11 +15,9 @@ use Rattle.hib_base.specs.declared.scripts.Order.{Order}
 use Rattle.hib_base.specs.declared.scripts.Path.{Path}
 use Rattle.hib_base.specs.declared.scripts.Target.{Target}
 use Rattle.hib_base.specs.declared.scripts.SessionDef.{SessionDef}
-use Rattle.hib_base.specs.declared.scripts.Strategy.{Strategy}
 use Rattle.hib_base.specs.Queries.{parts_in, parts_of}
 use Rattle.hib_base.proofs.Gives.{Gives, gives_cond, given, Then}
 use Rattle.hib_base.proofs.Lists.{all_at, all_more}
-use Rattle.hib_base.proofs.Tables.{Tested, tested}
 use Rattle.hib_journal.specs.Query.{mentions}
 use Rattle.hib_lex.specs.Words.{begins}
 use Rattle.hib_lex.specs.declared.lexer.Token.{Token}
@@ -32,8 +29,8 @@ use Rattle.hib_bulk_law.specs.declared.bulks.BulkChange.{BulkChange}
 use Rattle.hib_bulk_law.specs.declared.bulks.BulkDef.{BulkDef}
 use Rattle.hib_bulk_law.specs.declared.bulks.Bulks.{Bulks}
 use Rattle.hib_statements.specs.Orders.{order_of}
-use Rattle.hib_sections.specs.Before.{cached_query, fault_before, is_other, or_at, other_strategy, schedule_line}
-use Rattle.hib_sections.specs.BulkLines.{BulkSaid, said_of, bulk_of, of_words, if_changing, if_new, if_known, of_entity, with_parts, changing_in, before_where, condition_in, is_taken, is_words, is_unknown, is_mistyped, is_step_within, is_within}
+use Rattle.hib_sections.specs.Before.{fault_before}
+use Rattle.hib_sections.specs.BulkLines.{BulkSaid, said_of, bulk_of, if_changing, if_known, with_parts, changing_in, before_where, condition_in, is_taken, is_words, is_unknown, is_mistyped, is_step_within, is_within}
 use Rattle.hib_sections.specs.Bulks.{Read, AreFit, after, after_at, after_lines, bulk_line_of, bulks_of, ended, ended_at, in_schedule, reading, start, with_line, with_order}
 use Rattle.hib_sections.specs.Sections.{alone, at_line, unless_before}
 use Rattle.hib_sections.specs.declared.bulk_lines.Changing.{Changing}
