@@ -1,12 +1,11 @@
 -- Bulk lines that were read are few, and step to entities of the mapping alone; what is cached is cached under soft locks.
-use Rattle.std.proofs.Common.{◌≡◌, ◌<◌, ◌≤◌, ◌+◌, ◌==◌, ◌&&◌, ◌||◌, ℕ, zero, suc, Bool, true, false, not, nat_lt, List, [], ◌∷◌, ◌++◌, length, Option, Some, None, Result, Ok, Err, codes, refl, subst, sym, ◌∙◌, ap, arith, inl, inr}
+use Rattle.std.proofs.Common.{◌≡◌, ◌<◌, ◌≤◌, ◌==◌, ◌&&◌, ◌||◌, ℕ, zero, suc, Bool, true, false, not, nat_lt, List, [], ◌∷◌, length, Option, Some, None, Result, Ok, Err, codes, refl, subst, sym, ◌∙◌, ap, arith}
 use Rattle.std.specs.Prelude.{nat_le, map, slice_get, IfOk, bytes_eq}
-use Rattle.std.specs.Option.{option_map, option_map_or}
-use Rattle.std.specs.List.{find, list_all}
-use Rattle.std.proofs.lemmas.Bool.{and_parts, and_from, ltb-true, eqb-true, true≢false, false≢true}
+use Rattle.std.specs.Option.{option_map_or}
+use Rattle.std.specs.List.{list_all}
+use Rattle.std.proofs.lemmas.Bool.{and_parts, and_from, ltb-true, eqb-true, false≢true}
 use Rattle.std.proofs.lemmas.Bool.Decides.{nat_tests}
 use Rattle.std.proofs.lemmas.List.{length-append, length-map}
-use Rattle.hib_base.specs.Scripts.{strategy_in, is_cached_by, is_cached_in}
 use Rattle.hib_base.specs.declared.refusals.Kind.{Kind}
 use Rattle.hib_base.specs.declared.refusals.Refused.{Refused}
 use Rattle.hib_base.specs.declared.scripts.Cond.{Cond}
@@ -16,11 +15,9 @@ use Rattle.hib_base.specs.declared.scripts.Order.{Order}
 use Rattle.hib_base.specs.declared.scripts.Path.{Path}
 use Rattle.hib_base.specs.declared.scripts.Target.{Target}
 use Rattle.hib_base.specs.declared.scripts.SessionDef.{SessionDef}
-use Rattle.hib_base.specs.declared.scripts.Strategy.{Strategy}
 use Rattle.hib_base.specs.Queries.{parts_in, parts_of}
 use Rattle.hib_base.proofs.Gives.{Gives, gives_cond, given, Then}
 use Rattle.hib_base.proofs.Lists.{all_at, all_more}
-use Rattle.hib_base.proofs.Tables.{Tested, tested}
 use Rattle.hib_journal.specs.Query.{mentions}
 use Rattle.hib_lex.specs.Words.{begins}
 use Rattle.hib_lex.specs.declared.lexer.Token.{Token}
@@ -32,12 +29,14 @@ use Rattle.hib_bulk_law.specs.declared.bulks.BulkChange.{BulkChange}
 use Rattle.hib_bulk_law.specs.declared.bulks.BulkDef.{BulkDef}
 use Rattle.hib_bulk_law.specs.declared.bulks.Bulks.{Bulks}
 use Rattle.hib_statements.specs.Orders.{order_of}
-use Rattle.hib_sections.specs.Before.{cached_query, fault_before, is_other, or_at, other_strategy, schedule_line}
-use Rattle.hib_sections.specs.BulkLines.{BulkSaid, said_of, bulk_of, of_words, if_changing, if_new, if_known, of_entity, with_parts, changing_in, before_where, condition_in, is_taken, is_words, is_unknown, is_mistyped, is_step_within, is_within}
-use Rattle.hib_sections.specs.Bulks.{Read, AreFit, after, after_at, after_lines, alone, at_line, bulk_line_of, bulks_of, ended, ended_at, in_schedule, reading, start, unless_before, with_line, with_order}
+use Rattle.hib_sections.specs.Before.{fault_before}
+use Rattle.hib_sections.specs.BulkLines.{BulkSaid, said_of, bulk_of, if_changing, if_known, with_parts, changing_in, before_where, condition_in, is_taken, is_words, is_unknown, is_mistyped, is_step_within, is_within}
+use Rattle.hib_sections.specs.Bulks.{Read, AreFit, after, after_at, after_lines, bulk_line_of, bulks_of, ended, ended_at, in_schedule, reading, start, with_line, with_order}
+use Rattle.hib_sections.specs.Sections.{alone, at_line, unless_before}
 use Rattle.hib_sections.specs.declared.bulk_lines.Changing.{Changing}
 use Rattle.hib_sections.specs.declared.bulks.Place.{Place}
 use Rattle.hib_sections.specs.declared.errors.SectionError.{SectionError}
+use Rattle.hib_sections.proofs.Locked.{locked}
 use Rattle.hib_sections.proofs.Within.{both}
 
 -- ---- one line
@@ -190,46 +189,6 @@ get_said : (ds : List BulkDef) (i : ℕ) (d : BulkDef) → slice_get ds i ≡ So
 get_said [] i d e = absurd (cc)
 get_said (x ∷ ds) zero d e = let s : x ≡ d = cc in ap (λ y. Some (said_of y)) s
 get_said (x ∷ ds) (suc i) d e = get_said ds i d e
-
--- ---- what is cached
-not_first : {A : Type 0} (p : A → Bool) (y : A) (ys : List A) → find p (y ∷ ys) ≡ None → p y ≡ false
-not_first p y ys f = by_test (tested (p y))
-  where
-    by_test : Tested (p y) → p y ≡ false
-    by_test (inl t) = let s : find p (y ∷ ys) ≡ Some y = rw t refl in absurd (cc)
-    by_test (inr t) = t
-
-later : {A : Type 0} (p : A → Bool) (y : A) (ys : List A) → find p (y ∷ ys) ≡ None → find p ys ≡ None
-later p y ys f = let s : find p (y ∷ ys) ≡ find p ys = rw (not_first p y ys f) refl in sym s ∙ f
-
-none_found : {A : Type 0} (p : A → Bool) (xs : List A) (i : ℕ) (x : A) → find p xs ≡ None → slice_get xs i ≡ Some x → p x ≡ false
-none_found p [] i x f e = absurd (cc)
-none_found p (y ∷ ys) zero x f e = let s : y ≡ x = cc in subst (λ z. p z ≡ false) s (not_first p y ys f)
-none_found p (y ∷ ys) (suc i) x f e = none_found p ys i x (later p y ys f) e
-
-by_strategy : (s : Strategy) → is_other s ≡ false → is_cached_by s ≡ true → s ≡ Strategy.ReadWrite
-by_strategy Strategy.Uncached o c = absurd (false≢true c)
-by_strategy Strategy.ReadWrite o c = refl
-by_strategy Strategy.ReadOnly o c = absurd (true≢false o)
-by_strategy Strategy.Nonstrict o c = absurd (true≢false o)
-
-first_none : (o : Option ℕ) (k : Kind) (r : Option Refused) → or_at o k r ≡ None → o ≡ None
-first_none None k r e = refl
-first_none (Some n) k r e = absurd (cc)
-
-no_line : {A : Type 0} (f : A → ℕ) (o : Option A) → option_map f o ≡ None → o ≡ None
-no_line f None e = refl
-no_line f (Some x) e = absurd (cc)
-
-locked : (m : List EntityDef) (ls : List Line) → fault_before m ls ≡ None → (n : ℕ) → is_cached_in m n ≡ true → strategy_in (slice_get m n) ≡ Strategy.ReadWrite
-locked m ls e n c = by_entity (slice_get m n) refl c
-  where
-    none : find (λ d. is_other d.strategy) m ≡ None
-    none = no_line _ (find (λ d. is_other d.strategy) m) (first_none (other_strategy m ls) Kind.Strategy _ e)
-
-    by_entity : (o : Option EntityDef) → slice_get m n ≡ o → is_cached_by (strategy_in o) ≡ true → strategy_in o ≡ Strategy.ReadWrite
-    by_entity None g h = absurd (false≢true h)
-    by_entity (Some d) g h = by_strategy d.strategy (none_found (λ d. is_other d.strategy) m n d none g) h
 
 -- ---- what was read
 pub are_fit : (m : List EntityDef) (sessions : List SessionDef) (before : List Line) (behind : Lines) (ds : List BulkDef) (os : List Order) → bulks_of m sessions before behind ≡ Ok (map said_of ds, os) → AreFit m ds

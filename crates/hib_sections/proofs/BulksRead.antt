@@ -1,11 +1,12 @@
 -- One line more of a section of bulk changes.
-use Rattle.std.proofs.Common.{◌≡◌, ℕ, ◌+◌, ◌<◌, ◌≤◌, List, length, drop, get_or, Result, Ok, Err, refl, sym, ◌∙◌, add-one, drop-cons}
+use Rattle.std.proofs.Common.{◌≡◌, ℕ, ◌+◌, ◌<◌, ◌≤◌, List, length, drop, get_or, Result, Ok, refl, sym, ◌∙◌, add-one, drop-cons}
 use Rattle.std.proofs.lemmas.List.{drop_all}
 use Rattle.hib_base.specs.declared.refusals.Refused.{Refused}
 use Rattle.hib_base.specs.declared.scripts.EntityDef.{EntityDef}
 use Rattle.hib_lex.specs.declared.lines.Line.{Line}
-use Rattle.hib_sections.specs.Bulks.{Read, after, at_line, reading}
+use Rattle.hib_sections.specs.Bulks.{Read, after, reading}
 use Rattle.hib_sections.specs.Collections.{IsWhere}
+use Rattle.hib_sections.specs.Sections.{at_line}
 use Rattle.hib_sections.specs.declared.errors.SectionError.{SectionError}
 
 abbrev with_next : List EntityDef → Read → Line → Result Read Refused

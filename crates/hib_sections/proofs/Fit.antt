@@ -1,7 +1,6 @@
 -- Collections that lines declare are few, and of entities whose rows have versions.
-use Rattle.std.proofs.Common.{◌≡◌, ◌<◌, ◌≤◌, ◌+◌, ℕ, Bool, true, false, not, List, [], ◌∷◌, ◌++◌, length, Option, Some, None, Result, Ok, Err, cond, codes, refl, subst, arith}
+use Rattle.std.proofs.Common.{◌≡◌, ◌<◌, ℕ, Bool, true, false, not, List, [], ◌∷◌, length, Option, Some, None, Result, Ok, Err, codes, refl, arith}
 use Rattle.std.specs.Prelude.{nat_le, IfOk}
-use Rattle.std.specs.List.{list_all}
 use Rattle.std.proofs.lemmas.Bool.Decides.{nat_tests}
 use Rattle.std.proofs.lemmas.List.{length-append}
 use Rattle.hib_base.specs.declared.refusals.Kind.{Kind}
@@ -12,9 +11,9 @@ use Rattle.hib_base.proofs.Lists.{all_more}
 use Rattle.hib_lex.specs.Words.{begins}
 use Rattle.hib_lex.specs.declared.lexer.Token.{Token}
 use Rattle.hib_lex.specs.declared.lines.Line.{Line}
-use Rattle.hib_mapping.specs.Parts.{is_within, number_up_to, word_of, is_reserved, entity_at}
+use Rattle.hib_mapping.specs.Parts.{is_within, word_of, is_reserved, entity_at}
 use Rattle.hib_collections_law.specs.declared.entries.Def.{Def}
-use Rattle.hib_sections.specs.Collections.{has_column, has_name, is_versioned, reference, at_column, if_known, in_entity, declared_by, is_form, declared_in, place_of, named, if_placed, collection_of, with_collection, with_line, declaring, unless_other, collections_of, AreFit}
+use Rattle.hib_sections.specs.Collections.{has_column, has_name, is_versioned, reference, at_column, if_known, declared_by, is_form, declared_in, place_of, named, if_placed, collection_of, with_collection, with_line, declaring, unless_other, collections_of, AreFit}
 use Rattle.hib_sections.specs.Schedules.{other_order}
 use Rattle.hib_sections.specs.declared.collections.Place.{Place}
 use Rattle.hib_sections.specs.declared.errors.SectionError.{SectionError}

@@ -1,5 +1,5 @@
 -- A line of five tokens.
-use Rattle.std.proofs.Common.{◌≡◌, ℕ, ◌<◌, ◌≤◌, List, [], ◌∷◌, length, slice_index_or, refl, arith}
+use Rattle.std.proofs.Common.{◌≡◌, ◌<◌, ◌≤◌, List, [], ◌∷◌, length, slice_index_or, refl, arith}
 use Rattle.hib_base.specs.declared.scripts.EntityDef.{EntityDef}
 use Rattle.hib_lex.specs.declared.lexer.Token.{Token}
 use Rattle.hib_collections_law.specs.declared.entries.Def.{Def}

@@ -3,5 +3,8 @@ pub mod Declared
 pub mod Fit
 pub mod Five
 pub mod Within
+pub mod Locked
 pub mod BulksRead
 pub mod BulksFit
+pub mod PlacesRead
+pub mod PlacesFit

@@ -1,8 +1,6 @@
 -- Parts of joined conditions that step within the mapping.
-use Rattle.std.proofs.Common.{◌≡◌, ℕ, Bool, true, false, ◌&&◌, List, [], ◌∷◌, ◌++◌, refl, ap, ◌∙◌, sym}
+use Rattle.std.proofs.Common.{◌≡◌, ℕ, Bool, true, false, ◌&&◌, List, [], ◌∷◌, ◌++◌, refl, ap, ◌∙◌}
 use Rattle.std.specs.List.{list_all}
-use Rattle.hib_base.specs.Queries.{parts_of}
-use Rattle.hib_base.specs.declared.scripts.Cond.{Cond}
 use Rattle.hib_base.specs.declared.scripts.Node.{Node}
 use Rattle.hib_sections.specs.BulkLines.{is_within}
 

@@ -1,5 +1,5 @@
 -- What a script may not have before a section of bulk lines or of places.
-use Rattle.std.specs.Prelude.{ℕ, Bool, true, false, ◌&&◌, List, [], ◌∷◌, codes, unwrap_or, Option, Some, None}
+use Rattle.std.specs.Prelude.{ℕ, Bool, true, false, ◌&&◌, List, ◌∷◌, codes, unwrap_or, Option, Some, None}
 use Rattle.std.specs.List.{find}
 use Rattle.std.specs.Option.{option_map}
 use Rattle.hib_base.specs.declared.refusals.Kind.{Kind}

@@ -1,5 +1,5 @@
 -- The section lines of bulk changes: update NAME ENTITY set COL CELL .. where COND, and delete NAME ENTITY where COND. The condition may be left out.
-use Rattle.std.specs.Prelude.{◌≡◌, ℕ, ◌+◌, Bool, true, false, if◌then◌else◌, not, ◌&&◌, ◌||◌, nat_le, nat_lt, List, [], ◌∷◌, length, take, drop, codes, bytes_eq, position, Option, Some, None, option_map, Result, Ok, Err}
+use Rattle.std.specs.Prelude.{ℕ, ◌+◌, Bool, true, false, if◌then◌else◌, not, ◌&&◌, ◌||◌, nat_le, nat_lt, List, [], ◌∷◌, length, take, drop, codes, bytes_eq, position, Option, Some, None, option_map, Result, Ok, Err}
 use Rattle.std.specs.List.{list_all, list_any}
 use Rattle.std.specs.Option.{option_map_or}
 use Rattle.hib_base.specs.Queries.{parts_in}
@@ -8,7 +8,7 @@ use Rattle.hib_base.specs.declared.scripts.EntityDef.{EntityDef}
 use Rattle.hib_base.specs.declared.scripts.Node.{Node}
 use Rattle.hib_base.specs.declared.scripts.Path.{Path}
 use Rattle.hib_base.specs.declared.scripts.SessionDef.{SessionDef}
-use Rattle.hib_lex.specs.Words.{begins, is_the_word}
+use Rattle.hib_lex.specs.Words.{is_the_word}
 use Rattle.hib_lex.specs.declared.lexer.Token.{Token}
 use Rattle.hib_mapping.specs.Parts.{is_a_word, word_of, entity_at}
 use Rattle.hib_columns.specs.Columns.{columns_of}

@@ -1,5 +1,5 @@
 -- The section of bulk changes: bulk lines, and then a schedule of runs, if there is one.
-use Rattle.std.specs.Prelude.{◌≡◌, ◌≤◌, ◌<◌, ◌==◌, ◌||◌, ℕ, Bool, true, false, if◌then◌else◌, nat_le, List, [], ◌∷◌, ◌++◌, length, map, codes, slice_get, Option, Some, None, Result, Ok, Err}
+use Rattle.std.specs.Prelude.{◌≡◌, ◌≤◌, ◌<◌, ◌==◌, ◌||◌, ℕ, Bool, true, false, if◌then◌else◌, nat_le, List, [], ◌∷◌, ◌++◌, length, map, codes, slice_get, Some, Result, Ok, Err}
 use Rattle.std.specs.Option.{option_map_or}
 use Rattle.hib_base.specs.declared.refusals.Kind.{Kind}
 use Rattle.hib_base.specs.declared.refusals.Refused.{Refused}
@@ -17,6 +17,7 @@ use Rattle.hib_lex.specs.declared.lines.Lines.{Lines}
 use Rattle.hib_statements.specs.Orders.{order_of}
 use Rattle.hib_sections.specs.Before.{fault_before}
 use Rattle.hib_sections.specs.BulkLines.{BulkSaid, bulk_of, said_of}
+use Rattle.hib_sections.specs.Sections.{actor, alone, at_line, names, unless_before}
 use Rattle.hib_sections.specs.declared.bulks.Place.{Place}
 use Rattle.hib_sections.specs.declared.bulks.Reading.{Reading}
 
@@ -30,12 +31,8 @@ pub record Read : Type 0 where
 abbrev pub read_of : Reading → Read
 read_of r = record { lines = map said_of r.lines; orders = r.orders; named = r.named; place = r.place }
 
--- a bulk line is named in an order as a session is
-abbrev pub actor : List ℕ → SessionDef
-actor name = record { name = name; statements = [] }
-
 abbrev pub start : List SessionDef → Read
-start sessions = record { lines = []; orders = []; named = map (λ s. actor s.name) sessions; place = Place.Lines }
+start sessions = record { lines = []; orders = []; named = names sessions; place = Place.Lines }
 
 -- ---- a bulk line: `update`, or else `delete`
 abbrev pub bulk_line_of : Bool → List EntityDef → Read → List Token → Result BulkSaid Kind
@@ -44,10 +41,6 @@ bulk_line_of sets m r ts = bulk_of sets m r.named (length r.lines) ts
 abbrev pub with_line : Read → Result BulkSaid Kind → Result Read Kind
 with_line r (Err k) = Err k
 with_line r (Ok d) = Ok (record r { lines = r.lines ++ d ∷ []; named = r.named ++ actor d.name ∷ [] })
-
-abbrev pub alone : List Token → Read → Result Read Kind
-alone (t ∷ []) r = Ok r
-alone _ r = Err Kind.Words
 
 abbrev pub after_lines : List EntityDef → Read → List Token → Result Read Kind
 after_lines m r ts =
@@ -76,10 +69,6 @@ after_at m r ts Place.Over = Err Kind.Line
 abbrev pub after : List EntityDef → Read → List Token → Result Read Kind
 after m r ts = after_at m r ts r.place
 
-abbrev pub at_line : ℕ → Result Read Kind → Result Read Refused
-at_line n (Err k) = Err (record { line = n; kind = k })
-at_line n (Ok r) = Ok r
-
 -- the first bad line ends it
 abbrev pub reading : List EntityDef → Result Read Refused → List Line → Result Read Refused
 reading m (Err x) ls = Err x
@@ -94,10 +83,6 @@ ended_at n r _ = Ok (r.lines, r.orders)
 abbrev pub ended : ℕ → Result Read Refused → Result (List BulkSaid × List Order) Refused
 ended n (Err x) = Err x
 ended n (Ok r) = ended_at n r r.place
-
-abbrev pub unless_before : Option Refused → Result (List BulkSaid × List Order) Refused → Result (List BulkSaid × List Order) Refused
-unless_before (Some x) r = Err x
-unless_before None r = r
 
 -- the bulk lines and the orders of a section after the lines of a script; or the first bad line of both
 abbrev pub bulks_of : List EntityDef → List SessionDef → List Line → Lines → Result (List BulkSaid × List Order) Refused

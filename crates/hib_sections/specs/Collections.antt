@@ -11,7 +11,6 @@ use Rattle.hib_lex.specs.declared.lexer.Token.{Token}
 use Rattle.hib_lex.specs.declared.lines.Line.{Line}
 use Rattle.hib_mapping.specs.Parts.{is_a_word, is_a_number, word_of, is_within, number_up_to, entity_at, is_reserved}
 use Rattle.hib_columns.specs.Columns.{columns_of, plain_column}
-use Rattle.hib_columns.specs.declared.columns.Found.{Found}
 use Rattle.hib_collections_law.specs.declared.entries.Def.{Def}
 use Rattle.hib_sections.specs.Schedules.{other_order}
 use Rattle.hib_sections.specs.declared.collections.Place.{Place}

@@ -4,11 +4,13 @@ ghost use Rattle.hib_sections.specs.BulkLines.{said_of};
 ghost use Rattle.hib_sections.specs.Bulks as section;
 ghost use Rattle.hib_sections.specs.Bulks.{AreFit, read_of};
 ghost use Rattle.hib_sections.specs.Collections.{IsFault, IsWhere};
+ghost use Rattle.hib_sections.specs.Sections.{alone, at_line};
 
 use crate::before::fault_before;
 use crate::bulk_lines::bulk_line;
 use crate::errors::{LineError, SectionError};
-use hib_base::{Kind, Mapping, Order, Orders, Refused, Seq, SessionDef, Sessions, Text};
+use crate::named::{actor, names};
+use hib_base::{Kind, Mapping, Order, Orders, Refused, Seq, Sessions};
 use hib_bulk_law::{BulkDefs, Bulks};
 use hib_lex::{Line, Lines, Token, begins};
 use hib_statements::{NamedSessions, order};
@@ -20,7 +22,7 @@ const MOST_ORDERS: usize = 20_000;
 /// Where the next line of the section stands.
 #[derive(Clone, Copy)]
 pub enum Place {
-    /// Among the bulk lines.
+    /// Among the lines before a schedule.
     Lines,
     /// Within the schedule.
     Schedule,
@@ -41,30 +43,14 @@ pub struct Reading {
     pub place: Place,
 }
 
-/// Somebody of this name who can be named in an order.
-fn actor(alloc: Global, name: &Text) -> Result<SessionDef, AllocError>
-    ensures { IfOk result (λ s. s ≡ section.actor name.now) }
-{
-    let mut copy = Seq::new(alloc);
-    copy.append(name.as_slice())?;
-    Ok(SessionDef {
-        name: copy,
-        statements: Seq::new(alloc),
-    })
-}
-
 /// Nothing is read yet.
 fn start(alloc: Global, sessions: &Sessions) -> Result<Reading, AllocError>
     ensures { IfOk result (λ r. read_of r ≡ section.start sessions.now) }
 {
-    let mut named = NamedSessions::new(alloc);
-    for session in sessions.as_slice() {
-        named.push(alloc, actor(alloc, &session.name)?)?;
-    }
     Ok(Reading {
         lines: Seq::new(alloc),
         orders: Seq::new(alloc),
-        named,
+        named: names(alloc, sessions)?,
         place: Place::Lines,
     })
 }
@@ -93,9 +79,9 @@ fn take_bulk(
 
 /// The line has one token alone, and the next line stands there.
 fn move_to(place: Place, reading: &mut Reading, tokens: &[Token]) -> Result<(), LineError>
-    ensures line { OnOk result (section.alone tokens.now
+    ensures line { OnOk result (alone tokens.now
         (record (read_of reading.old) { place = place }) ≡ Ok (read_of reading.new)) }
-    ensures fault { IfErr result (IsFault (section.alone tokens.now
+    ensures fault { IfErr result (IsFault (alone tokens.now
         (record (read_of reading.old) { place = place }))) }
 {
     match tokens {
@@ -190,10 +176,10 @@ fn take_at(
     reading: &mut Reading,
     line: &Line,
 ) -> Result<(), SectionError>
-    ensures line { OnOk result (section.at_line line.now.line
+    ensures line { OnOk result (at_line line.now.line
         (section.after mapping.now (read_of reading.old) line.now.tokens)
         ≡ Ok (read_of reading.new)) }
-    ensures refused { IfErr result (IsWhere (section.at_line line.now.line
+    ensures refused { IfErr result (IsWhere (at_line line.now.line
         (section.after mapping.now (read_of reading.old) line.now.tokens))) }
 {
     match take(alloc, mapping, reading, line.tokens.as_slice()) {

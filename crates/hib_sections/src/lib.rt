@@ -1,4 +1,4 @@
-//! The lines of the sections that come after a script: the collections that they declare, or the bulk changes.
+//! The lines of the sections that come after a script: the collections that they declare, the bulk changes, or the places of sessions.
 #![tactic(auto)]
 
 mod before;
@@ -6,8 +6,12 @@ mod bulk_lines;
 mod bulks;
 mod collections;
 mod errors;
+mod named;
+mod placed;
+mod places;
 mod schedules;
 
 pub use bulks::read_bulks;
 pub use collections::read_collections;
 pub use errors::SectionError;
+pub use places::read_nodes;
