@@ -17,7 +17,12 @@ use Rattle.hib_nodes_law.specs.Legal.{second_half, due_of, seen_at}
 use Rattle.hib_nodes_law.specs.Apart.{IsInTurn, AreNodesApart}
 use Rattle.hib_nodes.specs.Fencing.{IsFencedAt}
 use Rattle.hib_nodes.specs.Standing.{PartsState, AreStanding, AreBefore, entry_on, is_node, node_in}
+use Rattle.hib_nodes_law.specs.Apart.{AreOfParts}
+use Rattle.hib_nodes.specs.Kept.{past}
+use Rattle.hib_nodes.specs.Queue.{AreQueues, queue_in, with_queue}
 use Rattle.hib_nodes.specs.Run.{IsRun, HasDelivered}
+use Rattle.hib_nodes.specs.Shared.{SharedState, IsShared}
+use Rattle.hib_nodes.proofs.Waiting.{queues_fenced}
 use Rattle.hib_nodes.proofs.Lists.{at_node, same_list}
 use Rattle.hib_nodes.proofs.Replies.{lock_reply, unlock_reply}
 use Rattle.hib_nodes.proofs.Apart.{apart_nobody}
@@ -112,3 +117,43 @@ takes_first script n now f k p u h e =
   where
     counts : fence_count n (entry_on n (fence_unlock now k p u) ∷ entry_on n (fence_lock now k f p) ∷ h) ≡ suc (fence_count n h)
     counts = fence_counts n n now f k p u h ∙ (ap (λ b. cond b 1 0 + fence_count n h) (eq-eqb n n refl) ∙ omega arith)
+
+-- ---- the whole
+
+pub record IsFence (script : Script) (places : Nodings) (from : Origin) (n : ℕ) (x w : SharedState) : Type 0 where
+  pub shared : IsShared script places from w
+  pub delivered : HasDelivered script n (past x.journal) (past w.journal)
+
+pub fence_of : (script : Script) (places : Nodings) (from : Origin) (n : ℕ) (k : Key) (d e : Entry) (x w : SharedState) → IsShared script places from x → is_node n ≡ true →
+    length (past x.journal) + 1 < 2 ^ 62 → slice_get (queue script n (past x.journal)) 0 ≡ Some k → AreOfParts (past x.journal) →
+    IsFencedAt script (of_node n (past x.journal)) k (length (past x.journal) + 1) d e (node_in w.parts n) →
+    AreStanding script from.tables (entry_on n e ∷ entry_on n d ∷ past x.journal) w.parts → w.parts.store ≡ x.parts.store → past w.journal ≡ entry_on n e ∷ entry_on n d ∷ past x.journal →
+    w.queues ≡ with_queue n (record (queue_in x.queues n) { taken = (queue_in x.queues n).taken + 1 }) x.queues → IsFence script places from n x w
+fence_of script places from n k d e x w s i few first told f stands same grown queues = record {
+  shared = record {
+    run = subst (λ (g : Noded). IsRun script places from g w.parts) (sym grown) (delivers_on script places from h n k x.parts w.parts s.run few i first d e f (told.floors n (length h + 1)) stands same);
+    queues = subst (λ (g : Noded). AreQueues script g w.queues) (sym two) (queues_fenced script n (length h + 1) low_in k f.locked f.unlocked h x.queues w.queues s.queues i queues);
+  };
+  delivered = record {
+    key = k;
+    floor = low_in;
+    locked = f.locked;
+    unlocked = f.unlocked;
+    grown = two;
+    first = takes_first script n (length h + 1) low_in k f.locked f.unlocked h first ∙ ap (λ g. k ∷ queue script n g) (sym two);
+  };
+}
+  where
+    h : Noded
+    h = past x.journal
+
+    low_in : ℕ
+    low_in = floor (of_node n (past x.journal)) (length (past x.journal) + 1)
+
+    lock_so : d ≡ fence_lock (length (past x.journal) + 1) k (floor (of_node n (past x.journal)) (length (past x.journal) + 1)) f.locked
+    lock_so = f.lock ∙ ap (λ t. fence_lock (length (past x.journal) + 1) k t f.locked) (sym (told.floors n (length (past x.journal) + 1)))
+
+    two : past w.journal ≡ entry_on n (fence_unlock (length (past x.journal) + 1) k f.locked f.unlocked)
+        ∷ entry_on n (fence_lock (length (past x.journal) + 1) k (floor (of_node n (past x.journal)) (length (past x.journal) + 1)) f.locked) ∷ past x.journal
+    two = grown ∙ (ap (λ (t : Entry). entry_on n t ∷ entry_on n d ∷ past x.journal) f.unlock
+        ∙ ap (λ (t : Entry). entry_on n (fence_unlock (length (past x.journal) + 1) k f.locked f.unlocked) ∷ entry_on n t ∷ past x.journal) lock_so)

@@ -6,13 +6,20 @@ mod Stands
 mod Replies
 mod Answered
 mod Fenced
--- What waits.
+-- What waits, and where sessions are.
 mod Queues
+mod Waiting
+mod Placing
 mod Sides
 mod OwnAnswers
--- A run goes on.
+-- A run begins, and goes on.
+mod Begun
 mod Running
 mod Delivering
 mod Turned
+mod Still
+mod Stepped
 mod Obeyed
 mod Served
+-- What is played.
+mod Playing

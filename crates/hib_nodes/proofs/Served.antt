@@ -10,7 +10,7 @@ use Rattle.hib_journal.specs.Legal.{part_of}
 use Rattle.hib_journal.specs.Lists.{entry_at}
 use Rattle.hib_journal.specs.Next.{next}
 use Rattle.hib_session.specs.declared.session.Session.{Session}
-use Rattle.hib_session.specs.Session.{Follows, IsTaken, number_of, left_in}
+use Rattle.hib_session.specs.Session.{Follows, IsTaken, number_of}
 use Rattle.hib_engines.specs.Due.{IsDue}
 use Rattle.hib_engines.specs.Origin.{Origin}
 use Rattle.hib_nodes_law.specs.declared.nodes.NodeEntry.{NodeEntry}
@@ -61,13 +61,13 @@ pub serves_of : (script : Script) (places : Nodings) (from : Origin) (a : Act) (
     IsShared script places from x → IsTurn script (past x.journal) y a → length (past x.journal) < 2 ^ 62 →
     IsTold script from.tables (past x.journal) (node_of places (number_of y)) (number_of y) (length (past x.journal) + 1) a r x.parts w.parts → x.parts.store.faults ≤ w.parts.store.faults →
     e ≡ entry_at (length (past x.journal) + 1) (Some (number_of y)) a r → past w.journal ≡ entry_on (node_of places (number_of y)) e ∷ past x.journal →
-    number_of z ≡ number_of y → Follows script z (e ∷ own (number_of y) (entries (past x.journal))) → left_in script z < left_in script y →
+    number_of z ≡ number_of y → Follows script z (e ∷ own (number_of y) (entries (past x.journal))) →
     AreWaiting x.queues q → ks ≡ keys_at script a (own (number_of y) (entries (past x.journal))) →
     (queue_in w.queues (other_node (node_of places (number_of y)))).pairs ≡ (queue_in q (other_node (node_of places (number_of y)))).pairs ++ cond (is_committed e.reply) ks [] →
     (queue_in w.queues (other_node (node_of places (number_of y)))).taken ≡ (queue_in q (other_node (node_of places (number_of y)))).taken →
     queue_in w.queues (other_node (other_node (node_of places (number_of y)))) ≡ queue_in q (other_node (other_node (node_of places (number_of y)))) →
     Serves script places from a x w y z
-serves_of script places from a r x w q y z e ks shared turn few told faults is grown number follows less waits keys pairs taken other = record {
+serves_of script places from a r x w q y z e ks shared turn few told faults is grown number follows waits keys pairs taken other = record {
   answer = r;
   grown = grown ∙ ap (λ (t : Entry). entry_on n t ∷ h) is;
   shared = record {
@@ -81,7 +81,6 @@ serves_of script places from a r x w q y z e ks shared turn few told faults is g
   number = number;
   follows = subst (λ g. Follows script z (own s (entries g))) (sym (grown ∙ ap (λ (t : Entry). entry_on n t ∷ h) is))
       (subst (λ m. Follows script z m) (sym (own_grown s n (length h + 1) a r h)) (subst (λ (t : Entry). Follows script z (t ∷ own s (entries h))) is follows));
-  less = less;
   asked = told.asked;
   fault = told.fault;
 }
