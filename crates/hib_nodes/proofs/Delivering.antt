@@ -26,7 +26,7 @@ use Rattle.hib_nodes.proofs.Waiting.{queues_fenced}
 use Rattle.hib_nodes.proofs.Lists.{at_node, same_list}
 use Rattle.hib_nodes.proofs.Replies.{lock_reply, unlock_reply}
 use Rattle.hib_nodes.proofs.Apart.{apart_nobody}
-use Rattle.hib_nodes.proofs.Running.{before_next}
+use Rattle.hib_nodes.proofs.Going.{before_next}
 use Rattle.hib_nodes.proofs.Queues.{fence_pairs, fence_counts}
 
 module _ (script : Script) (places : Nodings) (from : Origin) (h : Noded) (n : ℕ) (k : Key) (x y : PartsState) (run : IsRun script places from h x)

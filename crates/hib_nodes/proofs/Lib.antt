@@ -9,12 +9,13 @@ mod Fenced
 -- What waits, and where sessions are.
 mod Queues
 mod Waiting
-mod Placing
+mod Named
+mod Chosen
 mod Sides
 mod OwnAnswers
 -- A run begins, and goes on.
 mod Begun
-mod Running
+mod Going
 mod Delivering
 mod Turned
 mod Still

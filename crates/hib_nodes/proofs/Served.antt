@@ -23,7 +23,7 @@ use Rattle.hib_nodes.specs.Queue.{QueuesState, AreQueues, AreWaiting, queue_in, 
 use Rattle.hib_nodes.specs.Run.{IsRun, AreSet}
 use Rattle.hib_nodes.specs.Shared.{SharedState, IsShared, IsTurn, Serves}
 use Rattle.hib_nodes.specs.Turns.{keys_at, is_committed}
-use Rattle.hib_nodes.proofs.Running.{before_next, runs_on}
+use Rattle.hib_nodes.proofs.Going.{before_next, runs_on}
 use Rattle.hib_nodes.proofs.Turned.{committed_keys, queues_more}
 
 -- a place is a node, and so is the node of a session that has none

@@ -18,7 +18,7 @@ pub none_named : (places : Nodings) (i count : ℕ) (xs : List ℕ) → xs ≡ r
 none_named places i count xs e l = record {
   all = ap length e ∙ length-replicate count 1;
   each = λ s k.
-      let m : s < length xs = omega (arith, k, ap length e, length-replicate count 1) in
+      let m : s < length xs = omega (arith, k, ap length e, length-replicate {A = ℕ} count 1) in
       slice_get-get_or xs s 1 m
       ∙ ap Some (ap (λ z. get_or z s 1) e ∙ (get_or-replicate count s 1 1 k ∙ sym (ap (λ ps. node_of ps s) (drop_all i places l))));
 }
@@ -54,12 +54,12 @@ pub named_past : (places : Nodings) (i count : ℕ) (xs : List ℕ) (p : ℕ × 
 named_past places i count xs p l e k w = record {
   all = w.all;
   each = λ s m.
-      let d : (p.0 == s) ≡ false = Rattle.std.proofs.lemmas.Bool.ne_eqb p.0 s (λ t. absurd (apart p.0 s t m)) in
+      let d : (p.0 == s) ≡ false = Rattle.std.proofs.lemmas.Bool.ne_eqb p.0 s (λ t. apart p.0 s t k m) in
       w.each s m ∙ ap Some (sym (first_of places i p s l e ∙ ap (λ b. cond b p.1 (node_of (drop (i + 1) places) s)) d));
 }
   where
-    apart : (n s : ℕ) → n ≡ s → s < count → ⊥
-    apart n s t m = omega (arith, t, m, k)
+    apart : (n s : ℕ) → n ≡ s → count ≤ n → s < count → ⊥
+    apart n s t j m = omega (arith, t, m, j)
 
 pub all_named : (places : Nodings) (i count : ℕ) (xs : List ℕ) → i ≡ 0 → AreNamed places i count xs → ArePlaced places count xs
 all_named places i count xs e w = record { all = w.all; each = λ s k. w.each s k ∙ ap (λ j. Some (node_of (drop j places) s)) e }
