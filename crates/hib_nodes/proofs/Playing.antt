@@ -1,7 +1,7 @@
 -- What a step and a delivery play, and what they leave due.
 use Rattle.std.specs.Prelude.{option_and_then, take, drop}
 use Rattle.std.specs.Option.{option_map_or}
-use Rattle.std.proofs.Common.{◌≡◌, ◌≢◌, ℕ, ◌+◌, ◌≤◌, ◌==◌, Bool, true, false, cond, List, [], ◌∷◌, ◌++◌, length, is_some, Some, None, Option, Result, Ok, Err, OnOk, refl, sym, ap, ◌∙◌, subst, inl, inr, eq-eqb}
+use Rattle.std.proofs.Common.{◌≡◌, ◌≢◌, ℕ, ◌+◌, ◌≤◌, ◌==◌, Bool, true, false, cond, List, [], ◌∷◌, ◌++◌, length, is_some, Some, None, Option, Result, Ok, Err, OnOk, refl, sym, ap, ◌∙◌, subst, arith, inl, inr, eq-eqb}
 use Rattle.std.proofs.lemmas.Bool.{eqb-true}
 use Rattle.std.proofs.lemmas.Option.{slice_get_past}
 use Rattle.hib_base.proofs.Tables.{Tested, tested}
@@ -53,10 +53,10 @@ module _ (script : Script) (places : Nodings) where
 -- ---- a delivery
 
 module _ (script : Script) (n : ℕ) (h new : Noded) (v : HasDelivered script n h new) where
-  lock : NodeEntry
+  abbrev lock : NodeEntry
   lock = entry_on n (fence_lock (length h + 1) v.key v.floor v.locked)
 
-  unlock : NodeEntry
+  abbrev unlock : NodeEntry
   unlock = entry_on n (fence_unlock (length h + 1) v.key v.locked v.unlocked)
 
   pub fence_stays : (s : ℕ) → has_next script new s ≡ has_next script h s
@@ -64,8 +64,9 @@ module _ (script : Script) (n : ℕ) (h new : Noded) (v : HasDelivered script n 
 
   pub queue_rests : (m : ℕ) → (n == m) ≡ false → queue script m new ≡ queue script m h
   queue_rests m q =
+      let counts : fence_count m (unlock ∷ lock ∷ h) ≡ fence_count m h = fence_counts m n (length h + 1) v.floor v.key v.locked v.unlocked h ∙ (ap (λ b. cond b 1 0 + fence_count m h) q ∙ omega arith) in
       ap (queue script m) v.grown
-      ∙ (ap (λ c. drop c (pairs script m (unlock ∷ lock ∷ h))) (fence_counts m n (length h + 1) v.floor v.key v.locked v.unlocked h ∙ ap (λ b. cond b 1 0 + fence_count m h) q)
+      ∙ (ap (λ c. drop c (pairs script m (unlock ∷ lock ∷ h))) counts
       ∙ ap (λ ks. drop (fence_count m h) ks) (fence_pairs script m n (length h + 1) v.floor v.key v.locked v.unlocked h))
 
   fence_plays : (rest : Noded) → play_fence n h (lock ∷ unlock ∷ rest) ≡ Some (new, rest)

@@ -113,7 +113,7 @@ queues_fenced script n now f k p u h q r w i e m j = by_test (tested (n == m))
     by_test (inr t) =
         let there : queue_in r m ≡ queue_in q m = ap (λ z. queue_in z m) e ∙ queue_beside n m y q i j t in
         let old : IsQueue script m h (queue_in q m) = w m j in
-        let count : fence_count m (entry_on n (fence_unlock now k p u) ∷ entry_on n (fence_lock now k f p) ∷ h) ≡ fence_count m h = fence_counts m n now f k p u h ∙ ap (λ b. cond b 1 0 + fence_count m h) t in
+        let count : fence_count m (entry_on n (fence_unlock now k p u) ∷ entry_on n (fence_lock now k f p) ∷ h) ≡ fence_count m h = fence_counts m n now f k p u h ∙ (ap (λ b. cond b 1 0 + fence_count m h) t ∙ omega arith) in
         record {
           pairs = ap (λ (z : QueueState). z.pairs) there ∙ (old.pairs ∙ sym (fence_pairs script m n now f k p u h));
           taken = ap (λ (z : QueueState). z.taken) there ∙ (old.taken ∙ sym count);
