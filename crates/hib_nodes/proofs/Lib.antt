@@ -21,6 +21,7 @@ mod Turned
 mod Still
 mod Stepped
 mod Obeyed
+mod Closing
 mod Served
 -- What is played.
 mod Playing

@@ -1,7 +1,7 @@
 -- What waits: the keys are of read-write regions, and a fence takes the first one.
 use Rattle.std.specs.Prelude.{slice_get}
 use Rattle.std.specs.List.{filter}
-use Rattle.std.proofs.Common.{◌≡◌, ◌+◌, ◌<◌, ℕ, zero, suc, Bool, true, false, cond, ◌==◌, List, [], ◌∷◌, ◌++◌, length, drop, Some, refl, sym, ap, ◌∙◌, subst, arith, inl, inr, eq-eqb}
+use Rattle.std.proofs.Common.{◌≡◌, ◌+◌, ◌<◌, ℕ, zero, suc, Bool, true, false, cond, ◌==◌, List, [], ◌∷◌, ◌++◌, length, drop, Some, None, refl, sym, ap, ◌∙◌, subst, arith, inl, inr, eq-eqb}
 use Rattle.std.proofs.lemmas.Bool.{true≢false, false≢true, eqb-true, ne_eqb}
 use Rattle.std.proofs.lemmas.Option.{none-some, same_Some}
 use Rattle.hib_base.proofs.Tables.{Tested, tested}
@@ -65,6 +65,14 @@ waits_shared script n h k e =
 
 pub queue_is : (script : Script) (n : ℕ) (h : Noded) (q : QueueState) → IsQueue script n h q → waiting q ≡ queue script n h
 queue_is script n h q k = ap (λ c. drop c q.pairs) k.taken ∙ ap (drop (fence_count n h)) k.pairs
+
+no_first : (ks : List Key) → slice_get ks 0 ≡ None → ks ≡ []
+no_first [] e = refl
+no_first (k ∷ ks) e = absurd (none-some k (sym e))
+
+-- nothing waits
+pub none_waits : (script : Script) (n : ℕ) (h : Noded) (q : QueueState) → IsQueue script n h q → slice_get (waiting q) 0 ≡ None → queue script n h ≡ []
+none_waits script n h q k e = sym (queue_is script n h q k) ∙ no_first (waiting q) e
 
 pub first_below : {A : Type 0} (c : ℕ) (ks : List A) (k : A) → slice_get (drop c ks) 0 ≡ Some k → c < length ks
 first_below zero [] k e = absurd (none-some k e)

@@ -153,6 +153,8 @@ impl<K: Keeper, N: Name> Nodes<K, N> {
         ensures going { OnOk result (self.new.refused ≡ self.old.refused) }
         ensures same { OnErr result (past self.new.journal ≡ past self.old.journal) }
         ensures still { OnErr result (self.new.parts ≡ self.old.parts) }
+        ensures asked { OnErr result (self.old.refused ≡ false
+            → IsAskedOnceMore N.from (past self.new.journal) self.new.parts) }
         ensures refused { OnErr result (self.new.refused ≡ true) }
     {
         let delivered = self.take_pair(node);
@@ -205,6 +207,8 @@ impl<K: Keeper, N: Name> Nodes<K, N> {
         ensures going { OnOk result (self.new.refused ≡ self.old.refused) }
         ensures same { OnErr result (past self.new.journal ≡ past self.old.journal) }
         ensures still { OnErr result (self.new.parts ≡ self.old.parts) }
+        ensures asked { OnErr result (self.old.refused ≡ false
+            → IsAsked N.from (past self.old.journal) self.old.parts) }
         ensures refused { OnErr result (self.new.refused ≡ true) }
     {
         match fencing::deliver::<K, N>(node, &mut self.shared) {
