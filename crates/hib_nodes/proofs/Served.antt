@@ -93,3 +93,36 @@ serves_of script places from a r x w q y z e ks shared turn few told faults is g
 
     n : ℕ
     n = node_of places (number_of y)
+
+-- what the parts were asked for
+pub asked_of : (given script : Script) (places : Nodings) (from : Origin) (n tick : ℕ) (x : SharedState) (y : Session) (a : Act) (r : Reply) (w : PartsState) → given ≡ script →
+    n ≡ node_of places (number_of y) → tick ≡ length (past x.journal) + 1 → IsShared script places from x → IsTurn script (past x.journal) y a →
+    ((o : Option Tables) (h : Noded) → Follows given y (own (number_of y) (entries h)) → IsReady given o h n (number_of y) tick a x.parts → IsTold given o h n (number_of y) tick a r x.parts w) →
+    IsTold script from.tables (past x.journal) (node_of places (number_of y)) (number_of y) (length (past x.journal) + 1) a r x.parts w
+asked_of given script places from n tick x y a r w q m t s turn f =
+    subst (λ i. IsTold script from.tables h its k i a r x.parts w) t
+    (subst (λ i. IsTold script from.tables h i k tick a r x.parts w) m
+    (subst (λ (v : Script). IsTold v from.tables h n k tick a r x.parts w) q
+    (f from.tables h (subst (λ (v : Script). Follows v y (own k (entries h))) (sym q) turn.follows)
+    (subst (λ i. IsReady given from.tables h i k tick a x.parts) (sym m)
+    (subst (λ i. IsReady given from.tables h its k i a x.parts) (sym t)
+    (subst (λ (v : Script). IsReady v from.tables h its k (length h + 1) a x.parts) (sym q) (ready_of script places from h x.parts y a s.run turn)))))))
+  where
+    abbrev h : Noded
+    h = past x.journal
+
+    abbrev k : ℕ
+    k = number_of y
+
+    abbrev its : ℕ
+    its = node_of places (number_of y)
+
+pub entry_is : (h : Noded) (s n t : ℕ) (a : Act) (r : Reply) (p : Part) → t ≡ length h + 1 → n ≡ s → p ≡ part_of a n →
+    ◌≡◌ {A = Entry} (record { tick = t; session = Some n; part = p; act = a; reply = r }) (entry_at (length h + 1) (Some s) a r)
+entry_is h s n t a r p d u v =
+    let make : ℕ → Part → ℕ → Entry = λ t p n. record { tick = t; session = Some n; part = p; act = a; reply = r } in
+    ap (λ i. make i p n) d ∙ (ap (λ i. make (length h + 1) i n) v ∙ ap (λ i. make (length h + 1) (part_of a i) i) u)
+
+pub brings_so : (b : Bool) → (b ≡ false → ⊥) → b ≡ true
+brings_so true f = refl
+brings_so false f = absurd (f refl)

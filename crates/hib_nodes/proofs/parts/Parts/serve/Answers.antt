@@ -1,7 +1,8 @@
-use Rattle.std.proofs.Common.{List, Some, refl, sym, ap, subst, ◌∙◌}
+use Rattle.std.proofs.Common.{◌≤◌, Some, refl, sym, ap, subst, ◌∙◌, arith}
 use Rattle.hib_journal.specs.Types.{Part}
 use Rattle.hib_journal.specs.Sessions.{same_part}
 use Rattle.hib_journal.specs.Lists.{of_part}
+use Rattle.hib_store.specs.Stores.{StoreState}
 use Rattle.hib_nodes_law.specs.Nodes.{entries}
 use Rattle.hib_engines.proofs.Outcomes.{map_ok, both_ok, map_on}
 use Rattle.hib_engines.proofs.Brought.{brings_none, store_reads, region_reads, ok_all}
@@ -48,7 +49,7 @@ returns-in-Region-clause-answered g c = both_ok c.ask_region.result _ _ _ c.ask_
     (sym c.part_of.ensures ∙ c.in-Region.is) (λ l. p c.args.script.now l (Some c.args.session)) at c.ask_region.ensures.registry (c.ask_region.ensures.alone w.node))
 
 pub returns-in-Registry-clause-faults : goal.returns-in-Registry-clause-faults
-returns-in-Registry-clause-faults g c = ?
+returns-in-Registry-clause-faults g c = subst (λ (z : StoreState). c.args.self.now.store.faults ≤ z.faults) (sym c.begin.ensures.store) (omega arith)
 
 pub returns-in-Region-clause-faults : goal.returns-in-Region-clause-faults
-returns-in-Region-clause-faults g c = ?
+returns-in-Region-clause-faults g c = subst (λ (z : StoreState). c.args.self.now.store.faults ≤ z.faults) (sym c.ask_region.ensures.store) (omega arith)
