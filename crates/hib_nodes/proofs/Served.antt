@@ -108,13 +108,13 @@ asked_of given script places from n tick x y a r w q m t s turn f =
     (subst (λ i. IsReady given from.tables h its k i a x.parts) (sym t)
     (subst (λ (v : Script). IsReady v from.tables h its k (length h + 1) a x.parts) (sym q) (ready_of script places from h x.parts y a s.run turn)))))))
   where
-    abbrev h : Noded
+    h : Noded
     h = past x.journal
 
-    abbrev k : ℕ
+    k : ℕ
     k = number_of y
 
-    abbrev its : ℕ
+    its : ℕ
     its = node_of places (number_of y)
 
 pub entry_is : (h : Noded) (s n t : ℕ) (a : Act) (r : Reply) (p : Part) → t ≡ length h + 1 → n ≡ s → p ≡ part_of a n →
