@@ -4,6 +4,7 @@ use Rattle.std.specs.Option.{option_map_or}
 use Rattle.std.proofs.Common.{◌≡◌, ◌≢◌, ℕ, ◌+◌, ◌≤◌, ◌==◌, Bool, true, false, cond, List, [], ◌∷◌, ◌++◌, length, is_some, Some, None, Option, Result, Ok, Err, OnOk, refl, sym, ap, ◌∙◌, subst, arith, inl, inr, eq-eqb}
 use Rattle.std.proofs.lemmas.Bool.{eqb-true}
 use Rattle.std.proofs.lemmas.Option.{slice_get_past}
+use Rattle.std.specs.declared.alloc.AllocError.{AllocError}
 use Rattle.hib_base.proofs.Tables.{Tested, tested}
 use Rattle.hib_journal.specs.Types.{Key, Script, Mode, SessionDef}
 use Rattle.hib_journal.specs.Sessions.{Journal, own, is_session}
@@ -133,3 +134,15 @@ both_empty script mid new e f o n i = by_node (tested (2 == n))
 pub both_on : {T E : Type 0} (r : Result T E) (R S Q : Type 0) → OnOk r R → OnOk r S → (R → S → Q) → OnOk r Q
 both_on (Ok t) R S Q p q f = f p q
 both_on (Err e) R S Q p q f = tt
+
+pub first_node : (n : ℕ) → n ≡ 1 → is_node n ≡ true
+first_node n e = subst (λ m. is_node m ≡ true) (sym e) refl
+
+pub second_node : (n : ℕ) → n ≡ 2 → is_node n ≡ true
+second_node n e = subst (λ m. is_node m ≡ true) (sym e) refl
+
+-- a delivery, whether or not anything waited
+pub delivers_by : (script : Script) (n : ℕ) (b : Bool) (r : Result Bool AllocError) (h new : Noded) → r ≡ Ok b → (r ≡ Ok true → HasDelivered script n h new) → (r ≡ Ok false → IsDelivered script n h new) →
+    Leads (play_deliver script n) played h new
+delivers_by script n true r h new e f g = deliver_leads script n h new (f e)
+delivers_by script n false r h new e f g = none_delivers script n h new (g e)
