@@ -1,13 +1,17 @@
 -- A run of two nodes goes on by a fence: its two entries are due, and it takes the first pair that waits.
 use Rattle.std.specs.Prelude.{slice_get, option_map, unwrap_or}
-use Rattle.std.proofs.Common.{◌≡◌, ◌<◌, ◌≤◌, ◌+◌, ◌^◌, ℕ, zero, suc, Bool, true, false, cond, ◌==◌, List, [], ◌∷◌, length, drop, Some, None, Option, refl, sym, ap, ◌∙◌, subst, arith, eq-eqb}
+use Rattle.std.proofs.Common.{◌≡◌, ◌<◌, ◌≤◌, ◌+◌, ◌^◌, ℕ, zero, suc, Bool, true, false, cond, ◌==◌, List, [], ◌∷◌, length, drop, Some, None, Option, Result, Ok, ◌≢◌, refl, sym, ap, ◌∙◌, subst, arith, eq-eqb}
+use Rattle.std.specs.declared.alloc.AllocError.{AllocError}
 use Rattle.hib_base.specs.Tables.{Tables}
 use Rattle.hib_journal.specs.Types.{Key, Script, Part, Act, Reply, Entry}
-use Rattle.hib_journal.specs.Sessions.{Journal, floor, same_part}
+use Rattle.hib_journal.specs.Sessions.{Journal, floor, own, same_part}
 use Rattle.hib_journal.specs.Lists.{of_part, IsStoreReply}
 use Rattle.hib_journal.specs.Runs.{fault_count}
-use Rattle.hib_split_law.specs.Apart.{is_own, is_of_session}
-use Rattle.hib_engines.specs.Counts.{RoseBy}
+use Rattle.hib_session.specs.declared.session.Session.{Session}
+use Rattle.hib_session.specs.Session.{Follows}
+use Rattle.hib_split_law.specs.Apart.{is_own, is_of_session, store_ask_count}
+use Rattle.hib_store.specs.Stores.{StoreState}
+use Rattle.hib_engines.specs.Counts.{RoseBy, RoseWithin}
 use Rattle.hib_engines.specs.Fenced.{fence_lock, fence_unlock}
 use Rattle.hib_engines.specs.Origin.{Origin}
 use Rattle.hib_nodes_law.specs.declared.nodes.NodeEntry.{NodeEntry}
@@ -17,11 +21,16 @@ use Rattle.hib_nodes_law.specs.Legal.{second_half, due_of, seen_at}
 use Rattle.hib_nodes_law.specs.Apart.{IsInTurn, AreNodesApart}
 use Rattle.hib_nodes.specs.Fencing.{IsFencedAt}
 use Rattle.hib_nodes.specs.Standing.{PartsState, AreStanding, AreBefore, entry_on, is_node, node_in}
-use Rattle.hib_nodes.specs.Run.{IsRun, HasDelivered}
+use Rattle.hib_nodes_law.specs.Apart.{AreOfParts}
+use Rattle.hib_nodes.specs.Kept.{past}
+use Rattle.hib_nodes.specs.Queue.{AreQueues, queue_in, with_queue}
+use Rattle.hib_nodes.specs.Run.{IsRun, HasDelivered, IsAsked}
+use Rattle.hib_nodes.specs.Shared.{SharedState, AreSessions, IsShared}
+use Rattle.hib_nodes.proofs.Waiting.{queues_fenced}
 use Rattle.hib_nodes.proofs.Lists.{at_node, same_list}
 use Rattle.hib_nodes.proofs.Replies.{lock_reply, unlock_reply}
 use Rattle.hib_nodes.proofs.Apart.{apart_nobody}
-use Rattle.hib_nodes.proofs.Running.{before_next}
+use Rattle.hib_nodes.proofs.Going.{before_next}
 use Rattle.hib_nodes.proofs.Queues.{fence_pairs, fence_counts}
 
 module _ (script : Script) (places : Nodings) (from : Origin) (h : Noded) (n : ℕ) (k : Key) (x y : PartsState) (run : IsRun script places from h x)
@@ -112,3 +121,73 @@ takes_first script n now f k p u h e =
   where
     counts : fence_count n (entry_on n (fence_unlock now k p u) ∷ entry_on n (fence_lock now k f p) ∷ h) ≡ suc (fence_count n h)
     counts = fence_counts n n now f k p u h ∙ (ap (λ b. cond b 1 0 + fence_count n h) (eq-eqb n n refl) ∙ omega arith)
+
+-- ---- the whole
+
+pub record IsFence (script : Script) (places : Nodings) (from : Origin) (n : ℕ) (x w : SharedState) : Type 0 where
+  pub shared : IsShared script places from w
+  pub delivered : HasDelivered script n (past x.journal) (past w.journal)
+
+pub fence_of : (script : Script) (places : Nodings) (from : Origin) (n : ℕ) (k : Key) (d e : Entry) (x w : SharedState) → IsShared script places from x → is_node n ≡ true →
+    length (past x.journal) + 1 < 2 ^ 62 → slice_get (queue script n (past x.journal)) 0 ≡ Some k → AreOfParts (past x.journal) →
+    IsFencedAt script (of_node n (past x.journal)) k (length (past x.journal) + 1) d e (node_in w.parts n) →
+    AreStanding script from.tables (entry_on n e ∷ entry_on n d ∷ past x.journal) w.parts → w.parts.store ≡ x.parts.store → past w.journal ≡ entry_on n e ∷ entry_on n d ∷ past x.journal →
+    w.queues ≡ with_queue n (record (queue_in x.queues n) { taken = (queue_in x.queues n).taken + 1 }) x.queues → IsFence script places from n x w
+fence_of script places from n k d e x w s i few first told f stands same grown queues = record {
+  shared = record {
+    run = subst (λ (g : Noded). IsRun script places from g w.parts) (sym grown) (delivers_on script places from h n k x.parts w.parts s.run few i first d e f (told.floors n (length h + 1)) stands same);
+    queues = subst (λ (g : Noded). AreQueues script g w.queues) (sym two) (queues_fenced script n (length h + 1) low_in k f.locked f.unlocked h x.queues w.queues s.queues i queues);
+  };
+  delivered = record {
+    key = k;
+    floor = low_in;
+    locked = f.locked;
+    unlocked = f.unlocked;
+    grown = two;
+    first = takes_first script n (length h + 1) low_in k f.locked f.unlocked h first ∙ ap (λ g. k ∷ queue script n g) (sym two);
+  };
+}
+  where
+    h : Noded
+    h = past x.journal
+
+    low_in : ℕ
+    low_in = floor (of_node n (past x.journal)) (length (past x.journal) + 1)
+
+    lock_so : d ≡ fence_lock (length (past x.journal) + 1) k (floor (of_node n (past x.journal)) (length (past x.journal) + 1)) f.locked
+    lock_so = f.lock ∙ ap (λ t. fence_lock (length (past x.journal) + 1) k t f.locked) (sym (told.floors n (length (past x.journal) + 1)))
+
+    two : past w.journal ≡ entry_on n (fence_unlock (length (past x.journal) + 1) k f.locked f.unlocked)
+        ∷ entry_on n (fence_lock (length (past x.journal) + 1) k (floor (of_node n (past x.journal)) (length (past x.journal) + 1)) f.locked) ∷ past x.journal
+    two = grown ∙ (ap (λ (t : Entry). entry_on n t ∷ entry_on n d ∷ past x.journal) f.unlock
+        ∙ ap (λ (t : Entry). entry_on n (fence_unlock (length (past x.journal) + 1) k f.locked f.unlocked) ∷ entry_on n t ∷ past x.journal) lock_so)
+
+-- ---- the sessions, and how often the keeper was asked
+
+sessions_rest : (script : Script) (n : ℕ) (h new : Noded) (xs : List Session) → HasDelivered script n h new → AreSessions script h xs → AreSessions script new xs
+sessions_rest script n h new xs v w = record {
+  all = w.all;
+  numbers = w.numbers;
+  follow = λ s y p. subst (λ m. Follows script y m) (sym (ap (λ j. own s (entries j)) v.grown)) (w.follow s y p);
+}
+
+asked_rest : (script : Script) (from : Origin) (n : ℕ) (h new : Noded) (x y : PartsState) → HasDelivered script n h new → y.store ≡ x.store → IsAsked from h x → IsAsked from new y
+asked_rest script from n h new x y v e a = subst (λ (j : Noded). RoseWithin from.asked (store_ask_count (of_part Part.Store (entries j))) y.store.asked) (sym v.grown)
+    (subst (λ (z : StoreState). RoseWithin from.asked (store_ask_count (of_part Part.Store (entries h))) z.asked) (sym e) a)
+
+pub record IsRested (script : Script) (from : Origin) (new : Noded) (y : PartsState) (xs : List Session) (A : Type 0) : Type 0 where
+  pub sessions : AreSessions script new xs
+  pub asked : A → IsAsked from new y
+
+-- whether or not one was delivered
+pub rested : (script : Script) (from : Origin) (n : ℕ) (b : Bool) (h new : Noded) (x y : PartsState) (xs : List Session) (A : Type 0) → (b ≡ true → HasDelivered script n h new) → (b ≡ false → new ≡ h) →
+    y.store ≡ x.store → AreSessions script h xs → (A → IsAsked from h x) → IsRested script from new y xs A
+rested script from n true h new x y xs A f g e w a = record { sessions = sessions_rest script n h new xs (f refl) w; asked = λ i. asked_rest script from n h new x y (f refl) e (a i) }
+rested script from n false h new x y xs A f g e w a = record {
+  sessions = subst (λ (j : Noded). AreSessions script j xs) (sym (g refl)) w;
+  asked = λ i. subst (λ (j : Noded). IsAsked from j y) (sym (g refl))
+      (subst (λ (z : StoreState). RoseWithin from.asked (store_ask_count (of_part Part.Store (entries h))) z.asked) (sym e) (a i));
+}
+
+pub ok_false : (r : Result Bool AllocError) → r ≡ Ok false → r ≢ Ok true
+ok_false r e f = let d : ◌≡◌ {A = Result Bool AllocError} (Ok false) (Ok true) = sym e ∙ f in cc

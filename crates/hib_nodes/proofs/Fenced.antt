@@ -19,9 +19,9 @@ use Rattle.hib_nodes_law.specs.declared.nodes.NodeEntry.{NodeEntry}
 use Rattle.hib_nodes_law.specs.Types.{Noded}
 use Rattle.hib_nodes_law.specs.Nodes.{entries, of_node}
 use Rattle.hib_nodes.specs.Fencing.{IsFencedAt}
-use Rattle.hib_nodes.specs.Standing.{NodeState, PartsState, AreStanding, IsAtNode, is_node, node_in, entry_on}
-use Rattle.hib_nodes.proofs.Lists.{other_part, same_list, at_other, at_node, late_own}
-use Rattle.hib_nodes.specs.Parts.{AreShared}
+use Rattle.hib_nodes.specs.Standing.{NodeState, PartsState, AreBefore, AreStanding, IsAtNode, is_node, node_in, entry_on}
+use Rattle.hib_nodes.proofs.Lists.{other_part, same_list, at_other, at_node, late_own, before_node}
+use Rattle.hib_nodes.specs.Parts.{AreShared, IsAlone}
 
 -- ---- a list with two entries of one part
 
@@ -99,3 +99,13 @@ fence_stands script told h n i d e x y s t k w here others = record {
         subst (λ g. IsAtNode script g (node_in y m)) (sym (two_same n m d e h q)) (subst (λ z. IsAtNode script (e ∷ d ∷ of_node z h) (node_in y z)) c here)
     by_node m j (inr q) =
         subst (λ g. IsAtNode script g (node_in y m)) (sym (two_other n m d e h q)) (subst (λ z. IsAtNode script (of_node m h) z) (sym (others m j q)) (k.nodes m j))
+
+-- what the region of a node answers is a fence of the parts
+pub parts_fenced : (script : Script) (told : Option Tables) (h : Noded) (n now : ℕ) (k : Key) (d e : Entry) (x y : PartsState) → AreStanding script told h x → AreBefore now h → is_node n ≡ true →
+    strategy script k.entity ≡ Strategy.ReadWrite → IsAlone n x y →
+    ((g : Journal) → IsAtNode script g (node_in x n) → IsLate Part.Registry now g → IsLate (Part.Region k.entity) now g → strategy script k.entity ≡ Strategy.ReadWrite → IsFencedAt script g k now d e (node_in y n)) →
+    IsFencedAt script (of_node n h) k now d e (node_in y n) × AreStanding script told (entry_on n e ∷ entry_on n d ∷ h) y
+parts_fenced script told h n now k d e x y s b i rw_k w f =
+    let v : IsFencedAt script (of_node n h) k now d e (node_in y n) =
+    f (of_node n h) (s.nodes n i) (before_node now n h (λ c. same_part Part.Registry c.part) b) (before_node now n h (λ c. same_part (Part.Region k.entity) c.part) b) rw_k in
+    (v, fence_stands script told h n k.entity d e x y (ap (λ (t : Entry). t.part) v.lock) (ap (λ (t : Entry). t.part) v.unlock) s w.shared v.stands w.others)

@@ -6,13 +6,22 @@ mod Stands
 mod Replies
 mod Answered
 mod Fenced
--- What waits.
+-- What waits, and where sessions are.
 mod Queues
+mod Waiting
+mod Named
+mod Chosen
 mod Sides
 mod OwnAnswers
--- A run goes on.
-mod Running
+-- A run begins, and goes on.
+mod Begun
+mod Going
 mod Delivering
 mod Turned
+mod Still
+mod Stepped
 mod Obeyed
+mod Closing
 mod Served
+-- What is played.
+mod Playing

@@ -10,7 +10,7 @@ use Rattle.hib_journal.specs.Legal.{part_of}
 use Rattle.hib_journal.specs.Lists.{entry_at}
 use Rattle.hib_journal.specs.Next.{next}
 use Rattle.hib_session.specs.declared.session.Session.{Session}
-use Rattle.hib_session.specs.Session.{Follows, IsTaken, number_of, left_in}
+use Rattle.hib_session.specs.Session.{Follows, IsTaken, number_of}
 use Rattle.hib_engines.specs.Due.{IsDue}
 use Rattle.hib_engines.specs.Origin.{Origin}
 use Rattle.hib_nodes_law.specs.declared.nodes.NodeEntry.{NodeEntry}
@@ -23,7 +23,7 @@ use Rattle.hib_nodes.specs.Queue.{QueuesState, AreQueues, AreWaiting, queue_in, 
 use Rattle.hib_nodes.specs.Run.{IsRun, AreSet}
 use Rattle.hib_nodes.specs.Shared.{SharedState, IsShared, IsTurn, Serves}
 use Rattle.hib_nodes.specs.Turns.{keys_at, is_committed}
-use Rattle.hib_nodes.proofs.Running.{before_next, runs_on}
+use Rattle.hib_nodes.proofs.Going.{before_next, runs_on}
 use Rattle.hib_nodes.proofs.Turned.{committed_keys, queues_more}
 
 -- a place is a node, and so is the node of a session that has none
@@ -61,13 +61,13 @@ pub serves_of : (script : Script) (places : Nodings) (from : Origin) (a : Act) (
     IsShared script places from x → IsTurn script (past x.journal) y a → length (past x.journal) < 2 ^ 62 →
     IsTold script from.tables (past x.journal) (node_of places (number_of y)) (number_of y) (length (past x.journal) + 1) a r x.parts w.parts → x.parts.store.faults ≤ w.parts.store.faults →
     e ≡ entry_at (length (past x.journal) + 1) (Some (number_of y)) a r → past w.journal ≡ entry_on (node_of places (number_of y)) e ∷ past x.journal →
-    number_of z ≡ number_of y → Follows script z (e ∷ own (number_of y) (entries (past x.journal))) → left_in script z < left_in script y →
+    number_of z ≡ number_of y → Follows script z (e ∷ own (number_of y) (entries (past x.journal))) →
     AreWaiting x.queues q → ks ≡ keys_at script a (own (number_of y) (entries (past x.journal))) →
     (queue_in w.queues (other_node (node_of places (number_of y)))).pairs ≡ (queue_in q (other_node (node_of places (number_of y)))).pairs ++ cond (is_committed e.reply) ks [] →
     (queue_in w.queues (other_node (node_of places (number_of y)))).taken ≡ (queue_in q (other_node (node_of places (number_of y)))).taken →
     queue_in w.queues (other_node (other_node (node_of places (number_of y)))) ≡ queue_in q (other_node (other_node (node_of places (number_of y)))) →
     Serves script places from a x w y z
-serves_of script places from a r x w q y z e ks shared turn few told faults is grown number follows less waits keys pairs taken other = record {
+serves_of script places from a r x w q y z e ks shared turn few told faults is grown number follows waits keys pairs taken other = record {
   answer = r;
   grown = grown ∙ ap (λ (t : Entry). entry_on n t ∷ h) is;
   shared = record {
@@ -81,7 +81,6 @@ serves_of script places from a r x w q y z e ks shared turn few told faults is g
   number = number;
   follows = subst (λ g. Follows script z (own s (entries g))) (sym (grown ∙ ap (λ (t : Entry). entry_on n t ∷ h) is))
       (subst (λ m. Follows script z m) (sym (own_grown s n (length h + 1) a r h)) (subst (λ (t : Entry). Follows script z (t ∷ own s (entries h))) is follows));
-  less = less;
   asked = told.asked;
   fault = told.fault;
 }
@@ -94,3 +93,36 @@ serves_of script places from a r x w q y z e ks shared turn few told faults is g
 
     n : ℕ
     n = node_of places (number_of y)
+
+-- what the parts were asked for
+pub asked_of : (given script : Script) (places : Nodings) (from : Origin) (n tick : ℕ) (x : SharedState) (y : Session) (a : Act) (r : Reply) (w : PartsState) → given ≡ script →
+    n ≡ node_of places (number_of y) → tick ≡ length (past x.journal) + 1 → IsShared script places from x → IsTurn script (past x.journal) y a →
+    ((o : Option Tables) (h : Noded) → Follows given y (own (number_of y) (entries h)) → IsReady given o h n (number_of y) tick a x.parts → IsTold given o h n (number_of y) tick a r x.parts w) →
+    IsTold script from.tables (past x.journal) (node_of places (number_of y)) (number_of y) (length (past x.journal) + 1) a r x.parts w
+asked_of given script places from n tick x y a r w q m t s turn f =
+    subst (λ i. IsTold script from.tables h its k i a r x.parts w) t
+    (subst (λ i. IsTold script from.tables h i k tick a r x.parts w) m
+    (subst (λ (v : Script). IsTold v from.tables h n k tick a r x.parts w) q
+    (f from.tables h (subst (λ (v : Script). Follows v y (own k (entries h))) (sym q) turn.follows)
+    (subst (λ i. IsReady given from.tables h i k tick a x.parts) (sym m)
+    (subst (λ i. IsReady given from.tables h its k i a x.parts) (sym t)
+    (subst (λ (v : Script). IsReady v from.tables h its k (length h + 1) a x.parts) (sym q) (ready_of script places from h x.parts y a s.run turn)))))))
+  where
+    h : Noded
+    h = past x.journal
+
+    k : ℕ
+    k = number_of y
+
+    its : ℕ
+    its = node_of places (number_of y)
+
+pub entry_is : (h : Noded) (s n t : ℕ) (a : Act) (r : Reply) (p : Part) → t ≡ length h + 1 → n ≡ s → p ≡ part_of a n →
+    ◌≡◌ {A = Entry} (record { tick = t; session = Some n; part = p; act = a; reply = r }) (entry_at (length h + 1) (Some s) a r)
+entry_is h s n t a r p d u v =
+    let make : ℕ → Part → ℕ → Entry = λ t p n. record { tick = t; session = Some n; part = p; act = a; reply = r } in
+    ap (λ i. make i p n) d ∙ (ap (λ i. make (length h + 1) i n) v ∙ ap (λ i. make (length h + 1) (part_of a i) i) u)
+
+pub brings_so : (b : Bool) → (b ≡ false → ⊥) → b ≡ true
+brings_so true f = refl
+brings_so false f = absurd (f refl)

@@ -88,6 +88,6 @@ asked_on h n s now a r x y f b w = by_part (tested (same_part Part.Store (part_o
     by_part (inl p) = subst (λ l. RoseWithin b (store_ask_count l) y.store.asked) (sym (same_list Part.Store (entry_at now (Some s) a r) (entries h) p))
         (record { later = omega (arith, w.later, f.later); few = omega (arith, w.few, f.few) })
     by_part (inr p) =
-        let none : cond (asks (unsaved s (of_part Part.Store (entries h))) a) 1 0 ≡ 0 = ap (λ t. cond t 1 0) (asks_none (unsaved s (of_part Part.Store (entries h))) a s p) in
+        let none : ◌≡◌ {A = ℕ} (cond (asks (unsaved s (of_part Part.Store (entries h))) a) 1 0) 0 = ap (λ t. cond t 1 0) (asks_none (unsaved s (of_part Part.Store (entries h))) a s p) in
         subst (λ l. RoseWithin b (store_ask_count l) y.store.asked) (sym (other_part Part.Store (entry_at now (Some s) a r) (entries h) p))
         (record { later = omega (arith, w.later, f.later); few = omega (arith, w.few, f.few, none) })

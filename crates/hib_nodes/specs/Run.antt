@@ -103,7 +103,3 @@ pub record NodesState : Type 0 where
   pub journal : Rattle.hib_nodes.specs.Kept.Kept
   pub parts : PartsState
   pub refused : Bool
-
--- a journal has gone on from another, or is still that
-abbrev pub GoesOn : Noded → Noded → Type 0
-GoesOn old new = (added : Noded) × (new ≡ Rattle.std.specs.Prelude.◌++◌ added old)

@@ -1,5 +1,6 @@
 -- What the sessions of a run share, and what a turn of one leaves of it.
-use Rattle.std.specs.Prelude.{◌≡◌, ◌<◌, ◌+◌, ℕ, List, ◌∷◌, length, slice_get, Some, true}
+use Rattle.std.specs.Prelude.{◌≡◌, ◌≢◌, ◌<◌, ◌+◌, ℕ, List, ◌∷◌, length, slice_get, Some, true, Result, Ok, OnOk}
+use Rattle.std.specs.declared.alloc.AllocError.{AllocError}
 use Rattle.hib_journal.specs.Types.{Key, Script, Part, Act, Reply}
 use Rattle.hib_journal.specs.Sessions.{Journal, own}
 use Rattle.hib_journal.specs.Lists.{entry_at, unsaved, of_part}
@@ -7,18 +8,20 @@ use Rattle.hib_journal.specs.Next.{next}
 use Rattle.hib_journal.specs.Runs.{is_fault}
 use Rattle.hib_outside.specs.Causes.{Rose}
 use Rattle.hib_session.specs.declared.session.Session.{Session}
-use Rattle.hib_session.specs.Session.{Follows, number_of, left_in}
+use Rattle.hib_session.specs.Session.{Follows, number_of}
 use Rattle.hib_split_law.specs.Apart.{store_ask_count}
 use Rattle.hib_engines.specs.Counts.{RoseWithin}
+use Rattle.hib_engines.specs.declared.stepped.Stepped.{Stepped}
 use Rattle.hib_engines.specs.Due.{IsDue}
 use Rattle.hib_engines.specs.Origin.{Origin}
+use Rattle.hib_nodes_law.specs.declared.nodes.NodeEntry.{NodeEntry}
 use Rattle.hib_nodes_law.specs.Types.{Noded, Nodings}
 use Rattle.hib_nodes_law.specs.Nodes.{entries}
 use Rattle.hib_nodes_law.specs.Legal.{node_of}
 use Rattle.hib_nodes.specs.Kept.{Kept, past}
 use Rattle.hib_nodes.specs.Standing.{PartsState, IsAskedFor, IsStill, entry_on}
 use Rattle.hib_nodes.specs.Queue.{QueuesState, AreQueues, AreWaiting}
-use Rattle.hib_nodes.specs.Run.{IsRun, HasStepped}
+use Rattle.hib_nodes.specs.Run.{IsRun, HasStepped, IsOver}
 
 pub record SharedState : Type 0 where
   pub parts : PartsState
@@ -44,7 +47,6 @@ pub record Serves (script : Script) (places : Nodings) (from : Origin) (a : Act)
   pub shared : IsShared script places from w
   pub number : number_of z ≡ number_of y
   pub follows : Follows script z (own (number_of y) (entries (past w.journal)))
-  pub less : left_in script z < left_in script y
   pub asked : IsAskedFor (past x.journal) (number_of y) a x.parts w.parts
   pub fault : is_fault answer ≡ true → Rose x.parts.store.faults w.parts.store.faults
 
@@ -67,11 +69,15 @@ abbrev pub IsAskedOn : SharedState → SharedState → Type 0
 IsAskedOn x w = (b : ℕ) → RoseWithin b (store_ask_count (of_part Part.Store (entries (past x.journal)))) x.parts.store.asked →
     RoseWithin b (store_ask_count (of_part Part.Store (entries (past w.journal)))) w.parts.store.asked
 
--- the same, as those see it who keep no session
-pub record HasMoved (script : Script) (places : Nodings) (s : ℕ) (x w : SharedState) : Type 0 where
-  pub stepped : HasStepped script places s (past x.journal) (past w.journal)
-  pub asked : IsAskedOn x w
-  pub fault : is_fault stepped.entry.entry.reply ≡ true → Rose x.parts.store.faults w.parts.store.faults
+-- what a turn of session s leaves, as those see it who keep no session
+pub record HasTurned (script : Script) (places : Nodings) (from : Origin) (s : ℕ) (r : Result Stepped AllocError) (x w : SharedState) : Type 0 where
+  pub shared : IsShared script places from w
+  pub did : r ≡ Ok Stepped.Did → HasStepped script places s (past x.journal) (past w.journal)
+  pub done : r ≡ Ok Stepped.Done → IsOver script s (past x.journal) (past w.journal)
+  pub same : r ≢ Ok Stepped.Did → past w.journal ≡ past x.journal
+  pub still : r ≢ Ok Stepped.Did → IsStill x.parts w.parts
+  pub asked : OnOk r (IsAskedOn x w)
+  pub fault : (e : NodeEntry) → past w.journal ≡ e ∷ past x.journal → is_fault e.entry.reply ≡ true → Rose x.parts.store.faults w.parts.store.faults
 
 -- the sessions, each as far as its own entries
 pub record AreSessions (script : Script) (h : Noded) (xs : List Session) : Type 0 where

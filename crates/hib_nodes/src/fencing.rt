@@ -8,7 +8,7 @@ ghost use Rattle.hib_nodes.specs.Standing.{is_node};
 use crate::names::Name;
 use crate::shared::Shared;
 use hib_base::Tick;
-use hib_nodes_law::NodeEntry;
+use hib_nodes_law::{NodeEntry, apart_is_legal, parts_tell};
 use hib_outside::Keeper;
 use std::alloc::AllocError;
 
@@ -26,6 +26,8 @@ pub fn deliver<K: Keeper, N: Name>(node: u8, shared: &mut Shared<K>) -> Result<b
     ensures same { result ≢ Ok true → past shared.new.journal ≡ past shared.old.journal }
     ensures still { result ≢ Ok true → shared.new.parts ≡ shared.old.parts }
 {
+    apart_is_legal();
+    parts_tell();
     let Some(key) = shared.queues.first(node) else {
         return Ok(false);
     };

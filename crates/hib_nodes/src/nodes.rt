@@ -7,8 +7,10 @@ ghost use Rattle.hib_store.specs.Stores.{handed_back, is_store_fault};
 ghost use Rattle.hib_engines.specs.Counts.{RoseBy, RoseWithin};
 ghost use Rattle.hib_engines.specs.Origin.{told_start};
 ghost use Rattle.hib_nodes_law.specs.declared.nodes.NodeEntry.{NodeEntry};
+ghost use Rattle.hib_nodes_law.specs.Apart.{AreOfParts};
 ghost use Rattle.hib_nodes_law.specs.Nodes.{entries};
 ghost use Rattle.hib_nodes.specs.Kept.{past};
+ghost use Rattle.hib_nodes.specs.Played.{has_next};
 ghost use Rattle.hib_nodes.specs.Run.{AreSet, HasDelivered, HasStepped, IsAsked, IsAskedOnceMore, IsDelivered, IsOver, Obeys};
 ghost use Rattle.hib_nodes.specs.Standing.{is_node, IsStill};
 
@@ -151,6 +153,8 @@ impl<K: Keeper, N: Name> Nodes<K, N> {
         ensures going { OnOk result (self.new.refused ≡ self.old.refused) }
         ensures same { OnErr result (past self.new.journal ≡ past self.old.journal) }
         ensures still { OnErr result (self.new.parts ≡ self.old.parts) }
+        ensures asked { OnErr result (self.old.refused ≡ false
+            → IsAskedOnceMore N.from (past self.new.journal) self.new.parts) }
         ensures refused { OnErr result (self.new.refused ≡ true) }
     {
         let delivered = self.take_pair(node);
@@ -203,6 +207,8 @@ impl<K: Keeper, N: Name> Nodes<K, N> {
         ensures going { OnOk result (self.new.refused ≡ self.old.refused) }
         ensures same { OnErr result (past self.new.journal ≡ past self.old.journal) }
         ensures still { OnErr result (self.new.parts ≡ self.old.parts) }
+        ensures asked { OnErr result (self.old.refused ≡ false
+            → IsAsked N.from (past self.old.journal) self.old.parts) }
         ensures refused { OnErr result (self.new.refused ≡ true) }
     {
         match fencing::deliver::<K, N>(node, &mut self.shared) {
@@ -214,13 +220,15 @@ impl<K: Keeper, N: Name> Nodes<K, N> {
         }
     }
 
-    /// The journal obeys the law of two nodes.
+    /// The journal obeys the law of two nodes, and the list of the store tells its committed rows and its counts. It does nothing.
     pub fn lawful(&self)
-        ensures { Obeys N.script N.places N.from.tables (past self.now.journal) }
+        ensures law { Obeys N.script N.places N.from.tables (past self.now.journal) }
+        ensures told { AreOfParts (past self.now.journal) }
     {
         apart_is_legal();
         nodes_cohere();
         steps_are_in_order();
+        parts_tell();
         let _ = &self.script;
     }
 
@@ -238,27 +246,36 @@ impl<K: Keeper, N: Name> Nodes<K, N> {
         &self.script
     }
 
-    /// How many sessions there are.
+    /// How many sessions there are. In others nothing is due.
     pub fn sessions(&self) -> usize
         ensures count { result ≡ length N.script.sessions }
         ensures few { result < 2 ^ 32 }
+        ensures unknown { (s : ℕ) → length N.script.sessions ≤ s
+            → has_next N.script (past self.now.journal) s ≡ false }
     {
         self.sessions.len()
     }
 
     /// How many orders there are.
     pub fn orders(&self) -> usize
-        ensures { result ≡ length N.orders }
+        ensures count { result ≡ length N.orders }
     {
         self.places.orders.len()
     }
 
     /// An order.
     pub fn order(&self, at: usize) -> NodeOrder
-        requires { at < length N.orders }
+        requires there { at < length N.orders }
         ensures { slice_get N.orders at ≡ Some result }
     {
         *self.places.orders.at(at)
+    }
+
+    /// The journal is short. It does nothing.
+    pub fn short(&self)
+        ensures { length (past self.now.journal) ≤ 2 ^ 62 }
+    {
+        let _ = self.shared.journal.len();
     }
 
     /// Whether memory ran out in a call.
@@ -278,11 +295,11 @@ impl<K: Keeper, N: Name> Nodes<K, N> {
         ensures rows { K.tables result.0 ≡ told_committed N.from.tables (entries (past result.3)) }
         ensures faults { RoseBy N.from.faults (fault_count (entries (past result.3)))
             (K.faults result.0) }
+        ensures count { K.asked result.0 ≡ self.parts.store.asked }
         ensures asked { self.refused ≡ false → RoseWithin N.from.asked
             (ask_count (entries (past result.3))) (K.asked result.0) }
     {
         self.lawful();
-        parts_tell();
         let Nodes {
             script,
             places,

@@ -22,7 +22,7 @@ use std::alloc::Global;
 impl<K: Keeper> Parts<K> {
     /// The parts of a run in which nothing has happened. At an error the keeper is handed back, with the rows that it had.
     fn open(alloc: Global, script: &Script, keeper: K) -> Result<Parts<K>, OpenFault<K>>
-        requires { IsBuilt script.now }
+        requires built { IsBuilt script.now }
         ensures standing { IfOk result (λ p. AreStanding script.now
             (told_start script.now (K.tables keeper)) [] p) }
         ensures faults { IfOk result (λ p. K.faults keeper ≤ p.store.faults) }
@@ -81,7 +81,7 @@ pub fn open_shared<K: Keeper>(
     script: &Script,
     keeper: K,
 ) -> Result<Shared<K>, OpenFault<K>>
-    requires { IsBuilt script.now }
+    requires built { IsBuilt script.now }
     ensures journal { IfOk result (λ s. past s.journal ≡ []) }
     ensures queues { IfOk result (λ s. AreQueues script.now [] s.queues) }
     ensures standing { IfOk result (λ s. AreStanding script.now

@@ -85,6 +85,7 @@ impl<K: Keeper> Parts<K> {
             script l (Some session) now act.now r) }
         ensures calm { IfOk result (λ r. is_fault r ≡ false) }
         ensures regions { (node_in self.new node).regions ≡ (node_in self.old node).regions }
+        ensures store { self.new.store ≡ self.old.store }
         ensures alone { is_node node ≡ true → IsAlone node self.old self.new }
         ensures err { OnErr result (self.new ≡ self.old) }
     {
@@ -116,6 +117,7 @@ impl<K: Keeper> Parts<K> {
             (node_in self.new node).regions) }
         ensures calm { IfOk result (λ r. is_fault r ≡ false) }
         ensures registry { (node_in self.new node).registry ≡ (node_in self.old node).registry }
+        ensures store { self.new.store ≡ self.old.store }
         ensures alone { is_node node ≡ true → IsAlone node self.old self.new }
         ensures still { OnOk result (reads act.now ≡ true → self.new ≡ self.old) }
         ensures err { OnErr result (self.new ≡ self.old) }

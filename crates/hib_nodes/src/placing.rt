@@ -15,10 +15,10 @@ pub fn nodes_of(
 {
     let mut nodes = vec![in alloc; 1; sessions]?;
     for back in 0..places.len() {
-        let (session, node) = places[places.len() - 1 - back];
-        let at = session.0 as usize;
+        let place = places[places.len() - 1 - back];
+        let at = place.0.0 as usize;
         if at < sessions {
-            nodes[at] = node;
+            nodes[at] = place.1;
         }
     }
     Ok(nodes)

@@ -1,5 +1,6 @@
 // What waits for a node.
 ghost use Rattle.std.specs.Prelude.{◌≡◌, ◌+◌, ◌<◌, ◌≤◌, [], ◌++◌, length, slice_get, OnOk};
+ghost use Rattle.hib_nodes.specs.Queue.{other_node as other};
 
 use hib_base::Key;
 use std::alloc::{AllocError, Global};
@@ -94,7 +95,7 @@ impl Model for Queues {
 
 /// The node that hears of what this one commits.
 pub fn other_node(node: u8) -> u8
-    ensures { result ≡ Rattle.hib_nodes.specs.Queue.other_node node }
+    ensures { result ≡ other node }
 {
     if node == 2 { 1 } else { 2 }
 }

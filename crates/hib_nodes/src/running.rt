@@ -1,10 +1,10 @@
 // A run of two nodes plays its orders, its sessions run to their ends, and what waits is delivered.
-ghost use Rattle.std.specs.Prelude.{◌≡◌, ◌<◌, ◌==◌, ℕ, [], length, OnOk, OnErr, true, false, None};
-ghost use Rattle.std.specs.List.{range_with_len};
+ghost use Rattle.std.specs.Prelude.{◌≡◌, ◌<◌, ◌==◌, ℕ, [], length, OnOk, OnErr, true, false};
+ghost use Rattle.hib_playing.specs.Playing.{GoesOn, Leads, play_all, play_each, play_steps, play_then, played};
 ghost use Rattle.hib_nodes_law.specs.Nodes.{queue};
 ghost use Rattle.hib_nodes.specs.Kept.{past};
-ghost use Rattle.hib_nodes.specs.Played.{has_next, is_played, play_all, play_deliver, play_order, play_orders, play_queue, play_script, play_sessions, play_steps, played, AreOver, Leads};
-ghost use Rattle.hib_nodes.specs.Run.{GoesOn, IsAskedOnceMore, Obeys};
+ghost use Rattle.hib_nodes.specs.Played.{AreOver, has_next, is_by, is_played, play_order, play_queue, play_script, play_sessions};
+ghost use Rattle.hib_nodes.specs.Run.{IsAskedOnceMore, Obeys};
 ghost use Rattle.hib_nodes.specs.Standing.{is_node};
 
 use crate::names::Name;
@@ -19,15 +19,15 @@ impl<K: Keeper, N: Name> Nodes<K, N> {
     /// Runs a session for so many steps, or to its end if that comes before; one that isn't there has none. If memory runs out
     /// the steps so far stand.
     fn run_steps(&mut self, alloc: Global, number: SessionNo, steps: u32) -> Result<(), AllocError>
-        ensures played { OnOk result (Leads (play_steps N.script number steps) played
+        ensures played { OnOk result (Leads (play_steps (has_next N.script) is_by number steps) played
             (past self.old.journal) (past self.new.journal)) }
-        ensures law { Obeys N.script N.places N.from.tables (past self.new.journal) }
         ensures going { OnOk result (self.new.refused ≡ self.old.refused) }
         ensures stands { OnErr result (GoesOn (past self.old.journal) (past self.new.journal)) }
+        ensures asked { OnErr result (self.old.refused ≡ false
+            → IsAskedOnceMore N.from (past self.new.journal) self.new.parts) }
         ensures refused { OnErr result (self.new.refused ≡ true) }
     {
         if number.0 as usize >= self.sessions() {
-            self.lawful();
             return Ok(());
         }
         for step in 0..steps {
@@ -36,24 +36,27 @@ impl<K: Keeper, N: Name> Nodes<K, N> {
                 Stepped::Done => return Ok(()),
             }
         }
-        self.lawful();
         Ok(())
     }
 
     /// Runs a session to its end. If memory runs out the steps so far stand.
     fn run_session(&mut self, alloc: Global, number: SessionNo) -> Result<(), AllocError>
         requires known { number < length N.script.sessions }
-        ensures played { OnOk result (Leads (play_all N.script number) played
+        ensures played { OnOk result (Leads (play_all (has_next N.script) is_by number) played
             (past self.old.journal) (past self.new.journal)) }
         ensures over { OnOk result (has_next N.script (past self.new.journal) number ≡ false) }
-        ensures law { Obeys N.script N.places N.from.tables (past self.new.journal) }
+        ensures stay { OnOk result ((s : ℕ) → (number == s) ≡ false
+            → has_next N.script (past self.new.journal) s
+            ≡ has_next N.script (past self.old.journal) s) }
         ensures going { OnOk result (self.new.refused ≡ self.old.refused) }
         ensures stands { OnErr result (GoesOn (past self.old.journal) (past self.new.journal)) }
+        ensures asked { OnErr result (self.old.refused ≡ false
+            → IsAskedOnceMore N.from (past self.new.journal) self.new.parts) }
         ensures refused { OnErr result (self.new.refused ≡ true) }
     {
         'steps: loop {
             match self.step(alloc, number)? {
-                Stepped::Did => {}
+                Stepped::Did => self.short(),
                 Stepped::Done => return Ok(()),
             }
         }
@@ -61,19 +64,18 @@ impl<K: Keeper, N: Name> Nodes<K, N> {
 
     /// Runs each session to its end, the first one first. If memory runs out the steps so far stand.
     fn finish(&mut self, alloc: Global) -> Result<(), AllocError>
-        ensures played { OnOk result
-            (Leads (play_sessions N.script (range_with_len 0 (length N.script.sessions))) played
+        ensures played { OnOk result (Leads (play_sessions N.script) played
             (past self.old.journal) (past self.new.journal)) }
         ensures over { OnOk result (AreOver N.script (past self.new.journal)) }
-        ensures law { Obeys N.script N.places N.from.tables (past self.new.journal) }
         ensures going { OnOk result (self.new.refused ≡ self.old.refused) }
         ensures stands { OnErr result (GoesOn (past self.old.journal) (past self.new.journal)) }
+        ensures asked { OnErr result (self.old.refused ≡ false
+            → IsAskedOnceMore N.from (past self.new.journal) self.new.parts) }
         ensures refused { OnErr result (self.new.refused ≡ true) }
     {
         for number in 0..self.sessions() {
             self.run_session(alloc, SessionNo(number as u32))?;
         }
-        self.lawful();
         Ok(())
     }
 
@@ -83,9 +85,15 @@ impl<K: Keeper, N: Name> Nodes<K, N> {
         ensures played { OnOk result (Leads (play_queue N.script node) played
             (past self.old.journal) (past self.new.journal)) }
         ensures empty { OnOk result (queue N.script node (past self.new.journal) ≡ []) }
-        ensures law { Obeys N.script N.places N.from.tables (past self.new.journal) }
+        ensures others { OnOk result ((m : ℕ) → (node == m) ≡ false
+            → queue N.script m (past self.new.journal)
+            ≡ queue N.script m (past self.old.journal)) }
+        ensures stay { OnOk result ((s : ℕ) → has_next N.script (past self.new.journal) s
+            ≡ has_next N.script (past self.old.journal) s) }
         ensures going { OnOk result (self.new.refused ≡ self.old.refused) }
         ensures stands { OnErr result (GoesOn (past self.old.journal) (past self.new.journal)) }
+        ensures asked { OnErr result (self.old.refused ≡ false
+            → IsAskedOnceMore N.from (past self.new.journal) self.new.parts) }
         ensures refused { OnErr result (self.new.refused ≡ true) }
     {
         'pairs: loop {
@@ -95,31 +103,36 @@ impl<K: Keeper, N: Name> Nodes<K, N> {
         }
     }
 
-    /// Carries an order out.
+    /// Carries an order out: a session runs, or the first pair that waits for a node is delivered. If memory runs out the entries so
+    /// far stand.
     fn obey(&mut self, alloc: Global, order: NodeOrder) -> Result<(), AllocError>
         ensures played { OnOk result (Leads (play_order N.script order) played
             (past self.old.journal) (past self.new.journal)) }
-        ensures law { Obeys N.script N.places N.from.tables (past self.new.journal) }
         ensures going { OnOk result (self.new.refused ≡ self.old.refused) }
         ensures stands { OnErr result (GoesOn (past self.old.journal) (past self.new.journal)) }
+        ensures asked { OnErr result (self.old.refused ≡ false
+            → IsAskedOnceMore N.from (past self.new.journal) self.new.parts) }
         ensures refused { OnErr result (self.new.refused ≡ true) }
     {
         match order {
             NodeOrder::Run { session, steps } => self.run_steps(alloc, session, steps),
             NodeOrder::Deliver { node } => {
-                self.deliver(node)?;
+                if node == 1 || node == 2 {
+                    self.deliver(node)?;
+                }
                 Ok(())
             }
         }
     }
 
-    /// Carries the orders out, one after the other.
+    /// Carries the orders out, one after the other. If memory runs out the entries so far stand.
     fn follow_orders(&mut self, alloc: Global) -> Result<(), AllocError>
-        ensures played { OnOk result (Leads (play_orders N.script N.orders) played
+        ensures played { OnOk result (Leads (play_each (play_order N.script) N.orders) played
             (past self.old.journal) (past self.new.journal)) }
-        ensures law { OnErr result (Obeys N.script N.places N.from.tables (past self.new.journal)) }
         ensures going { OnOk result (self.new.refused ≡ self.old.refused) }
         ensures stands { OnErr result (GoesOn (past self.old.journal) (past self.new.journal)) }
+        ensures asked { OnErr result (self.old.refused ≡ false
+            → IsAskedOnceMore N.from (past self.new.journal) self.new.parts) }
         ensures refused { OnErr result (self.new.refused ≡ true) }
     {
         for at in 0..self.orders() {
@@ -127,6 +140,42 @@ impl<K: Keeper, N: Name> Nodes<K, N> {
             self.obey(alloc, order)?;
         }
         Ok(())
+    }
+
+    /// Delivers all that waits for node 1, and then for node 2. If memory runs out the deliveries so far stand.
+    fn deliver_rest(&mut self) -> Result<(), AllocError>
+        ensures played { OnOk result (Leads (play_then (play_queue N.script 1) (play_queue N.script 2))
+            played (past self.old.journal) (past self.new.journal)) }
+        ensures empty { OnOk result ((n : ℕ) → is_node n ≡ true
+            → queue N.script n (past self.new.journal) ≡ []) }
+        ensures stay { OnOk result ((s : ℕ) → has_next N.script (past self.new.journal) s
+            ≡ has_next N.script (past self.old.journal) s) }
+        ensures going { OnOk result (self.new.refused ≡ self.old.refused) }
+        ensures stands { OnErr result (GoesOn (past self.old.journal) (past self.new.journal)) }
+        ensures asked { OnErr result (self.old.refused ≡ false
+            → IsAskedOnceMore N.from (past self.new.journal) self.new.parts) }
+        ensures refused { OnErr result (self.new.refused ≡ true) }
+    {
+        self.deliver_all(1)?;
+        self.deliver_all(2)
+    }
+
+    /// The orders, then the sessions, and then what waits.
+    fn run_all(&mut self, alloc: Global) -> Result<(), AllocError>
+        ensures leads { OnOk result (Leads (play_script N.script N.orders) played
+            (past self.old.journal) (past self.new.journal)) }
+        ensures over { OnOk result (AreOver N.script (past self.new.journal)) }
+        ensures empty { OnOk result ((n : ℕ) → is_node n ≡ true
+            → queue N.script n (past self.new.journal) ≡ []) }
+        ensures going { OnOk result (self.new.refused ≡ self.old.refused) }
+        ensures stands { OnErr result (GoesOn (past self.old.journal) (past self.new.journal)) }
+        ensures asked { OnErr result (self.old.refused ≡ false
+            → IsAskedOnceMore N.from (past self.new.journal) self.new.parts) }
+        ensures refused { OnErr result (self.new.refused ≡ true) }
+    {
+        self.follow_orders(alloc)?;
+        self.finish(alloc)?;
+        self.deliver_rest()
     }
 
     /// Plays the script: the orders, one after the other, then each session to its end, the first one first, and then all that waits
@@ -142,11 +191,12 @@ impl<K: Keeper, N: Name> Nodes<K, N> {
         ensures law { Obeys N.script N.places N.from.tables (past self.new.journal) }
         ensures going { OnOk result (self.new.refused ≡ self.old.refused) }
         ensures stands { OnErr result (GoesOn (past self.old.journal) (past self.new.journal)) }
+        ensures asked { OnErr result (self.old.refused ≡ false
+            → IsAskedOnceMore N.from (past self.new.journal) self.new.parts) }
         ensures refused { OnErr result (self.new.refused ≡ true) }
     {
-        self.follow_orders(alloc)?;
-        self.finish(alloc)?;
-        self.deliver_all(1)?;
-        self.deliver_all(2)
+        let ran = self.run_all(alloc);
+        self.lawful();
+        ran
     }
 }

@@ -9,9 +9,7 @@ ghost use Rattle.hib_nodes_law.specs.Legal.{node_of};
 ghost use Rattle.hib_nodes_law.specs.Nodes.{entries};
 ghost use Rattle.hib_nodes.specs.Kept.{past};
 ghost use Rattle.hib_nodes.specs.Queue.{other_node, queue_in, AreWaiting};
-ghost use Rattle.hib_nodes.specs.Run.{IsOver};
-ghost use Rattle.hib_nodes.specs.Shared.{AreSessions, HasMoved, IsShared, IsTurn, Leaves, Moves, Serves};
-ghost use Rattle.hib_nodes.specs.Standing.{IsStill};
+ghost use Rattle.hib_nodes.specs.Shared.{AreSessions, HasTurned, IsShared, IsTurn, Leaves, Moves, Serves};
 ghost use Rattle.hib_nodes.specs.Turns.{keys_at, IsKept};
 
 use crate::journal::Noded;
@@ -167,6 +165,7 @@ fn take_turn<K: Keeper, N: Name>(
         → Moves N.script N.places N.from shared.old shared.new session.old session.new }
     ensures done { result ≡ Ok Stepped.Done → next N.script (number_of session.old)
         (own (number_of session.old) (entries (past shared.old.journal))) ≡ None }
+    ensures rests { result ≡ Ok Stepped.Done → shared.new.parts ≡ shared.old.parts }
     ensures left { result ≢ Ok Stepped.Did
         → Leaves N.script shared.old shared.new session.old session.new }
 {
@@ -193,15 +192,8 @@ pub fn turn<K: Keeper, N: Name>(
     requires known { number < length N.script.sessions }
     requires shared { IsShared N.script N.places N.from shared.old }
     requires sessions { AreSessions N.script (past shared.old.journal) sessions.old.items }
-    ensures shared { IsShared N.script N.places N.from shared.new }
+    ensures turned { HasTurned N.script N.places N.from number result shared.old shared.new }
     ensures sessions { AreSessions N.script (past shared.new.journal) sessions.new.items }
-    ensures did { result ≡ Ok Stepped.Did
-        → HasMoved N.script N.places number shared.old shared.new }
-    ensures done { result ≡ Ok Stepped.Done → IsOver N.script number
-        (past shared.old.journal) (past shared.new.journal) }
-    ensures same { result ≢ Ok Stepped.Did
-        → past shared.new.journal ≡ past shared.old.journal }
-    ensures still { result ≢ Ok Stepped.Did → IsStill shared.old.parts shared.new.parts }
 {
     let session = &mut sessions[number.0 as usize];
     take_turn::<K, N>(alloc, script, node, session, shared)

@@ -1,7 +1,8 @@
-use Rattle.std.proofs.Common.{List, Some, refl, sym, ap, subst, ◌∙◌}
+use Rattle.std.proofs.Common.{◌≤◌, Some, refl, sym, ap, subst, ◌∙◌, arith}
 use Rattle.hib_journal.specs.Types.{Part}
 use Rattle.hib_journal.specs.Sessions.{same_part}
 use Rattle.hib_journal.specs.Lists.{of_part}
+use Rattle.hib_store.specs.Stores.{StoreState}
 use Rattle.hib_nodes_law.specs.Nodes.{entries}
 use Rattle.hib_engines.proofs.Outcomes.{map_ok, both_ok, map_on}
 use Rattle.hib_engines.proofs.Brought.{brings_none, store_reads, region_reads, ok_all}
@@ -27,18 +28,18 @@ returns-in-Store-clause-answered g c = map_ok c.serve.result _ _ c.serve.ensures
 pub returns-in-Stamps-clause-answered : goal.returns-in-Stamps-clause-answered
 returns-in-Stamps-clause-answered g c = map_ok c.serve-in-Stamps.result _ _ c.serve-in-Stamps.ensures.answered (λ r p told h w o.
     let script = c.args.script.now in
-    let x : PartsState = record { store = c.self.inside.store; stamps = c.self.inside.stamps; results = c.self.inside.results; first = c.self.inside.first; second = c.self.inside.second } in
-    let y : PartsState = record { store = c.self.inside.store; stamps = c.serve-in-Stamps.new.self; results = c.self.inside.results; first = c.self.inside.first; second = c.self.inside.second } in
-    let k : IsReady script told h c.args.node c.args.session c.args.now c.args.act.now x = subst (λ v. IsReady script told h c.args.node c.args.session c.args.now c.args.act.now v) (sym c.self.view_is) w in
+    let x : PartsState = record { store = c.self-in-Stamps.inside.store; stamps = c.self-in-Stamps.inside.stamps; results = c.self-in-Stamps.inside.results; first = c.self-in-Stamps.inside.first; second = c.self-in-Stamps.inside.second } in
+    let y : PartsState = record { store = c.self-in-Stamps.inside.store; stamps = c.serve-in-Stamps.new.self; results = c.self-in-Stamps.inside.results; first = c.self-in-Stamps.inside.first; second = c.self-in-Stamps.inside.second } in
+    let k : IsReady script told h c.args.node c.args.session c.args.now c.args.act.now x = subst (λ v. IsReady script told h c.args.node c.args.session c.args.now c.args.act.now v) (sym c.self-in-Stamps.view_is) w in
     stamps_answered script told h c.args.node c.args.session c.args.now c.args.act.now r x y k (sym c.part_of.ensures ∙ c.in-Stamps.is)
     (p (of_part Part.Stamps (entries h)) (Some c.args.session)) refl refl (λ m. refl))
 
 pub returns-in-Results-clause-answered : goal.returns-in-Results-clause-answered
 returns-in-Results-clause-answered g c = map_ok c.serve-in-Results.result _ _ c.serve-in-Results.ensures.answered (λ r p told h w o.
     let script = c.args.script.now in
-    let x : PartsState = record { store = c.self.inside.store; stamps = c.self.inside.stamps; results = c.self.inside.results; first = c.self.inside.first; second = c.self.inside.second } in
-    let y : PartsState = record { store = c.self.inside.store; stamps = c.self.inside.stamps; results = c.serve-in-Results.new.self; first = c.self.inside.first; second = c.self.inside.second } in
-    let k : IsReady script told h c.args.node c.args.session c.args.now c.args.act.now x = subst (λ v. IsReady script told h c.args.node c.args.session c.args.now c.args.act.now v) (sym c.self.view_is) w in
+    let x : PartsState = record { store = c.self-in-Results.inside.store; stamps = c.self-in-Results.inside.stamps; results = c.self-in-Results.inside.results; first = c.self-in-Results.inside.first; second = c.self-in-Results.inside.second } in
+    let y : PartsState = record { store = c.self-in-Results.inside.store; stamps = c.self-in-Results.inside.stamps; results = c.serve-in-Results.new.self; first = c.self-in-Results.inside.first; second = c.self-in-Results.inside.second } in
+    let k : IsReady script told h c.args.node c.args.session c.args.now c.args.act.now x = subst (λ v. IsReady script told h c.args.node c.args.session c.args.now c.args.act.now v) (sym c.self-in-Results.view_is) w in
     results_answered script told h c.args.node c.args.session c.args.now c.args.act.now r x y k (sym c.part_of.ensures ∙ c.in-Results.is)
     (p script (of_part Part.Results (entries h)) (Some c.args.session) c.args.now) refl refl (λ m. refl))
 
@@ -46,3 +47,9 @@ pub returns-in-Region-clause-answered : goal.returns-in-Region-clause-answered
 returns-in-Region-clause-answered g c = both_ok c.ask_region.result _ _ _ c.ask_region.ensures.served c.ask_region.ensures.others (λ r p at told h w o.
     region_answered c.args.script.now told h c.args.node c.args.session c.args.now c.args.act.now r c.args.self.now c.ask_region.new.self w c.in-Region.entity
     (sym c.part_of.ensures ∙ c.in-Region.is) (λ l. p c.args.script.now l (Some c.args.session)) at c.ask_region.ensures.registry (c.ask_region.ensures.alone w.node))
+
+pub returns-in-Registry-clause-faults : goal.returns-in-Registry-clause-faults
+returns-in-Registry-clause-faults g c = subst (λ (z : StoreState). c.args.self.now.store.faults ≤ z.faults) (sym c.begin.ensures.store) (omega arith)
+
+pub returns-in-Region-clause-faults : goal.returns-in-Region-clause-faults
+returns-in-Region-clause-faults g c = subst (λ (z : StoreState). c.args.self.now.store.faults ≤ z.faults) (sym c.ask_region.ensures.store) (omega arith)

@@ -1,0 +1,39 @@
+use Rattle.std.proofs.Common.{◌<◌, ◌≤◌, ◌-◌, ℕ, length, subst, ◌∙◌}
+use Rattle.std.specs.List.{range_with_len}
+use Rattle.hib_engines.proofs.Outcomes.{err_all}
+use Rattle.hib_playing.specs.Playing.{play_all, play_each}
+use Rattle.hib_playing.proofs.Playing.{goes_by, goes_then, numbers_done, numbers_more, over_more}
+use Rattle.hib_nodes.specs.Kept.{past}
+use Rattle.hib_nodes.specs.Played.{has_next, is_by, play_sessions}
+use Rattle.hib_nodes.proofs.nodes.Nodes.finish.Goals as goal
+
+pub loop-number-preserved : goal.loop-number-preserved
+loop-number-preserved g c =
+    let script = g.N.Name.script in
+    let n = c.loop-number.number in
+    let mid = past c.loop-number.self.journal in
+    let new = past c.run_session.new.self.journal in
+    record {
+      played = numbers_more (play_all (has_next script) is_by) n (length script.sessions) (play_sessions script) (past c.args.self.now.journal) mid new
+          (subst (λ (m : ℕ). n < m) c.sessions-number-end.ensures.count c.loop-number-test.true) c.loop-number.invariant.played c.in_ok-run_session.ensures.played;
+      over = over_more (has_next script) is_by n mid new c.loop-number.invariant.over c.in_ok-run_session.ensures.over c.in_ok-run_session.ensures.stay;
+      going = c.in_ok-run_session.ensures.going ∙ c.loop-number.invariant.going;
+    }
+
+pub returns-clause-played : goal.returns-clause-played
+returns-clause-played g c =
+    let script = g.N.Name.script in
+    numbers_done (play_all (has_next script) is_by) c.loop-number.number (length script.sessions) (play_sessions script) (past c.args.self.now.journal) (past c.loop-number.self.journal)
+    (subst (λ (m : ℕ). m ≤ c.loop-number.number) c.sessions-number-end.ensures.count c.loop-number-test.false) c.loop-number.invariant.played
+
+pub returns-in_err-run_session-clause-stands : goal.returns-in_err-run_session-clause-stands
+returns-in_err-run_session-clause-stands g c =
+    let script = g.N.Name.script in
+    let old = past c.args.self.now.journal in
+    let mid = past c.loop-number.self.journal in
+    let left = play_each (play_all (has_next script) is_by) (range_with_len c.loop-number.number (length script.sessions - c.loop-number.number)) in
+    err_all c.from_residual.result _ (goes_then old mid (past c.run_session.new.self.journal)
+    (goes_by (play_sessions script) left old mid c.loop-number.invariant.played) c.in_err-run_session.ensures.stands)
+
+pub returns-in_err-run_session-clause-asked : goal.returns-in_err-run_session-clause-asked
+returns-in_err-run_session-clause-asked g c = err_all c.from_residual.result _ (λ p. c.in_err-run_session.ensures.asked (c.loop-number.invariant.going ∙ p))

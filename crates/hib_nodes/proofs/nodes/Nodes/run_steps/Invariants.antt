@@ -1,0 +1,12 @@
+use Rattle.std.proofs.Common.{◌≡◌, ℕ, ◌+◌}
+use Rattle.hib_playing.specs.Playing.{Leads, play_steps}
+use Rattle.hib_nodes.specs.Kept.{past}
+use Rattle.hib_nodes.specs.Played.{has_next, is_by}
+use Rattle.hib_nodes.proofs.nodes.Nodes.run_steps.Given as goal
+
+-- what so many steps and some more play is what is played so far, and then those that are more
+abbrev pub invariant-loop-step : goal.invariant-loop-step
+invariant-loop-step g l = record {
+  played : (n : ℕ) → Leads (play_steps (has_next g.N.Name.script) is_by l.number (l.step + n)) (play_steps (has_next g.N.Name.script) is_by l.number n) (past l.fn.self.journal) (past l.self.journal);
+  going : l.self.refused ≡ l.fn.self.refused;
+}
