@@ -8,3 +8,4 @@ pub mod Shared
 pub mod Turns
 pub mod Placed
 pub mod Played
+pub mod Text

@@ -16,8 +16,10 @@ mod placing;
 mod queue;
 mod running;
 mod shared;
+mod texts;
 mod turns;
 
 pub use journal::Noded;
 pub use names::Name;
 pub use nodes::Nodes;
+pub use texts::text;
