@@ -1,7 +1,6 @@
 -- An act of a session at a node was answered by a part: its reply is the one that is due, and the parts stand for the journal with its
 -- entry.
-use Rattle.std.proofs.Common.{◌≡◌, ℕ, ◌==◌, true, false, cond, ◌∷◌, length, Some, None, Option, refl, sym, ap, ◌∙◌, subst, eq-eqb}
-use Rattle.std.proofs.lemmas.Bool.{true≢false, false≢true, ne_eqb}
+use Rattle.std.proofs.Common.{◌≡◌, ℕ, true, false, ◌∷◌, Some, None, Option, refl, sym, ap, ◌∙◌, subst}
 use Rattle.hib_base.specs.Tables.{Tables}
 use Rattle.hib_journal.specs.Types.{Script, Part, Act, Reply}
 use Rattle.hib_journal.specs.Sessions.{Journal, own, same_part}
@@ -22,8 +21,8 @@ use Rattle.hib_engines.proofs.RegionServed.{named}
 use Rattle.hib_engines.proofs.RegionList.{of_region}
 use Rattle.hib_nodes_law.specs.Types.{Noded}
 use Rattle.hib_nodes_law.specs.Nodes.{entries, of_node}
-use Rattle.hib_nodes.specs.Standing.{NodeState, PartsState, AreStanding, IsAtNode, IsReady, IsAnswered, is_node, node_in, entry_on}
-use Rattle.hib_nodes.proofs.Lists.{other_part, same_list, late_own, before_node, late_seen}
+use Rattle.hib_nodes.specs.Standing.{PartsState, IsAtNode, IsReady, IsAnswered, is_node, node_in, entry_on}
+use Rattle.hib_nodes.proofs.Lists.{other_part, same_list, late_own, before_node}
 use Rattle.hib_nodes.specs.Parts.{IsAlone}
 use Rattle.hib_nodes.proofs.Stands.{node_rests, node_registry, node_region, nodes_after, node_stands}
 use Rattle.hib_nodes.proofs.Replies.{due_reply}

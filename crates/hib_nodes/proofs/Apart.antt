@@ -1,13 +1,12 @@
 -- The lists of parts and of sessions go on: by an act of a session, and by a fence.
-use Rattle.std.specs.Prelude.{unwrap_or}
-use Rattle.std.proofs.Common.{◌≡◌, ◌<◌, ℕ, Bool, true, false, cond, ◌==◌, [], ◌∷◌, Some, None, Option, refl, sym, ap, ◌∙◌, subst, arith, inl, inr}
-use Rattle.std.proofs.lemmas.Bool.{true≢false, eqb-true}
+use Rattle.std.proofs.Common.{◌≡◌, ℕ, true, false, ◌==◌, ◌∷◌, Some, None, Option, refl, sym, ap, subst, inl, inr}
+use Rattle.std.proofs.lemmas.Bool.{eqb-true}
 use Rattle.hib_base.specs.Tables.{Tables}
 use Rattle.hib_base.proofs.Tables.{Tested, tested}
-use Rattle.hib_journal.specs.Types.{Script, Part, Act, Reply, Entry}
+use Rattle.hib_journal.specs.Types.{Script, Part}
 use Rattle.hib_journal.specs.Sessions.{Journal, own, is_by, same_part}
 use Rattle.hib_journal.specs.Lists.{of_part, IsStoreReply, IsLate}
-use Rattle.hib_split_law.specs.Apart.{is_own, is_of_session, IsPartStep, IsPartLegal, IsOwnStep, IsOwnLegal}
+use Rattle.hib_split_law.specs.Apart.{is_own, is_of_session, IsPartLegal, IsOwnStep, IsOwnLegal}
 use Rattle.hib_split_law.proofs.Apart.{same_is}
 use Rattle.hib_nodes_law.specs.declared.nodes.NodeEntry.{NodeEntry}
 use Rattle.hib_nodes_law.specs.Types.{Noded}

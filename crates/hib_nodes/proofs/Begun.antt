@@ -1,5 +1,5 @@
 -- What a run of two nodes is opened with stands for the empty journal.
-use Rattle.std.proofs.Common.{◌≡◌, ◌≤◌, ◌<◌, ℕ, Bool, true, false, cond, ◌==◌, List, [], length, map, Some, None, Option, refl, sym, ap, ◌∙◌, subst, arith, inl, inr}
+use Rattle.std.proofs.Common.{◌≡◌, ◌≤◌, ◌<◌, ℕ, ◌==◌, List, [], length, map, Some, None, Option, refl, sym, ap, ◌∙◌, subst, arith, inl, inr}
 use Rattle.std.proofs.lemmas.List.{length-map, length-replicate}
 use Rattle.std.specs.Option.{option_map}
 use Rattle.hib_base.specs.Tables.{Tables}
@@ -22,11 +22,10 @@ use Rattle.hib_engines.proofs.Opened.{registry_begins}
 use Rattle.hib_engines.proofs.Ready.{ready}
 use Rattle.hib_engines.proofs.RegionList.{regions_begin}
 use Rattle.hib_nodes_law.specs.Types.{Noded, Nodings}
-use Rattle.hib_nodes_law.specs.Nodes.{of_node}
 use Rattle.hib_nodes_law.specs.Legal.{is_of_node, seen_at}
 use Rattle.hib_nodes.specs.Kept.{past}
-use Rattle.hib_nodes.specs.Standing.{NodeState, PartsState, AreStanding, IsAtNode, is_node, node_in}
-use Rattle.hib_nodes.specs.Queue.{QueueState, QueuesState, AreQueues, IsQueue, queue_in}
+use Rattle.hib_nodes.specs.Standing.{NodeState, PartsState, AreStanding, IsAtNode, node_in}
+use Rattle.hib_nodes.specs.Queue.{QueuesState, AreQueues, IsQueue, queue_in}
 use Rattle.hib_nodes.specs.Run.{AreSet, IsAsked, IsRun}
 use Rattle.hib_nodes.specs.Shared.{SharedState, AreSessions, IsShared}
 

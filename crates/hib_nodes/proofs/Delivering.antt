@@ -1,24 +1,21 @@
 -- A run of two nodes goes on by a fence: its two entries are due, and it takes the first pair that waits.
-use Rattle.std.specs.Prelude.{slice_get, option_map, unwrap_or}
-use Rattle.std.proofs.Common.{◌≡◌, ◌<◌, ◌≤◌, ◌+◌, ◌^◌, ℕ, zero, suc, Bool, true, false, cond, ◌==◌, List, [], ◌∷◌, length, drop, Some, None, Option, Result, Ok, ◌≢◌, refl, sym, ap, ◌∙◌, subst, arith, eq-eqb}
+use Rattle.std.specs.Prelude.{slice_get, option_map}
+use Rattle.std.proofs.Common.{◌≡◌, ◌<◌, ◌+◌, ◌^◌, ℕ, zero, suc, Bool, true, false, cond, List, [], ◌∷◌, length, drop, Some, None, Result, Ok, ◌≢◌, refl, sym, ap, ◌∙◌, subst, arith, eq-eqb}
 use Rattle.std.specs.declared.alloc.AllocError.{AllocError}
-use Rattle.hib_base.specs.Tables.{Tables}
 use Rattle.hib_journal.specs.Types.{Key, Script, Part, Act, Reply, Entry}
-use Rattle.hib_journal.specs.Sessions.{Journal, floor, own, same_part}
+use Rattle.hib_journal.specs.Sessions.{floor, own}
 use Rattle.hib_journal.specs.Lists.{of_part, IsStoreReply}
-use Rattle.hib_journal.specs.Runs.{fault_count}
 use Rattle.hib_session.specs.declared.session.Session.{Session}
 use Rattle.hib_session.specs.Session.{Follows}
 use Rattle.hib_split_law.specs.Apart.{is_own, is_of_session, store_ask_count}
 use Rattle.hib_store.specs.Stores.{StoreState}
-use Rattle.hib_engines.specs.Counts.{RoseBy, RoseWithin}
+use Rattle.hib_engines.specs.Counts.{RoseWithin}
 use Rattle.hib_engines.specs.Fenced.{fence_lock, fence_unlock}
 use Rattle.hib_engines.specs.Origin.{Origin}
-use Rattle.hib_nodes_law.specs.declared.nodes.NodeEntry.{NodeEntry}
 use Rattle.hib_nodes_law.specs.Types.{Noded, Nodings}
 use Rattle.hib_nodes_law.specs.Nodes.{entries, of_node, queue, pairs, fence_count}
-use Rattle.hib_nodes_law.specs.Legal.{second_half, due_of, seen_at}
-use Rattle.hib_nodes_law.specs.Apart.{IsInTurn, AreNodesApart}
+use Rattle.hib_nodes_law.specs.Legal.{second_half, due_of}
+use Rattle.hib_nodes_law.specs.Apart.{IsInTurn}
 use Rattle.hib_nodes.specs.Fencing.{IsFencedAt}
 use Rattle.hib_nodes.specs.Standing.{PartsState, AreStanding, AreBefore, entry_on, is_node, node_in}
 use Rattle.hib_nodes_law.specs.Apart.{AreOfParts}

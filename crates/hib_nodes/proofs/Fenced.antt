@@ -1,10 +1,10 @@
 -- A fence at a node: its two entries are those of the region of its key, and the parts stand for the journal with both.
-use Rattle.std.proofs.Common.{◌≡◌, ◌<◌, ◌+◌, ℕ, Bool, true, false, cond, ◌==◌, [], ◌∷◌, length, Some, None, Option, refl, sym, ap, ◌∙◌, subst, inl, inr, eq-eqb}
+use Rattle.std.proofs.Common.{◌≡◌, ◌+◌, ℕ, true, false, ◌==◌, ◌∷◌, None, Option, refl, sym, ap, ◌∙◌, subst, inl, inr, eq-eqb}
 use Rattle.std.proofs.lemmas.Bool.{true≢false, eqb-true, ne_eqb}
 use Rattle.hib_base.specs.Tables.{Tables}
 use Rattle.hib_base.proofs.Tables.{Tested, tested}
-use Rattle.hib_journal.specs.Types.{Key, Strategy, Script, Part, Act, Reply, Locked, Unlocked, Entry}
-use Rattle.hib_journal.specs.Sessions.{Journal, floor, same_part, last_tick}
+use Rattle.hib_journal.specs.Types.{Key, Strategy, Script, Part, Locked, Unlocked, Entry}
+use Rattle.hib_journal.specs.Sessions.{Journal, floor, same_part}
 use Rattle.hib_journal.specs.Next.{strategy}
 use Rattle.hib_journal.specs.Lists.{of_part, IsLate, IsReplyOf}
 use Rattle.hib_engines.specs.Fenced.{fence_lock, fence_unlock, IsFenced}
@@ -15,7 +15,6 @@ use Rattle.hib_engines.specs.Store.{IsStored}
 use Rattle.hib_engines.specs.Stamps.{AreStamps}
 use Rattle.hib_engines.specs.Results.{AreResults}
 use Rattle.hib_engines.proofs.Opened.{floor_is}
-use Rattle.hib_nodes_law.specs.declared.nodes.NodeEntry.{NodeEntry}
 use Rattle.hib_nodes_law.specs.Types.{Noded}
 use Rattle.hib_nodes_law.specs.Nodes.{entries, of_node}
 use Rattle.hib_nodes.specs.Fencing.{IsFencedAt}

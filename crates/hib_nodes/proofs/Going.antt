@@ -1,26 +1,23 @@
 -- A run of two nodes goes on: by an act of a session, and by a fence.
-use Rattle.std.specs.Prelude.{unwrap_or, slice_get}
-use Rattle.std.proofs.Common.{◌≡◌, ◌≤◌, ◌<◌, ◌+◌, ◌^◌, ◌-◌, min, ℕ, suc, Bool, true, false, cond, ◌==◌, [], ◌∷◌, length, Some, None, Option, refl, sym, ap, ◌∙◌, subst, arith, inl, inr}
-use Rattle.std.proofs.lemmas.Bool.{true≢false, false≢true}
-use Rattle.hib_base.specs.Tables.{Tables}
+use Rattle.std.proofs.Common.{◌≡◌, ◌≤◌, ◌<◌, ◌+◌, ◌^◌, ℕ, Bool, true, false, cond, [], ◌∷◌, length, Some, refl, sym, ap, subst, arith, inl, inr}
+use Rattle.std.proofs.lemmas.Bool.{false≢true}
 use Rattle.hib_base.proofs.Tables.{Tested, tested}
-use Rattle.hib_journal.specs.Types.{Script, Part, Act, Reply, Entry}
+use Rattle.hib_journal.specs.Types.{Script, Act, Reply}
 use Rattle.hib_journal.specs.Sessions.{Journal, own, last_tick, is_by}
 use Rattle.hib_journal.specs.Next.{next}
-use Rattle.hib_journal.specs.Legal.{part_of, reply_of}
+use Rattle.hib_journal.specs.Legal.{reply_of}
 use Rattle.hib_journal.specs.Lists.{entry_at}
 use Rattle.hib_journal.specs.Runs.{is_fault, fault_count}
 use Rattle.hib_outside.specs.Causes.{Rose}
 use Rattle.hib_session.specs.Session.{own_reply}
-use Rattle.hib_split_law.specs.Apart.{is_own, is_of_session, IsOwnStep}
+use Rattle.hib_split_law.specs.Apart.{is_of_session, IsOwnStep}
 use Rattle.hib_engines.specs.Counts.{RoseBy}
 use Rattle.hib_engines.specs.Origin.{Origin}
 use Rattle.hib_nodes_law.specs.declared.nodes.NodeEntry.{NodeEntry}
 use Rattle.hib_nodes_law.specs.Types.{Noded, Nodings}
-use Rattle.hib_nodes_law.specs.Nodes.{entries, of_node}
-use Rattle.hib_nodes_law.specs.Legal.{node_of, second_half}
-use Rattle.hib_nodes_law.specs.Apart.{AreInTurn, IsInTurn, AreNodesApart}
-use Rattle.hib_nodes.specs.Standing.{PartsState, AreStanding, AreBefore, IsAnswered, IsTold, entry_on, is_node}
+use Rattle.hib_nodes_law.specs.Nodes.{entries}
+use Rattle.hib_nodes_law.specs.Legal.{node_of}
+use Rattle.hib_nodes.specs.Standing.{PartsState, AreBefore, IsTold, entry_on, is_node}
 use Rattle.hib_nodes.specs.Run.{IsRun}
 use Rattle.hib_nodes.proofs.Lists.{turns_before, before_all}
 use Rattle.hib_nodes.proofs.Apart.{apart_more}

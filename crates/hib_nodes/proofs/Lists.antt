@@ -1,5 +1,5 @@
 -- What a part of a node sees, with one entry more; and ticks that come after those of all entries.
-use Rattle.std.proofs.Common.{◌≡◌, ◌<◌, ◌+◌, ◌^◌, ℕ, Bool, true, false, cond, ◌==◌, [], ◌∷◌, length, refl, sym, ap, ◌∙◌, subst, arith, inl, inr}
+use Rattle.std.proofs.Common.{◌≡◌, ◌<◌, ℕ, Bool, true, false, ◌==◌, [], ◌∷◌, length, refl, sym, subst, arith, inl, inr}
 use Rattle.hib_base.proofs.Tables.{Tested, tested}
 use Rattle.hib_journal.specs.Types.{Part, Script, Entry}
 use Rattle.hib_journal.specs.Sessions.{Journal, last_tick, same_part}

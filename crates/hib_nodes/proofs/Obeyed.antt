@@ -1,5 +1,5 @@
 -- The journal of a run obeys the law of two nodes.
-use Rattle.std.proofs.Common.{◌≡◌, ℕ, Some, Option, sym, ap, ◌∙◌, subst}
+use Rattle.std.proofs.Common.{◌≡◌, ℕ, Some, Option, subst}
 use Rattle.hib_base.specs.Tables.{Tables}
 use Rattle.hib_journal.specs.Types.{Key, Script, Strategy}
 use Rattle.hib_journal.specs.Sessions.{own}

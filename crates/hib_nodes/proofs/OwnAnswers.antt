@@ -1,5 +1,5 @@
 -- An act that a session answers itself: its node hears of an End, and of no other.
-use Rattle.std.proofs.Common.{◌≡◌, ◌≤◌, ℕ, ◌==◌, true, false, cond, List, ◌∷◌, length, Some, None, Option, refl, sym, ap, ◌∙◌, subst, arith}
+use Rattle.std.proofs.Common.{◌≡◌, ℕ, true, false, cond, List, ◌∷◌, Some, None, Option, refl, sym, ap, ◌∙◌, subst, arith}
 use Rattle.std.proofs.lemmas.Bool.{true≢false, false≢true}
 use Rattle.std.proofs.lemmas.Option.{none-some, same_Some}
 use Rattle.hib_base.specs.Tables.{Tables}
@@ -11,14 +11,14 @@ use Rattle.hib_journal.specs.Runs.{asks, is_fault}
 use Rattle.hib_outside.specs.Causes.{Rose}
 use Rattle.hib_session.specs.Session.{own_reply}
 use Rattle.hib_session.proofs.OwnReplies.{own_no_fault}
-use Rattle.hib_split_law.specs.Apart.{is_own, is_of_session}
+use Rattle.hib_split_law.specs.Apart.{is_of_session}
 use Rattle.hib_engines.specs.Counts.{RoseWithin}
 use Rattle.hib_engines.specs.Registry.{without, own_after}
 use Rattle.hib_engines.proofs.RegistryServed.{end_stands}
 use Rattle.hib_nodes_law.specs.Types.{Noded}
 use Rattle.hib_nodes_law.specs.Nodes.{entries, of_node}
 use Rattle.hib_nodes.specs.Parts.{with_node}
-use Rattle.hib_nodes.specs.Standing.{NodeState, PartsState, AreStanding, IsAtNode, IsReady, IsAnswered, IsAskedFor, IsTold, is_node, node_in, entry_on}
+use Rattle.hib_nodes.specs.Standing.{NodeState, PartsState, AreStanding, IsAtNode, IsReady, IsAnswered, IsAskedFor, IsTold, node_in, entry_on}
 use Rattle.hib_nodes.proofs.Lists.{late_own, before_node}
 use Rattle.hib_nodes.proofs.Stands.{node_rests, node_registry, nodes_after, node_stands}
 use Rattle.hib_nodes.proofs.Sides.{node_with, same_with, with_alone}

@@ -1,7 +1,7 @@
 -- What a step and a delivery play, and what they leave due.
 use Rattle.std.specs.Prelude.{option_and_then, take, drop}
 use Rattle.std.specs.Option.{option_map_or}
-use Rattle.std.proofs.Common.{◌≡◌, ◌≢◌, ℕ, ◌+◌, ◌≤◌, ◌==◌, Bool, true, false, cond, List, [], ◌∷◌, ◌++◌, length, is_some, Some, None, Option, Result, Ok, Err, OnOk, refl, sym, ap, ◌∙◌, subst, arith, inl, inr, eq-eqb}
+use Rattle.std.proofs.Common.{◌≡◌, ℕ, ◌+◌, ◌≤◌, ◌==◌, Bool, true, false, cond, List, [], ◌∷◌, length, is_some, Some, None, Option, Result, Ok, Err, OnOk, refl, sym, ap, ◌∙◌, subst, arith, inl, inr, eq-eqb}
 use Rattle.std.proofs.lemmas.Bool.{eqb-true}
 use Rattle.std.proofs.lemmas.Option.{slice_get_past}
 use Rattle.std.specs.declared.alloc.AllocError.{AllocError}
@@ -11,7 +11,7 @@ use Rattle.hib_journal.specs.Sessions.{Journal, own, is_session}
 use Rattle.hib_journal.specs.Next.{next, blocks}
 use Rattle.hib_journal.specs.Plan.{Plan, left_of, first_act}
 use Rattle.hib_engines.specs.Fenced.{fence_lock, fence_unlock}
-use Rattle.hib_playing.specs.Playing.{Leads, Play, Playing, play_each, played}
+use Rattle.hib_playing.specs.Playing.{Leads, Playing, play_each, played}
 use Rattle.hib_playing.proofs.Playing.{all_played, leads_none, leads_on}
 use Rattle.hib_nodes_law.specs.declared.nodes.NodeEntry.{NodeEntry}
 use Rattle.hib_nodes_law.specs.declared.nodes.NodeOrder.{NodeOrder}

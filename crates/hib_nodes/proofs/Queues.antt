@@ -1,15 +1,15 @@
 -- The queues go on: by an act of a session, which may commit, and by a fence.
-use Rattle.std.proofs.Common.{◌≡◌, ◌+◌, ◌<◌, ℕ, Bool, true, false, cond, ◌==◌, not, ◌&&◌, ◌||◌, List, [], ◌∷◌, ◌++◌, length, drop, Some, None, Option, is_some, refl, sym, ap, ◌∙◌, subst, arith, inl, inr, eq-eqb}
-use Rattle.std.proofs.lemmas.Bool.{true≢false, false≢true, eqb-true, ne_eqb}
+use Rattle.std.proofs.Common.{◌≡◌, ◌+◌, ℕ, Bool, true, false, cond, ◌==◌, ◌&&◌, ◌||◌, [], ◌∷◌, ◌++◌, Some, refl, sym, ap, ◌∙◌, subst, arith, inl, inr, eq-eqb}
+use Rattle.std.proofs.lemmas.Bool.{true≢false, eqb-true}
 use Rattle.std.proofs.lemmas.List.{append-nil}
 use Rattle.hib_base.proofs.Tables.{Tested, tested}
-use Rattle.hib_journal.specs.Types.{Key, Script, Act, Reply, Locked, Unlocked, Entry}
+use Rattle.hib_journal.specs.Types.{Key, Script, Locked, Unlocked}
 use Rattle.hib_engines.specs.Fenced.{fence_lock, fence_unlock}
 use Rattle.hib_nodes_law.specs.declared.nodes.NodeEntry.{NodeEntry}
 use Rattle.hib_nodes_law.specs.Types.{Noded}
-use Rattle.hib_nodes_law.specs.Nodes.{pairs, fence_count, is_fence, is_lock, shared_keys, committed_changes}
+use Rattle.hib_nodes_law.specs.Nodes.{pairs, fence_count, is_fence, shared_keys, committed_changes}
 use Rattle.hib_nodes.specs.Standing.{is_node, entry_on}
-use Rattle.hib_nodes.specs.Queue.{QueueState, QueuesState, IsQueue, AreQueues, queue_in, other_node}
+use Rattle.hib_nodes.specs.Queue.{QueuesState, IsQueue, AreQueues, queue_in, other_node}
 
 -- a node is this one or the other
 pub this_or_other : (n m : ℕ) → is_node n ≡ true → is_node m ≡ true → (n == m) ≡ false → m ≡ other_node n

@@ -1,5 +1,5 @@
 -- The reply that a part gives over its entries is the one that is due over them.
-use Rattle.std.proofs.Common.{◌≡◌, ℕ, true, false, [], Some, None, Option, refl, sym, ap, ◌∙◌, subst, inl}
+use Rattle.std.proofs.Common.{◌≡◌, ℕ, false, [], Some, None, Option, refl, sym, ap, ◌∙◌, subst, inl}
 use Rattle.std.proofs.lemmas.Bool.{true≢false}
 use Rattle.hib_base.specs.Tables.{Tables}
 use Rattle.hib_journal.specs.Types.{Script, Act, Reply, Part}

@@ -1,5 +1,5 @@
 -- The two nodes, by their numbers.
-use Rattle.std.proofs.Common.{◌≡◌, ℕ, true, false, cond, ◌==◌, refl, sym, ap, ◌∙◌, subst, inl, inr, eq-eqb}
+use Rattle.std.proofs.Common.{◌≡◌, ℕ, true, ◌==◌, refl, sym, ◌∙◌, subst, inl, inr, eq-eqb}
 use Rattle.std.proofs.lemmas.Bool.{true≢false, eqb-true, ne_eqb}
 use Rattle.hib_base.proofs.Tables.{Tested, tested}
 use Rattle.hib_nodes.specs.Standing.{NodeState, PartsState, is_node, node_in}

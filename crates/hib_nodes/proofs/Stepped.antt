@@ -1,12 +1,12 @@
 -- A turn of a session among all sessions.
 use Rattle.std.specs.Prelude.{slice_get, slice_set, get_or}
-use Rattle.std.proofs.Common.{◌≡◌, ◌≢◌, inl, inr, ℕ, ◌+◌, ◌<◌, ◌≤◌, ◌==◌, Bool, true, false, List, ◌∷◌, length, Result, Ok, Err, OnOk, Some, None, Option, IfSome, refl, sym, ap, ◌∙◌, subst, arith}
+use Rattle.std.proofs.Common.{◌≡◌, ◌≢◌, inl, inr, ℕ, ◌+◌, ◌<◌, ◌==◌, true, false, List, ◌∷◌, length, Result, Ok, Err, OnOk, Some, None, Option, IfSome, refl, sym, ap, ◌∙◌, subst, arith}
 use Rattle.std.proofs.lemmas.Bool.{eqb-true}
 use Rattle.std.proofs.lemmas.List.{length-set}
 use Rattle.std.proofs.lemmas.Option.{slice_get_within, slice_get-get_or}
 use Rattle.std.specs.declared.alloc.AllocError.{AllocError}
 use Rattle.hib_base.proofs.Tables.{Tested, tested}
-use Rattle.hib_journal.specs.Types.{Script, Part, Act, Reply}
+use Rattle.hib_journal.specs.Types.{Script, Part, Act}
 use Rattle.hib_journal.specs.Sessions.{Journal, own, is_session}
 use Rattle.hib_journal.specs.Lists.{entry_at, of_part}
 use Rattle.hib_journal.specs.Next.{next}
@@ -25,11 +25,10 @@ use Rattle.hib_nodes_law.specs.Types.{Noded, Nodings}
 use Rattle.hib_nodes_law.specs.Nodes.{entries}
 use Rattle.hib_nodes_law.specs.Legal.{node_of}
 use Rattle.hib_nodes.specs.Kept.{past}
-use Rattle.hib_nodes.specs.Standing.{PartsState, IsAskedFor, IsStill, entry_on}
-use Rattle.hib_nodes.specs.Run.{HasStepped, IsOver}
+use Rattle.hib_nodes.specs.Standing.{PartsState, IsAskedFor, entry_on}
 use Rattle.hib_nodes.specs.Shared.{SharedState, AreSessions, HasTurned, IsAskedOn, IsShared, IsTurn, Leaves, Moves, Serves}
 use Rattle.hib_nodes.specs.Turns.{IsKept}
-use Rattle.hib_nodes.proofs.Still.{shared_still, waiting_same}
+use Rattle.hib_nodes.proofs.Still.{shared_still}
 use Rattle.hib_nodes.proofs.Turned.{asked_on}
 
 -- ---- a session that was made ready

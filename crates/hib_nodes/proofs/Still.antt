@@ -1,5 +1,5 @@
 -- Nothing was added: the parts are as before but for the keeper's counts, and all stands as it did.
-use Rattle.std.proofs.Common.{◌≡◌, ◌≤◌, ◌<◌, ℕ, true, false, cond, ◌==◌, ◌∷◌, length, Option, refl, sym, ap, ◌∙◌, subst, arith, inl, inr}
+use Rattle.std.proofs.Common.{◌≡◌, ℕ, ◌==◌, Option, refl, sym, ap, ◌∙◌, subst, arith, inl, inr}
 use Rattle.hib_base.specs.Tables.{Tables}
 use Rattle.hib_base.proofs.Tables.{Tested, tested}
 use Rattle.hib_journal.specs.Types.{Script, Part}
@@ -14,8 +14,8 @@ use Rattle.hib_engines.specs.Results.{AreResults}
 use Rattle.hib_nodes_law.specs.Types.{Noded, Nodings}
 use Rattle.hib_nodes_law.specs.Nodes.{entries, of_node}
 use Rattle.hib_nodes.specs.Kept.{past}
-use Rattle.hib_nodes.specs.Standing.{PartsState, AreStanding, IsAtNode, IsStill, is_node, node_in}
-use Rattle.hib_nodes.specs.Queue.{QueuesState, AreQueues, AreWaiting, queue_in}
+use Rattle.hib_nodes.specs.Standing.{PartsState, AreStanding, IsAtNode, IsStill, node_in}
+use Rattle.hib_nodes.specs.Queue.{QueuesState, AreQueues, AreWaiting}
 use Rattle.hib_nodes.specs.Run.{IsRun}
 use Rattle.hib_nodes.specs.Shared.{SharedState, IsShared, Leaves}
 use Rattle.hib_nodes.specs.Turns.{IsKept}

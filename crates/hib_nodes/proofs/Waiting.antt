@@ -1,14 +1,13 @@
 -- What waits: the keys are of read-write regions, and a fence takes the first one.
 use Rattle.std.specs.Prelude.{slice_get}
 use Rattle.std.specs.List.{filter}
-use Rattle.std.proofs.Common.{◌≡◌, ◌+◌, ◌<◌, ℕ, zero, suc, Bool, true, false, cond, ◌==◌, List, [], ◌∷◌, ◌++◌, length, drop, Some, None, refl, sym, ap, ◌∙◌, subst, arith, inl, inr, eq-eqb}
-use Rattle.std.proofs.lemmas.Bool.{true≢false, false≢true, eqb-true, ne_eqb}
+use Rattle.std.proofs.Common.{◌≡◌, ◌+◌, ◌<◌, ℕ, zero, suc, true, false, cond, ◌==◌, List, [], ◌∷◌, ◌++◌, length, drop, Some, None, refl, sym, ap, ◌∙◌, subst, arith, inl, inr, eq-eqb}
+use Rattle.std.proofs.lemmas.Bool.{true≢false, false≢true, eqb-true}
 use Rattle.std.proofs.lemmas.Option.{none-some, same_Some}
 use Rattle.hib_base.proofs.Tables.{Tested, tested}
 use Rattle.hib_journal.specs.Types.{Key, Strategy, Script, Locked, Unlocked}
 use Rattle.hib_journal.specs.Next.{keys_of, strategy}
 use Rattle.hib_engines.specs.Fenced.{fence_lock, fence_unlock}
-use Rattle.hib_nodes_law.specs.declared.nodes.NodeEntry.{NodeEntry}
 use Rattle.hib_nodes_law.specs.Types.{Noded}
 use Rattle.hib_nodes_law.specs.Nodes.{committed_changes, fence_count, is_read_write, pairs, queue, shared_keys}
 use Rattle.hib_nodes.specs.Standing.{entry_on, is_node}

@@ -1,6 +1,6 @@
 -- What a fence at a node leaves.
-use Rattle.std.specs.Prelude.{◌≡◌, ℕ, ◌+◌, true, [], ◌∷◌, None}
-use Rattle.hib_journal.specs.Types.{Key, Script, Part, Act, Reply, Locked, Unlocked, Entry}
+use Rattle.std.specs.Prelude.{◌≡◌, ℕ, ◌+◌, ◌∷◌, None}
+use Rattle.hib_journal.specs.Types.{Key, Script, Part, Locked, Unlocked, Entry}
 use Rattle.hib_journal.specs.Sessions.{Journal, floor}
 use Rattle.hib_journal.specs.Lists.{IsReplyOf, of_part}
 use Rattle.hib_engines.specs.Fenced.{fence_lock, fence_unlock}

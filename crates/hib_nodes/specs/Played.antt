@@ -4,7 +4,7 @@ use Rattle.std.specs.List.{range_with_len}
 use Rattle.hib_journal.specs.Types.{Key, Script}
 use Rattle.hib_journal.specs.Sessions.{own, is_session}
 use Rattle.hib_journal.specs.Next.{next}
-use Rattle.hib_playing.specs.Playing.{Play, play_all, play_each, play_steps, play_then, played, plays}
+use Rattle.hib_playing.specs.Playing.{Play, play_all, play_each, play_steps, play_then, plays}
 use Rattle.hib_nodes_law.specs.declared.nodes.NodeEntry.{NodeEntry}
 use Rattle.hib_nodes_law.specs.declared.nodes.NodeOrder.{NodeOrder}
 use Rattle.hib_nodes_law.specs.Types.{Noded}

@@ -1,32 +1,26 @@
 -- What a run of two nodes keeps: its journal is legal by its parts, and its parts, queues and sessions stand for it.
-use Rattle.std.specs.Prelude.{◌≡◌, ◌≤◌, ◌<◌, ◌^◌, ◌+◌, ◌==◌, ℕ, Bool, true, false, cond, List, [], ◌∷◌, length, Some, None, Option}
+use Rattle.std.specs.Prelude.{◌≡◌, ◌+◌, ℕ, Bool, true, [], ◌∷◌, length, Some, None, Option}
 use Rattle.std.specs.List.{list_all}
 use Rattle.hib_base.specs.Tables.{Tables}
 use Rattle.hib_base.specs.Valid.{is_valid}
-use Rattle.hib_journal.specs.Types.{Key, Part, Script, Strategy, Act, Reply, Commit, Locked, Unlocked}
-use Rattle.hib_journal.specs.Sessions.{Journal, own}
-use Rattle.hib_journal.specs.Lists.{entry_at, of_part}
+use Rattle.hib_journal.specs.Types.{Key, Part, Script, Strategy, Locked, Unlocked}
+use Rattle.hib_journal.specs.Sessions.{own}
+use Rattle.hib_journal.specs.Lists.{of_part}
 use Rattle.hib_journal.specs.Next.{next, plan_of, strategy}
 use Rattle.hib_journal.specs.Plan.{InOrder}
-use Rattle.hib_journal.specs.Runs.{is_fault, fault_count, ask_count}
-use Rattle.hib_journal.specs.Legal.{part_of}
-use Rattle.hib_outside.specs.Causes.{Rose}
-use Rattle.hib_session.specs.declared.session.Session.{Session}
-use Rattle.hib_session.specs.Session.{Follows, number_of, left_in}
+use Rattle.hib_journal.specs.Runs.{fault_count, ask_count}
 use Rattle.hib_split_law.specs.Apart.{store_ask_count}
 use Rattle.hib_engines.specs.Built.{IsBuilt}
 use Rattle.hib_engines.specs.Counts.{RoseBy, RoseWithin}
-use Rattle.hib_engines.specs.Due.{IsDue}
 use Rattle.hib_engines.specs.Origin.{Origin}
 use Rattle.hib_engines.specs.Fenced.{fence_lock, fence_unlock}
 use Rattle.hib_nodes_law.specs.declared.nodes.NodeEntry.{NodeEntry}
 use Rattle.hib_nodes_law.specs.Types.{Noded, Nodings}
-use Rattle.hib_nodes_law.specs.Nodes.{entries, of_node, queue}
+use Rattle.hib_nodes_law.specs.Nodes.{entries, queue}
 use Rattle.hib_nodes_law.specs.Legal.{node_of, second_half, AreNodesLegal}
 use Rattle.hib_nodes_law.specs.Apart.{AreInTurn, AreNodesApart}
 use Rattle.hib_nodes_law.specs.Law.{NodesCohere}
-use Rattle.hib_nodes.specs.Queue.{QueuesState, AreQueues, AreWaiting}
-use Rattle.hib_nodes.specs.Standing.{PartsState, AreStanding, IsStill, entry_on, is_node}
+use Rattle.hib_nodes.specs.Standing.{PartsState, AreStanding, entry_on, is_node}
 
 -- what a run asks of its script and its places: the script is valid, and each place is a node
 pub record AreSet (script : Script) (places : Nodings) : Type 0 where

@@ -1,9 +1,9 @@
 -- What the sessions of a run share, and what a turn of one leaves of it.
 use Rattle.std.specs.Prelude.{◌≡◌, ◌≢◌, ◌<◌, ◌+◌, ℕ, List, ◌∷◌, length, slice_get, Some, true, Result, Ok, OnOk}
 use Rattle.std.specs.declared.alloc.AllocError.{AllocError}
-use Rattle.hib_journal.specs.Types.{Key, Script, Part, Act, Reply}
+use Rattle.hib_journal.specs.Types.{Script, Part, Act, Reply}
 use Rattle.hib_journal.specs.Sessions.{Journal, own}
-use Rattle.hib_journal.specs.Lists.{entry_at, unsaved, of_part}
+use Rattle.hib_journal.specs.Lists.{entry_at, of_part}
 use Rattle.hib_journal.specs.Next.{next}
 use Rattle.hib_journal.specs.Runs.{is_fault}
 use Rattle.hib_outside.specs.Causes.{Rose}

@@ -1,4 +1,4 @@
-use Rattle.std.proofs.Common.{◌≡◌, ◌<◌, ◌≤◌, ◌+◌, ◌-◌, ℕ, Vec, Global, length, get_or, sym, ap, ◌∙◌, subst, arith, rules}
+use Rattle.std.proofs.Common.{◌≡◌, ◌<◌, ◌≤◌, ◌+◌, ◌-◌, ℕ, Vec, Global, length, get_or, sym, subst, arith, rules}
 use Rattle.std.specs.Prelude.{slice_set}
 use Rattle.hib_nodes.proofs.Named.{AreNamed, named_more, named_past, none_named}
 use Rattle.hib_nodes.proofs.placing.nodes_of.Goals as goal

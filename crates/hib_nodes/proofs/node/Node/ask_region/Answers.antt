@@ -1,4 +1,4 @@
-use Rattle.std.proofs.Common.{sym, ap, subst}
+use Rattle.std.proofs.Common.{sym, subst}
 use Rattle.hib_engines.proofs.Outcomes.{map_ok}
 use Rattle.hib_engines.specs.Region.{IsPlaced}
 use Rattle.hib_engines.specs.Regions.{region_of}

@@ -1,4 +1,4 @@
-use Rattle.std.proofs.Common.{◌≡◌, subst}
+use Rattle.std.proofs.Common.{subst}
 use Rattle.hib_nodes_law.specs.Apart.{AreOfParts}
 use Rattle.hib_nodes.specs.Kept.{past}
 use Rattle.hib_nodes.specs.Run.{NodesState, Obeys}

@@ -1,4 +1,4 @@
-use Rattle.std.proofs.Common.{◌≡◌, ◌≤◌, ◌<◌, ◌^◌, ℕ, List, [], length, Option, sym, ap, ◌∙◌, subst}
+use Rattle.std.proofs.Common.{◌≤◌, ◌<◌, ◌^◌, ℕ, [], length, Option, sym, ap, ◌∙◌, subst}
 use Rattle.hib_base.specs.Tables.{Tables}
 use Rattle.hib_base.specs.declared.scripts.Script.{Script}
 use Rattle.hib_session.specs.Sessions as Plainly

@@ -1,4 +1,4 @@
-use Rattle.std.proofs.Common.{[], subst}
+use Rattle.std.proofs.Common.{subst}
 use Rattle.hib_engines.proofs.Outcomes.{map_on}
 use Rattle.hib_playing.specs.Playing.{Leads, played}
 use Rattle.hib_nodes_law.specs.Types.{Noded}

@@ -1,4 +1,3 @@
-use Rattle.std.proofs.Common.{◌≡◌, false, subst}
 use Rattle.hib_nodes.specs.Kept.{past}
 use Rattle.hib_nodes.proofs.Playing.{none_unknown}
 use Rattle.hib_nodes.proofs.nodes.Nodes.sessions.Goals as goal

@@ -1,6 +1,4 @@
-use Rattle.std.proofs.Common.{◌≡◌, ◌≢◌, Bool, true, false, Result, Ok, ap, subst, ◌∙◌}
-use Rattle.std.proofs.lemmas.Bool.{true≢false}
-use Rattle.std.specs.declared.alloc.AllocError.{AllocError}
+use Rattle.std.proofs.Common.{◌≡◌, Bool, false, Ok, ap, ◌∙◌}
 use Rattle.hib_nodes.specs.Kept.{past}
 use Rattle.hib_nodes.proofs.Delivering.{ok_false, rested}
 use Rattle.hib_nodes.proofs.nodes.Nodes.take_pair.Goals as goal

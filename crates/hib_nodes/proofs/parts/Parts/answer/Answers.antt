@@ -5,7 +5,7 @@ use Rattle.hib_session.specs.Session.{number_of, own_reply}
 use Rattle.hib_engines.specs.Registry.{own_after}
 use Rattle.hib_engines.proofs.Outcomes.{three_ok}
 use Rattle.hib_nodes.specs.Parts.{with_node}
-use Rattle.hib_nodes.specs.Standing.{PartsState, IsReady, IsAnswered, IsAskedFor, node_in}
+use Rattle.hib_nodes.specs.Standing.{IsReady, IsAnswered, IsAskedFor, node_in}
 use Rattle.hib_nodes.proofs.OwnAnswers.{own_told, part_told}
 use Rattle.hib_nodes.proofs.parts.Parts.answer.Goals as goal
 

@@ -1,4 +1,4 @@
-use Rattle.std.proofs.Common.{refl, sym, ap, subst, ◌∙◌}
+use Rattle.std.proofs.Common.{refl, sym, subst}
 use Rattle.hib_engines.proofs.Outcomes.{map_ok}
 use Rattle.hib_nodes.specs.Fencing.{IsFencedAt}
 use Rattle.hib_nodes.specs.Standing.{NodeState, PartsState, AreStanding, IsAtNode}

@@ -4,9 +4,8 @@ use Rattle.hib_journal.specs.Sessions.{same_part}
 use Rattle.hib_journal.specs.Lists.{of_part}
 use Rattle.hib_store.specs.Stores.{StoreState}
 use Rattle.hib_nodes_law.specs.Nodes.{entries}
-use Rattle.hib_engines.proofs.Outcomes.{map_ok, both_ok, map_on}
-use Rattle.hib_engines.proofs.Brought.{brings_none, store_reads, region_reads, ok_all}
-use Rattle.hib_nodes.specs.Standing.{PartsState, IsReady, IsStill}
+use Rattle.hib_engines.proofs.Outcomes.{map_ok, both_ok}
+use Rattle.hib_nodes.specs.Standing.{PartsState, IsReady}
 use Rattle.hib_nodes.proofs.Answered.{registry_answered, store_answered, stamps_answered, results_answered, region_answered}
 use Rattle.hib_nodes.proofs.parts.Parts.serve.Goals as goal
 
