@@ -4,7 +4,7 @@ use Rattle.hib_journal.specs.Kept.{Kept, past}
 use Rattle.hib_words.specs.Commands.{Asked}
 use Rattle.hib_call.specs.declared.status.Status.{Status}
 use Rattle.hib_call.specs.Outside.{Outside, outside, shared}
-use Rattle.hib_top.specs.declared.call.Side.{Side}
+use Rattle.hib_top.specs.declared.ended.Side.{Side}
 use Rattle.hib_top.specs.Call.{Promised}
 use Rattle.hib_top.proofs.Calls.{promised_short}
 use Rattle.hib_shell.specs.Called.{IsTopCall, Told, told_of}

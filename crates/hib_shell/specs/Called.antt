@@ -5,7 +5,7 @@ use Rattle.hib_journal.specs.Kept.{Kept}
 use Rattle.hib_words.specs.Commands.{Asked}
 use Rattle.hib_call.specs.declared.status.Status.{Status}
 use Rattle.hib_call.specs.Outside.{Outside}
-use Rattle.hib_top.specs.declared.call.Side.{Side}
+use Rattle.hib_top.specs.declared.ended.Side.{Side}
 use Rattle.hib_top.specs.Call.{Promised}
 
 -- what a keeper tells of itself

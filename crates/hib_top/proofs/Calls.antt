@@ -11,7 +11,7 @@ use Rattle.hib_journal.specs.Types.{Entry}
 use Rattle.hib_call.specs.Outside.{Outside, outside, shared_by}
 use Rattle.hib_top.specs.declared.telling.Played.{Played}
 use Rattle.hib_top.specs.declared.turns.Turns.{Turns}
-use Rattle.hib_top.specs.declared.call.Side.{Side}
+use Rattle.hib_top.specs.declared.ended.Side.{Side}
 use Rattle.hib_top.specs.Call.{DoesIf, HandsBack, IsDone, IsKept, Promised, unread}
 use Rattle.hib_top.specs.Auditing.{auditing}
 use Rattle.hib_top.specs.Bulking.{bulking}

@@ -6,7 +6,7 @@ use Rattle.hib_call.specs.declared.status.Status.{Status}
 use Rattle.hib_call.specs.Called.{IsCalled}
 use Rattle.hib_call.specs.Outside.{Outside}
 use Rattle.hib_top.specs.declared.audit.Judged.{Judged}
-use Rattle.hib_top.specs.declared.call.Side.{Side}
+use Rattle.hib_top.specs.declared.ended.Side.{Side}
 use Rattle.hib_top.specs.declared.telling.Played.{Played}
 use Rattle.hib_top.specs.declared.turns.Turns.{Turns}
 use Rattle.hib_top.specs.Auditing.{auditing}

@@ -1,214 +1,35 @@
 // The calls that a program makes with its words.
-ghost use Rattle.std.specs.Prelude.{◌≡◌, ◌≢◌, ◌≤◌, IfOk, IfSome, ℕ, [], length, map, option_map, string_bytes, true};
+ghost use Rattle.std.specs.Prelude.{◌≡◌, ◌≢◌, ◌≤◌, IfOk, IfSome, length, map, option_map, string_bytes, true};
 ghost use Rattle.hib_base.specs.Valid.{is_valid};
 ghost use Rattle.hib_call.specs.Outside.{outside, shared_by};
-ghost use Rattle.hib_journal.specs.Kept.{past};
-ghost use Rattle.hib_top.specs.declared.turns.Turns.{Turns};
 ghost use Rattle.hib_words.specs.Commands.{asked_of, command};
 ghost use Rattle.hib_top.specs.Words.{HasFew, asked_alone, asked_in, is_alone, telling_of};
 ghost use Rattle.hib_bulk.specs.Run.{AreSet as AreLinesSet};
 ghost use Rattle.hib_collections.specs.Run.{AreSet};
 ghost use Rattle.hib_nodes.specs.Run.{AreSet as ArePlacesSet};
-ghost use Rattle.hib_top.specs.Call.{HandsBack, IsDone, IsKept, IsSide, Promised, bulked_of, gathered_of, noded_of};
+ghost use Rattle.hib_top.specs.Call.{IsDone, Promised};
 
 use crate::audit::{Judge, judge_journal};
-use crate::bulk::{Bulk, BulkRun, bulk_script};
-use crate::collect::{Collect, Collected, collect_script};
+use crate::bulk::{Bulk, bulk_script};
+use crate::collect::{Collect, collect_script};
+use crate::ended::{
+    Ended, ended_with, with_bulked, with_gathered, with_journal, with_noded, with_whole_journal,
+};
 use crate::make::{Make, Print};
-use crate::nodes::{AtNodes, NodeRun, nodes_script};
+use crate::nodes::{AtNodes, nodes_script};
 use crate::play::play_script;
 use crate::reading::Run;
 use crate::split::split_script;
-use crate::telling::{Played, Telling};
+use crate::telling::Telling;
 use crate::turns::Turns;
 use crate::work::work_script;
-use hib_bulk::Bulked;
-use hib_call::{Called, Lent, NothingLeft, Outcome, Ran, Status, call};
-use hib_collections::Gathered;
+use hib_call::{Lent, NothingLeft, Outcome, Ran, Status, call};
 use hib_journal::Journal;
-use hib_nodes::Noded;
 use hib_outside::{Gate, Keeper, Listener, Sink, Source};
 use hib_words::Command;
 use std::alloc::{AllocError, Global};
 use std::sync::Wait;
 use std::thread::Threads;
-
-/// The journal of a command whose entries aren't those of a script's sessions alone.
-#[derive(Drop)]
-pub enum Side {
-    /// There is none.
-    Nothing,
-    /// That of a run with collections.
-    Gathered(Gathered),
-    /// That of a run with bulk changes.
-    Bulked(Bulked),
-    /// That of a run at two nodes.
-    Noded(Noded),
-}
-
-/// What a call of the program hands back.
-#[derive(Drop)]
-pub struct Ended<K, L> {
-    /// How it ended.
-    pub status: Status,
-    /// The keeper that was handed in.
-    pub keeper: K,
-    /// The journal of the run; empty if nothing was run, if the run's journal is of another kind, and if a run over parts is torn or
-    /// memory ran out in it.
-    pub journal: Journal,
-    /// The listeners that stayed.
-    pub listeners: Vec<L>,
-    /// The journal of a command of another kind.
-    pub side: Side,
-}
-
-/// What is handed back, with no journal of another kind.
-fn ended_with<K: Keeper, L: Listener>(
-    status: Status,
-    lent: Lent<K, L>,
-    journal: Journal,
-) -> Ended<K, L>
-    ensures status { result.status ≡ status }
-    ensures keeper { result.keeper ≡ lent.keeper }
-    ensures listeners { result.listeners ≡ lent.listeners }
-    ensures journal { result.journal ≡ journal }
-    ensures side { result.side ≡ Side.Nothing }
-{
-    let Lent { keeper, listeners } = lent;
-    Ended {
-        status,
-        keeper,
-        journal,
-        listeners,
-        side: Side::Nothing,
-    }
-}
-
-/// What is handed back of a command whose run has a journal; it is empty if there is no run.
-fn with_journal<K: Keeper, L: Listener>(alloc: Global, called: Called<Played, K, L>) -> Ended<K, L>
-    ensures status { result.status ≡ called.status }
-    ensures keeper { result.keeper ≡ called.lent.keeper }
-    ensures listeners { result.listeners ≡ called.lent.listeners }
-    ensures journal { HandsBack called.run result.journal }
-    ensures side { result.side ≡ Side.Nothing }
-{
-    let Called { status, lent, run } = called;
-    let journal = match run {
-        Some(run) => run.journal,
-        None => Journal::open(alloc),
-    };
-    ended_with(status, lent, journal)
-}
-
-/// The same of a run over parts, of which no journal is handed back if memory ran out.
-fn with_whole_journal<K: Keeper, L: Listener>(
-    alloc: Global,
-    called: Called<Played, K, L>,
-) -> Ended<K, L>
-    ensures status { result.status ≡ called.status }
-    ensures keeper { result.keeper ≡ called.lent.keeper }
-    ensures listeners { result.listeners ≡ called.lent.listeners }
-    ensures journal { (n : ℕ) → IsKept (Turns.OnParts n) called.status called.run result.journal }
-    ensures side { result.side ≡ Side.Nothing }
-{
-    if called.status.is_short() {
-        ended_with(called.status, called.lent, Journal::open(alloc))
-    } else {
-        with_journal(alloc, called)
-    }
-}
-
-/// The journal of a run with collections.
-fn gathered(run: Option<Collected>) -> Side
-    ensures { IsSide gathered_of run result }
-{
-    match run {
-        Some(run) => Side::Gathered(run.journal),
-        None => Side::Nothing,
-    }
-}
-
-/// The journal of a run with bulk changes.
-fn bulked(run: Option<BulkRun>) -> Side
-    ensures { IsSide bulked_of run result }
-{
-    match run {
-        Some(run) => Side::Bulked(run.journal),
-        None => Side::Nothing,
-    }
-}
-
-/// The journal of a run at two nodes.
-fn noded(run: Option<NodeRun>) -> Side
-    ensures { IsSide noded_of run result }
-{
-    match run {
-        Some(run) => Side::Noded(run.journal),
-        None => Side::Nothing,
-    }
-}
-
-/// What is handed back of a run whose journal is of another kind.
-fn aside<K: Keeper, L: Listener>(
-    alloc: Global,
-    status: Status,
-    lent: Lent<K, L>,
-    side: Side,
-) -> Ended<K, L>
-    ensures status { result.status ≡ status }
-    ensures keeper { result.keeper ≡ lent.keeper }
-    ensures listeners { result.listeners ≡ lent.listeners }
-    ensures journal { past result.journal ≡ [] }
-    ensures side { result.side ≡ side }
-{
-    let Lent { keeper, listeners } = lent;
-    Ended {
-        status,
-        keeper,
-        journal: Journal::open(alloc),
-        listeners,
-        side,
-    }
-}
-
-/// What is handed back of a run with collections.
-fn with_gathered<K: Keeper, L: Listener>(
-    alloc: Global,
-    called: Called<Collected, K, L>,
-) -> Ended<K, L>
-    ensures status { result.status ≡ called.status }
-    ensures keeper { result.keeper ≡ called.lent.keeper }
-    ensures listeners { result.listeners ≡ called.lent.listeners }
-    ensures journal { past result.journal ≡ [] }
-    ensures side { IsSide gathered_of called.run result.side }
-{
-    let Called { status, lent, run } = called;
-    aside(alloc, status, lent, gathered(run))
-}
-
-/// What is handed back of a run with bulk changes.
-fn with_bulked<K: Keeper, L: Listener>(alloc: Global, called: Called<BulkRun, K, L>) -> Ended<K, L>
-    ensures status { result.status ≡ called.status }
-    ensures keeper { result.keeper ≡ called.lent.keeper }
-    ensures listeners { result.listeners ≡ called.lent.listeners }
-    ensures journal { past result.journal ≡ [] }
-    ensures side { IsSide bulked_of called.run result.side }
-{
-    let Called { status, lent, run } = called;
-    aside(alloc, status, lent, bulked(run))
-}
-
-/// What is handed back of a run at two nodes.
-fn with_noded<K: Keeper, L: Listener>(alloc: Global, called: Called<NodeRun, K, L>) -> Ended<K, L>
-    ensures status { result.status ≡ called.status }
-    ensures keeper { result.keeper ≡ called.lent.keeper }
-    ensures listeners { result.listeners ≡ called.lent.listeners }
-    ensures journal { past result.journal ≡ [] }
-    ensures side { IsSide noded_of called.run result.side }
-{
-    let Called { status, lent, run } = called;
-    aside(alloc, status, lent, noded(run))
-}
 
 /// How a run is told, by whether its journal is asked for.
 fn telling_of(journal: bool) -> Telling

@@ -6,6 +6,7 @@ mod audit;
 mod bulk;
 mod call;
 mod collect;
+mod ended;
 mod make;
 mod nodes;
 mod play;
@@ -18,8 +19,9 @@ mod work;
 
 pub use audit::Judged;
 pub use bulk::{BulkRun, Bulking};
-pub use call::{Ended, Side, play_words, top};
+pub use call::{play_words, top};
 pub use collect::{Collected, Gathering};
+pub use ended::{Ended, Side};
 pub use nodes::{NodeRun, Placing};
 pub use telling::{Played, Telling};
 pub use turns::Turns;
