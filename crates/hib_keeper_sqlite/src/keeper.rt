@@ -6,6 +6,8 @@ ghost use Rattle.hib_outside.specs.Keeps.{tables_seeded, tables_after, rows_of};
 ghost use Rattle.hib_outside.specs.Verdicts.{verdict, IsPlace};
 ghost use Rattle.hib_outside.specs.Causes.{Rose, one_more, FailsByCause};
 ghost use Rattle.hib_outside.specs.declared.keeper.KeepFault.TheVariants.{NoMemory, Failed};
+ghost use Rattle.sqlite.specs.declared.error.Error.TheVariants.{SqliteFailure};
+ghost use Rattle.sqlite.specs.declared.error.ErrorCode.TheVariants.{OutOfMemory};
 ghost use Rattle.hib_keeper_sqlite.specs.Batches.{IsAtRest};
 ghost use Rattle.hib_keeper_sqlite.specs.Keeps.{told_in, tables_in, Counts};
 
@@ -95,12 +97,13 @@ fn failed(faults: &mut u64) -> KeepFault
     KeepFault::Failed
 }
 
-/// What an error of SQL is to a keeper. The count rises unless memory ran out.
+/// What an error of SQL is to a keeper: a failure, unless memory ran out. The count rises at each failure.
 fn cause(faults: &mut u64, error: Error) -> KeepFault
     ensures later { faults.old ≤ faults.new }
     ensures rose { result ≡ Failed → Rose faults.old faults.new }
     ensures failed { result ≡ Failed → faults.new ≡ one_more faults.old }
     ensures memory { result ≡ NoMemory → faults.new ≡ faults.old }
+    ensures only { result ≡ NoMemory → error ≡ SqliteFailure OutOfMemory }
 {
     match error {
         Error::SqliteFailure(ErrorCode::OutOfMemory) => KeepFault::NoMemory,

@@ -26,6 +26,7 @@ pub fn in_memory(alloc: Global) -> Result<SqliteTables, KeepFault>
 /// memory alone. If the table can't be made, or the connection has begun a transaction, the connection is closed and each
 /// later call fails.
 pub fn adopt<S: Alter + Drop>(connection: Connection<S>) -> Result<SqliteKeeper<S>, KeepFault>
+    ensures counts { IfOk result (λ k. (k.faults ≡ 0) × (k.asked ≡ 0)) }
     ensures err { IfErr result (λ e. e ≡ NoMemory) }
 {
     match StoreTable::over(connection) {
@@ -37,6 +38,7 @@ pub fn adopt<S: Alter + Drop>(connection: Connection<S>) -> Result<SqliteKeeper<
 /// Opens the file at a path, or makes it, and the table `hib_rows` in it. It is refused for want of memory alone. If the
 /// file can't be opened, as one that another program has open, or the table can't be made, each later call fails.
 pub fn open_file(rt: &HostRuntime, path: &str) -> Result<SqliteKeeper<FileStore<File>>, KeepFault>
+    ensures counts { IfOk result (λ k. (k.faults ≡ 0) × (k.asked ≡ 0)) }
     ensures err { IfErr result (λ e. e ≡ NoMemory) }
 {
     match Connection::open(rt, path) {
