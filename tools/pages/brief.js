@@ -42,9 +42,11 @@ const BRIEF = {
   results: { look: entry => `look ${entry.query}${ARROW}${entry.reply}`, keep: entry => `keep ${entry.query}${unless(entry.reply, 'kept')}` },
 };
 
+const BRIEF_FENCE = { lock: (entry, key) => `fence${key || ' begins'}`, unlock: (entry, key) => `fence${key} ends${unless(entry.reply, 'released 0')}` };
+
 // An entry in few words, for its lane.
 function brief(entry, isOnly) {
-  const say = BRIEF[entry.part][entry.verb];
+  const say = (isFence(entry) ? BRIEF_FENCE : BRIEF[entry.part])[entry.verb];
   return say ? say(entry, entry.key && !isOnly ? ' ' + entry.key : '', isOnly) : entry.act;
 }
 
@@ -57,6 +59,7 @@ function markOf(entry) {
   const is = (part, ...verbs) => entry.part === part && verbs.includes(entry.verb);
   if (/ late$/.test(entry.reply) || entry.reply === 'expired' || isFault(entry)) return 'warn';
   if (is('registry', 'kill', 'restart')) return 'warn';
+  if (isFence(entry)) return 'fence';
   if (is('store', 'commit')) return entry.reply === 'committed' ? 'commit' : 'warn';
   if (is('region', 'put', 'after-insert') && !entry.reply.startsWith('stored')) return 'refused';
   if (is('region', 'get')) return entry.reply.startsWith('hit') ? 'hit' : 'miss';

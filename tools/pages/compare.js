@@ -52,7 +52,7 @@ function countsOf(run) {
     ['entries', run.entries.length],
     ['hits', `${hits} of ${gets}`],
     ['stale reads', run.findings.length],
-    ['unsound keys', run.unsound.map(({ key }) => key).join(', ') || 'none'],
+    ['unsound keys', run.unsound.map(({ key, node }) => key + atNode(node)).join(', ') || 'none'],
     ['loads', countOf(run, ({ verb }) => verb === 'load')],
     ['refused puts', run.marks.filter(mark => mark === 'refused').length],
     ...run.script.sessions.map(session => [`end of ${session}`, outcomesOf(run, session)]),

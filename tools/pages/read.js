@@ -82,7 +82,7 @@ function readRow(words, entities) {
   return [keyOf(entity, id), rowOf(entities.get(entity).versioned ? cells : [NO_VERSION, ...cells])];
 }
 
-// The words with which a section begins behind the script of another command.
+// The words with which a section begins behind the script of another command. `SECTION_LINES` has those that the page draws.
 const SECTIONS = ['collections', 'bulk', 'nodes'];
 
 // What each first word of a line says; sessions and the schedule have lines of their own, which the page doesn't need.
@@ -105,15 +105,22 @@ const LINES = {
 };
 
 function readScript(text) {
-  const script = { timeout: 1000, results: 100, entities: new Map(), rows: new Map(), queries: new Map(), sessions: [] };
+  const script = {
+    timeout: 1000, results: 100, entities: new Map(), rows: new Map(), queries: new Map(), sessions: [],
+    section: '', places: new Map(),
+  };
   let inside = false;
   text.split('\n').forEach((line, at) => {
     const words = tokensOf(line), [word] = words;
     if (!words.length || line.trimStart()[0] === '#') return;
     if (inside) { inside = word !== 'end'; return; }
-    if (SECTIONS.includes(line)) throw new Error(`the script has a section \`${line}\`, and the page doesn't draw the journals of its command`);
+    if (SECTIONS.includes(line) && !script.section) {
+      if (!SECTION_LINES[line]) throw new Error(`the script has a section \`${line}\`, and the page doesn't draw the journals of its command`);
+      script.section = line;
+      return;
+    }
     try {
-      LINES[word](script, words);
+      (script.section ? SECTION_LINES[script.section] : LINES)[word](script, words);
     } catch (fault) {
       throw new Error(`the script can't be read at its line ${at}: ${line.slice(0, 80)}`);
     }
@@ -128,13 +135,19 @@ function readScript(text) {
 const KEYED = { own: ['find', 'persist', 'set', 'remove'], store: ['load', 'insert', 'update', 'delete'] };
 const OF_QUERIES = ['look', 'keep', 'check', 'list'];
 
-function entryOf(tick, session, part, act, reply) {
+// `lane` is the session's, or that of a node's fences, or null for an order of the schedule.
+function entryOf(tick, session, part, act, reply, node = 0) {
+  const lane = session === null && node ? nodeName(node) : session;
   const words = tokensOf(act), [verb] = words;
   const keyed = part === 'region' || (KEYED[part] || []).includes(verb);
-  return { tick, session, part, act, reply, words, verb, key: keyed ? keyOf(words[1], words[2]) : '', query: OF_QUERIES.includes(verb) ? words[1] : '' };
+  const key = keyed ? keyOf(words[1], words[2]) : '', query = OF_QUERIES.includes(verb) ? words[1] : '';
+  return { tick, node, session, lane, part, act, reply, words, verb, key, query };
 }
 
-const lineOf = entry => `${entry.tick} ${entry.session || '-'} ${entry.part} ${entry.act} = ${entry.reply}`;
+const lineOf = entry => `${entry.tick} ${entry.node ? entry.node + ' ' : ''}${entry.session || '-'} ${entry.part} ${entry.act} = ${entry.reply}`;
+
+// A fence locks a key at a node for no session, and gives the lock back.
+const isFence = entry => entry.node > 0 && entry.session === null;
 
 // The number that stands behind the last such word of an act.
 const numberBehind = (entry, word) => Number(entry.words[entry.words.lastIndexOf(word) + 1]);
@@ -157,10 +170,10 @@ function replyPlace(text) {
 
 // The entry of a line of a report, or null.
 function readLine(line) {
-  const place = replyPlace(line), head = /^(\d+) (\S+) (\S+) /.exec(line);
+  const place = replyPlace(line), head = /^(\d+) (?:([12]) )?(\S+) (\S+) /.exec(line);
   if (place < 0 || !head) return null;
-  const [front, tick, session, part] = head;
-  return entryOf(Number(tick), session === '-' ? null : session, part, line.slice(front.length, place), line.slice(place + 3));
+  const [front, tick, node = 0, session, part] = head;
+  return entryOf(Number(tick), session === '-' ? null : session, part, line.slice(front.length, place), line.slice(place + 3), Number(node));
 }
 
 // The entry of a line of JSON, or null.
@@ -180,7 +193,7 @@ function readEntries(lines, read, isLast) {
   return { entries: entries.slice(0, -1), broken: true };
 }
 
-// The entries, the keys that a report names as unsound (null of JSON lines), and how the text was cut short, if it was.
+// The entries, the keys that a report names as unsound (null if it names none), and how the text was cut short, if it was.
 function readJournal(text) {
   const lines = text.split('\n').filter(line => line !== ''), [first = ''] = lines;
   if (first[0] === '{') {
@@ -193,5 +206,5 @@ function readJournal(text) {
   const { entries } = readEntries(lines.slice(1, 1 + told), readLine, isCut);
   const from = tail.findIndex(line => /^unsound \d+$/.test(line)), count = from < 0 ? 0 : Number(tail[from].slice('unsound '.length));
   const cut = entries.length < told ? `it has ${entries.length} of ${told} entries` : tail[tail.length - 1] !== 'end' ? 'it has no line `end`' : '';
-  return { entries, unsound: tail.slice(from + 1, from + 1 + count), cut };
+  return { entries, unsound: from < 0 ? null : tail.slice(from + 1, from + 1 + count), cut };
 }

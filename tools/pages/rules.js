@@ -2,24 +2,32 @@
 // The rules of a factory, as far as a picture needs them: from the state before an entry to its reply and the state after it. They are
 // those of docs/JOURNAL.md, said a second time and not proved; the tests compare them with the replies that the program gives.
 //
-// A state has the committed rows by key, each region with its slots by key, the stamps of tables, the kept results from the one that was
-// used least recently on, the sessions, and what explains a later reply: why a key isn't in its region any more, when it was deleted,
-// since when it is unsound. `at` is always the place of an entry in the journal, and `by` a session.
+// A state has the committed rows by key, the stamps of tables, the kept results from the one that was used least recently on, the sessions,
+// and when a key was deleted. Each node has of its own each region with its slots by key, and what explains a later reply: why a key isn't
+// in its region any more, and since when it is unsound; and of two nodes what waits for it. `at` is always the place of an entry in the
+// journal, and `by` a session.
+
+function nodeAtStart(script, number) {
+  const cached = [...script.entities.values()].filter(({ strategy }) => strategy !== 'none');
+  return { number, regions: new Map(cached.map(({ name }) => [name, new Map()])), gone: new Map(), unsound: new Map(), queue: [], fence: null };
+}
 
 function startState(script) {
   const state = {
-    committed: new Map(), regions: new Map(), stamps: new Map(), kept: new Map(), sessions: new Map(),
-    gone: new Map(), deleted: new Map(), unsound: new Map(), restarted: NEVER,
+    committed: new Map(), stamps: new Map(), kept: new Map(), sessions: new Map(), deleted: new Map(), restarted: NEVER,
+    nodes: nodesOf(script).map(number => nodeAtStart(script, number)),
   };
   for (const [key, row] of script.rows) state.committed.set(key, { row, at: NEVER, by: null });
-  for (const entity of script.entities.values()) if (entity.strategy !== 'none') state.regions.set(entity.name, new Map());
   return state;
 }
+
+const nodeOf = (state, number) => state.nodes.find(node => node.number === number);
 
 function sessionOf(state, name) {
   if (!state.sessions.has(name)) {
     state.sessions.set(name, {
-      name, open: false, time: 0, floor: 0, began: NEVER, killed: NEVER, outcome: '', doneAt: NEVER, stampedAt: NEVER, listedAt: NEVER, listed: '', found: null,
+      name, node: 0, open: false, time: 0, floor: 0, began: NEVER, killed: NEVER, outcome: '',
+      doneAt: NEVER, stampedAt: NEVER, listedAt: NEVER, listed: '', found: null,
       written: [], done: [], copies: new Map(), locks: new Map(), loads: new Map(),
     });
   }
@@ -27,16 +35,18 @@ function sessionOf(state, name) {
 }
 
 const openSessions = state => [...state.sessions.values()].filter(session => session.open);
-const oldestOpen = (state, floor) => openSessions(state).find(session => session.time === floor);
+const openAt = (state, number) => openSessions(state).filter(session => session.node === number);
+const oldestOpen = (state, floor, number) => openAt(state, number).find(session => session.time === floor);
 const committedRow = (state, key) => state.committed.has(key) ? state.committed.get(key).row : null;
 const rowsOf = state => new Map([...state.committed].map(([key, { row }]) => [key, row]));
 const hasWritten = (session, key) => session.written.some(change => change.key === key);
 
 // What stands around an entry, in the state before it.
 function contextOf(script, state, entry, at) {
-  const entity = entry.key ? script.entities.get(entityOf(entry.key)) : null, region = entity ? state.regions.get(entity.name) : null;
+  const node = nodeOf(state, entry.node), entity = entry.key ? script.entities.get(entityOf(entry.key)) : null;
+  const region = entity ? node.regions.get(entity.name) : null;
   return {
-    script, state, entry, at, entity, region,
+    script, state, node, entry, at, entity, region,
     slot: region ? region.get(entry.key) : undefined,
     session: entry.session === null ? null : sessionOf(state, entry.session),
     query: entry.query ? script.queries.get(entry.query) : null,
@@ -50,12 +60,16 @@ function cutOff(session, at) {
   Object.assign(session, { open: false, killed: at, written: [], copies: new Map() });
 }
 
+// The floor of an entry's node: the least time of its open sessions, or the entry's tick if there is none.
+const floorAt = (state, { node, tick }) => openAt(state, node).reduce((least, { time }) => Math.min(least, time), tick);
+
 const REGISTRY = {
   begin({ state, session, entry, at }) {
     Object.assign(session, {
-      open: true, time: entry.tick, began: at, written: [], done: [], doneAt: NEVER, outcome: '', stampedAt: NEVER, locks: new Map(), loads: new Map(),
+      node: entry.node, open: true, time: entry.tick, began: at, outcome: '',
+      written: [], done: [], doneAt: NEVER, stampedAt: NEVER, locks: new Map(), loads: new Map(),
     });
-    session.floor = Math.min(...openSessions(state).map(({ time }) => time));
+    session.floor = floorAt(state, entry);
     return 'floor ' + session.floor;
   },
   end({ session }) {
@@ -68,11 +82,12 @@ const REGISTRY = {
   },
   restart({ state, at }) {
     for (const session of openSessions(state)) cutOff(session, at);
-    for (const region of state.regions.values()) {
-      for (const key of region.keys()) state.gone.set(key, { at, how: 'restart' });
-      region.clear();
+    for (const { regions, gone, unsound } of state.nodes) {
+      for (const key of [...regions.values()].flatMap(region => [...region.keys()])) gone.set(key, { at, how: 'restart' });
+      for (const region of regions.values()) region.clear();
+      unsound.clear();
     }
-    for (const part of ['stamps', 'kept', 'deleted', 'unsound']) state[part].clear();
+    for (const part of ['stamps', 'kept', 'deleted']) state[part].clear();
     state.restarted = at;
     return 'done';
   },
@@ -141,13 +156,21 @@ function refusalOf(state, written) {
   return '';
 }
 
+const isGuarded = (script, key) => script.entities.get(entityOf(key)).strategy === 'read-write';
+
 // A read-write key that is inserted after it was deleted is unsound: its versions begin anew.
 function noteReuse({ script, state, session, at }) {
   for (const { kind, key } of session.written) {
-    const isGuarded = script.entities.get(entityOf(key)).strategy === 'read-write';
-    if (kind !== 'insert' || !isGuarded || !state.deleted.has(key) || state.unsound.has(key)) continue;
-    state.unsound.set(key, { at, cause: 'reused', deletedAt: state.deleted.get(key).at });
+    if (kind !== 'insert' || !isGuarded(script, key) || !state.deleted.has(key)) continue;
+    const reused = { at, cause: 'reused', deletedAt: state.deleted.get(key).at };
+    for (const { unsound } of state.nodes) if (!unsound.has(key)) unsound.set(key, reused);
   }
+}
+
+// What a commit has changed in read-write regions waits for the other node, if there is one: each key once.
+function tellOthers({ script, state, session, entry, at }) {
+  const keys = [...new Set(session.written.map(({ key }) => key))].filter(key => isGuarded(script, key));
+  for (const { number, queue } of state.nodes) if (number !== entry.node) queue.push(...keys.map(key => ({ key, at, by: session.name })));
 }
 
 function applyWritten({ state, session, at }) {
@@ -179,6 +202,7 @@ const STORE = {
     } else {
       noteReuse(context);
       applyWritten(context);
+      tellOthers(context);
     }
     Object.assign(session, { done: session.written, doneAt: refusal ? NEVER : at, written: [], outcome: refusal ? refusal.split(' ')[0] : 'committed' });
     return refusal || 'committed';
@@ -216,18 +240,18 @@ function leaverOf({ entity, region }, floor) {
 }
 
 // Places a slot for a new key; answers what the reply says of the one that leaves.
-function place({ state, region, entry, at }, slot, leaver) {
+function place({ node, region, entry, at }, slot, leaver) {
   if (leaver) {
     region.delete(leaver);
-    state.gone.set(leaver, { at, how: 'left' });
+    node.gone.set(leaver, { at, how: 'left' });
   }
   region.set(entry.key, slot);
   return leaver ? ' evicted ' + leaver.split(' ')[1] : '';
 }
 
-function takeOut({ state, region, entry, at }, how) {
+function takeOut({ node, region, entry, at }, how) {
   region.delete(entry.key);
-  state.gone.set(entry.key, { at, how });
+  node.gone.set(entry.key, { at, how });
   return how;
 }
 
@@ -247,10 +271,11 @@ function expire(context) {
   return 'expired';
 }
 
-// A holder gives a lock back; answers how many are left.
-function giveBack({ slot, entry, at }) {
+// A holder gives a lock back; answers how many are left. Of a fence, `told` is the commit that its node is told of.
+function giveBack({ node, slot, entry, at }) {
   slot.holders = slot.holders.filter(holder => holder.by !== entry.session);
-  if (!slot.holders.length) slot.release = { tick: entry.tick, at, by: entry.session, how: 'given back' };
+  const how = isFence(entry) ? 'fenced' : 'given back';
+  if (!slot.holders.length) slot.release = { tick: entry.tick, at, by: entry.session, how, told: node.fence };
   return slot.holders.length;
 }
 
@@ -309,6 +334,30 @@ const REGION = {
     region.set(entry.key, { ...lockOf(context, NO_VERSION, entry.tick), release: { tick: entry.tick, at, by: null, how: 'evicted' } });
     return 'evicted';
   },
+};
+
+// ---- fences ----
+
+// A fence takes the first that waits for its node: `fence` is what it tells the node, until its lock is given back.
+const FENCES = {
+  lock(context) {
+    const { node } = context, said = REGION.lock(context);
+    node.fence = { ...node.queue.shift(), lock: Number(said.split(' ')[1]) };
+    return said;
+  },
+  unlock(context) {
+    const said = REGION.unlock(context);
+    context.node.fence = null;
+    return said;
+  },
+};
+
+// Whether a fence is of what waits first, or the second half of the one that has begun.
+const FENCE_SAYS = {
+  lock({ state, node, entry }) {
+    return !node.fence && node.queue.length > 0 && node.queue[0].key === entry.key && numberBehind(entry, 'floor') === floorAt(state, entry);
+  },
+  unlock: ({ node, entry }) => Boolean(node.fence) && node.fence.key === entry.key && node.fence.lock === numberBehind(entry, 'lock'),
 };
 
 // ---- stamps and kept results ----
@@ -375,9 +424,9 @@ function remember({ session, entry, at }) {
   if (entry.part === 'store' && entry.verb === 'list') Object.assign(session, { listedAt: at, listed: entry.reply.slice('list '.length) });
 }
 
-function noteExpired({ state, entry, at }) {
+function noteExpired({ node, entry, at }) {
   const cause = entry.reply === 'expired' ? 'expired' : / late$/.test(entry.reply) ? 'late' : '';
-  if (entry.part === 'region' && cause && !state.unsound.has(entry.key)) state.unsound.set(entry.key, { at, cause });
+  if (entry.part === 'region' && cause && !node.unsound.has(entry.key)) node.unsound.set(entry.key, { at, cause });
 }
 
 // A load that says something else than the state is believed, so that a run over a file with rows of its own can be drawn too.
@@ -393,7 +442,7 @@ const isFault = entry => entry.part === 'store' && entry.reply === 'fault';
 // The reply that is due, or null if the entry can't come here; the state becomes that after the entry.
 function dueReply(context) {
   try {
-    return REPLIES[context.entry.part][context.entry.verb](context);
+    return (isFence(context.entry) ? FENCES : REPLIES[context.entry.part])[context.entry.verb](context);
   } catch (fault) {
     return null;
   }
@@ -421,9 +470,10 @@ const SAYS = {
 
 // Whether an act can be of its session as it stands. Which act is due isn't looked at.
 function isOwnAct(context) {
-  const { session, entry } = context, says = SAYS[entry.verb];
+  const { script, session, entry } = context, says = SAYS[entry.verb];
+  if (isFence(entry)) return Boolean(FENCE_SAYS[entry.verb]) && FENCE_SAYS[entry.verb](context);
   if (!session) return true;
-  return session.open === (entry.verb !== 'begin') && (!says || Boolean(says(context)));
+  return entry.node === nodeOfSession(script, session.name) && session.open === (entry.verb !== 'begin') && (!says || Boolean(says(context)));
 }
 
 // Takes one entry, and answers whether its act and its reply follow from the state; `due` is the reply that was.

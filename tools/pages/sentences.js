@@ -36,11 +36,15 @@ const storedBy = item => `${STORED[item.how]} ${code(item.by)} at ${ref(item.at)
 
 const SLOW_OR_DEAD = "The cache can't tell a dead holder from a slow one";
 
-function holdersOf(state, lock) {
-  return listed(lock.holders.map(({ by, at }) => `${code(by)} (since ${ref(at)}${state.sessions.get(by).killed > at ? ', killed' : ''})`));
-}
+const holderOf = (state, { by, at }) => by === null ? `a fence (since ${ref(at)})` :
+  `${code(by)} (since ${ref(at)}${state.sessions.get(by).killed > at ? ', killed' : ''})`;
+const holdersOf = (state, lock) => listed(lock.holders.map(holder => holderOf(state, holder)));
+
+// The commit of which a node is told by a fence.
+const toldOf = ({ at, by }) => `the change that ${code(by)} committed at ${ref(at)}`;
 
 function releasedBy({ release }, script) {
+  if (release.how === 'fenced') return `a fence ended at ${ref(release.at)}, since the node was told of ${toldOf(release.told)}`;
   if (release.how === 'evicted') return `the key was evicted at ${ref(release.at)}`;
   if (release.how !== 'expired') return `${code(release.by)} gave the lock back at ${ref(release.at)}`;
   return `a lock had run out and was given back too late at ${ref(release.at)}; puts are barred for ${count(script.timeout, 'tick')} after that`;
@@ -53,14 +57,15 @@ const GONE = {
   restart: at => `the restart at ${ref(at)} emptied the cache`,
 };
 
-function absentSince({ state, entry }) {
-  const gone = state.gone.get(entry.key);
+function absentSince({ node, entry }) {
+  const gone = node.gone.get(entry.key);
   return gone ? GONE[gone.how](gone.at) : 'nobody has put it there yet';
 }
 
 // Why nobody may leave a full region.
 function whyCrowded({ state, entity, region, entry }) {
-  const floor = numberBehind(entry, 'floor'), oldest = oldestOpen(state, floor), began = oldest ? `, at which ${code(oldest.name)} began, who is open` : '';
+  const floor = numberBehind(entry, 'floor'), oldest = oldestOpen(state, floor, entry.node);
+  const began = oldest ? `, at which ${code(oldest.name)} began, who is open` : '';
   const some = [...region].slice(0, 3).map(([key, slot]) => `${code(key)} is ${isHeld(slot) ? 'locked' : `of the tick ${tickOfSlot(slot)}`}`);
   return `The cache of ${code(entity.name)} is full (${region.size} of ${entity.capacity}), and nothing in it is older than the floor ${floor}${began}: ` +
     `${listed(some)}${region.size > 3 ? ', and so on' : ''}.`;
@@ -76,9 +81,10 @@ function leaverText({ entity, entry }) {
 
 const REGISTRY_TEXTS = {
   begin({ state, entry, me }) {
-    const floor = Number(entry.reply.split(' ')[1]), oldest = oldestOpen(state, floor);
-    const others = oldest ? `The floor is ${floor}: ${code(oldest.name)} is the oldest that is open.` : 'Nobody who is open began before.';
-    return `A transaction of ${me} begins. Its time is ${entry.tick}. ${others}`;
+    const floor = Number(entry.reply.split(' ')[1]), oldest = oldestOpen(state, floor, entry.node), where = atNode(entry.node);
+    const others = oldest ? `The floor is ${floor}: ${code(oldest.name)} is the oldest that is open${where}.` :
+      `Nobody who is open${where} began before.`;
+    return `A transaction of ${me} begins${where}. Its time is ${entry.tick}. ${others}`;
   },
   end: ({ entry, me }) => `The transaction of ${me} ends: ${entry.reply}.`,
   kill({ state, entry }) {
@@ -147,6 +153,12 @@ function refusedCommitText(context) {
   return `${front} ${change.kind} ${code(key)}${expected}, and ${foundText(context, key)}.`;
 }
 
+// For which node a commit's changes are to wait.
+function waitsText({ script, session, entry }) {
+  const others = nodesOf(script).filter(number => number !== entry.node).map(nodeName);
+  return others.length && session.written.some(({ key }) => isGuarded(script, key)) ? ` The cache of ${listed(others)} isn't told yet.` : '';
+}
+
 const STORE_TEXTS = {
   load({ state, session, entry, me, key }) {
     const now = state.committed.get(entry.key), front = `${me} asks the store for ${key}.`;
@@ -166,7 +178,7 @@ const STORE_TEXTS = {
     if (isFault(entry)) return `The store fails, and nothing of ${me} is committed.`;
     if (entry.reply !== 'committed') return refusedCommitText(context);
     if (!keys.length) return `${me} commits. It has written nothing.`;
-    return `${me} commits: ${codes(keys)} ${keys.length === 1 ? 'is' : 'are'} changed for all from here on.`;
+    return `${me} commits: ${codes(keys)} ${keys.length === 1 ? 'is' : 'are'} changed for all from here on.${waitsText(context)}`;
   },
   rollback({ session, me }) {
     const changes = session.written.length;
@@ -176,12 +188,16 @@ const STORE_TEXTS = {
 
 // ---- regions ----
 
-function hitText({ script, state, slot, entry }) {
+// The commits on a key of which a node isn't told yet.
+const untoldOf = ({ queue }, key) => queue.filter(waiting => waiting.key === key);
+
+function hitText({ script, state, node, slot, entry }) {
   const now = state.committed.get(entry.key);
   if (now && rowText(now.row) === rowText(slot.row)) return `It gets the committed row, ${storedBy(slot)}.`;
   const [old, fresh] = difference(script, entry.key, slot.row, now && now.row);
   const truth = now ? `the committed row has ${code(fresh)} ${since(now.at)}` : 'the row is deleted';
-  return `**A stale read:** it gets ${code(old)}, ${storedBy(slot)}; ${truth}.`;
+  const untold = untoldOf(node, entry.key).length ? ` The change waits for ${nodeName(node.number)} still.` : '';
+  return `**A stale read:** it gets ${code(old)}, ${storedBy(slot)}; ${truth}.${untold}`;
 }
 
 const MISSES = {
@@ -291,6 +307,20 @@ const REGION_TEXTS = {
   evict: context => `The schedule drops ${context.key} from the cache. ${EVICTIONS[context.entry.reply](context)}`,
 };
 
+// ---- fences ----
+
+const FENCE_TEXTS = {
+  lock(context) {
+    const { node, key } = context, [first] = node.queue;
+    return `The cache of ${nodeName(node.number)} is told of ${toldOf(first)}. A fence locks ${key} there.${lockedOverText(context)}${leaverText(context)}`;
+  },
+  unlock({ node, slot, key }) {
+    const others = slot.holders.filter(({ by }) => by !== null).length;
+    return `The fence of ${key} at ${nodeName(node.number)} ends, and its lock is given back. ` +
+      (others ? `${count(others, 'holder is', 'holders are')} left.` : 'A row that was loaded before this is refused from here on.');
+  },
+};
+
 // ---- stamps and kept results ----
 
 // The stamps that a stamp takes back: those ahead of time of sessions that aren't done.
@@ -341,7 +371,7 @@ const TEXTS = { registry: REGISTRY_TEXTS, own: OWN_TEXTS, store: STORE_TEXTS, re
 function explain(script, state, entry, at) {
   const context = { ...contextOf(script, state, entry, at), me: code(entry.session || '-'), key: code(entry.key) };
   try {
-    return TEXTS[entry.part][entry.verb](context);
+    return (isFence(entry) ? FENCE_TEXTS : TEXTS[entry.part])[entry.verb](context);
   } catch (fault) {
     return '';
   }

@@ -48,7 +48,7 @@ function checkEntry(file, script, state, entry, at) {
   checkText(file, `the sentence of ${line}`, said);
   checkText(file, `the text of ${line}`, page.brief(entry, false) + page.brief(entry, true));
   if (held && (said.match(/\(since \u0001/g) || []).length !== Number(held[1])) fail(file, `${line}   the holders are: ${said}`);
-  const rows = page.meaningsOf(meanings, entry);
+  const rows = page.meaningsOf(meanings, entry, script.section);
   if (rows.length !== 2 || rows.includes(undefined)) fail(file, `${line}   docs/JOURNAL.md has no row for ${rows.length ? 'the reply' : 'the act'}`);
 }
 
@@ -73,7 +73,8 @@ function checkStory(file, run, story) {
   const read = run.reads.find(({ to }) => to === story.at), places = story.steps.map(({ at }) => at), has = at => places.includes(at);
   const loads = read.loadedAt === page.NEVER || (has(read.loadedAt) && ['load', 'list'].includes(run.entries[read.loadedAt].verb));
   const commits = places.some(at => at < story.at && run.entries[at].verb === 'commit' && run.entries[at].reply === 'committed');
-  if (!loads || !commits || !has(read.keptAt) || places[places.length - 1] !== story.at) fail(file, `a part of the story is missing: ${story.head}`);
+  const last = places.filter(at => !page.isFence(run.entries[at]) || at < story.at).pop();
+  if (!loads || !commits || !has(read.keptAt) || last !== story.at) fail(file, `a part of the story is missing: ${story.head}`);
   const isOdd = !story.why || story.why === page.IMPOSSIBLE || places.some((at, k) => k && at <= places[k - 1]);
   if (isOdd) fail(file, `the story is odd: ${story.head} ${story.why} ${places}`);
   checkText(file, 'a story', story.head + story.why + story.steps.map(({ text }) => text).join());
@@ -124,15 +125,15 @@ function checkReport(file) {
   const misread = journal.entries.find((entry, at) => page.lineOf(entry) !== lines[at + 1]);
   if (journal.cut) fail(file, `is cut short: ${journal.cut}`);
   if (isReport && misread) fail(file, `a line is read as ${page.lineOf(misread)}`);
-  const end = checkEntries(file, script, journal), run = page.analyse(script, journal), unsound = [...end.unsound.keys()].sort().join();
+  const end = checkEntries(file, script, journal), run = page.analyse(script, journal), unsound = [...end.nodes[0].unsound.keys()].sort().join();
   run.meanings = meanings;
   if (journal.unsound && unsound !== journal.unsound.slice().sort().join()) fail(file, `unsound by the rules: ${unsound}; by the report: ${journal.unsound}`);
   if (run.findings.length !== run.stale.size) fail(file, `${run.stale.size} stale reads, ${run.findings.length} stories`);
   checkRun(file, run, end);
   const hits = run.reads.filter(({ key }) => key), stale = hits.filter(({ isStale }) => isStale).length;
   const lists = run.reads.filter(({ query }) => query), old = lists.filter(({ isStale }) => isStale).length;
-  const since = [...end.unsound].map(([key, { at }]) => `unsound ${key} since ${journal.entries[at].tick}`);
-  if (isReport) checkStale(file, hits.length, stale, lists.length, old, since);
+  const since = [...end.nodes[0].unsound].map(([key, { at }]) => `unsound ${key} since ${journal.entries[at].tick}`);
+  if (isReport && !script.section) checkStale(file, hits.length, stale, lists.length, old, since);
   totals.reports++;
   totals.stale += stale;
   totals.lists += old;
@@ -140,13 +141,22 @@ function checkReport(file) {
   totals.unsound += run.unsound.length;
 }
 
+// Whether the page draws the section of a script, if it has one.
+function isDrawn(file) {
+  const section = /^(collections|bulk|nodes)$/m.exec(fs.readFileSync(file + '.hib', 'utf8'));
+  return !section || Boolean(page.SECTION_LINES[section[1]]);
+}
+
+const left = [];
 const words = process.argv.slice(2), wantsKinds = words[0] === '--kinds';
 for (const folder of wantsKinds ? words.slice(1) : words) {
   for (const name of fs.readdirSync(folder).filter(one => one.endsWith('.hib'))) {
     const file = path.join(folder, name.slice(0, -'.hib'.length));
-    if (fs.existsSync(file + '.report')) checkReport(file);
+    if (!fs.existsSync(file + '.report')) continue;
+    if (isDrawn(file)) checkReport(file); else left.push(file);
   }
 }
+if (left.length) console.log(`not drawn, since they have a section: ${left.join(' ')}`);
 if (wantsKinds) for (const [kind, number] of [...kinds].sort()) console.log(String(number).padStart(7), kind);
 console.log(`${totals.reports} reports, ${totals.entries} entries of ${kinds.size} kinds, ${totals.faults} faults, ${totals.stale} stale hits, ` +
   `${totals.lists} stale lists, ${totals.stories} stories, ${totals.unsound} unsound keys; ${wrong} wrong`);

@@ -1,0 +1,18 @@
+'use strict';
+// Reads the sections that stand behind the scripts of some commands. docs/SCRIPT.md says what their lines mean.
+
+// What each first word of a section's line says, by the section.
+const SECTION_LINES = {
+  nodes: {
+    place(script, words) { script.places.set(words[1], Number(words[2])); },
+    schedule() {},
+  },
+};
+
+// The numbers of the nodes of a run. A run that knows of no nodes has one, with the number 0.
+const nodesOf = script => script.section === 'nodes' ? [1, 2] : [0];
+const nodeOfSession = (script, name) => script.section === 'nodes' ? script.places.get(name) || 1 : 0;
+
+// How a node is called, and what stands behind a word that is of a node alone.
+const nodeName = number => 'node ' + number;
+const atNode = number => number ? ' at ' + nodeName(number) : '';
