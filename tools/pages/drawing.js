@@ -113,7 +113,8 @@ function lanesOfPart(layout, part, passes) {
 function targetsOfEntry(layout, entry, at) {
   if (entry.part === 'own' || ['check', 'insert', 'update', 'delete'].includes(entry.verb)) return [];
   if (entry.part === 'stamps') return lanesOfPart(layout, 'stamps', ({ kind, name }) => kind === 'table' && entry.words.includes(name));
-  if (entry.verb === 'commit') {
+  if (WIDE.includes(entry.verb)) return lanesOfPart(layout, 'wide', ({ name }) => name === wholeOf(entry.entity));
+  if (isCommit(entry)) {
     const changed = lanesOfPart(layout, 'store', ({ kind }) => kind === 'key');
     return changed.filter(({ lane }) => lane.segments.some(({ from }) => from === at));
   }
@@ -132,7 +133,7 @@ const headX = (layout, lane) => layout.isWide ? sideX(layout, lane) : layout.tex
 // A line from a session to a lane, with a head to where something goes: a row, or a cross if it is refused. Steps of the story are strong.
 function drawArrow(run, layout, at, to, isHot) {
   const entry = run.entries[at], lane = layout.laneOf.get(entry.lane), y = layout.middle(at);
-  const colour = isHot ? (entry.verb === 'commit' ? 'green' : 'red') : 'soft', fill = `fill="var(--${colour})"${isHot ? '' : ' opacity="0.6"'}`;
+  const colour = isHot ? (isCommit(entry) ? 'green' : 'red') : 'soft', fill = `fill="var(--${colour})"${isHot ? '' : ' opacity="0.6"'}`;
   const isMiss = /^miss|^absent|^none/.test(entry.reply), isRefused = run.marks[at] === 'refused' || /^(stale|duplicate)/.test(entry.reply);
   const dashes = isMiss || isRefused ? ' stroke-dasharray="2 3"' : '';
   const line = lineTo(sideX(layout, lane), y, to, y, stroke(colour, isHot ? 2 : 1, dashes + (isHot ? '' : ' opacity="0.45"')));
@@ -266,6 +267,7 @@ function drawNodeHead(layout, number) {
 
 const TITLES = {
   key: 'show only what touches it', query: 'show only what touches it', table: 'the stamp of this table',
+  wide: 'the lock of the whole region, which bulk lines take',
   queue: 'keys that another node has changed, of which the node is to be told',
 };
 

@@ -131,12 +131,18 @@ function groupsOfQueues({ queues }) {
   return lanes.length ? [{ name: 'waits for', kind: 'queue', tables: [], unsound: [], lanes }] : [];
 }
 
-// The groups of lanes on the right: what a key has in the cache and committed, what a query keeps and gives, the stamps of its tables, and
-// what waits for nodes.
+// The locks of whole regions that lines ever take.
+function groupsOfWides({ wides }) {
+  const taken = [...wides].filter(([, wide]) => isEverShown(wide));
+  return taken.map(([name, wide]) => ({ name: wholeOf(name), kind: 'wide', tables: [], unsound: [], lanes: [laneFor('wide', 'the cache', wide)] }));
+}
+
+// The groups of lanes on the right: what a key has in the cache and committed, what a query keeps and gives, the stamps of its tables, what
+// waits for nodes, and the locks of whole regions.
 function groupsOf(run, names) {
   const groups = names.map(name => run.queries.has(name) ? groupOfQuery(name, run.queries.get(name)) : groupOfKey(name, run.keys.get(name)));
   const tables = new Set(groups.flatMap(group => group.tables));
-  return [...groups, ...[...tables].map(name => groupOfTable(name, run.tables.get(name))), ...groupsOfQueues(run)];
+  return [...groups, ...[...tables].map(name => groupOfTable(name, run.tables.get(name))), ...groupsOfQueues(run), ...groupsOfWides(run)];
 }
 
 // How wide the widest text of an entry is, with the session's name in front if it stands in a column of texts.

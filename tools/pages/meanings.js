@@ -29,6 +29,7 @@ function readMeanings(text) {
 
 const saysAct = (row, { part, act }) => row.read.some(form => form.act && form.act.test(act) && (!form.part || form.part === part));
 const saysReply = (row, { reply }) => row.read.some(form => form.reply && form.reply.test(reply));
+const isBoth = ({ part, act, reply }, entry) => act.test(entry.act) && reply.test(entry.reply) && (!part || part === entry.part);
 const isOf = verb => row => row.isAct && row.forms.startsWith('`' + verb + ' ');
 
 // The row of a reply, which is the first that fits below its act's.
@@ -38,12 +39,13 @@ function replyBelow(rows, at, entry) {
 }
 
 // The tables of a section's command, which come before those that all commands have.
-const TABLES = { nodes: 'Two nodes' };
+const TABLES = { nodes: 'Two nodes', bulk: 'Bulk changes' };
 
 // The rows of an entry's act and of its reply. `section` is that of the script.
 function meaningsOf(meanings, entry, section) {
   const own = meanings.filter(({ table }) => table === TABLES[section]), plain = meanings.filter(({ table }) => table === entry.part);
   const isItsAct = row => row.isAct && saysAct(row, entry), at = plain.findIndex(isItsAct);
   const act = section !== 'nodes' || isFence(entry) ? own.find(isItsAct) : undefined;
-  return [act || plain[at], replyBelow(plain, at, entry)].filter(Boolean);
+  const both = own.filter(row => row.read.some(form => form.act && form.reply && isBoth(form, entry)));
+  return [...new Set([act || plain[at], replyBelow(plain, at, entry), ...both])].filter(Boolean);
 }

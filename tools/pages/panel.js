@@ -17,9 +17,9 @@ function rowHtml({ script, run, state }, key) {
   return now ? `${codeHtml(named(script, key, now.row))} since ${linkTo(run, now.at)}${byHtml(now.by)}` : 'no row';
 }
 
-function slotHtml({ script, run, state, tick }, key, slot) {
+function slotHtml({ script, run, state, tick }, node, key, slot) {
   if (slot.kind === 'item') {
-    const old = rowText(committedRow(state, key)) !== rowText(slot.row) ? '<b class="bad">old</b> ' : '';
+    const old = isOldSlot(state, node, key, slot) ? '<b class="bad">old</b> ' : '';
     return `${old}${codeHtml(named(script, key, slot.row))}, ${sentence(run, storedBy(slot))}`;
   }
   if (!isHeld(slot)) return `released lock ${slot.id}, of ${slot.release.tick}, good until ${slot.until}: ${sentence(run, releasedBy(slot, script))}`;
@@ -45,6 +45,12 @@ function sessionsTable(around) {
   return open.map(session => [session.name + atNode(session.node), sessionHtml(around, session, open.length > 8 && session.name !== actor)]);
 }
 
+// What lines do with the whole region of an entity, if they have ever done anything.
+function wideRows({ run, state }, name, { holders, given }) {
+  if (holders.length) return [[wholeOf(name), 'locked by ' + sentence(run, holdersOf(state, { holders }))]];
+  return given ? [[wholeOf(name), `given back at ${linkTo(run, given.at)}${byHtml(given.by)}`]] : [];
+}
+
 // What waits for a node, the first on top.
 function queueRows(run, { queue }) {
   return queue.map(({ key, at, by }) => [`${key} of ${run.entries[at].tick}`, `changed${byHtml(by)}, committed at ${linkTo(run, at)}`]);
@@ -58,9 +64,10 @@ function tablesOf(run, state, at, shown) {
   const { script } = run, entry = at === NEVER ? { tick: 0, session: '' } : run.entries[at];
   const around = { script, run, state, tick: entry.tick, actor: entry.session }, table = (head, rows) => ({ head, rows });
   const keys = [...run.keys.keys()].filter(key => !shown || shown.has(key)), unsoundHtml = unsound => sentence(run, UNSOUND[unsound.cause](unsound));
-  const regions = state.nodes.flatMap(({ number, regions: own }) => [...own].map(([name, region]) => {
-    const { strategy, capacity } = script.entities.get(name), head = `Cache of ${name}${atNode(number)} (${strategy}, ${region.size} of ${capacity})`;
-    return table(head, [...region].filter(([key]) => !shown || shown.has(key)).map(([key, slot]) => [key, slotHtml(around, key, slot)]));
+  const regions = state.nodes.flatMap(node => [...node.regions].map(([name, region]) => {
+    const { strategy, capacity } = script.entities.get(name), head = `Cache of ${name}${atNode(node.number)} (${strategy}, ${region.size} of ${capacity})`;
+    const slots = [...region].filter(([key]) => !shown || shown.has(key)).map(([key, slot]) => [key, slotHtml(around, node, key, slot)]);
+    return table(head, [...wideRows(around, name, node.wides.get(name)), ...slots]);
   }));
   const queues = state.nodes.length < 2 ? [] : state.nodes.map(node => table(`Waits for ${nodeName(node.number)}`, queueRows(run, node)));
   const unsound = state.nodes.flatMap(node => [...node.unsound].map(([key, one]) => [key + atNode(node.number), one]));
@@ -134,7 +141,8 @@ function badges(run) {
   const marked = kind => run.marks.filter(mark => mark === kind).length, stale = reads => reads.filter(read => read.isStale).length;
   const hits = run.reads.filter(read => read.key), lists = run.reads.filter(read => read.query);
   const unsound = run.unsound.slice(0, 3).map(({ key, node }) => escaped(key + atNode(node))).join(', ');
-  const sizes = [count(run.entries.length, 'entry', 'entries'), count(run.script.sessions.length, 'session'), count(run.keys.size, 'key')];
+  const { sessions, lines } = run.script, sizes = [count(run.entries.length, 'entry', 'entries'), count(sessions.length - lines.size, 'session')];
+  sizes.push(...(lines.size ? [count(lines.size, 'bulk line')] : []), count(run.keys.size, 'key'));
   const out = [`<span class="badge">${sizes.join(', ')}</span>`];
   const add = (kind, text, colour = '') => out.push(`<button class="badge ${colour}" data-next="${kind}" title="go to the next one">${text}</button>`);
   add('stale', `${stale(hits)} stale of ${count(hits.length, 'hit')}`, stale(hits) ? 'red' : '');

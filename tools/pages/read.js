@@ -107,7 +107,7 @@ const LINES = {
 function readScript(text) {
   const script = {
     timeout: 1000, results: 100, entities: new Map(), rows: new Map(), queries: new Map(), sessions: [],
-    section: '', places: new Map(),
+    section: '', places: new Map(), lines: new Map(),
   };
   let inside = false;
   text.split('\n').forEach((line, at) => {
@@ -131,7 +131,8 @@ function readScript(text) {
 
 // ---- the journal ----
 
-// The acts that name a key, and those that name a query, by the part that answers them.
+// The acts that name an entity alone, those that name a key, and those that name a query, by the part that answers them.
+const WIDE = ['lock-all', 'unlock-all'];
 const KEYED = { own: ['find', 'persist', 'set', 'remove'], store: ['load', 'insert', 'update', 'delete'] };
 const OF_QUERIES = ['look', 'keep', 'check', 'list'];
 
@@ -139,15 +140,18 @@ const OF_QUERIES = ['look', 'keep', 'check', 'list'];
 function entryOf(tick, session, part, act, reply, node = 0) {
   const lane = session === null && node ? nodeName(node) : session;
   const words = tokensOf(act), [verb] = words;
-  const keyed = part === 'region' || (KEYED[part] || []).includes(verb);
+  const isWide = part === 'region' && WIDE.includes(verb), keyed = (part === 'region' && !isWide) || (KEYED[part] || []).includes(verb);
   const key = keyed ? keyOf(words[1], words[2]) : '', query = OF_QUERIES.includes(verb) ? words[1] : '';
-  return { tick, node, session, lane, part, act, reply, words, verb, key, query };
+  return { tick, node, session, lane, part, act, reply, words, verb, key, entity: isWide || keyed ? words[1] : '', query };
 }
 
 const lineOf = entry => `${entry.tick} ${entry.node ? entry.node + ' ' : ''}${entry.session || '-'} ${entry.part} ${entry.act} = ${entry.reply}`;
 
 // A fence locks a key at a node for no session, and gives the lock back.
 const isFence = entry => entry.node > 0 && entry.session === null;
+
+// Whether an entry changes the committed rows: a commit, or a line's bulk change.
+const isCommit = ({ part, verb, reply }) => part === 'store' && ((verb === 'commit' && reply === 'committed') || (verb === 'bulk' && reply !== 'fault'));
 
 // The number that stands behind the last such word of an act.
 const numberBehind = (entry, word) => Number(entry.words[entry.words.lastIndexOf(word) + 1]);

@@ -4,12 +4,13 @@
 //
 // A state has the committed rows by key, the stamps of tables, the kept results from the one that was used least recently on, the sessions,
 // and when a key was deleted. Each node has of its own each region with its slots by key, and what explains a later reply: why a key isn't
-// in its region any more, and since when it is unsound; and of two nodes what waits for it. `at` is always the place of an entry in the
-// journal, and `by` a session.
+// in its region any more, and since when it is unsound; what lines do with whole regions; and of two nodes what waits for it. `at` is always
+// the place of an entry in the journal, and `by` a session or a bulk line.
 
 function nodeAtStart(script, number) {
   const cached = [...script.entities.values()].filter(({ strategy }) => strategy !== 'none');
-  return { number, regions: new Map(cached.map(({ name }) => [name, new Map()])), gone: new Map(), unsound: new Map(), queue: [], fence: null };
+  const forEach = make => new Map(cached.map(({ name }) => [name, make()]));
+  return { number, regions: forEach(() => new Map()), wides: forEach(wideAtStart), gone: new Map(), unsound: new Map(), queue: [], fence: null };
 }
 
 function startState(script) {
@@ -43,7 +44,7 @@ const hasWritten = (session, key) => session.written.some(change => change.key =
 
 // What stands around an entry, in the state before it.
 function contextOf(script, state, entry, at) {
-  const node = nodeOf(state, entry.node), entity = entry.key ? script.entities.get(entityOf(entry.key)) : null;
+  const node = nodeOf(state, entry.node), entity = entry.entity ? script.entities.get(entry.entity) : null;
   const region = entity ? node.regions.get(entity.name) : null;
   return {
     script, state, node, entry, at, entity, region,
@@ -173,8 +174,8 @@ function tellOthers({ script, state, session, entry, at }) {
   for (const { number, queue } of state.nodes) if (number !== entry.node) queue.push(...keys.map(key => ({ key, at, by: session.name })));
 }
 
-function applyWritten({ state, session, at }) {
-  for (const { key, row } of session.written) {
+function applyChanges({ state, session, at }, changes) {
+  for (const { key, row } of changes) {
     if (row) state.committed.set(key, { row, at, by: session.name }); else state.committed.delete(key);
     if (!row) state.deleted.set(key, { at, by: session.name });
   }
@@ -201,7 +202,7 @@ const STORE = {
       session.copies = new Map();
     } else {
       noteReuse(context);
-      applyWritten(context);
+      applyChanges(context, session.written);
       tellOthers(context);
     }
     Object.assign(session, { done: session.written, doneAt: refusal ? NEVER : at, written: [], outcome: refusal ? refusal.split(' ')[0] : 'committed' });
@@ -336,30 +337,6 @@ const REGION = {
   },
 };
 
-// ---- fences ----
-
-// A fence takes the first that waits for its node: `fence` is what it tells the node, until its lock is given back.
-const FENCES = {
-  lock(context) {
-    const { node } = context, said = REGION.lock(context);
-    node.fence = { ...node.queue.shift(), lock: Number(said.split(' ')[1]) };
-    return said;
-  },
-  unlock(context) {
-    const said = REGION.unlock(context);
-    context.node.fence = null;
-    return said;
-  },
-};
-
-// Whether a fence is of what waits first, or the second half of the one that has begun.
-const FENCE_SAYS = {
-  lock({ state, node, entry }) {
-    return !node.fence && node.queue.length > 0 && node.queue[0].key === entry.key && numberBehind(entry, 'floor') === floorAt(state, entry);
-  },
-  unlock: ({ node, entry }) => Boolean(node.fence) && node.fence.key === entry.key && node.fence.lock === numberBehind(entry, 'lock'),
-};
-
 // ---- stamps and kept results ----
 
 function stamp({ state, entry, at }, value, ahead) {
@@ -406,81 +383,3 @@ const RESULTS = {
     return dropped ? 'kept dropped ' + dropped : 'kept';
   },
 };
-
-// ---- a step ----
-
-const REPLIES = { registry: REGISTRY, own: OWN, store: STORE, region: REGION, stamps: STAMPS, results: RESULTS };
-
-// What a session remembers of a reply: the row that it got, its locks, its list.
-function remember({ session, entry, at }) {
-  if (!session) return;
-  const got = /^(?:hit|row) (v.*)$/.exec(entry.reply);
-  if (got && entry.part !== 'own') {
-    session.copies.set(entry.key, managed(rowOf(tokensOf(got[1])), at));
-    session.loads.set(entry.key, at);
-  }
-  if (entry.part === 'region' && entry.verb === 'lock') session.locks.set(entry.key, Number(entry.reply.split(' ')[1]));
-  if (entry.part === 'region' && ['unlock', 'after-update'].includes(entry.verb)) session.locks.delete(entry.key);
-  if (entry.part === 'store' && entry.verb === 'list') Object.assign(session, { listedAt: at, listed: entry.reply.slice('list '.length) });
-}
-
-function noteExpired({ node, entry, at }) {
-  const cause = entry.reply === 'expired' ? 'expired' : / late$/.test(entry.reply) ? 'late' : '';
-  if (entry.part === 'region' && cause && !node.unsound.has(entry.key)) node.unsound.set(entry.key, { at, cause });
-}
-
-// A load that says something else than the state is believed, so that a run over a file with rows of its own can be drawn too.
-function believe({ state, entry }) {
-  if (entry.part !== 'store' || entry.verb !== 'load') return;
-  if (entry.reply === 'none') state.committed.delete(entry.key);
-  else state.committed.set(entry.key, { row: rowOf(tokensOf(entry.reply.slice('row '.length))), at: NEVER, by: null });
-}
-
-// The store may answer a fault whenever it is asked.
-const isFault = entry => entry.part === 'store' && entry.reply === 'fault';
-
-// The reply that is due, or null if the entry can't come here; the state becomes that after the entry.
-function dueReply(context) {
-  try {
-    return (isFence(context.entry) ? FENCES : REPLIES[context.entry.part])[context.entry.verb](context);
-  } catch (fault) {
-    return null;
-  }
-}
-
-// What an act says of its session: its time, its floor, the lock that it got, the row or the list that it was told, the version that it
-// writes. An act whose verb isn't here says nothing of it.
-const SAYS = {
-  get: ({ session, entry }) => numberBehind(entry, 'at') === session.time,
-  put({ session, entry }) {
-    const copy = session.copies.get(entry.key), isOwnRow = copy && rowText(rowIn(entry, 3, 'at')) === rowText(copy.base);
-    return isOwnRow && numberBehind(entry, 'at') === session.time && numberBehind(entry, 'floor') === session.floor;
-  },
-  lock: ({ session, entry }) => numberBehind(entry, 'floor') === session.floor,
-  'after-insert': ({ session, entry }) => numberBehind(entry, 'floor') === session.floor,
-  unlock: ({ session, entry }) => numberBehind(entry, 'lock') === session.locks.get(entry.key),
-  'after-update': ({ session, entry }) => Number(entry.words[4]) === session.locks.get(entry.key),
-  update({ entity, entry }) {
-    const [expected, version] = entry.words.slice(3, 5);
-    return entity.versioned ? Number(version.slice(1)) === Number(expected.slice(1)) + 1 : version === NO_VERSION;
-  },
-  check: ({ session, entry }) => Boolean(session.found) && numberBehind(entry, 'at') === session.found.time,
-  keep: ({ session, entry }) => Number(entry.words[3]) === session.time && entry.act.endsWith(session.listed),
-};
-
-// Whether an act can be of its session as it stands. Which act is due isn't looked at.
-function isOwnAct(context) {
-  const { script, session, entry } = context, says = SAYS[entry.verb];
-  if (isFence(entry)) return Boolean(FENCE_SAYS[entry.verb]) && FENCE_SAYS[entry.verb](context);
-  if (!session) return true;
-  return entry.node === nodeOfSession(script, session.name) && session.open === (entry.verb !== 'begin') && (!says || Boolean(says(context)));
-}
-
-// Takes one entry, and answers whether its act and its reply follow from the state; `due` is the reply that was.
-function step(script, state, entry, at) {
-  const context = contextOf(script, state, entry, at), isAct = isOwnAct(context), due = dueReply(context), isReply = due === entry.reply || isFault(entry);
-  if (!isReply) believe(context);
-  remember(context);
-  noteExpired(context);
-  return { due, isAct, isReply, follows: isAct && isReply };
-}

@@ -12,7 +12,7 @@ function checkNames(script, entries) {
   const sessions = new Set(script.sessions);
   for (const entry of entries) {
     const missing = entry.session !== null && !sessions.has(entry.session) ? 'session ' + entry.session :
-      entry.key && !script.entities.has(entityOf(entry.key)) ? 'entity ' + entityOf(entry.key) :
+      entry.entity && !script.entities.has(entry.entity) ? 'entity ' + entry.entity :
         entry.query && !script.queries.has(entry.query) ? 'query ' + entry.query :
           nodesOf(script).includes(entry.node) ? '' : nodeName(entry.node);
     if (missing) throw new Error(`the report is of another script: there is no ${missing}, as in its line ${lineOf(entry)}`);
@@ -24,11 +24,14 @@ function checkNames(script, entries) {
 
 const holderText = (state, { by, at }) => by === null ? 'a fence' : by + (state.sessions.get(by).killed > at ? ' (killed)' : '');
 
+// Whether an item isn't the committed row, or counts as old since a line has locked its whole region.
+const isOldSlot = (state, { wides }, key, slot) => rowText(committedRow(state, key)) !== rowText(slot.row) || isOldItem(wides.get(entityOf(key)), slot);
+
 // How a key's slot at a node looks at a tick.
-function lookOfSlot(state, { regions }, key, tick) {
-  const region = regions.get(entityOf(key)), slot = region && region.get(key);
+function lookOfSlot(state, node, key, tick) {
+  const region = node.regions.get(entityOf(key)), slot = region && region.get(key);
   if (!slot) return { kind: 'none', text: '' };
-  if (slot.kind === 'item') return { kind: 'item', text: briefRow(slot.row), isStale: rowText(committedRow(state, key)) !== rowText(slot.row) };
+  if (slot.kind === 'item') return { kind: 'item', text: briefRow(slot.row), isStale: isOldSlot(state, node, key, slot) };
   if (!isHeld(slot)) return { kind: 'released', text: 'released ' + slot.release.tick };
   if (slot.holders.every(({ by }) => by === null)) return { kind: 'lock', text: 'fence', isOver: false, until: slot.until };
   const isOver = tick > slot.until, holders = slot.holders.map(holder => holderText(state, holder)).join(', ');
@@ -76,15 +79,17 @@ function queryLanes(run, state) {
   }
 }
 
-// The keys that an entry names: its own, and the one that leaves for it.
-function keysIn(entry) {
-  const left = entry.part === 'region' ? / evicted (\d+)/.exec(entry.reply) : null;
-  return [...(entry.key ? [entry.key] : []), ...(left ? [keyOf(entry.words[1], left[1])] : [])];
+// The keys that an entry names: its own, the one that leaves for it, and those that a line is to change.
+function keysIn(run, state, entry) {
+  const left = entry.part === 'region' ? / evicted (\d+)/.exec(entry.reply) : null, line = entry.verb === 'bulk' ? run.script.lines.get(entry.words[1]) : null;
+  const changed = line ? changesOfLine(run.script, state, line).map(({ key }) => key) : [];
+  return [...(entry.key ? [entry.key] : []), ...(left ? [keyOf(entry.words[1], left[1])] : []), ...changed];
 }
 
 // The keys whose lanes may look otherwise after an entry.
 function keysChangedBy(run, state, entry) {
-  const keys = new Set(keysIn(entry));
+  const keys = new Set(keysIn(run, state, entry));
+  if (WIDE.includes(entry.verb)) for (const key of run.keys.keys()) if (entityOf(key) === entry.entity) keys.add(key);
   if (entry.verb === 'restart') for (const key of run.keys.keys()) keys.add(key);
   if (entry.verb === 'kill') for (const key of run.locked) keys.add(key);
   for (const [key, until] of run.goodUntil) if (entry.tick > until) keys.add(key);
@@ -112,6 +117,19 @@ function lookOfQueue({ queue }) {
   const more = queue.length > 3 ? ` and ${queue.length - 3} more` : '';
   return { kind: queue.length ? 'ahead' : 'none', text: queue.slice(0, 3).map(({ key }) => key).join(', ') + more };
 }
+
+// What lines do with the whole region of an entity.
+function lookOfWide({ holders, given }) {
+  if (holders.length) return { kind: 'lock', text: 'locked: ' + holders.map(({ by }) => by).join(', ') };
+  return given ? { kind: 'released', text: 'released ' + given.tick } : { kind: 'none', text: '' };
+}
+
+function showWides(run, state, at) {
+  for (const [name, wide] of state.nodes[0].wides) if (run.wides.has(name)) show(run.wides.get(name), at, lookOfWide(wide));
+}
+
+// How the lane of a whole region is called.
+const wholeOf = name => 'all of ' + name;
 
 const isEverShown = segments => segments.some(({ kind }) => kind !== 'none');
 const showQueues = (run, state, at) => state.nodes.forEach(node => show(run.queues.get(node.number), at, lookOfQueue(node)));
@@ -178,20 +196,21 @@ function noteTransaction(run, entry, at) {
 }
 
 function noteLock(run, entry, at) {
-  const name = entry.lane + ' ' + entry.key, end = id => { run.openLocks.get(id).to = at; run.openLocks.delete(id); };
+  const locked = WIDE.includes(entry.verb) ? wholeOf(entry.entity) : entry.key, name = entry.lane + ' ' + locked;
+  const end = id => { run.openLocks.get(id).to = at; run.openLocks.delete(id); };
   if (entry.verb === 'restart') for (const id of [...run.openLocks.keys()]) end(id);
   if (entry.part !== 'region') return;
-  if (entry.verb === 'lock') {
-    const lock = { lane: entry.lane, key: entry.key, from: at, to: null };
+  if (['lock', 'lock-all'].includes(entry.verb)) {
+    const lock = { lane: entry.lane, key: locked, from: at, to: null };
     run.openLocks.set(name, lock);
     run.locks.push(lock);
   }
-  if (['unlock', 'after-update'].includes(entry.verb) && run.openLocks.has(name)) end(name);
+  if (['unlock', 'unlock-all', 'after-update'].includes(entry.verb) && run.openLocks.has(name)) end(name);
 }
 
-// What a commit changed: its keys, and what queries give from here on. Answers the keys.
+// What a commit or a line changed: its keys, and what queries give from here on. Answers the keys.
 function noteCommit(run, state, entry, at) {
-  if (entry.verb !== 'commit' || entry.reply !== 'committed') return [];
+  if (!isCommit(entry)) return [];
   const session = sessionOf(state, entry.session), keys = [...new Set(session.done.map(change => change.key))];
   for (const key of keys) {
     keyLanes(run, state, key).touches.push(at);
@@ -239,7 +258,7 @@ function markServed(run) {
 }
 
 function touch(run, state, entry, at) {
-  for (const key of keysIn(entry)) keyLanes(run, state, key).touches.push(at);
+  for (const key of keysIn(run, state, entry)) keyLanes(run, state, key).touches.push(at);
   if (run.queries.has(entry.query)) run.queries.get(entry.query).touches.push(at);
 }
 
@@ -249,7 +268,7 @@ function analyse(script, journal) {
   const run = {
     script, journal, entries,
     // what is drawn, and what is told
-    transactions: [], locks: [], keys: new Map(), queries: new Map(), tables: new Map(), queues: new Map(),
+    transactions: [], locks: [], keys: new Map(), queries: new Map(), tables: new Map(), queues: new Map(), wides: new Map(),
     reads: [], stale: new Set(), findings: [], oldCopies: [], unsound: [], odd: [], marks: [], said: [],
     // what is known on the way
     open: new Map(), openLocks: new Map(), locked: new Set(), goodUntil: new Map(), unsoundNow: new Map(), commits: new Map(), tableCommits: [],
@@ -259,7 +278,9 @@ function analyse(script, journal) {
     run.unsoundNow.set(number, new Set());
     run.queues.set(number, []);
   }
+  for (const { entity } of script.lines.values()) run.wides.set(entity, []);
   showQueues(run, state, NEVER);
+  showWides(run, state, NEVER);
   entries.forEach((entry, at) => {
     touch(run, state, entry, at);
     const changed = keysChangedBy(run, state, entry);
@@ -273,6 +294,7 @@ function analyse(script, journal) {
     showKeys(run, state, changed, entry.tick, at);
     showQueries(run, state, entry, at);
     showQueues(run, state, at);
+    showWides(run, state, at);
   });
   markServed(run);
   run.end = state;

@@ -1,8 +1,21 @@
 'use strict';
 // Reads the sections that stand behind the scripts of some commands. docs/SCRIPT.md says what their lines mean.
 
+// A bulk line acts as a session does, under its own name.
+function readLineOfBulk(script, words) {
+  const [kind, name, entity, ...rest] = words, where = rest.indexOf('where'), sets = [];
+  if (kind === 'update') for (let i = 1; i + 1 < rest.length && i !== where; i += 2) sets.push([rest[i], rest[i + 1]]);
+  script.lines.set(name, { kind, name, entity, sets, condition: where < 0 ? null : readCondition(cursorOf(rest.slice(where + 1))) });
+  script.sessions.push(name);
+}
+
 // What each first word of a section's line says, by the section.
 const SECTION_LINES = {
+  bulk: {
+    update: readLineOfBulk,
+    delete: readLineOfBulk,
+    schedule() {},
+  },
   nodes: {
     place(script, words) { script.places.set(words[1], Number(words[2])); },
     schedule() {},

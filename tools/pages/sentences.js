@@ -45,6 +45,7 @@ const toldOf = ({ at, by }) => `the change that ${code(by)} committed at ${ref(a
 
 function releasedBy({ release }, script) {
   if (release.how === 'fenced') return `a fence ended at ${ref(release.at)}, since the node was told of ${toldOf(release.told)}`;
+  if (release.how === 'swept') return `an old item was dropped at ${ref(release.at)}`;
   if (release.how === 'evicted') return `the key was evicted at ${ref(release.at)}`;
   if (release.how !== 'expired') return `${code(release.by)} gave the lock back at ${ref(release.at)}`;
   return `a lock had run out and was given back too late at ${ref(release.at)}; puts are barred for ${count(script.timeout, 'tick')} after that`;
@@ -204,6 +205,7 @@ const MISSES = {
   absent: context => `A miss: ${absentSince(context)}.`,
   locked: ({ state, slot }) => `A miss: the key is locked by ${holdersOf(state, slot)}.`,
   released: ({ script, slot }) => `A miss: there is a released lock; ${releasedBy(slot, script)}.`,
+  wide: context => `A miss: the whole region is locked by ${wideHolders(context)}.`,
   young: ({ slot, entry }) => `A miss: there is an item, ${storedBy(slot)}, and the session began at ${numberBehind(entry, 'at')}, not after that.`,
 };
 
@@ -245,6 +247,8 @@ const PUTS = {
     return `Refused: the released lock was taken over a row of the version ${slot.version}, and the offered one is ${rowIn(entry, 3, 'at').version}.`;
   },
   crowded: context => 'Refused. ' + whyCrowded(context),
+  wide: context => barText(context),
+  'wide-early': context => barText(context),
 };
 
 // What was there when a lock was taken.
@@ -265,6 +269,8 @@ const INSERTED = {
   stored: context => 'It is stored.' + leaverText(context),
   present: () => 'Refused: the key has an entry.',
   crowded: context => 'Refused. ' + whyCrowded(context),
+  wide: context => barText(context),
+  'wide-early': context => barText(context),
 };
 
 const EVICTIONS = {
@@ -296,6 +302,7 @@ const REGION_TEXTS = {
     const word = firstWord(context.entry.reply), front = `${context.me} gives its lock on ${context.key} back`;
     if (word === 'expired') return expiredText(context);
     if (word === 'stored') return `${front}, and its committed row takes the place.`;
+    if (!context.slot.shared) return `${front}. Its row isn't stored, since a line has locked the whole region meanwhile.`;
     return `${front}. Its row isn't stored, since another session that held the lock may be about to commit.`;
   },
   'after-insert': context => `${context.me} offers the cache the row that it has inserted. ${INSERTED[firstWord(context.entry.reply)](context)}`,
@@ -305,20 +312,6 @@ const REGION_TEXTS = {
     return `${me} takes ${key} out of the cache, since it ${when} the row. ${found}`;
   },
   evict: context => `The schedule drops ${context.key} from the cache. ${EVICTIONS[context.entry.reply](context)}`,
-};
-
-// ---- fences ----
-
-const FENCE_TEXTS = {
-  lock(context) {
-    const { node, key } = context, [first] = node.queue;
-    return `The cache of ${nodeName(node.number)} is told of ${toldOf(first)}. A fence locks ${key} there.${lockedOverText(context)}${leaverText(context)}`;
-  },
-  unlock({ node, slot, key }) {
-    const others = slot.holders.filter(({ by }) => by !== null).length;
-    return `The fence of ${key} at ${nodeName(node.number)} ends, and its lock is given back. ` +
-      (others ? `${count(others, 'holder is', 'holders are')} left.` : 'A row that was loaded before this is refused from here on.');
-  },
 };
 
 // ---- stamps and kept results ----
@@ -362,17 +355,3 @@ const RESULTS_TEXTS = {
     return `${me} keeps the result of ${code(entry.query)} with its own time, ${entry.words[3]}, which is before all that it has read.${left}`;
   },
 };
-
-// ---- all of them ----
-
-const TEXTS = { registry: REGISTRY_TEXTS, own: OWN_TEXTS, store: STORE_TEXTS, region: REGION_TEXTS, stamps: STAMPS_TEXTS, results: RESULTS_TEXTS };
-
-// What an entry means, from the state before it; nothing if it can't come there.
-function explain(script, state, entry, at) {
-  const context = { ...contextOf(script, state, entry, at), me: code(entry.session || '-'), key: code(entry.key) };
-  try {
-    return (isFence(entry) ? FENCE_TEXTS : TEXTS[entry.part])[entry.verb](context);
-  } catch (fault) {
-    return '';
-  }
-}

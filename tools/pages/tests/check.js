@@ -43,13 +43,14 @@ function kindOf({ part, verb, reply }) {
 }
 
 function checkEntry(file, script, state, entry, at) {
-  const said = page.explain(script, state, entry, at), line = page.lineOf(entry), held = /^(?:held|miss locked) (\d+)$/.exec(entry.reply);
+  const said = page.explain(script, state, entry, at), line = page.lineOf(entry), held = /^(?:held|miss locked|miss wide|wide) (\d+)$/.exec(entry.reply);
   if (!said) fail(file, `${line}   has no sentence`);
   checkText(file, `the sentence of ${line}`, said);
   checkText(file, `the text of ${line}`, page.brief(entry, false) + page.brief(entry, true));
-  if (held && (said.match(/\(since \u0001/g) || []).length !== Number(held[1])) fail(file, `${line}   the holders are: ${said}`);
+  if (held && entry.verb !== 'lock-all' && (said.match(/\(since \u0001/g) || []).length !== Number(held[1])) fail(file, `${line}   the holders are: ${said}`);
   const rows = page.meaningsOf(meanings, entry, script.section);
-  if (rows.length !== 2 || rows.includes(undefined)) fail(file, `${line}   docs/JOURNAL.md has no row for ${rows.length ? 'the reply' : 'the act'}`);
+  if (!rows.some(row => page.saysAct(row, entry))) fail(file, `${line}   docs/JOURNAL.md has no row for the act`);
+  if (!rows.some(row => page.saysReply(row, entry))) fail(file, `${line}   docs/JOURNAL.md has no row for the reply`);
 }
 
 // The state at the end.
@@ -72,7 +73,7 @@ function checkEntries(file, script, journal) {
 function checkStory(file, run, story) {
   const read = run.reads.find(({ to }) => to === story.at), places = story.steps.map(({ at }) => at), has = at => places.includes(at);
   const loads = read.loadedAt === page.NEVER || (has(read.loadedAt) && ['load', 'list'].includes(run.entries[read.loadedAt].verb));
-  const commits = places.some(at => at < story.at && run.entries[at].verb === 'commit' && run.entries[at].reply === 'committed');
+  const commits = places.some(at => at < story.at && page.isCommit(run.entries[at]));
   const last = places.filter(at => !page.isFence(run.entries[at]) || at < story.at).pop();
   if (!loads || !commits || !has(read.keptAt) || last !== story.at) fail(file, `a part of the story is missing: ${story.head}`);
   const isOdd = !story.why || story.why === page.IMPOSSIBLE || places.some((at, k) => k && at <= places[k - 1]);
