@@ -50,7 +50,7 @@ const BRIEF_FENCE = { lock: (entry, key) => `fence${key || ' begins'}`, unlock: 
 
 // An entry in few words, for its lane.
 function brief(entry, isOnly) {
-  const say = (isFence(entry) ? BRIEF_FENCE : BRIEF[entry.part])[entry.verb];
+  const say = (isFence(entry) ? BRIEF_FENCE : BRIEF[entry.part === 'members' ? 'region' : entry.part])[entry.verb];
   return say ? say(entry, entry.key && !isOnly ? ' ' + entry.key : '', isOnly) : entry.act;
 }
 
@@ -66,8 +66,8 @@ function markOf(entry) {
   if (isFence(entry)) return 'fence';
   if (isCommit(entry)) return 'commit';
   if (is('store', 'commit')) return 'warn';
-  if (is('region', 'put', 'after-insert') && !entry.reply.startsWith('stored')) return 'refused';
-  if (is('region', 'get')) return entry.reply.startsWith('hit') ? 'hit' : 'miss';
+  if (isOfCache(entry) && ['put', 'after-insert'].includes(entry.verb) && !entry.reply.startsWith('stored')) return 'refused';
+  if (isOfCache(entry) && entry.verb === 'get') return entry.reply.startsWith('hit') ? 'hit' : 'miss';
   if (is('stamps', 'check')) return entry.reply === 'fresh' ? 'hit' : 'miss';
   if (entry.part === 'own' && ['unknown', 'known', 'read-only'].includes(entry.reply)) return 'idle';
   return '';

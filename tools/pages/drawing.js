@@ -83,7 +83,7 @@ const COLOURS = { stale: 'red', fence: 'amber', refused: 'amber', warn: 'amber',
 function drawMarks(run, layout) {
   return layout.visible.map(at => {
     const { part, lane } = run.entries[at], mark = run.marks[at], colour = `var(--${COLOURS[mark] || 'soft'})`;
-    const x = pixels(markX(layout, layout.laneOf.get(lane))), draw = mark === 'fence' ? FENCE : MARKS[part];
+    const x = pixels(markX(layout, layout.laneOf.get(lane))), draw = mark === 'fence' ? FENCE : MARKS[part === 'members' ? 'region' : part];
     return `<g fill="${colour}" style="color:${colour}">${draw(x, layout.middle(at))}</g>`;
   }).join('');
 }
@@ -110,7 +110,7 @@ function lanesOfPart(layout, part, passes) {
 }
 
 // The lanes to which an entry goes.
-function targetsOfEntry(layout, entry, at) {
+function targetsOfEntry(run, layout, entry, at) {
   if (entry.part === 'own' || ['check', 'insert', 'update', 'delete'].includes(entry.verb)) return [];
   if (entry.part === 'stamps') return lanesOfPart(layout, 'stamps', ({ kind, name }) => kind === 'table' && entry.words.includes(name));
   if (WIDE.includes(entry.verb)) return lanesOfPart(layout, 'wide', ({ name }) => name === wholeOf(entry.entity));
@@ -118,8 +118,9 @@ function targetsOfEntry(layout, entry, at) {
     const changed = lanesOfPart(layout, 'store', ({ kind }) => kind === 'key');
     return changed.filter(({ lane }) => lane.segments.some(({ from }) => from === at));
   }
-  const lanes = lanesOfPart(layout, entry.part, ({ kind, name }) => kind !== 'table' && name === (entry.key || entry.query));
-  return lanes.filter(({ lane }) => entry.part !== 'region' || lane.node === entry.node);
+  const part = isOfCache(entry) ? 'region' : entry.part, asked = entry.key || ownerOf(run.script, entry) || entry.query;
+  const lanes = lanesOfPart(layout, part, ({ kind, name }) => kind !== 'table' && name === asked);
+  return lanes.filter(({ lane }) => part !== 'region' || lane.node === entry.node);
 }
 
 // Whether an entry's line to a group is a step of the story.
@@ -144,7 +145,8 @@ function drawArrow(run, layout, at, to, isHot) {
 
 // What entries ask and get, or give.
 function drawAcross(run, layout, story) {
-  const arrowsOf = at => targetsOfEntry(layout, run.entries[at], at).map(({ group, lane }) => drawArrow(run, layout, at, lane.x + 1, isStep(story, group, at)));
+  const arrow = at => ({ group, lane }) => drawArrow(run, layout, at, lane.x + 1, isStep(story, group, at));
+  const arrowsOf = at => targetsOfEntry(run, layout, run.entries[at], at).map(arrow(at));
   return layout.visible.flatMap(arrowsOf).join('');
 }
 

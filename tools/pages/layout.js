@@ -45,7 +45,7 @@ function entriesOfStory(run, story) {
   for (const lock of run.locks) if (lock.key === story.key && acting.has(lock.lane)) addBothEnds(wanted, lock);
   const first = Math.min(...wanted);
   run.entries.forEach((entry, at) => {
-    if (entry.part === 'region' && entry.key === story.key && acting.has(entry.lane) && at >= first && at <= story.at) wanted.add(at);
+    if (isOfCache(entry) && entry.key === story.key && acting.has(entry.lane) && at >= first && at <= story.at) wanted.add(at);
   });
   return [...wanted].sort((one, other) => one - other);
 }

@@ -39,13 +39,15 @@ function replyBelow(rows, at, entry) {
 }
 
 // The tables of a section's command, which come before those that all commands have.
-const TABLES = { nodes: 'Two nodes', bulk: 'Bulk changes' };
+const TABLES = { nodes: 'Two nodes', bulk: 'Bulk changes', collections: 'members' };
 
-// The rows of an entry's act and of its reply. `section` is that of the script.
+// The rows of an entry's act and of its reply. `section` is that of the script. What the table of its part doesn't say of the reply to a
+// `get` or a `put` stands in that of `region`.
 function meaningsOf(meanings, entry, section) {
   const own = meanings.filter(({ table }) => table === TABLES[section]), plain = meanings.filter(({ table }) => table === entry.part);
   const isItsAct = row => row.isAct && saysAct(row, entry), at = plain.findIndex(isItsAct);
-  const act = section !== 'nodes' || isFence(entry) ? own.find(isItsAct) : undefined;
+  const act = isFence(entry) || entry.part === 'members' ? own.find(isItsAct) : undefined, region = meanings.filter(({ table }) => table === 'region');
+  const reply = replyBelow(plain, at, entry) || (act && replyBelow(region, region.findIndex(isOf(entry.verb)), entry));
   const both = own.filter(row => row.read.some(form => form.act && form.reply && isBoth(form, entry)));
-  return [...new Set([act || plain[at], replyBelow(plain, at, entry), ...both])].filter(Boolean);
+  return [...new Set([act || plain[at], reply, ...both])].filter(Boolean);
 }

@@ -65,6 +65,7 @@ function targetsOf(condition, entity) {
 function readQuery(words, entities) {
   const cursor = cursorOf(words.slice(1));
   const query = { name: cursor.take(), entity: '', condition: null, order: [], offset: 0, limit: 200, select: '', tables: [] };
+  query.isCached = words[2] === 'cached';
   for (let word = cursor.take(); word !== 'select'; word = cursor.take()) {
     if (word === 'from') query.entity = cursor.take();
     else if (word === 'where') query.condition = readCondition(cursor);
@@ -81,9 +82,6 @@ function readRow(words, entities) {
   const [, entity, id, ...cells] = words;
   return [keyOf(entity, id), rowOf(entities.get(entity).versioned ? cells : [NO_VERSION, ...cells])];
 }
-
-// The words with which a section begins behind the script of another command. `SECTION_LINES` has those that the page draws.
-const SECTIONS = ['collections', 'bulk', 'nodes'];
 
 // What each first word of a line says; sessions and the schedule have lines of their own, which the page doesn't need.
 const LINES = {
@@ -107,15 +105,14 @@ const LINES = {
 function readScript(text) {
   const script = {
     timeout: 1000, results: 100, entities: new Map(), rows: new Map(), queries: new Map(), sessions: [],
-    section: '', places: new Map(), lines: new Map(),
+    section: '', places: new Map(), lines: new Map(), collections: new Map(),
   };
   let inside = false;
   text.split('\n').forEach((line, at) => {
     const words = tokensOf(line), [word] = words;
     if (!words.length || line.trimStart()[0] === '#') return;
     if (inside) { inside = word !== 'end'; return; }
-    if (SECTIONS.includes(line) && !script.section) {
-      if (!SECTION_LINES[line]) throw new Error(`the script has a section \`${line}\`, and the page doesn't draw the journals of its command`);
+    if (!script.section && Object.hasOwn(SECTION_LINES, line)) {
       script.section = line;
       return;
     }
@@ -140,7 +137,7 @@ const OF_QUERIES = ['look', 'keep', 'check', 'list'];
 function entryOf(tick, session, part, act, reply, node = 0) {
   const lane = session === null && node ? nodeName(node) : session;
   const words = tokensOf(act), [verb] = words;
-  const isWide = part === 'region' && WIDE.includes(verb), keyed = (part === 'region' && !isWide) || (KEYED[part] || []).includes(verb);
+  const isWide = part === 'region' && WIDE.includes(verb), keyed = (part === 'region' && !isWide) || part === 'members' || (KEYED[part] || []).includes(verb);
   const key = keyed ? keyOf(words[1], words[2]) : '', query = OF_QUERIES.includes(verb) ? words[1] : '';
   return { tick, node, session, lane, part, act, reply, words, verb, key, entity: isWide || keyed ? words[1] : '', query };
 }
@@ -197,8 +194,18 @@ function readEntries(lines, read, isLast) {
   return { entries: entries.slice(0, -1), broken: true };
 }
 
+// The members of owners are told from rows by the names of their collections.
+function toldApart(script, entries) {
+  for (const entry of entries) {
+    if (entry.part !== 'members') continue;
+    entry.entity = nameOfCollection(script, entry.words[1]);
+    entry.key = keyOf(entry.entity, entry.words[2]);
+  }
+  return entries;
+}
+
 // The entries, the keys that a report names as unsound (null if it names none), and how the text was cut short, if it was.
-function readJournal(text) {
+function readJournal(text, script) {
   const lines = text.split('\n').filter(line => line !== ''), [first = ''] = lines;
   if (first[0] === '{') {
     const { entries, broken } = readEntries(lines, readJson, true);
@@ -207,7 +214,7 @@ function readJournal(text) {
   const head = /^journal (\d+)$/.exec(first);
   if (!head) throw new Error('this is neither a report, which begins with a line such as `journal 22`, nor JSON lines');
   const told = Number(head[1]), tail = lines.slice(1 + told), isCut = !tail.length;
-  const { entries } = readEntries(lines.slice(1, 1 + told), readLine, isCut);
+  const entries = toldApart(script, readEntries(lines.slice(1, 1 + told), readLine, isCut).entries);
   const from = tail.findIndex(line => /^unsound \d+$/.test(line)), count = from < 0 ? 0 : Number(tail[from].slice('unsound '.length));
   const cut = entries.length < told ? `it has ${entries.length} of ${told} entries` : tail[tail.length - 1] !== 'end' ? 'it has no line `end`' : '';
   return { entries, unsound: from < 0 ? null : tail.slice(from + 1, from + 1 + count), cut };

@@ -8,7 +8,7 @@
 // the place of an entry in the journal, and `by` a session or a bulk line.
 
 function nodeAtStart(script, number) {
-  const cached = [...script.entities.values()].filter(({ strategy }) => strategy !== 'none');
+  const cached = [...script.entities.values(), ...script.collections.values()].filter(({ strategy }) => strategy !== 'none');
   const forEach = make => new Map(cached.map(({ name }) => [name, make()]));
   return { number, regions: forEach(() => new Map()), wides: forEach(wideAtStart), gone: new Map(), unsound: new Map(), queue: [], fence: null };
 }
@@ -16,9 +16,13 @@ function nodeAtStart(script, number) {
 function startState(script) {
   const state = {
     committed: new Map(), stamps: new Map(), kept: new Map(), sessions: new Map(), deleted: new Map(), restarted: NEVER,
+    collections: script.collections, members: new Map(), reused: new Map(),
     nodes: nodesOf(script).map(number => nodeAtStart(script, number)),
   };
-  for (const [key, row] of script.rows) state.committed.set(key, { row, at: NEVER, by: null });
+  for (const [key, row] of script.rows) {
+    state.committed.set(key, { row, at: NEVER, by: null });
+    moveMembers(state, key, null, row, { at: NEVER, by: null });
+  }
   return state;
 }
 
@@ -29,7 +33,7 @@ function sessionOf(state, name) {
     state.sessions.set(name, {
       name, node: 0, open: false, time: 0, floor: 0, began: NEVER, killed: NEVER, outcome: '',
       doneAt: NEVER, stampedAt: NEVER, listedAt: NEVER, listed: '', found: null,
-      written: [], done: [], copies: new Map(), locks: new Map(), loads: new Map(),
+      written: [], done: [], owners: [], copies: new Map(), locks: new Map(), loads: new Map(),
     });
   }
   return state.sessions.get(name);
@@ -38,13 +42,16 @@ function sessionOf(state, name) {
 const openSessions = state => [...state.sessions.values()].filter(session => session.open);
 const openAt = (state, number) => openSessions(state).filter(session => session.node === number);
 const oldestOpen = (state, floor, number) => openAt(state, number).find(session => session.time === floor);
-const committedRow = (state, key) => state.committed.has(key) ? state.committed.get(key).row : null;
+// What is committed of a key, and since when; of an owner, to which nothing has referred yet, that it has no members.
+const unreferred = () => ({ row: membersRow([]), at: NEVER, by: null });
+const committedOf = (state, key) => state.committed.get(key) || (state.collections.has(entityOf(key)) ? unreferred() : undefined);
+const committedRow = (state, key) => committedOf(state, key) ? committedOf(state, key).row : null;
 const rowsOf = state => new Map([...state.committed].map(([key, { row }]) => [key, row]));
 const hasWritten = (session, key) => session.written.some(change => change.key === key);
 
 // What stands around an entry, in the state before it.
 function contextOf(script, state, entry, at) {
-  const node = nodeOf(state, entry.node), entity = entry.entity ? script.entities.get(entry.entity) : null;
+  const node = nodeOf(state, entry.node), entity = entry.entity ? declared(script, entry.entity) : null;
   const region = entity ? node.regions.get(entity.name) : null;
   return {
     script, state, node, entry, at, entity, region,
@@ -162,8 +169,10 @@ const isGuarded = (script, key) => script.entities.get(entityOf(key)).strategy =
 // A read-write key that is inserted after it was deleted is unsound: its versions begin anew.
 function noteReuse({ script, state, session, at }) {
   for (const { kind, key } of session.written) {
-    if (kind !== 'insert' || !isGuarded(script, key) || !state.deleted.has(key)) continue;
-    const reused = { at, cause: 'reused', deletedAt: state.deleted.get(key).at };
+    if (kind !== 'insert' || !state.deleted.has(key)) continue;
+    const reused = { at, cause: 'reused', deletedAt: state.deleted.get(key).at, key };
+    for (const { name, entity } of script.collections.values()) if (entity === entityOf(key) && !state.reused.has(name)) state.reused.set(name, reused);
+    if (!isGuarded(script, key)) continue;
     for (const { unsound } of state.nodes) if (!unsound.has(key)) unsound.set(key, reused);
   }
 }
@@ -175,7 +184,9 @@ function tellOthers({ script, state, session, entry, at }) {
 }
 
 function applyChanges({ state, session, at }, changes) {
+  session.owners = [];
   for (const { key, row } of changes) {
+    session.owners.push(...moveMembers(state, key, committedRow(state, key), row, { at, by: session.name }));
     if (row) state.committed.set(key, { row, at, by: session.name }); else state.committed.delete(key);
     if (!row) state.deleted.set(key, { at, by: session.name });
   }
@@ -228,8 +239,14 @@ function isNewer(old, version) {
   return old !== NO_VERSION && version !== NO_VERSION && Number(old.slice(1)) < Number(version.slice(1));
 }
 
+// The row that a put offers.
+const offeredRow = entry => entry.part === 'members' ? rowOf([NO_VERSION, entry.words[3]]) : rowIn(entry, 3, 'at');
+
 // The load from which a session has the row that it offers.
-const loadBehind = ({ session, entry }) => session && session.loads.has(entry.key) ? session.loads.get(entry.key) : NEVER;
+function loadBehind({ session, entry }) {
+  if (entry.part === 'members') return session.listedAt;
+  return session && session.loads.has(entry.key) ? session.loads.get(entry.key) : NEVER;
+}
 
 // Who leaves a region for a new key: a key, `''` if there is room, or null if nobody may leave.
 function leaverOf({ entity, region }, floor) {
@@ -289,7 +306,7 @@ const REGION = {
     return entity.strategy === 'nonstrict' || numberBehind(entry, 'at') > slot.tick ? 'hit ' + rowText(slot.row) : 'miss young ' + slot.tick;
   },
   put(context) {
-    const { entity, region, slot, entry } = context, item = itemOf(context, rowIn(entry, 3, 'at'), loadBehind(context));
+    const { entity, region, slot, entry } = context, item = itemOf(context, offeredRow(entry), loadBehind(context));
     if (!slot) {
       const leaver = leaverOf(context, numberBehind(entry, 'floor'));
       return leaver === null ? 'crowded' : 'stored' + place(context, item, leaver);

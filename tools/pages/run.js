@@ -12,7 +12,7 @@ function checkNames(script, entries) {
   const sessions = new Set(script.sessions);
   for (const entry of entries) {
     const missing = entry.session !== null && !sessions.has(entry.session) ? 'session ' + entry.session :
-      entry.entity && !script.entities.has(entry.entity) ? 'entity ' + entry.entity :
+      entry.entity && !(entry.part === 'members' ? script.collections : script.entities).has(entry.entity) ? `entity or collection ${entry.entity}` :
         entry.query && !script.queries.has(entry.query) ? 'query ' + entry.query :
           nodesOf(script).includes(entry.node) ? '' : nodeName(entry.node);
     if (missing) throw new Error(`the report is of another script: there is no ${missing}, as in its line ${lineOf(entry)}`);
@@ -38,7 +38,7 @@ function lookOfSlot(state, node, key, tick) {
   return { kind: 'lock', text: (isOver ? 'lock, time over: ' : 'locked: ') + holders, isOver, until: slot.until };
 }
 
-const lookOfRow = (state, key) => state.committed.has(key) ? { kind: 'row', text: briefRow(committedRow(state, key)) } : { kind: 'none', text: '' };
+const lookOfRow = (state, key) => committedOf(state, key) ? { kind: 'row', text: briefRow(committedRow(state, key)) } : { kind: 'none', text: '' };
 const lookOfStamp = stamp => stamp ? { kind: stamp.ahead ? 'ahead' : 'row', text: String(stamp.value), of: stamp } : { kind: 'none', text: '' };
 const lookOfKept = (kept, now) => kept ? { kind: 'item', text: kept.list, isStale: kept.list !== now, of: kept } : { kind: 'none', text: '' };
 
@@ -53,7 +53,7 @@ function show(lane, at, look) {
 // The lanes of a key: what is committed, what its region has at each node, and from where to where it is unsound. `touches` are its entries.
 function keyLanes(run, state, key) {
   if (!run.keys.has(key)) {
-    const isCached = run.script.entities.get(entityOf(key)).strategy !== 'none';
+    const isCached = declared(run.script, entityOf(key)).strategy !== 'none';
     const lanes = { key, isCached, store: [], caches: new Map(), unsound: [], touches: [] };
     show(lanes.store, NEVER, lookOfRow(state, key));
     for (const { number } of state.nodes) lanes.caches.set(number, [{ from: NEVER, to: null, kind: 'none', text: '' }]);
@@ -81,9 +81,9 @@ function queryLanes(run, state) {
 
 // The keys that an entry names: its own, the one that leaves for it, and those that a line is to change.
 function keysIn(run, state, entry) {
-  const left = entry.part === 'region' ? / evicted (\d+)/.exec(entry.reply) : null, line = entry.verb === 'bulk' ? run.script.lines.get(entry.words[1]) : null;
-  const changed = line ? changesOfLine(run.script, state, line).map(({ key }) => key) : [];
-  return [...(entry.key ? [entry.key] : []), ...(left ? [keyOf(entry.words[1], left[1])] : []), ...changed];
+  const left = isOfCache(entry) ? / evicted (\d+)/.exec(entry.reply) : null, line = entry.verb === 'bulk' ? run.script.lines.get(entry.words[1]) : null;
+  const changed = line ? changesOfLine(run.script, state, line).map(({ key }) => key) : [], own = entry.key || ownerOf(run.script, entry);
+  return [...(own ? [own] : []), ...(left ? [keyOf(entry.entity, left[1])] : []), ...changed];
 }
 
 // The keys whose lanes may look otherwise after an entry.
@@ -158,7 +158,7 @@ function judgeRead(run, at, read, story) {
 // The mark of an entry, with what is judged of it.
 function judge(run, context) {
   const { state, session, slot, entry, at } = context;
-  if (entry.part === 'region' && entry.reply.startsWith('hit ') && slot && slot.kind === 'item') {
+  if (isOfCache(entry) && entry.reply.startsWith('hit ') && slot && slot.kind === 'item') {
     const isStale = rowText(committedRow(state, entry.key)) !== rowText(slot.row);
     const read = { keptAt: slot.at, loadedAt: slot.how === 'put' ? slot.loadedAt : NEVER, key: entry.key, node: entry.node, isStale };
     if (judgeRead(run, at, read, () => staleHit(run, context))) return 'stale';
@@ -199,7 +199,7 @@ function noteLock(run, entry, at) {
   const locked = WIDE.includes(entry.verb) ? wholeOf(entry.entity) : entry.key, name = entry.lane + ' ' + locked;
   const end = id => { run.openLocks.get(id).to = at; run.openLocks.delete(id); };
   if (entry.verb === 'restart') for (const id of [...run.openLocks.keys()]) end(id);
-  if (entry.part !== 'region') return;
+  if (!isOfCache(entry)) return;
   if (['lock', 'lock-all'].includes(entry.verb)) {
     const lock = { lane: entry.lane, key: locked, from: at, to: null };
     run.openLocks.set(name, lock);
@@ -211,7 +211,7 @@ function noteLock(run, entry, at) {
 // What a commit or a line changed: its keys, and what queries give from here on. Answers the keys.
 function noteCommit(run, state, entry, at) {
   if (!isCommit(entry)) return [];
-  const session = sessionOf(state, entry.session), keys = [...new Set(session.done.map(change => change.key))];
+  const session = sessionOf(state, entry.session), keys = [...new Set([...session.done.map(change => change.key), ...session.owners])];
   for (const key of keys) {
     keyLanes(run, state, key).touches.push(at);
     if (!run.commits.has(key)) run.commits.set(key, []);

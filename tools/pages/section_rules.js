@@ -1,5 +1,5 @@
 'use strict';
-// The rules of what the commands with a section add, beside those of rules.js: fences of two nodes, and bulk changes.
+// The rules of what the commands with a section add, beside those of rules.js: fences of two nodes, bulk changes, and the members of owners.
 
 // ---- fences ----
 
@@ -100,4 +100,59 @@ const BULK_SAYS = {
   'unlock-all': context => wideOf(context).holders.some(({ by }) => by === context.session.name),
   bulk: ({ session, entry }) => entry.words[1] === session.name,
   sweep: context => Boolean(context.slot) && isOldItem(wideOf(context), context.slot),
+};
+
+// ---- collections ----
+
+const membersRow = ids => rowOf([NO_VERSION, `[${ids.slice(0, 200).join(' ')}]`]);
+const isOwner = cell => cell[0] !== '-' && cell !== '0';
+
+function addInOrder(members, owner, id) {
+  if (!members.has(owner)) members.set(owner, []);
+  const ids = members.get(owner);
+  let place = ids.length;
+  while (place > 0 && compareCells(ids[place - 1], id) > 0) place--;
+  ids.splice(place, 0, id);
+}
+
+// The owner whose members a list asks for, if a collection answers it.
+function ownerOf(script, { part, verb, query: name }) {
+  const query = part === 'store' && verb === 'list' ? script.queries.get(name) : null, condition = query && query.condition;
+  if (!condition || query.isCached || query.select !== 'ids' || query.order.length || query.offset || query.limit !== 200) return '';
+  if (condition.op !== 'eq' || condition.path.length > 1 || !isOwner(condition.cells[0])) return '';
+  const place = placeOfColumn(script.entities.get(query.entity), condition.path[0]);
+  const own = [...script.collections.values()].find(one => one.entity === query.entity && one.place === place);
+  return own ? keyOf(own.name, condition.cells[0]) : '';
+}
+
+// Moves a row that is committed from the owner to which it has referred to that to which it refers. Answers the owners whose members that
+// has changed.
+function moveMembers(state, key, before, after, change) {
+  const [entity, id] = key.split(' '), owners = [];
+  for (const { name, entity: own, place } of state.collections.values()) {
+    if (own !== entity) continue;
+    const [from, to] = [before, after].map(row => row && isOwner(row.cells[place]) ? keyOf(name, row.cells[place]) : '');
+    if (from === to) continue;
+    if (from) state.members.set(from, state.members.get(from).filter(one => one !== id));
+    if (to) addInOrder(state.members, to, id);
+    owners.push(...[from, to].filter(Boolean));
+  }
+  for (const owner of owners) state.committed.set(owner, { row: membersRow(state.members.get(owner)), ...change });
+  return owners;
+}
+
+const MEMBERS = {
+  get: context => REGION.get(context).replace(/^hit v- /, 'hit '),
+  put: context => REGION.put(context),
+  lock: context => REGION.lock(context),
+  unlock: context => REGION.unlock(context),
+};
+
+const MEMBERS_SAYS = {
+  get: ({ session, entry }) => numberBehind(entry, 'at') === session.time,
+  put({ session, entry }) {
+    return entry.words[3] === session.listed && numberBehind(entry, 'at') === session.time && numberBehind(entry, 'floor') === session.floor;
+  },
+  lock: ({ session, entry }) => entry.words[3] === NO_VERSION && numberBehind(entry, 'floor') === session.floor,
+  unlock: ({ session, entry }) => numberBehind(entry, 'lock') === session.locks.get(entry.key),
 };

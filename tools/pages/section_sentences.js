@@ -15,6 +15,21 @@ const FENCE_TEXTS = {
   },
 };
 
+// ---- collections ----
+
+const MEMBERS_TEXTS = {
+  ...REGION_TEXTS,
+  put(context) {
+    const { session, entry } = context, which = session.listedAt === NEVER ? '' : ' at ' + ref(session.listedAt);
+    return `${context.me} offers the cache the members of ${context.key} that it has listed${which}. ${PUTS[firstWord(entry.reply)](context)}`;
+  },
+  lock(context) {
+    const until = /until (\d+)/.exec(context.entry.reply)[1];
+    return `${context.me} is to change which rows refer to ${context.key}, and locks it, so that nobody puts old members there. The lock is good until ` +
+      `the tick ${until}.${lockedOverText(context)}${leaverText(context)}`;
+  },
+};
+
 // ---- bulk changes ----
 
 const wideHolders = context => holdersOf(context.state, wideOf(context));
@@ -54,7 +69,7 @@ function bulkText({ script, state, entry, me }) {
 
 const TEXTS = {
   registry: REGISTRY_TEXTS, own: OWN_TEXTS, store: { ...STORE_TEXTS, bulk: bulkText }, region: { ...REGION_TEXTS, ...BULK_TEXTS },
-  stamps: STAMPS_TEXTS, results: RESULTS_TEXTS,
+  members: MEMBERS_TEXTS, stamps: STAMPS_TEXTS, results: RESULTS_TEXTS,
 };
 
 // What an entry means, from the state before it; nothing if it can't come there.

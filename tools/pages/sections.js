@@ -1,6 +1,10 @@
 'use strict';
 // Reads the sections that stand behind the scripts of some commands. docs/SCRIPT.md says what their lines mean.
 
+// A collection is drawn as an entity is, whose keys are its owners. One that is called as an entity gets a name of its own.
+const nameOfCollection = (script, name) => script.entities.has(name) ? name + ':' : name;
+const declared = (script, name) => script.entities.get(name) || script.collections.get(name);
+
 // A bulk line acts as a session does, under its own name.
 function readLineOfBulk(script, words) {
   const [kind, name, entity, ...rest] = words, where = rest.indexOf('where'), sets = [];
@@ -11,6 +15,13 @@ function readLineOfBulk(script, words) {
 
 // What each first word of a section's line says, by the section.
 const SECTION_LINES = {
+  collections: {
+    collection(script, words) {
+      const [, name, entity, column, capacity] = words, own = nameOfCollection(script, name), columns = [{ name: 'members', target: '' }];
+      const collection = { name: own, entity, place: placeOfColumn(script.entities.get(entity), column), capacity: Number(capacity), columns };
+      script.collections.set(own, { ...collection, strategy: 'read-write', versioned: false });
+    },
+  },
   bulk: {
     update: readLineOfBulk,
     delete: readLineOfBulk,

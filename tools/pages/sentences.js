@@ -16,7 +16,7 @@ const firstWord = text => text.split(' ')[0];
 // A row with the names of its columns.
 function named(script, key, row) {
   if (!row) return 'no row';
-  const { columns } = script.entities.get(entityOf(key));
+  const { columns } = declared(script, entityOf(key));
   const cells = row.cells.map((cell, i) => columns[i] ? `${columns[i].name} ${cell}` : cell);
   return (row.version === NO_VERSION ? cells : [row.version, ...cells]).join(' ');
 }
@@ -24,7 +24,7 @@ function named(script, key, row) {
 // What differs between two rows of a key, of each: `price 30` against `price 20`.
 function difference(script, key, one, other) {
   if (!one || !other) return [named(script, key, one), named(script, key, other)];
-  const { columns } = script.entities.get(entityOf(key)), places = columns.map((column, i) => i).filter(i => one.cells[i] !== other.cells[i]);
+  const { columns } = declared(script, entityOf(key)), places = columns.map((column, i) => i).filter(i => one.cells[i] !== other.cells[i]);
   if (!places.length) return [one.version, other.version];
   return [one, other].map(row => places.map(i => `${columns[i].name} ${row.cells[i]}`).join(', '));
 }
@@ -193,10 +193,10 @@ const STORE_TEXTS = {
 const untoldOf = ({ queue }, key) => queue.filter(waiting => waiting.key === key);
 
 function hitText({ script, state, node, slot, entry }) {
-  const now = state.committed.get(entry.key);
-  if (now && rowText(now.row) === rowText(slot.row)) return `It gets the committed row, ${storedBy(slot)}.`;
+  const now = committedOf(state, entry.key), what = entry.part === 'members' ? 'members' : 'row';
+  if (now && rowText(now.row) === rowText(slot.row)) return `It gets the committed ${what}, ${storedBy(slot)}.`;
   const [old, fresh] = difference(script, entry.key, slot.row, now && now.row);
-  const truth = now ? `the committed row has ${code(fresh)} ${since(now.at)}` : 'the row is deleted';
+  const truth = now ? `the committed ${what} ${what === 'row' ? 'has' : 'are'} ${code(fresh)} ${since(now.at)}` : 'the row is deleted';
   const untold = untoldOf(node, entry.key).length ? ` The change waits for ${nodeName(node.number)} still.` : '';
   return `**A stale read:** it gets ${code(old)}, ${storedBy(slot)}; ${truth}.${untold}`;
 }
@@ -217,7 +217,7 @@ function lateText({ script, state, slot, entry }) {
 
 // Why a put was taken over what was there.
 function takenText({ slot, entry }) {
-  const { version } = rowIn(entry, 3, 'at');
+  const { version } = offeredRow(entry);
   if (slot.kind === 'item') return `its version ${version} is above that of the item, ${slot.row.version}`;
   if (numberBehind(entry, 'at') > slot.until) return `the released lock was good until ${slot.until}, and the session began after that`;
   if (!slot.shared && slot.version !== NO_VERSION) return `its version ${version} is above ${slot.version}, over which the lock was taken`;
@@ -233,7 +233,7 @@ const PUTS = {
     return `It is stored: the cache had nothing for the key (${absentSince(context)}).${leaverText(context)}${nonstrict}`;
   },
   present({ slot, entry }) {
-    const { version } = slot.row, versions = `its version is ${version}, the offered one ${rowIn(entry, 3, 'at').version}`;
+    const { version } = slot.row, versions = `its version is ${version}, the offered one ${offeredRow(entry).version}`;
     return `Refused: an item is there, ${storedBy(slot)}, and ${version === NO_VERSION ? 'the rows have no versions' : versions}.`;
   },
   held({ state, slot }) {
@@ -244,7 +244,7 @@ const PUTS = {
     return `Refused: ${releasedBy(slot, script)}. ${me} began at ${numberBehind(entry, 'at')}, and what it loaded may be from before that.`;
   },
   old({ slot, entry }) {
-    return `Refused: the released lock was taken over a row of the version ${slot.version}, and the offered one is ${rowIn(entry, 3, 'at').version}.`;
+    return `Refused: the released lock was taken over a row of the version ${slot.version}, and the offered one is ${offeredRow(entry).version}.`;
   },
   crowded: context => 'Refused. ' + whyCrowded(context),
   wide: context => barText(context),

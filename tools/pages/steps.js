@@ -2,8 +2,11 @@
 // A step of a run: from the state before an entry to the reply that is due and the state after it, by the rules of all parts.
 
 const REPLIES = {
-  registry: REGISTRY, own: OWN, store: { ...STORE, ...BULK_STORE }, region: { ...REGION, ...BULK_REGION }, stamps: STAMPS, results: RESULTS,
+  registry: REGISTRY, own: OWN, store: { ...STORE, ...BULK_STORE }, region: { ...REGION, ...BULK_REGION }, members: MEMBERS,
+  stamps: STAMPS, results: RESULTS,
 };
+
+const isOfCache = entry => entry.part === 'region' || entry.part === 'members';
 
 // What a session remembers of a reply: the row that it got, its locks, its list.
 function remember({ session, entry, at }) {
@@ -13,14 +16,14 @@ function remember({ session, entry, at }) {
     session.copies.set(entry.key, managed(rowOf(tokensOf(got[1])), at));
     session.loads.set(entry.key, at);
   }
-  if (entry.part === 'region' && entry.verb === 'lock') session.locks.set(entry.key, Number(entry.reply.split(' ')[1]));
-  if (entry.part === 'region' && ['unlock', 'after-update'].includes(entry.verb)) session.locks.delete(entry.key);
+  if (isOfCache(entry) && entry.verb === 'lock') session.locks.set(entry.key, Number(entry.reply.split(' ')[1]));
+  if (isOfCache(entry) && ['unlock', 'after-update'].includes(entry.verb)) session.locks.delete(entry.key);
   if (entry.part === 'store' && entry.verb === 'list') Object.assign(session, { listedAt: at, listed: entry.reply.slice('list '.length) });
 }
 
 function noteExpired({ node, entry, at }) {
   const cause = entry.reply === 'expired' ? 'expired' : / late$/.test(entry.reply) ? 'late' : '';
-  if (entry.part === 'region' && cause && !node.unsound.has(entry.key)) node.unsound.set(entry.key, { at, cause });
+  if (isOfCache(entry) && cause && !node.unsound.has(entry.key)) node.unsound.set(entry.key, { at, cause });
 }
 
 // A load that says something else than the state is believed, so that a run over a file with rows of its own can be drawn too.
@@ -65,7 +68,7 @@ const SAYS = {
 
 // Whether an act can be of its session as it stands. Which act is due isn't looked at.
 function isOwnAct(context) {
-  const { script, session, entry } = context, says = SAYS[entry.verb];
+  const { script, session, entry } = context, says = (entry.part === 'members' ? MEMBERS_SAYS : SAYS)[entry.verb];
   if (isFence(entry)) return Boolean(FENCE_SAYS[entry.verb]) && FENCE_SAYS[entry.verb](context);
   if (!session) return true;
   return entry.node === nodeOfSession(script, session.name) && session.open === (entry.verb !== 'begin') && (!says || Boolean(says(context)));

@@ -53,7 +53,9 @@ const WHY = {
   'read-only': name => `${name} is read-only: ${TAKES_ANY}, and keeps it, since such rows aren't meant to change. This one was deleted.`,
 };
 
-function whyReused(steps, { slot, entry }, { at, deletedAt }) {
+function whyReused(steps, { slot, entry }, { at, deletedAt, key }) {
+  const isRow = entry.part !== 'members', front = `${code(key)} was deleted at ${ref(deletedAt)} and inserted again at ${ref(at)}`;
+  if (!isRow) return `${front}. A writer may have locked other owners than those of its change since then.`;
   steps.add(deletedAt, `${code(entry.key)} is deleted.`);
   steps.add(at, `${code(entry.key)} is inserted again, and versions begin anew.`);
   return `The key was deleted at ${ref(deletedAt)} and used again at ${ref(at)}. Versions began anew, so the old row with ${slot.row.version} looks newer.`;
@@ -75,13 +77,14 @@ function fenceToCome(run, { number }, key, at) {
 function whyUntold(run, steps, { node, entry, at }, untold) {
   const name = nodeName(node.number), fence = fenceToCome(run, node, entry.key, at), [{ at: since, by }] = untold;
   const place = node.queue.indexOf(untold[0]), before = place ? `, behind ${count(place, 'other')}` : '';
-  if (fence !== NEVER) steps.add(fence, `The cache of ${name} is told of the commit at ${ref(since)}, and a fence takes the row out.`);
-  const end = fence === NEVER ? 'This journal ends before it is told.' : `It is told at ${ref(fence)}: a fence takes the row out.`;
+  if (fence !== NEVER) steps.add(fence, `The cache of ${name} is told of the commit at ${ref(since)}, and a fence drops what is there.`);
+  const end = fence === NEVER ? 'This journal ends before it is told.' : `It is told at ${ref(fence)}: a fence drops what is there.`;
   return `The commit of ${code(by)} waits for ${name} since ${ref(since)}${before}, and no cache knows of a commit before it is told. ${end}`;
 }
 
 function whyStale(run, steps, context, first) {
-  const { node, entity, entry } = context, unsound = node.unsound.get(entry.key), why = WHY[entity.strategy], untold = untoldOf(node, entry.key);
+  const { state, node, entity, entry } = context, unsound = node.unsound.get(entry.key) || state.reused.get(entity.name);
+  const why = WHY[entity.strategy], untold = untoldOf(node, entry.key);
   if (untold.length) return whyUntold(run, steps, context, untold);
   const nonstrict = entity.strategy === 'nonstrict' ? `${removalsText(run, context, first)} A read-write entity guards the key by a lock against this.` : '';
   if (why) return why(code(entity.name)) + nonstrict;
@@ -106,7 +109,7 @@ function tellStored(steps, run, { slot, entry }, first, old) {
 
 // The story of a hit that isn't the committed row, from the state before it.
 function staleHit(run, context) {
-  const { script, state, slot, entry, at } = context, now = state.committed.get(entry.key), key = code(entry.key);
+  const { script, state, slot, entry, at } = context, now = committedOf(state, entry.key), key = code(entry.key);
   const me = code(entry.session) + atNode(entry.node);
   const [old, fresh] = difference(script, entry.key, slot.row, now && now.row).map(code), steps = stepsOf();
   const changes = changesBetween(run, entry.key, slot.how === 'put' ? slot.loadedAt : slot.at, at), { first, last } = changes;

@@ -122,7 +122,7 @@ function checkStale(file, hits, stale, lists, old, unsound) {
 
 function checkReport(file) {
   const script = page.readScript(fs.readFileSync(file + '.hib', 'utf8')), text = fs.readFileSync(file + '.report', 'utf8'), lines = text.split('\n');
-  const journal = page.readJournal(text), isReport = lines[0].startsWith('journal ');
+  const journal = page.readJournal(text, script), isReport = lines[0].startsWith('journal ');
   const misread = journal.entries.find((entry, at) => page.lineOf(entry) !== lines[at + 1]);
   if (journal.cut) fail(file, `is cut short: ${journal.cut}`);
   if (isReport && misread) fail(file, `a line is read as ${page.lineOf(misread)}`);
@@ -142,22 +142,13 @@ function checkReport(file) {
   totals.unsound += run.unsound.length;
 }
 
-// Whether the page draws the section of a script, if it has one.
-function isDrawn(file) {
-  const section = /^(collections|bulk|nodes)$/m.exec(fs.readFileSync(file + '.hib', 'utf8'));
-  return !section || Boolean(page.SECTION_LINES[section[1]]);
-}
-
-const left = [];
 const words = process.argv.slice(2), wantsKinds = words[0] === '--kinds';
 for (const folder of wantsKinds ? words.slice(1) : words) {
   for (const name of fs.readdirSync(folder).filter(one => one.endsWith('.hib'))) {
     const file = path.join(folder, name.slice(0, -'.hib'.length));
-    if (!fs.existsSync(file + '.report')) continue;
-    if (isDrawn(file)) checkReport(file); else left.push(file);
+    if (fs.existsSync(file + '.report')) checkReport(file);
   }
 }
-if (left.length) console.log(`not drawn, since they have a section: ${left.join(' ')}`);
 if (wantsKinds) for (const [kind, number] of [...kinds].sort()) console.log(String(number).padStart(7), kind);
 console.log(`${totals.reports} reports, ${totals.entries} entries of ${kinds.size} kinds, ${totals.faults} faults, ${totals.stale} stale hits, ` +
   `${totals.lists} stale lists, ${totals.stories} stories, ${totals.unsound} unsound keys; ${wrong} wrong`);
