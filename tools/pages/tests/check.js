@@ -4,9 +4,10 @@
 //
 // Of each entry: its act and its reply follow by the rules from the entries before; it has a sentence, which names as many holders as the
 // reply counts; and docs/JOURNAL.md has a row for its act and its reply. Of each run: the unsound keys are those that the report names;
-// the states by step and from the start are the same; each stale read has a story with its load, put, commit and hit; as many
-// hits and lists are stale as tools/stale names, and keys are unsound since the ticks that it names; beside itself a run comes to the
-// same; and nothing that is drawn has a hole in it, nor what differs from the run before. With --kinds, how many entries of each kind there were.
+// the states by step and from the start are the same; nothing waits for a node at the end; the committed members of an owner are those that
+// the store lists; each stale read has a story with its load, put, commit and hit; as many hits and lists are stale as tools/stale names,
+// which reads no section, and keys are unsound since the ticks that it names; beside itself a run comes to the same; and nothing that is
+// drawn has a hole in it, nor what differs from the run before. With --kinds, how many entries of each kind there were.
 'use strict';
 const fs = require('fs'), path = require('path'), vm = require('vm'), { spawnSync } = require('child_process');
 
@@ -48,6 +49,8 @@ function checkEntry(file, script, state, entry, at) {
   checkText(file, `the sentence of ${line}`, said);
   checkText(file, `the text of ${line}`, page.brief(entry, false) + page.brief(entry, true));
   if (held && entry.verb !== 'lock-all' && (said.match(/\(since \u0001/g) || []).length !== Number(held[1])) fail(file, `${line}   the holders are: ${said}`);
+  const owner = page.ownerOf(script, entry), isOthers = owner && !state.sessions.get(entry.session).written.length;
+  if (isOthers && `list ${page.committedRow(state, owner).cells[0]}` !== entry.reply) fail(file, `${line}   the committed members are others`);
   const rows = page.meaningsOf(meanings, entry, script.section);
   if (!rows.some(row => page.saysAct(row, entry))) fail(file, `${line}   docs/JOURNAL.md has no row for the act`);
   if (!rows.some(row => page.saysReply(row, entry))) fail(file, `${line}   docs/JOURNAL.md has no row for the reply`);
@@ -128,6 +131,7 @@ function checkReport(file) {
   if (isReport && misread) fail(file, `a line is read as ${page.lineOf(misread)}`);
   const end = checkEntries(file, script, journal), run = page.analyse(script, journal), unsound = [...end.nodes[0].unsound.keys()].sort().join();
   run.meanings = meanings;
+  for (const { number, queue } of end.nodes) if (queue.length) fail(file, `${queue.length} changes wait for ${page.nodeName(number)} at the end`);
   if (journal.unsound && unsound !== journal.unsound.slice().sort().join()) fail(file, `unsound by the rules: ${unsound}; by the report: ${journal.unsound}`);
   if (run.findings.length !== run.stale.size) fail(file, `${run.stale.size} stale reads, ${run.findings.length} stories`);
   checkRun(file, run, end);
