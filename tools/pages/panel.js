@@ -65,7 +65,8 @@ function tablesOf(run, state, at, shown) {
   const around = { script, run, state, tick: entry.tick, actor: entry.session }, table = (head, rows) => ({ head, rows });
   const keys = [...run.keys.keys()].filter(key => !shown || shown.has(key)), unsoundHtml = unsound => sentence(run, UNSOUND[unsound.cause](unsound));
   const regions = state.nodes.flatMap(node => [...node.regions].map(([name, region]) => {
-    const { strategy, capacity } = declared(script, name), head = `Cache of ${name}${atNode(node.number)} (${strategy}, ${region.size} of ${capacity})`;
+    const { strategy, capacity } = declared(script, name), kind = script.collections.has(name) ? 'members' : strategy;
+    const head = `Cache of ${name}${atNode(node.number)} (${kind}, ${region.size} of ${capacity})`;
     const slots = [...region].filter(([key]) => !shown || shown.has(key)).map(([key, slot]) => [key, slotHtml(around, node, key, slot)]);
     return table(head, [...wideRows(around, name, node.wides.get(name)), ...slots]);
   }));

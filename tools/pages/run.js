@@ -14,7 +14,7 @@ function checkNames(script, entries) {
     const missing = entry.session !== null && !sessions.has(entry.session) ? 'session ' + entry.session :
       entry.entity && !(entry.part === 'members' ? script.collections : script.entities).has(entry.entity) ? `entity or collection ${entry.entity}` :
         entry.query && !script.queries.has(entry.query) ? 'query ' + entry.query :
-          nodesOf(script).includes(entry.node) ? '' : nodeName(entry.node);
+          nodesOf(script).includes(entry.node) ? '' : entry.node ? nodeName(entry.node) : 'entry without a node';
     if (missing) throw new Error(`the report is of another script: there is no ${missing}, as in its line ${lineOf(entry)}`);
     if (!(REPLIES[entry.part] || {})[entry.verb]) throw new Error(`this line of the journal is no entry: ${lineOf(entry)}`);
   }
