@@ -23,6 +23,7 @@ const BRIEF = {
     list: entry => `list ${entry.query}${ARROW}${entry.reply.replace(/^list /, '')}`,
     commit: (entry, key, isOnly) => entry.reply === 'committed' ? 'commit' : `commit${ARROW}refused: ${isOnly ? withoutKey(entry.reply) : entry.reply}`,
     rollback: () => 'rollback',
+    bulk: entry => `change rows${ARROW}${entry.reply.replace(/^changed /, '')}`,
   },
   region: {
     get: (entry, key) => entry.reply.startsWith('hit ') ? `hit${key} ${withoutNoVersion(entry.reply.slice('hit '.length))}` : `get${key}${ARROW}${entry.reply}`,
@@ -32,6 +33,9 @@ const BRIEF = {
     'after-update': (entry, key) => `after-update${key}${ARROW}${entry.reply}`,
     'after-insert': (entry, key) => `after-insert${key}${ARROW}${entry.reply.startsWith('stored') ? '' : 'refused: '}${entry.reply}`,
     remove: (entry, key) => `take out${key}${ARROW}${entry.reply}`,
+    'lock-all': entry => `lock all of ${entry.entity}${unless(entry.reply, 'held 1')}`,
+    'unlock-all': entry => `unlock all of ${entry.entity}${unless(entry.reply, 'released 0')}`,
+    sweep: (entry, key) => `drop old${key}`,
     evict: (entry, key) => `evict${key}${ARROW}${entry.reply}`,
   },
   stamps: {
@@ -42,9 +46,11 @@ const BRIEF = {
   results: { look: entry => `look ${entry.query}${ARROW}${entry.reply}`, keep: entry => `keep ${entry.query}${unless(entry.reply, 'kept')}` },
 };
 
+const BRIEF_FENCE = { lock: (entry, key) => `fence${key || ' begins'}`, unlock: (entry, key) => `fence${key} ends${unless(entry.reply, 'released 0')}` };
+
 // An entry in few words, for its lane.
 function brief(entry, isOnly) {
-  const say = BRIEF[entry.part][entry.verb];
+  const say = (isFence(entry) ? BRIEF_FENCE : BRIEF[entry.part === 'members' ? 'region' : entry.part])[entry.verb];
   return say ? say(entry, entry.key && !isOnly ? ' ' + entry.key : '', isOnly) : entry.act;
 }
 
@@ -57,9 +63,11 @@ function markOf(entry) {
   const is = (part, ...verbs) => entry.part === part && verbs.includes(entry.verb);
   if (/ late$/.test(entry.reply) || entry.reply === 'expired' || isFault(entry)) return 'warn';
   if (is('registry', 'kill', 'restart')) return 'warn';
-  if (is('store', 'commit')) return entry.reply === 'committed' ? 'commit' : 'warn';
-  if (is('region', 'put', 'after-insert') && !entry.reply.startsWith('stored')) return 'refused';
-  if (is('region', 'get')) return entry.reply.startsWith('hit') ? 'hit' : 'miss';
+  if (isFence(entry)) return 'fence';
+  if (isCommit(entry)) return 'commit';
+  if (is('store', 'commit')) return 'warn';
+  if (isOfCache(entry) && ['put', 'after-insert'].includes(entry.verb) && !entry.reply.startsWith('stored')) return 'refused';
+  if (isOfCache(entry) && entry.verb === 'get') return entry.reply.startsWith('hit') ? 'hit' : 'miss';
   if (is('stamps', 'check')) return entry.reply === 'fresh' ? 'hit' : 'miss';
   if (entry.part === 'own' && ['unknown', 'known', 'read-only'].includes(entry.reply)) return 'idle';
   return '';

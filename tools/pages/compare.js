@@ -10,7 +10,7 @@ const listFound = entry => entry.reply.slice(entry.reply.indexOf('['));
 function answerIn(entry, found) {
   const { part, verb, key, query, reply } = entry, told = reply.replace(/^(hit|row|list) /, '');
   if (verb === 'find' || verb === 'load') return { what: key, told };
-  if (part === 'region' && verb === 'get') return reply.startsWith('hit ') ? { what: key, told } : null;
+  if (isOfCache(entry) && verb === 'get') return reply.startsWith('hit ') ? { what: key, told } : null;
   if (part === 'store' && verb === 'list') return { what: query, told };
   return verb === 'check' && reply === 'fresh' ? { what: query, told: found } : null;
 }
@@ -46,13 +46,13 @@ function outcomesOf(run, session) {
 }
 
 function countsOf(run) {
-  const hits = run.reads.filter(({ key }) => key).length, gets = countOf(run, ({ part, verb }) => part === 'region' && verb === 'get');
+  const hits = run.reads.filter(({ key }) => key).length, gets = countOf(run, entry => isOfCache(entry) && entry.verb === 'get');
   return new Map([
     ['strategies', [...run.script.entities.values()].map(({ name, strategy }) => `${name} ${strategy}`).join(', ')],
     ['entries', run.entries.length],
     ['hits', `${hits} of ${gets}`],
     ['stale reads', run.findings.length],
-    ['unsound keys', run.unsound.map(({ key }) => key).join(', ') || 'none'],
+    ['unsound keys', run.unsound.map(({ key, node }) => key + atNode(node)).join(', ') || 'none'],
     ['loads', countOf(run, ({ verb }) => verb === 'load')],
     ['refused puts', run.marks.filter(mark => mark === 'refused').length],
     ...run.script.sessions.map(session => [`end of ${session}`, outcomesOf(run, session)]),

@@ -55,9 +55,9 @@ function drawTransaction(layout, transaction) {
 
 // A lock that a session holds, as a bar at the side of its lane; it ends with the session's transaction, though the lock may stay.
 function drawLock(run, layout, lock) {
-  const lane = layout.laneOf.get(lock.session);
+  const lane = layout.laneOf.get(lock.lane);
   if (!lane || !layout.isWide) return '';
-  const transaction = run.transactions.find(one => one.session === lock.session && isWithin(lock.from, one));
+  const transaction = run.transactions.find(one => one.session === lock.lane && isWithin(lock.from, one));
   const ends = [lock.to, transaction ? transaction.to : null].filter(at => at !== null);
   const span = spanOf(layout, { from: lock.from, to: ends.length ? Math.min(...ends) : null });
   if (!span) return '';
@@ -77,20 +77,22 @@ const MARKS = {
   stamps: (x, y) => `<path d="M${x} ${y - 4.5}l4.5 4.5l-4.5 4.5l-4.5 -4.5z" fill="var(--bg)" stroke="currentColor"/>`,
   results: (x, y) => `<path d="M${x} ${y - 4}l4.5 8h-9z"/>`,
 };
-const COLOURS = { stale: 'red', refused: 'amber', warn: 'amber', oldcopy: 'amber', hit: 'blue', commit: 'green' };
+const FENCE = (x, y) => `<path d="M${x - 4} ${y - 5}v10m4 -10v10m4 -10v10M${x - 6} ${y}h12" fill="none" stroke="currentColor"/>`;
+const COLOURS = { stale: 'red', fence: 'amber', refused: 'amber', warn: 'amber', oldcopy: 'amber', hit: 'blue', commit: 'green' };
 
 function drawMarks(run, layout) {
   return layout.visible.map(at => {
-    const { part, session } = run.entries[at], colour = `var(--${COLOURS[run.marks[at]] || 'soft'})`, x = pixels(markX(layout, layout.laneOf.get(session)));
-    return `<g fill="${colour}" style="color:${colour}">${MARKS[part](x, layout.middle(at))}</g>`;
+    const { part, lane } = run.entries[at], mark = run.marks[at], colour = `var(--${COLOURS[mark] || 'soft'})`;
+    const x = pixels(markX(layout, layout.laneOf.get(lane))), draw = mark === 'fence' ? FENCE : MARKS[part === 'members' ? 'region' : part];
+    return `<g fill="${colour}" style="color:${colour}">${draw(x, layout.middle(at))}</g>`;
   }).join('');
 }
 
 // The text of an entry, in its lane or in a column of texts with the session's name in front.
 function drawText(run, layout, at, isPicked) {
-  const entry = run.entries[at], mark = run.marks[at], lane = layout.laneOf.get(entry.session);
+  const entry = run.entries[at], mark = run.marks[at], lane = layout.laneOf.get(entry.lane);
   const [x, width] = layout.isWide ? [lane.x + 18, lane.width - 26] : [layout.textAt, layout.textWidth];
-  const name = layout.isWide || !entry.session ? '' : `<b>${escaped(entry.session)}</b>`, isQuiet = ['begin', 'end'].includes(entry.verb);
+  const name = layout.isWide || !entry.lane ? '' : `<b>${escaped(entry.lane)}</b>`, isQuiet = ['begin', 'end'].includes(entry.verb);
   const kinds = ['text', mark, isQuiet ? 'quiet' : '', isPicked ? 'pick' : ''].filter(Boolean).join(' ');
   const place = `left:${pixels(x)}px;top:${layout.top(at) + 2}px;max-width:${pixels(width)}px`;
   return `<div class="${kinds}" style="${place}"><i>${name}${escaped(briefOf(run, at))}</i></div>`;
@@ -108,14 +110,17 @@ function lanesOfPart(layout, part, passes) {
 }
 
 // The lanes to which an entry goes.
-function targetsOfEntry(layout, entry, at) {
+function targetsOfEntry(run, layout, entry, at) {
   if (entry.part === 'own' || ['check', 'insert', 'update', 'delete'].includes(entry.verb)) return [];
   if (entry.part === 'stamps') return lanesOfPart(layout, 'stamps', ({ kind, name }) => kind === 'table' && entry.words.includes(name));
-  if (entry.verb === 'commit') {
+  if (WIDE.includes(entry.verb)) return lanesOfPart(layout, 'wide', ({ name }) => name === wholeOf(entry.entity));
+  if (isCommit(entry)) {
     const changed = lanesOfPart(layout, 'store', ({ kind }) => kind === 'key');
     return changed.filter(({ lane }) => lane.segments.some(({ from }) => from === at));
   }
-  return lanesOfPart(layout, entry.part, ({ kind, name }) => kind !== 'table' && name === (entry.key || entry.query));
+  const part = isOfCache(entry) ? 'region' : entry.part, asked = entry.key || ownerOf(run.script, entry) || entry.query;
+  const lanes = lanesOfPart(layout, part, ({ kind, name }) => kind !== 'table' && name === asked);
+  return lanes.filter(({ lane }) => part !== 'region' || lane.node === entry.node);
 }
 
 // Whether an entry's line to a group is a step of the story.
@@ -128,8 +133,8 @@ const headX = (layout, lane) => layout.isWide ? sideX(layout, lane) : layout.tex
 
 // A line from a session to a lane, with a head to where something goes: a row, or a cross if it is refused. Steps of the story are strong.
 function drawArrow(run, layout, at, to, isHot) {
-  const entry = run.entries[at], lane = layout.laneOf.get(entry.session), y = layout.middle(at);
-  const colour = isHot ? (entry.verb === 'commit' ? 'green' : 'red') : 'soft', fill = `fill="var(--${colour})"${isHot ? '' : ' opacity="0.6"'}`;
+  const entry = run.entries[at], lane = layout.laneOf.get(entry.lane), y = layout.middle(at);
+  const colour = isHot ? (isCommit(entry) ? 'green' : 'red') : 'soft', fill = `fill="var(--${colour})"${isHot ? '' : ' opacity="0.6"'}`;
   const isMiss = /^miss|^absent|^none/.test(entry.reply), isRefused = run.marks[at] === 'refused' || /^(stale|duplicate)/.test(entry.reply);
   const dashes = isMiss || isRefused ? ' stroke-dasharray="2 3"' : '';
   const line = lineTo(sideX(layout, lane), y, to, y, stroke(colour, isHot ? 2 : 1, dashes + (isHot ? '' : ' opacity="0.45"')));
@@ -140,21 +145,22 @@ function drawArrow(run, layout, at, to, isHot) {
 
 // What entries ask and get, or give.
 function drawAcross(run, layout, story) {
-  const arrowsOf = at => targetsOfEntry(layout, run.entries[at], at).map(({ group, lane }) => drawArrow(run, layout, at, lane.x + 1, isStep(story, group, at)));
+  const arrow = at => ({ group, lane }) => drawArrow(run, layout, at, lane.x + 1, isStep(story, group, at));
+  const arrowsOf = at => targetsOfEntry(run, layout, run.entries[at], at).map(arrow(at));
   return layout.visible.flatMap(arrowsOf).join('');
 }
 
 // The lane in which what a read got has lain.
 function laneOfRead(layout, read) {
   const group = read && read.keptAt !== NEVER ? layout.groups.find(one => one.name === (read.key || read.query)) : null;
-  return group ? group.lanes[0] : null;
+  return group ? group.lanes.find(lane => !read.key || lane.node === read.node) : null;
 }
 
 // The way of what a story's read got: down the lane of whoever loaded it, and down the cache to whoever read it.
 function drawWay(run, layout, story) {
   const read = story && run.reads.find(({ to }) => to === story.at), lane = laneOfRead(layout, read);
   if (!lane) return '';
-  const x = lane.x + 1, [loader, reader] = [read.keptAt, read.to].map(at => layout.laneOf.get(run.entries[at].session));
+  const x = lane.x + 1, [loader, reader] = [read.keptAt, read.to].map(at => layout.laneOf.get(run.entries[at].lane));
   const kept = layout.middle(read.keptAt), y = layout.middle(read.to), parts = [lineTo(x, kept, x, y, stroke('red', 4))];
   if (loader && read.loadedAt !== NEVER) {
     const loaderX = markX(layout, loader);
@@ -168,7 +174,7 @@ function drawWay(run, layout, story) {
 function drawPicked(run, layout, picked, story) {
   const read = story && story.at === picked ? null : run.reads.find(({ to }) => to === picked), lane = laneOfRead(layout, read);
   if (!lane || !isVisible(layout, picked)) return '';
-  const x = lane.x + 1, side = at => { const own = layout.laneOf.get(run.entries[at].session); return own ? sideX(layout, own) : x; };
+  const x = lane.x + 1, side = at => { const own = layout.laneOf.get(run.entries[at].lane); return own ? sideX(layout, own) : x; };
   const across = at => lineTo(side(at), layout.middle(at), x, layout.middle(at), stroke('blue', 2));
   return across(read.keptAt) + lineTo(x, layout.middle(read.keptAt), x, layout.middle(picked), stroke('blue', 4)) + across(picked);
 }
@@ -206,7 +212,8 @@ function drawLane(layout, lane) {
 
 // From where on a key is unsound, as a dotted line at the side of its lanes with a flag.
 function drawUnsound(layout, group, unsound) {
-  const span = spanOf(layout, unsound), x = pixels(group.x + group.width);
+  const own = group.lanes.find(({ node }) => unsound.node && node === unsound.node) || group;
+  const span = spanOf(layout, unsound), x = pixels(own.x + own.width);
   if (!span) return '';
   const top = layout.middle(span.from), bottom = unsound.to === null ? layout.height : layout.middle(unsound.to);
   return `<div class="unsound" style="left:${x}px;top:${top}px;height:${Math.max(2, bottom - top)}px"></div>` +
@@ -241,26 +248,48 @@ function drawName(kind, name, place, canFilter, title) {
 }
 
 function drawSessionHead(layout, session, height) {
-  const { x, width } = layout.laneOf.get(session), isOrder = session === null, title = isOrder ? 'orders of the schedule' : 'show only this session';
-  const place = `left:${pixels(x + 6)}px;width:${pixels(width - 10)}px;top:${height - 22}px`;
-  if (layout.isWide) return drawName('lane', isOrder ? 'schedule' : session, place, !isOrder, title);
+  const { x, width } = layout.laneOf.get(session), node = layout.nodeOf(session), isFences = node > 0 && session === nodeName(node);
+  const isOrder = session === null || isFences, name = session === null ? 'schedule' : isFences ? 'fences' : session;
+  const title = isFences ? `fences at ${session}` : isOrder ? 'orders of the schedule' : 'show only this session';
+  const place = `left:${pixels(x + 6)}px;width:${pixels(width - 10)}px;top:${height - 22}px`, front = node ? 20 : 0;
+  if (layout.isWide) return drawName('lane', name, place, !isOrder, title);
   if (layout.laneWidth < 9) return '';
-  return drawName('lane up', isOrder ? '-' : session, `left:${pixels(x + width / 2 - 8)}px;height:${height - 6}px;top:2px`, !isOrder, title);
+  const upright = `left:${pixels(x + width / 2 - 8)}px;height:${height - 6 - front}px;top:${2 + front}px`;
+  return drawName('lane up', session === null ? '-' : name, upright, !isOrder, title);
 }
 
+// The name of a node above the lanes of its sessions, with a line below it.
+function drawNodeHead(layout, number) {
+  const lanes = layout.sessions.filter(lane => layout.nodeOf(lane) === number).map(lane => layout.laneOf.get(lane));
+  if (!number || !lanes.length) return '';
+  const from = lanes[0].x, to = lanes[lanes.length - 1].x + lanes[lanes.length - 1].width;
+  const name = to - from < 50 ? String(number) : nodeName(number);
+  return `<div class="key" style="left:${pixels(from)}px;width:${pixels(to - from)}px;top:0" title="${nodeName(number)}">${name}</div>`;
+}
+
+const TITLES = {
+  key: 'show only what touches it', query: 'show only what touches it', table: 'the stamp of this table',
+  wide: 'the lock of the whole region, which bulk lines take',
+  queue: 'keys that another node has changed, of which the node is to be told',
+};
+
 function drawGroupHead(group, height) {
-  const isTable = group.kind === 'table', place = `left:${pixels(group.x)}px;width:${pixels(group.width)}px;top:${height - 40}px`;
+  const isName = ['key', 'query'].includes(group.kind), place = `left:${pixels(group.x)}px;width:${pixels(group.width)}px;top:${height - 40}px`;
   const heads = group.lanes.map(lane => {
     const text = lane.width < 90 ? lane.head.replace(/^(query|in the) /, '') : lane.head;
     return `<div class="sub" style="left:${pixels(lane.x)}px;width:${pixels(lane.width)}px;top:${height - 19}px">${text}</div>`;
   });
-  return drawName('key', group.name, place, !isTable, isTable ? 'the stamp of this table' : 'show only what touches it') + heads.join('');
+  return drawName('key', group.name, place, isName, TITLES[group.kind]) + heads.join('');
 }
 
 // The names above the lanes, and how high they stand.
 function drawHead(layout) {
   const longest = Math.max(3, ...layout.sessions.map(session => session === null ? 1 : session.length));
-  const height = layout.isWide || layout.laneWidth < 9 ? 40 : Math.max(40, Math.min(90, 8 + 7 * longest));
-  const names = [...layout.sessions.map(session => drawSessionHead(layout, session, height)), ...layout.groups.map(group => drawGroupHead(group, height))];
+  const nodes = [...new Set(layout.sessions.map(layout.nodeOf))];
+  const least = nodes.some(Boolean) ? 60 : 40, height = layout.isWide || layout.laneWidth < 9 ? least : between(least, least - 32 + 7 * longest, least + 50);
+  const names = [
+    ...nodes.map(number => drawNodeHead(layout, number)), ...layout.sessions.map(session => drawSessionHead(layout, session, height)),
+    ...layout.groups.map(group => drawGroupHead(group, height)),
+  ];
   return { height, html: `<div class="sub" style="left:4px;top:${height - 20}px">tick</div>${names.join('')}` };
 }

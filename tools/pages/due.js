@@ -11,5 +11,6 @@ const source = files.map(file => fs.readFileSync(path.join(__dirname, file), 'ut
 const page = vm.runInThisContext(`(() => {${source}\nreturn { readScript, readJournal, analyse };})()`);
 
 const [script, journal] = process.argv.slice(2).map(file => fs.readFileSync(file, 'utf8'));
-const read = page.readJournal(journal), odd = page.analyse(page.readScript(script), read).odd.find(({ at }) => at === read.entries.length - 1);
+const made = page.readScript(script), read = page.readJournal(journal, made);
+const odd = page.analyse(made, read).odd.find(({ at }) => at === read.entries.length - 1);
 if (odd && odd.due !== null && !odd.isReply) console.log(odd.due);

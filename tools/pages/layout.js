@@ -38,14 +38,14 @@ const addBothEnds = (set, { from, to }) => { set.add(from); if (to !== null) set
 
 // The entries of a story: its steps, with the transactions around them, the locks on its key, and what else its sessions ask of it.
 function entriesOfStory(run, story) {
-  const steps = story.steps.map(({ at }) => at), wanted = new Set(steps), acting = new Set(steps.map(at => run.entries[at].session));
+  const steps = story.steps.map(({ at }) => at), wanted = new Set(steps), acting = new Set(steps.map(at => run.entries[at].lane));
   for (const transaction of run.transactions) {
     if (steps.some(at => run.entries[at].session === transaction.session && isWithin(at, transaction))) addBothEnds(wanted, transaction);
   }
-  for (const lock of run.locks) if (lock.key === story.key && acting.has(lock.session)) addBothEnds(wanted, lock);
+  for (const lock of run.locks) if (lock.key === story.key && acting.has(lock.lane)) addBothEnds(wanted, lock);
   const first = Math.min(...wanted);
   run.entries.forEach((entry, at) => {
-    if (entry.part === 'region' && entry.key === story.key && acting.has(entry.session) && at >= first && at <= story.at) wanted.add(at);
+    if (isOfCache(entry) && entry.key === story.key && acting.has(entry.lane) && at >= first && at <= story.at) wanted.add(at);
   });
   return [...wanted].sort((one, other) => one - other);
 }
@@ -87,26 +87,33 @@ const thinLane = (sessions, width) => between(3, 0.4 * width / Math.max(1, sessi
 
 // How many keys have room for their lanes.
 function roomForKeys(run, visible, width) {
-  const sessions = new Set(visible.map(at => run.entries[at].session)).size;
-  return Math.max(2, Math.floor((width - TICKS - sessions * thinLane(sessions, width) - TEXTS_LEAST) / (2 * HALF_LEAST + GAP)));
+  const sessions = new Set(visible.map(at => run.entries[at].lane)).size, lanes = 1 + nodesOf(run.script).length;
+  return Math.max(2, Math.floor((width - TICKS - sessions * thinLane(sessions, width) - TEXTS_LEAST) / (lanes * HALF_LEAST + GAP)));
 }
 
-// The sessions that act in the drawn entries, or are killed there; null stands for the schedule.
+// The lanes of those who act in the drawn entries, or are killed there: of sessions, of a node's fences, and null for the schedule.
 function actingIn(run, visible) {
   const acting = new Set();
   for (const at of visible) {
     const entry = run.entries[at];
-    acting.add(entry.session);
+    acting.add(entry.lane);
     if (entry.verb === 'kill') acting.add(entry.words[1]);
   }
   return acting;
 }
 
-const laneFor = (part, head, segments) => ({ part, head, segments, x: 0, width: 0 });
+// Those who act, in the order of their lanes: the schedule, then the sessions, of each node with its fences behind them.
+function inOrderOfLanes(run, acting) {
+  const at = number => [...run.script.sessions.filter(name => nodeOfSession(run.script, name) === number), ...(number ? [nodeName(number)] : [])];
+  return [null, ...nodesOf(run.script).flatMap(at)].filter(lane => acting.has(lane));
+}
 
-function groupOfKey(name, { isCached, cache, store, unsound }) {
-  const lanes = [laneFor('store', 'committed', store)];
-  if (isCached) lanes.unshift(laneFor('region', 'in the cache', cache));
+const laneFor = (part, head, segments, node = 0) => ({ part, head, segments, node, x: 0, width: 0 });
+
+function groupOfKey(name, { isCached, caches, store, unsound }) {
+  const lanes = [...caches].map(([number, cache]) => laneFor('region', number ? `cache ${number}` : 'in the cache', cache, number));
+  if (!isCached) lanes.length = 0;
+  lanes.push(laneFor('store', 'committed', store));
   return { name, kind: 'key', tables: [], unsound, lanes };
 }
 
@@ -118,18 +125,31 @@ function groupOfTable(name, { stamps }) {
   return { name, kind: 'table', tables: [], unsound: [], lanes: [laneFor('stamps', 'stamp', stamps)] };
 }
 
-// The groups of lanes on the right: what a key has in the cache and committed, what a query keeps and gives, and the stamps of its tables.
+// What waits for each node for which ever something does.
+function groupsOfQueues({ queues }) {
+  const lanes = [...queues].filter(([, queue]) => isEverShown(queue)).map(([number, queue]) => laneFor('queue', nodeName(number), queue, number));
+  return lanes.length ? [{ name: 'waits for', kind: 'queue', tables: [], unsound: [], lanes }] : [];
+}
+
+// The locks of whole regions that lines ever take.
+function groupsOfWides({ wides }) {
+  const taken = [...wides].filter(([, wide]) => isEverShown(wide));
+  return taken.map(([name, wide]) => ({ name: wholeOf(name), kind: 'wide', tables: [], unsound: [], lanes: [laneFor('wide', 'the cache', wide)] }));
+}
+
+// The groups of lanes on the right: what a key has in the cache and committed, what a query keeps and gives, the stamps of its tables, what
+// waits for nodes, and the locks of whole regions.
 function groupsOf(run, names) {
   const groups = names.map(name => run.queries.has(name) ? groupOfQuery(name, run.queries.get(name)) : groupOfKey(name, run.keys.get(name)));
   const tables = new Set(groups.flatMap(group => group.tables));
-  return [...groups, ...[...tables].map(name => groupOfTable(name, run.tables.get(name)))];
+  return [...groups, ...[...tables].map(name => groupOfTable(name, run.tables.get(name))), ...groupsOfQueues(run), ...groupsOfWides(run)];
 }
 
 // How wide the widest text of an entry is, with the session's name in front if it stands in a column of texts.
 function widestText(run, visible, hasName) {
   return Math.max(0, ...visible.map(at => {
-    const { session } = run.entries[at], isBold = run.marks[at] === 'stale';
-    return widthOfText(briefOf(run, at), isBold) + (hasName && session ? widthOfText(session, true) + 5 : 0);
+    const { lane } = run.entries[at], isBold = run.marks[at] === 'stale';
+    return widthOfText(briefOf(run, at), isBold) + (hasName && lane ? widthOfText(lane, true) + 5 : 0);
   }));
 }
 
@@ -141,10 +161,13 @@ function wideWidths(room, sessions, lane, halves) {
   return { lane: Math.min(300, (room - halves * half) / Math.max(1, sessions)), half };
 }
 
-// Places the lanes of sessions from a place on; answers where they end.
+// Places the lanes of sessions from a place on, those of a node apart from the next one's; answers where they end.
 function placeSessions(layout, from, width) {
-  let x = from;
+  let x = from, before = null;
   for (const session of layout.sessions) {
+    const node = layout.nodeOf(session);
+    if (before !== null && node !== before) x += GAP;
+    before = node;
     const own = session === null && layout.isWide ? width * 0.6 : width;
     layout.laneOf.set(session, { x, width: own });
     x += own;
@@ -169,12 +192,13 @@ function placeGroups(groups, from, half) {
 
 // Where everything stands for a width: lanes that have room for their texts, or thin lanes and one column of texts.
 function layoutOf(run, visible, names, width) {
-  const acting = actingIn(run, visible), sessions = [...(acting.has(null) ? [null] : []), ...run.script.sessions.filter(name => acting.has(name))];
+  const acting = actingIn(run, visible), sessions = inOrderOfLanes(run, acting), nodes = nodesOf(run.script);
   const groups = groupsOf(run, names), stamps = groups.filter(group => group.kind === 'table').length;
-  const halves = groups.reduce((sum, group) => sum + group.lanes.length, 0) - stamps, fixed = groups.length * GAP + stamps * STAMP + 6;
+  const halves = groups.reduce((sum, group) => sum + group.lanes.length, 0) - stamps, fixed = (groups.length + nodes.length - 1) * GAP + stamps * STAMP + 6;
   const shares = sessions.length - (acting.has(null) ? 0.4 : 0), textLane = between(120, 42 + widestText(run, visible, false), 230);
   const wide = wideWidths(width - TICKS - fixed, shares, textLane, halves), laneWidth = wide ? wide.lane : thinLane(sessions.length, width);
-  const layout = { isWide: Boolean(wide), laneWidth, sessions, laneOf: new Map(), groups, visible, textAt: 0, textWidth: 0 };
+  const nodeOfLane = lane => nodes.find(number => nodeName(number) === lane) || nodeOfSession(run.script, lane);
+  const layout = { isWide: Boolean(wide), laneWidth, sessions, nodeOf: nodeOfLane, laneOf: new Map(), groups, visible, textAt: 0, textWidth: 0 };
   let x = placeSessions(layout, TICKS, laneWidth), { half } = wide || { half: 0 };
   if (!wide) {
     const left = width - x - fixed, texts = between(190, 34 + widestText(run, visible, true), 400);

@@ -277,7 +277,8 @@ if (typeof document !== 'undefined') {
   const textOf = id => document.getElementById(id).textContent, scripts = [...document.querySelectorAll('pre[data-name]')];
   try {
     const meanings = readMeanings(textOf('meanings'));
-    const runs = scripts.map((script, n) => ({ ...analyse(readScript(script.textContent), readJournal(textOf(`report${n}`))), meanings }));
+    const runOf = (script, n) => ({ ...analyse(script, readJournal(textOf(`report${n}`), script)), meanings });
+    const runs = scripts.map(({ textContent }, n) => runOf(readScript(textContent), n));
     start(runs, scripts.map(script => script.dataset.name));
   } catch (fault) {
     document.getElementById('main').innerHTML = '<p id="fault"></p>';

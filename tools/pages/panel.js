@@ -13,13 +13,13 @@ function someHtml(texts, most = 8) {
 }
 
 function rowHtml({ script, run, state }, key) {
-  const now = state.committed.get(key);
+  const now = committedOf(state, key);
   return now ? `${codeHtml(named(script, key, now.row))} since ${linkTo(run, now.at)}${byHtml(now.by)}` : 'no row';
 }
 
-function slotHtml({ script, run, state, tick }, key, slot) {
+function slotHtml({ script, run, state, tick }, node, key, slot) {
   if (slot.kind === 'item') {
-    const old = rowText(committedRow(state, key)) !== rowText(slot.row) ? '<b class="bad">old</b> ' : '';
+    const old = isOldSlot(state, node, key, slot) ? '<b class="bad">old</b> ' : '';
     return `${old}${codeHtml(named(script, key, slot.row))}, ${sentence(run, storedBy(slot))}`;
   }
   if (!isHeld(slot)) return `released lock ${slot.id}, of ${slot.release.tick}, good until ${slot.until}: ${sentence(run, releasedBy(slot, script))}`;
@@ -42,7 +42,18 @@ function sessionHtml({ state }, session, isShort) {
 
 function sessionsTable(around) {
   const { state, actor } = around, open = openSessions(state).sort((one, other) => (other.name === actor) - (one.name === actor));
-  return open.map(session => [session.name, sessionHtml(around, session, open.length > 8 && session.name !== actor)]);
+  return open.map(session => [session.name + atNode(session.node), sessionHtml(around, session, open.length > 8 && session.name !== actor)]);
+}
+
+// What lines do with the whole region of an entity, if they have ever done anything.
+function wideRows({ run, state }, name, { holders, given }) {
+  if (holders.length) return [[wholeOf(name), 'locked by ' + sentence(run, holdersOf(state, { holders }))]];
+  return given ? [[wholeOf(name), `given back at ${linkTo(run, given.at)}${byHtml(given.by)}`]] : [];
+}
+
+// What waits for a node, the first on top.
+function queueRows(run, { queue }) {
+  return queue.map(({ key, at, by }) => [`${key} of ${run.entries[at].tick}`, `changed${byHtml(by)}, committed at ${linkTo(run, at)}`]);
 }
 
 const stampHtml = (run, { value, ahead, by, at }) => `${value}${ahead ? ' (ahead of time)' : ''},${byHtml(by)} at ${linkTo(run, at)}`;
@@ -53,17 +64,22 @@ function tablesOf(run, state, at, shown) {
   const { script } = run, entry = at === NEVER ? { tick: 0, session: '' } : run.entries[at];
   const around = { script, run, state, tick: entry.tick, actor: entry.session }, table = (head, rows) => ({ head, rows });
   const keys = [...run.keys.keys()].filter(key => !shown || shown.has(key)), unsoundHtml = unsound => sentence(run, UNSOUND[unsound.cause](unsound));
-  const regions = [...state.regions].map(([name, region]) => {
-    const { strategy, capacity } = script.entities.get(name), head = `Cache of ${name} (${strategy}, ${region.size} of ${capacity})`;
-    return table(head, [...region].filter(([key]) => !shown || shown.has(key)).map(([key, slot]) => [key, slotHtml(around, key, slot)]));
-  });
+  const regions = state.nodes.flatMap(node => [...node.regions].map(([name, region]) => {
+    const { strategy, capacity } = declared(script, name), kind = script.collections.has(name) ? 'members' : strategy;
+    const head = `Cache of ${name}${atNode(node.number)} (${kind}, ${region.size} of ${capacity})`;
+    const slots = [...region].filter(([key]) => !shown || shown.has(key)).map(([key, slot]) => [key, slotHtml(around, node, key, slot)]);
+    return table(head, [...wideRows(around, name, node.wides.get(name)), ...slots]);
+  }));
+  const queues = state.nodes.length < 2 ? [] : state.nodes.map(node => table(`Waits for ${nodeName(node.number)}`, queueRows(run, node)));
+  const unsound = state.nodes.flatMap(node => [...node.unsound].map(([key, one]) => [key + atNode(node.number), one]));
   return [
     table('Committed rows', keys.map(key => [key, rowHtml(around, key)])),
     ...regions,
+    ...queues,
     table('Open sessions', sessionsTable(around)),
     table('Stamps', [...state.stamps].map(([name, stamp]) => [name, stampHtml(run, stamp)])),
     table('Kept results', [...state.kept].map(([name, kept]) => [name, keptHtml(run, kept)])),
-    table('Unsound keys', [...state.unsound].map(([key, unsound]) => [key, `since ${linkTo(run, unsound.at)}: ${unsoundHtml(unsound)}`])),
+    table('Unsound keys', unsound.map(([name, one]) => [name, `since ${linkTo(run, one.at)}: ${unsoundHtml(one)}`])),
   ];
 }
 
@@ -95,7 +111,7 @@ function drawState(run, at, shown) {
 
 // What docs/JOURNAL.md says of the entry's act and reply.
 function drawMeanings(run, entry) {
-  const rows = meaningsOf(run.meanings, entry).filter(({ meaning }) => !meaning.startsWith('The reply to '));
+  const rows = meaningsOf(run.meanings, entry, run.script.section).filter(({ meaning }) => !meaning.startsWith('The reply to '));
   const drawn = rows.map(({ forms, meaning }) => `<dt>${sentence(run, forms)}</dt><dd>${sentence(run, meaning)}</dd>`);
   return drawn.length ? `<dl aria-label="what docs/JOURNAL.md says">${drawn.join('')}</dl>` : '';
 }
@@ -125,8 +141,9 @@ function drawPanel(run, at, shown) {
 function badges(run) {
   const marked = kind => run.marks.filter(mark => mark === kind).length, stale = reads => reads.filter(read => read.isStale).length;
   const hits = run.reads.filter(read => read.key), lists = run.reads.filter(read => read.query);
-  const unsound = run.unsound.slice(0, 3).map(({ key }) => escaped(key)).join(', ');
-  const sizes = [count(run.entries.length, 'entry', 'entries'), count(run.script.sessions.length, 'session'), count(run.keys.size, 'key')];
+  const unsound = run.unsound.slice(0, 3).map(({ key, node }) => escaped(key + atNode(node))).join(', ');
+  const { sessions, lines } = run.script, sizes = [count(run.entries.length, 'entry', 'entries'), count(sessions.length - lines.size, 'session')];
+  sizes.push(...(lines.size ? [count(lines.size, 'bulk line')] : []), count(run.keys.size, 'key'));
   const out = [`<span class="badge">${sizes.join(', ')}</span>`];
   const add = (kind, text, colour = '') => out.push(`<button class="badge ${colour}" data-next="${kind}" title="go to the next one">${text}</button>`);
   add('stale', `${stale(hits)} stale of ${count(hits.length, 'hit')}`, stale(hits) ? 'red' : '');
@@ -166,8 +183,9 @@ function drawStory(run, story, n, isShown, isOnly) {
 }
 
 function drawUnsoundNotes(run) {
-  const notes = run.unsound.slice(0, 3).map(({ key, at, text }) => {
-    return `<p class="note"><b>Unsound:</b> the cache can't vouch for ${codeHtml(key)} since tick ${linkTo(run, at)}: ${sentence(run, text)}.</p>`;
+  const notes = run.unsound.slice(0, 3).map(({ key, node, at, text }) => {
+    const cache = node ? 'the cache of ' + nodeName(node) : 'the cache', since = `since tick ${linkTo(run, at)}: ${sentence(run, text)}`;
+    return `<p class="note"><b>Unsound:</b> ${cache} can't vouch for ${codeHtml(key)} ${since}.</p>`;
   });
   return notes.join('') + (run.unsound.length > 3 ? `<p class="note">${run.unsound.length - 3} more unsound keys.</p>` : '');
 }

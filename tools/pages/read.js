@@ -65,6 +65,7 @@ function targetsOf(condition, entity) {
 function readQuery(words, entities) {
   const cursor = cursorOf(words.slice(1));
   const query = { name: cursor.take(), entity: '', condition: null, order: [], offset: 0, limit: 200, select: '', tables: [] };
+  query.isCached = words[2] === 'cached';
   for (let word = cursor.take(); word !== 'select'; word = cursor.take()) {
     if (word === 'from') query.entity = cursor.take();
     else if (word === 'where') query.condition = readCondition(cursor);
@@ -81,9 +82,6 @@ function readRow(words, entities) {
   const [, entity, id, ...cells] = words;
   return [keyOf(entity, id), rowOf(entities.get(entity).versioned ? cells : [NO_VERSION, ...cells])];
 }
-
-// The words with which a section begins behind the script of another command.
-const SECTIONS = ['collections', 'bulk', 'nodes'];
 
 // What each first word of a line says; sessions and the schedule have lines of their own, which the page doesn't need.
 const LINES = {
@@ -105,15 +103,21 @@ const LINES = {
 };
 
 function readScript(text) {
-  const script = { timeout: 1000, results: 100, entities: new Map(), rows: new Map(), queries: new Map(), sessions: [] };
+  const script = {
+    timeout: 1000, results: 100, entities: new Map(), rows: new Map(), queries: new Map(), sessions: [],
+    section: '', places: new Map(), lines: new Map(), collections: new Map(),
+  };
   let inside = false;
   text.split('\n').forEach((line, at) => {
     const words = tokensOf(line), [word] = words;
     if (!words.length || line.trimStart()[0] === '#') return;
     if (inside) { inside = word !== 'end'; return; }
-    if (SECTIONS.includes(line)) throw new Error(`the script has a section \`${line}\`, and the page doesn't draw the journals of its command`);
+    if (!script.section && Object.hasOwn(SECTION_LINES, line)) {
+      script.section = line;
+      return;
+    }
     try {
-      LINES[word](script, words);
+      (script.section ? SECTION_LINES[script.section] : LINES)[word](script, words);
     } catch (fault) {
       throw new Error(`the script can't be read at its line ${at}: ${line.slice(0, 80)}`);
     }
@@ -124,17 +128,27 @@ function readScript(text) {
 
 // ---- the journal ----
 
-// The acts that name a key, and those that name a query, by the part that answers them.
+// The acts that name an entity alone, those that name a key, and those that name a query, by the part that answers them.
+const WIDE = ['lock-all', 'unlock-all'];
 const KEYED = { own: ['find', 'persist', 'set', 'remove'], store: ['load', 'insert', 'update', 'delete'] };
 const OF_QUERIES = ['look', 'keep', 'check', 'list'];
 
-function entryOf(tick, session, part, act, reply) {
+// `lane` is the session's, or that of a node's fences, or null for an order of the schedule.
+function entryOf(tick, session, part, act, reply, node = 0) {
+  const lane = session === null && node ? nodeName(node) : session;
   const words = tokensOf(act), [verb] = words;
-  const keyed = part === 'region' || (KEYED[part] || []).includes(verb);
-  return { tick, session, part, act, reply, words, verb, key: keyed ? keyOf(words[1], words[2]) : '', query: OF_QUERIES.includes(verb) ? words[1] : '' };
+  const isWide = part === 'region' && WIDE.includes(verb), keyed = (part === 'region' && !isWide) || part === 'members' || (KEYED[part] || []).includes(verb);
+  const key = keyed ? keyOf(words[1], words[2]) : '', query = OF_QUERIES.includes(verb) ? words[1] : '';
+  return { tick, node, session, lane, part, act, reply, words, verb, key, entity: isWide || keyed ? words[1] : '', query };
 }
 
-const lineOf = entry => `${entry.tick} ${entry.session || '-'} ${entry.part} ${entry.act} = ${entry.reply}`;
+const lineOf = entry => `${entry.tick} ${entry.node ? entry.node + ' ' : ''}${entry.session || '-'} ${entry.part} ${entry.act} = ${entry.reply}`;
+
+// A fence locks a key at a node for no session, and gives the lock back.
+const isFence = entry => entry.node > 0 && entry.session === null;
+
+// Whether an entry changes the committed rows: a commit, or a line's bulk change.
+const isCommit = ({ part, verb, reply }) => part === 'store' && ((verb === 'commit' && reply === 'committed') || (verb === 'bulk' && reply !== 'fault'));
 
 // The number that stands behind the last such word of an act.
 const numberBehind = (entry, word) => Number(entry.words[entry.words.lastIndexOf(word) + 1]);
@@ -157,10 +171,10 @@ function replyPlace(text) {
 
 // The entry of a line of a report, or null.
 function readLine(line) {
-  const place = replyPlace(line), head = /^(\d+) (\S+) (\S+) /.exec(line);
+  const place = replyPlace(line), head = /^(\d+) (?:([12]) )?(\S+) (\S+) /.exec(line);
   if (place < 0 || !head) return null;
-  const [front, tick, session, part] = head;
-  return entryOf(Number(tick), session === '-' ? null : session, part, line.slice(front.length, place), line.slice(place + 3));
+  const [front, tick, node = 0, session, part] = head;
+  return entryOf(Number(tick), session === '-' ? null : session, part, line.slice(front.length, place), line.slice(place + 3), Number(node));
 }
 
 // The entry of a line of JSON, or null.
@@ -180,8 +194,18 @@ function readEntries(lines, read, isLast) {
   return { entries: entries.slice(0, -1), broken: true };
 }
 
-// The entries, the keys that a report names as unsound (null of JSON lines), and how the text was cut short, if it was.
-function readJournal(text) {
+// The members of owners are told from rows by the names of their collections.
+function toldApart(script, entries) {
+  for (const entry of entries) {
+    if (entry.part !== 'members') continue;
+    entry.entity = nameOfCollection(script, entry.words[1]);
+    entry.key = keyOf(entry.entity, entry.words[2]);
+  }
+  return entries;
+}
+
+// The entries, the keys that a report names as unsound (null if it names none), and how the text was cut short, if it was.
+function readJournal(text, script) {
   const lines = text.split('\n').filter(line => line !== ''), [first = ''] = lines;
   if (first[0] === '{') {
     const { entries, broken } = readEntries(lines, readJson, true);
@@ -190,8 +214,8 @@ function readJournal(text) {
   const head = /^journal (\d+)$/.exec(first);
   if (!head) throw new Error('this is neither a report, which begins with a line such as `journal 22`, nor JSON lines');
   const told = Number(head[1]), tail = lines.slice(1 + told), isCut = !tail.length;
-  const { entries } = readEntries(lines.slice(1, 1 + told), readLine, isCut);
+  const entries = toldApart(script, readEntries(lines.slice(1, 1 + told), readLine, isCut).entries);
   const from = tail.findIndex(line => /^unsound \d+$/.test(line)), count = from < 0 ? 0 : Number(tail[from].slice('unsound '.length));
   const cut = entries.length < told ? `it has ${entries.length} of ${told} entries` : tail[tail.length - 1] !== 'end' ? 'it has no line `end`' : '';
-  return { entries, unsound: tail.slice(from + 1, from + 1 + count), cut };
+  return { entries, unsound: from < 0 ? null : tail.slice(from + 1, from + 1 + count), cut };
 }

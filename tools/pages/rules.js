@@ -2,41 +2,59 @@
 // The rules of a factory, as far as a picture needs them: from the state before an entry to its reply and the state after it. They are
 // those of docs/JOURNAL.md, said a second time and not proved; the tests compare them with the replies that the program gives.
 //
-// A state has the committed rows by key, each region with its slots by key, the stamps of tables, the kept results from the one that was
-// used least recently on, the sessions, and what explains a later reply: why a key isn't in its region any more, when it was deleted,
-// since when it is unsound. `at` is always the place of an entry in the journal, and `by` a session.
+// A state has the committed rows by key, the stamps of tables, the kept results from the one that was used least recently on, the sessions,
+// and when a key was deleted. Each node has of its own each region with its slots by key, and what explains a later reply: why a key isn't
+// in its region any more, and since when it is unsound; what lines do with whole regions; and of two nodes what waits for it. `at` is always
+// the place of an entry in the journal, and `by` a session or a bulk line.
+
+function nodeAtStart(script, number) {
+  const cached = [...script.entities.values(), ...script.collections.values()].filter(({ strategy }) => strategy !== 'none');
+  const forEach = make => new Map(cached.map(({ name }) => [name, make()]));
+  return { number, regions: forEach(() => new Map()), wides: forEach(wideAtStart), gone: new Map(), unsound: new Map(), queue: [], fence: null };
+}
 
 function startState(script) {
   const state = {
-    committed: new Map(), regions: new Map(), stamps: new Map(), kept: new Map(), sessions: new Map(),
-    gone: new Map(), deleted: new Map(), unsound: new Map(), restarted: NEVER,
+    committed: new Map(), stamps: new Map(), kept: new Map(), sessions: new Map(), deleted: new Map(), restarted: NEVER,
+    collections: script.collections, members: new Map(), reused: new Map(),
+    nodes: nodesOf(script).map(number => nodeAtStart(script, number)),
   };
-  for (const [key, row] of script.rows) state.committed.set(key, { row, at: NEVER, by: null });
-  for (const entity of script.entities.values()) if (entity.strategy !== 'none') state.regions.set(entity.name, new Map());
+  for (const [key, row] of script.rows) {
+    state.committed.set(key, { row, at: NEVER, by: null });
+    moveMembers(state, key, null, row, { at: NEVER, by: null });
+  }
   return state;
 }
+
+const nodeOf = (state, number) => state.nodes.find(node => node.number === number);
 
 function sessionOf(state, name) {
   if (!state.sessions.has(name)) {
     state.sessions.set(name, {
-      name, open: false, time: 0, floor: 0, began: NEVER, killed: NEVER, outcome: '', doneAt: NEVER, stampedAt: NEVER, listedAt: NEVER, listed: '', found: null,
-      written: [], done: [], copies: new Map(), locks: new Map(), loads: new Map(),
+      name, node: 0, open: false, time: 0, floor: 0, began: NEVER, killed: NEVER, outcome: '',
+      doneAt: NEVER, stampedAt: NEVER, listedAt: NEVER, listed: '', found: null,
+      written: [], done: [], owners: [], copies: new Map(), locks: new Map(), loads: new Map(),
     });
   }
   return state.sessions.get(name);
 }
 
 const openSessions = state => [...state.sessions.values()].filter(session => session.open);
-const oldestOpen = (state, floor) => openSessions(state).find(session => session.time === floor);
-const committedRow = (state, key) => state.committed.has(key) ? state.committed.get(key).row : null;
+const openAt = (state, number) => openSessions(state).filter(session => session.node === number);
+const oldestOpen = (state, floor, number) => openAt(state, number).find(session => session.time === floor);
+// What is committed of a key, and since when; of an owner, to which nothing has referred yet, that it has no members.
+const unreferred = () => ({ row: membersRow([]), at: NEVER, by: null });
+const committedOf = (state, key) => state.committed.get(key) || (state.collections.has(entityOf(key)) ? unreferred() : undefined);
+const committedRow = (state, key) => committedOf(state, key) ? committedOf(state, key).row : null;
 const rowsOf = state => new Map([...state.committed].map(([key, { row }]) => [key, row]));
 const hasWritten = (session, key) => session.written.some(change => change.key === key);
 
 // What stands around an entry, in the state before it.
 function contextOf(script, state, entry, at) {
-  const entity = entry.key ? script.entities.get(entityOf(entry.key)) : null, region = entity ? state.regions.get(entity.name) : null;
+  const node = nodeOf(state, entry.node), entity = entry.entity ? declared(script, entry.entity) : null;
+  const region = entity ? node.regions.get(entity.name) : null;
   return {
-    script, state, entry, at, entity, region,
+    script, state, node, entry, at, entity, region,
     slot: region ? region.get(entry.key) : undefined,
     session: entry.session === null ? null : sessionOf(state, entry.session),
     query: entry.query ? script.queries.get(entry.query) : null,
@@ -50,12 +68,16 @@ function cutOff(session, at) {
   Object.assign(session, { open: false, killed: at, written: [], copies: new Map() });
 }
 
+// The floor of an entry's node: the least time of its open sessions, or the entry's tick if there is none.
+const floorAt = (state, { node, tick }) => openAt(state, node).reduce((least, { time }) => Math.min(least, time), tick);
+
 const REGISTRY = {
   begin({ state, session, entry, at }) {
     Object.assign(session, {
-      open: true, time: entry.tick, began: at, written: [], done: [], doneAt: NEVER, outcome: '', stampedAt: NEVER, locks: new Map(), loads: new Map(),
+      node: entry.node, open: true, time: entry.tick, began: at, outcome: '',
+      written: [], done: [], doneAt: NEVER, stampedAt: NEVER, locks: new Map(), loads: new Map(),
     });
-    session.floor = Math.min(...openSessions(state).map(({ time }) => time));
+    session.floor = floorAt(state, entry);
     return 'floor ' + session.floor;
   },
   end({ session }) {
@@ -68,11 +90,12 @@ const REGISTRY = {
   },
   restart({ state, at }) {
     for (const session of openSessions(state)) cutOff(session, at);
-    for (const region of state.regions.values()) {
-      for (const key of region.keys()) state.gone.set(key, { at, how: 'restart' });
-      region.clear();
+    for (const { regions, gone, unsound } of state.nodes) {
+      for (const key of [...regions.values()].flatMap(region => [...region.keys()])) gone.set(key, { at, how: 'restart' });
+      for (const region of regions.values()) region.clear();
+      unsound.clear();
     }
-    for (const part of ['stamps', 'kept', 'deleted', 'unsound']) state[part].clear();
+    for (const part of ['stamps', 'kept', 'deleted']) state[part].clear();
     state.restarted = at;
     return 'done';
   },
@@ -141,17 +164,29 @@ function refusalOf(state, written) {
   return '';
 }
 
+const isGuarded = (script, key) => script.entities.get(entityOf(key)).strategy === 'read-write';
+
 // A read-write key that is inserted after it was deleted is unsound: its versions begin anew.
 function noteReuse({ script, state, session, at }) {
   for (const { kind, key } of session.written) {
-    const isGuarded = script.entities.get(entityOf(key)).strategy === 'read-write';
-    if (kind !== 'insert' || !isGuarded || !state.deleted.has(key) || state.unsound.has(key)) continue;
-    state.unsound.set(key, { at, cause: 'reused', deletedAt: state.deleted.get(key).at });
+    if (kind !== 'insert' || !state.deleted.has(key)) continue;
+    const reused = { at, cause: 'reused', deletedAt: state.deleted.get(key).at, key };
+    for (const { name, entity } of script.collections.values()) if (entity === entityOf(key) && !state.reused.has(name)) state.reused.set(name, reused);
+    if (!isGuarded(script, key)) continue;
+    for (const { unsound } of state.nodes) if (!unsound.has(key)) unsound.set(key, reused);
   }
 }
 
-function applyWritten({ state, session, at }) {
-  for (const { key, row } of session.written) {
+// What a commit has changed in read-write regions waits for the other node, if there is one: each key once.
+function tellOthers({ script, state, session, entry, at }) {
+  const keys = [...new Set(session.written.map(({ key }) => key))].filter(key => isGuarded(script, key));
+  for (const { number, queue } of state.nodes) if (number !== entry.node) queue.push(...keys.map(key => ({ key, at, by: session.name })));
+}
+
+function applyChanges({ state, session, at }, changes) {
+  session.owners = [];
+  for (const { key, row } of changes) {
+    session.owners.push(...moveMembers(state, key, committedRow(state, key), row, { at, by: session.name }));
     if (row) state.committed.set(key, { row, at, by: session.name }); else state.committed.delete(key);
     if (!row) state.deleted.set(key, { at, by: session.name });
   }
@@ -178,7 +213,8 @@ const STORE = {
       session.copies = new Map();
     } else {
       noteReuse(context);
-      applyWritten(context);
+      applyChanges(context, session.written);
+      tellOthers(context);
     }
     Object.assign(session, { done: session.written, doneAt: refusal ? NEVER : at, written: [], outcome: refusal ? refusal.split(' ')[0] : 'committed' });
     return refusal || 'committed';
@@ -203,8 +239,14 @@ function isNewer(old, version) {
   return old !== NO_VERSION && version !== NO_VERSION && Number(old.slice(1)) < Number(version.slice(1));
 }
 
+// The row that a put offers.
+const offeredRow = entry => entry.part === 'members' ? rowOf([NO_VERSION, entry.words[3]]) : rowIn(entry, 3, 'at');
+
 // The load from which a session has the row that it offers.
-const loadBehind = ({ session, entry }) => session && session.loads.has(entry.key) ? session.loads.get(entry.key) : NEVER;
+function loadBehind({ session, entry }) {
+  if (entry.part === 'members') return session.listedAt;
+  return session && session.loads.has(entry.key) ? session.loads.get(entry.key) : NEVER;
+}
 
 // Who leaves a region for a new key: a key, `''` if there is room, or null if nobody may leave.
 function leaverOf({ entity, region }, floor) {
@@ -216,18 +258,18 @@ function leaverOf({ entity, region }, floor) {
 }
 
 // Places a slot for a new key; answers what the reply says of the one that leaves.
-function place({ state, region, entry, at }, slot, leaver) {
+function place({ node, region, entry, at }, slot, leaver) {
   if (leaver) {
     region.delete(leaver);
-    state.gone.set(leaver, { at, how: 'left' });
+    node.gone.set(leaver, { at, how: 'left' });
   }
   region.set(entry.key, slot);
   return leaver ? ' evicted ' + leaver.split(' ')[1] : '';
 }
 
-function takeOut({ state, region, entry, at }, how) {
+function takeOut({ node, region, entry, at }, how) {
   region.delete(entry.key);
-  state.gone.set(entry.key, { at, how });
+  node.gone.set(entry.key, { at, how });
   return how;
 }
 
@@ -247,10 +289,11 @@ function expire(context) {
   return 'expired';
 }
 
-// A holder gives a lock back; answers how many are left.
-function giveBack({ slot, entry, at }) {
+// A holder gives a lock back; answers how many are left. Of a fence, `told` is the commit that its node is told of.
+function giveBack({ node, slot, entry, at }) {
   slot.holders = slot.holders.filter(holder => holder.by !== entry.session);
-  if (!slot.holders.length) slot.release = { tick: entry.tick, at, by: entry.session, how: 'given back' };
+  const how = isFence(entry) ? 'fenced' : 'given back';
+  if (!slot.holders.length) slot.release = { tick: entry.tick, at, by: entry.session, how, told: node.fence };
   return slot.holders.length;
 }
 
@@ -263,7 +306,7 @@ const REGION = {
     return entity.strategy === 'nonstrict' || numberBehind(entry, 'at') > slot.tick ? 'hit ' + rowText(slot.row) : 'miss young ' + slot.tick;
   },
   put(context) {
-    const { entity, region, slot, entry } = context, item = itemOf(context, rowIn(entry, 3, 'at'), loadBehind(context));
+    const { entity, region, slot, entry } = context, item = itemOf(context, offeredRow(entry), loadBehind(context));
     if (!slot) {
       const leaver = leaverOf(context, numberBehind(entry, 'floor'));
       return leaver === null ? 'crowded' : 'stored' + place(context, item, leaver);
@@ -357,80 +400,3 @@ const RESULTS = {
     return dropped ? 'kept dropped ' + dropped : 'kept';
   },
 };
-
-// ---- a step ----
-
-const REPLIES = { registry: REGISTRY, own: OWN, store: STORE, region: REGION, stamps: STAMPS, results: RESULTS };
-
-// What a session remembers of a reply: the row that it got, its locks, its list.
-function remember({ session, entry, at }) {
-  if (!session) return;
-  const got = /^(?:hit|row) (v.*)$/.exec(entry.reply);
-  if (got && entry.part !== 'own') {
-    session.copies.set(entry.key, managed(rowOf(tokensOf(got[1])), at));
-    session.loads.set(entry.key, at);
-  }
-  if (entry.part === 'region' && entry.verb === 'lock') session.locks.set(entry.key, Number(entry.reply.split(' ')[1]));
-  if (entry.part === 'region' && ['unlock', 'after-update'].includes(entry.verb)) session.locks.delete(entry.key);
-  if (entry.part === 'store' && entry.verb === 'list') Object.assign(session, { listedAt: at, listed: entry.reply.slice('list '.length) });
-}
-
-function noteExpired({ state, entry, at }) {
-  const cause = entry.reply === 'expired' ? 'expired' : / late$/.test(entry.reply) ? 'late' : '';
-  if (entry.part === 'region' && cause && !state.unsound.has(entry.key)) state.unsound.set(entry.key, { at, cause });
-}
-
-// A load that says something else than the state is believed, so that a run over a file with rows of its own can be drawn too.
-function believe({ state, entry }) {
-  if (entry.part !== 'store' || entry.verb !== 'load') return;
-  if (entry.reply === 'none') state.committed.delete(entry.key);
-  else state.committed.set(entry.key, { row: rowOf(tokensOf(entry.reply.slice('row '.length))), at: NEVER, by: null });
-}
-
-// The store may answer a fault whenever it is asked.
-const isFault = entry => entry.part === 'store' && entry.reply === 'fault';
-
-// The reply that is due, or null if the entry can't come here; the state becomes that after the entry.
-function dueReply(context) {
-  try {
-    return REPLIES[context.entry.part][context.entry.verb](context);
-  } catch (fault) {
-    return null;
-  }
-}
-
-// What an act says of its session: its time, its floor, the lock that it got, the row or the list that it was told, the version that it
-// writes. An act whose verb isn't here says nothing of it.
-const SAYS = {
-  get: ({ session, entry }) => numberBehind(entry, 'at') === session.time,
-  put({ session, entry }) {
-    const copy = session.copies.get(entry.key), isOwnRow = copy && rowText(rowIn(entry, 3, 'at')) === rowText(copy.base);
-    return isOwnRow && numberBehind(entry, 'at') === session.time && numberBehind(entry, 'floor') === session.floor;
-  },
-  lock: ({ session, entry }) => numberBehind(entry, 'floor') === session.floor,
-  'after-insert': ({ session, entry }) => numberBehind(entry, 'floor') === session.floor,
-  unlock: ({ session, entry }) => numberBehind(entry, 'lock') === session.locks.get(entry.key),
-  'after-update': ({ session, entry }) => Number(entry.words[4]) === session.locks.get(entry.key),
-  update({ entity, entry }) {
-    const [expected, version] = entry.words.slice(3, 5);
-    return entity.versioned ? Number(version.slice(1)) === Number(expected.slice(1)) + 1 : version === NO_VERSION;
-  },
-  check: ({ session, entry }) => Boolean(session.found) && numberBehind(entry, 'at') === session.found.time,
-  keep: ({ session, entry }) => Number(entry.words[3]) === session.time && entry.act.endsWith(session.listed),
-};
-
-// Whether an act can be of its session as it stands. Which act is due isn't looked at.
-function isOwnAct(context) {
-  const { session, entry } = context, says = SAYS[entry.verb];
-  if (!session) return true;
-  return session.open === (entry.verb !== 'begin') && (!says || Boolean(says(context)));
-}
-
-// Takes one entry, and answers whether its act and its reply follow from the state; `due` is the reply that was.
-function step(script, state, entry, at) {
-  const context = contextOf(script, state, entry, at), isAct = isOwnAct(context), due = dueReply(context), isReply = due === entry.reply || isFault(entry);
-  if (!isReply) believe(context);
-  remember(context);
-  noteExpired(context);
-  return { due, isAct, isReply, follows: isAct && isReply };
-}

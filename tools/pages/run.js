@@ -12,8 +12,9 @@ function checkNames(script, entries) {
   const sessions = new Set(script.sessions);
   for (const entry of entries) {
     const missing = entry.session !== null && !sessions.has(entry.session) ? 'session ' + entry.session :
-      entry.key && !script.entities.has(entityOf(entry.key)) ? 'entity ' + entityOf(entry.key) :
-        entry.query && !script.queries.has(entry.query) ? 'query ' + entry.query : '';
+      entry.entity && !(entry.part === 'members' ? script.collections : script.entities).has(entry.entity) ? `entity or collection ${entry.entity}` :
+        entry.query && !script.queries.has(entry.query) ? 'query ' + entry.query :
+          nodesOf(script).includes(entry.node) ? '' : entry.node ? nodeName(entry.node) : 'entry without a node';
     if (missing) throw new Error(`the report is of another script: there is no ${missing}, as in its line ${lineOf(entry)}`);
     if (!(REPLIES[entry.part] || {})[entry.verb]) throw new Error(`this line of the journal is no entry: ${lineOf(entry)}`);
   }
@@ -21,17 +22,23 @@ function checkNames(script, entries) {
 
 // ---- lanes: what a key, a query or a table shows, from which entry to which ----
 
-// How a key's slot looks at a tick.
-function lookOfSlot(state, key, tick) {
-  const region = state.regions.get(entityOf(key)), slot = region && region.get(key);
+const holderText = (state, { by, at }) => by === null ? 'a fence' : by + (state.sessions.get(by).killed > at ? ' (killed)' : '');
+
+// Whether an item isn't the committed row, or counts as old since a line has locked its whole region.
+const isOldSlot = (state, { wides }, key, slot) => rowText(committedRow(state, key)) !== rowText(slot.row) || isOldItem(wides.get(entityOf(key)), slot);
+
+// How a key's slot at a node looks at a tick.
+function lookOfSlot(state, node, key, tick) {
+  const region = node.regions.get(entityOf(key)), slot = region && region.get(key);
   if (!slot) return { kind: 'none', text: '' };
-  if (slot.kind === 'item') return { kind: 'item', text: briefRow(slot.row), isStale: rowText(committedRow(state, key)) !== rowText(slot.row) };
+  if (slot.kind === 'item') return { kind: 'item', text: briefRow(slot.row), isStale: isOldSlot(state, node, key, slot) };
   if (!isHeld(slot)) return { kind: 'released', text: 'released ' + slot.release.tick };
-  const isOver = tick > slot.until, holders = slot.holders.map(({ by, at }) => by + (state.sessions.get(by).killed > at ? ' (killed)' : '')).join(', ');
+  if (slot.holders.every(({ by }) => by === null)) return { kind: 'lock', text: 'fence', isOver: false, until: slot.until };
+  const isOver = tick > slot.until, holders = slot.holders.map(holder => holderText(state, holder)).join(', ');
   return { kind: 'lock', text: (isOver ? 'lock, time over: ' : 'locked: ') + holders, isOver, until: slot.until };
 }
 
-const lookOfRow = (state, key) => state.committed.has(key) ? { kind: 'row', text: briefRow(committedRow(state, key)) } : { kind: 'none', text: '' };
+const lookOfRow = (state, key) => committedOf(state, key) ? { kind: 'row', text: briefRow(committedRow(state, key)) } : { kind: 'none', text: '' };
 const lookOfStamp = stamp => stamp ? { kind: stamp.ahead ? 'ahead' : 'row', text: String(stamp.value), of: stamp } : { kind: 'none', text: '' };
 const lookOfKept = (kept, now) => kept ? { kind: 'item', text: kept.list, isStale: kept.list !== now, of: kept } : { kind: 'none', text: '' };
 
@@ -43,13 +50,13 @@ function show(lane, at, look) {
   lane.push({ from: at, to: null, ...look });
 }
 
-// The lanes of a key: what is committed, what its region has, and from where to where it is unsound. `touches` are its entries.
+// The lanes of a key: what is committed, what its region has at each node, and from where to where it is unsound. `touches` are its entries.
 function keyLanes(run, state, key) {
   if (!run.keys.has(key)) {
-    const isCached = run.script.entities.get(entityOf(key)).strategy !== 'none';
-    const lanes = { key, isCached, store: [], cache: [], unsound: [], touches: [] };
+    const isCached = declared(run.script, entityOf(key)).strategy !== 'none';
+    const lanes = { key, isCached, store: [], caches: new Map(), unsound: [], touches: [] };
     show(lanes.store, NEVER, lookOfRow(state, key));
-    show(lanes.cache, NEVER, { kind: 'none', text: '' });
+    for (const { number } of state.nodes) lanes.caches.set(number, [{ from: NEVER, to: null, kind: 'none', text: '' }]);
     run.keys.set(key, lanes);
   }
   return run.keys.get(key);
@@ -72,15 +79,17 @@ function queryLanes(run, state) {
   }
 }
 
-// The keys that an entry names: its own, and the one that leaves for it.
-function keysIn(entry) {
-  const left = entry.part === 'region' ? / evicted (\d+)/.exec(entry.reply) : null;
-  return [...(entry.key ? [entry.key] : []), ...(left ? [keyOf(entry.words[1], left[1])] : [])];
+// The keys that an entry names: its own, the one that leaves for it, and those that a line is to change.
+function keysIn(run, state, entry) {
+  const left = isOfCache(entry) ? / evicted (\d+)/.exec(entry.reply) : null, line = entry.verb === 'bulk' ? run.script.lines.get(entry.words[1]) : null;
+  const changed = line ? changesOfLine(run.script, state, line).map(({ key }) => key) : [], own = entry.key || ownerOf(run.script, entry);
+  return [...(own ? [own] : []), ...(left ? [keyOf(entry.entity, left[1])] : []), ...changed];
 }
 
 // The keys whose lanes may look otherwise after an entry.
 function keysChangedBy(run, state, entry) {
-  const keys = new Set(keysIn(entry));
+  const keys = new Set(keysIn(run, state, entry));
+  if (WIDE.includes(entry.verb)) for (const key of run.keys.keys()) if (entityOf(key) === entry.entity) keys.add(key);
   if (entry.verb === 'restart') for (const key of run.keys.keys()) keys.add(key);
   if (entry.verb === 'kill') for (const key of run.locked) keys.add(key);
   for (const [key, until] of run.goodUntil) if (entry.tick > until) keys.add(key);
@@ -88,19 +97,42 @@ function keysChangedBy(run, state, entry) {
 }
 
 // Which keys are locked, and until when those that are drawn as good are.
-function noteLook(run, key, { kind, isOver, until }) {
-  if (kind === 'lock') run.locked.add(key); else run.locked.delete(key);
-  if (kind === 'lock' && !isOver) run.goodUntil.set(key, until); else run.goodUntil.delete(key);
+function noteLooks(run, key, looks) {
+  const locks = looks.filter(({ kind }) => kind === 'lock'), good = locks.filter(({ isOver }) => !isOver).map(({ until }) => until);
+  if (locks.length) run.locked.add(key); else run.locked.delete(key);
+  if (good.length) run.goodUntil.set(key, Math.min(...good)); else run.goodUntil.delete(key);
 }
 
 function showKeys(run, state, keys, tick, at) {
   for (const key of keys) {
-    const lanes = keyLanes(run, state, key), look = lookOfSlot(state, key, tick);
+    const lanes = keyLanes(run, state, key), looks = state.nodes.map(node => lookOfSlot(state, node, key, tick));
     show(lanes.store, at, lookOfRow(state, key));
-    show(lanes.cache, at, look);
-    noteLook(run, key, look);
+    state.nodes.forEach(({ number }, n) => show(lanes.caches.get(number), at, looks[n]));
+    noteLooks(run, key, looks);
   }
 }
+
+// What waits for a node, of much the first.
+function lookOfQueue({ queue }) {
+  const more = queue.length > 3 ? ` and ${queue.length - 3} more` : '';
+  return { kind: queue.length ? 'ahead' : 'none', text: queue.slice(0, 3).map(({ key }) => key).join(', ') + more };
+}
+
+// What lines do with the whole region of an entity.
+function lookOfWide({ holders, given }) {
+  if (holders.length) return { kind: 'lock', text: 'locked: ' + holders.map(({ by }) => by).join(', ') };
+  return given ? { kind: 'released', text: 'released ' + given.tick } : { kind: 'none', text: '' };
+}
+
+function showWides(run, state, at) {
+  for (const [name, wide] of state.nodes[0].wides) if (run.wides.has(name)) show(run.wides.get(name), at, lookOfWide(wide));
+}
+
+// How the lane of a whole region is called.
+const wholeOf = name => 'all of ' + name;
+
+const isEverShown = segments => segments.some(({ kind }) => kind !== 'none');
+const showQueues = (run, state, at) => state.nodes.forEach(node => show(run.queues.get(node.number), at, lookOfQueue(node)));
 
 // Results and stamps change with their own entries, and what a query gives with a commit.
 function showQueries(run, state, entry, at) {
@@ -126,9 +158,9 @@ function judgeRead(run, at, read, story) {
 // The mark of an entry, with what is judged of it.
 function judge(run, context) {
   const { state, session, slot, entry, at } = context;
-  if (entry.part === 'region' && entry.reply.startsWith('hit ') && slot && slot.kind === 'item') {
+  if (isOfCache(entry) && entry.reply.startsWith('hit ') && slot && slot.kind === 'item') {
     const isStale = rowText(committedRow(state, entry.key)) !== rowText(slot.row);
-    const read = { keptAt: slot.at, loadedAt: slot.how === 'put' ? slot.loadedAt : NEVER, key: entry.key, isStale };
+    const read = { keptAt: slot.at, loadedAt: slot.how === 'put' ? slot.loadedAt : NEVER, key: entry.key, node: entry.node, isStale };
     if (judgeRead(run, at, read, () => staleHit(run, context))) return 'stale';
   }
   if (entry.verb === 'check' && entry.reply === 'fresh' && run.queries.has(entry.query) && session.found) {
@@ -164,21 +196,22 @@ function noteTransaction(run, entry, at) {
 }
 
 function noteLock(run, entry, at) {
-  const name = entry.session + ' ' + entry.key, end = id => { run.openLocks.get(id).to = at; run.openLocks.delete(id); };
+  const locked = WIDE.includes(entry.verb) ? wholeOf(entry.entity) : entry.key, name = entry.lane + ' ' + locked;
+  const end = id => { run.openLocks.get(id).to = at; run.openLocks.delete(id); };
   if (entry.verb === 'restart') for (const id of [...run.openLocks.keys()]) end(id);
-  if (entry.part !== 'region') return;
-  if (entry.verb === 'lock') {
-    const lock = { session: entry.session, key: entry.key, from: at, to: null };
+  if (!isOfCache(entry)) return;
+  if (['lock', 'lock-all'].includes(entry.verb)) {
+    const lock = { lane: entry.lane, key: locked, from: at, to: null };
     run.openLocks.set(name, lock);
     run.locks.push(lock);
   }
-  if (['unlock', 'after-update'].includes(entry.verb) && run.openLocks.has(name)) end(name);
+  if (['unlock', 'unlock-all', 'after-update'].includes(entry.verb) && run.openLocks.has(name)) end(name);
 }
 
-// What a commit changed: its keys, and what queries give from here on. Answers the keys.
+// What a commit or a line changed: its keys, and what queries give from here on. Answers the keys.
 function noteCommit(run, state, entry, at) {
-  if (entry.verb !== 'commit' || entry.reply !== 'committed') return [];
-  const session = sessionOf(state, entry.session), keys = [...new Set(session.done.map(change => change.key))];
+  if (!isCommit(entry)) return [];
+  const session = sessionOf(state, entry.session), keys = [...new Set([...session.done.map(change => change.key), ...session.owners])];
   for (const key of keys) {
     keyLanes(run, state, key).touches.push(at);
     if (!run.commits.has(key)) run.commits.set(key, []);
@@ -198,30 +231,34 @@ function noteCommit(run, state, entry, at) {
 
 // Notes which keys are unsound from here on, or no longer; answers the new ones. Keys are added, or a restart takes all of them out.
 function noteUnsound(run, state, at) {
-  if (state.unsound.size === run.unsoundNow.size) return [];
-  const added = [...state.unsound.keys()].filter(key => !run.unsoundNow.has(key));
+  return state.nodes.flatMap(node => noteUnsoundAt(run, state, node, at));
+}
+
+function noteUnsoundAt(run, state, { number, unsound: now }, at) {
+  const before = run.unsoundNow.get(number), added = now.size === before.size ? [] : [...now.keys()].filter(key => !before.has(key));
+  if (now.size === before.size) return [];
   for (const key of added) {
-    const unsound = state.unsound.get(key);
-    keyLanes(run, state, key).unsound.push({ from: at, to: null, ...unsound });
-    run.unsound.push({ key, at, text: UNSOUND[unsound.cause](unsound) });
+    const unsound = now.get(key);
+    keyLanes(run, state, key).unsound.push({ node: number, from: at, to: null, ...unsound });
+    run.unsound.push({ key, node: number, at, text: UNSOUND[unsound.cause](unsound) });
   }
-  for (const key of run.unsoundNow) if (!state.unsound.has(key)) keyLanes(run, state, key).unsound.slice(-1)[0].to = at;
-  run.unsoundNow = new Set(state.unsound.keys());
+  for (const key of before) if (!now.has(key)) keyLanes(run, state, key).unsound.filter(({ node }) => node === number).slice(-1)[0].to = at;
+  run.unsoundNow.set(number, new Set(now.keys()));
   return added;
 }
 
 // An old item that was read is drawn otherwise than one that lay there.
 function markServed(run) {
-  for (const { isStale, key, query, to } of run.reads) {
+  for (const { isStale, key, node, query, to } of run.reads) {
     if (!isStale) continue;
-    const lane = key ? run.keys.get(key).cache : run.queries.get(query).kept;
+    const lane = key ? run.keys.get(key).caches.get(node) : run.queries.get(query).kept;
     const segment = lane.find(one => one.from < to && (one.to === null || one.to >= to));
     if (segment) segment.isServed = true;
   }
 }
 
 function touch(run, state, entry, at) {
-  for (const key of keysIn(entry)) keyLanes(run, state, key).touches.push(at);
+  for (const key of keysIn(run, state, entry)) keyLanes(run, state, key).touches.push(at);
   if (run.queries.has(entry.query)) run.queries.get(entry.query).touches.push(at);
 }
 
@@ -231,12 +268,19 @@ function analyse(script, journal) {
   const run = {
     script, journal, entries,
     // what is drawn, and what is told
-    transactions: [], locks: [], keys: new Map(), queries: new Map(), tables: new Map(),
+    transactions: [], locks: [], keys: new Map(), queries: new Map(), tables: new Map(), queues: new Map(), wides: new Map(),
     reads: [], stale: new Set(), findings: [], oldCopies: [], unsound: [], odd: [], marks: [], said: [],
     // what is known on the way
-    open: new Map(), openLocks: new Map(), locked: new Set(), goodUntil: new Map(), unsoundNow: new Set(), commits: new Map(), tableCommits: [],
+    open: new Map(), openLocks: new Map(), locked: new Set(), goodUntil: new Map(), unsoundNow: new Map(), commits: new Map(), tableCommits: [],
   };
   queryLanes(run, state);
+  for (const { number } of state.nodes) {
+    run.unsoundNow.set(number, new Set());
+    run.queues.set(number, []);
+  }
+  for (const { entity } of script.lines.values()) run.wides.set(entity, []);
+  showQueues(run, state, NEVER);
+  showWides(run, state, NEVER);
   entries.forEach((entry, at) => {
     touch(run, state, entry, at);
     const changed = keysChangedBy(run, state, entry);
@@ -249,6 +293,8 @@ function analyse(script, journal) {
     for (const key of [...noteUnsound(run, state, at), ...noteCommit(run, state, entry, at)]) changed.add(key);
     showKeys(run, state, changed, entry.tick, at);
     showQueries(run, state, entry, at);
+    showQueues(run, state, at);
+    showWides(run, state, at);
   });
   markServed(run);
   run.end = state;

@@ -16,7 +16,7 @@ const firstWord = text => text.split(' ')[0];
 // A row with the names of its columns.
 function named(script, key, row) {
   if (!row) return 'no row';
-  const { columns } = script.entities.get(entityOf(key));
+  const { columns } = declared(script, entityOf(key));
   const cells = row.cells.map((cell, i) => columns[i] ? `${columns[i].name} ${cell}` : cell);
   return (row.version === NO_VERSION ? cells : [row.version, ...cells]).join(' ');
 }
@@ -24,7 +24,7 @@ function named(script, key, row) {
 // What differs between two rows of a key, of each: `price 30` against `price 20`.
 function difference(script, key, one, other) {
   if (!one || !other) return [named(script, key, one), named(script, key, other)];
-  const { columns } = script.entities.get(entityOf(key)), places = columns.map((column, i) => i).filter(i => one.cells[i] !== other.cells[i]);
+  const { columns } = declared(script, entityOf(key)), places = columns.map((column, i) => i).filter(i => one.cells[i] !== other.cells[i]);
   if (!places.length) return [one.version, other.version];
   return [one, other].map(row => places.map(i => `${columns[i].name} ${row.cells[i]}`).join(', '));
 }
@@ -36,11 +36,16 @@ const storedBy = item => `${STORED[item.how]} ${code(item.by)} at ${ref(item.at)
 
 const SLOW_OR_DEAD = "The cache can't tell a dead holder from a slow one";
 
-function holdersOf(state, lock) {
-  return listed(lock.holders.map(({ by, at }) => `${code(by)} (since ${ref(at)}${state.sessions.get(by).killed > at ? ', killed' : ''})`));
-}
+const holderOf = (state, { by, at }) => by === null ? `a fence (since ${ref(at)})` :
+  `${code(by)} (since ${ref(at)}${state.sessions.get(by).killed > at ? ', killed' : ''})`;
+const holdersOf = (state, lock) => listed(lock.holders.map(holder => holderOf(state, holder)));
+
+// The commit of which a node is told by a fence.
+const toldOf = ({ at, by }) => `the change that ${code(by)} committed at ${ref(at)}`;
 
 function releasedBy({ release }, script) {
+  if (release.how === 'fenced') return `a fence ended at ${ref(release.at)}, since the node was told of ${toldOf(release.told)}`;
+  if (release.how === 'swept') return `an old item was dropped at ${ref(release.at)}`;
   if (release.how === 'evicted') return `the key was evicted at ${ref(release.at)}`;
   if (release.how !== 'expired') return `${code(release.by)} gave the lock back at ${ref(release.at)}`;
   return `a lock had run out and was given back too late at ${ref(release.at)}; puts are barred for ${count(script.timeout, 'tick')} after that`;
@@ -53,14 +58,15 @@ const GONE = {
   restart: at => `the restart at ${ref(at)} emptied the cache`,
 };
 
-function absentSince({ state, entry }) {
-  const gone = state.gone.get(entry.key);
+function absentSince({ node, entry }) {
+  const gone = node.gone.get(entry.key);
   return gone ? GONE[gone.how](gone.at) : 'nobody has put it there yet';
 }
 
 // Why nobody may leave a full region.
 function whyCrowded({ state, entity, region, entry }) {
-  const floor = numberBehind(entry, 'floor'), oldest = oldestOpen(state, floor), began = oldest ? `, at which ${code(oldest.name)} began, who is open` : '';
+  const floor = numberBehind(entry, 'floor'), oldest = oldestOpen(state, floor, entry.node);
+  const began = oldest ? `, at which ${code(oldest.name)} began, who is open` : '';
   const some = [...region].slice(0, 3).map(([key, slot]) => `${code(key)} is ${isHeld(slot) ? 'locked' : `of the tick ${tickOfSlot(slot)}`}`);
   return `The cache of ${code(entity.name)} is full (${region.size} of ${entity.capacity}), and nothing in it is older than the floor ${floor}${began}: ` +
     `${listed(some)}${region.size > 3 ? ', and so on' : ''}.`;
@@ -76,9 +82,10 @@ function leaverText({ entity, entry }) {
 
 const REGISTRY_TEXTS = {
   begin({ state, entry, me }) {
-    const floor = Number(entry.reply.split(' ')[1]), oldest = oldestOpen(state, floor);
-    const others = oldest ? `The floor is ${floor}: ${code(oldest.name)} is the oldest that is open.` : 'Nobody who is open began before.';
-    return `A transaction of ${me} begins. Its time is ${entry.tick}. ${others}`;
+    const floor = Number(entry.reply.split(' ')[1]), oldest = oldestOpen(state, floor, entry.node), where = atNode(entry.node);
+    const others = oldest ? `The floor is ${floor}: ${code(oldest.name)} is the oldest that is open${where}.` :
+      `Nobody who is open${where} began before.`;
+    return `A transaction of ${me} begins${where}. Its time is ${entry.tick}. ${others}`;
   },
   end: ({ entry, me }) => `The transaction of ${me} ends: ${entry.reply}.`,
   kill({ state, entry }) {
@@ -147,6 +154,12 @@ function refusedCommitText(context) {
   return `${front} ${change.kind} ${code(key)}${expected}, and ${foundText(context, key)}.`;
 }
 
+// For which node a commit's changes are to wait.
+function waitsText({ script, session, entry }) {
+  const others = nodesOf(script).filter(number => number !== entry.node).map(nodeName);
+  return others.length && session.written.some(({ key }) => isGuarded(script, key)) ? ` The cache of ${listed(others)} isn't told yet.` : '';
+}
+
 const STORE_TEXTS = {
   load({ state, session, entry, me, key }) {
     const now = state.committed.get(entry.key), front = `${me} asks the store for ${key}.`;
@@ -166,7 +179,7 @@ const STORE_TEXTS = {
     if (isFault(entry)) return `The store fails, and nothing of ${me} is committed.`;
     if (entry.reply !== 'committed') return refusedCommitText(context);
     if (!keys.length) return `${me} commits. It has written nothing.`;
-    return `${me} commits: ${codes(keys)} ${keys.length === 1 ? 'is' : 'are'} changed for all from here on.`;
+    return `${me} commits: ${codes(keys)} ${keys.length === 1 ? 'is' : 'are'} changed for all from here on.${waitsText(context)}`;
   },
   rollback({ session, me }) {
     const changes = session.written.length;
@@ -176,18 +189,23 @@ const STORE_TEXTS = {
 
 // ---- regions ----
 
-function hitText({ script, state, slot, entry }) {
-  const now = state.committed.get(entry.key);
-  if (now && rowText(now.row) === rowText(slot.row)) return `It gets the committed row, ${storedBy(slot)}.`;
+// The commits on a key of which a node isn't told yet.
+const untoldOf = ({ queue }, key) => queue.filter(waiting => waiting.key === key);
+
+function hitText({ script, state, node, slot, entry }) {
+  const now = committedOf(state, entry.key), what = entry.part === 'members' ? 'members' : 'row';
+  if (now && rowText(now.row) === rowText(slot.row)) return `It gets the committed ${what}, ${storedBy(slot)}.`;
   const [old, fresh] = difference(script, entry.key, slot.row, now && now.row);
-  const truth = now ? `the committed row has ${code(fresh)} ${since(now.at)}` : 'the row is deleted';
-  return `**A stale read:** it gets ${code(old)}, ${storedBy(slot)}; ${truth}.`;
+  const truth = now ? `the committed ${what} ${what === 'row' ? 'has' : 'are'} ${code(fresh)} ${since(now.at)}` : 'the row is deleted';
+  const untold = untoldOf(node, entry.key).length ? ` The change waits for ${nodeName(node.number)} still.` : '';
+  return `**A stale read:** it gets ${code(old)}, ${storedBy(slot)}; ${truth}.${untold}`;
 }
 
 const MISSES = {
   absent: context => `A miss: ${absentSince(context)}.`,
   locked: ({ state, slot }) => `A miss: the key is locked by ${holdersOf(state, slot)}.`,
   released: ({ script, slot }) => `A miss: there is a released lock; ${releasedBy(slot, script)}.`,
+  wide: context => `A miss: the whole region is locked by ${wideHolders(context)}.`,
   young: ({ slot, entry }) => `A miss: there is an item, ${storedBy(slot)}, and the session began at ${numberBehind(entry, 'at')}, not after that.`,
 };
 
@@ -199,7 +217,7 @@ function lateText({ script, state, slot, entry }) {
 
 // Why a put was taken over what was there.
 function takenText({ slot, entry }) {
-  const { version } = rowIn(entry, 3, 'at');
+  const { version } = offeredRow(entry);
   if (slot.kind === 'item') return `its version ${version} is above that of the item, ${slot.row.version}`;
   if (numberBehind(entry, 'at') > slot.until) return `the released lock was good until ${slot.until}, and the session began after that`;
   if (!slot.shared && slot.version !== NO_VERSION) return `its version ${version} is above ${slot.version}, over which the lock was taken`;
@@ -215,7 +233,7 @@ const PUTS = {
     return `It is stored: the cache had nothing for the key (${absentSince(context)}).${leaverText(context)}${nonstrict}`;
   },
   present({ slot, entry }) {
-    const { version } = slot.row, versions = `its version is ${version}, the offered one ${rowIn(entry, 3, 'at').version}`;
+    const { version } = slot.row, versions = `its version is ${version}, the offered one ${offeredRow(entry).version}`;
     return `Refused: an item is there, ${storedBy(slot)}, and ${version === NO_VERSION ? 'the rows have no versions' : versions}.`;
   },
   held({ state, slot }) {
@@ -226,9 +244,11 @@ const PUTS = {
     return `Refused: ${releasedBy(slot, script)}. ${me} began at ${numberBehind(entry, 'at')}, and what it loaded may be from before that.`;
   },
   old({ slot, entry }) {
-    return `Refused: the released lock was taken over a row of the version ${slot.version}, and the offered one is ${rowIn(entry, 3, 'at').version}.`;
+    return `Refused: the released lock was taken over a row of the version ${slot.version}, and the offered one is ${offeredRow(entry).version}.`;
   },
   crowded: context => 'Refused. ' + whyCrowded(context),
+  wide: context => barText(context),
+  'wide-early': context => barText(context),
 };
 
 // What was there when a lock was taken.
@@ -249,6 +269,8 @@ const INSERTED = {
   stored: context => 'It is stored.' + leaverText(context),
   present: () => 'Refused: the key has an entry.',
   crowded: context => 'Refused. ' + whyCrowded(context),
+  wide: context => barText(context),
+  'wide-early': context => barText(context),
 };
 
 const EVICTIONS = {
@@ -280,6 +302,7 @@ const REGION_TEXTS = {
     const word = firstWord(context.entry.reply), front = `${context.me} gives its lock on ${context.key} back`;
     if (word === 'expired') return expiredText(context);
     if (word === 'stored') return `${front}, and its committed row takes the place.`;
+    if (!context.slot.shared) return `${front}. Its row isn't stored, since a line has locked the whole region meanwhile.`;
     return `${front}. Its row isn't stored, since another session that held the lock may be about to commit.`;
   },
   'after-insert': context => `${context.me} offers the cache the row that it has inserted. ${INSERTED[firstWord(context.entry.reply)](context)}`,
@@ -332,17 +355,3 @@ const RESULTS_TEXTS = {
     return `${me} keeps the result of ${code(entry.query)} with its own time, ${entry.words[3]}, which is before all that it has read.${left}`;
   },
 };
-
-// ---- all of them ----
-
-const TEXTS = { registry: REGISTRY_TEXTS, own: OWN_TEXTS, store: STORE_TEXTS, region: REGION_TEXTS, stamps: STAMPS_TEXTS, results: RESULTS_TEXTS };
-
-// What an entry means, from the state before it; nothing if it can't come there.
-function explain(script, state, entry, at) {
-  const context = { ...contextOf(script, state, entry, at), me: code(entry.session || '-'), key: code(entry.key) };
-  try {
-    return TEXTS[entry.part][entry.verb](context);
-  } catch (fault) {
-    return '';
-  }
-}

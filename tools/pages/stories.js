@@ -23,11 +23,12 @@ function changesBetween(run, key, from, to) {
 }
 
 function tellChanges(steps, run, { script, entry }, { first, last, told }, old, fresh) {
-  const key = code(entry.key), all = run.commits.get(entry.key) || [];
+  const key = code(entry.key), all = run.commits.get(entry.key) || [], what = entry.part === 'members' ? 'What was listed' : `The row with ${old}`;
   for (const change of told) {
+    const where = atNode(run.entries[change.at].node);
     const before = all[all.indexOf(change) - 1], anew = change.row && before && !before.row ? `inserts ${key} anew and ` : '';
     const what = change.row ? `${anew}commits ${change === last ? fresh : code(named(script, entry.key, change.row))}` : `deletes ${key} and commits`;
-    steps.add(change.at, `${code(change.by)} ${what}.${change === first ? ` The row with ${old} is old from here on.` : ''}`);
+    steps.add(change.at, `${code(change.by)}${where} ${what}.${change === first ? ` ${what} is old from here on.` : ''}`);
   }
 }
 
@@ -52,7 +53,9 @@ const WHY = {
   'read-only': name => `${name} is read-only: ${TAKES_ANY}, and keeps it, since such rows aren't meant to change. This one was deleted.`,
 };
 
-function whyReused(steps, { slot, entry }, { at, deletedAt }) {
+function whyReused(steps, { slot, entry }, { at, deletedAt, key }) {
+  const isRow = entry.part !== 'members', front = `${code(key)} was deleted at ${ref(deletedAt)} and inserted again at ${ref(at)}`;
+  if (!isRow) return `${front}. A writer may have locked other owners than those of its change since then.`;
   steps.add(deletedAt, `${code(entry.key)} is deleted.`);
   steps.add(at, `${code(entry.key)} is inserted again, and versions begin anew.`);
   return `The key was deleted at ${ref(deletedAt)} and used again at ${ref(at)}. Versions began anew, so the old row with ${slot.row.version} looks newer.`;
@@ -64,8 +67,25 @@ function whyExpired(steps, { script, entry }, { at, cause }) {
   return `A lock on the key had run out (${count(script.timeout, 'tick')} in this script). ${SLOW_OR_DEAD}, and names the key as unsound since ${ref(at)}.`;
 }
 
+// The fence that tells a node of the first commit on a key of which it isn't told at an entry; NEVER if the journal ends before.
+function fenceToCome(run, { number }, key, at) {
+  const isIt = (entry, place) => place > at && isFence(entry) && entry.node === number && entry.verb === 'lock' && entry.key === key;
+  return Math.max(NEVER, run.entries.findIndex(isIt));
+}
+
+// Why a node answers a row that is old by a commit of which it isn't told, and until when.
+function whyUntold(run, steps, { node, entry, at }, untold) {
+  const name = nodeName(node.number), fence = fenceToCome(run, node, entry.key, at), [{ at: since, by }] = untold;
+  const place = node.queue.indexOf(untold[0]), before = place ? `, behind ${count(place, 'other')}` : '';
+  if (fence !== NEVER) steps.add(fence, `The cache of ${name} is told of the commit at ${ref(since)}, and a fence drops what is there.`);
+  const end = fence === NEVER ? 'This journal ends before it is told.' : `It is told at ${ref(fence)}: a fence drops what is there.`;
+  return `The commit of ${code(by)} waits for ${name} since ${ref(since)}${before}, and no cache knows of a commit before it is told. ${end}`;
+}
+
 function whyStale(run, steps, context, first) {
-  const { state, entity, entry } = context, unsound = state.unsound.get(entry.key), why = WHY[entity.strategy];
+  const { state, node, entity, entry } = context, unsound = node.unsound.get(entry.key) || state.reused.get(entity.name);
+  const why = WHY[entity.strategy], untold = untoldOf(node, entry.key);
+  if (untold.length) return whyUntold(run, steps, context, untold);
   const nonstrict = entity.strategy === 'nonstrict' ? `${removalsText(run, context, first)} A read-write entity guards the key by a lock against this.` : '';
   if (why) return why(code(entity.name)) + nonstrict;
   if (!unsound) return IMPOSSIBLE;
@@ -89,7 +109,8 @@ function tellStored(steps, run, { slot, entry }, first, old) {
 
 // The story of a hit that isn't the committed row, from the state before it.
 function staleHit(run, context) {
-  const { script, state, slot, entry, at } = context, now = state.committed.get(entry.key), key = code(entry.key), me = code(entry.session);
+  const { script, state, slot, entry, at } = context, now = committedOf(state, entry.key), key = code(entry.key);
+  const me = code(entry.session) + atNode(entry.node);
   const [old, fresh] = difference(script, entry.key, slot.row, now && now.row).map(code), steps = stepsOf();
   const changes = changesBetween(run, entry.key, slot.how === 'put' ? slot.loadedAt : slot.at, at), { first, last } = changes;
   tellStored(steps, run, context, first, old);

@@ -4,9 +4,10 @@
 //
 // Of each entry: its act and its reply follow by the rules from the entries before; it has a sentence, which names as many holders as the
 // reply counts; and docs/JOURNAL.md has a row for its act and its reply. Of each run: the unsound keys are those that the report names;
-// the states by step and from the start are the same; each stale read has a story with its load, put, commit and hit; as many
-// hits and lists are stale as tools/stale names, and keys are unsound since the ticks that it names; beside itself a run comes to the
-// same; and nothing that is drawn has a hole in it, nor what differs from the run before. With --kinds, how many entries of each kind there were.
+// the states by step and from the start are the same; nothing waits for a node at the end; the committed members of an owner are those that
+// the store lists; each stale read has a story with its load, put, commit and hit; as many hits and lists are stale as tools/stale names,
+// which reads no section, and keys are unsound since the ticks that it names; beside itself a run comes to the same; and nothing that is
+// drawn has a hole in it, nor what differs from the run before. With --kinds, how many entries of each kind there were.
 'use strict';
 const fs = require('fs'), path = require('path'), vm = require('vm'), { spawnSync } = require('child_process');
 
@@ -43,13 +44,16 @@ function kindOf({ part, verb, reply }) {
 }
 
 function checkEntry(file, script, state, entry, at) {
-  const said = page.explain(script, state, entry, at), line = page.lineOf(entry), held = /^(?:held|miss locked) (\d+)$/.exec(entry.reply);
+  const said = page.explain(script, state, entry, at), line = page.lineOf(entry), held = /^(?:held|miss locked|miss wide|wide) (\d+)$/.exec(entry.reply);
   if (!said) fail(file, `${line}   has no sentence`);
   checkText(file, `the sentence of ${line}`, said);
   checkText(file, `the text of ${line}`, page.brief(entry, false) + page.brief(entry, true));
-  if (held && (said.match(/\(since \u0001/g) || []).length !== Number(held[1])) fail(file, `${line}   the holders are: ${said}`);
-  const rows = page.meaningsOf(meanings, entry);
-  if (rows.length !== 2 || rows.includes(undefined)) fail(file, `${line}   docs/JOURNAL.md has no row for ${rows.length ? 'the reply' : 'the act'}`);
+  if (held && entry.verb !== 'lock-all' && (said.match(/\(since \u0001/g) || []).length !== Number(held[1])) fail(file, `${line}   the holders are: ${said}`);
+  const owner = page.ownerOf(script, entry), isOthers = owner && !state.sessions.get(entry.session).written.length;
+  if (isOthers && `list ${page.committedRow(state, owner).cells[0]}` !== entry.reply) fail(file, `${line}   the committed members are others`);
+  const rows = page.meaningsOf(meanings, entry, script.section);
+  if (!rows.some(row => page.saysAct(row, entry))) fail(file, `${line}   docs/JOURNAL.md has no row for the act`);
+  if (!rows.some(row => page.saysReply(row, entry))) fail(file, `${line}   docs/JOURNAL.md has no row for the reply`);
 }
 
 // The state at the end.
@@ -72,8 +76,9 @@ function checkEntries(file, script, journal) {
 function checkStory(file, run, story) {
   const read = run.reads.find(({ to }) => to === story.at), places = story.steps.map(({ at }) => at), has = at => places.includes(at);
   const loads = read.loadedAt === page.NEVER || (has(read.loadedAt) && ['load', 'list'].includes(run.entries[read.loadedAt].verb));
-  const commits = places.some(at => at < story.at && run.entries[at].verb === 'commit' && run.entries[at].reply === 'committed');
-  if (!loads || !commits || !has(read.keptAt) || places[places.length - 1] !== story.at) fail(file, `a part of the story is missing: ${story.head}`);
+  const commits = places.some(at => at < story.at && page.isCommit(run.entries[at]));
+  const last = places.filter(at => !page.isFence(run.entries[at]) || at < story.at).pop();
+  if (!loads || !commits || !has(read.keptAt) || last !== story.at) fail(file, `a part of the story is missing: ${story.head}`);
   const isOdd = !story.why || story.why === page.IMPOSSIBLE || places.some((at, k) => k && at <= places[k - 1]);
   if (isOdd) fail(file, `the story is odd: ${story.head} ${story.why} ${places}`);
   checkText(file, 'a story', story.head + story.why + story.steps.map(({ text }) => text).join());
@@ -120,19 +125,20 @@ function checkStale(file, hits, stale, lists, old, unsound) {
 
 function checkReport(file) {
   const script = page.readScript(fs.readFileSync(file + '.hib', 'utf8')), text = fs.readFileSync(file + '.report', 'utf8'), lines = text.split('\n');
-  const journal = page.readJournal(text), isReport = lines[0].startsWith('journal ');
+  const journal = page.readJournal(text, script), isReport = lines[0].startsWith('journal ');
   const misread = journal.entries.find((entry, at) => page.lineOf(entry) !== lines[at + 1]);
   if (journal.cut) fail(file, `is cut short: ${journal.cut}`);
   if (isReport && misread) fail(file, `a line is read as ${page.lineOf(misread)}`);
-  const end = checkEntries(file, script, journal), run = page.analyse(script, journal), unsound = [...end.unsound.keys()].sort().join();
+  const end = checkEntries(file, script, journal), run = page.analyse(script, journal), unsound = [...end.nodes[0].unsound.keys()].sort().join();
   run.meanings = meanings;
+  for (const { number, queue } of end.nodes) if (queue.length) fail(file, `${queue.length} changes wait for ${page.nodeName(number)} at the end`);
   if (journal.unsound && unsound !== journal.unsound.slice().sort().join()) fail(file, `unsound by the rules: ${unsound}; by the report: ${journal.unsound}`);
   if (run.findings.length !== run.stale.size) fail(file, `${run.stale.size} stale reads, ${run.findings.length} stories`);
   checkRun(file, run, end);
   const hits = run.reads.filter(({ key }) => key), stale = hits.filter(({ isStale }) => isStale).length;
   const lists = run.reads.filter(({ query }) => query), old = lists.filter(({ isStale }) => isStale).length;
-  const since = [...end.unsound].map(([key, { at }]) => `unsound ${key} since ${journal.entries[at].tick}`);
-  if (isReport) checkStale(file, hits.length, stale, lists.length, old, since);
+  const since = [...end.nodes[0].unsound].map(([key, { at }]) => `unsound ${key} since ${journal.entries[at].tick}`);
+  if (isReport && !script.section) checkStale(file, hits.length, stale, lists.length, old, since);
   totals.reports++;
   totals.stale += stale;
   totals.lists += old;
