@@ -1,0 +1,6 @@
+pub mod Begun
+pub mod Made
+pub mod Later
+pub mod Covers
+pub mod Tally
+pub mod Search
