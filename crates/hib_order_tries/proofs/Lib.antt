@@ -1,0 +1,7 @@
+pub mod Tails
+pub mod Befores
+pub mod Leaving
+pub mod Counted
+pub mod Waits
+pub mod Turning
+pub mod Telling

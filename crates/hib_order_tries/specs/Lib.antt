@@ -1,0 +1,3 @@
+pub mod Tail
+pub mod Left
+pub mod Found

@@ -1,0 +1,167 @@
+// What the orders that were tried have come to.
+ghost use Rattle.hib_base.specs.declared.entries.Entry.{Entry};
+ghost use Rattle.hib_order_law.specs.Orders.{sessions_in, switches};
+ghost use Rattle.hib_order_tries.specs.Found.{AreCounted, AreFindings, IsBelow, IsFound, IsNoted};
+ghost use Rattle.std.specs.Prelude.{◌≡◌, ◌∷◌, ◌<◌, ◌^◌, ◌-◌, Bool, List, [], IfNone, IfSome, OnOk, true};
+
+use std::alloc::{AllocError, Global};
+
+/// What is judged of a run.
+#[derive(Clone, Copy)]
+pub struct Verdicts {
+    /// A hit answers a row that is not the committed one.
+    pub stale_hit: bool,
+    /// A kept list is called fresh that is not what its query gives.
+    pub old_list: bool,
+    /// A commit overwrites a row that it never read.
+    pub lost_update: bool,
+    /// A commit is answered stale or duplicate.
+    pub refused_commit: bool,
+    /// The claims on the cache don't speak of one of its read-write keys.
+    pub unsound_key: bool,
+}
+
+/// An order that has something.
+#[derive(Drop)]
+pub struct First {
+    /// The session of each of its steps.
+    pub order: Vec<u32>,
+    /// How many of them leave a session that comes again later.
+    pub switches: usize,
+}
+
+/// The orders that have something.
+#[derive(Drop)]
+pub struct Found {
+    /// How many of those that were tried have it.
+    pub count: u64,
+    /// One of them with the fewest switches.
+    pub first: Option<First>,
+}
+
+impl Found {
+    fn none() -> Found
+        ensures { (has : List Entry → Bool) → IsFound has [] result }
+    {
+        Found {
+            count: 0,
+            first: None,
+        }
+    }
+
+    /// Whether an order with so many switches comes before the first that was found.
+    fn is_before(&self, total: usize) -> bool
+        ensures none { IfNone self.now.first (result ≡ true) }
+        ensures some { IfSome self.now.first (λ f. IsBelow total f.switches result) }
+    {
+        match &self.first {
+            None => true,
+            Some(first) => total < first.switches,
+        }
+    }
+
+    /// Takes one more order, which makes so many switches and has it or not.
+    fn note(
+        &mut self,
+        alloc: Global,
+        has: bool,
+        order: &[u32],
+        total: usize,
+    ) -> Result<(), AllocError>
+        requires room { self.old.count < 2 ^ 64 - 1 }
+        requires total { total ≡ switches order.now }
+        ensures { OnOk result ((looked_for : List Entry → Bool) (runs : List (List Entry))
+            (es : List Entry) → IsFound looked_for runs self.old → has ≡ looked_for es
+            → order.now ≡ sessions_in es → IsFound looked_for (es ∷ runs) self.new) }
+    {
+        if !has {
+            return Ok(());
+        }
+        if self.is_before(total) {
+            let steps = order.to_vec(alloc)?;
+            self.first = Some(First {
+                order: steps,
+                switches: total,
+            });
+        }
+        self.count += 1;
+        Ok(())
+    }
+}
+
+/// What the orders that were tried have come to.
+#[derive(Drop)]
+pub struct Findings {
+    /// How many were tried.
+    pub tried: u64,
+    /// Those in which a hit answers a row that is not the committed one.
+    pub stale_hit: Found,
+    /// Those in which a kept list is called fresh that is not what its query gives.
+    pub old_list: Found,
+    /// Those in which a commit overwrites a row that it never read.
+    pub lost_update: Found,
+    /// Those in which a commit is answered stale or duplicate.
+    pub refused_commit: Found,
+    /// Those with a read-write key of which the claims on the cache don't speak.
+    pub unsound_key: Found,
+}
+
+impl Findings {
+    /// No order was tried.
+    pub fn none() -> Findings
+        ensures { (judged : List Entry → Verdicts) → AreFindings judged [] result }
+    {
+        Findings {
+            tried: 0,
+            stale_hit: Found::none(),
+            old_list: Found::none(),
+            lost_update: Found::none(),
+            refused_commit: Found::none(),
+            unsound_key: Found::none(),
+        }
+    }
+
+    /// Takes one more order, which makes so many switches and of which this is judged.
+    fn note(
+        &mut self,
+        alloc: Global,
+        verdicts: Verdicts,
+        order: &[u32],
+        total: usize,
+    ) -> Result<(), AllocError>
+        requires room { self.old.tried < 2 ^ 64 - 1 }
+        requires counts { AreCounted self.old }
+        requires total { total ≡ switches order.now }
+        ensures { OnOk result ((judged : List Entry → Verdicts) (runs : List (List Entry))
+            (es : List Entry) → AreFindings judged runs self.old → verdicts ≡ judged es
+            → order.now ≡ sessions_in es → AreFindings judged (es ∷ runs) self.new) }
+    {
+        self.stale_hit.note(alloc, verdicts.stale_hit, order, total)?;
+        self.old_list.note(alloc, verdicts.old_list, order, total)?;
+        self.lost_update.note(alloc, verdicts.lost_update, order, total)?;
+        self.refused_commit.note(alloc, verdicts.refused_commit, order, total)?;
+        self.unsound_key.note(alloc, verdicts.unsound_key, order, total)?;
+        self.tried += 1;
+        Ok(())
+    }
+
+    /// Takes one more order if it makes no more switches than the bound.
+    pub fn note_within(
+        &mut self,
+        alloc: Global,
+        most: usize,
+        verdicts: Verdicts,
+        order: &[u32],
+        total: usize,
+    ) -> Result<(), AllocError>
+        requires room { self.old.tried < 2 ^ 64 - 1 }
+        requires counts { AreCounted self.old }
+        requires total { total ≡ switches order.now }
+        ensures { OnOk result (IsNoted most total verdicts order.now self.old self.new) }
+    {
+        if total <= most {
+            self.note(alloc, verdicts, order, total)?;
+        }
+        Ok(())
+    }
+}
