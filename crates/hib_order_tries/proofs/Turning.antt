@@ -69,15 +69,22 @@ module _ (script : Script) (start : Tables) (judged : List Entry → Verdicts) (
       by (inl x) =
           let g : AreFindings judged (es ∷ runs) new = x.1 judged runs es a p.4 p.3 in
           (es ∷ runs, goes true (λ _. few (switches (sessions_in es)) made x.0) (λ _. refl), g, one_more new.tried old.tried (length runs) g.tried a.tried t)
-      by (inr x) =
-          (runs, goes false (λ q. absurd (false≢true q)) (λ q. absurd (many (switches (sessions_in es)) made x.0 q)), subst (λ b. AreFindings judged runs b) (sym x.1) a,
-          still new.tried old.tried (ap (λ b. b.tried) x.1) t)
+      by (inr x) = (
+        runs,
+        goes false (λ q. absurd (false≢true q)) (λ q. absurd (many (switches (sessions_in es)) made x.0 q)),
+        subst (λ b. AreFindings judged runs b) (sym x.1) a,
+        still new.tried old.tried (ap (λ b. b.tried) x.1) t,
+      )
 
   pub begun_search : (now later : List (List ℕ)) (findings : Findings) → now ≡ [] ∷ [] → later ≡ [] → level ≡ 0 → AreFindings judged [] findings →
       (runs : List (List Entry)) × IsSearch script start most level runs now later × AreFindings judged runs findings × (findings.tried ≤ 0)
-  begun_search now later findings n l z a =
-      ([], subst (λ x. IsSearch script start most level [] x later) (sym n) (subst (λ x. IsSearch script start most level [] ([] ∷ []) x) (sym l)
-      (subst (λ k. IsSearch script start most k [] ([] ∷ []) []) (sym z) (search_begins script start most))), a, none findings.tried a.tried)
+  begun_search now later findings n l z a = (
+    [],
+    subst (λ x. IsSearch script start most level [] x later) (sym n) (subst (λ x. IsSearch script start most level [] ([] ∷ []) x) (sym l)
+        (subst (λ k. IsSearch script start most k [] ([] ∷ []) []) (sym z) (search_begins script start most))),
+    a,
+    none findings.tried a.tried,
+  )
     where
       none : (n : ℕ) → n ≡ 0 → n ≤ 0
       none n p = omega arith

@@ -19,7 +19,7 @@ pub record AreLeft (most level at : ℕ) (order these : List ℕ) (now later : L
   pub once : (both : List ℕ) → begun_by both now + begun_by both later ≤ begun_by both (map (first_of order at) these)
   pub here : (t : ℕ) → comes t these ≡ true → (slice_index order at == t) ≡ false → cost order (first_of order at t) ≤ level → Contains now (first_of order at t)
   pub all : (t : ℕ) → comes t these ≡ true → (slice_index order at == t) ≡ false → cost order (first_of order at t) ≤ most →
-    Contains now (first_of order at t) ⊎ Contains later (first_of order at t)
+      Contains now (first_of order at t) ⊎ Contains later (first_of order at t)
 
 -- first steps are added by what they cost: now, later, or not at all
 abbrev pub IsAdded : ℕ → ℕ → ℕ → List ℕ → List (List ℕ) → List (List ℕ) → List (List ℕ) → List (List ℕ) → Type 0

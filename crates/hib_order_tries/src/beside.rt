@@ -63,10 +63,18 @@ impl Before {
             };
         }
         let session = order[at - 1];
-        let rest = if tail.leaves(session) { tail.switches + 1 } else { tail.switches };
+        let rest = if tail.leaves(session) {
+            tail.switches + 1
+        } else {
+            tail.switches
+        };
         Before {
             spent: total - rest,
-            left: if tail.comes(session) { Some(session) } else { None },
+            left: if tail.comes(session) {
+                Some(session)
+            } else {
+                None
+            },
         }
     }
 
@@ -77,7 +85,13 @@ impl Before {
     {
         match self.left {
             None => self.spent,
-            Some(left) => { if left == session { self.spent } else { self.spent + 1 } }
+            Some(left) => {
+                if left == session {
+                    self.spent
+                } else {
+                    self.spent + 1
+                }
+            }
         }
     }
 }

@@ -136,11 +136,15 @@ impl Findings {
             (es : List Entry) → AreFindings judged runs self.old → verdicts ≡ judged es
             → order.now ≡ sessions_in es → AreFindings judged (es ∷ runs) self.new) }
     {
-        self.stale_hit.note(alloc, verdicts.stale_hit, order, total)?;
+        self.stale_hit
+            .note(alloc, verdicts.stale_hit, order, total)?;
         self.old_list.note(alloc, verdicts.old_list, order, total)?;
-        self.lost_update.note(alloc, verdicts.lost_update, order, total)?;
-        self.refused_commit.note(alloc, verdicts.refused_commit, order, total)?;
-        self.unsound_key.note(alloc, verdicts.unsound_key, order, total)?;
+        self.lost_update
+            .note(alloc, verdicts.lost_update, order, total)?;
+        self.refused_commit
+            .note(alloc, verdicts.refused_commit, order, total)?;
+        self.unsound_key
+            .note(alloc, verdicts.unsound_key, order, total)?;
         self.tried += 1;
         Ok(())
     }

@@ -10,11 +10,12 @@ use Rattle.hib_order_tries.proofs.beside.others.Goals as goal
 pub loop-gone-init : goal.loop-gone-init
 loop-gone-init c = λ at e.
     let order : List ℕ = c.args.order.now in
-    let past : length order ≤ at = omega arith in
-    (subst (λ x. IsTail x c.new-tail.result.sessions.items c.new-tail.result.first c.new-tail.result.switches) (sym (dropped_all at order past)) c.new-tail.ensures,
-    subst (λ x. AreOthers c.args.bounds.most c.args.bounds.level at order (map (λ v. v.items) x) (map (λ v. v.items) c.new-found.result.later.items)) (sym c.new-found.ensures.now)
-    (subst (λ x. AreOthers c.args.bounds.most c.args.bounds.level at order [] (map (λ v. v.items) x)) (sym c.new-found.ensures.later)
-    (others_none c.args.bounds.most c.args.bounds.level at order past)))
+    let past : length order ≤ at = omega arith in (
+      subst (λ x. IsTail x c.new-tail.result.sessions.items c.new-tail.result.first c.new-tail.result.switches) (sym (dropped_all at order past)) c.new-tail.ensures,
+      subst (λ x. AreOthers c.args.bounds.most c.args.bounds.level at order (map (λ v. v.items) x) (map (λ v. v.items) c.new-found.result.later.items)) (sym c.new-found.ensures.now)
+          (subst (λ x. AreOthers c.args.bounds.most c.args.bounds.level at order [] (map (λ v. v.items) x)) (sym c.new-found.ensures.later)
+          (others_none c.args.bounds.most c.args.bounds.level at order past)),
+    )
 
 pub loop-gone-preserved : goal.loop-gone-preserved
 loop-gone-preserved c = λ at e.
@@ -32,13 +33,14 @@ loop-gone-preserved c = λ at e.
     subst (λ x. AreLeft most level at order x (map (λ v. v.items) c.in_ok-more.more.now.items) (map (λ v. v.items) c.in_ok-more.more.later.items)) c.sessions.ensures
     (subst (λ i. AreLeft most level i order c.sessions.result.now (map (λ v. v.items) c.in_ok-more.more.now.items) (map (λ v. v.items) c.in_ok-more.more.later.items)) same c.in_ok-more.ensures) in
     let all = others_more most level at order c.take.new.self.sessions.items (map (λ v. v.items) c.loop-gone.found.now.items) (map (λ v. v.items) c.loop-gone.found.later.items)
-    (map (λ v. v.items) c.in_ok-more.more.now.items) (map (λ v. v.items) c.in_ok-more.more.later.items) inside tail.all tail.once before.1 left in
-    (tail,
-    subst (λ x. AreOthers most level at order x (map (λ v. v.items) c.append-in-loop-gone.new.self.items))
-    (sym (ap (λ x. map (λ v. v.items) x) c.in_ok-append.ensures.items ∙ map-append (λ v. v.items) c.loop-gone.found.now.items c.in_ok-more.more.now.items))
-    (subst (λ x. AreOthers most level at order (map (λ v. v.items) c.loop-gone.found.now.items ++ map (λ v. v.items) c.in_ok-more.more.now.items) x)
-    (sym (ap (λ x. map (λ v. v.items) x) c.in_ok-append-2.ensures.items ∙ map-append (λ v. v.items) c.loop-gone.found.later.items c.in_ok-more.more.later.items))
-    all))
+    (map (λ v. v.items) c.in_ok-more.more.now.items) (map (λ v. v.items) c.in_ok-more.more.later.items) inside tail.all tail.once before.1 left in (
+      tail,
+      subst (λ x. AreOthers most level at order x (map (λ v. v.items) c.append-in-loop-gone.new.self.items))
+          (sym (ap (λ x. map (λ v. v.items) x) c.in_ok-append.ensures.items ∙ map-append (λ v. v.items) c.loop-gone.found.now.items c.in_ok-more.more.now.items))
+          (subst (λ x. AreOthers most level at order (map (λ v. v.items) c.loop-gone.found.now.items ++ map (λ v. v.items) c.in_ok-more.more.now.items) x)
+          (sym (ap (λ x. map (λ v. v.items) x) c.in_ok-append-2.ensures.items ∙ map-append (λ v. v.items) c.loop-gone.found.later.items c.in_ok-more.more.later.items))
+          all),
+    )
 
 pub take-requires : goal.take-requires
 take-requires c =
