@@ -1,0 +1,64 @@
+-- What a factory hands back of an undisturbed run is one.
+use Rattle.std.specs.Prelude.{length, slice_get, not, ◌&&◌, reverse, None}
+use Rattle.std.specs.List.{list_all}
+use Rattle.std.proofs.Common.{◌≡◌, ◌++◌, ◌<◌, ◌≤◌, ◌⊎◌, ℕ, Bool, true, false, inl, inr, List, [], ◌∷◌, Some, refl, sym, ap, ◌∙◌, subst}
+use Rattle.std.proofs.lemmas.List.{append_assoc, append-nil}
+use Rattle.std.proofs.lemmas.Grind.{reverse_onto}
+use Rattle.std.proofs.lemmas.Option.{slice_get_past}
+use Rattle.std.proofs.lemmas.Bool.{cases_lt}
+use Rattle.hib_base.specs.Tables.{Tables}
+use Rattle.hib_journal.specs.Types.{Script, Entry}
+use Rattle.hib_journal.specs.Kept.{Kept, past}
+use Rattle.hib_journal.specs.Sessions.{Journal, own, was_killed}
+use Rattle.hib_journal.specs.Plan.{Plan, first_act, left_of, after}
+use Rattle.hib_journal.specs.Next.{next}
+use Rattle.hib_journal.specs.Legal.{IsLegal}
+use Rattle.hib_journal.specs.Runs.{IsNumbered}
+use Rattle.hib_journal.specs.Played.{has_next}
+use Rattle.hib_core.specs.Factory.{AreOver}
+use Rattle.hib_order_law.specs.Orders.{IsRun, is_plain, onto}
+use Rattle.hib_order_law.proofs.Begun.{and_left, and_right}
+
+onto_is : (es h : List Entry) → onto es h ≡ reverse es ++ h
+onto_is [] h = refl
+onto_is (e ∷ es) h = onto_is es (e ∷ h) ∙ sym (ap (λ l. l ++ h) (reverse_onto es e []) ∙ append_assoc (reverse es) (e ∷ []) h)
+
+past_is : (j : Kept) → past j ≡ onto j.list []
+unfolding past
+past_is j = sym (onto_is j.list [] ∙ append-nil (reverse j.list))
+
+plain_onto : (es h : List Entry) → list_all is_plain es ≡ true → list_all is_plain h ≡ true → list_all is_plain (onto es h) ≡ true
+plain_onto [] h p q = q
+plain_onto (e ∷ es) h p q =
+    plain_onto es (e ∷ h) (and_right (is_plain e) (list_all is_plain es) p) (rw (and_left (is_plain e) (list_all is_plain es) p) q)
+
+left_over : (m : Journal) → left_of Plan.Over m ≡ Plan.Over
+left_over [] = refl
+left_over (e ∷ m) = ap (λ x. after x e) (left_over m)
+
+-- a session that isn't there has no act
+none_there : (script : Script) (s : ℕ) (m : Journal) → slice_get script.sessions s ≡ None → next script s m ≡ None
+unfolding next
+none_there script s m p = rw p (ap first_act (left_over m))
+
+over_all : (script : Script) (h : Journal) → AreOver script h → (s : ℕ) → has_next script h s ≡ false
+over_all script h o s = by (cases_lt s (length script.sessions))
+  where
+    no : (b : Bool) → (not b && false) ≡ false
+    no true = refl
+    no false = refl
+
+    by : (s < length script.sessions) ⊎ (length script.sessions ≤ s) → has_next script h s ≡ false
+    by (inl l) = o s l
+    by (inr l) = rw (none_there script s (own s h) (slice_get_past script.sessions s l)) (no (was_killed s h))
+
+pub run_is : (script : Script) (start : Tables) (j : Kept) → IsLegal script (Some start) (past j) → IsNumbered (past j) → AreOver script (past j) →
+    list_all is_plain j.list ≡ true → IsRun script start j.list
+run_is script start j l n o p = record {
+  undisturbed = record {
+    legal = subst (λ h. IsLegal script (Some start) h) (past_is j) l;
+    numbered = subst IsNumbered (past_is j) n;
+    plain = plain_onto j.list [] p refl;
+  };
+  over = subst (λ h. (s : ℕ) → has_next script h s ≡ false) (past_is j) (over_all script (past j) o);
+}
