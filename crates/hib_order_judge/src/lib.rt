@@ -1,8 +1,11 @@
 //! Judges a run in one pass over its entries.
 #![tactic(auto)]
 
+mod desk;
 mod desks;
+mod judging;
+mod marks;
 mod tests_of;
 
-pub use desks::Desk;
-pub use tests_of::{is_old_list, is_refused, is_stale_hit};
+pub use judging::judge;
+pub use marks::Marks;

@@ -4,14 +4,14 @@ ghost use Rattle.hib_journal.specs.Held.{same_cells};
 ghost use Rattle.hib_order_law.specs.Judged.{is_refused_commit, old_by, same_row, stale_by};
 ghost use Rattle.std.specs.Prelude.{◌≡◌, IfOk, option_copied, true};
 
-use hib_base::{Act, Cells, Checked, Commit, Entry, Listing, Reply, Row, Rows, Script};
+use hib_base::{Act, Cell, Checked, Commit, Entry, Reply, Row, Rows, Script};
 use hib_outside::keyed;
 use hib_query_eval::gives;
 use std::alloc::{AllocError, Global};
 
 /// Whether two lists of cells are the same.
 #[tactic(auto, using(hib_dirty_check::proofs::Compared::cells_compared))]
-fn are_same(a: &Cells, b: &Cells) -> bool
+fn are_same(a: &[Cell], b: &[Cell]) -> bool
     ensures { result ≡ same_cells a.now b.now }
 {
     *a == *b
@@ -30,12 +30,12 @@ fn is_same_version(a: Option<u32>, b: Option<u32>) -> bool
 
 /// Whether there is a row, and it is this one.
 fn is_same(there: Option<&Row>, row: &Row) -> bool
-    ensures { result ≡ same_row (option_copied there) row.now }
+    ensures { result ≡ same_row (option_copied there.entry) row.now }
 {
     match there {
         None => false,
         Some(other) => is_same_version(other.version, row.version)
-            && are_same(&other.cells, &row.cells),
+            && are_same(other.cells.as_slice(), row.cells.as_slice()),
     }
 }
 
@@ -58,7 +58,7 @@ pub fn is_old_list(
     alloc: Global,
     script: &Script,
     rows: &Rows,
-    found: &Listing,
+    found: &[Cell],
     entry: &Entry,
 ) -> Result<bool, AllocError>
     requires { in_order rows.now ≡ true }
@@ -75,7 +75,7 @@ pub fn is_old_list(
         None => Ok(false),
         Some(def) => {
             let given = gives(alloc, def, rows)?;
-            Ok(!are_same(found, &given))
+            Ok(!are_same(found, given.as_slice()))
         }
     }
 }
