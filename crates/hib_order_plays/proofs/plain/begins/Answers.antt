@@ -1,4 +1,4 @@
-use Rattle.std.proofs.Common.{◌≡◌, ◌+◌, ◌<◌, ◌≤◌, ◌==◌, ◌&&◌, ℕ, zero, suc, List, [], ◌∷◌, true, refl, sym, ap, subst, arith, take, length, slice_index, eq-eqb, add-one}
+use Rattle.std.proofs.Common.{◌≡◌, ◌<◌, ◌≤◌, ◌==◌, ℕ, zero, suc, List, [], ◌∷◌, true, refl, subst, arith, take, length, slice_index, eq-eqb, add-one}
 use Rattle.std.proofs.lemmas.List.{take_all}
 use Rattle.hib_order_law.specs.Orders.{begins}
 use Rattle.hib_order_law.proofs.Begun.{and_both, and_left, and_right}
@@ -23,7 +23,7 @@ one_more (suc n) (s ∷ ss) (t ∷ ts) b l m e =
 
 pub loop-place-preserved : goal.loop-place-preserved
 loop-place-preserved c =
-    rw add-one (one_more c.loop-place.place c.args.begun.now c.args.order.now c.loop-place.invariant (omega arith) (omega arith) c.if-begun-order.false)
+    rw add-one (one_more c.loop-place.place c.args.begun.now c.args.order.now c.loop-place.invariant (omega arith) (omega arith) c.if-begun-place.false)
 
 pub returns : goal.returns
-returns c = λ _. subst (λ x. begins x c.args.order.now ≡ true) (take_all c.args.begun.now c.loop-place.place (omega arith)) c.loop-place.invariant
+returns c = λ _. subst (λ x. begins x c.args.order.now ≡ true) (take_all c.loop-place.place c.args.begun.now (omega arith)) c.loop-place.invariant
