@@ -13,7 +13,9 @@ mod unsound;
 mod watch;
 
 pub use acts::{put_act, put_part};
+pub use fates::{Fate, Fates};
 pub use lines::line;
 pub use replies::put_reply;
 pub use report::{summary, text};
 pub use sending::{WriteStop, send, send_piece, write};
+pub use unsound::unsound_keys;

@@ -90,8 +90,13 @@ fn unsound_named(
     Ok(keys)
 }
 
-// The read-write keys that are not sound, in order. Where nothing was noted of any key, the entries are gone over once.
-fn unsound(alloc: Global, script: &Script, entries: &[Entry]) -> Result<BTreeSet<Key>, AllocError>
+/// The read-write keys that are not sound after these entries, in order. Where nothing was noted of any key, the entries are gone over
+/// once.
+pub fn unsound_keys(
+    alloc: Global,
+    script: &Script,
+    entries: &[Entry],
+) -> Result<BTreeSet<Key>, AllocError>
     ensures { IfOk result (λ keys. keys.keys ≡ unsound script.now (reverse entries.now)) }
 {
     let watch = watched(alloc, entries)?;
@@ -127,7 +132,7 @@ pub fn put_unsound(
     ensures { OnOk result (out.new.items
         ≡ out.old.items ++ unsound_text script.now (reverse entries.now)) }
 {
-    let keys = unsound(alloc, script, entries)?;
+    let keys = unsound_keys(alloc, script, entries)?;
     put_labelled(alloc, out, b"unsound ", keys.len() as u64)?;
     out.extend_from_slice(b"\n")?;
     put_keys(alloc, out, script, &keys)

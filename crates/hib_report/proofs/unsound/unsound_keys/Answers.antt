@@ -1,7 +1,7 @@
 use Rattle.std.proofs.Common.{◌∙◌, reverse}
 use Rattle.hib_report.specs.Unsound.{keys_in}
 use Rattle.hib_report.proofs.Chosen.{none_chosen}
-use Rattle.hib_report.proofs.unsound.unsound.Goals as goal
+use Rattle.hib_report.proofs.unsound.unsound_keys.Goals as goal
 
 pub returns-then-is_quiet : goal.returns-then-is_quiet
 returns-then-is_quiet c =
