@@ -1,11 +1,12 @@
 -- What ends badly: judgements of one entry over the journal before it, and of a whole journal.
-use Rattle.std.specs.Prelude.{Bool, true, false, cond, not, ◌&&◌, ◌||◌, List, [], ◌∷◌, slice_get, Some, None, Option, option_and_then}
+use Rattle.std.specs.Prelude.{Bool, true, false, cond, not, ◌&&◌, ◌||◌, List, [], ◌∷◌, length, map, slice_get, Some, None, Option, option_and_then}
 use Rattle.std.specs.Option.{option_map_or, option_or}
-use Rattle.std.specs.List.{list_any}
-use Rattle.hib_journal.specs.Types.{Key, Row, Cell, Change, Commit, Checked, Script, Act, Reply, Entry}
+use Rattle.std.specs.List.{list_any, range_with_len}
+use Rattle.hib_journal.specs.Types.{Key, Row, Cell, Change, Commit, Checked, Outcome, Script, Act, Reply, Entry}
 use Rattle.hib_base.specs.Keys.{same_key}
 use Rattle.hib_base.specs.Tables.{Tables, row_at, same_version, key_of}
 use Rattle.hib_journal.specs.Sessions.{Journal, own, changes, committed, committer}
+use Rattle.hib_journal.specs.Legal.{outcome}
 use Rattle.hib_journal.specs.Query.{gives}
 use Rattle.hib_journal.specs.Held.{held, same_cells, is_begin}
 
@@ -72,3 +73,7 @@ is_refused_commit e = refused_by e.reply
 abbrev pub has_entry : (Journal → Entry → Bool) → Journal → Bool
 has_entry p [] = false
 has_entry p (e ∷ h) = p h e || has_entry p h
+
+-- how each session of a script has ended, by its number: the outcome of its last transaction
+abbrev pub ending : Script → Journal → List Outcome
+ending script h = map (λ s. outcome (own s h)) (range_with_len 0 (length script.sessions))

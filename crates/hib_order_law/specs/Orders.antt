@@ -38,6 +38,11 @@ abbrev pub made : Script → Tables → List ℕ → Journal
 made script start [] = []
 made script start (s ∷ ss) = with_step script start s (made script start ss)
 
+-- each of these first steps is due at its turn, after a journal; the oldest step first
+abbrev pub can_begin : Script → Tables → Journal → List ℕ → Bool
+can_begin script start h [] = true
+can_begin script start h (s ∷ ss) = has_next script h s && can_begin script start (with_step script start s h) ss
+
 -- a session is in an order
 abbrev pub comes : ℕ → List ℕ → Bool
 comes s ss = list_any (λ n. n == s) ss

@@ -1,7 +1,7 @@
 //! The law of orders: what an order of sessions makes of a script, and that a search of orders misses none and tries none twice.
 //!
-//! The crate has no code. Each function has an empty body, and its `ensures` is a theorem over all scripts, all rows at the
-//! start and all journals. `specs/Orders` says what an order is and what its switches are, `specs/Search` what a search of them
+//! Beside `Verdicts` the crate has no code. Each function has an empty body, and its `ensures` is a theorem over all scripts, all rows
+//! at the start and all journals. `specs/Orders` says what an order is and what its switches are, `specs/Search` what a search of them
 //! has tried, `specs/Judged` what ends badly, and `proofs/` has the proofs.
 #![tactic(auto)]
 
@@ -12,6 +12,10 @@ ghost use Rattle.hib_order_law.specs.Judged.{is_stale_hit, same_row};
 ghost use Rattle.hib_order_law.specs.Orders.{IsOther, IsRun, IsUndisturbed, begins, cost, made, sessions_in, switches};
 ghost use Rattle.hib_order_law.specs.Search.{AreOthers, AreTried, IsSearch, with_run};
 ghost use Rattle.std.specs.Prelude.{◌≡◌, ◌≤◌, ◌<◌, ◌+◌, ◌++◌, ◌⊎◌, ℕ, Bool, not, true, List, [], ◌∷◌, length};
+
+mod verdicts;
+
+pub use verdicts::Verdicts;
 
 /// A legal journal of sessions alone, without faults, is the one that its order makes of the script and the rows at the start: who
 /// makes each step decides all of it.

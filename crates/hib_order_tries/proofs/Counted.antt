@@ -11,7 +11,7 @@ use Rattle.hib_order_tries.specs.Found.{AreCounted, AreFindings, IsBelow, IsFirs
 use Rattle.hib_order_tries.specs.declared.found.First.{First}
 use Rattle.hib_order_tries.specs.declared.found.Found.{Found}
 use Rattle.hib_order_tries.specs.declared.found.Findings.{Findings}
-use Rattle.hib_order_tries.specs.declared.found.Verdicts.{Verdicts}
+use Rattle.hib_order_law.specs.declared.verdicts.Verdicts.{Verdicts}
 
 -- what a comparison with the first says
 pub not_none : {A : Type 0} (o : Option A) (r : Bool) → IfNone o (r ≡ true) → r ≡ false → IfNone o ⊥

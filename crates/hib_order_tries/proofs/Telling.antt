@@ -8,7 +8,7 @@ use Rattle.hib_order_law.specs.Search.{AreTried, IsSearch}
 use Rattle.hib_order_law.proofs.Search.{search_stops}
 use Rattle.hib_order_tries.specs.Found.{AreFindings, IsTold}
 use Rattle.hib_order_tries.specs.declared.found.Findings.{Findings}
-use Rattle.hib_order_tries.specs.declared.found.Verdicts.{Verdicts}
+use Rattle.hib_order_law.specs.declared.verdicts.Verdicts.{Verdicts}
 
 yes : (b : Bool) → false ≡ not b → b ≡ true
 yes true p = refl

@@ -11,7 +11,7 @@ use Rattle.hib_order_law.proofs.Search.{search_begins, search_goes_on}
 use Rattle.hib_order_tries.specs.Found.{AreFindings, IsNoted, IsPlayed}
 use Rattle.hib_order_tries.specs.Left.{IsTurned}
 use Rattle.hib_order_tries.specs.declared.found.Findings.{Findings}
-use Rattle.hib_order_tries.specs.declared.found.Verdicts.{Verdicts}
+use Rattle.hib_order_law.specs.declared.verdicts.Verdicts.{Verdicts}
 
 -- what begins so is no shorter
 pub begins_long : (begun order : List ℕ) → begins begun order ≡ true → length begun ≤ length order

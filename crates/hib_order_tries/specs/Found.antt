@@ -5,7 +5,7 @@ use Rattle.hib_base.specs.Tables.{Tables}
 use Rattle.hib_journal.specs.Types.{Script, Entry}
 use Rattle.hib_order_law.specs.Orders.{IsRun, begins, sessions_in, switches}
 use Rattle.hib_order_law.specs.Search.{AreTried}
-use Rattle.hib_order_tries.specs.declared.found.Verdicts.{Verdicts}
+use Rattle.hib_order_law.specs.declared.verdicts.Verdicts.{Verdicts}
 use Rattle.hib_order_tries.specs.declared.found.Found.{Found}
 use Rattle.hib_order_tries.specs.declared.found.Findings.{Findings}
 

@@ -4,22 +4,8 @@ ghost use Rattle.hib_order_law.specs.Orders.{sessions_in, switches};
 ghost use Rattle.hib_order_tries.specs.Found.{AreCounted, AreFindings, IsBelow, IsFound, IsNoted};
 ghost use Rattle.std.specs.Prelude.{◌≡◌, ◌∷◌, ◌<◌, ◌^◌, ◌-◌, Bool, List, [], IfNone, IfSome, OnOk, true};
 
+use hib_order_law::Verdicts;
 use std::alloc::{AllocError, Global};
-
-/// What is judged of a run.
-#[derive(Clone, Copy)]
-pub struct Verdicts {
-    /// A hit answers a row that is not the committed one.
-    pub stale_hit: bool,
-    /// A kept list is called fresh that is not what its query gives.
-    pub old_list: bool,
-    /// A commit overwrites a row that it never read.
-    pub lost_update: bool,
-    /// A commit is answered stale or duplicate.
-    pub refused_commit: bool,
-    /// The claims on the cache don't speak of one of its read-write keys.
-    pub unsound_key: bool,
-}
 
 /// An order that has something.
 #[derive(Drop)]

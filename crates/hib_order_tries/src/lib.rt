@@ -9,6 +9,6 @@ mod trying;
 mod waiting;
 
 pub use beside::{Beginnings, Bounds, others, switches};
-pub use found::{Findings, First, Found, Verdicts};
+pub use found::{Findings, First, Found};
 pub use laws::what_is_told_is_so;
 pub use trying::{Played, Player, Told, search};

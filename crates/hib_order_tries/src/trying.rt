@@ -6,8 +6,9 @@ ghost use Rattle.hib_order_tries.specs.Found.{IsPlayed, IsTold};
 ghost use Rattle.std.specs.Prelude.{◌≡◌, ◌<◌, ◌≤◌, List, IfOk, IfSome, true};
 
 use crate::beside::switches;
-use crate::found::{Findings, Verdicts};
+use crate::found::Findings;
 use crate::waiting::Waiting;
+use hib_order_law::Verdicts;
 use std::alloc::{AllocError, Global};
 
 /// A run that was played: its order, and what is judged of it.
@@ -21,7 +22,7 @@ pub struct Played {
 
 /// Who plays runs of a script's sessions, and judges them.
 pub trait Player {
-    ghost use Rattle.hib_order_tries.specs.declared.found.Verdicts.{Verdicts};
+    ghost use Rattle.hib_order_law.specs.declared.verdicts.Verdicts.{Verdicts};
 
     /// The script.
     ghost script: { Script };
