@@ -13,7 +13,7 @@ use Rattle.hib_words.specs.Commands.{Chosen, chosen_in, form_of, word_of}
 use Rattle.hib_words.specs.Matched.{HoldsGiven, IsProper}
 use Rattle.hib_words.specs.declared.forms.OptionName.TheVariants as name
 use Rattle.hib_words.specs.declared.forms.Verb.{Verb}
-use Rattle.hib_words.specs.declared.forms.Verb.TheVariants.{Play, Work, Make, Audit, Collect, Bulk, Nodes}
+use Rattle.hib_words.specs.declared.forms.Verb.TheVariants.{Play, Work, Make, Audit, Collect, Bulk, Nodes, Orders, Report}
 use Rattle.hib_words.proofs.Getters.{has_flag, flag_given, flag_not_given, value_given}
 
 -- what `get_flag` and `get_str` ensure
@@ -67,6 +67,8 @@ journal_name Audit = refl
 journal_name Collect = refl
 journal_name Bulk = refl
 journal_name Nodes = refl
+journal_name Orders = refl
+journal_name Report = refl
 
 trace_name : IsFlagName (word_of name.Trace)
 trace_name Play = refl
@@ -76,6 +78,8 @@ trace_name Audit = refl
 trace_name Collect = refl
 trace_name Bulk = refl
 trace_name Nodes = refl
+trace_name Orders = refl
+trace_name Report = refl
 
 split_name : IsFlagName (word_of name.Split)
 split_name Play = refl
@@ -85,6 +89,8 @@ split_name Audit = refl
 split_name Collect = refl
 split_name Bulk = refl
 split_name Nodes = refl
+split_name Orders = refl
+split_name Report = refl
 
 text_name : IsFlagName (word_of name.Text)
 text_name Play = refl
@@ -94,6 +100,8 @@ text_name Audit = refl
 text_name Collect = refl
 text_name Bulk = refl
 text_name Nodes = refl
+text_name Orders = refl
+text_name Report = refl
 
 file_name : IsValueName (word_of name.File)
 file_name Play = (refl, refl)
@@ -103,6 +111,8 @@ file_name Audit = (refl, refl)
 file_name Collect = (refl, refl)
 file_name Bulk = (refl, refl)
 file_name Nodes = (refl, refl)
+file_name Orders = (refl, refl)
+file_name Report = (refl, refl)
 
 workers_name : IsValueName (word_of name.Workers)
 workers_name Play = (refl, refl)
@@ -112,6 +122,8 @@ workers_name Audit = (refl, refl)
 workers_name Collect = (refl, refl)
 workers_name Bulk = (refl, refl)
 workers_name Nodes = (refl, refl)
+workers_name Orders = (refl, refl)
+workers_name Report = (refl, refl)
 
 seed_name : IsValueName (word_of name.Seed)
 seed_name Play = (refl, refl)
@@ -121,12 +133,48 @@ seed_name Audit = (refl, refl)
 seed_name Collect = (refl, refl)
 seed_name Bulk = (refl, refl)
 seed_name Nodes = (refl, refl)
+seed_name Orders = (refl, refl)
+seed_name Report = (refl, refl)
+
+switches_name : IsValueName (word_of name.Switches)
+switches_name Play = (refl, refl)
+switches_name Work = (refl, refl)
+switches_name Make = (refl, refl)
+switches_name Audit = (refl, refl)
+switches_name Collect = (refl, refl)
+switches_name Bulk = (refl, refl)
+switches_name Nodes = (refl, refl)
+switches_name Orders = (refl, refl)
+switches_name Report = (refl, refl)
+
+at_most_name : IsValueName (word_of name.AtMost)
+at_most_name Play = (refl, refl)
+at_most_name Work = (refl, refl)
+at_most_name Make = (refl, refl)
+at_most_name Audit = (refl, refl)
+at_most_name Collect = (refl, refl)
+at_most_name Bulk = (refl, refl)
+at_most_name Nodes = (refl, refl)
+at_most_name Orders = (refl, refl)
+at_most_name Report = (refl, refl)
+
+show_name : IsValueName (word_of name.Show)
+show_name Play = (refl, refl)
+show_name Work = (refl, refl)
+show_name Make = (refl, refl)
+show_name Audit = (refl, refl)
+show_name Collect = (refl, refl)
+show_name Bulk = (refl, refl)
+show_name Nodes = (refl, refl)
+show_name Orders = (refl, refl)
+show_name Report = (refl, refl)
 
 pub all_read : (v : Verb) (r : Option Given) (m : ArgMatches) → HoldsGiven (form_of v) r (Some m)
-    → (journal trace split text : Bool) (file workers seed : Option (Bor Text))
+    → (journal trace split text : Bool) (file workers seed switches at_most show : Option (Bor Text))
     → ReadsFlag m (word_of name.Journal) journal → ReadsFlag m (word_of name.Trace) trace → ReadsFlag m (word_of name.Split) split
     → ReadsFlag m (word_of name.Text) text
     → ReadsValue m (word_of name.File) file → ReadsValue m (word_of name.Workers) workers → ReadsValue m (word_of name.Seed) seed
+    → ReadsValue m (word_of name.Switches) switches → ReadsValue m (word_of name.AtMost) at_most → ReadsValue m (word_of name.Show) show
     → ◌≡◌ {A = Option Chosen} (Some (record {
       journal = journal;
       trace = trace;
@@ -135,9 +183,12 @@ pub all_read : (v : Verb) (r : Option Given) (m : ArgMatches) → HoldsGiven (fo
       file = option_map (λ s. s.now) file;
       workers = option_map (λ s. s.now) workers;
       seed = option_map (λ s. s.now) seed;
+      switches = option_map (λ s. s.now) switches;
+      at_most = option_map (λ s. s.now) at_most;
+      show = option_map (λ s. s.now) show;
     })) (option_map chosen_in r)
-all_read v None m h journal trace split text file workers seed j t p x f w n = cc
-all_read v (Some given) m h journal trace split text file workers seed j t p x f w n =
+all_read v None m h journal trace split text file workers seed switches at_most show j t p x f w n r o k = cc
+all_read v (Some given) m h journal trace split text file workers seed switches at_most show j t p x f w n r o k =
     let flag = λ (id : Text) (b : Bool) (is : IsFlagName id) (reads : ReadsFlag m id b). flag_read (form_of v) given m h.0 h.1 id b (not_valued _ (is v)) reads in
     let value = λ (id : Text) (o : Option (Bor Text)) (is : IsValueName id) (reads : ReadsValue m id o). value_read (form_of v) given m h.0 h.1 id o (not_flagged _ (is v).0) (is v).1 reads in
     λ i. Some (record {
@@ -148,4 +199,7 @@ all_read v (Some given) m h journal trace split text file workers seed j t p x f
       file = value (word_of name.File) file file_name f i;
       workers = value (word_of name.Workers) workers workers_name w i;
       seed = value (word_of name.Seed) seed seed_name n i;
+      switches = value (word_of name.Switches) switches switches_name r i;
+      at_most = value (word_of name.AtMost) at_most at_most_name o i;
+      show = value (word_of name.Show) show show_name k i;
     })

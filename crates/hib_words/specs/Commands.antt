@@ -10,7 +10,7 @@ use Rattle.hib_words.specs.Given.{Text, Form, Given, is_given, options_in, value
 use Rattle.hib_words.specs.declared.forms.OptionName.{OptionName}
 use Rattle.hib_words.specs.declared.forms.OptionName.TheVariants as name
 use Rattle.hib_words.specs.declared.forms.Verb.{Verb}
-use Rattle.hib_words.specs.declared.forms.Verb.TheVariants.{Play, Work, Make, Audit, Collect, Bulk, Nodes}
+use Rattle.hib_words.specs.declared.forms.Verb.TheVariants.{Play, Work, Make, Audit, Collect, Bulk, Nodes, Orders, Report}
 use Rattle.hib_words.specs.declared.words.Command.{Command}
 use Rattle.hib_words.specs.declared.words.Command.TheVariants as variant
 use Rattle.hib_words.specs.declared.words.Options.{Options}
@@ -26,6 +26,8 @@ verb_word Audit = codes "audit"
 verb_word Collect = codes "collect"
 verb_word Bulk = codes "bulk"
 verb_word Nodes = codes "nodes"
+verb_word Orders = codes "orders"
+verb_word Report = codes "report"
 
 abbrev pub word_of : OptionName → Text
 word_of name.Journal = codes "journal"
@@ -35,11 +37,17 @@ word_of name.Workers = codes "workers"
 word_of name.Split = codes "split"
 word_of name.Seed = codes "seed"
 word_of name.Text = codes "text"
+word_of name.Switches = codes "switches"
+word_of name.AtMost = codes "at-most"
+word_of name.Show = codes "show"
 
 abbrev pub is_valued : OptionName → Bool
 is_valued name.File = true
 is_valued name.Workers = true
 is_valued name.Seed = true
+is_valued name.Switches = true
+is_valued name.AtMost = true
+is_valued name.Show = true
 is_valued _ = false
 
 abbrev pub options_of : Verb → List OptionName
@@ -50,11 +58,13 @@ options_of Audit = []
 options_of Collect = []
 options_of Bulk = []
 options_of Nodes = []
+options_of Orders = name.Switches ∷ name.AtMost ∷ name.Show ∷ []
+options_of Report = []
 
 abbrev pub form_of : Verb → Form
 form_of verb = map (λ o. (word_of o, is_valued o)) (options_of verb)
 
--- the command that the first word names
+-- the command of the program that the first word names; its tools have others (Tools.antt)
 abbrev pub verb_named : Text → Option Verb
 verb_named word =
     if bytes_eq word (verb_word Play) then Some Play
@@ -95,6 +105,9 @@ pub record Chosen : Type 0 where
   pub file : Option Text
   pub workers : Option Text
   pub seed : Option Text
+  pub switches : Option Text
+  pub at_most : Option Text
+  pub show : Option Text
 
 abbrev pub chosen_in : Given → Chosen
 chosen_in given = record {
@@ -105,6 +118,9 @@ chosen_in given = record {
   file = value_of (word_of name.File) given;
   workers = value_of (word_of name.Workers) given;
   seed = value_of (word_of name.Seed) given;
+  switches = value_of (word_of name.Switches) given;
+  at_most = value_of (word_of name.AtMost) given;
+  show = value_of (word_of name.Show) given;
 }
 
 -- the options of play and work
@@ -128,7 +144,8 @@ abbrev pub settings_in : Chosen → Option Settings
 settings_in chosen = if option_map_or is_value chosen.file true
     then Some (record { journal = chosen.journal; trace = chosen.trace; file = chosen.file }) else None
 
--- what a verb asks for with these options; none if a number is missing or out of its range, or a value is none
+-- what a verb asks of the program with these options; none if a number is missing or out of its range, a value is none, or the verb is
+-- one of its tools
 abbrev pub asked : Verb → Chosen → Option Asked
 asked Play chosen = option_map play (settings_in chosen)
 asked Work chosen = option_and_then (λ n. option_map (work n chosen.split) (settings_in chosen))
@@ -138,6 +155,8 @@ asked Audit chosen = Some audit
 asked Collect chosen = Some collect
 asked Bulk chosen = Some bulk
 asked Nodes chosen = Some nodes
+asked Orders chosen = None
+asked Report chosen = None
 
 -- the command that words are, without the program's name; none if they have no form
 abbrev pub command : List Text → Option Asked

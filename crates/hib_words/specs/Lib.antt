@@ -3,3 +3,4 @@ pub mod Commands
 pub mod Clap
 pub mod Matched
 pub mod Topics
+pub mod Tools

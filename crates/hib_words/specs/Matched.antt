@@ -34,4 +34,7 @@ chosen_of found = record {
   file = option_map (λ s. s.now) found.file;
   workers = option_map (λ s. s.now) found.workers;
   seed = option_map (λ s. s.now) found.seed;
+  switches = option_map (λ s. s.now) found.switches;
+  at_most = option_map (λ s. s.now) found.at_most;
+  show = option_map (λ s. s.now) found.show;
 }

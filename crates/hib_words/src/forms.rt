@@ -3,11 +3,12 @@ ghost use Rattle.std.specs.Prelude.{◌≡◌, false, is_some, IfOk};
 ghost use Rattle.clap.specs.Words.{app_of, rule_of};
 ghost use Rattle.hib_words.specs.Clap.{app_for, rule_for};
 ghost use Rattle.hib_words.specs.Commands.{form_of, options_of, is_valued, verb_named, verb_word, word_of};
+ghost use Rattle.hib_words.specs.Tools.{tool_named};
 
 use clap::{Arg, ArgAction};
 use std::alloc::{AllocError, Global};
 
-/// What the first word asks for.
+/// What the first word asks for, of the program or of its tools.
 #[derive(Clone, Copy)]
 pub enum Verb {
     /// Runs a script by its schedule.
@@ -24,6 +25,10 @@ pub enum Verb {
     Bulk,
     /// Runs a script at two nodes over one store.
     Nodes,
+    /// Tries the orders of a script's sessions.
+    Orders,
+    /// Writes the report of a journal.
+    Report,
 }
 
 /// An option, which each command that has it takes at most once.
@@ -43,6 +48,12 @@ pub enum OptionName {
     Seed,
     /// The script that was made, in place of a run of it.
     Text,
+    /// How many switches an order may make.
+    Switches,
+    /// How many orders are tried.
+    AtMost,
+    /// The script with the schedule of a finding, in place of what was found.
+    Show,
 }
 
 const PLAY_OPTIONS: [OptionName; 3] = [OptionName::Journal, OptionName::File, OptionName::Trace];
@@ -57,6 +68,9 @@ const WORK_OPTIONS: [OptionName; 5] = [
 
 const MAKE_OPTIONS: [OptionName; 2] = [OptionName::Seed, OptionName::Text];
 
+const ORDERS_OPTIONS: [OptionName; 3] =
+    [OptionName::Switches, OptionName::AtMost, OptionName::Show];
+
 impl Verb {
     /// The word that it is written by.
     pub fn word<'a>(self) -> &'a str
@@ -70,6 +84,8 @@ impl Verb {
             Verb::Collect => "collect",
             Verb::Bulk => "bulk",
             Verb::Nodes => "nodes",
+            Verb::Orders => "orders",
+            Verb::Report => "report",
         }
     }
 
@@ -81,12 +97,13 @@ impl Verb {
             Verb::Play => &PLAY_OPTIONS,
             Verb::Work => &WORK_OPTIONS,
             Verb::Make => &MAKE_OPTIONS,
-            Verb::Audit | Verb::Collect | Verb::Bulk | Verb::Nodes => &[],
+            Verb::Orders => &ORDERS_OPTIONS,
+            Verb::Audit | Verb::Collect | Verb::Bulk | Verb::Nodes | Verb::Report => &[],
         }
     }
 }
 
-/// The command that a word names.
+/// The command of the program that a word names.
 pub fn verb_named(word: &str) -> Option<Verb>
     ensures { result ≡ verb_named word.now }
 {
@@ -98,6 +115,17 @@ pub fn verb_named(word: &str) -> Option<Verb>
         "collect" => Some(Verb::Collect),
         "bulk" => Some(Verb::Bulk),
         "nodes" => Some(Verb::Nodes),
+        _ => None,
+    }
+}
+
+/// The command of the tools that a word names.
+pub fn tool_named(word: &str) -> Option<Verb>
+    ensures { result ≡ tool_named word.now }
+{
+    match word {
+        "orders" => Some(Verb::Orders),
+        "report" => Some(Verb::Report),
         _ => None,
     }
 }
@@ -115,6 +143,9 @@ impl OptionName {
             OptionName::Split => "split",
             OptionName::Seed => "seed",
             OptionName::Text => "text",
+            OptionName::Switches => "switches",
+            OptionName::AtMost => "at-most",
+            OptionName::Show => "show",
         }
     }
 
@@ -126,6 +157,9 @@ impl OptionName {
             OptionName::File => Some("PATH"),
             OptionName::Workers => Some("N"),
             OptionName::Seed => Some("N"),
+            OptionName::Switches => Some("N"),
+            OptionName::AtMost => Some("N"),
+            OptionName::Show => Some("K"),
             _ => None,
         }
     }
@@ -140,6 +174,9 @@ impl OptionName {
             OptionName::Split => "Puts each part behind a lock of its own, and not all behind one",
             OptionName::Seed => "Makes the script from N, 0 to 4294967295",
             OptionName::Text => "Writes the script that was made, and runs nothing",
+            OptionName::Switches => "Tries the orders with at most N switches, 0 to 64; 2 if it isn't given",
+            OptionName::AtMost => "Tries at most N orders, 1 to 4294967295",
+            OptionName::Show => "Writes the script with the schedule of finding K, 1 to 5",
         }
     }
 

@@ -1,12 +1,14 @@
-//! The words of the command line: which command they are, and the texts that tell of them.
+//! The words of the command line, of the program and of its tools: which command they are, and the texts that tell of them.
 #![tactic(auto)]
 
 mod forms;
 mod parse;
 mod texts;
+mod tools;
 mod topics;
 mod words;
 
-pub use texts::{VERSION, help};
+pub use texts::{TOOLS_VERSION, VERSION, help, tools_help};
+pub use tools::{Tool, read_tool};
 pub use topics::{Topic, topic_asked};
 pub use words::{Command, Options, read};

@@ -27,6 +27,12 @@ pub struct Found<'a> {
     pub workers: Option<&'a str>,
     /// The value of `--seed`.
     pub seed: Option<&'a str>,
+    /// The value of `--switches`.
+    pub switches: Option<&'a str>,
+    /// The value of `--at-most`.
+    pub at_most: Option<&'a str>,
+    /// The value of `--show`.
+    pub show: Option<&'a str>,
 }
 
 /// Whether clap reads the word as the definition does: it begins with no hyphen, or with two before something more. No other
@@ -89,6 +95,9 @@ pub fn parse<'a>(
     let file = matches.get_str("file");
     let workers = matches.get_str("workers");
     let seed = matches.get_str("seed");
+    let switches = matches.get_str("switches");
+    let at_most = matches.get_str("at-most");
+    let show = matches.get_str("show");
     Ok(Some(Found {
         journal,
         trace,
@@ -97,5 +106,8 @@ pub fn parse<'a>(
         file,
         workers,
         seed,
+        switches,
+        at_most,
+        show,
     }))
 }

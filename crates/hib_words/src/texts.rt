@@ -86,6 +86,42 @@ Why a line of a script is refused, at status 3:
 docs/SCRIPT.md tells what a script may say, docs/JOURNAL.md what a report says, docs/CLAIMS.md what is proved.
 ";
 
+/// The tools' name, the project, and the toolchain that they are proved with.
+pub const TOOLS_VERSION: &str = "hib_tools 0.1
+Zughvarti, sessions over a second-level cache, with a proof
+proved with a Rattle kit of logic dac8208d650f15bf
+";
+
+const ABOUT_TOOLS: &str = "Finds the orders of sessions that end badly, and makes reports of journals.";
+
+const AFTER_TOOLS_HELP: &str = "
+A script comes by standard input. Its sessions are played in every order with at most N switches, the
+orders with the fewest first; its schedule isn't used. A switch is a place where a session is left that
+comes again later:
+  hib_tools orders --switches 1 < examples/stale.hib
+Each finding has a number, and the schedule of one order that has it, with the fewest switches. The
+script with that schedule is written by:
+  hib_tools orders --switches 1 --show 1 < examples/stale.hib > found.hib
+Of a journal as JSON lines, behind its script and a line 'journal', the report is written that
+'hib play' would have written:
+  hib work --workers 4 --journal < examples/shop.hib > lines
+  (cat examples/shop.hib; echo journal; cat lines) | hib_tools report
+
+The words --help and --version stand alone: beside another word they are no command.
+
+Exit status, which a line on standard error explains if it isn't 0 or 1:
+  0  all was done, and nothing was found
+  1  an order ends badly, and the text was written whole; with --show, there is no finding K
+  2  the words are no command
+  3  the input is no script, as in 'hib: line 7: no-end'; nothing was written
+  4  reading failed; nothing was written
+  5  writing failed; a first part of the text may be written
+  6  the input has more than 1,048,576 bytes, or 67,108,864 with a journal; nothing was written
+  8  memory ran out; a first part of the text may be written
+
+docs/ORDERS.md tells what an order, a switch and each finding are.
+";
+
 impl Verb {
     /// The program's name and its word.
     fn full_name<'a>(self) -> &'a str {
@@ -97,6 +133,8 @@ impl Verb {
             Verb::Collect => "hib collect",
             Verb::Bulk => "hib bulk",
             Verb::Nodes => "hib nodes",
+            Verb::Orders => "hib_tools orders",
+            Verb::Report => "hib_tools report",
         }
     }
 
@@ -110,6 +148,8 @@ impl Verb {
             Verb::Collect => "Runs a script with collections, and writes its journal",
             Verb::Bulk => "Runs a script with bulk changes, and writes its journal",
             Verb::Nodes => "Runs a script at two nodes over one store, and writes its journal",
+            Verb::Orders => "Tries the orders of a script's sessions, and writes which of them end badly",
+            Verb::Report => "Writes the report of a journal that comes after its script",
         }
     }
 }
@@ -120,6 +160,8 @@ impl OptionName {
         matches!(self, OptionName::Workers | OptionName::Seed)
     }
 }
+
+const TOOL_VERBS: [Verb; 2] = [Verb::Orders, Verb::Report];
 
 const VERBS: [Verb; 7] = [
     Verb::Play,
@@ -148,13 +190,18 @@ fn lone_word<'a>(alloc: Global, name: &'a str, help: &'a str) -> Arg<'a> {
         .help(help)
 }
 
-/// The program as the help shows it, without its commands.
-fn program<'a>(alloc: Global) -> Result<Command<'a>, AllocError> {
+/// A program as the help shows it, without its commands.
+fn program<'a>(
+    alloc: Global,
+    name: &'a str,
+    about: &'a str,
+    usage: &'a str,
+) -> Result<Command<'a>, AllocError> {
     let help = lone_word(alloc, "help", "Prints this text");
     let version = lone_word(alloc, "version", "Prints the version");
-    Command::new(alloc, "hib")
-        .about(ABOUT)
-        .override_usage("hib <COMMAND> [OPTIONS]")
+    Command::new(alloc, name)
+        .about(about)
+        .override_usage(usage)
         .disable_help_flag(true)
         .disable_help_subcommand(true)
         .arg(help)?
@@ -171,15 +218,6 @@ fn with_command<'a>(
     program.subcommand(command.about(verb.about()))
 }
 
-/// What clap says of the program and its commands.
-fn overview(alloc: Global) -> Result<String, AllocError> {
-    let mut program = program(alloc)?;
-    for verb in VERBS {
-        program = with_command(alloc, program, verb)?;
-    }
-    program.render_help()
-}
-
 /// What clap says of a command alone.
 fn section(alloc: Global, verb: Verb) -> Result<String, AllocError> {
     let mut command = shown(alloc, verb, verb.full_name())?;
@@ -192,13 +230,39 @@ fn add_section(alloc: Global, text: &mut String, verb: Verb) -> Result<(), Alloc
     text.push_str(section.as_str())
 }
 
+/// What clap says of a program, its commands and their options, and then a text.
+fn help_of<'a>(
+    alloc: Global,
+    program: Command<'a>,
+    verbs: &[Verb],
+    after: &str,
+) -> Result<String, AllocError> {
+    let mut program = program;
+    for verb in verbs {
+        program = with_command(alloc, program, *verb)?;
+    }
+    let mut text = program.render_help()?;
+    for verb in verbs {
+        add_section(alloc, &mut text, *verb)?;
+    }
+    text.push_str(after)?;
+    Ok(text)
+}
+
 /// The text of `--help`: clap's own for the commands and options, and then what a user has to know besides. The only error is want
 /// of memory.
 pub fn help(alloc: Global) -> Result<String, AllocError> {
-    let mut text = overview(alloc)?;
-    for verb in VERBS {
-        add_section(alloc, &mut text, verb)?;
-    }
-    text.push_str(AFTER_HELP)?;
-    Ok(text)
+    let program = program(alloc, "hib", ABOUT, "hib <COMMAND> [OPTIONS]")?;
+    help_of(alloc, program, &VERBS, AFTER_HELP)
+}
+
+/// The same text of the tools. The only error is want of memory.
+pub fn tools_help(alloc: Global) -> Result<String, AllocError> {
+    let program = program(
+        alloc,
+        "hib_tools",
+        ABOUT_TOOLS,
+        "hib_tools <COMMAND> [OPTIONS]",
+    )?;
+    help_of(alloc, program, &TOOL_VERBS, AFTER_TOOLS_HELP)
 }

@@ -124,7 +124,7 @@ fn all_digits(bytes: &[u8]) -> bool
 }
 
 /// The number that the text writes, if it lies from low to high.
-fn number_between(text: &str, low: u32, high: u32) -> Option<u32>
+pub fn number_between(text: &str, low: u32, high: u32) -> Option<u32>
     ensures { result ≡ number_between low high text.now }
 {
     if !is_numeral(text) {
@@ -214,6 +214,7 @@ fn command_from(alloc: Global, verb: Verb, found: &Found<'_>) -> Result<Option<C
         Verb::Collect => Ok(Some(Command::Collect)),
         Verb::Bulk => Ok(Some(Command::Bulk)),
         Verb::Nodes => Ok(Some(Command::Nodes)),
+        Verb::Orders | Verb::Report => Ok(None),
     }
 }
 

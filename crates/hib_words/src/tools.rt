@@ -1,0 +1,84 @@
+// What the words ask of the tools.
+ghost use Rattle.std.specs.Prelude.{option_map, ◌≡◌, IfOk, map, string_bytes};
+ghost use Rattle.hib_words.specs.Matched.{chosen_of};
+ghost use Rattle.hib_words.specs.Tools.{number_if_any, tool_asked, tool_command};
+
+use crate::forms::{Verb, tool_named};
+use crate::parse::{Found, parse};
+use crate::words::number_between;
+use std::alloc::{AllocError, Global};
+
+/// What the words of a command line ask of the tools.
+#[derive(Clone, Copy, Debug, PartialEq, Eq)]
+pub enum Tool {
+    /// The orders of a script's sessions are tried.
+    Orders {
+        /// How many switches an order may make, 0 to 64.
+        switches: u32,
+        /// How many orders are tried at most, 1 to 4294967295.
+        at_most: Option<u32>,
+        /// The number of a finding, 1 to 5, whose schedule is written with the script, and nothing else.
+        show: Option<u32>,
+    },
+    /// The report of a journal is written.
+    Report,
+}
+
+/// A number that need not be given; none if it is out of its range.
+fn number_if_any(text: Option<&str>, low: u32, high: u32) -> Option<Option<u32>>
+    ensures { result ≡ number_if_any low high (option_map (λ s. s.now) text.entry) }
+{
+    match text {
+        None => Some(None),
+        Some(text) => match number_between(text, low, high) {
+            Some(number) => Some(Some(number)),
+            None => None,
+        },
+    }
+}
+
+fn orders(found: &Found<'_>) -> Option<Tool>
+    ensures { result ≡ tool_asked Verb.Orders (chosen_of found.now) }
+{
+    let Some(switches) = number_if_any(found.switches, 0, 64) else {
+        return None;
+    };
+    let Some(at_most) = number_if_any(found.at_most, 1, u32::MAX) else {
+        return None;
+    };
+    let Some(show) = number_if_any(found.show, 1, 5) else {
+        return None;
+    };
+    Some(Tool::Orders {
+        switches: switches.unwrap_or(2),
+        at_most,
+        show,
+    })
+}
+
+fn tool_from(verb: Verb, found: &Found<'_>) -> Option<Tool>
+    ensures { result ≡ tool_asked verb (chosen_of found.now) }
+{
+    match verb {
+        Verb::Orders => orders(found),
+        Verb::Report => Some(Tool::Report),
+        _ => None,
+    }
+}
+
+/// What these words ask of the tools, without the program's own name before them; none exactly if they have no form. The only
+/// error is want of memory.
+pub fn read_tool(alloc: Global, words: &[String]) -> Result<Option<Tool>, AllocError>
+    ensures { IfOk result (λ r. r ≡ tool_command (map string_bytes words.now)) }
+{
+    let Some(first) = words.first() else {
+        return Ok(None);
+    };
+    let Some(verb) = tool_named(first.as_str()) else {
+        return Ok(None);
+    };
+    let Some(found) = parse(alloc, verb, words)? else {
+        return Ok(None);
+    };
+    Ok(tool_from(verb, &found))
+}
