@@ -4,5 +4,6 @@
 mod calling;
 mod telling;
 
-pub use calling::{ErrorTrace, call, listeners_asked, words_given};
-pub use telling::{print_topic, told};
+pub use calling::{ErrorTrace, call, listeners_asked};
+pub use hib_host::{told, words_given};
+pub use telling::print_topic;
