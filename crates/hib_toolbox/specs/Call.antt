@@ -8,6 +8,8 @@ use Rattle.hib_input.specs.declared.with_journal.WithJournal.{WithJournal}
 use Rattle.hib_words.specs.declared.tools.Tool.{Tool}
 use Rattle.hib_words.specs.declared.tools.Tool.TheVariants as tool
 use Rattle.hib_toolbox.specs.declared.ended.Said.{Said}
+use Rattle.hib_toolbox.specs.declared.orders.Explored.{Explored}
+use Rattle.hib_toolbox.specs.Exploring.{IsSaid, IsSaidOf, exploring, finding_numbered, showing}
 use Rattle.hib_toolbox.specs.Reporting.{reporting}
 
 -- what source and sink tell at one moment: what is left and how often reading failed, what was taken and how often writing failed
@@ -21,7 +23,10 @@ DoesBy c old new answer run = (s : Shared) × (t : Shared) × IsCalled c (record
 -- what is asked for is done by the call of a command
 abbrev pub DoesTool : Tool → Outside → Outside → Status → Said → Type 0
 DoesTool tool.Report old new answer said = (run : Option WithJournal) × DoesBy reporting old new answer run × (said ≡ Said.Nothing)
-DoesTool (tool.Orders switches at_most show) old new answer said = Unit {0}
+DoesTool (tool.Orders switches at_most None) old new answer said =
+    (run : Option Explored) × DoesBy (exploring switches at_most) old new answer run × IsSaid answer run said
+DoesTool (tool.Orders switches at_most (Some k)) old new answer said =
+    (run : Option Explored) × DoesBy (showing switches at_most (finding_numbered k)) old new answer run × IsSaidOf (finding_numbered k) answer run said
 
 -- and if the words have no form, nothing is done
 unfoldable pub DoesIf : Option Tool → Outside → Outside → Status → Said → Type 0

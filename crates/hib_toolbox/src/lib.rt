@@ -3,8 +3,12 @@
 #![tactic(auto)]
 
 mod ended;
+mod orders;
 mod report;
+mod show;
 mod top;
 
 pub use ended::{Ended, Said};
+pub use orders::{Explored, Orders};
+pub use show::Show;
 pub use top::tools;

@@ -1,11 +1,15 @@
 // The call that the tools' program makes with its words.
-ghost use Rattle.std.specs.Prelude.{◌≡◌, map, string_bytes};
+ghost use Rattle.std.specs.Prelude.{◌≡◌, ◌≢◌, ℕ, None, Some, map, string_bytes, true};
+ghost use Rattle.hib_base.specs.Valid.{is_valid};
 ghost use Rattle.hib_toolbox.specs.Call.{DoesTool, Promised, streams};
+ghost use Rattle.hib_toolbox.specs.Exploring.{finding_numbered};
 ghost use Rattle.hib_words.specs.Tools.{tool_command};
 ghost use Rattle.hib_words.specs.declared.tools.Tool.{Tool};
 
 use crate::ended::{Ended, Said};
+use crate::orders::{Orders, explore, is_any, is_there};
 use crate::report::{Report, as_read};
+use crate::show::{Show, explore_for, finding_numbered};
 use hib_base::Seq;
 use hib_call::{Lent, Status, call};
 use hib_listeners::Recorder;
@@ -42,19 +46,105 @@ fn report<S: Source, W: Sink>(alloc: Global, source: &mut S, out: &mut W) -> End
     }
 }
 
-/// Does what is asked.
-fn serve<S: Source, W: Sink>(alloc: Global, tool: Tool, source: &mut S, out: &mut W) -> Ended {
-    match tool {
-        Tool::Report => report(alloc, source, out),
-        Tool::Orders { .. } => Ended {
-            status: Status::NoMemory,
-            said: Said::Nothing,
-        },
+/// Tries the orders of a script's sessions.
+fn try_orders<S: Source, W: Sink>(
+    alloc: Global,
+    orders: Orders,
+    source: &mut S,
+    out: &mut W,
+) -> Ended
+    ensures does { DoesTool (Tool.Orders orders.switches orders.at_most None)
+        (streams (S.left source.old) (S.faults source.old) (W.taken out.old) (W.faults out.old))
+        (streams (S.left source.new) (S.faults source.new) (W.taken out.new) (W.faults out.new))
+        result.status result.said }
+{
+    let called = call(
+        alloc,
+        &orders,
+        source,
+        out,
+        nobody(alloc),
+        |script, lent|
+            requires { is_valid script ≡ true }
+        { explore(alloc, orders, script, lent) },
+    );
+    let said = match &called.run {
+        Some(run) if called.status.is_done() && is_any(run) => Said::Found,
+        _ => Said::Nothing,
+    };
+    Ended {
+        status: called.status,
+        said,
     }
 }
 
-/// Does what the words ask of the tools. `report` reads a script and a journal after it, and writes the report of the journal. If
-/// the words have no form, nothing is read and nothing written.
+/// Tries the orders of a script's sessions, and writes the script with the schedule of a finding.
+fn show_finding<S: Source, W: Sink>(
+    alloc: Global,
+    show: Show,
+    source: &mut S,
+    out: &mut W,
+) -> Ended
+    ensures does { (number : ℕ) → finding_numbered number ≡ show.finding
+        → DoesTool (Tool.Orders show.orders.switches show.orders.at_most (Some number))
+        (streams (S.left source.old) (S.faults source.old) (W.taken out.old) (W.faults out.old))
+        (streams (S.left source.new) (S.faults source.new) (W.taken out.new) (W.faults out.new))
+        result.status result.said }
+{
+    let called = call(
+        alloc,
+        &show,
+        source,
+        out,
+        nobody(alloc),
+        |script, lent|
+            requires { is_valid script ≡ true }
+        { explore_for(alloc, show, script, lent) },
+    );
+    let said = match &called.run {
+        Some(run) if called.status.is_done() && !is_there(run, show.finding) => Said::Missing,
+        _ => Said::Nothing,
+    };
+    Ended {
+        status: called.status,
+        said,
+    }
+}
+
+/// Does what is asked.
+fn serve<S: Source, W: Sink>(alloc: Global, tool: Tool, source: &mut S, out: &mut W) -> Ended
+    ensures does { DoesTool tool
+        (streams (S.left source.old) (S.faults source.old) (W.taken out.old) (W.faults out.old))
+        (streams (S.left source.new) (S.faults source.new) (W.taken out.new) (W.faults out.new))
+        result.status result.said }
+    ensures usage { result.status ≢ Status.Usage }
+{
+    match tool {
+        Tool::Report => report(alloc, source, out),
+        Tool::Orders {
+            switches,
+            at_most,
+            show: None,
+        } => try_orders(alloc, Orders { switches, at_most }, source, out),
+        Tool::Orders {
+            switches,
+            at_most,
+            show: Some(number),
+        } => show_finding(
+            alloc,
+            Show {
+                orders: Orders { switches, at_most },
+                finding: finding_numbered(number),
+            },
+            source,
+            out,
+        ),
+    }
+}
+
+/// Does what the words ask of the tools. `orders` reads a script, tries the orders of its sessions and writes what was found, or the
+/// script with the schedule of a finding. `report` reads a script and a journal after it, and writes the report of the journal. If the
+/// words have no form, nothing is read and nothing written.
 pub fn tools<S: Source, W: Sink>(
     alloc: Global,
     words: &[String],

@@ -1,0 +1,147 @@
+// The whole text.
+ghost use Rattle.hib_order_text.specs.Texts.{ending_text, endings_text, findings_text, levels_text, outcomes_text, said_text, text, tried_text};
+ghost use Rattle.hib_order_tries.specs.declared.endings.Ending.{Ending};
+ghost use Rattle.std.specs.Prelude.{◌≡◌, ◌++◌, IfOk, OnOk, flat_map};
+
+use crate::findings::{Finding, put_finding};
+use hib_base::{Outcome, Reply, Script};
+use hib_order_tries::{Ending, Endings, Findings, Told};
+use hib_report::put_reply;
+use hib_texts::{put_labelled, put_number};
+use std::alloc::{AllocError, Global};
+
+/// How many orders were tried, within which number of switches, and whether these are all.
+fn put_tried(alloc: Global, out: &mut Vec<u8>, most: u32, told: &Told) -> Result<(), AllocError>
+    ensures { OnOk result (out.new.items ≡ out.old.items ++ tried_text most told.now) }
+{
+    put_labelled(alloc, out, b"orders ", told.findings.tried)?;
+    put_labelled(alloc, out, b" switches ", u64::from(most))?;
+    if told.whole {
+        return out.extend_from_slice(b" all\n");
+    }
+    put_labelled(alloc, out, b" cut ", told.level as u64)?;
+    out.extend_from_slice(b"\n")
+}
+
+/// A line for each number of switches.
+fn put_levels(alloc: Global, out: &mut Vec<u8>, levels: &[u64]) -> Result<(), AllocError>
+    ensures { OnOk result (out.new.items ≡ out.old.items ++ levels_text 0 levels.now) }
+{
+    for (switches, orders) in levels.iter().enumerate() {
+        put_labelled(alloc, out, b"switches ", switches as u64)?;
+        put_labelled(alloc, out, b" ", *orders)?;
+        out.extend_from_slice(b"\n")?;
+    }
+    Ok(())
+}
+
+/// How a session has ended.
+fn put_outcome(
+    alloc: Global,
+    out: &mut Vec<u8>,
+    script: &Script,
+    outcome: Option<&Outcome>,
+) -> Result<(), AllocError>
+    ensures { OnOk result (out.new.items ≡ out.old.items ++ said_text outcome.entry) }
+{
+    match outcome {
+        None => Ok(()),
+        Some(outcome) => put_reply(alloc, out, script, &Reply::Ended { outcome: *outcome }),
+    }
+}
+
+/// How each session has ended, by its name.
+fn put_outcomes(
+    alloc: Global,
+    out: &mut Vec<u8>,
+    script: &Script,
+    outcomes: &[Outcome],
+) -> Result<(), AllocError>
+    ensures { OnOk result (out.new.items
+        ≡ out.old.items ++ outcomes_text outcomes.now 0 script.now.sessions) }
+{
+    for (session, def) in script.sessions.as_slice().iter().enumerate() {
+        if session > 0 {
+            out.extend_from_slice(b",")?;
+        }
+        out.extend_from_slice(b" ")?;
+        out.extend_from_slice(def.name.as_slice())?;
+        out.extend_from_slice(b" ")?;
+        put_outcome(alloc, out, script, outcomes.get(session))?;
+    }
+    Ok(())
+}
+
+fn put_ending(
+    alloc: Global,
+    out: &mut Vec<u8>,
+    script: &Script,
+    ending: &Ending,
+) -> Result<(), AllocError>
+    ensures { OnOk result (out.new.items ≡ out.old.items ++ ending_text script.now ending.now) }
+{
+    put_number(alloc, out, ending.count)?;
+    put_outcomes(alloc, out, script, ending.outcomes.as_slice())?;
+    out.extend_from_slice(b"\n")
+}
+
+/// A line for each ending.
+fn put_each_ending(
+    alloc: Global,
+    out: &mut Vec<u8>,
+    script: &Script,
+    endings: &Endings,
+) -> Result<(), AllocError>
+    ensures { OnOk result (out.new.items
+        ≡ out.old.items ++ flat_map (λ e. ending_text script.now e) endings.now) }
+{
+    for place in 0..endings.len() {
+        if let Some(ending) = endings.at(place) {
+            put_ending(alloc, out, script, ending)?;
+        }
+    }
+    Ok(())
+}
+
+fn put_endings(
+    alloc: Global,
+    out: &mut Vec<u8>,
+    script: &Script,
+    endings: &Endings,
+) -> Result<(), AllocError>
+    ensures { OnOk result (out.new.items ≡ out.old.items ++ endings_text script.now endings.now) }
+{
+    put_labelled(alloc, out, b"endings ", endings.len() as u64)?;
+    out.extend_from_slice(b"\n")?;
+    put_each_ending(alloc, out, script, endings)
+}
+
+fn put_findings(
+    alloc: Global,
+    out: &mut Vec<u8>,
+    script: &Script,
+    findings: &Findings,
+) -> Result<(), AllocError>
+    ensures { OnOk result (out.new.items ≡ out.old.items ++ findings_text script.now findings.now) }
+{
+    put_finding(alloc, out, script, findings, Finding::StaleHit)?;
+    put_finding(alloc, out, script, findings, Finding::OldList)?;
+    put_finding(alloc, out, script, findings, Finding::LostUpdate)?;
+    put_finding(alloc, out, script, findings, Finding::UnsoundKey)?;
+    put_finding(alloc, out, script, findings, Finding::RefusedCommit)
+}
+
+/// What a search of a script's orders with so many switches at most has come to: how many orders there are, how they end, and of each
+/// finding in how many it is, with the schedule of one that has the fewest switches. Fails for want of memory alone; an order of 2^32
+/// steps or more is answered as that.
+pub fn text(alloc: Global, script: &Script, most: u32, told: &Told) -> Result<Vec<u8>, AllocError>
+    ensures { IfOk result (λ v. v.items ≡ text script.now most told.now) }
+{
+    let mut out = Vec::new(alloc);
+    put_tried(alloc, &mut out, most, told)?;
+    put_levels(alloc, &mut out, told.findings.levels.as_slice())?;
+    put_endings(alloc, &mut out, script, &told.findings.endings)?;
+    put_findings(alloc, &mut out, script, &told.findings)?;
+    out.extend_from_slice(b"end\n")?;
+    Ok(out)
+}

@@ -1,0 +1,126 @@
+-- The orders of a script's sessions, tried and told.
+use Rattle.std.specs.Prelude.{◌≡◌, ◌⊎◌, ◌≤◌, ◌^◌, ◌-◌, ◌||◌, ℕ, Bool, true, false, cond, List, [], ⊤, ⊥, is_some, IfSome, Some, None, Option, Ok, Err}
+use Rattle.std.specs.Option.{option_map_or}
+use Rattle.hib_journal.specs.Types.{Script, Entry}
+use Rattle.hib_journal.specs.Played.{is_played}
+use Rattle.hib_order_law.specs.Orders.{IsRun, IsWithin, onto, sessions_in}
+use Rattle.hib_order_law.specs.declared.verdicts.Verdicts.{Verdicts}
+use Rattle.hib_order_schedule.specs.Schedules.{shown, with_schedule}
+use Rattle.hib_order_stage.specs.Staged.{ending_of, rows_at_start, verdicts_of}
+use Rattle.hib_order_text.specs.Texts.{found_of, text}
+use Rattle.hib_order_text.specs.declared.findings.Finding.{Finding}
+use Rattle.hib_order_tries.specs.Found.{IsTold}
+use Rattle.hib_order_tries.specs.declared.found.Findings.{Findings}
+use Rattle.hib_order_tries.specs.declared.found.First.{First}
+use Rattle.hib_order_tries.specs.declared.trying.Told.{Told}
+use Rattle.hib_print.specs.Printed.{printed}
+use Rattle.hib_script.specs.Outline.{Outline, outline_of}
+use Rattle.hib_script.specs.Script.{script_of}
+use Rattle.hib_call.specs.declared.status.Status.{Status}
+use Rattle.hib_call.specs.Command.{Command}
+use Rattle.hib_call.specs.Ends.{IsWritten}
+use Rattle.hib_call.specs.Outside.{Shared}
+use Rattle.hib_toolbox.specs.declared.ended.Said.{Said}
+use Rattle.hib_toolbox.specs.declared.orders.Explored.{Explored}
+use Rattle.hib_toolbox.specs.Reporting.{IsToldSo}
+
+-- the finding of a number, 1 to 5
+abbrev pub finding_numbered : ℕ → Finding
+finding_numbered 1 = Finding.StaleHit
+finding_numbered 2 = Finding.OldList
+finding_numbered 3 = Finding.LostUpdate
+finding_numbered 4 = Finding.UnsoundKey
+finding_numbered _ = Finding.RefusedCommit
+
+-- the most orders that are tried
+abbrev pub limit_of : Option ℕ → ℕ
+limit_of None = 2 ^ 64 - 1
+limit_of (Some n) = n
+
+-- whether a finding is one that is judged so
+abbrev pub has_of : Verdicts → Finding → Bool
+has_of v Finding.StaleHit = v.stale_hit
+has_of v Finding.OldList = v.old_list
+has_of v Finding.LostUpdate = v.lost_update
+has_of v Finding.UnsoundKey = v.unsound_key
+has_of v Finding.RefusedCommit = v.refused_commit
+
+abbrev pub has_in : Script → Finding → List Entry → Bool
+has_in script finding es = has_of (verdicts_of script es) finding
+
+-- an order that is told to have something is that of a run that has it; and the script with the schedule that is told plays just this
+-- run
+abbrev pub IsShown : Script → Finding → First → Type 0
+IsShown script finding f =
+    (es : List Entry) × IsRun script (rows_at_start script) es × (f.order.items ≡ sessions_in es) × (has_in script finding es ≡ true)
+    × IsRun (with_schedule script (shown f.order.items)) (rows_at_start script) es
+    × (is_played (with_schedule script (shown f.order.items)) (onto es []) ≡ true)
+
+-- the orders of a script with so many switches at most were tried, or so many of them
+pub record Explores (switches : ℕ) (at_most : Option ℕ) (script : Script) (run : Explored) : Type 0 where
+  pub of : run.script ≡ script
+  -- each once; what is counted of them is what they come to; and they are all of them, or all with fewer switches than it says
+  pub told : IsTold script (rows_at_start script) (verdicts_of script) (ending_of script) switches run.told.whole run.told.level run.told.findings
+  -- it stops at the bound alone, or after 2^64 - 1 plays
+  pub few : run.told.findings.tried ≤ limit_of at_most
+  pub whole : (run.told.whole ≡ true) ⊎ ((run.told.findings.tried ≡ limit_of at_most) ⊎ (run.told.played ≡ 2 ^ 64 - 1))
+  -- if all were tried and something is told of none, then no run of the sessions alone, without faults and with so few switches, has it,
+  -- whoever made it
+  pub none : (finding : Finding) → run.told.whole ≡ true → (found_of run.told.findings finding).first ≡ None →
+      (es : List Entry) → IsWithin script (rows_at_start script) switches es → has_in script finding es ≡ false
+  pub first : (finding : Finding) → IfSome (found_of run.told.findings finding).first (IsShown script finding)
+
+-- memory may run out before all were tried
+abbrev pub Stops : Shared → Shared → Status → Option Explored → Type 0
+Stops old new Status.NoMemory None = new ≡ old
+Stops old new _ _ = ⊥
+
+abbrev pub is_there : Findings → Finding → Bool
+is_there f finding = is_some (found_of f finding).first
+
+-- an order ends badly
+abbrev pub is_any : Findings → Bool
+is_any f = is_there f Finding.StaleHit || is_there f Finding.OldList || is_there f Finding.LostUpdate
+    || is_there f Finding.UnsoundKey || is_there f Finding.RefusedCommit
+
+-- it is said if all was done
+abbrev pub IsSaid : Status → Option Explored → Said → Type 0
+IsSaid Status.Done (Some run) said = said ≡ cond (is_any run.told.findings) Said.Found Said.Nothing
+IsSaid _ _ said = said ≡ Said.Nothing
+
+-- ---- the command
+abbrev pub exploring : ℕ → Option ℕ → Command Script Explored
+exploring switches at_most = record {
+  limit = 1048576;
+  reads = λ text script. script_of text ≡ Ok (outline_of script);
+  refuses = λ text refused. script_of text ≡ Err refused;
+  has_form = λ text. (said : Outline) × (script_of text ≡ Ok said);
+  leaves = λ script old new run. Explores switches at_most script run × (new ≡ old);
+  stops = λ script. Stops;
+  tells = λ run answer taken written. IsWritten answer (text run.script switches run.told) taken written × IsToldSo answer;
+}
+
+-- ---- one finding shown
+
+-- the script with the schedule of an order that has it, if one was found
+abbrev pub script_shown : Script → Option First → Script
+script_shown script None = script
+script_shown script (Some f) = with_schedule script (shown f.order.items)
+
+pub record Shows (switches : ℕ) (at_most : Option ℕ) (finding : Finding) (script : Script) (run : Explored) : Type 0 where
+  pub explored : Explores switches at_most script (record { script = script; told = run.told })
+  pub shown : run.script ≡ script_shown script (found_of run.told.findings finding).first
+
+-- nothing is written if it wasn't found
+abbrev pub shown_text : Finding → Explored → List ℕ
+shown_text finding run = cond (is_there run.told.findings finding) (printed run.script) []
+
+abbrev pub IsSaidOf : Finding → Status → Option Explored → Said → Type 0
+IsSaidOf finding Status.Done (Some run) said = said ≡ cond (is_there run.told.findings finding) Said.Nothing Said.Missing
+IsSaidOf finding _ _ said = said ≡ Said.Nothing
+
+abbrev pub showing : ℕ → Option ℕ → Finding → Command Script Explored
+showing switches at_most finding = record (exploring switches at_most) {
+  leaves = λ script old new run. Shows switches at_most finding script run × (new ≡ old);
+  tells = λ run answer taken written. IsWritten answer (shown_text finding run) taken written × IsToldSo answer;
+}

@@ -1,0 +1,136 @@
+// The orders of a script's sessions, tried and told.
+ghost use Rattle.std.specs.Prelude.{◌≡◌, Err, IfErr, IfOk, Ok, true};
+ghost use Rattle.hib_base.specs.Valid.{is_valid};
+ghost use Rattle.hib_call.specs.Ends.{Comes, IsWhere};
+ghost use Rattle.hib_call.specs.Outside.{shared_by};
+ghost use Rattle.hib_script.specs.Outline.{Outline, outline_of};
+ghost use Rattle.hib_script.specs.Script.{script_of};
+ghost use Rattle.hib_toolbox.specs.Exploring.{exploring, is_any, is_there, limit_of};
+
+use hib_base::Script;
+use hib_call::{InputFault, Lent, Outcome, Ran, Status, Task, tell_text};
+use hib_order_schedule::scheduled;
+use hib_order_stage::search_orders;
+use hib_order_text::{Finding, found_of, text};
+use hib_order_tries::{Told, what_is_told_is_so};
+use hib_outside::{Keeper, Listener, Sink};
+use hib_script::ScriptError;
+use std::alloc::Global;
+
+/// A script whose orders were tried.
+#[derive(Drop)]
+pub struct Explored {
+    /// The script.
+    pub script: Script,
+    /// What the search came to.
+    pub told: Told,
+}
+
+/// The most orders that are tried.
+fn limit_of(at_most: Option<u32>) -> u64
+    ensures { result ≡ limit_of at_most }
+{
+    match at_most {
+        None => u64::MAX,
+        Some(orders) => u64::from(orders),
+    }
+}
+
+/// Whether something was found.
+pub fn is_there(run: &Explored, finding: Finding) -> bool
+    ensures { result ≡ is_there run.now.told.findings finding }
+{
+    found_of(&run.told.findings, finding).first.is_some()
+}
+
+/// Whether an order ends badly.
+pub fn is_any(run: &Explored) -> bool
+    ensures { result ≡ is_any run.now.told.findings }
+{
+    is_there(run, Finding::StaleHit)
+        || is_there(run, Finding::OldList)
+        || is_there(run, Finding::LostUpdate)
+        || is_there(run, Finding::UnsoundKey)
+        || is_there(run, Finding::RefusedCommit)
+}
+
+/// Reads a script, tries the orders of its sessions and writes what was found.
+#[derive(Clone, Copy, Debug, PartialEq, Eq)]
+pub struct Orders {
+    /// The most switches of an order.
+    pub switches: u32,
+    /// The most orders that are tried, if that is bounded.
+    pub at_most: Option<u32>,
+}
+
+/// Tries the orders of a script's sessions, and hands back what is lent as it is.
+pub fn explore<K: Keeper, L: Listener>(
+    alloc: Global,
+    orders: Orders,
+    script: Script,
+    lent: Lent<K, L>,
+) -> Ran<Explored, K, L>
+    requires { is_valid script ≡ true }
+    ensures { Comes (exploring orders.switches orders.at_most) script
+        (shared_by K.tables K.faults K.asked L.heard L.left lent.keeper lent.listeners.items)
+        (shared_by K.tables K.faults K.asked L.heard L.left result.lent.keeper
+        result.lent.listeners.items)
+        result.outcome }
+{
+    what_is_told_is_so();
+    scheduled();
+    let outcome = match search_orders(
+        alloc,
+        script,
+        orders.switches as usize,
+        limit_of(orders.at_most),
+    ) {
+        Ok((script, told)) => Outcome::Over(Explored { script, told }),
+        Err(_) => Outcome::Stopped(Status::NoMemory, None),
+    };
+    Ran { outcome, lent }
+}
+
+/// Reads a script.
+pub fn read_script(alloc: Global, text: &[u8]) -> Result<Script, InputFault>
+    ensures script { IfOk result (λ script. script_of text.now ≡ Ok (outline_of script)) }
+    ensures valid { IfOk result (λ script. is_valid script ≡ true) }
+    ensures refused { IfErr result (IsWhere (λ refused. script_of text.now ≡ Err refused)) }
+    ensures whole { (said : Outline) → script_of text.now ≡ Ok said
+        → IfErr result (λ fault. fault ≡ InputFault.NoMemory) }
+{
+    match hib_script::read(alloc, text) {
+        Ok(script) => Ok(script),
+        Err(ScriptError::Refused(refused)) => Err(InputFault::Refused(refused)),
+        Err(ScriptError::NoMemory) => Err(InputFault::NoMemory),
+    }
+}
+
+impl Task for Orders {
+    ghost use Rattle.std.specs.Prelude.{◌≡◌, true};
+    ghost use Rattle.hib_base.specs.Valid.{is_valid};
+    ghost use Rattle.hib_toolbox.specs.Exploring.{exploring};
+
+    type Input = Script;
+
+    type Run = Explored;
+
+    ghost command = { λ orders. exploring orders.switches orders.at_most };
+
+    ghost is_sound = { λ script. is_valid script ≡ true };
+
+    fn limit(&self) -> usize {
+        1_048_576
+    }
+
+    fn read(&self, alloc: Global, text: &[u8]) -> Result<Script, InputFault> {
+        read_script(alloc, text)
+    }
+
+    fn tell<W: Sink>(&self, alloc: Global, run: &Explored, out: &mut W) -> Status {
+        match text(alloc, &run.script, self.switches, &run.told) {
+            Ok(text) => tell_text(text.as_slice(), out),
+            Err(_) => Status::NoMemory,
+        }
+    }
+}

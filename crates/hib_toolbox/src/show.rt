@@ -1,0 +1,122 @@
+// The script with the schedule of a finding.
+ghost use Rattle.std.specs.Prelude.{◌≡◌, IfOk, true};
+ghost use Rattle.hib_base.specs.Valid.{is_valid};
+ghost use Rattle.hib_call.specs.Ends.{Comes};
+ghost use Rattle.hib_call.specs.Outside.{shared_by};
+ghost use Rattle.hib_order_tries.specs.declared.found.First.{First};
+ghost use Rattle.hib_toolbox.specs.Exploring.{finding_numbered, script_shown, showing};
+
+use crate::orders::{Explored, Orders, explore, is_there, read_script};
+use hib_base::{Script, Seq};
+use hib_call::{InputFault, Lent, Outcome, Ran, Status, Task, tell_text};
+use hib_order_schedule::{schedule_of, with_schedule};
+use hib_order_text::{Finding, found_of};
+use hib_order_tries::First;
+use hib_outside::{Keeper, Listener, Sink};
+use std::alloc::{AllocError, Global};
+
+/// The finding of a number, 1 to 5.
+pub fn finding_numbered(number: u32) -> Finding
+    ensures { result ≡ finding_numbered number }
+{
+    match number {
+        1 => Finding::StaleHit,
+        2 => Finding::OldList,
+        3 => Finding::LostUpdate,
+        4 => Finding::UnsoundKey,
+        _ => Finding::RefusedCommit,
+    }
+}
+
+/// Reads a script, tries the orders of its sessions and writes the script with the schedule of one that has a finding, if one was
+/// found.
+#[derive(Clone, Copy, Debug, PartialEq, Eq)]
+pub struct Show {
+    /// Which orders are tried.
+    pub orders: Orders,
+    /// What is looked for.
+    pub finding: Finding,
+}
+
+/// The script with the schedule that plays an order. An order of 2^32 steps or more is answered as want of memory.
+fn script_shown(
+    alloc: Global,
+    script: Script,
+    first: &Option<First>,
+) -> Result<Script, AllocError>
+    ensures { IfOk result (λ s. s ≡ script_shown script first.now) }
+{
+    let Some(first) = first else {
+        return Ok(script);
+    };
+    if first.order.len() >= 4_294_967_296 {
+        return Err(AllocError);
+    }
+    let schedule = schedule_of(alloc, first.order.as_slice())?;
+    Ok(with_schedule(script, Seq::from_vec(schedule)))
+}
+
+/// Puts the schedule of the finding into the script whose orders were tried.
+fn with_finding(alloc: Global, finding: Finding, run: Explored) -> Outcome<Explored>
+{
+    let Explored { script, told } = run;
+    let script = script_shown(alloc, script, &found_of(&told.findings, finding).first);
+    match script {
+        Ok(script) => Outcome::Over(Explored { script, told }),
+        Err(_) => Outcome::Stopped(Status::NoMemory, None),
+    }
+}
+
+/// Tries the orders of a script's sessions, and hands back what is lent as it is.
+pub fn explore_for<K: Keeper, L: Listener>(
+    alloc: Global,
+    show: Show,
+    script: Script,
+    lent: Lent<K, L>,
+) -> Ran<Explored, K, L>
+    requires { is_valid script ≡ true }
+    ensures { Comes (showing show.orders.switches show.orders.at_most show.finding) script
+        (shared_by K.tables K.faults K.asked L.heard L.left lent.keeper lent.listeners.items)
+        (shared_by K.tables K.faults K.asked L.heard L.left result.lent.keeper
+        result.lent.listeners.items)
+        result.outcome }
+{
+    let Ran { outcome, lent } = explore(alloc, show.orders, script, lent);
+    let outcome = match outcome {
+        Outcome::Over(run) => with_finding(alloc, show.finding, run),
+        Outcome::Stopped(status, run) => Outcome::Stopped(status, run),
+    };
+    Ran { outcome, lent }
+}
+
+impl Task for Show {
+    ghost use Rattle.std.specs.Prelude.{◌≡◌, true};
+    ghost use Rattle.hib_base.specs.Valid.{is_valid};
+    ghost use Rattle.hib_toolbox.specs.Exploring.{showing};
+
+    type Input = Script;
+
+    type Run = Explored;
+
+    ghost command = { λ show. showing show.orders.switches show.orders.at_most show.finding };
+
+    ghost is_sound = { λ script. is_valid script ≡ true };
+
+    fn limit(&self) -> usize {
+        1_048_576
+    }
+
+    fn read(&self, alloc: Global, text: &[u8]) -> Result<Script, InputFault> {
+        read_script(alloc, text)
+    }
+
+    fn tell<W: Sink>(&self, alloc: Global, run: &Explored, out: &mut W) -> Status {
+        if !is_there(run, self.finding) {
+            return tell_text(b"", out);
+        }
+        match hib_print::print(alloc, &run.script) {
+            Ok(text) => tell_text(text.as_slice(), out),
+            Err(_) => Status::NoMemory,
+        }
+    }
+}
