@@ -1,9 +1,10 @@
 -- The text of what a search of orders came to.
-use Rattle.std.specs.Prelude.{ℕ, zero, suc, ◌+◌, Bool, true, false, List, [], ◌∷◌, ◌++◌, length, codes, flat_map, slice_get, Some, None, Option}
+use Rattle.std.specs.Prelude.{ℕ, zero, suc, ◌+◌, Bool, true, false, cond, List, [], ◌∷◌, ◌++◌, length, codes, flat_map, slice_get, Some, None, Option}
 use Rattle.std.specs.Fmt.{decimal}
-use Rattle.hib_journal.specs.Types.{Outcome, Order, SessionDef, Script}
+use Rattle.hib_journal.specs.Types.{EntityDef, Outcome, Order, SessionDef, Script}
 use Rattle.hib_texts.specs.Texts.{session_text}
 use Rattle.hib_report.specs.Lines.{outcome_text}
+use Rattle.hib_report.specs.Unsound.{is_read_write}
 use Rattle.hib_order_schedule.specs.Schedules.{shown}
 use Rattle.hib_order_tries.specs.declared.endings.Ending.{Ending}
 use Rattle.hib_order_tries.specs.declared.found.First.{First}
@@ -97,8 +98,17 @@ findings_text script f =
     finding_text script f Finding.StaleHit ++ finding_text script f Finding.OldList ++ finding_text script f Finding.LostUpdate
     ++ finding_text script f Finding.UnsoundKey ++ finding_text script f Finding.RefusedCommit
 
+-- ---- of which entities no sound key has a stale hit, in any order: the read-write ones
+
+abbrev pub never_text : EntityDef → List ℕ
+never_text e = cond (is_read_write e.strategy) (codes "never-stale " ++ e.name ++ codes "\n") []
+
+abbrev pub nevers_text : List EntityDef → List ℕ
+nevers_text es = flat_map (λ e. never_text e) es
+
 -- ---- the whole
 
 abbrev pub text : Script → ℕ → Told → List ℕ
 text script most t =
-    tried_text most t ++ levels_text 0 t.findings.levels.items ++ endings_text script t.findings.endings ++ findings_text script t.findings ++ codes "end\n"
+    tried_text most t ++ levels_text 0 t.findings.levels.items ++ endings_text script t.findings.endings ++ findings_text script t.findings
+    ++ nevers_text script.mapping ++ codes "end\n"

@@ -1,10 +1,10 @@
 // The whole text.
-ghost use Rattle.hib_order_text.specs.Texts.{ending_text, endings_text, findings_text, levels_text, outcomes_text, said_text, text, tried_text};
+ghost use Rattle.hib_order_text.specs.Texts.{ending_text, endings_text, findings_text, levels_text, never_text, nevers_text, outcomes_text, said_text, text, tried_text};
 ghost use Rattle.hib_order_tries.specs.declared.endings.Ending.{Ending};
 ghost use Rattle.std.specs.Prelude.{◌≡◌, ◌++◌, IfOk, OnOk, flat_map};
 
 use crate::findings::{Finding, put_finding};
-use hib_base::{Outcome, Reply, Script};
+use hib_base::{EntityDef, Outcome, Reply, Script, Strategy};
 use hib_order_tries::{Ending, Endings, Findings, Told};
 use hib_report::put_reply;
 use hib_texts::{put_labelled, put_number};
@@ -131,6 +131,27 @@ fn put_findings(
     put_finding(alloc, out, script, findings, Finding::RefusedCommit)
 }
 
+fn put_never(out: &mut Vec<u8>, entity: &EntityDef) -> Result<(), AllocError>
+    ensures { OnOk result (out.new.items ≡ out.old.items ++ never_text entity.now) }
+{
+    if entity.strategy != Strategy::ReadWrite {
+        return Ok(());
+    }
+    out.extend_from_slice(b"never-stale ")?;
+    out.extend_from_slice(entity.name.as_slice())?;
+    out.extend_from_slice(b"\n")
+}
+
+/// A line for each entity of which no sound key has a stale hit in any order.
+fn put_nevers(out: &mut Vec<u8>, mapping: &[EntityDef]) -> Result<(), AllocError>
+    ensures { OnOk result (out.new.items ≡ out.old.items ++ nevers_text mapping.now) }
+{
+    for entity in mapping {
+        put_never(out, entity)?;
+    }
+    Ok(())
+}
+
 /// What a search of a script's orders with so many switches at most has come to: how many orders there are, how they end, and of each
 /// finding in how many it is, with the schedule of one that has the fewest switches. Fails for want of memory alone; an order of 2^32
 /// steps or more is answered as that.
@@ -142,6 +163,7 @@ pub fn text(alloc: Global, script: &Script, most: u32, told: &Told) -> Result<Ve
     put_levels(alloc, &mut out, told.findings.levels.as_slice())?;
     put_endings(alloc, &mut out, script, &told.findings.endings)?;
     put_findings(alloc, &mut out, script, &told.findings)?;
+    put_nevers(&mut out, script.mapping.as_slice())?;
     out.extend_from_slice(b"end\n")?;
     Ok(out)
 }

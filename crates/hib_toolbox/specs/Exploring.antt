@@ -1,8 +1,10 @@
 -- The orders of a script's sessions, tried and told.
 use Rattle.std.specs.Prelude.{◌≡◌, ◌⊎◌, ◌≤◌, ◌^◌, ◌-◌, ◌||◌, ℕ, Bool, true, false, cond, List, [], ⊤, ⊥, is_some, IfSome, Some, None, Option, Ok, Err}
 use Rattle.std.specs.Option.{option_map_or}
-use Rattle.hib_journal.specs.Types.{Script, Entry}
+use Rattle.hib_journal.specs.Types.{Key, Strategy, Script, Entry}
+use Rattle.hib_journal.specs.Next.{strategy}
 use Rattle.hib_journal.specs.Played.{is_played}
+use Rattle.hib_law.specs.Rows.{IsKeyCoherent}
 use Rattle.hib_order_law.specs.Orders.{IsRun, IsWithin, onto, sessions_in}
 use Rattle.hib_order_law.specs.declared.verdicts.Verdicts.{Verdicts}
 use Rattle.hib_order_schedule.specs.Schedules.{shown, with_schedule}
@@ -69,6 +71,9 @@ pub record Explores (switches : ℕ) (at_most : Option ℕ) (script : Script) (r
   pub none : (finding : Finding) → run.told.whole ≡ true → (found_of run.told.findings finding).first ≡ None →
       (es : List Entry) → IsWithin script (rows_at_start script) switches es → has_in script finding es ≡ false
   pub first : (finding : Finding) → IfSome (found_of run.told.findings finding).first (IsShown script finding)
+  -- in no run is a hit of a sound key of a read-write entity another row than the committed one
+  pub never : (es : List Entry) → IsRun script (rows_at_start script) es → (k : Key) → strategy script k.entity ≡ Strategy.ReadWrite →
+      IsKeyCoherent script (rows_at_start script) k (onto es [])
 
 -- memory may run out before all were tried
 abbrev pub Stops : Shared → Shared → Status → Option Explored → Type 0

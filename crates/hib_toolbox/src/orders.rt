@@ -9,6 +9,7 @@ ghost use Rattle.hib_toolbox.specs.Exploring.{exploring, is_any, is_there, limit
 
 use hib_base::Script;
 use hib_call::{InputFault, Lent, Outcome, Ran, Status, Task, tell_text};
+use hib_law::rows_cohere;
 use hib_order_schedule::scheduled;
 use hib_order_stage::search_orders;
 use hib_order_text::{Finding, found_of, text};
@@ -79,6 +80,7 @@ pub fn explore<K: Keeper, L: Listener>(
 {
     what_is_told_is_so();
     scheduled();
+    rows_cohere();
     let outcome = match search_orders(
         alloc,
         script,
