@@ -1,0 +1,8 @@
+//! The schedule that plays an order of sessions, and what a script with it does.
+#![tactic(auto)]
+
+mod runs;
+mod scripts;
+
+pub use runs::schedule_of;
+pub use scripts::{may_have_schedule, with_schedule};
