@@ -6,7 +6,7 @@ use Rattle.hib_journal.specs.Types.{Order, Script}
 
 -- one more step of s before some runs: it lengthens the first of them if that is of s
 abbrev pub joined : ℕ → List Order → List Order
-joined s (Order.Run t n ∷ os) = cond (s == t) (Order.Run t (n + 1) ∷ os) (Order.Run s 1 ∷ Order.Run t n ∷ os)
+joined s (Order.Run t n ∷ os) = cond (t == s) (Order.Run t (n + 1) ∷ os) (Order.Run s 1 ∷ Order.Run t n ∷ os)
 joined s os = Order.Run s 1 ∷ os
 
 -- the runs of an order: what one session does in a row is one run
