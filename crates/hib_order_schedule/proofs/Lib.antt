@@ -1,3 +1,5 @@
 pub mod Rows
 pub mod Rising
 pub mod Valid
+pub mod Same
+pub mod Plays
