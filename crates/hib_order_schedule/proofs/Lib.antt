@@ -3,3 +3,4 @@ pub mod Rising
 pub mod Valid
 pub mod Same
 pub mod Plays
+pub mod Once

@@ -55,7 +55,7 @@ none_before k m (s ∷ ss) l p =
 
 -- ---- what comes in an order
 
-onto_is : (es h : List Entry) → onto es h ≡ reverse es ++ h
+pub onto_is : (es h : List Entry) → onto es h ≡ reverse es ++ h
 onto_is [] h = refl
 onto_is (e ∷ es) h = onto_is es (e ∷ h) ∙ sym (ap (λ l. l ++ h) (reverse_onto es e []) ∙ append_assoc (reverse es) (e ∷ []) h)
 

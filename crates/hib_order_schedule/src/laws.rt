@@ -24,3 +24,10 @@ pub fn schedules_play_orders()
         → sessions_in es ≡ steps_of os ++ tail → rises tail ≡ true
         → is_played (with_schedule script os) (onto es []) ≡ true }
 {}
+
+/// Two journals of sessions alone, without faults, that are played by one script are the same: its schedule decides what it plays.
+pub fn schedules_decide()
+    ensures once { (script : Script) (start : Tables) (h g : Journal)
+        → IsUndisturbed script start h → IsUndisturbed script start g
+        → is_played script h ≡ true → is_played script g ≡ true → h ≡ g }
+{}
