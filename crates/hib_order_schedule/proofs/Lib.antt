@@ -4,3 +4,5 @@ pub mod Valid
 pub mod Same
 pub mod Plays
 pub mod Once
+pub mod Plain
+pub mod Shown

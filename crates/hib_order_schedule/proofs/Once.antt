@@ -22,7 +22,7 @@ use Rattle.hib_order_schedule.proofs.Plays.{onto_is, plain_at}
 
 -- ---- what was played
 
-bound : {A B : Type 0} (f : A → Option B) (o : Option A) (y : B) → option_and_then f o ≡ Some y → (x : A) × (o ≡ Some x) × (f x ≡ Some y)
+pub bound : {A B : Type 0} (f : A → Option B) (o : Option A) (y : B) → option_and_then f o ≡ Some y → (x : A) × (o ≡ Some x) × (f x ≡ Some y)
 bound f None y p = none_some p
 bound f (Some x) y p = (x, refl, p)
 
@@ -34,7 +34,7 @@ empty_is : (l : Journal) → is_empty l ≡ true → l ≡ []
 empty_is [] p = refl
 empty_is (e ∷ l) p = absurd (false≢true p)
 
-onto_turned : (h : Journal) → onto (reverse h) [] ≡ h
+pub onto_turned : (h : Journal) → onto (reverse h) [] ≡ h
 onto_turned h = onto_is (reverse h) [] ∙ append-nil (reverse (reverse h)) ∙ reverse-reverse h
 
 kill_outside : (s : ℕ) (a : Act) → is_kill s a ≡ true → is_outside a ≡ true
@@ -48,6 +48,22 @@ evict_outside k _ p = absurd (false≢true p)
 restart_outside : (a : Act) → is_restart a ≡ true → is_outside a ≡ true
 restart_outside Act.Restart p = refl
 restart_outside _ p = absurd (false≢true p)
+
+module _ (script : Script) where
+  pub record IsPlayed (h : Journal) : Type 0 where
+    pub mid : Playing
+    pub end : Playing
+    pub orders : play_orders script script.schedule [] (reverse h) ≡ Some mid
+    pub sessions : play_sessions script (range_with_len 0 (length script.sessions)) mid.0 mid.1 ≡ Some end
+    pub all : end.1 ≡ []
+
+  pub played : (h : Journal) → is_played script h ≡ true → IsPlayed h
+  unfolding is_played
+  played h p =
+      let f : Playing → Option Playing = λ p. play_sessions script (range_with_len 0 (length script.sessions)) p.0 p.1 in
+      let x = mapped (λ p. is_empty p.1) (option_and_then f (play_orders script script.schedule [] (reverse h))) p in
+      let y = bound f (play_orders script script.schedule [] (reverse h)) x.0 x.1 in
+      record { mid = y.0; end = x.0; orders = y.1; sessions = y.2; all = empty_is x.0.1 x.2 }
 
 module _ (script : Script) (start : Tables) where
   -- after these steps of a session, or fewer if it has no further act
@@ -193,25 +209,10 @@ module _ (script : Script) (start : Tables) where
 
   -- ---- all of it
 
-  record IsPlayed (h : Journal) : Type 0 where
-    mid : Playing
-    end : Playing
-    orders : play_orders script script.schedule [] (reverse h) ≡ Some mid
-    sessions : play_sessions script (range_with_len 0 (length script.sessions)) mid.0 mid.1 ≡ Some end
-    all : end.1 ≡ []
-
-  played : (h : Journal) → is_played script h ≡ true → IsPlayed h
-  unfolding is_played
-  played h p =
-      let f : Playing → Option Playing = λ p. play_sessions script (range_with_len 0 (length script.sessions)) p.0 p.1 in
-      let x = mapped (λ p. is_empty p.1) (option_and_then f (play_orders script script.schedule [] (reverse h))) p in
-      let y = bound f (play_orders script script.schedule [] (reverse h)) x.0 x.1 in
-      record { mid = y.0; end = x.0; orders = y.1; sessions = y.2; all = empty_is x.0.1 x.2 }
-
   pub played_once : (h g : Journal) → IsUndisturbed script start h → IsUndisturbed script start g → is_played script h ≡ true → is_played script g ≡ true → h ≡ g
   played_once h g u v p q =
-      let x = played h p in
-      let y = played g q in
+      let x = played script h p in
+      let y = played script g q in
       let i = orders_made script.schedule [] (reverse h) x.mid (subst (IsUndisturbed script start) (sym (onto_turned h)) u) x.orders in
       let j = orders_made script.schedule [] (reverse g) y.mid (subst (IsUndisturbed script start) (sym (onto_turned g)) v) y.orders in
       let z = sessions_same (range_with_len 0 (length script.sessions)) x.mid.0 y.mid.0 x.mid.1 y.mid.1 x.end y.end (i.made ∙ sym j.made)
