@@ -6,3 +6,4 @@ pub mod Plays
 pub mod Once
 pub mod Plain
 pub mod Shown
+pub mod Fitting

@@ -73,7 +73,7 @@ unknown : (script : Script) (s : ℕ) (mine : Journal) → length script.session
 unfolding next
 unknown script s mine l = ap (λ (o : Option SessionDef). first_act (left_of (blocks script Mode.Normal true (option_map_or (λ d. d.statements) o []) []) mine)) (slice_get_past script.sessions s l) ∙ ap first_act (over_left mine)
 
-none_unknown : (script : Script) (s : ℕ) (h : Journal) → length script.sessions ≤ s → has_next script h s ≡ false
+pub none_unknown : (script : Script) (s : ℕ) (h : Journal) → length script.sessions ≤ s → has_next script h s ≡ false
 none_unknown script s h l = rw (unknown script s (own s h) l) (no (not (was_killed s h)))
   where
     no : (b : Bool) → (b && false) ≡ false
@@ -107,8 +107,8 @@ module _ (script : Script) (start : Tables) where
       IsLeft (onto es h) (play_orders script os h es) (λ ss. ss ≡ more)
   orders [] h es more u a o = record { past = h; rest = es; at = refl; same = refl; left = o }
   orders (Order.Run s n ∷ os) h es more u a o =
-      let w = steps s n h es (steps_of os ++ more) u (o ∙ append_assoc (replicate n s) (steps_of os) more) in
-      let x = orders os w.past w.rest more (subst (IsUndisturbed script start) (sym w.same) u) a w.left in
+      let w : IsLeft (onto es h) (play_steps script s n h es) (λ ss. ss ≡ steps_of os ++ more) = steps s n h es (steps_of os ++ more) u (o ∙ append_assoc (replicate n s) (steps_of os) more) in
+      let x : IsLeft (onto w.rest w.past) (play_orders script os w.past w.rest) (λ ss. ss ≡ more) = orders os w.past w.rest more (subst (IsUndisturbed script start) (sym w.same) u) a w.left in
       record {
         past = x.past;
         rest = x.rest;

@@ -1,5 +1,6 @@
 // What a script plays with the schedule of an order.
 ghost use Rattle.hib_base.specs.Tables.{Tables};
+ghost use Rattle.hib_base.specs.Valid.{max_orders, max_steps};
 ghost use Rattle.hib_base.specs.declared.entries.Entry.{Entry};
 ghost use Rattle.hib_base.specs.declared.scripts.Order.{Order};
 ghost use Rattle.hib_base.specs.declared.scripts.Script.{Script};
@@ -8,9 +9,9 @@ ghost use Rattle.hib_journal.specs.Played.{is_played};
 ghost use Rattle.hib_journal.specs.Runs.{IsNumbered, fault_count};
 ghost use Rattle.hib_journal.specs.Sessions.{Journal};
 ghost use Rattle.hib_order_law.specs.Orders.{IsRun, IsUndisturbed, onto, sessions_in};
-ghost use Rattle.hib_order_schedule.specs.Schedules.{is_run, rises, runs_of, shown, steps_of, with_schedule};
+ghost use Rattle.hib_order_schedule.specs.Schedules.{is_run, may_be_schedule, rises, runs_of, shown, steps_of, with_schedule};
 ghost use Rattle.std.specs.List.{list_all};
-ghost use Rattle.std.specs.Prelude.{◌≡◌, ◌++◌, ℕ, List, [], Some, true};
+ghost use Rattle.std.specs.Prelude.{◌≡◌, ◌≤◌, ◌++◌, ℕ, List, [], Some, length, true};
 
 /// A run of a script is one of the script with another schedule: what a session does next and what it is answered doesn't depend on
 /// the schedule.
@@ -51,4 +52,12 @@ pub fn shown_runs_come_again()
         → IsNumbered h → fault_count h ≡ 0
         → is_played (with_schedule script (shown (sessions_in es))) h ≡ true
         → h ≡ onto es [] }
+{}
+
+/// The runs that a schedule has to say of a run may be the schedule of its script, if there are 20,000 at most and the run has
+/// 1,000,000 steps at most.
+pub fn shown_runs_fit()
+    ensures fits { (script : Script) (start : Tables) (es : List Entry) → IsRun script start es
+        → length (shown (sessions_in es)) ≤ max_orders → length es ≤ max_steps
+        → may_be_schedule (length script.sessions) (shown (sessions_in es)) ≡ true }
 {}
