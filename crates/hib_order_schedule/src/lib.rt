@@ -1,0 +1,10 @@
+//! The schedule that plays an order of sessions, and what a script with it does.
+#![tactic(auto)]
+
+mod laws;
+mod runs;
+mod scripts;
+
+pub use laws::{schedules_change_no_run, schedules_decide, schedules_play_orders, shown_runs_come_again, shown_runs_fit};
+pub use runs::schedule_of;
+pub use scripts::{may_have_schedule, with_schedule};
