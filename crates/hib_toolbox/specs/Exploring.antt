@@ -4,6 +4,9 @@ use Rattle.std.specs.Option.{option_map_or}
 use Rattle.hib_journal.specs.Types.{Key, Strategy, Script, Entry}
 use Rattle.hib_journal.specs.Next.{strategy}
 use Rattle.hib_journal.specs.Played.{is_played}
+use Rattle.hib_journal.specs.Legal.{IsLegal}
+use Rattle.hib_journal.specs.Runs.{IsNumbered, fault_count}
+use Rattle.hib_journal.specs.Sessions.{Journal}
 use Rattle.hib_law.specs.Rows.{IsKeyCoherent}
 use Rattle.hib_order_law.specs.Orders.{IsRun, IsWithin, onto, sessions_in}
 use Rattle.hib_order_law.specs.declared.verdicts.Verdicts.{Verdicts}
@@ -50,13 +53,16 @@ has_of v Finding.RefusedCommit = v.refused_commit
 abbrev pub has_in : Script → Finding → List Entry → Bool
 has_in script finding es = has_of (verdicts_of script es) finding
 
--- an order that is told to have something is that of a run that has it; and the script with the schedule that is told plays just this
--- run
-abbrev pub IsShown : Script → Finding → First → Type 0
-IsShown script finding f =
-    (es : List Entry) × IsRun script (rows_at_start script) es × (f.order.items ≡ sessions_in es) × (has_in script finding es ≡ true)
-    × IsRun (with_schedule script (shown f.order.items)) (rows_at_start script) es
-    × (is_played (with_schedule script (shown f.order.items)) (onto es []) ≡ true)
+-- an order that is told to have something is that of a run that has it. The script with the schedule that is told plays this run; and
+-- whatever that script plays over these rows without faults is this run
+pub record IsShown (script : Script) (finding : Finding) (f : First) : Type 0 where
+  pub es : List Entry
+  pub run : IsRun script (rows_at_start script) es
+  pub order : f.order.items ≡ sessions_in es
+  pub has : has_in script finding es ≡ true
+  pub played : is_played (with_schedule script (shown f.order.items)) (onto es []) ≡ true
+  pub again : (h : Journal) → IsLegal (with_schedule script (shown f.order.items)) (Some (rows_at_start script)) h → IsNumbered h →
+      fault_count h ≡ 0 → is_played (with_schedule script (shown f.order.items)) h ≡ true → h ≡ onto es []
 
 -- the orders of a script with so many switches at most were tried, or so many of them
 pub record Explores (switches : ℕ) (at_most : Option ℕ) (script : Script) (run : Explored) : Type 0 where

@@ -10,7 +10,7 @@ ghost use Rattle.hib_toolbox.specs.Exploring.{exploring, is_any, is_there, limit
 use hib_base::Script;
 use hib_call::{InputFault, Lent, Outcome, Ran, Status, Task, tell_text};
 use hib_law::rows_cohere;
-use hib_order_schedule::scheduled;
+use hib_order_schedule::{schedules_play_orders, shown_runs_come_again};
 use hib_order_stage::search_orders;
 use hib_order_text::{Finding, found_of, text};
 use hib_order_tries::{Told, what_is_told_is_so};
@@ -79,7 +79,8 @@ pub fn explore<K: Keeper, L: Listener>(
         result.outcome }
 {
     what_is_told_is_so();
-    scheduled();
+    schedules_play_orders();
+    shown_runs_come_again();
     rows_cohere();
     let outcome = match search_orders(
         alloc,
