@@ -1,5 +1,6 @@
 -- What is known of each session after a journal.
-use Rattle.std.specs.Prelude.{◌≡◌, ℕ, Bool, false, not, List, [], map, slice_get, Bor, Some, None, Option}
+use Rattle.std.specs.Prelude.{◌≡◌, ℕ, Bool, false, not, List, [], map, slice_get, Some, None, Option}
+use Rattle.std.specs.Borrow.{Bor}
 use Rattle.std.specs.List.{list_any}
 use Rattle.std.specs.Option.{option_map_or, option_flatten}
 use Rattle.hib_base.specs.Tables.{Tables, row_at, key_of}

@@ -140,27 +140,27 @@ fn after(place: usize, entry: &Entry, old: Option<Footing>) -> Option<Footing>
     }
 }
 
-fn footing_at(footings: &Footings, key: Key) -> Option<Footing>
-    ensures { result ≡ lookup (same_key key) footings.now.entries }
+fn footing_at(footings: &Footings, key: &Key) -> Option<Footing>
+    ensures { result ≡ lookup (same_key key.now) footings.now.entries }
 {
-    footings.get(&key).copied()
+    footings.get(key).copied()
 }
 
 fn set_footing(
     footings: &mut Footings,
-    key: Key,
+    key: &Key,
     footing: Option<Footing>,
 ) -> Result<(), AllocError>
     ensures { OnOk result ((k : Key)
         → lookup (same_key k) footings.new.entries
-        ≡ cond (same_key key k) footing (lookup (same_key k) footings.old.entries)) }
+        ≡ cond (same_key key.now k) footing (lookup (same_key k) footings.old.entries)) }
 {
     match footing {
         Some(footing) => {
-            footings.insert(key, footing)?;
+            footings.insert(*key, footing)?;
         }
         None => {
-            footings.swap_remove(&key);
+            footings.swap_remove(key);
         }
     }
     Ok(())
@@ -179,20 +179,28 @@ pub fn note_footing(footings: &mut Footings, place: usize, entry: &Entry) -> Res
     let Some(key) = touched(&entry.act) else {
         return Ok(());
     };
-    let old = footing_at(footings, key);
-    set_footing(footings, key, after(place, entry, old))
+    let old = footing_at(footings, &key);
+    set_footing(footings, &key, after(place, entry, old))
 }
 
 /// A key is written that rests on a row: the first such write counts.
-fn write_first(rests: &mut Rests, key: Key, row: Option<usize>) -> Result<(), AllocError>
+fn write_first(rests: &mut Rests, key: &Key, row: Option<usize>) -> Result<(), AllocError>
     ensures { OnOk result ((k : Key)
         → lookup (same_key k) rests.new.entries
-        ≡ option_or (lookup (same_key k) rests.old.entries) (cond (same_key key k) (Some row) None)) }
+        ≡ option_or (lookup (same_key k) rests.old.entries) (cond (same_key key.now k) (Some row) None)) }
 {
-    if rests.get(&key).is_none() {
-        rests.insert(key, row)?;
+    if rests.get(key).is_none() {
+        rests.insert(*key, row)?;
     }
     Ok(())
+}
+
+/// The row on which the instance of a key rests.
+fn row_at(footings: &Footings, key: &Key) -> Option<usize>
+    ensures { result
+        ≡ option_and_then (λ f. f.row) (lookup (same_key key.now) footings.now.entries) }
+{
+    footing_at(footings, key)?.row
 }
 
 /// Takes the session's next act, before which its instances rest on these rows.
@@ -209,8 +217,8 @@ pub fn note_rest(rests: &mut Rests, footings: &Footings, act: &Act) -> Result<()
         }
         Act::Write(change) => {
             let key = change.key();
-            let row = footing_at(footings, key).and_then(|footing| footing.row);
-            write_first(rests, key, row)
+            let row = row_at(footings, &key);
+            write_first(rests, &key, row)
         }
         _ => Ok(()),
     }

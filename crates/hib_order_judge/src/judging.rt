@@ -44,7 +44,7 @@ fn is_lost_update(entries: &[Entry], rows: &Rows, desks: &Desks<'_>, entry: &Ent
 /// Takes the next entry, one of these, before which these rows are committed and this is known of the sessions. Of keys nothing is
 /// judged.
 fn note(
-    verdicts: &mut Verdicts,
+    judged: &mut Verdicts,
     alloc: Global,
     script: &Script,
     entries: &[Entry],
@@ -55,14 +55,14 @@ fn note(
     requires { in_order rows.now ≡ true }
     ensures { OnOk result ((start : Tables) (h : Journal) → AreDesks entries.now h desks.now.all.items
         → rows.now ≡ committed start h
-        → verdicts.old ≡ record (verdicts script.now start h) { unsound_key = false }
-        → verdicts.new ≡ record (verdicts script.now start (entry.now ∷ h)) { unsound_key = false }) }
+        → judged.old ≡ record (verdicts script.now start h) { unsound_key = false }
+        → judged.new ≡ record (verdicts script.now start (entry.now ∷ h)) { unsound_key = false }) }
 {
     let is_old = is_old_list(alloc, script, rows, desks.found(entry.session), entry)?;
-    verdicts.old_list = is_old || verdicts.old_list;
-    verdicts.stale_hit = is_stale_hit(rows, entry) || verdicts.stale_hit;
-    verdicts.lost_update = is_lost_update(entries, rows, desks, entry) || verdicts.lost_update;
-    verdicts.refused_commit = is_refused(entry) || verdicts.refused_commit;
+    judged.old_list = is_old || judged.old_list;
+    judged.stale_hit = is_stale_hit(rows, entry) || judged.stale_hit;
+    judged.lost_update = is_lost_update(entries, rows, desks, entry) || judged.lost_update;
+    judged.refused_commit = is_refused(entry) || judged.refused_commit;
     Ok(())
 }
 
