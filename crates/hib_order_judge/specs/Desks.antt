@@ -1,21 +1,39 @@
 -- What is known of each session after a journal.
-use Rattle.std.specs.Prelude.{◌≡◌, ℕ, List, [], slice_get}
-use Rattle.std.specs.Option.{option_map_or}
-use Rattle.hib_journal.specs.Types.{Cell, Change}
+use Rattle.std.specs.Prelude.{◌≡◌, ℕ, Bool, false, not, List, [], map, slice_get, Some, None, Option}
+use Rattle.std.specs.Borrow.{Bor}
+use Rattle.std.specs.List.{list_any}
+use Rattle.std.specs.Option.{option_map_or, option_flatten}
+use Rattle.hib_base.specs.Tables.{Tables, row_at, key_of}
+use Rattle.hib_journal.specs.Types.{Key, Row, Change, Entry}
 use Rattle.hib_journal.specs.Sessions.{Journal, own, changes_in}
-use Rattle.hib_order_law.specs.Judged.{last_found}
+use Rattle.hib_order_law.specs.Judged.{last_found, same_row}
+use Rattle.hib_order_judge.specs.Footings.{basis_in, basis_at, rest_in, rest_at}
 use Rattle.hib_order_judge.specs.declared.desk.Desk.{Desk}
 
--- after a session's own entries: the changes that it has written since its last begin, and the list that its last entry has found
-abbrev pub IsDesk : Journal → List Change → List Cell → Type 0
-IsDesk mine written found = (written ≡ changes_in mine) × (found ≡ last_found mine)
+-- what was written, as a list of changes
+abbrev pub changes_at : List (Bor Change) → List Change
+changes_at cs = map (λ c. c.now) cs
 
--- what is known of the session with this number; of one that isn't there, nothing
-abbrev pub written_at : List Desk → ℕ → List Change
-written_at ds s = option_map_or (λ d. d.written) (slice_get ds s) []
+-- of a session after its own entries, which are among all these: the changes that it has written since its last Begin, the list that its last entry has found, on what its
+-- instances rest, and on what its first writes do
+pub record IsDesk (es : List Entry) (mine : Journal) (d : Desk) : Type 0 where
+  pub written : changes_at d.written.items ≡ changes_in mine
+  pub found : d.found.now ≡ last_found mine
+  pub footings : (k : Key) → basis_at es d.footings.entries k ≡ basis_in k mine
+  pub rests : (k : Key) → rest_at es d.rests.entries k ≡ rest_in k mine
 
-abbrev pub found_at : List Desk → ℕ → List Cell
-found_at ds s = option_map_or (λ d. d.found) (slice_get ds s) []
+-- a session of which nothing is known has done nothing
+abbrev pub IsKnown : List Entry → Journal → Option Desk → Type 0
+IsKnown es mine None = mine ≡ []
+IsKnown es mine (Some d) = IsDesk es mine d
 
-abbrev pub AreDesks : Journal → List Desk → Type 0
-AreDesks h ds = (s : ℕ) → IsDesk (own s h) (written_at ds s) (found_at ds s)
+-- by the sessions' numbers
+abbrev pub AreDesks : List Entry → Journal → List Desk → Type 0
+AreDesks es h ds = (s : ℕ) → IsKnown es (own s h) (slice_get ds s)
+
+-- a row on which a write of a key rests is not the committed one
+abbrev pub is_lost_row : Tables → Key → Option (Option Row) → Bool
+is_lost_row rows k o = option_map_or (λ r. not (same_row (row_at rows k) r)) (option_flatten o) false
+
+abbrev pub has_lost_row : List Entry → Tables → Desk → Bool
+has_lost_row es rows d = list_any (λ c. is_lost_row rows (key_of c) (rest_at es d.rests.entries (key_of c))) (changes_at d.written.items)

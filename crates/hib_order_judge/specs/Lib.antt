@@ -1,2 +1,3 @@
 pub mod Desks
-pub mod Marks
+pub mod Footings
+pub mod Verdicts

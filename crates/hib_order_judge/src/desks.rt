@@ -1,63 +1,71 @@
 // What is known of each session.
-ghost use Rattle.hib_journal.specs.Sessions.{Journal, committed};
-ghost use Rattle.hib_base.specs.Tables.{Tables, in_order};
-ghost use Rattle.hib_order_judge.specs.Desks.{AreDesks, found_at, written_at};
+ghost use Rattle.hib_base.specs.Tables.{in_order};
+ghost use Rattle.hib_journal.specs.Sessions.{Journal, changes, own};
+ghost use Rattle.hib_journal.specs.Types.{Entry};
+ghost use Rattle.hib_order_judge.specs.Desks.{AreDesks};
+ghost use Rattle.hib_order_law.specs.Judged.{is_lost_by, last_found};
 ghost use Rattle.std.specs.Option.{option_map_or};
-ghost use Rattle.std.specs.Prelude.{◌≡◌, ◌∷◌, ◌<◌, ℕ, List, [], IfOk, OnOk, length, true};
+ghost use Rattle.std.specs.Prelude.{◌≡◌, ◌∷◌, ◌<◌, List, [], Some, OnOk, length, option_copied, slice_get, true};
 
 use crate::desk::Desk;
-use hib_base::{Act, Cell, Change, Commit, Entry, Reply, Rows, SessionNo};
-use hib_outside::laid_over;
+use hib_base::{Cell, Entry, Rows, SessionNo};
 use std::alloc::{AllocError, Global};
 
-/// What is known of each session, by its number. Of one that isn't here nothing is known.
+/// What is known of each session, by its number. One that isn't here has done nothing.
 #[derive(Drop)]
-pub struct Desks {
+pub struct Desks<'a> {
     /// Of each session, what is known of it.
-    pub all: Vec<Desk>,
+    pub all: Vec<Desk<'a>>,
 }
 
-impl Desks {
+impl<'a> Desks<'a> {
     /// Before any entry.
-    pub fn new(alloc: Global) -> Desks
-        ensures { AreDesks [] result.all.items }
+    pub fn new(alloc: Global) -> Desks<'a>
+        ensures { (es : List Entry) → AreDesks es [] result.all.items }
     {
         Desks {
             all: Vec::new(alloc),
         }
     }
 
-    /// The changes that a session has written since its last begin.
-    fn written(&self, session: SessionNo) -> &[Change]
-        ensures { result.now ≡ written_at self.now.all.items session }
+    /// What is known of a session.
+    pub fn of(&self, session: SessionNo) -> Option<&Desk<'a>>
+        ensures { option_copied result ≡ slice_get self.now.all.items session }
     {
-        match self.all.as_slice().get(session.0 as usize) {
-            None => &[],
-            Some(desk) => desk.written.as_slice(),
-        }
+        self.all.as_slice().get(session.0 as usize)
     }
 
     /// The list that the last entry of a session has found.
-    pub fn found(&self, session: Option<SessionNo>) -> &[Cell]
-        ensures { result.now ≡ option_map_or (λ s. found_at self.now.all.items s) session [] }
+    pub fn found(&self, session: Option<SessionNo>) -> &'a [Cell]
+        ensures { (es : List Entry) (h : Journal) → AreDesks es h self.now.all.items
+            → result.now ≡ option_map_or (λ s. last_found (own s h)) session [] }
     {
         let Some(session) = session else {
             return &[];
         };
-        match self.all.as_slice().get(session.0 as usize) {
+        match self.of(session) {
             None => &[],
-            Some(desk) => desk.found.as_slice(),
+            Some(desk) => desk.found,
+        }
+    }
+
+    /// Whether a change that a session has written since its last Begin rests on a row that is not the committed one.
+    pub fn has_lost_row(&self, entries: &[Entry], session: SessionNo, rows: &Rows) -> bool
+        requires { in_order rows.now ≡ true }
+        ensures { (h : Journal) → AreDesks entries.now h self.now.all.items
+            → result ≡ is_lost_by rows.now (own session h) (changes session h) }
+    {
+        match self.of(session) {
+            None => false,
+            Some(desk) => desk.has_lost_row(entries, rows),
         }
     }
 
     /// Makes a place for each session up to this one.
-    #[tactic(auto, using(crate::proofs::Kept::written_more, crate::proofs::Kept::found_more))]
     fn reach(&mut self, alloc: Global, session: SessionNo) -> Result<(), AllocError>
         ensures there { OnOk result (session < length self.new.all.items) }
-        ensures written { OnOk result ((s : ℕ)
-            → written_at self.new.all.items s ≡ written_at self.old.all.items s) }
-        ensures found { OnOk result ((s : ℕ)
-            → found_at self.new.all.items s ≡ found_at self.old.all.items s) }
+        ensures known { OnOk result ((es : List Entry) (h : Journal)
+            → AreDesks es h self.old.all.items → AreDesks es h self.new.all.items) }
     {
         for _at in self.all.len()..session.0 as usize + 1 {
             self.all.push(Desk::new(alloc))?;
@@ -65,37 +73,16 @@ impl Desks {
         Ok(())
     }
 
-    /// Takes the next entry.
-    pub fn note(&mut self, alloc: Global, entry: &Entry) -> Result<(), AllocError>
-        ensures { OnOk result ((h : Journal) → AreDesks h self.old.all.items
-            → AreDesks (entry.now ∷ h) self.new.all.items) }
+    /// Takes the next entry, which stands at a place among all entries.
+    pub fn note(&mut self, alloc: Global, place: usize, entry: &'a Entry) -> Result<(), AllocError>
+        ensures { OnOk result ((es : List Entry) (h : Journal)
+            → slice_get es place ≡ Some entry.now → AreDesks es h self.old.all.items
+            → AreDesks es (entry.now ∷ h) self.new.all.items) }
     {
         let Some(session) = entry.session else {
             return Ok(());
         };
         self.reach(alloc, session)?;
-        self.all[session.0 as usize].note(alloc, entry)
-    }
-
-    /// The committed rows after the next entry.
-    pub fn rows_after(&self, alloc: Global, rows: Rows, entry: &Entry) -> Result<Rows, AllocError>
-        requires { in_order rows ≡ true }
-        ensures rows { IfOk result (λ r. (start : Tables) (h : Journal)
-            → AreDesks h self.now.all.items → rows ≡ committed start h
-            → r ≡ committed start (entry.now ∷ h)) }
-        ensures ordered { IfOk result (λ r. in_order r ≡ true) }
-    {
-        match &entry.act {
-            Act::Commit => {}
-            _ => return Ok(rows),
-        }
-        match &entry.reply {
-            Reply::Commit(Commit::Committed) => {}
-            _ => return Ok(rows),
-        }
-        match entry.session {
-            None => Ok(rows),
-            Some(session) => laid_over(alloc, rows, self.written(session)),
-        }
+        self.all[session.0 as usize].note(place, entry)
     }
 }

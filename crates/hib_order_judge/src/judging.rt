@@ -1,12 +1,93 @@
 // One pass over the entries of a run.
-ghost use Rattle.hib_base.specs.Tables.{in_order};
-ghost use Rattle.hib_order_judge.specs.Marks.{marks_of};
-ghost use Rattle.std.specs.Prelude.{◌≡◌, IfOk, true};
+ghost use Rattle.hib_base.specs.Tables.{Tables, in_order};
+ghost use Rattle.hib_base.specs.declared.scripts.Script.{Script};
+ghost use Rattle.hib_journal.specs.Sessions.{Journal, committed};
+ghost use Rattle.hib_order_judge.specs.Desks.{AreDesks};
+ghost use Rattle.hib_order_judge.specs.Verdicts.{verdicts, verdicts_of};
+ghost use Rattle.hib_order_law.specs.Judged.{is_lost_update};
+ghost use Rattle.std.specs.Prelude.{◌≡◌, ◌∷◌, [], IfOk, OnOk, false, true};
 
 use crate::desks::Desks;
-use crate::marks::Marks;
+use crate::laying::{committer, rows_after};
+use crate::tests_of::{is_old_list, is_refused, is_stale_hit};
 use hib_base::{Entry, Rows, Script};
+use hib_order_law::Verdicts;
+use hib_report::unsound_keys;
 use std::alloc::{AllocError, Global};
+
+/// Of no entry.
+fn none() -> Verdicts
+    ensures { (script : Script) (start : Tables)
+        → result ≡ record (verdicts script start []) { unsound_key = false } }
+{
+    Verdicts {
+        stale_hit: false,
+        old_list: false,
+        lost_update: false,
+        refused_commit: false,
+        unsound_key: false,
+    }
+}
+
+/// Whether an entry is a commit of a change that rests on a row which is not the committed one any more.
+fn is_lost_update(entries: &[Entry], rows: &Rows, desks: &Desks<'_>, entry: &Entry) -> bool
+    requires { in_order rows.now ≡ true }
+    ensures { (start : Tables) (h : Journal) → AreDesks entries.now h desks.now.all.items
+        → rows.now ≡ committed start h → result ≡ is_lost_update start h entry.now }
+{
+    match committer(entry) {
+        None => false,
+        Some(session) => desks.has_lost_row(entries, session, rows),
+    }
+}
+
+/// Takes the next entry, one of these, before which these rows are committed and this is known of the sessions. Of keys nothing is
+/// judged.
+fn note(
+    judged: &mut Verdicts,
+    alloc: Global,
+    script: &Script,
+    entries: &[Entry],
+    rows: &Rows,
+    desks: &Desks<'_>,
+    entry: &Entry,
+) -> Result<(), AllocError>
+    requires { in_order rows.now ≡ true }
+    ensures { OnOk result ((start : Tables) (h : Journal) → AreDesks entries.now h desks.now.all.items
+        → rows.now ≡ committed start h
+        → judged.old ≡ record (verdicts script.now start h) { unsound_key = false }
+        → judged.new ≡ record (verdicts script.now start (entry.now ∷ h)) { unsound_key = false }) }
+{
+    let is_old = is_old_list(alloc, script, rows, desks.found(entry.session), entry)?;
+    judged.old_list = is_old || judged.old_list;
+    judged.stale_hit = is_stale_hit(rows, entry) || judged.stale_hit;
+    judged.lost_update = is_lost_update(entries, rows, desks, entry) || judged.lost_update;
+    judged.refused_commit = is_refused(entry) || judged.refused_commit;
+    Ok(())
+}
+
+/// Judges each entry of a run. Of keys nothing is judged.
+fn judge_entries(
+    alloc: Global,
+    script: &Script,
+    start: Rows,
+    entries: &[Entry],
+) -> Result<Verdicts, AllocError>
+    requires { in_order start ≡ true }
+    ensures { IfOk result (λ v. v ≡ record (verdicts_of script.now start entries.now)
+        { unsound_key = false }) }
+{
+    let mut rows = start;
+    let mut desks = Desks::new(alloc);
+    let mut verdicts = none();
+    for place in 0..entries.len() {
+        let entry = &entries[place];
+        note(&mut verdicts, alloc, script, entries, &rows, &desks, entry)?;
+        rows = rows_after(alloc, rows, &desks, entry)?;
+        desks.note(alloc, place, entry)?;
+    }
+    Ok(verdicts)
+}
 
 /// Judges a run, of which these are the committed rows at the start and the entries, the oldest first. Want of memory alone is an
 /// error.
@@ -15,17 +96,12 @@ pub fn judge(
     script: &Script,
     start: Rows,
     entries: &[Entry],
-) -> Result<Marks, AllocError>
+) -> Result<Verdicts, AllocError>
     requires { in_order start ≡ true }
-    ensures { IfOk result (λ m. m ≡ marks_of script.now start entries.now) }
+    ensures { IfOk result (λ v. v ≡ verdicts_of script.now start entries.now) }
 {
-    let mut rows = start;
-    let mut desks = Desks::new(alloc);
-    let mut marks = Marks::none();
-    for entry in entries {
-        marks.note(alloc, script, &rows, &desks, entry)?;
-        rows = desks.rows_after(alloc, rows, entry)?;
-        desks.note(alloc, entry)?;
-    }
-    Ok(marks)
+    let unsound = unsound_keys(alloc, script, entries)?;
+    let mut verdicts = judge_entries(alloc, script, start, entries)?;
+    verdicts.unsound_key = !unsound.is_empty();
+    Ok(verdicts)
 }

@@ -3,9 +3,13 @@
 
 mod desk;
 mod desks;
+mod endings;
+mod footings;
 mod judging;
-mod marks;
+mod laying;
+#[cfg(test)]
+mod tests;
 mod tests_of;
 
+pub use endings::ending;
 pub use judging::judge;
-pub use marks::Marks;

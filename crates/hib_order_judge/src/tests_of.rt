@@ -29,7 +29,7 @@ fn is_same_version(a: Option<u32>, b: Option<u32>) -> bool
 }
 
 /// Whether there is a row, and it is this one.
-fn is_same(there: Option<&Row>, row: &Row) -> bool
+pub fn is_same(there: Option<&Row>, row: &Row) -> bool
     ensures { result ≡ same_row (option_copied there.entry) row.now }
 {
     match there {

@@ -1,7 +1,7 @@
 -- What a factory hands back of an undisturbed run is one.
-use Rattle.std.specs.Prelude.{length, slice_get, not, ◌&&◌, reverse, None}
+use Rattle.std.specs.Prelude.{length, slice_get, not, ◌&&◌, reverse, min, None}
 use Rattle.std.specs.List.{list_all}
-use Rattle.std.proofs.Common.{◌≡◌, ◌++◌, ◌<◌, ◌≤◌, ◌⊎◌, ℕ, Bool, true, false, inl, inr, List, [], ◌∷◌, Some, refl, sym, ap, ◌∙◌, subst}
+use Rattle.std.proofs.Common.{◌≡◌, ◌++◌, ◌<◌, ◌≤◌, ◌+◌, ◌-◌, ◌^◌, arith, ◌⊎◌, ℕ, Bool, true, false, inl, inr, List, [], ◌∷◌, Some, refl, sym, ap, ◌∙◌, subst}
 use Rattle.std.proofs.lemmas.List.{append_assoc, append-nil}
 use Rattle.std.proofs.lemmas.Grind.{reverse_onto}
 use Rattle.std.proofs.lemmas.Option.{slice_get_past}
@@ -16,8 +16,7 @@ use Rattle.hib_journal.specs.Legal.{IsLegal}
 use Rattle.hib_journal.specs.Runs.{IsNumbered}
 use Rattle.hib_journal.specs.Played.{has_next}
 use Rattle.hib_core.specs.Factory.{AreOver}
-use Rattle.hib_order_law.specs.Orders.{IsRun, is_plain, onto}
-use Rattle.hib_order_law.proofs.Begun.{and_left, and_right}
+use Rattle.hib_order_law.specs.Orders.{IsRun, IsUndisturbed, is_plain, onto}
 
 onto_is : (es h : List Entry) → onto es h ≡ reverse es ++ h
 onto_is [] h = refl
@@ -26,11 +25,6 @@ onto_is (e ∷ es) h = onto_is es (e ∷ h) ∙ sym (ap (λ l. l ++ h) (reverse_
 past_is : (j : Kept) → past j ≡ onto j.list []
 unfolding past
 past_is j = sym (onto_is j.list [] ∙ append-nil (reverse j.list))
-
-plain_onto : (es h : List Entry) → list_all is_plain es ≡ true → list_all is_plain h ≡ true → list_all is_plain (onto es h) ≡ true
-plain_onto [] h p q = q
-plain_onto (e ∷ es) h p q =
-    plain_onto es (e ∷ h) (and_right (is_plain e) (list_all is_plain es) p) (rw (and_left (is_plain e) (list_all is_plain es) p) q)
 
 left_over : (m : Journal) → left_of Plan.Over m ≡ Plan.Over
 left_over [] = refl
@@ -53,12 +47,12 @@ over_all script h o s = by (cases_lt s (length script.sessions))
     by (inr l) = rw (none_there script s (own s h) (slice_get_past script.sessions s l)) (no (was_killed s h))
 
 pub run_is : (script : Script) (start : Tables) (j : Kept) → IsLegal script (Some start) (past j) → IsNumbered (past j) → AreOver script (past j) →
-    list_all is_plain j.list ≡ true → IsRun script start j.list
+    list_all is_plain (past j) ≡ true → IsRun script start j.list
 run_is script start j l n o p = record {
-  undisturbed = record {
-    legal = subst (λ h. IsLegal script (Some start) h) (past_is j) l;
-    numbered = subst IsNumbered (past_is j) n;
-    plain = plain_onto j.list [] p refl;
-  };
+  undisturbed = subst (IsUndisturbed script start) (past_is j) (record { legal = l; numbered = n; plain = p });
   over = subst (λ h. (s : ℕ) → has_next script h s ≡ false) (past_is j) (over_all script (past j) o);
 }
+
+-- a count that has not risen
+pub none_rose : (n : ℕ) → min (0 + n) (2 ^ 64 - 1) ≤ 0 → n ≡ 0
+none_rose n p = omega (arith, p)

@@ -1,8 +1,8 @@
 //! Plays one order of a script's sessions over a factory.
 #![tactic(auto)]
 
-mod plain;
 mod playing;
+mod sure;
 
-pub use plain::{are_plain, begins};
 pub use playing::{Run, play_in};
+pub use sure::SureKeeper;

@@ -1,20 +1,21 @@
 // One run: its first steps, and then each session to its end.
 ghost use Rattle.hib_base.specs.Tables.{Tables};
 ghost use Rattle.hib_base.specs.Valid.{is_valid};
+ghost use Rattle.hib_core.specs.Bound.{outside_count};
 ghost use Rattle.hib_core.specs.Factory.{AreOver};
-ghost use Rattle.hib_core.specs.Standing.{told_start};
 ghost use Rattle.hib_journal.specs.Kept.{past};
-ghost use Rattle.hib_journal.specs.Legal.{IsLegal};
-ghost use Rattle.hib_journal.specs.Runs.{IsNumbered};
 ghost use Rattle.hib_listeners.specs.Told.{tells};
-ghost use Rattle.hib_order_law.specs.Orders.{IsRun, begins, sessions_in};
-ghost use Rattle.std.specs.Prelude.{◌≡◌, IfOk, IfSome, OnOk, Some, true, unwrap_or};
+ghost use Rattle.hib_order_law.specs.Orders.{IsRun, IsUndisturbed, begins, can_begin, sessions_in};
+ghost use Rattle.hib_order_plays.specs.Starts.{new_origin, rows_at_start};
+ghost use Rattle.hib_store.specs.Stores.{is_store_fault};
+ghost use Rattle.std.specs.Prelude.{◌≡◌, [], IfOk, OnOk, false, reverse, true, unwrap_or};
 
-use crate::plain::{are_plain, begins};
+use crate::sure::SureKeeper;
 use hib_base::{Entry, Script, SessionNo};
-use hib_core::{Factory, Name};
+use hib_core::{Factory, Name, OpenRefused};
 use hib_journal::Journal;
 use hib_outside::{Keeper, Listener};
+use hib_store::OpenFault;
 use std::alloc::{AllocError, Global};
 
 /// A run that was played.
@@ -49,62 +50,86 @@ fn order_of(alloc: Global, entries: &[Entry]) -> Result<Vec<u32>, AllocError>
     Ok(order)
 }
 
-/// Makes these steps, if they are due, and then runs the session of the last one to its end, and then each.
+/// Makes these steps.
+fn begin<N: Name, K: Keeper, L: Listener>(
+    alloc: Global,
+    factory: &mut Factory<K, N, L>,
+    steps: &[u32],
+) -> Result<(), AllocError>
+    ensures inside { outside_count (past factory.new.journal)
+        ≡ outside_count (past factory.old.journal) }
+    ensures made { OnOk result ((start : Tables) → past factory.old.journal ≡ []
+        → can_begin N.script start [] steps.now ≡ true
+        → IsUndisturbed N.script start (past factory.new.journal)
+        → sessions_in (past factory.new.journal) ≡ reverse steps.now) }
+{
+    for session in steps {
+        factory.run_steps(alloc, SessionNo(*session), 1)?;
+    }
+    Ok(())
+}
+
+/// Makes these steps, which are due, and then runs the session of the last one to its end, and then each.
 fn follow<N: Name, K: Keeper, L: Listener>(
     alloc: Global,
     factory: &mut Factory<K, N, L>,
     steps: &[u32],
 ) -> Result<(), AllocError>
     ensures over { OnOk result (AreOver N.script (past factory.new.journal)) }
+    ensures inside { outside_count (past factory.new.journal)
+        ≡ outside_count (past factory.old.journal) }
+    ensures begins { OnOk result ((start : Tables) → past factory.old.journal ≡ []
+        → can_begin N.script start [] steps.now ≡ true
+        → IsUndisturbed N.script start (past factory.new.journal)
+        → begins steps.now (sessions_in factory.new.journal.list) ≡ true) }
 {
-    for session in steps {
-        factory.run_steps(alloc, SessionNo(*session), 1)?;
-    }
+    begin(alloc, factory, steps)?;
     if let Some(last) = steps.last() {
         factory.run_steps(alloc, SessionNo(*last), u32::MAX)?;
     }
     factory.finish(alloc)
 }
 
-/// Plays a run that begins with these steps in the factory of this name. None if the factory wasn't opened, or if the run doesn't begin
-/// so or isn't one of sessions alone without faults.
-pub fn play_in<N: Name, K: Keeper + Drop, L: Listener + Drop>(
+/// Why a factory over a sure keeper wasn't opened: that never fails, so that memory ran out.
+fn no_memory<L: Drop>(refused: OpenRefused<SureKeeper, L>) -> AllocError
+    requires { is_store_fault refused.fault ≡ false }
+{
+    match refused.fault {
+        OpenFault::NoMemory(_) => AllocError,
+        OpenFault::StoreFault(_) => unreachable!(),
+    }
+}
+
+/// Plays a run that begins with these steps, each of which is due at its turn, in the factory of this name, over a new keeper in
+/// memory. After them the session of the last one goes on to its end, and then each. Fails for want of memory alone.
+pub fn play_in<N: Name, L: Listener + Drop>(
     alloc: Global,
     script: Script,
-    keeper: K,
     listeners: Vec<L>,
     steps: &[u32],
-) -> Result<Option<Run>, AllocError>
+) -> Result<Run, AllocError>
     requires script { script ≡ N.script }
     requires valid { is_valid N.script ≡ true }
-    requires from { record {
-      tables = told_start N.script (K.tables keeper);
-      faults = K.faults keeper;
-      asked = K.asked keeper;
-    } ≡ N.from }
+    requires from { new_origin N.script ≡ N.from }
     requires told { tells L.heard L.left listeners.items ≡ N.told }
-    ensures script { IfOk result (λ o. IfSome o (λ r. r.script ≡ N.script)) }
-    ensures run { IfOk result (λ o. IfSome o (λ r. (start : Tables) → N.from.tables ≡ Some start
-        → IsRun N.script start r.journal.list)) }
-    ensures begins { IfOk result (λ o. IfSome o (λ r. begins steps.now r.order.items ≡ true)) }
-    ensures order { IfOk result (λ o. IfSome o (λ r. r.order.items ≡ sessions_in r.journal.list)) }
+    requires due { can_begin N.script (rows_at_start N.script) [] steps.now ≡ true }
+    ensures script { IfOk result (λ r. r.script ≡ N.script) }
+    ensures run { IfOk result (λ r. IsRun N.script (rows_at_start N.script) r.journal.list) }
+    ensures begins { IfOk result (λ r. begins steps.now r.order.items ≡ true) }
+    ensures order { IfOk result (λ r. r.order.items ≡ sessions_in r.journal.list) }
 {
-    let Ok(mut factory) = Factory::<K, N, L>::open(alloc, script, keeper, listeners) else {
-        return Ok(None);
+    let keeper = SureKeeper::new(alloc);
+    let mut factory = match Factory::<SureKeeper, N, L>::open(alloc, script, keeper, listeners) {
+        Ok(factory) => factory,
+        Err(refused) => return Err(no_memory(refused)),
     };
-    let played = follow(alloc, &mut factory, steps);
+    let followed = follow(alloc, &mut factory, steps);
     let (_keeper, script, journal, _listeners) = factory.close();
-    played?;
-    if !are_plain(journal.as_slice()) {
-        return Ok(None);
-    }
+    followed?;
     let order = order_of(alloc, journal.as_slice())?;
-    if !begins(steps, order.as_slice()) {
-        return Ok(None);
-    }
-    Ok(Some(Run {
+    Ok(Run {
         script,
         journal,
         order,
-    }))
+    })
 }

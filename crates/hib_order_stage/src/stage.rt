@@ -1,0 +1,144 @@
+// One script, played again and again.
+ghost use Rattle.hib_base.specs.Tables.{in_order};
+ghost use Rattle.hib_base.specs.Valid.{is_valid};
+ghost use Rattle.hib_order_stage.specs.Staged.{ended_in, judged_from_start, new_origin, rows_at_start};
+ghost use Rattle.std.specs.Prelude.{◌≡◌, [], IfOk, IfSome, true};
+
+use hib_base::{Key, Outcome, Row, Rows, Script, Seq};
+use hib_core::Name;
+use hib_listeners::Recorder;
+use hib_order_judge::{ending, judge};
+use hib_order_law::Verdicts;
+use hib_order_plays::{Run, play_in};
+use hib_order_tries::{Played, Player};
+use hib_outside::{Keeper, MemKeeper};
+use std::alloc::{AllocError, Global};
+use std::marker::{Model, PhantomData};
+
+/// One script, which is played again and again, each time by a new factory over a new keeper in memory, and judged.
+#[derive(Drop)]
+pub struct Stage<N: Name> {
+    /// The script. None after a play for which memory ran out.
+    script: Option<Script>,
+    /// The committed rows at the start of each run.
+    rows: Rows,
+    of: PhantomData<N>,
+}
+
+impl<N: Name> Model for Stage<N> {
+    ghost use Rattle.std.specs.Prelude.{◌≡◌, [], Option, IfSome, true};
+    ghost use Rattle.hib_base.specs.Tables.{in_order};
+    ghost use Rattle.hib_base.specs.Valid.{is_valid};
+    ghost use Rattle.hib_base.specs.declared.scripts.Script.{Script};
+    ghost use Rattle.hib_order_stage.specs.Staged.{new_origin, rows_at_start};
+
+    ghost Value = { Option Script };
+
+    ghost view = { λ s. s.script };
+
+    ghost invariant = { λ s. (is_valid N.script ≡ true) × (new_origin N.script ≡ N.from)
+        × ([] ≡ N.told) × (s.rows ≡ rows_at_start N.script) × (in_order s.rows ≡ true)
+        × IfSome s.script (λ c. c ≡ N.script) };
+}
+
+/// The committed rows at the start of each run of a script.
+fn rows_at_start(alloc: Global, script: &Script) -> Result<Rows, AllocError>
+    ensures rows { IfOk result (λ r. r ≡ rows_at_start script.now) }
+    ensures ordered { IfOk result (λ r. in_order r ≡ true) }
+{
+    let mut keeper = MemKeeper::new(alloc, Seq::new(alloc));
+    match keeper.seed(alloc, &script.mapping, script.rows.as_slice()) {
+        Ok(()) => Ok(Seq::from_vec(keeper.rows)),
+        // No call of the keeper is to fail, so that memory ran out.
+        Err(_) => Err(AllocError),
+    }
+}
+
+/// Equal rows.
+fn copy_rows(alloc: Global, rows: &Rows) -> Result<Rows, AllocError>
+    ensures { IfOk result (λ r. r ≡ rows.now) }
+{
+    let mut copy: Vec<(Key, Row)> = Vec::with_capacity(alloc, rows.len())?;
+    for row in rows.as_slice() {
+        copy.push((row.0, row.1.copy(alloc)?))?;
+    }
+    Ok(Seq::from_vec(copy))
+}
+
+/// What was found of a run that was played from these rows.
+#[derive(Drop)]
+struct Judged {
+    verdicts: Verdicts,
+    ending: Vec<Outcome>,
+}
+
+/// Judges a run that was played from these rows.
+fn judged(alloc: Global, rows: &Rows, run: &Run) -> Result<Judged, AllocError>
+    requires rows { rows.now ≡ rows_at_start run.now.script }
+    requires ordered { in_order rows.now ≡ true }
+    ensures verdicts { IfOk result (λ j.
+        j.verdicts ≡ judged_from_start run.now.script run.now.journal.list) }
+    ensures ending { IfOk result (λ j.
+        j.ending.items ≡ ended_in run.now.script run.now.journal.list) }
+{
+    let start = copy_rows(alloc, rows)?;
+    let verdicts = judge(alloc, &run.script, start, run.journal.as_slice())?;
+    let ending = ending(alloc, &run.script, run.journal.as_slice())?;
+    Ok(Judged { verdicts, ending })
+}
+
+impl<N: Name> Stage<N> {
+    /// A stage for the script of this name.
+    pub fn new(alloc: Global, script: Script) -> Result<Stage<N>, AllocError>
+        requires script { script ≡ N.script }
+        requires valid { is_valid N.script ≡ true }
+        requires from { new_origin N.script ≡ N.from }
+        requires told { [] ≡ N.told }
+    {
+        let rows = rows_at_start(alloc, &script)?;
+        Ok(Stage {
+            script: Some(script),
+            rows,
+            of: PhantomData,
+        })
+    }
+
+    /// The script. None after a play for which memory ran out.
+    pub fn into_script(self) -> Option<Script>
+        ensures { IfSome result (λ c. c ≡ N.script) }
+    {
+        self.script
+    }
+}
+
+impl<N: Name> Player for Stage<N> {
+    ghost use Rattle.hib_order_stage.specs.Staged.{ended_in, judged_from_start, rows_at_start};
+
+    ghost script = { N.script };
+
+    ghost start = { rows_at_start N.script };
+
+    ghost judged = { judged_from_start N.script };
+
+    ghost ended = { ended_in N.script };
+
+    fn play(&mut self, alloc: Global, begun: &[u32]) -> Result<Played, AllocError> {
+        let Some(script) = self.script.take() else {
+            return Err(AllocError);
+        };
+        let nobody: Vec<Recorder> = Vec::new(alloc);
+        let run = play_in::<N, Recorder>(alloc, script, nobody, begun)?;
+        let Judged { verdicts, ending } = judged(alloc, &self.rows, &run)?;
+        let Run {
+            script,
+            journal: _,
+            order,
+        } = run;
+        self.script = Some(script);
+        Ok(Played {
+            order,
+            verdicts,
+            ending,
+        })
+    }
+}
