@@ -4,4 +4,3 @@ pub mod Leaving
 pub mod Counted
 pub mod Waits
 pub mod Turning
-pub mod Telling
