@@ -1,5 +1,5 @@
 -- Amid a search.
-use Rattle.std.specs.Prelude.{◌≡◌, ◌∷◌, ℕ, Bool, List}
+use Rattle.std.specs.Prelude.{◌≡◌, ◌∷◌, ◌+◌, ◌≤◌, ℕ, Bool, List}
 use Rattle.hib_base.specs.Tables.{Tables}
 use Rattle.hib_journal.specs.Types.{Script, Entry, Outcome}
 use Rattle.hib_order_law.specs.Orders.{sessions_in}
@@ -17,7 +17,8 @@ IsAmid script start judged ended most level waiting beyond findings =
 -- what was found of a judgement, with one more run of which it is judged so
 abbrev pub IsJudged : Bool → List ℕ → Found → Found → Type 0
 IsJudged is order old new =
-    (has : List Entry → Bool) (runs : List (List Entry)) (es : List Entry) → IsFound has runs old → is ≡ has es → order ≡ sessions_in es → IsFound has (es ∷ runs) new
+    (new.count ≤ old.count + 1)
+    × ((has : List Entry → Bool) (runs : List (List Entry)) (es : List Entry) → IsFound has runs old → is ≡ has es → order ≡ sessions_in es → IsFound has (es ∷ runs) new)
 
 -- so of each judgement, and all else is as before
 pub record AreJudged (verdicts : Verdicts) (order : List ℕ) (old new : Findings) : Type 0 where

@@ -3,7 +3,7 @@ ghost use Rattle.hib_base.specs.declared.entries.Entry.{Entry};
 ghost use Rattle.hib_base.specs.declared.replies.Outcome.{Outcome};
 ghost use Rattle.hib_order_law.specs.Orders.{sessions_in, switches};
 ghost use Rattle.hib_order_tries.specs.Found.{AreCounted, AreFindings, IsBelow, IsFound};
-ghost use Rattle.hib_order_tries.specs.Amid.{AreJudged};
+ghost use Rattle.hib_order_tries.specs.Amid.{AreJudged, IsJudged};
 ghost use Rattle.std.specs.Prelude.{◌≡◌, ◌∷◌, ◌<◌, ◌^◌, ◌-◌, ◌+◌, ◌==◌, ℕ, Bool, List, [], IfNone, IfSome, OnOk, cond, slice_index_or, true};
 
 use crate::endings::Endings;
@@ -60,9 +60,7 @@ impl Found {
     ) -> Result<(), AllocError>
         requires room { self.old.count < 2 ^ 64 - 1 }
         requires total { total ≡ switches order.now }
-        ensures { OnOk result ((looked_for : List Entry → Bool) (runs : List (List Entry))
-            (es : List Entry) → IsFound looked_for runs self.old → has ≡ looked_for es
-            → order.now ≡ sessions_in es → IsFound looked_for (es ∷ runs) self.new) }
+        ensures { OnOk result (IsJudged has order.now self.old self.new) }
     {
         if !has {
             return Ok(());
@@ -106,7 +104,7 @@ fn count_level(levels: &mut Vec<u64>, switches: usize) -> Result<(), AllocError>
     ensures { OnOk result ((k : ℕ) → slice_index_or levels.new.items k 0
         ≡ slice_index_or levels.old.items k 0 + cond (switches == k) 1 0) }
 {
-    for _ in levels.len()..switches {
+    for _place in levels.len()..switches {
         levels.push(0)?;
     }
     if levels.len() == switches {
@@ -120,7 +118,9 @@ fn count_level(levels: &mut Vec<u64>, switches: usize) -> Result<(), AllocError>
 impl Findings {
     /// No order was tried.
     pub fn none(alloc: Global) -> Findings
-        ensures { (judged : List Entry → Verdicts) (ended : List Entry → List Outcome)
+        ensures counts { AreCounted result }
+        ensures tried { result.tried ≡ 0 }
+        ensures none { (judged : List Entry → Verdicts) (ended : List Entry → List Outcome)
             → AreFindings judged ended [] result }
     {
         Findings {
@@ -165,6 +165,7 @@ impl Findings {
         requires counts { AreCounted self.old }
         requires total { total ≡ switches run.order.items }
         ensures tried { OnOk result (self.new.tried ≡ self.old.tried + 1) }
+        ensures counts { OnOk result (AreCounted self.new) }
         ensures noted { OnOk result ((judged : List Entry → Verdicts)
             (ended : List Entry → List Outcome) (runs : List (List Entry)) (es : List Entry)
             → AreFindings judged ended runs self.old → run.verdicts ≡ judged es

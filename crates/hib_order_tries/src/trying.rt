@@ -40,6 +40,7 @@ impl Progress {
     /// Nothing was played.
     pub fn new(alloc: Global) -> Result<Progress, AllocError>
         ensures tried { IfOk result (λ s. s.findings.tried ≡ 0) }
+        ensures counts { IfOk result (λ s. AreCounted s.findings) }
         ensures amid { IfOk result (λ s. (script : Script) (start : Tables)
             (judged : List Entry → Verdicts) (ended : List Entry → List Outcome) (most : ℕ)
             → IsAmid script start judged ended most s.waiting.level
@@ -67,6 +68,7 @@ impl Progress {
         ensures stopped { IfOk result (λ taken. taken ≡ false
             → (self.new ≡ self.old) × (self.old.findings.tried ≡ limit)) }
         ensures limit { OnOk result (self.new.findings.tried ≤ limit) }
+        ensures counts { OnOk result (AreCounted self.new.findings) }
         ensures taken { IfOk result (λ taken. taken ≡ true → (script : Script) (start : Tables)
             (judged : List Entry → Verdicts) (ended : List Entry → List Outcome) (most : ℕ)
             (begun : List ℕ) → IsAmid script start judged ended most self.old.waiting.level
