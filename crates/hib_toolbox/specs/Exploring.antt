@@ -11,7 +11,7 @@ use Rattle.hib_law.specs.Rows.{IsKeyCoherent}
 use Rattle.hib_order_law.specs.Orders.{IsRun, IsWithin, onto, sessions_in}
 use Rattle.hib_order_law.specs.declared.verdicts.Verdicts.{Verdicts}
 use Rattle.hib_order_schedule.specs.Schedules.{shown, with_schedule}
-use Rattle.hib_order_stage.specs.Staged.{ending_of, rows_at_start, verdicts_of}
+use Rattle.hib_order_stage.specs.Staged.{ended_in, judged_from_start, rows_at_start}
 use Rattle.hib_order_text.specs.Texts.{found_of, text}
 use Rattle.hib_order_text.specs.declared.findings.Finding.{Finding}
 use Rattle.hib_order_tries.specs.Found.{IsTold}
@@ -51,7 +51,7 @@ has_of v Finding.UnsoundKey = v.unsound_key
 has_of v Finding.RefusedCommit = v.refused_commit
 
 abbrev pub has_in : Script → Finding → List Entry → Bool
-has_in script finding es = has_of (verdicts_of script es) finding
+has_in script finding es = has_of (judged_from_start script es) finding
 
 -- an order that is told to have something is that of a run that has it. The script with the schedule that is told plays this run; and
 -- whatever that script plays over these rows without faults is this run
@@ -68,7 +68,7 @@ pub record IsShown (script : Script) (finding : Finding) (f : First) : Type 0 wh
 pub record Explores (switches : ℕ) (at_most : Option ℕ) (script : Script) (run : Explored) : Type 0 where
   pub of : run.script ≡ script
   -- each once; what is counted of them is what they come to; and they are all of them, or all with fewer switches than it says
-  pub told : IsTold script (rows_at_start script) (verdicts_of script) (ending_of script) switches run.told.whole run.told.level run.told.findings
+  pub told : IsTold script (rows_at_start script) (judged_from_start script) (ended_in script) switches run.told.whole run.told.level run.told.findings
   -- it stops at the bound alone, or after 2^64 - 1 plays
   pub few : run.told.findings.tried ≤ limit_of at_most
   pub whole : (run.told.whole ≡ true) ⊎ ((run.told.findings.tried ≡ limit_of at_most) ⊎ (run.told.played ≡ 2 ^ 64 - 1))

@@ -11,7 +11,7 @@ use hib_base::Script;
 use hib_call::{InputFault, Lent, Outcome, Ran, Status, Task, tell_text};
 use hib_law::rows_cohere;
 use hib_order_schedule::{schedules_play_orders, shown_runs_come_again};
-use hib_order_stage::search_orders;
+use hib_order_stage::{Searched, search_orders};
 use hib_order_text::{Finding, found_of, text};
 use hib_order_tries::{Told, what_is_told_is_so};
 use hib_outside::{Keeper, Listener, Sink};
@@ -88,7 +88,7 @@ pub fn explore<K: Keeper, L: Listener>(
         orders.switches as usize,
         limit_of(orders.at_most),
     ) {
-        Ok((script, told)) => Outcome::Over(Explored { script, told }),
+        Ok(Searched { told, script }) => Outcome::Over(Explored { script, told }),
         Err(_) => Outcome::Stopped(Status::NoMemory, None),
     };
     Ran { outcome, lent }
