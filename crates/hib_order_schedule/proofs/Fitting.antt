@@ -1,14 +1,13 @@
 -- The runs of an order may be a schedule, if they are few and it is short.
 use Rattle.std.specs.Prelude.{unwrap_or}
 use Rattle.std.specs.List.{list_all}
-use Rattle.std.proofs.Common.{◌≡◌, ℕ, suc, ◌+◌, ◌<◌, ◌≤◌, ◌==◌, inl, inr, Bool, true, false, cond, ◌&&◌, ltb, leb, List, [], ◌∷◌, length, refl, sym, ◌∙◌, subst, arith}
-use Rattle.std.proofs.lemmas.Bool.{false≢true, and_parts, and_from, ltb-true, ltb-false, lt-ltb, leb-true, le-leb}
+use Rattle.std.proofs.Common.{◌≡◌, ℕ, suc, ◌+◌, ◌≤◌, ◌==◌, inl, inr, Bool, true, false, cond, ◌&&◌, ltb, leb, List, [], ◌∷◌, length, refl, sym, ◌∙◌, arith}
+use Rattle.std.proofs.lemmas.Bool.{false≢true, and_parts, and_from, ltb-false, leb-true, le-leb}
 use Rattle.hib_base.specs.Tables.{Tables}
 use Rattle.hib_base.specs.Valid.{is_order_in, max_orders, max_steps}
 use Rattle.hib_base.proofs.Tables.{Tested, tested}
 use Rattle.hib_journal.specs.Types.{Order, Script, Entry}
 use Rattle.hib_journal.specs.Sessions.{Journal}
-use Rattle.hib_journal.specs.Played.{has_next}
 use Rattle.hib_order_law.specs.Orders.{IsUndisturbed, IsRun, onto, sessions_in}
 use Rattle.hib_order_law.proofs.Later.{base}
 use Rattle.hib_order_schedule.specs.Schedules.{joined, runs_of, rises, before_tail, shown, is_run, may_be_schedule}

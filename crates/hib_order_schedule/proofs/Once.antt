@@ -2,11 +2,10 @@
 use Rattle.std.specs.Prelude.{unwrap_or, option_and_then}
 use Rattle.std.specs.Option.{option_map_or}
 use Rattle.std.specs.List.{list_all, range_with_len}
-use Rattle.std.proofs.Common.{◌≡◌, ◌⊎◌, ℕ, zero, suc, ◌<◌, ◌≤◌, inl, inr, Bool, true, false, cond, List, [], ◌∷◌, ◌++◌, length, reverse, Some, None, Option, refl, sym, ap, ◌∙◌, subst, append-nil, arith}
+use Rattle.std.proofs.Common.{◌≡◌, ◌⊎◌, ℕ, zero, suc, ◌<◌, ◌≤◌, inl, inr, Bool, true, false, cond, List, [], ◌∷◌, length, reverse, Some, None, Option, refl, sym, ap, ◌∙◌, subst, append-nil, arith}
 use Rattle.std.proofs.lemmas.Bool.{false≢true, true≢false, and_parts, cases_lt}
 use Rattle.std.proofs.lemmas.List.{reverse-reverse}
 use Rattle.hib_base.specs.Tables.{Tables}
-use Rattle.hib_base.specs.Keys.{same_key}
 use Rattle.hib_base.proofs.Tables.{Tested, tested}
 use Rattle.hib_journal.specs.Types.{Key, Order, Script, Act, Entry}
 use Rattle.hib_journal.specs.Sessions.{Journal, own, is_by, is_empty, is_open, is_restart}
@@ -203,7 +202,7 @@ module _ (script : Script) (start : Tables) where
       let f : has_next script (walked s (suc (length es)) h) s ≡ false = subst (λ k. has_next script k s ≡ false) i.made (steps_over s (suc (length es)) h es x.0 (omega arith) x.1) in
       let k : has_next script (walked s (suc (length ds)) g) s ≡ false = subst (λ k. has_next script k s ≡ false) j.made (steps_over s (suc (length ds)) g ds y.0 (omega arith) y.1) in
       let m : x.0.0 ≡ y.0.0 = i.made ∙ (same_end s (suc (length es)) (suc (length ds)) h f (subst (λ z. has_next script (walked s (suc (length ds)) z) s ≡ false) (sym e) k)
-          ∙ (ap (walked s (suc (length ds))) e ∙ sym j.made)) in
+      ∙ (ap (walked s (suc (length ds))) e ∙ sym j.made)) in
       let z = sessions_same ss x.0.0 y.0.0 x.0.1 y.0.1 p q m (subst (IsUndisturbed script start) (sym i.same) u) (subst (IsUndisturbed script start) (sym j.same) v) x.2 y.2 in
       record { past = z.past; first = z.first ∙ i.same; second = z.second ∙ j.same }
 
@@ -216,7 +215,7 @@ module _ (script : Script) (start : Tables) where
       let i = orders_made script.schedule [] (reverse h) x.mid (subst (IsUndisturbed script start) (sym (onto_turned h)) u) x.orders in
       let j = orders_made script.schedule [] (reverse g) y.mid (subst (IsUndisturbed script start) (sym (onto_turned g)) v) y.orders in
       let z = sessions_same (range_with_len 0 (length script.sessions)) x.mid.0 y.mid.0 x.mid.1 y.mid.1 x.end y.end (i.made ∙ sym j.made)
-          (subst (IsUndisturbed script start) (sym (i.same ∙ onto_turned h)) u) (subst (IsUndisturbed script start) (sym (j.same ∙ onto_turned g)) v) x.sessions y.sessions in
+      (subst (IsUndisturbed script start) (sym (i.same ∙ onto_turned h)) u) (subst (IsUndisturbed script start) (sym (j.same ∙ onto_turned g)) v) x.sessions y.sessions in
       let a : x.end.0 ≡ h = ap (λ l. onto l x.end.0) (sym x.all) ∙ (z.first ∙ (i.same ∙ onto_turned h)) in
       let b : y.end.0 ≡ g = ap (λ l. onto l y.end.0) (sym y.all) ∙ (z.second ∙ (j.same ∙ onto_turned g)) in
       sym a ∙ (z.past ∙ b)

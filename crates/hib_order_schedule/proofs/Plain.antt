@@ -1,7 +1,7 @@
 -- What runs alone play without faults is undisturbed.
-use Rattle.std.specs.Prelude.{is_some, not, option_and_then}
+use Rattle.std.specs.Prelude.{is_some, not}
 use Rattle.std.specs.List.{list_all}
-use Rattle.std.proofs.Common.{◌≡◌, ℕ, zero, suc, ◌+◌, inl, inr, Bool, true, false, cond, ◌&&◌, List, [], ◌∷◌, length, reverse, Some, None, Option, refl, sym, ap, ◌∙◌, subst, arith}
+use Rattle.std.proofs.Common.{◌≡◌, ℕ, zero, suc, ◌+◌, inl, inr, Bool, true, false, cond, List, [], ◌∷◌, length, reverse, Some, refl, sym, ap, ◌∙◌, subst, arith}
 use Rattle.std.proofs.lemmas.Bool.{false≢true, and_parts, and_from}
 use Rattle.hib_base.specs.Tables.{Tables}
 use Rattle.hib_base.proofs.Tables.{Tested, tested}
@@ -14,7 +14,7 @@ use Rattle.hib_journal.proofs.Sessions.{is_some_session}
 use Rattle.hib_order_law.specs.Orders.{is_plain, IsUndisturbed, onto}
 use Rattle.hib_order_law.proofs.Made.{none_some, some_same}
 use Rattle.hib_order_schedule.specs.Schedules.{is_run}
-use Rattle.hib_order_schedule.proofs.Once.{IsPlayed, bound, onto_turned, played}
+use Rattle.hib_order_schedule.proofs.Once.{bound, onto_turned, played}
 
 -- ---- each entry that is played is a session's
 

@@ -1,15 +1,15 @@
 -- The runs of an order, and then each session to its end, are the order if what the runs leave of it rises.
-use Rattle.std.specs.Prelude.{slice_get, is_some, not, unwrap_or, option_and_then, ◌||◌, replicate}
+use Rattle.std.specs.Prelude.{not, unwrap_or, option_and_then, replicate}
 use Rattle.std.specs.Option.{option_map_or}
-use Rattle.std.specs.List.{list_all, list_any, range_with_len}
-use Rattle.std.proofs.Common.{◌≡◌, ℕ, zero, suc, ◌+◌, ◌<◌, ◌≤◌, ◌==◌, inl, inr, Bool, true, false, cond, ◌&&◌, leb, List, [], ◌∷◌, ◌++◌, length, reverse, Some, None, Option, refl, sym, ap, ◌∙◌, subst, append_assoc, append-nil, add-one, arith}
-use Rattle.std.proofs.lemmas.Bool.{false≢true, true≢false, and_parts, and_from, leb-true, le-leb, eqb-true, eqb-false, ne_eqb}
+use Rattle.std.specs.List.{list_all, range_with_len}
+use Rattle.std.proofs.Common.{◌≡◌, ℕ, zero, suc, ◌+◌, ◌<◌, ◌≤◌, ◌==◌, inl, inr, Bool, true, false, ◌&&◌, leb, List, [], ◌∷◌, ◌++◌, length, reverse, Some, None, Option, refl, sym, ap, ◌∙◌, subst, append_assoc, append-nil, arith}
+use Rattle.std.proofs.lemmas.Bool.{false≢true, and_parts, and_from, leb-true, le-leb, eqb-true, eqb-false, ne_eqb}
 use Rattle.std.proofs.lemmas.Grind.{reverse_onto}
-use Rattle.std.proofs.lemmas.List.{reverse-append, reverse-reverse}
+use Rattle.std.proofs.lemmas.List.{reverse-reverse}
 use Rattle.std.proofs.lemmas.Option.{slice_get_past}
 use Rattle.hib_base.specs.Tables.{Tables}
 use Rattle.hib_base.proofs.Tables.{Tested, tested}
-use Rattle.hib_journal.specs.Types.{Mode, Order, SessionDef, Script, Act, Entry}
+use Rattle.hib_journal.specs.Types.{Mode, Order, SessionDef, Script, Entry}
 use Rattle.hib_journal.specs.Sessions.{Journal, own, is_by, is_empty, was_killed}
 use Rattle.hib_journal.specs.Plan.{Plan, left_of, first_act}
 use Rattle.hib_journal.specs.Next.{next, blocks}
@@ -27,6 +27,14 @@ pub record IsLeft (whole : Journal) (o : Option Playing) (good : List ℕ → Ty
   pub at : o ≡ Some (past, rest)
   pub same : onto rest past ≡ whole
   pub left : good (sessions_in rest)
+
+left_then : (whole : Journal) (f : Playing → Option Playing) (o : Option Playing) (mid good : List ℕ → Type 0) (w : IsLeft whole o mid) →
+    IsLeft (onto w.rest w.past) (f (w.past, w.rest)) good → IsLeft whole (option_and_then f o) good
+left_then whole f o mid good w x = record { past = x.past; rest = x.rest; at = ap (option_and_then f) w.at ∙ x.at; same = x.same ∙ w.same; left = x.left }
+
+then_all : (whole : Journal) (f : Playing → Option Playing) (o : Option Playing) (mid : List ℕ → Type 0) (w : IsLeft whole o mid) → f (w.past, w.rest) ≡ Some (onto w.rest w.past, []) →
+    option_and_then f o ≡ Some (whole, [])
+then_all whole f o mid w x = ap (option_and_then f) w.at ∙ (x ∙ ap (λ j. Some (j, [])) w.same)
 
 -- ---- orders that rise
 
@@ -107,15 +115,10 @@ module _ (script : Script) (start : Tables) where
       IsLeft (onto es h) (play_orders script os h es) (λ ss. ss ≡ more)
   orders [] h es more u a o = record { past = h; rest = es; at = refl; same = refl; left = o }
   orders (Order.Run s n ∷ os) h es more u a o =
-      let w : IsLeft (onto es h) (play_steps script s n h es) (λ ss. ss ≡ steps_of os ++ more) = steps s n h es (steps_of os ++ more) u (o ∙ append_assoc (replicate n s) (steps_of os) more) in
-      let x : IsLeft (onto w.rest w.past) (play_orders script os w.past w.rest) (λ ss. ss ≡ more) = orders os w.past w.rest more (subst (IsUndisturbed script start) (sym w.same) u) a w.left in
-      record {
-        past = x.past;
-        rest = x.rest;
-        at = ap (λ (o : Option Playing). option_and_then (λ p. play_orders script os p.0 p.1) o) w.at ∙ x.at;
-        same = x.same ∙ w.same;
-        left = x.left;
-      }
+      let w : IsLeft (onto es h) (play_steps script s n h es) (λ ss. ss ≡ steps_of os ++ more) =
+      steps s n h es (steps_of os ++ more) u (o ∙ append_assoc (replicate n s) (steps_of os) more) in
+      left_then (onto es h) (λ p. play_orders script os p.0 p.1) (play_steps script s n h es) (λ ss. ss ≡ steps_of os ++ more) (λ ss. ss ≡ more) w
+      (orders os w.past w.rest more (subst (IsUndisturbed script start) (sym w.same) u) a w.left)
   orders (_ ∷ os) h es more u a o = absurd (false≢true a)
 
   -- ---- sessions, each to its end
@@ -158,9 +161,9 @@ module _ (script : Script) (start : Tables) where
       let g : k ≤ s = leb-true k s (and_parts (leb k s) (rise_from s (sessions_in es)) r).0 in
       absurd (false≢true (sym (none_unknown script s h (omega arith)) ∙ head_has e h (base script start es (e ∷ h) u)))
   sessions_over (suc m) k h es u o l r =
-      let w = session_over k (suc (length es)) h es u o (omega arith) r in
-      let x = sessions_over m (k + 1) w.past w.rest (subst (IsUndisturbed script start) (sym w.same) u) (subst (λ j. (s : ℕ) → has_next script j s ≡ false) (sym w.same) o) (omega arith) w.left in
-      ap (λ (o : Option Playing). option_and_then (λ p. play_sessions script (range_with_len (k + 1) m) p.0 p.1) o) w.at ∙ (x ∙ ap (λ j. Some (j, [])) w.same)
+      let w : IsLeft (onto es h) (play_steps script k (suc (length es)) h es) (λ ss. rise_from (k + 1) ss ≡ true) = session_over k (suc (length es)) h es u o (omega arith) r in
+      then_all (onto es h) (λ p. play_sessions script (range_with_len (k + 1) m) p.0 p.1) (play_steps script k (suc (length es)) h es) (λ ss. rise_from (k + 1) ss ≡ true) w
+      (sessions_over m (k + 1) w.past w.rest (subst (IsUndisturbed script start) (sym w.same) u) (subst (λ j. (s : ℕ) → has_next script j s ≡ false) (sym w.same) o) (omega arith) w.left)
 
   -- ---- all of it
 
@@ -170,7 +173,7 @@ module _ (script : Script) (start : Tables) where
   is_all_played es tail r a o t =
       let w = orders script.schedule [] es tail r.undisturbed a o in
       let x = sessions_over (length script.sessions) 0 w.past w.rest (subst (IsUndisturbed script start) (sym w.same) r.undisturbed)
-          (subst (λ j. (s : ℕ) → has_next script j s ≡ false) (sym w.same) r.over) (omega arith) (subst (λ ss. rise_from 0 ss ≡ true) (sym w.left) (rise_all tail t)) in
+      (subst (λ j. (s : ℕ) → has_next script j s ≡ false) (sym w.same) r.over) (omega arith) (subst (λ ss. rise_from 0 ss ≡ true) (sym w.left) (rise_all tail t)) in
       ap (λ (o : Option Playing). option_map_or (λ p. is_empty p.1) (option_and_then (λ p. play_sessions script (range_with_len 0 (length script.sessions)) p.0 p.1) o) false)
       (ap (play_orders script script.schedule []) (turned es) ∙ w.at)
       ∙ ap (λ (o : Option Playing). option_map_or (λ p. is_empty p.1) o false) x

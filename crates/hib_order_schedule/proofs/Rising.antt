@@ -1,5 +1,5 @@
 -- The longest tail of an order that rises.
-use Rattle.std.proofs.Common.{◌≡◌, ℕ, zero, suc, ◌-◌, ◌<◌, ◌≤◌, Bool, true, false, cond, ◌&&◌, List, [], ◌∷◌, drop, take, length, get_or, refl, sym, ap, ◌∙◌, subst, leb, arith, drop-cons}
+use Rattle.std.proofs.Common.{◌≡◌, ℕ, zero, suc, ◌-◌, ◌<◌, ◌≤◌, Bool, true, false, ◌&&◌, List, [], ◌∷◌, drop, take, length, get_or, refl, ap, subst, leb, arith}
 use Rattle.std.proofs.lemmas.Bool.{le-leb, lt-leb, and_from}
 use Rattle.hib_order_schedule.specs.Schedules.{rises, before_tail}
 

@@ -1,5 +1,5 @@
 -- The runs of an order, one after another.
-use Rattle.std.proofs.Common.{◌≡◌, ◌++◌, append_assoc, add-one, length-drop, ℕ, zero, suc, ◌+◌, ◌-◌, ◌<◌, ◌≤◌, take, inl, inr, Bool, true, false, cond, ◌==◌, List, [], ◌∷◌, drop, length, get_or, refl, sym, ap, ◌∙◌, subst, eq-eqb, arith}
+use Rattle.std.proofs.Common.{◌≡◌, ◌++◌, append_assoc, add-one, length-drop, ℕ, ◌+◌, ◌-◌, ◌<◌, ◌≤◌, take, inl, inr, true, ◌==◌, List, [], ◌∷◌, drop, length, get_or, refl, sym, ap, ◌∙◌, subst, eq-eqb, arith}
 use Rattle.std.proofs.lemmas.Bool.{eqb-true}
 use Rattle.std.proofs.lemmas.List.{drop-drop, take_all}
 use Rattle.hib_base.proofs.Tables.{Tested, tested}

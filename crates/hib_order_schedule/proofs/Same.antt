@@ -2,7 +2,7 @@
 use Rattle.std.specs.Prelude.{slice_get, option_map, is_some, unwrap_or, IsSome}
 use Rattle.std.specs.Option.{option_map_or}
 use Rattle.std.specs.List.{flat_map}
-use Rattle.std.proofs.Common.{◌≡◌, ℕ, Bool, true, false, cond, not, ◌&&◌, List, [], ◌∷◌, ◌++◌, Some, None, Option, refl, sym, ◌∙◌, subst}
+use Rattle.std.proofs.Common.{◌≡◌, ℕ, Bool, true, cond, not, ◌&&◌, List, [], ◌∷◌, ◌++◌, Some, None, Option, refl, sym, ◌∙◌, subst}
 use Rattle.hib_base.specs.Tables.{Tables}
 use Rattle.hib_journal.specs.Types.{Key, Row, Change, Strategy, Mode, Statement, Checked, Order, Script, Act, Reply, Entry}
 use Rattle.hib_journal.specs.Sessions.{Journal, own, changes, committed, time_in, was_killed}

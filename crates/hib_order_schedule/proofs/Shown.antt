@@ -1,10 +1,9 @@
 -- The runs that are shown are the first steps of an order, and what is left of it rises.
 use Rattle.std.specs.Prelude.{replicate}
 use Rattle.std.specs.List.{list_all}
-use Rattle.std.proofs.Common.{◌≡◌, ℕ, zero, suc, ◌+◌, ◌<◌, ◌≤◌, ◌==◌, inl, inr, Bool, true, false, cond, ◌&&◌, ltb, leb, List, [], ◌∷◌, ◌++◌, length, Some, refl, sym, ap, ◌∙◌, append-nil, add-one, arith}
-use Rattle.std.proofs.lemmas.Bool.{false≢true, and_parts, and_from, eqb-true, leb-true, le-leb}
+use Rattle.std.proofs.Common.{◌≡◌, ℕ, ◌+◌, ◌==◌, inl, inr, true, cond, List, [], ◌∷◌, ◌++◌, Some, refl, sym, ap, ◌∙◌, append-nil, add-one}
+use Rattle.std.proofs.lemmas.Bool.{false≢true, eqb-true}
 use Rattle.hib_base.proofs.Tables.{Tested, tested}
-use Rattle.hib_base.specs.Valid.{is_order_in, max_orders, max_steps}
 use Rattle.hib_base.specs.Tables.{Tables}
 use Rattle.hib_journal.specs.Types.{Order, Script, Entry}
 use Rattle.hib_journal.specs.Sessions.{Journal}
@@ -12,7 +11,7 @@ use Rattle.hib_journal.specs.Legal.{IsLegal}
 use Rattle.hib_journal.specs.Runs.{IsNumbered, fault_count}
 use Rattle.hib_journal.specs.Played.{is_played}
 use Rattle.hib_order_law.specs.Orders.{IsRun, onto, sessions_in}
-use Rattle.hib_order_schedule.specs.Schedules.{joined, runs_of, rises, before_tail, shown, steps_of, is_run, may_be_schedule, with_schedule}
+use Rattle.hib_order_schedule.specs.Schedules.{joined, runs_of, rises, before_tail, shown, steps_of, is_run, with_schedule}
 use Rattle.hib_order_schedule.proofs.Same.{run_same}
 use Rattle.hib_order_schedule.proofs.Plays.{is_all_played}
 use Rattle.hib_order_schedule.proofs.Once.{played_once}

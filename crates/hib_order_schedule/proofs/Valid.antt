@@ -1,10 +1,10 @@
 -- A valid script stays valid with another schedule.
-use Rattle.std.proofs.Common.{◌≡◌, ◌≤◌, ℕ, Bool, true, false, ◌&&◌, leb, List, [], ◌∷◌, length, refl}
+use Rattle.std.proofs.Common.{◌≡◌, ℕ, true, ◌&&◌, leb, List, [], ◌∷◌, length, refl}
 use Rattle.std.specs.List.{list_all}
 use Rattle.std.proofs.lemmas.Bool.{false≢true, and_parts, and_from, leb-true}
 use Rattle.hib_base.specs.Scripts.{evicts_cached}
 use Rattle.hib_base.specs.Valid.{is_order_in, max_orders, is_valid}
-use Rattle.hib_base.proofs.Valid.{Rules, rules, valid}
+use Rattle.hib_base.proofs.Valid.{rules, valid}
 use Rattle.hib_journal.specs.Types.{EntityDef, Order, Script}
 use Rattle.hib_order_schedule.specs.Schedules.{is_run, may_be_schedule, with_schedule}
 
@@ -28,7 +28,7 @@ pub stays_valid : (script : Script) (os : List Order) → is_valid script ≡ tr
 stays_valid script os v p =
     let r = rules script v in
     let both : (leb (length os) max_orders ≡ true) × (list_all (λ o. is_run o && is_order_in (length script.sessions) o) os ≡ true) =
-        and_parts (leb (length os) max_orders) (list_all (λ o. is_run o && is_order_in (length script.sessions) o) os) p in
+    and_parts (leb (length os) max_orders) (list_all (λ o. is_run o && is_order_in (length script.sessions) o) os) p in
     valid (with_schedule script os) (record {
       timeout_low = r.timeout_low;
       timeout = r.timeout;

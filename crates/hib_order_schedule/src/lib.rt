@@ -5,6 +5,9 @@ mod laws;
 mod runs;
 mod scripts;
 
-pub use laws::{schedules_change_no_run, schedules_decide, schedules_play_orders, shown_runs_come_again, shown_runs_fit};
+pub use laws::{
+    schedules_change_no_run, schedules_decide, schedules_play_orders, shown_runs_come_again,
+    shown_runs_fit,
+};
 pub use runs::schedule_of;
 pub use scripts::{may_have_schedule, with_schedule};

@@ -8,5 +8,5 @@ loop-done-preserved c =
     let at : ℕ = c.loop-done.done in
     let ys : List ℕ = take (length xs - at) (drop at xs) in
     let more = run_from xs ys at c.steps_in_row-steps.result c.loop-done.runs.items c.push.new.self.items c.loop-done-test.true refl c.steps_in_row-steps.ensures.inside
-        c.steps_in_row-steps.ensures.row c.in_ok-push.ensures.items c.loop-done.invariant.made in
+    c.steps_in_row-steps.ensures.row c.in_ok-push.ensures.items c.loop-done.invariant.made in
     record { inside = more.0; made = more.1 }

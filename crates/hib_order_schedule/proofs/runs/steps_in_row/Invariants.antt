@@ -1,4 +1,4 @@
-use Rattle.std.proofs.Common.{◌≡◌, ◌+◌, ◌<◌, ◌≤◌, length, drop}
+use Rattle.std.proofs.Common.{◌≡◌, ◌+◌, drop}
 use Rattle.hib_order_schedule.specs.Schedules.{in_row}
 use Rattle.hib_order_schedule.proofs.runs.steps_in_row.Given as goal
 

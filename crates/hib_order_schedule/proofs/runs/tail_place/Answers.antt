@@ -1,4 +1,4 @@
-use Rattle.std.proofs.Common.{◌≡◌, ◌-◌, ◌<◌, ◌≤◌, ℕ, suc, true, List, drop, take, length, get_or, sym, subst, arith}
+use Rattle.std.proofs.Common.{◌≡◌, ◌-◌, ◌<◌, ℕ, suc, true, List, drop, take, length, get_or, sym, subst, arith}
 use Rattle.hib_order_schedule.specs.Schedules.{rises, before_tail}
 use Rattle.hib_order_schedule.proofs.Rising.{all_rise, last_rises, tail_found}
 use Rattle.hib_order_schedule.proofs.runs.tail_place.Goals as goal
