@@ -78,11 +78,11 @@ due_at script start (s ∷ steps) ss (suc i) d c l =
     turned = sym (ap (λ l. l ++ ss) (reverse_onto (take i steps) s []) ∙ append_assoc (reverse (take i steps)) (s ∷ []) ss)
 
 -- one more of the steps was made
-pub step_more : (script : Script) (start : Tables) (steps : List ℕ) (i s : ℕ) (old new : Journal) → can_begin script start [] steps ≡ true → i < length steps →
-    s ≡ get_or steps i s → Leads (play_steps script s 1) played old new → (IsUndisturbed script start old → sessions_in old ≡ reverse (take i steps)) →
+pub step_more : (script : Script) (start : Tables) (steps : List ℕ) (i d : ℕ) (old new : Journal) → can_begin script start [] steps ≡ true → i < length steps →
+    Leads (play_steps script (get_or steps i d) 1) played old new → (IsUndisturbed script start old → sessions_in old ≡ reverse (take i steps)) →
     IsUndisturbed script start new → sessions_in new ≡ reverse (take (i + 1) steps)
-step_more script start steps i s old new c l v w f u =
-    one_step script s old new w due ∙ ap (λ ss. s ∷ ss) was ∙ sym more
+step_more script start steps i d old new c l w f u =
+    one_step script (get_or steps i d) old new w due ∙ ap (λ ss. get_or steps i d ∷ ss) was ∙ sym more
   where
     undisturbed : IsUndisturbed script start old
     undisturbed = before script start (reverse w.added) old (subst (IsUndisturbed script start) w.grown u)
@@ -94,12 +94,11 @@ step_more script start steps i s old new c l v w f u =
     old_is = order_makes script start old undisturbed.legal undisturbed.numbered undisturbed.plain
         ∙ ap (made script start) (was ∙ sym (append-nil (reverse (take i steps))))
 
-    due : has_next script old s ≡ true
-    due = subst (λ h. has_next script h s ≡ true) (sym old_is)
-        (subst (λ n. has_next script (made script start (reverse (take i steps) ++ [])) n ≡ true) (sym v) (due_at script start steps [] i s c l))
+    due : has_next script old (get_or steps i d) ≡ true
+    due = subst (λ h. has_next script h (get_or steps i d) ≡ true) (sym old_is) (due_at script start steps [] i d c l)
 
-    more : reverse (take (i + 1) steps) ≡ s ∷ reverse (take i steps)
-    more = ap reverse (take_more steps i s l ∙ ap (λ n. take i steps ++ n ∷ []) (sym v)) ∙ reverse-append (take i steps) (s ∷ [])
+    more : reverse (take (i + 1) steps) ≡ get_or steps i d ∷ reverse (take i steps)
+    more = ap reverse (take_more steps i d l) ∙ reverse-append (take i steps) (get_or steps i d ∷ [])
 
 sessions_append : (a b : List Entry) → sessions_in (a ++ b) ≡ sessions_in a ++ sessions_in b
 sessions_append [] b = refl
