@@ -141,5 +141,5 @@ ended (f ∷ fs) h n e = two first (ended fs h (n + 1) (λ s g p. e (suc s) g p 
     moved : (s : ℕ) → n + suc s ≡ n + 1 + s
     moved s = omega arith
 
-    two : {a b : Outcome} {as bs : List Outcome} → a ≡ b → as ≡ bs → a ∷ as ≡ b ∷ bs
+    two : {a b : Outcome} {xs ys : List Outcome} → a ≡ b → xs ≡ ys → a ∷ xs ≡ b ∷ ys
     two p q = cc
