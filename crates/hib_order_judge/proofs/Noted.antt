@@ -1,5 +1,5 @@
 -- What is known of each session, with one entry more.
-use Rattle.std.specs.Prelude.{◌||◌, ◌↔◌, IsTrue, slice_get, slice_set, Ok, Err, OnOk, Result, map, option_and_then}
+use Rattle.std.specs.Prelude.{◌||◌, slice_get, slice_set, Ok, Err, OnOk, Result, map, option_and_then}
 use Rattle.std.specs.Option.{option_map_or, option_flatten}
 use Rattle.std.specs.List.{list_any, range_with_len}
 use Rattle.std.proofs.Common.{◌≡◌, ℕ, zero, suc, ◌+◌, ◌<◌, ◌≤◌, ◌==◌, Bool, true, false, not, List, [], ◌∷◌, ◌++◌, length, get_or, take, reverse, Some, None, Option, refl, sym, ap, ◌∙◌, subst, add-zero, arith, inl, inr, eq-eqb}
@@ -118,16 +118,6 @@ onto_reverse es = onto_is es [] ∙ append-nil (reverse es)
 
 pub or_same : {a b c d : Bool} → a ≡ b → c ≡ d → (a || c) ≡ (b || d)
 or_same p q = cc
-
--- no key stands in a list of none, and only there
-pub none_is : (b : Bool) (ks : List Key) → (IsTrue b ↔ (length ks ≡ 0)) → b ≡ is_empty ks
-none_is true [] f = refl
-none_is false [] f = absurd (f.1 refl)
-none_is true (k ∷ ks) f = absurd (no (length ks) (f.0 refl))
-  where
-    no : (n : ℕ) → suc n ≡ 0 → ⊥
-    no n p = omega (arith, p)
-none_is false (k ∷ ks) f = refl
 
 -- how each session of some has ended, by what is known of it
 pub ended : (fs : List Fate) (h : Journal) (n : ℕ) → ((s : ℕ) (f : Fate) → slice_get fs s ≡ Some f → f.outcome ≡ outcome (own (n + s) h)) →

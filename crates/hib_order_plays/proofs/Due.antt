@@ -24,7 +24,7 @@ plain_all [] p q = refl
 plain_all (e ∷ h) p q =
     and_both (is_plain e) (list_all is_plain h) (at e.session (is_fault e.reply) (omega arith) (omega arith)) (plain_all h (omega arith) (omega arith))
   where
-    at : (o : Option ℕ) (f : Bool) → one_if_none o ≡ 0 → cond f 1 0 ≡ 0 → (is_some o && not f) ≡ true
+    at : (o : Option ℕ) (f : Bool) → one_if_none o ≡ 0 → ◌≡◌ {A = ℕ} (cond f 1 0) 0 → (is_some o && not f) ≡ true
     at None f p q = absurd (omega (arith, p))
     at (Some s) true p q = absurd (omega (arith, q))
     at (Some s) false p q = refl
@@ -39,7 +39,7 @@ before script start (e ∷ l) h u = before script start l h (record {
 })
 
 -- one step was asked for and due: one entry of its session was added
-grown_by : (s : ℕ) (old new added : Journal) → option_and_then (λ (p : Playing). Some (p.0, p.1)) (play_one (is_by s) old (added ++ [])) ≡ Some (new, []) →
+grown_by : (s : ℕ) (old new added : Journal) → option_and_then {U = Playing} (λ (p : Playing). Some (p.0, p.1)) (play_one (is_by s) old (added ++ [])) ≡ Some (new, []) →
     sessions_in new ≡ s ∷ sessions_in old
 grown_by s old new [] p = none_some p
 grown_by s old new (e ∷ added) p = by (is_by s e) refl

@@ -27,4 +27,8 @@ returns-clause-begins g c =
     (ap (λ (o : Origin). o.tables) (sym c.requires.from)) (ap (λ (o : Origin). o.faults) (sym c.requires.from)) c.close-keeper.ensures.legal
     c.close-keeper.ensures.numbered c.close-keeper.ensures.faults c.close-keeper.ensures.journal
     (c.in_ok-followed.ensures.inside ∙ ap outside_count c.requires.empty) in
-    ?
+    let v : IsUndisturbed g.N.Name.script (rows_at_start g.N.Name.script) (past c.follow-followed.new.factory.journal) =
+    subst (λ x. IsUndisturbed g.N.Name.script (rows_at_start g.N.Name.script) (past x)) c.close-keeper.ensures.journal u in
+    subst (λ xs. begins c.args.steps.now xs ≡ true) (sym (c.in_ok-order.ensures ∙ ap sessions_in c.as_slice.ensures))
+    (subst (λ x. begins c.args.steps.now (sessions_in x.list) ≡ true) (sym c.close-keeper.ensures.journal)
+    (c.in_ok-followed.ensures.begins (rows_at_start g.N.Name.script) c.requires.empty c.requires.due v))
