@@ -39,7 +39,7 @@ module _ (script : Script) (start : Tables) where
   base [] h u = u
   base (e ∷ es) h u = tail e h (base es (e ∷ h) u)
 
-  plain_head : (e : Entry) (h : Journal) → IsUndisturbed script start (e ∷ h) → is_plain e ≡ true
+  pub plain_head : (e : Entry) (h : Journal) → IsUndisturbed script start (e ∷ h) → is_plain e ≡ true
   plain_head e h u = and_left (is_plain e) (list_all is_plain h) u.plain
 
   -- what an entry's session does is its next act
@@ -59,7 +59,7 @@ module _ (script : Script) (start : Tables) where
   none_killed (e ∷ h) u s = killed_same s e h (head_inside e h u) ∙ none_killed h (tail e h u) s
 
   -- the session of an entry had a next act
-  head_has : (e : Entry) (h : Journal) → IsUndisturbed script start (e ∷ h) → has_next script h (unwrap_or e.session 0) ≡ true
+  pub head_has : (e : Entry) (h : Journal) → IsUndisturbed script start (e ∷ h) → has_next script h (unwrap_or e.session 0) ≡ true
   head_has e h u = rw ((head_act e h u).0, (head_act e h u).1)
 
   -- an entry leaves the next act of another session

@@ -1,9 +1,9 @@
 -- A search of runs: which of them were tried, each once, and with which first steps the others begin.
-use Rattle.std.specs.Prelude.{◌+◌, ◌<◌, ◌≤◌, ◌⊎◌, ℕ, Bool, true, false, cond, ◌&&◌, ◌==◌, List, [], ◌∷◌}
+use Rattle.std.specs.Prelude.{◌≡◌, ◌+◌, ◌<◌, ◌≤◌, ◌⊎◌, ℕ, Bool, true, false, cond, ◌&&◌, ◌==◌, List, [], ◌∷◌}
 use Rattle.std.specs.List.{Contains}
 use Rattle.hib_base.specs.Tables.{Tables}
 use Rattle.hib_journal.specs.Types.{Script, Entry}
-use Rattle.hib_order_law.specs.Orders.{sessions_in, begins, IsOther, IsRun, IsWithin, cost, switches}
+use Rattle.hib_order_law.specs.Orders.{sessions_in, begins, can_begin, IsOther, IsRun, IsWithin, cost, switches}
 
 abbrev pub same_order : List ℕ → List ℕ → Bool
 same_order [] [] = true
@@ -32,21 +32,33 @@ begun_by order (begun ∷ waiting) = cond (begins begun order) 1 0 + begun_by or
 abbrev pub with_run : Bool → List Entry → List (List Entry) → List (List Entry)
 with_run few es runs = cond few (es ∷ runs) runs
 
--- amid a search: each run with so many switches at most was tried, or its order begins with one of the first steps that wait; and no
--- order is met twice. Those with no more switches than `level` don't wait for later
-pub record IsSearch (script : Script) (start : Tables) (most level : ℕ) (runs : List (List Entry)) (now later : List (List ℕ)) : Type 0 where
-  pub low : level ≤ most
-  pub within : (es : List Entry) → Contains runs es → IsWithin script start most es
-  pub once : (order : List ℕ) → times order runs + begun_by order now + begun_by order later ≤ 1
-  pub none_left : (es : List Entry) → IsRun script start es → switches (sessions_in es) < level → Contains runs es
-  pub here : (es : List Entry) → IsWithin script start level es → 1 ≤ times (sessions_in es) runs + begun_by (sessions_in es) now
-  pub all : (es : List Entry) → IsWithin script start most es →
-      1 ≤ times (sessions_in es) runs + begun_by (sessions_in es) now + begun_by (sessions_in es) later
+-- whether something holds
+abbrev pub IsTest : Type 0 → Bool → Type 0
+IsTest P is = (is ≡ true → P) × (is ≡ false → P → ⊥)
 
--- first steps of other orders, which share so many steps at least with an order: each that costs no more than `level` is there now, and
--- each that costs no more than `most` is there now or later; and no order begins with two of them
-pub record AreOthers (most level : ℕ) (from : ℕ) (order : List ℕ) (now later : List (List ℕ)) : Type 0 where
-  pub each : (other : List ℕ) → Contains now other ⊎ Contains later other → IsOther from order other
-  pub once : (both : List ℕ) → begun_by both now + begun_by both later ≤ 1
-  pub here : (other : List ℕ) → IsOther from order other → cost order other ≤ level → Contains now other
-  pub all : (other : List ℕ) → IsOther from order other → cost order other ≤ most → Contains now other ⊎ Contains later other
+-- amid a walk over all runs with so many switches at most: each of them was seen, or its order begins with first steps that wait; a run
+-- that is neither makes more switches, and that there is such a one is known; no order is met twice; and what waits can begin
+pub record IsWalk (script : Script) (start : Tables) (level : ℕ) (seen : List (List Entry)) (waiting : List (List ℕ)) (beyond : Bool) : Type 0 where
+  pub within : (es : List Entry) → Contains seen es → IsWithin script start level es
+  pub once : (order : List ℕ) → times order seen + begun_by order waiting ≤ 1
+  pub all : (es : List Entry) → IsRun script start es →
+      (1 ≤ times (sessions_in es) seen + begun_by (sessions_in es) waiting) ⊎ ((level < switches (sessions_in es)) × (beyond ≡ true))
+  pub due : (begun : List ℕ) → Contains waiting begun → can_begin script start [] begun ≡ true
+
+-- amid a search by one more switch at a time: a walk for each number of switches, in which those runs are tried that make just as many; so
+-- each run with fewer was tried, each once, and of those with as many those that were seen
+pub record IsSearch (script : Script) (start : Tables) (most level : ℕ) (runs seen : List (List Entry)) (waiting : List (List ℕ)) (beyond : Bool) : Type 0 where
+  pub low : level ≤ most
+  pub walk : IsWalk script start level seen waiting beyond
+  pub within : (es : List Entry) → Contains runs es → IsWithin script start level es
+  pub once : (order : List ℕ) → times order runs ≤ 1
+  pub fewer : (es : List Entry) → IsRun script start es → switches (sessions_in es) < level → Contains runs es
+  pub here : (order : List ℕ) → switches order ≡ level → times order runs ≡ times order seen
+
+-- first steps of other orders, which share so many steps at least with an order: each that costs no more than `level` is there, no order
+-- begins with two of them, and whether there are others, which cost more
+pub record AreOthers (level from : ℕ) (order : List ℕ) (there : List (List ℕ)) (beyond : Bool) : Type 0 where
+  pub each : (other : List ℕ) → Contains there other → IsOther from order other × (cost order other ≤ level)
+  pub once : (both : List ℕ) → begun_by both there ≤ 1
+  pub all : (other : List ℕ) → IsOther from order other → Contains there other ⊎ ((level < cost order other) × (beyond ≡ true))
+  pub more : beyond ≡ true → (other : List ℕ) × IsOther from order other × (level < cost order other)

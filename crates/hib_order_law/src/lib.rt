@@ -9,9 +9,9 @@ ghost use Rattle.hib_base.specs.Tables.{Tables, row_at};
 ghost use Rattle.hib_journal.specs.Sessions.{Journal, committed};
 ghost use Rattle.hib_journal.specs.Types.{Act, Entry, Key, Reply, Row, Script};
 ghost use Rattle.hib_order_law.specs.Judged.{is_stale_hit, same_row};
-ghost use Rattle.hib_order_law.specs.Orders.{IsOther, IsRun, IsUndisturbed, begins, cost, made, sessions_in, switches};
-ghost use Rattle.hib_order_law.specs.Search.{AreOthers, AreTried, IsSearch, with_run};
-ghost use Rattle.std.specs.Prelude.{◌≡◌, ◌≤◌, ◌<◌, ◌+◌, ◌++◌, ◌⊎◌, ℕ, Bool, not, true, List, [], ◌∷◌, length};
+ghost use Rattle.hib_order_law.specs.Orders.{IsOther, IsRun, IsUndisturbed, begins, can_begin, cost, made, sessions_in, switches};
+ghost use Rattle.hib_order_law.specs.Search.{AreOthers, AreTried, IsSearch, IsTest, with_run};
+ghost use Rattle.std.specs.Prelude.{◌≡◌, ◌≤◌, ◌<◌, ◌+◌, ◌++◌, ◌⊎◌, ℕ, Bool, not, false, true, List, [], ◌∷◌, length};
 
 mod verdicts;
 
@@ -51,35 +51,48 @@ pub fn others_are_apart()
         → IsOther (length begun) order other → begins begun other ≡ true }
 {}
 
+/// The first steps of another order of a run can be made: each is due at its turn.
+pub fn others_can_begin()
+    ensures due { (script : Script) (start : Tables) (n : ℕ) (es : List Entry) (other : List ℕ)
+        → IsRun script start es → IsOther n (sessions_in es) other
+        → can_begin script start [] other ≡ true }
+{}
+
 /// A search in which the empty beginning waits at first, which plays at each step a run that begins as one that waits, and then
-/// lets those beginnings of its other orders wait that cost no more switches than the bound, misses no run within the bound, and
-/// tries none twice; and if it goes to those with one more switch only when none with fewer waits, then it has tried all with
-/// fewer whenever it stops.
+/// lets those beginnings of its other orders wait that cost no more switches than its level, and tries those runs that make just as many,
+/// misses no run within its level, and tries none twice; what waits can begin. If nothing waits any more, and it goes on to the next
+/// level with the empty beginning, then it has tried all within the levels before. If it was never told of an order that makes more, then
+/// it has tried all that there are.
 pub fn searches_are_complete()
     ensures begins { (script : Script) (start : Tables) (most : ℕ)
-        → IsSearch script start most 0 [] ([] ∷ []) [] }
+        → IsSearch script start most 0 [] [] ([] ∷ []) false }
     ensures goes_on { (script : Script) (start : Tables) (most level : ℕ)
-        (runs : List (List Entry)) (rest later more_now more_later : List (List ℕ))
-        (begun : List ℕ) (es : List Entry) (few : Bool)
-        → IsSearch script start most level runs (rest ++ begun ∷ []) later
+        (runs seen : List (List Entry)) (rest more : List (List ℕ)) (begun : List ℕ)
+        (es : List Entry) (here few beyond cut on : Bool)
+        → IsSearch script start most level runs seen (rest ++ begun ∷ []) beyond
         → IsRun script start es → begins begun (sessions_in es) ≡ true
-        → AreOthers most level (length begun) (sessions_in es) more_now more_later
-        → (few ≡ true → switches (sessions_in es) ≤ most)
-        → (switches (sessions_in es) ≤ most → few ≡ true)
-        → IsSearch script start most level (with_run few es runs) (rest ++ more_now)
-        (later ++ more_later) }
+        → AreOthers level (length begun) (sessions_in es) more cut
+        → IsTest (switches (sessions_in es) ≡ level) here
+        → IsTest (switches (sessions_in es) ≤ level) few
+        → (beyond ≡ true → on ≡ true) → (cut ≡ true → on ≡ true) → (few ≡ false → on ≡ true)
+        → IsSearch script start most level (with_run here es runs) (with_run few es seen)
+        (rest ++ more) on }
     ensures rises { (script : Script) (start : Tables) (most level : ℕ)
-        (runs : List (List Entry)) (later : List (List ℕ))
-        → IsSearch script start most level runs [] later → level < most
-        → IsSearch script start most (level + 1) runs later [] }
+        (runs seen : List (List Entry)) (beyond : Bool)
+        → IsSearch script start most level runs seen [] beyond → level < most
+        → IsSearch script start most (level + 1) runs [] ([] ∷ []) false }
     ensures ends { (script : Script) (start : Tables) (most level : ℕ)
-        (runs : List (List Entry)) (later : List (List ℕ))
-        → IsSearch script start most level runs [] later → (level ≡ most) ⊎ (later ≡ [])
-        → AreTried script start most (most + 1) runs }
+        (runs seen : List (List Entry)) (beyond : Bool)
+        → IsSearch script start most level runs seen [] beyond
+        → (level ≡ most) ⊎ (beyond ≡ false) → AreTried script start most (most + 1) runs }
     ensures stops { (script : Script) (start : Tables) (most level : ℕ)
-        (runs : List (List Entry)) (now later : List (List ℕ))
-        → IsSearch script start most level runs now later
+        (runs seen : List (List Entry)) (waiting : List (List ℕ)) (beyond : Bool)
+        → IsSearch script start most level runs seen waiting beyond
         → AreTried script start most level runs }
+    ensures due { (script : Script) (start : Tables) (most level : ℕ)
+        (runs seen : List (List Entry)) (rest : List (List ℕ)) (begun : List ℕ) (beyond : Bool)
+        → IsSearch script start most level runs seen (rest ++ begun ∷ []) beyond
+        → can_begin script start [] begun ≡ true }
 {}
 
 /// A hit that isn't judged stale answers the committed row, by version and cells; and one that is answers another.

@@ -1,17 +1,15 @@
 -- What was found, with one more run.
-use Rattle.std.specs.Prelude.{length, count_by, IfSome, IfNone}
+use Rattle.std.specs.Prelude.{count_by, IfSome, IfNone}
 use Rattle.std.specs.List.{Contains}
 use Rattle.std.proofs.Common.{◌≡◌, ◌+◌, ◌<◌, ◌≤◌, ◌⊎◌, ℕ, inl, inr, Bool, true, false, cond, List, ◌∷◌, Some, None, Option, sym, ap, ◌∙◌, subst, arith}
 use Rattle.std.proofs.lemmas.Bool.{false≢true}
-use Rattle.std.proofs.lemmas.List.Sums.{count_by-le-length, sum_by-cons}
+use Rattle.std.proofs.lemmas.List.Sums.{sum_by-cons}
 use Rattle.hib_journal.specs.Types.{Entry}
 use Rattle.hib_order_law.specs.Orders.{sessions_in, switches}
 use Rattle.hib_order_law.proofs.Tally.{Contains-cases, Contains-first, Contains-behind}
-use Rattle.hib_order_tries.specs.Found.{AreCounted, AreFindings, IsBelow, IsFirst, IsFound}
+use Rattle.hib_order_tries.specs.Found.{IsBelow, IsFirst, IsFound}
 use Rattle.hib_order_tries.specs.declared.found.First.{First}
 use Rattle.hib_order_tries.specs.declared.found.Found.{Found}
-use Rattle.hib_order_tries.specs.declared.found.Findings.{Findings}
-use Rattle.hib_order_law.specs.declared.verdicts.Verdicts.{Verdicts}
 
 -- what a comparison with the first says
 pub not_none : {A : Type 0} (o : Option A) (r : Bool) → IfNone o (r ≡ true) → r ≡ false → IfNone o ⊥
@@ -127,22 +125,3 @@ module _ (has : List Entry → Bool) (runs : List (List Entry)) (es : List Entry
         where
           chain : (a b c : ℕ) → a ≤ b → b ≤ c → a ≤ c
           chain a b c p q = omega arith
-
--- no judgement was found in more runs than were tried
-pub counted : (judged : List Entry → Verdicts) (runs : List (List Entry)) (findings : Findings) → AreFindings judged runs findings → AreCounted findings
-counted judged runs findings f = record {
-  stale_hit = few findings.stale_hit.count (λ es. (judged es).stale_hit) f.stale_hit.count;
-  old_list = few findings.old_list.count (λ es. (judged es).old_list) f.old_list.count;
-  lost_update = few findings.lost_update.count (λ es. (judged es).lost_update) f.lost_update.count;
-  refused_commit = few findings.refused_commit.count (λ es. (judged es).refused_commit) f.refused_commit.count;
-  unsound_key = few findings.unsound_key.count (λ es. (judged es).unsound_key) f.unsound_key.count;
-}
-  where
-    few : (n : ℕ) (has : List Entry → Bool) → n ≡ count_by has runs → n ≤ findings.tried
-    few n has p =
-        let l : count_by has runs ≤ length runs = count_by-le-length has runs in
-        let t : findings.tried ≡ length runs = f.tried in
-        plain n (count_by has runs) (length runs) findings.tried p l t
-      where
-        plain : (n c k t : ℕ) → n ≡ c → c ≤ k → t ≡ k → n ≤ t
-        plain n c k t p q r = omega arith

@@ -1,7 +1,7 @@
 -- What leaves an order at a place, and at each from one on.
 use Rattle.std.specs.Prelude.{length, drop, take, map, slice_index, ◌||◌, ◌==◌}
 use Rattle.std.specs.List.{Contains}
-use Rattle.std.proofs.Common.{◌≡◌, ◌++◌, ◌+◌, ◌<◌, ◌≤◌, ◌⊎◌, ℕ, zero, suc, inl, inr, Bool, true, false, cond, List, [], ◌∷◌, refl, sym, ap, ◌∙◌, subst, arith, eq-eqb}
+use Rattle.std.proofs.Common.{◌≡◌, ◌++◌, ◌+◌, ◌<◌, ◌≤◌, ◌⊎◌, ℕ, zero, suc, inl, inr, Bool, true, false, cond, List, [], ◌∷◌, refl, sym, ap, ◌∙◌, subst, arith, eq-eqb, append_assoc, append-nil}
 use Rattle.std.proofs.lemmas.Bool.{false≢true, eqb-true}
 use Rattle.std.proofs.lemmas.List.{map-append}
 use Rattle.std.proofs.lemmas.List.Folds.{list_any-append}
@@ -13,7 +13,7 @@ use Rattle.hib_order_law.proofs.Begun.{Begins, begins_so, so_begins}
 use Rattle.hib_order_law.proofs.Tally.{Contains-none, begun_by-append, begun_by-none}
 use Rattle.hib_order_law.proofs.Search.{others_longer}
 use Rattle.hib_order_tries.specs.Tail.{count_of}
-use Rattle.hib_order_tries.specs.Left.{AreLeft, IsAdded, IsLeft, first_of}
+use Rattle.hib_order_tries.specs.Left.{AreLeft, AreLeftBy, IsAdded, IsLeft, first_of}
 
 -- one place, session by session
 
@@ -38,151 +38,130 @@ comes_cases t these s c = by (tested (comes t these)) (sym (list_any-append (λ 
     by (inl p) q = inl p
     by (inr p) q = inr (eqb-true s t (plain (s == t) (subst (λ b. (b || ((s == t) || false)) ≡ true) p q)))
 
-module _ (most level at : ℕ) (order : List ℕ) where
-  pub left_none : AreLeft most level at order [] [] []
+module _ (level at : ℕ) (order : List ℕ) where
+  pub left_none : AreLeftBy level at order [] [] false
   left_none = record {
-    each = λ other c. absurd (none other c);
+    each = λ other c. absurd (Contains-none other c);
     once = λ both. omega arith;
-    here = λ t c n l. absurd (false≢true c);
-    all = λ t c n l. absurd (false≢true c);
+    all = λ other x. absurd (false≢true x.3);
+    more = λ p. absurd (false≢true p);
   }
-    where
-      none : (other : List ℕ) → Contains [] other ⊎ Contains [] other → ⊥
-      none other (inl c) = Contains-none other c
-      none other (inr c) = Contains-none other c
 
   wider : (these : List ℕ) (s : ℕ) (other : List ℕ) → IsLeft order at these other → IsLeft order at (these ++ s ∷ []) other
   wider these s other x = (x.0, x.1, x.2, comes_before x.0 these s x.3)
+
+  -- with one more session, it leaves for one of those before or for that one
+  left_cases : (these : List ℕ) (s : ℕ) (other : List ℕ) → IsLeft order at (these ++ s ∷ []) other →
+      IsLeft order at these other ⊎ ((other ≡ first_of order at s) × ((slice_index order at == s) ≡ false))
+  left_cases these s other x = by (comes_cases x.0 these s x.3)
+    where
+      by : (comes x.0 these ≡ true) ⊎ (s ≡ x.0) → IsLeft order at these other ⊎ ((other ≡ first_of order at s) × ((slice_index order at == s) ≡ false))
+      by (inl c) = inl (x.0, x.1, x.2, c)
+      by (inr p) = inr (x.1 ∙ ap (λ i. first_of order at i) (sym p), subst (λ i. (slice_index order at == i) ≡ false) (sym p) x.2)
 
   map_more : (both these : List ℕ) (s : ℕ) →
       begun_by both (map (first_of order at) (these ++ s ∷ [])) ≡ begun_by both (map (first_of order at) these) + (cond (begins (first_of order at s) both) 1 0 + 0)
   map_more both these s = ap (λ l. begun_by both l) (map-append (first_of order at) these (s ∷ [])) ∙ begun_by-append both (map (first_of order at) these) (first_of order at s ∷ [])
 
-  -- the session of the step itself isn't another's
-  pub left_same : (these : List ℕ) (s : ℕ) (now later : List (List ℕ)) → AreLeft most level at order these now later → (slice_index order at == s) ≡ true →
-      AreLeft most level at order (these ++ s ∷ []) now later
-  left_same these s now later f e = record {
-    each = λ other c. wider these s other (f.each other c);
-    once = λ both. more (begun_by both now) (begun_by both later) (begun_by both (map (first_of order at) these)) (cond (begins (first_of order at s) both) 1 0)
-        (begun_by both (map (first_of order at) (these ++ s ∷ []))) (f.once both) (map_more both these s);
-    here = λ t c n l. here t (comes_cases t these s c) n l;
-    all = λ t c n l. all t (comes_cases t these s c) n l;
-  }
+  module _ (these : List ℕ) (s : ℕ) (there : List (List ℕ)) (beyond : Bool) (f : AreLeftBy level at order these there beyond) where
+    each_before : (other : List ℕ) → Contains there other → IsLeft order at (these ++ s ∷ []) other × (cost order other ≤ level)
+    each_before other c = (wider these s other (f.each other c).0, (f.each other c).1)
+
+    more_before : beyond ≡ true → (other : List ℕ) × IsLeft order at (these ++ s ∷ []) other × (level < cost order other)
+    more_before p = let x = f.more p in (x.0, wider these s x.0 x.1, x.2)
+
+    once_before : (both : List ℕ) → begun_by both there ≤ begun_by both (map (first_of order at) (these ++ s ∷ []))
+    once_before both =
+        more (begun_by both there) (begun_by both (map (first_of order at) these)) (cond (begins (first_of order at s) both) 1 0)
+        (begun_by both (map (first_of order at) (these ++ s ∷ []))) (f.once both) (map_more both these s)
+      where
+        more : (n m d x : ℕ) → n ≤ m → x ≡ m + (d + 0) → n ≤ x
+        more n m d x p q = omega arith
+
+    -- the session of the step itself isn't another's
+    left_same : (slice_index order at == s) ≡ true → AreLeftBy level at order (these ++ s ∷ []) there beyond
+    left_same e = record {
+      each = each_before;
+      once = once_before;
+      all = λ other x. all other (left_cases these s other x);
+      more = more_before;
+    }
+      where
+        all : (other : List ℕ) → IsLeft order at these other ⊎ ((other ≡ first_of order at s) × ((slice_index order at == s) ≡ false)) →
+            Contains there other ⊎ ((level < cost order other) × (beyond ≡ true))
+        all other (inl x) = f.all other x
+        all other (inr x) = absurd (false≢true (sym x.1 ∙ e))
+
+    -- another session's first steps are there if they cost no more than the level
+    left_there : (slice_index order at == s) ≡ false → cost order (first_of order at s) ≤ level →
+        AreLeftBy level at order (these ++ s ∷ []) (there ++ first_of order at s ∷ []) beyond
+    left_there e l = record {
+      each = λ other c. each other (Contains-push_cases there (first_of order at s) other c);
+      once = λ both. more (begun_by both (there ++ first_of order at s ∷ [])) (begun_by both there) (begun_by both (map (first_of order at) these))
+          (cond (begins (first_of order at s) both) 1 0) (begun_by both (map (first_of order at) (these ++ s ∷ []))) (f.once both) (map_more both these s)
+          (begun_by-append both there (first_of order at s ∷ []));
+      all = λ other x. all other (left_cases these s other x);
+      more = more_before;
+    }
+      where
+        more : (n' n m d x : ℕ) → n ≤ m → x ≡ m + (d + 0) → n' ≡ n + (d + 0) → n' ≤ x
+        more n' n m d x p q r = omega arith
+
+        each : (other : List ℕ) → Contains there other ⊎ (first_of order at s ≡ other) → IsLeft order at (these ++ s ∷ []) other × (cost order other ≤ level)
+        each other (inl c) = each_before other c
+        each other (inr p) = ((s, sym p, e, comes_last these s), subst (λ o. cost order o ≤ level) p l)
+
+        before : (other : List ℕ) → Contains there other ⊎ ((level < cost order other) × (beyond ≡ true)) →
+            Contains (there ++ first_of order at s ∷ []) other ⊎ ((level < cost order other) × (beyond ≡ true))
+        before other (inl c) = inl (Contains-append_left there (first_of order at s ∷ []) other c)
+        before other (inr x) = inr x
+
+        all : (other : List ℕ) → IsLeft order at these other ⊎ ((other ≡ first_of order at s) × ((slice_index order at == s) ≡ false)) →
+            Contains (there ++ first_of order at s ∷ []) other ⊎ ((level < cost order other) × (beyond ≡ true))
+        all other (inl x) = before other (f.all other x)
+        all other (inr x) = inl (subst (λ o. Contains (there ++ first_of order at s ∷ []) o) (sym x.0) (Contains-push there (first_of order at s)))
+
+    -- and else it is told that there are such
+    left_beyond : (slice_index order at == s) ≡ false → level < cost order (first_of order at s) → AreLeftBy level at order (these ++ s ∷ []) there true
+    left_beyond e l = record {
+      each = each_before;
+      once = once_before;
+      all = λ other x. all other (left_cases these s other x);
+      more = λ p. (first_of order at s, (s, refl, e, comes_last these s), l);
+    }
+      where
+        before : (other : List ℕ) → Contains there other ⊎ ((level < cost order other) × (beyond ≡ true)) →
+            Contains there other ⊎ ((level < cost order other) × (true ≡ true))
+        before other (inl c) = inl c
+        before other (inr x) = inr (x.0, refl)
+
+        all : (other : List ℕ) → IsLeft order at these other ⊎ ((other ≡ first_of order at s) × ((slice_index order at == s) ≡ false)) →
+            Contains there other ⊎ ((level < cost order other) × (true ≡ true))
+        all other (inl x) = before other (f.all other x)
+        all other (inr x) = inr (subst (λ o. level < cost order o) (sym x.0) l, refl)
+
+  -- those of no session were added
+  pub none_added : (there : List (List ℕ)) (beyond : Bool) → AreLeft level at order [] there beyond there beyond
+  none_added there beyond = ([], false, left_none, sym (append-nil there), by beyond)
     where
-      more : (n l m d x : ℕ) → n + l ≤ m → x ≡ m + (d + 0) → n + l ≤ x
-      more n l m d x p q = omega arith
+      by : (b : Bool) → b ≡ (b || false)
+      by true = refl
+      by false = refl
 
-      not_it : (t : ℕ) → s ≡ t → (slice_index order at == t) ≡ false → ⊥
-      not_it t p n = false≢true (sym n ∙ subst (λ i. (slice_index order at == i) ≡ true) p e)
+  pub same_added : (these : List ℕ) (s : ℕ) (there now : List (List ℕ)) (beyond now_beyond : Bool) → AreLeft level at order these there beyond now now_beyond →
+      (slice_index order at == s) ≡ true → AreLeft level at order (these ++ s ∷ []) there beyond now now_beyond
+  same_added these s there now beyond now_beyond x e = (x.0, x.1, left_same these s x.0 x.1 x.2 e, x.3, x.4)
 
-      here : (t : ℕ) → (comes t these ≡ true) ⊎ (s ≡ t) → (slice_index order at == t) ≡ false → cost order (first_of order at t) ≤ level → Contains now (first_of order at t)
-      here t (inl c) n l = f.here t c n l
-      here t (inr p) n l = absurd (not_it t p n)
-
-      all : (t : ℕ) → (comes t these ≡ true) ⊎ (s ≡ t) → (slice_index order at == t) ≡ false → cost order (first_of order at t) ≤ most →
-          Contains now (first_of order at t) ⊎ Contains later (first_of order at t)
-      all t (inl c) n l = f.all t c n l
-      all t (inr p) n l = absurd (not_it t p n)
-
-  -- another session's first steps are added by what they cost
-  pub left_more : (these : List ℕ) (s : ℕ) (now later new_now new_later : List (List ℕ)) → AreLeft most level at order these now later → (slice_index order at == s) ≡ false →
-      IsAdded most level (cost order (first_of order at s)) (first_of order at s) now later new_now new_later → AreLeft most level at order (these ++ s ∷ []) new_now new_later
-  left_more these s now later new_now new_later f e (inl a) = record {
-    each = λ other c. each other (subst (λ l. Contains l other ⊎ Contains new_later other) a.1 c);
-    once = λ both. more (begun_by both new_now) (begun_by both new_later) (begun_by both now) (begun_by both later) (begun_by both (map (first_of order at) these))
-        (cond (begins (first_of order at s) both) 1 0) (begun_by both (map (first_of order at) (these ++ s ∷ []))) (f.once both) (map_more both these s)
-        (ap (λ l. begun_by both l) a.1 ∙ begun_by-append both now (first_of order at s ∷ [])) (ap (λ l. begun_by both l) a.2);
-    here = λ t c n l. subst (λ x. Contains x (first_of order at t)) (sym a.1) (here t (comes_cases t these s c) n l);
-    all = λ t c n l. subst (λ x. Contains x (first_of order at t) ⊎ Contains new_later (first_of order at t)) (sym a.1)
-        (subst (λ x. Contains (now ++ first_of order at s ∷ []) (first_of order at t) ⊎ Contains x (first_of order at t)) (sym a.2) (all t (comes_cases t these s c) n l));
-  }
+  pub one_added : (these : List ℕ) (s : ℕ) (there now new : List (List ℕ)) (beyond now_beyond new_beyond : Bool) → AreLeft level at order these there beyond now now_beyond →
+      (slice_index order at == s) ≡ false → IsAdded level (cost order (first_of order at s)) (first_of order at s) now now_beyond new new_beyond →
+      AreLeft level at order (these ++ s ∷ []) there beyond new new_beyond
+  one_added these s there now new beyond now_beyond new_beyond x e (inl a) =
+      (x.0 ++ first_of order at s ∷ [], x.1, left_there these s x.0 x.1 x.2 e a.0, a.1 ∙ ap (λ l. l ++ first_of order at s ∷ []) x.3 ∙ append_assoc there x.0 (first_of order at s ∷ []), a.2 ∙ x.4)
+  one_added these s there now new beyond now_beyond new_beyond x e (inr a) = (x.0, true, left_beyond these s x.0 x.1 x.2 e a.0, a.1 ∙ x.3, a.2 ∙ by beyond)
     where
-      more : (n' l' n l m d x : ℕ) → n + l ≤ m → x ≡ m + (d + 0) → n' ≡ n + (d + 0) → l' ≡ l → n' + l' ≤ x
-      more n' l' n l m d x p q r o = omega arith
-
-      each : (other : List ℕ) → Contains (now ++ first_of order at s ∷ []) other ⊎ Contains new_later other → IsLeft order at (these ++ s ∷ []) other
-      each other (inl c) = by (Contains-push_cases now (first_of order at s) other c)
-        where
-          by : Contains now other ⊎ (first_of order at s ≡ other) → IsLeft order at (these ++ s ∷ []) other
-          by (inl c) = wider these s other (f.each other (inl c))
-          by (inr p) = (s, sym p, e, comes_last these s)
-      each other (inr c) = wider these s other (f.each other (inr (subst (λ x. Contains x other) a.2 c)))
-
-      here : (t : ℕ) → (comes t these ≡ true) ⊎ (s ≡ t) → (slice_index order at == t) ≡ false → cost order (first_of order at t) ≤ level →
-          Contains (now ++ first_of order at s ∷ []) (first_of order at t)
-      here t (inl c) n l = Contains-append_left now (first_of order at s ∷ []) (first_of order at t) (f.here t c n l)
-      here t (inr p) n l = subst (λ i. Contains (now ++ first_of order at s ∷ []) (first_of order at i)) p (Contains-push now (first_of order at s))
-
-      all : (t : ℕ) → (comes t these ≡ true) ⊎ (s ≡ t) → (slice_index order at == t) ≡ false → cost order (first_of order at t) ≤ most →
-          Contains (now ++ first_of order at s ∷ []) (first_of order at t) ⊎ Contains later (first_of order at t)
-      all t (inl c) n l = by (f.all t c n l)
-        where
-          by : Contains now (first_of order at t) ⊎ Contains later (first_of order at t) → Contains (now ++ first_of order at s ∷ []) (first_of order at t) ⊎ Contains later (first_of order at t)
-          by (inl x) = inl (Contains-append_left now (first_of order at s ∷ []) (first_of order at t) x)
-          by (inr x) = inr x
-      all t (inr p) n l = inl (subst (λ i. Contains (now ++ first_of order at s ∷ []) (first_of order at i)) p (Contains-push now (first_of order at s)))
-  left_more these s now later new_now new_later f e (inr (inl a)) = record {
-    each = λ other c. each other (subst (λ l. Contains new_now other ⊎ Contains l other) a.3 c);
-    once = λ both. more (begun_by both new_now) (begun_by both new_later) (begun_by both now) (begun_by both later) (begun_by both (map (first_of order at) these))
-        (cond (begins (first_of order at s) both) 1 0) (begun_by both (map (first_of order at) (these ++ s ∷ []))) (f.once both) (map_more both these s)
-        (ap (λ l. begun_by both l) a.2) (ap (λ l. begun_by both l) a.3 ∙ begun_by-append both later (first_of order at s ∷ []));
-    here = λ t c n l. subst (λ x. Contains x (first_of order at t)) (sym a.2) (here t (comes_cases t these s c) n l);
-    all = λ t c n l. subst (λ x. Contains x (first_of order at t) ⊎ Contains new_later (first_of order at t)) (sym a.2)
-        (subst (λ x. Contains now (first_of order at t) ⊎ Contains x (first_of order at t)) (sym a.3) (all t (comes_cases t these s c) n l));
-  }
-    where
-      more : (n' l' n l m d x : ℕ) → n + l ≤ m → x ≡ m + (d + 0) → n' ≡ n → l' ≡ l + (d + 0) → n' + l' ≤ x
-      more n' l' n l m d x p q r o = omega arith
-
-      each : (other : List ℕ) → Contains new_now other ⊎ Contains (later ++ first_of order at s ∷ []) other → IsLeft order at (these ++ s ∷ []) other
-      each other (inr c) = by (Contains-push_cases later (first_of order at s) other c)
-        where
-          by : Contains later other ⊎ (first_of order at s ≡ other) → IsLeft order at (these ++ s ∷ []) other
-          by (inl c) = wider these s other (f.each other (inr c))
-          by (inr p) = (s, sym p, e, comes_last these s)
-      each other (inl c) = wider these s other (f.each other (inl (subst (λ x. Contains x other) a.2 c)))
-
-      no : (c : ℕ) → level < c → c ≤ level → ⊥
-      no c p q = omega arith
-
-      here : (t : ℕ) → (comes t these ≡ true) ⊎ (s ≡ t) → (slice_index order at == t) ≡ false → cost order (first_of order at t) ≤ level →
-          Contains now (first_of order at t)
-      here t (inl c) n l = f.here t c n l
-      here t (inr p) n l = absurd (no (cost order (first_of order at s)) a.0 (subst (λ i. cost order (first_of order at i) ≤ level) (sym p) l))
-
-      all : (t : ℕ) → (comes t these ≡ true) ⊎ (s ≡ t) → (slice_index order at == t) ≡ false → cost order (first_of order at t) ≤ most →
-          Contains now (first_of order at t) ⊎ Contains (later ++ first_of order at s ∷ []) (first_of order at t)
-      all t (inl c) n l = by (f.all t c n l)
-        where
-          by : Contains now (first_of order at t) ⊎ Contains later (first_of order at t) → Contains now (first_of order at t) ⊎ Contains (later ++ first_of order at s ∷ []) (first_of order at t)
-          by (inl x) = inl x
-          by (inr x) = inr (Contains-append_left later (first_of order at s ∷ []) (first_of order at t) x)
-      all t (inr p) n l = inr (subst (λ i. Contains (later ++ first_of order at s ∷ []) (first_of order at i)) p (Contains-push later (first_of order at s)))
-  left_more these s now later new_now new_later f e (inr (inr a)) = record {
-    each = λ other c. wider these s other (f.each other (subst (λ l. Contains l other ⊎ Contains later other) a.2 (subst (λ l. Contains new_now other ⊎ Contains l other) a.3 c)));
-    once = λ both. more (begun_by both new_now) (begun_by both new_later) (begun_by both now) (begun_by both later) (begun_by both (map (first_of order at) these))
-        (cond (begins (first_of order at s) both) 1 0) (begun_by both (map (first_of order at) (these ++ s ∷ []))) (f.once both) (map_more both these s)
-        (ap (λ l. begun_by both l) a.2) (ap (λ l. begun_by both l) a.3);
-    here = λ t c n l. subst (λ x. Contains x (first_of order at t)) (sym a.2) (here t (comes_cases t these s c) n l);
-    all = λ t c n l. subst (λ x. Contains x (first_of order at t) ⊎ Contains new_later (first_of order at t)) (sym a.2)
-        (subst (λ x. Contains now (first_of order at t) ⊎ Contains x (first_of order at t)) (sym a.3) (all t (comes_cases t these s c) n l));
-  }
-    where
-      more : (n' l' n l m d x : ℕ) → n + l ≤ m → x ≡ m + (d + 0) → n' ≡ n → l' ≡ l → n' + l' ≤ x
-      more n' l' n l m d x p q r o = omega arith
-
-      no : (c k : ℕ) → k < c → c ≤ k → ⊥
-      no c k p q = omega arith
-
-      here : (t : ℕ) → (comes t these ≡ true) ⊎ (s ≡ t) → (slice_index order at == t) ≡ false → cost order (first_of order at t) ≤ level →
-          Contains now (first_of order at t)
-      here t (inl c) n l = f.here t c n l
-      here t (inr p) n l = absurd (no (cost order (first_of order at s)) level a.0 (subst (λ i. cost order (first_of order at i) ≤ level) (sym p) l))
-
-      all : (t : ℕ) → (comes t these ≡ true) ⊎ (s ≡ t) → (slice_index order at == t) ≡ false → cost order (first_of order at t) ≤ most →
-          Contains now (first_of order at t) ⊎ Contains later (first_of order at t)
-      all t (inl c) n l = f.all t c n l
-      all t (inr p) n l = absurd (no (cost order (first_of order at s)) most a.1 (subst (λ i. cost order (first_of order at i) ≤ most) (sym p) l))
+      by : (b : Bool) → true ≡ (b || true)
+      by true = refl
+      by false = refl
 
 -- all places from one on
 
@@ -283,18 +262,14 @@ one_at_most n order both (t ∷ these) f = by (tested (begins (first_of order n 
     by (inr p) i = rw p (zero' (begun_by both (map (first_of order n) these)) i)
 
 -- no other order shares all steps of one
-pub others_none : (most level n : ℕ) (order : List ℕ) → length order ≤ n → AreOthers most level n order [] []
-others_none most level n order l = record {
-  each = λ other c. absurd (none other c);
+pub others_none : (level n : ℕ) (order : List ℕ) → length order ≤ n → AreOthers level n order [] false
+others_none level n order l = record {
+  each = λ other c. absurd (Contains-none other c);
   once = λ both. omega arith;
-  here = λ other o k. absurd (past n order other l o);
-  all = λ other o k. absurd (past n order other l o);
+  all = λ other o. absurd (past n order other l o);
+  more = λ p. absurd (false≢true p);
 }
   where
-    none : (other : List ℕ) → Contains [] other ⊎ Contains [] other → ⊥
-    none other (inl c) = Contains-none other c
-    none other (inr c) = Contains-none other c
-
     past : (n : ℕ) (order other : List ℕ) → length order ≤ n → IsOther n order other → ⊥
     past n order [] l o = o
     past n [] (t ∷ ts) l o = o
@@ -314,22 +289,17 @@ comes_later zero (s ∷ ss) t l d = rw d refl
 comes_later (suc n) (s ∷ ss) t l d = comes_later n ss t (omega arith) d
 
 -- those from the next place on, and those at a place, are those from that place on
-module _ (most level n : ℕ) (order sessions : List ℕ) (now later here there : List (List ℕ)) (l : n < length order) (f : (s : ℕ) → comes s sessions ≡ comes s (drop n order))
-    (g : (s : ℕ) → count_of s sessions ≤ 1) (a : AreOthers most level (suc n) order now later) (b : AreLeft most level n order sessions here there) where
+module _ (level n : ℕ) (order sessions : List ℕ) (there here : List (List ℕ)) (beyond cut : Bool) (l : n < length order) (f : (s : ℕ) → comes s sessions ≡ comes s (drop n order))
+    (g : (s : ℕ) → count_of s sessions ≤ 1) (a : AreOthers level (suc n) order there beyond) (b : AreLeftBy level n order sessions here cut) where
   left_other : (other : List ℕ) → IsLeft order n sessions other → IsOther n order other
   left_other other x = subst (λ o. IsOther n order o) (sym x.1) (is_other n order x.0 l x.2 (sym (comes_later n order x.0 l x.2) ∙ sym (f x.0) ∙ x.3))
 
-  each : (other : List ℕ) → Contains (now ++ here) other ⊎ Contains (later ++ there) other → IsOther n order other
-  each other (inl c) = by (Contains-append_cases now here other c)
+  each : (other : List ℕ) → Contains (there ++ here) other → IsOther n order other × (cost order other ≤ level)
+  each other c = by (Contains-append_cases there here other c)
     where
-      by : Contains now other ⊎ Contains here other → IsOther n order other
-      by (inl x) = other_fewer n order other (a.each other (inl x))
-      by (inr x) = left_other other (b.each other (inl x))
-  each other (inr c) = by (Contains-append_cases later there other c)
-    where
-      by : Contains later other ⊎ Contains there other → IsOther n order other
-      by (inl x) = other_fewer n order other (a.each other (inr x))
-      by (inr x) = left_other other (b.each other (inr x))
+      by : Contains there other ⊎ Contains here other → IsOther n order other × (cost order other ≤ level)
+      by (inl x) = (other_fewer n order other (a.each other x).0, (a.each other x).1)
+      by (inr x) = (left_other other (b.each other x).0, (b.each other x).1)
 
   shares : (other both : List ℕ) → IsOther (suc n) order other → begins other both ≡ true → begins (take (suc n) order) both ≡ true
   shares other both o c =
@@ -347,50 +317,61 @@ module _ (most level n : ℕ) (order sessions : List ℕ) (now later here there 
   leaves_not other both p x c =
       conflict n order both x.0 l (begins_so (take (suc n) order) both p) (begins_so (first_of order n x.0) both (subst (λ o. begins o both ≡ true) x.1 c)) x.2
 
-  once : (both : List ℕ) → begun_by both (now ++ here) + begun_by both (later ++ there) ≤ 1
-  once both = rw (begun_by-append both now here, begun_by-append both later there) (by (tested (begins (take (suc n) order) both)))
+  once : (both : List ℕ) → begun_by both (there ++ here) ≤ 1
+  once both = rw (begun_by-append both there here) (by (tested (begins (take (suc n) order) both)))
     where
-      first : (x y z w : ℕ) → x + z ≤ 1 → y ≡ 0 → w ≡ 0 → (x + y) + (z + w) ≤ 1
-      first x y z w p q r = omega arith
+      first : (x y : ℕ) → x ≤ 1 → y ≡ 0 → x + y ≤ 1
+      first x y p q = omega arith
 
-      second : (x y z w m : ℕ) → x ≡ 0 → z ≡ 0 → y + w ≤ m → m ≤ 1 → (x + y) + (z + w) ≤ 1
-      second x y z w m p q r o = omega arith
+      second : (x y m : ℕ) → x ≡ 0 → y ≤ m → m ≤ 1 → x + y ≤ 1
+      second x y m p q r = omega arith
 
-      by : Tested (begins (take (suc n) order) both) → (begun_by both now + begun_by both here) + (begun_by both later + begun_by both there) ≤ 1
-      by (inl p) =
-          first (begun_by both now) (begun_by both here) (begun_by both later) (begun_by both there) (a.once both)
-          (begun_by-none both here (λ other c x. leaves_not other both p (b.each other (inl c)) x)) (begun_by-none both there (λ other c x. leaves_not other both p (b.each other (inr c)) x))
+      by : Tested (begins (take (suc n) order) both) → begun_by both there + begun_by both here ≤ 1
+      by (inl p) = first (begun_by both there) (begun_by both here) (a.once both) (begun_by-none both here (λ other c x. leaves_not other both p (b.each other c).0 x))
       by (inr p) =
-          second (begun_by both now) (begun_by both here) (begun_by both later) (begun_by both there) (begun_by both (map (first_of order n) sessions))
-          (begun_by-none both now (λ other c x. false≢true (sym p ∙ shares other both (a.each other (inl c)) x)))
-          (begun_by-none both later (λ other c x. false≢true (sym p ∙ shares other both (a.each other (inr c)) x))) (b.once both) (one_at_most n order both sessions g)
+          second (begun_by both there) (begun_by both here) (begun_by both (map (first_of order n) sessions))
+          (begun_by-none both there (λ other c x. false≢true (sym p ∙ shares other both (a.each other c).0 x))) (b.once both) (one_at_most n order both sessions g)
 
-  here_all : (t : ℕ) → (slice_index order n == t) ≡ false → comes t (drop (suc n) order) ≡ true → comes t sessions ≡ true
-  here_all t d c = f t ∙ comes_later n order t l d ∙ c
+  for_these : (other : List ℕ) → IsLeft order n (drop (suc n) order) other → IsLeft order n sessions other
+  for_these other x = (x.0, x.1, x.2, f x.0 ∙ comes_later n order x.0 l x.2 ∙ x.3)
 
-  pub others_more : AreOthers most level n order (now ++ here) (later ++ there)
+  pub others_more : AreOthers level n order (there ++ here) (beyond || cut)
   others_more = record {
     each = each;
     once = once;
-    here = λ other o c. in_here other (leaves_here n order other o) c;
-    all = λ other o c. in_all other (leaves_here n order other o) c;
+    all = λ other o. all other (leaves_here n order other o);
+    more = λ p. more (tested beyond) p;
   }
     where
-      in_here : (other : List ℕ) → IsOther (suc n) order other ⊎ IsLeft order n (drop (suc n) order) other → cost order other ≤ level → Contains (now ++ here) other
-      in_here other (inl o) c = Contains-append_left now here other (a.here other o c)
-      in_here other (inr x) c =
-          Contains-append_right now here other
-          (subst (λ o. Contains here o) (sym x.1) (b.here x.0 (here_all x.0 x.2 x.3) x.2 (subst (λ o. cost order o ≤ level) x.1 c)))
+      left : (c d : Bool) → c ≡ true → (c || d) ≡ true
+      left true d p = refl
+      left false d p = absurd (false≢true p)
 
-      in_all : (other : List ℕ) → IsOther (suc n) order other ⊎ IsLeft order n (drop (suc n) order) other → cost order other ≤ most →
-          Contains (now ++ here) other ⊎ Contains (later ++ there) other
-      in_all other (inl o) c = by (a.all other o c)
-        where
-          by : Contains now other ⊎ Contains later other → Contains (now ++ here) other ⊎ Contains (later ++ there) other
-          by (inl x) = inl (Contains-append_left now here other x)
-          by (inr x) = inr (Contains-append_left later there other x)
-      in_all other (inr x) c = by (subst (λ o. Contains here o ⊎ Contains there o) (sym x.1) (b.all x.0 (here_all x.0 x.2 x.3) x.2 (subst (λ o. cost order o ≤ most) x.1 c)))
-        where
-          by : Contains here other ⊎ Contains there other → Contains (now ++ here) other ⊎ Contains (later ++ there) other
-          by (inl x) = inl (Contains-append_right now here other x)
-          by (inr x) = inr (Contains-append_right later there other x)
+      right : (c d : Bool) → d ≡ true → (c || d) ≡ true
+      right true d p = refl
+      right false d p = p
+
+      later : (other : List ℕ) → Contains there other ⊎ ((level < cost order other) × (beyond ≡ true)) →
+          Contains (there ++ here) other ⊎ ((level < cost order other) × ((beyond || cut) ≡ true))
+      later other (inl c) = inl (Contains-append_left there here other c)
+      later other (inr x) = inr (x.0, left beyond cut x.1)
+
+      now : (other : List ℕ) → Contains here other ⊎ ((level < cost order other) × (cut ≡ true)) →
+          Contains (there ++ here) other ⊎ ((level < cost order other) × ((beyond || cut) ≡ true))
+      now other (inl c) = inl (Contains-append_right there here other c)
+      now other (inr x) = inr (x.0, right beyond cut x.1)
+
+      all : (other : List ℕ) → IsOther (suc n) order other ⊎ IsLeft order n (drop (suc n) order) other →
+          Contains (there ++ here) other ⊎ ((level < cost order other) × ((beyond || cut) ≡ true))
+      all other (inl o) = later other (a.all other o)
+      all other (inr x) = now other (b.all other (for_these other x))
+
+      more : Tested beyond → (beyond || cut) ≡ true → (other : List ℕ) × IsOther n order other × (level < cost order other)
+      more (inl p) q = let x = a.more p in (x.0, other_fewer n order x.0 x.1, x.2)
+      more (inr p) q = let x = b.more (subst (λ c. (c || cut) ≡ true) p q) in (x.0, left_other x.0 x.1, x.2)
+
+pub others_added : (level n : ℕ) (order sessions : List ℕ) (there new : List (List ℕ)) (beyond new_beyond : Bool) → n < length order → ((s : ℕ) → comes s sessions ≡ comes s (drop n order)) →
+    ((s : ℕ) → count_of s sessions ≤ 1) → AreOthers level (suc n) order there beyond → AreLeft level n order sessions there beyond new new_beyond → AreOthers level n order new new_beyond
+others_added level n order sessions there new beyond new_beyond l f g a x =
+    subst (λ y. AreOthers level n order y new_beyond) (sym x.3)
+    (subst (λ y. AreOthers level n order (there ++ x.0) y) (sym x.4) (others_more level n order sessions there x.0 beyond x.1 l f g a x.2))

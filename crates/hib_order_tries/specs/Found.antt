@@ -1,18 +1,19 @@
 -- What the runs that were tried have come to.
-use Rattle.std.specs.Prelude.{◌≡◌, ◌+◌, ◌<◌, ◌≤◌, ◌⊎◌, ℕ, Bool, true, false, cond, List, ◌∷◌, length, count_by, IfSome, IfNone}
+use Rattle.std.specs.Prelude.{◌≡◌, ◌+◌, ◌<◌, ◌≤◌, ◌==◌, ℕ, Bool, true, false, cond, List, [], ◌∷◌, length, count_by, sum_by, slice_index_or, IfSome, IfNone}
 use Rattle.std.specs.List.{Contains}
 use Rattle.hib_base.specs.Tables.{Tables}
-use Rattle.hib_journal.specs.Types.{Script, Entry}
+use Rattle.hib_journal.specs.Types.{Script, Entry, Outcome}
 use Rattle.hib_order_law.specs.Orders.{IsRun, begins, sessions_in, switches}
 use Rattle.hib_order_law.specs.Search.{AreTried}
 use Rattle.hib_order_law.specs.declared.verdicts.Verdicts.{Verdicts}
+use Rattle.hib_order_tries.specs.declared.endings.Ending.{Ending}
 use Rattle.hib_order_tries.specs.declared.found.Found.{Found}
 use Rattle.hib_order_tries.specs.declared.found.Findings.{Findings}
 
--- a run was played that begins so; its order, and what is judged of it
-abbrev pub IsPlayed : Script → Tables → (List Entry → Verdicts) → List ℕ → List ℕ → Verdicts → Type 0
-IsPlayed script start judged begun order verdicts =
-    (es : List Entry) × IsRun script start es × (begins begun (sessions_in es) ≡ true) × (order ≡ sessions_in es) × (verdicts ≡ judged es)
+-- a run was played that begins so; its order, what is judged of it, and how each session has ended
+abbrev pub IsPlayed : Script → Tables → (List Entry → Verdicts) → (List Entry → List Outcome) → List ℕ → List ℕ → Verdicts → List Outcome → Type 0
+IsPlayed script start judged ended begun order verdicts ending =
+    (es : List Entry) × IsRun script start es × (begins begun (sessions_in es) ≡ true) × (order ≡ sessions_in es) × (verdicts ≡ judged es) × (ending ≡ ended es)
 
 -- an order is that of a run that was tried and has something, and none of those that have it makes fewer switches
 abbrev pub IsFirst : (List Entry → Bool) → List (List Entry) → List ℕ → ℕ → Type 0
@@ -26,9 +27,30 @@ pub record IsFound (has : List Entry → Bool) (runs : List (List Entry)) (found
   pub first : IfSome found.first (λ f. IsFirst has runs f.order.items f.switches)
   pub none : IfNone found.first ((es : List Entry) → Contains runs es → has es ≡ false)
 
--- so of each judgement, and how many were tried
-pub record AreFindings (judged : List Entry → Verdicts) (runs : List (List Entry)) (findings : Findings) : Type 0 where
+-- how many of the runs that were tried make no switch, one, two and so on; none makes as many as there are numbers
+abbrev pub AreLevels : List (List Entry) → List ℕ → Type 0
+AreLevels runs levels = (k : ℕ) → slice_index_or levels k 0 ≡ count_by (λ es. switches (sessions_in es) == k) runs
+
+-- the runs whose outcomes pass a test, by the endings that are told: the sum of their counts
+abbrev pub ended_so : (List Outcome → Bool) → List Ending → ℕ
+ended_so test endings = sum_by (λ e. cond (test e.outcomes.items) e.count 0) endings
+
+-- no two endings have the same outcomes
+abbrev pub AreApart : List Ending → Type 0
+AreApart [] = Unit {0}
+AreApart (e ∷ es) = ((d : Ending) → Contains es d → d.outcomes.items ≡ e.outcomes.items → ⊥) × AreApart es
+
+-- how the runs that were tried have ended: whatever is asked of the outcomes, as many runs pass it as are told to; and no two endings
+-- have the same outcomes
+pub record AreEndings (ended : List Entry → List Outcome) (runs : List (List Entry)) (endings : List Ending) : Type 0 where
+  pub count : (test : List Outcome → Bool) → ended_so test endings ≡ count_by (λ es. test (ended es)) runs
+  pub once : AreApart endings
+
+-- so of each judgement, of the switches and of the endings; and how many were tried
+pub record AreFindings (judged : List Entry → Verdicts) (ended : List Entry → List Outcome) (runs : List (List Entry)) (findings : Findings) : Type 0 where
   pub tried : findings.tried ≡ length runs
+  pub levels : AreLevels runs findings.levels.items
+  pub endings : AreEndings ended runs findings.endings
   pub stale_hit : IsFound (λ es. (judged es).stale_hit) runs findings.stale_hit
   pub old_list : IsFound (λ es. (judged es).old_list) runs findings.old_list
   pub lost_update : IsFound (λ es. (judged es).lost_update) runs findings.lost_update
@@ -37,12 +59,14 @@ pub record AreFindings (judged : List Entry → Verdicts) (runs : List (List Ent
 
 -- what a search tells: of some runs within the bound, each once, what they have come to. All within the bound are among them if it says so,
 -- and else all with fewer switches than a number
-abbrev pub IsTold : Script → Tables → (List Entry → Verdicts) → ℕ → Bool → ℕ → Findings → Type 0
-IsTold script start judged most whole level findings =
-    (runs : List (List Entry)) × AreTried script start most (cond whole (most + 1) level) runs × AreFindings judged runs findings
+abbrev pub IsTold : Script → Tables → (List Entry → Verdicts) → (List Entry → List Outcome) → ℕ → Bool → ℕ → Findings → Type 0
+IsTold script start judged ended most whole level findings =
+    (runs : List (List Entry)) × AreTried script start most (cond whole (most + 1) level) runs × AreFindings judged ended runs findings
 
--- no judgement was found in more orders than were tried
+-- nothing was counted more often than orders were tried
 pub record AreCounted (findings : Findings) : Type 0 where
+  pub levels : (k : ℕ) → slice_index_or findings.levels.items k 0 ≤ findings.tried
+  pub endings : ended_so (λ _. true) findings.endings ≤ findings.tried
   pub stale_hit : findings.stale_hit.count ≤ findings.tried
   pub old_list : findings.old_list.count ≤ findings.tried
   pub lost_update : findings.lost_update.count ≤ findings.tried
@@ -52,9 +76,3 @@ pub record AreCounted (findings : Findings) : Type 0 where
 -- whether a number is below another
 abbrev pub IsBelow : ℕ → ℕ → Bool → Type 0
 IsBelow n m is = (is ≡ true → n < m) × (is ≡ false → m ≤ n)
-
--- one more run was noted, if it makes so few switches
-abbrev pub IsNoted : ℕ → ℕ → Verdicts → List ℕ → Findings → Findings → Type 0
-IsNoted most total verdicts order old new =
-    ((total ≤ most) × ((judged : List Entry → Verdicts) (runs : List (List Entry)) (es : List Entry) → AreFindings judged runs old → verdicts ≡ judged es →
-    order ≡ sessions_in es → AreFindings judged (es ∷ runs) new)) ⊎ ((most < total) × (new ≡ old))

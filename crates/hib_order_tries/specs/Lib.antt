@@ -1,3 +1,5 @@
 pub mod Tail
 pub mod Left
+pub mod Marks
 pub mod Found
+pub mod Amid

@@ -3,7 +3,7 @@ ghost use Rattle.hib_order_law.specs.Orders.{comes, cost, switches};
 ghost use Rattle.hib_order_law.specs.Search.{AreOthers};
 ghost use Rattle.hib_order_tries.specs.Left.{AreLeft, IsAdded, IsBefore, cost_left, first_of};
 ghost use Rattle.hib_order_tries.specs.Tail.{IsTail};
-ghost use Rattle.std.specs.Prelude.{◌≡◌, ◌++◌, ◌∷◌, ◌+◌, ◌<◌, ◌≤◌, ◌^◌, [], IfOk, OnOk, length, drop, map, take};
+ghost use Rattle.std.specs.Prelude.{◌≡◌, ◌++◌, ◌∷◌, ◌+◌, ◌<◌, ◌≤◌, ◌^◌, [], IfOk, OnOk, drop, false, length, map, take};
 
 use crate::tail::Tail;
 use std::alloc::{AllocError, Global};
@@ -12,18 +12,9 @@ use std::alloc::{AllocError, Global};
 #[derive(Drop)]
 pub struct Beginnings {
     /// Those that cost no more switches than a level.
-    pub now: Vec<Vec<u32>>,
-    /// Those that cost more, but no more than a bound.
-    pub later: Vec<Vec<u32>>,
-}
-
-/// Which of them are asked for.
-#[derive(Clone, Copy)]
-pub struct Bounds {
-    /// How many switches they may cost to be tried now.
-    pub level: usize,
-    /// How many they may cost at all.
-    pub most: usize,
+    pub there: Vec<Vec<u32>>,
+    /// Whether there are others, which cost more.
+    pub beyond: bool,
 }
 
 /// How many switches an order makes.
@@ -114,68 +105,79 @@ fn first_steps(
 
 impl Beginnings {
     fn new(alloc: Global) -> Beginnings
-        ensures now { result.now.items ≡ [] }
-        ensures later { result.later.items ≡ [] }
+        ensures there { result.there.items ≡ [] }
+        ensures beyond { result.beyond ≡ false }
     {
         Beginnings {
-            now: Vec::new(alloc),
-            later: Vec::new(alloc),
+            there: Vec::new(alloc),
+            beyond: false,
         }
     }
 
-    /// Adds first steps by what they cost.
-    fn add(&mut self, steps: Vec<u32>, cost: usize, bounds: Bounds) -> Result<(), AllocError>
-        ensures { OnOk result (IsAdded bounds.most bounds.level cost steps.items
-            (map (λ v. v.items) self.old.now.items) (map (λ v. v.items) self.old.later.items)
-            (map (λ v. v.items) self.new.now.items) (map (λ v. v.items) self.new.later.items)) }
+    /// Adds those that leave an order at a place for a session. They are built if they cost no more switches than a level.
+    fn add(
+        &mut self,
+        alloc: Global,
+        order: &[u32],
+        at: usize,
+        session: u32,
+        cost: usize,
+        level: usize,
+    ) -> Result<(), AllocError>
+        requires { at ≤ length order.now }
+        ensures { OnOk result (IsAdded level cost (first_of order.now at session)
+            (map (λ v. v.items) self.old.there.items) self.old.beyond
+            (map (λ v. v.items) self.new.there.items) self.new.beyond) }
     {
-        if cost <= bounds.level {
-            self.now.push(steps)?;
-        } else if cost <= bounds.most {
-            self.later.push(steps)?;
+        if cost <= level {
+            self.there.push(first_steps(alloc, order, at, session)?)?;
+        } else {
+            self.beyond = true;
+        }
+        Ok(())
+    }
+
+    /// Adds those that leave an order at a place for one of these sessions.
+    fn add_at(
+        &mut self,
+        alloc: Global,
+        order: &[u32],
+        at: usize,
+        sessions: &[u32],
+        before: Before,
+        level: usize,
+    ) -> Result<(), AllocError>
+        requires inside { at < length order.now }
+        requires before { IsBefore order.now at before.spent before.left }
+        requires spent { before.spent < 2 ^ 63 }
+        ensures { OnOk result (AreLeft level at order.now sessions.now
+            (map (λ v. v.items) self.old.there.items) self.old.beyond
+            (map (λ v. v.items) self.new.there.items) self.new.beyond) }
+    {
+        for place in 0..sessions.len() {
+            let session = sessions[place];
+            if session != order[at] {
+                self.add(alloc, order, at, session, before.cost(session), level)?;
+            }
         }
         Ok(())
     }
 }
 
-/// Those that leave an order at a place.
-fn others_at(
-    alloc: Global,
-    order: &[u32],
-    at: usize,
-    sessions: &[u32],
-    before: Before,
-    bounds: Bounds,
-) -> Result<Beginnings, AllocError>
-    requires inside { at < length order.now }
-    requires before { IsBefore order.now at before.spent before.left }
-    requires spent { before.spent < 2 ^ 63 }
-    ensures { IfOk result (λ o. AreLeft bounds.most bounds.level at order.now sessions.now
-        (map (λ v. v.items) o.now.items) (map (λ v. v.items) o.later.items)) }
-{
-    let mut found = Beginnings::new(alloc);
-    for place in 0..sessions.len() {
-        let session = sessions[place];
-        if session != order[at] {
-            let steps = first_steps(alloc, order, at, session)?;
-            found.add(steps, before.cost(session), bounds)?;
-        }
-    }
-    Ok(found)
-}
-
-/// The first steps of the other orders of one that share so many steps at least, by what they cost. `total` is how many switches it makes.
+/// The first steps of the other orders of one that share so many steps at least, if they cost no more switches than a level; and whether
+/// there are others. `total` is how many switches the order makes. What is built is what is answered; beside that each step of the order
+/// takes as long as there are sessions.
 pub fn others(
     alloc: Global,
     order: &[u32],
     from: usize,
     total: usize,
-    bounds: Bounds,
+    level: usize,
 ) -> Result<Beginnings, AllocError>
     requires from { from ≤ length order.now }
     requires total { total ≡ switches order.now }
-    ensures { IfOk result (λ o. AreOthers bounds.most bounds.level from order.now
-        (map (λ v. v.items) o.now.items) (map (λ v. v.items) o.later.items)) }
+    ensures { IfOk result (λ o. AreOthers level from order.now (map (λ v. v.items) o.there.items)
+        o.beyond) }
 {
     let mut found = Beginnings::new(alloc);
     let mut tail = Tail::new(alloc);
@@ -183,9 +185,7 @@ pub fn others(
         let at = order.len() - 1 - gone;
         tail.take(order[at])?;
         let before = Before::of(order, at, &tail, total);
-        let mut more = others_at(alloc, order, at, tail.sessions(), before, bounds)?;
-        found.now.append(&mut more.now)?;
-        found.later.append(&mut more.later)?;
+        found.add_at(alloc, order, at, tail.sessions(), before, level)?;
     }
     Ok(found)
 }

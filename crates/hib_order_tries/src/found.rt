@@ -1,9 +1,13 @@
 // What the orders that were tried have come to.
 ghost use Rattle.hib_base.specs.declared.entries.Entry.{Entry};
+ghost use Rattle.hib_base.specs.declared.replies.Outcome.{Outcome};
 ghost use Rattle.hib_order_law.specs.Orders.{sessions_in, switches};
-ghost use Rattle.hib_order_tries.specs.Found.{AreCounted, AreFindings, IsBelow, IsFound, IsNoted};
-ghost use Rattle.std.specs.Prelude.{◌≡◌, ◌∷◌, ◌<◌, ◌^◌, ◌-◌, Bool, List, [], IfNone, IfSome, OnOk, true};
+ghost use Rattle.hib_order_tries.specs.Found.{AreCounted, AreFindings, IsBelow, IsFound};
+ghost use Rattle.hib_order_tries.specs.Amid.{AreJudged, IsJudged};
+ghost use Rattle.std.specs.Prelude.{◌≡◌, ◌∷◌, ◌<◌, ◌^◌, ◌-◌, ◌+◌, ◌==◌, ℕ, Bool, List, [], IfNone, IfSome, OnOk, cond, slice_index_or, true};
 
+use crate::endings::Endings;
+use crate::player::Played;
 use hib_order_law::Verdicts;
 use std::alloc::{AllocError, Global};
 
@@ -56,9 +60,7 @@ impl Found {
     ) -> Result<(), AllocError>
         requires room { self.old.count < 2 ^ 64 - 1 }
         requires total { total ≡ switches order.now }
-        ensures { OnOk result ((looked_for : List Entry → Bool) (runs : List (List Entry))
-            (es : List Entry) → IsFound looked_for runs self.old → has ≡ looked_for es
-            → order.now ≡ sessions_in es → IsFound looked_for (es ∷ runs) self.new) }
+        ensures { OnOk result (IsJudged has order.now self.old self.new) }
     {
         if !has {
             return Ok(());
@@ -80,6 +82,10 @@ impl Found {
 pub struct Findings {
     /// How many were tried.
     pub tried: u64,
+    /// How many of them make no switch, one, two and so on.
+    pub levels: Vec<u64>,
+    /// How they have ended.
+    pub endings: Endings,
     /// Those in which a hit answers a row that is not the committed one.
     pub stale_hit: Found,
     /// Those in which a kept list is called fresh that is not what its query gives.
@@ -92,13 +98,35 @@ pub struct Findings {
     pub unsound_key: Found,
 }
 
+/// Counts one more order among those that make so many switches.
+fn count_level(levels: &mut Vec<u64>, switches: usize) -> Result<(), AllocError>
+    requires { slice_index_or levels.old.items switches 0 < 2 ^ 64 - 1 }
+    ensures { OnOk result ((k : ℕ) → slice_index_or levels.new.items k 0
+        ≡ slice_index_or levels.old.items k 0 + cond (switches == k) 1 0) }
+{
+    for _place in levels.len()..switches {
+        levels.push(0)?;
+    }
+    if levels.len() == switches {
+        levels.push(1)?;
+    } else {
+        levels[switches] += 1;
+    }
+    Ok(())
+}
+
 impl Findings {
     /// No order was tried.
-    pub fn none() -> Findings
-        ensures { (judged : List Entry → Verdicts) → AreFindings judged [] result }
+    pub fn none(alloc: Global) -> Findings
+        ensures counts { AreCounted result }
+        ensures tried { result.tried ≡ 0 }
+        ensures none { (judged : List Entry → Verdicts) (ended : List Entry → List Outcome)
+            → AreFindings judged ended [] result }
     {
         Findings {
             tried: 0,
+            levels: Vec::new(alloc),
+            endings: Endings::none(alloc),
             stale_hit: Found::none(),
             old_list: Found::none(),
             lost_update: Found::none(),
@@ -107,8 +135,8 @@ impl Findings {
         }
     }
 
-    /// Takes one more order, which makes so many switches and of which this is judged.
-    fn note(
+    /// Takes what is judged of one more order, which makes so many switches.
+    fn note_verdicts(
         &mut self,
         alloc: Global,
         verdicts: Verdicts,
@@ -118,9 +146,7 @@ impl Findings {
         requires room { self.old.tried < 2 ^ 64 - 1 }
         requires counts { AreCounted self.old }
         requires total { total ≡ switches order.now }
-        ensures { OnOk result ((judged : List Entry → Verdicts) (runs : List (List Entry))
-            (es : List Entry) → AreFindings judged runs self.old → verdicts ≡ judged es
-            → order.now ≡ sessions_in es → AreFindings judged (es ∷ runs) self.new) }
+        ensures { OnOk result (AreJudged verdicts order.now self.old self.new) }
     {
         self.stale_hit
             .note(alloc, verdicts.stale_hit, order, total)?;
@@ -130,28 +156,26 @@ impl Findings {
         self.refused_commit
             .note(alloc, verdicts.refused_commit, order, total)?;
         self.unsound_key
-            .note(alloc, verdicts.unsound_key, order, total)?;
-        self.tried += 1;
-        Ok(())
+            .note(alloc, verdicts.unsound_key, order, total)
     }
 
-    /// Takes one more order if it makes no more switches than the bound.
-    pub fn note_within(
-        &mut self,
-        alloc: Global,
-        most: usize,
-        verdicts: Verdicts,
-        order: &[u32],
-        total: usize,
-    ) -> Result<(), AllocError>
+    /// Takes one more order, which makes so many switches.
+    pub fn note(&mut self, alloc: Global, run: Played, total: usize) -> Result<(), AllocError>
         requires room { self.old.tried < 2 ^ 64 - 1 }
         requires counts { AreCounted self.old }
-        requires total { total ≡ switches order.now }
-        ensures { OnOk result (IsNoted most total verdicts order.now self.old self.new) }
+        requires total { total ≡ switches run.order.items }
+        ensures tried { OnOk result (self.new.tried ≡ self.old.tried + 1) }
+        ensures counts { OnOk result (AreCounted self.new) }
+        ensures noted { OnOk result ((judged : List Entry → Verdicts)
+            (ended : List Entry → List Outcome) (runs : List (List Entry)) (es : List Entry)
+            → AreFindings judged ended runs self.old → run.verdicts ≡ judged es
+            → run.order.items ≡ sessions_in es → run.ending.items ≡ ended es
+            → AreFindings judged ended (es ∷ runs) self.new) }
     {
-        if total <= most {
-            self.note(alloc, verdicts, order, total)?;
-        }
+        self.note_verdicts(alloc, run.verdicts, run.order.as_slice(), total)?;
+        count_level(&mut self.levels, total)?;
+        self.endings.note(alloc, run.ending)?;
+        self.tried += 1;
         Ok(())
     }
 }

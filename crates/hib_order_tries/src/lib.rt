@@ -2,13 +2,19 @@
 #![tactic(auto)]
 
 mod beside;
+mod endings;
 mod found;
 mod laws;
+mod player;
 mod tail;
+#[cfg(test)]
+mod tests;
 mod trying;
 mod waiting;
 
-pub use beside::{Beginnings, Bounds, others, switches};
+pub use beside::{Beginnings, others, switches};
+pub use endings::{Ending, Endings};
 pub use found::{Findings, First, Found};
 pub use laws::what_is_told_is_so;
-pub use trying::{Played, Player, Told, search};
+pub use player::{Played, Player};
+pub use trying::{Told, search};

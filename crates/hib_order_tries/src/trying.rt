@@ -1,43 +1,18 @@
 // The search over all orders within a number of switches.
 ghost use Rattle.hib_base.specs.Tables.{Tables};
 ghost use Rattle.hib_base.specs.declared.entries.Entry.{Entry};
+ghost use Rattle.hib_base.specs.declared.replies.Outcome.{Outcome};
 ghost use Rattle.hib_base.specs.declared.scripts.Script.{Script};
-ghost use Rattle.hib_order_tries.specs.Found.{IsPlayed, IsTold};
-ghost use Rattle.std.specs.Prelude.{◌≡◌, ◌<◌, ◌≤◌, List, IfOk, IfSome, true};
+ghost use Rattle.hib_order_law.specs.declared.verdicts.Verdicts.{Verdicts};
+ghost use Rattle.hib_order_tries.specs.Amid.{IsAmid};
+ghost use Rattle.hib_order_tries.specs.Found.{AreCounted, IsPlayed, IsTold};
+ghost use Rattle.std.specs.Prelude.{◌≡◌, ◌∷◌, ◌++◌, ◌⊎◌, ◌<◌, ◌≤◌, ◌^◌, ◌-◌, ℕ, List, [], IfOk, OnOk, false, length, map, true};
 
 use crate::beside::switches;
 use crate::found::Findings;
+use crate::player::{Played, Player};
 use crate::waiting::Waiting;
-use hib_order_law::Verdicts;
 use std::alloc::{AllocError, Global};
-
-/// A run that was played: its order, and what is judged of it.
-#[derive(Drop)]
-pub struct Played {
-    /// The session of each step.
-    pub order: Vec<u32>,
-    /// What is judged of the run.
-    pub verdicts: Verdicts,
-}
-
-/// Who plays runs of a script's sessions, and judges them.
-pub trait Player {
-    ghost use Rattle.hib_order_law.specs.declared.verdicts.Verdicts.{Verdicts};
-
-    /// The script.
-    ghost script: { Script };
-
-    /// The committed rows at the start.
-    ghost start: { Tables };
-
-    /// What is judged of a run, whose entries are the oldest first.
-    ghost judged: { List Entry → Verdicts };
-
-    /// Plays a run that begins so, to the end of each session. None if none was played, or another.
-    fn play(&mut self, alloc: Global, begun: &[u32]) -> Result<Option<Played>, AllocError>
-        ensures { IfOk result (λ o. IfSome o (λ p.
-            IsPlayed script start judged begun.now p.order.items p.verdicts)) };
-}
 
 /// What a search came to.
 #[derive(Drop)]
@@ -48,46 +23,113 @@ pub struct Told {
     pub whole: bool,
     /// Each order that makes fewer switches than this was tried.
     pub level: usize,
-    /// How many runs were played.
+    /// How many runs were played. Those with few switches are played again for each number of switches.
     pub played: u64,
 }
 
-/// Tries the orders within a number of switches, those with the fewest first, and plays so many runs at most. Each order is tried once.
-/// None if a run couldn't be played.
+/// A search between two plays.
+#[derive(Drop)]
+pub struct Progress {
+    /// What waits to be played.
+    pub waiting: Waiting,
+    /// What was found.
+    pub findings: Findings,
+}
+
+impl Progress {
+    /// Nothing was played.
+    pub fn new(alloc: Global) -> Result<Progress, AllocError>
+        ensures tried { IfOk result (λ s. s.findings.tried ≡ 0) }
+        ensures counts { IfOk result (λ s. AreCounted s.findings) }
+        ensures amid { IfOk result (λ s. (script : Script) (start : Tables)
+            (judged : List Entry → Verdicts) (ended : List Entry → List Outcome) (most : ℕ)
+            → IsAmid script start judged ended most s.waiting.level
+            (map (λ v. v.items) s.waiting.now.items) s.waiting.beyond s.findings) }
+    {
+        let waiting = Waiting::new(alloc)?;
+        Ok(Progress {
+            waiting,
+            findings: Findings::none(alloc),
+        })
+    }
+
+    /// Takes a run that was played and begins with first steps that waited, so many. False if it is one more than may be tried: then
+    /// nothing has changed.
+    pub fn take(
+        &mut self,
+        alloc: Global,
+        run: Played,
+        from: usize,
+        limit: u64,
+    ) -> Result<bool, AllocError>
+        requires from { from ≤ length run.order.items }
+        requires counts { AreCounted self.old.findings }
+        requires limit { self.old.findings.tried ≤ limit }
+        ensures stopped { IfOk result (λ taken. taken ≡ false
+            → (self.new ≡ self.old) × (self.old.findings.tried ≡ limit)) }
+        ensures limit { OnOk result (self.new.findings.tried ≤ limit) }
+        ensures counts { OnOk result (AreCounted self.new.findings) }
+        ensures taken { IfOk result (λ taken. taken ≡ true → (script : Script) (start : Tables)
+            (judged : List Entry → Verdicts) (ended : List Entry → List Outcome) (most : ℕ)
+            (begun : List ℕ) → IsAmid script start judged ended most self.old.waiting.level
+            (map (λ v. v.items) self.old.waiting.now.items ++ begun ∷ []) self.old.waiting.beyond
+            self.old.findings → IsPlayed script start judged ended begun run.order.items
+            run.verdicts run.ending.items → from ≡ length begun
+            → IsAmid script start judged ended most self.new.waiting.level
+            (map (λ v. v.items) self.new.waiting.now.items) self.new.waiting.beyond
+            self.new.findings) }
+    {
+        let total = switches(alloc, run.order.as_slice())?;
+        if total == self.waiting.level && self.findings.tried >= limit {
+            return Ok(false);
+        }
+        self.waiting.add(alloc, run.order.as_slice(), from, total)?;
+        if total == self.waiting.level {
+            self.findings.note(alloc, run, total)?;
+        }
+        Ok(true)
+    }
+
+    /// What it came to.
+    pub fn told(self, whole: bool, played: u64) -> Told
+        ensures findings { result.findings ≡ self.findings }
+        ensures level { result.level ≡ self.waiting.level }
+        ensures whole { result.whole ≡ whole }
+        ensures played { result.played ≡ played }
+    {
+        Told {
+            findings: self.findings,
+            whole,
+            level: self.waiting.level,
+            played,
+        }
+    }
+}
+
+/// Tries the orders within a number of switches, those with the fewest first, each once, and so many of them at most: `limit`. All are tried
+/// unless there are more than that, or 2^64 - 1 runs were played. What is kept grows with the script and with the endings that are
+/// told, and not with the orders.
 pub fn search<P: Player>(
     alloc: Global,
     player: &mut P,
     most: usize,
     limit: u64,
-) -> Result<Option<Told>, AllocError>
-    ensures tried { IfOk result (λ o. IfSome o (λ t.
-        IsTold P.script P.start P.judged most t.whole t.level t.findings)) }
-    ensures whole { IfOk result (λ o. IfSome o (λ t. t.played < limit → t.whole ≡ true)) }
-    ensures played { IfOk result (λ o. IfSome o (λ t. t.played ≤ limit)) }
+) -> Result<Told, AllocError>
+    ensures tried { IfOk result (λ t.
+        IsTold P.script P.start P.judged P.ended most t.whole t.level t.findings) }
+    ensures limit { IfOk result (λ t. t.findings.tried ≤ limit) }
+    ensures whole { IfOk result (λ t.
+        (t.whole ≡ true) ⊎ (t.findings.tried ≡ limit) ⊎ (t.played ≡ 2 ^ 64 - 1)) }
 {
-    let mut waiting = Waiting::new(alloc)?;
-    let mut findings = Findings::none();
-    for turn in 0..limit {
-        let Some(begun) = waiting.next(most)? else {
-            return Ok(Some(Told {
-                findings,
-                whole: true,
-                level: waiting.level,
-                played: turn,
-            }));
+    let mut progress = Progress::new(alloc)?;
+    for played in 0..u64::MAX {
+        let Some(begun) = progress.waiting.next(alloc, most) else {
+            return Ok(progress.told(true, played));
         };
-        let Some(run) = player.play(alloc, begun.as_slice())? else {
-            return Ok(None);
-        };
-        let total = switches(alloc, run.order.as_slice())?;
-        waiting.add(alloc, run.order.as_slice(), begun.len(), total, most)?;
-        findings.note_within(alloc, most, run.verdicts, run.order.as_slice(), total)?;
+        let run = player.play(alloc, begun.as_slice())?;
+        if !progress.take(alloc, run, begun.len(), limit)? {
+            return Ok(progress.told(false, played + 1));
+        }
     }
-    let whole = waiting.next(most)?.is_none();
-    Ok(Some(Told {
-        findings,
-        whole,
-        level: waiting.level,
-        played: limit,
-    }))
+    Ok(progress.told(false, u64::MAX))
 }

@@ -7,4 +7,4 @@ abbrev pub invariant-loop-gone : goal.invariant-loop-gone
 invariant-loop-gone l =
     (at : ℕ) → at + l.gone ≡ length l.order →
     IsTail (drop at l.order) l.tail.sessions.items l.tail.first l.tail.switches
-    × AreOthers l.bounds.most l.bounds.level at l.order (map (λ v. v.items) l.found.now.items) (map (λ v. v.items) l.found.later.items)
+    × AreOthers l.level at l.order (map (λ v. v.items) l.found.there.items) l.found.beyond

@@ -1,0 +1,47 @@
+// Who plays the runs of a script's sessions.
+ghost use Rattle.hib_base.specs.Tables.{Tables};
+ghost use Rattle.hib_base.specs.declared.entries.Entry.{Entry};
+ghost use Rattle.hib_base.specs.declared.replies.Outcome.{Outcome};
+ghost use Rattle.hib_base.specs.declared.scripts.Script.{Script};
+ghost use Rattle.hib_order_law.specs.Orders.{can_begin};
+ghost use Rattle.hib_order_tries.specs.Found.{IsPlayed};
+ghost use Rattle.std.specs.Prelude.{◌≡◌, List, [], IfOk, true};
+
+use hib_base::Outcome;
+use hib_order_law::Verdicts;
+use std::alloc::{AllocError, Global};
+
+/// A run that was played to the end of each session.
+#[derive(Drop)]
+pub struct Played {
+    /// The session of each step.
+    pub order: Vec<u32>,
+    /// What is judged of the run.
+    pub verdicts: Verdicts,
+    /// How each session has ended, by its number.
+    pub ending: Vec<Outcome>,
+}
+
+/// Who plays runs of a script's sessions, and judges them.
+pub trait Player {
+    ghost use Rattle.hib_order_law.specs.declared.verdicts.Verdicts.{Verdicts};
+
+    /// The script.
+    ghost script: { Script };
+
+    /// The committed rows at the start.
+    ghost start: { Tables };
+
+    /// What is judged of a run, whose entries are the oldest first.
+    ghost judged: { List Entry → Verdicts };
+
+    /// How each session of a run has ended.
+    ghost ended: { List Entry → List Outcome };
+
+    /// Plays a run that begins with these steps, to the end of each session. Each of the steps is due at its turn. Want of memory is
+    /// the only error; after it the player plays the next run as if this one had not been asked for.
+    fn play(&mut self, alloc: Global, begun: &[u32]) -> Result<Played, AllocError>
+        requires { can_begin script start [] begun.now ≡ true }
+        ensures { IfOk result (λ p. IsPlayed script start judged ended begun.now p.order.items
+            p.verdicts p.ending.items) };
+}

@@ -1,0 +1,135 @@
+// Searches of made-up sessions, of which each has so many steps, and each step is due whatever the others have made.
+ghost use Rattle.hib_order_tries.specs.Found.{AreCounted};
+ghost use Rattle.std.specs.Prelude.{◌≡◌, ◌+◌, ◌≤◌, IfOk, OnOk, length};
+
+use crate::player::Played;
+use crate::trying::{Progress, Told};
+use hib_base::Outcome;
+use hib_order_law::Verdicts;
+use std::alloc::{AllocError, Global};
+use std::test::Fail;
+
+/// Lets a session make all steps that it hasn't made.
+fn finish(order: &mut Vec<u32>, steps: &[u32], session: u32) -> Result<(), AllocError>
+    ensures { OnOk result (length order.old.items ≤ length order.new.items) }
+{
+    let Some(all) = steps.get(session as usize) else {
+        return Ok(());
+    };
+    let made = order.iter().filter(|other| **other == session).count();
+    for _ in made..*all as usize {
+        order.push(session)?;
+    }
+    Ok(())
+}
+
+/// The order in which the session of the last step goes on to its end, and then each other.
+fn finished(alloc: Global, steps: &[u32], begun: &[u32]) -> Result<Vec<u32>, AllocError>
+    ensures { IfOk result (λ v. length begun.now ≤ length v.items) }
+{
+    let mut order = Vec::from_slice(alloc, begun)?;
+    if let Some(last) = begun.last() {
+        finish(&mut order, steps, *last)?;
+    }
+    for session in 0..3 {
+        finish(&mut order, steps, session)?;
+    }
+    Ok(order)
+}
+
+/// A run that begins so. A hit is stale if session 1 makes the first step, and session 0 is refused if it makes the last one.
+fn play(alloc: Global, steps: &[u32], begun: &[u32]) -> Result<Played, AllocError>
+    ensures { IfOk result (λ p. length begun.now ≤ length p.order.items) }
+{
+    let order = finished(alloc, steps, begun)?;
+    let refused = order.last() == Some(&0);
+    let verdicts = Verdicts {
+        stale_hit: order.first() == Some(&1),
+        old_list: false,
+        lost_update: true,
+        refused_commit: refused,
+        unsound_key: false,
+    };
+    let first = if refused {
+        Outcome::Stale
+    } else {
+        Outcome::Committed
+    };
+    Ok(Played {
+        order,
+        verdicts,
+        ending: vec![in alloc; first, Outcome::Committed]?,
+    })
+}
+
+/// What a search of these sessions comes to.
+fn searched(alloc: Global, steps: &[u32], most: usize, limit: u64) -> Result<Told, AllocError> {
+    let mut progress = Progress::new(alloc)?;
+    for played in 0..1000 {
+        let Some(begun) = progress.waiting.next(alloc, most) else {
+            return Ok(progress.told(true, played));
+        };
+        let run = play(alloc, steps, begun.as_slice())?;
+        if !progress.take(alloc, run, begun.len(), limit)? {
+            return Ok(progress.told(false, played + 1));
+        }
+    }
+    Ok(progress.told(false, 1000))
+}
+
+#[test]
+fn two_sessions(rt: HostRuntime) -> Result<(), Fail> {
+    let told = searched(rt.alloc(), &[3, 2], 2, 100)?;
+    assert!(rt; told.whole);
+    assert_eq!(rt; told.findings.tried, 9);
+    assert_eq!(rt; told.findings.levels.as_slice(), [2, 3, 4].as_slice());
+    assert_eq!(rt; told.findings.stale_hit.count, 4);
+    assert_eq!(rt; told.findings.lost_update.count, 9);
+    assert_eq!(rt; told.findings.unsound_key.count, 0);
+    let first = told.findings.refused_commit.first.ok_or("one is refused")?;
+    assert_eq!(rt; first.switches, 0);
+    assert_eq!(rt; first.order.as_slice(), [1, 1, 0, 0, 0].as_slice());
+    assert_eq!(rt; told.findings.endings.len(), 2);
+    let stale = told.findings.endings.at(1).ok_or("one ended stale")?;
+    assert_eq!(rt; stale.count, 5);
+    assert_eq!(rt;
+        stale.outcomes.as_slice(),
+        [Outcome::Stale, Outcome::Committed].as_slice()
+    );
+    Ok(())
+}
+
+#[test]
+fn within_fewer_switches(rt: HostRuntime) -> Result<(), Fail> {
+    for (most, tried) in [(0, 2), (1, 5), (3, 10), (9, 10)] {
+        let told = searched(rt.alloc(), &[3, 2], most, 100)?;
+        assert!(rt; told.whole);
+        assert_eq!(rt; told.findings.tried, tried);
+    }
+    Ok(())
+}
+
+#[test]
+fn other_numbers_of_sessions(rt: HostRuntime) -> Result<(), Fail> {
+    let three = searched(rt.alloc(), &[2, 2, 1], 1, 100)?;
+    assert!(rt; three.whole);
+    assert_eq!(rt; three.findings.levels.as_slice(), [6, 12].as_slice());
+    let one = searched(rt.alloc(), &[4], 5, 100)?;
+    assert!(rt; one.whole);
+    assert_eq!(rt; one.findings.levels.as_slice(), [1].as_slice());
+    let none = searched(rt.alloc(), &[], 5, 100)?;
+    assert!(rt; none.whole);
+    assert_eq!(rt; none.findings.tried, 1);
+    Ok(())
+}
+
+#[test]
+fn a_limit_cuts(rt: HostRuntime) -> Result<(), Fail> {
+    let cut = searched(rt.alloc(), &[3, 2], 2, 4)?;
+    assert!(rt; !cut.whole);
+    assert_eq!(rt; cut.findings.tried, 4);
+    assert_eq!(rt; cut.level, 1);
+    let just = searched(rt.alloc(), &[3, 2], 2, 9)?;
+    assert!(rt; just.whole);
+    Ok(())
+}
