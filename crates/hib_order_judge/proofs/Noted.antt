@@ -1,21 +1,23 @@
 -- What is known of each session, with one entry more.
-use Rattle.std.specs.Prelude.{slice_get, slice_set, Ok, Err, OnOk, Result, map, option_and_then}
+use Rattle.std.specs.Prelude.{◌||◌, slice_get, slice_set, Ok, Err, OnOk, Result, map, option_and_then}
 use Rattle.std.specs.Option.{option_map_or, option_flatten}
-use Rattle.std.specs.List.{list_any}
-use Rattle.std.proofs.Common.{◌≡◌, ℕ, zero, suc, ◌+◌, ◌<◌, ◌≤◌, ◌==◌, Bool, true, false, not, List, [], ◌∷◌, ◌++◌, length, get_or, take, reverse, Some, None, Option, refl, sym, ap, ◌∙◌, subst, arith, inl, inr, eq-eqb}
+use Rattle.std.specs.List.{list_any, range_with_len}
+use Rattle.std.proofs.Common.{◌≡◌, ℕ, zero, suc, ◌+◌, ◌<◌, ◌≤◌, ◌==◌, Bool, true, false, not, List, [], ◌∷◌, ◌++◌, length, get_or, take, reverse, Some, None, Option, refl, sym, ap, ◌∙◌, subst, add-zero, arith, inl, inr, eq-eqb}
 use Rattle.std.proofs.lemmas.Bool.{eqb-true, true≢false}
 use Rattle.std.proofs.lemmas.List.{take_more, append_assoc, append-nil}
 use Rattle.std.proofs.lemmas.Grind.{reverse_onto}
 use Rattle.std.proofs.lemmas.Option.{slice_get-get_or}
 use Rattle.hib_base.proofs.Tables.{Tested, tested}
 use Rattle.hib_base.specs.Tables.{Tables, key_of, row_at}
-use Rattle.hib_journal.specs.Types.{Key, Row, Change, Entry}
-use Rattle.hib_journal.specs.Sessions.{Journal, own, changes_in}
+use Rattle.hib_journal.specs.Types.{Key, Row, Change, Outcome, Entry}
+use Rattle.hib_journal.specs.Sessions.{Journal, own, changes_in, is_empty}
+use Rattle.hib_journal.specs.Legal.{outcome}
 use Rattle.hib_order_law.specs.Judged.{is_lost_by, rests_on, same_row}
 use Rattle.hib_order_law.specs.Orders.{onto}
 use Rattle.hib_order_judge.specs.Footings.{rest_at, rest_in}
 use Rattle.hib_order_judge.specs.Desks.{IsDesk, IsKnown, AreDesks, changes_at, is_lost_row, has_lost_row}
 use Rattle.hib_order_judge.specs.declared.desk.Desk.{Desk}
+use Rattle.hib_report.specs.declared.fates.Fate.{Fate}
 use Rattle.hib_order_judge.proofs.Footed.{rests_are}
 
 pub on_ok : {T E : Type 0} (r : Result T E) {R Q : Type 0} → (R → Q) → OnOk r R → OnOk r Q
@@ -113,3 +115,21 @@ onto_is (e ∷ es) h = onto_is es (e ∷ h) ∙ sym (ap (λ l. l ++ h) (reverse_
 
 pub onto_reverse : (es : List Entry) → onto es [] ≡ reverse es
 onto_reverse es = onto_is es [] ∙ append-nil (reverse es)
+
+pub or_same : {a b c d : Bool} → a ≡ b → c ≡ d → (a || c) ≡ (b || d)
+or_same p q = cc
+
+-- how each session of some has ended, by what is known of it
+pub ended : (fs : List Fate) (h : Journal) (n : ℕ) → ((s : ℕ) (f : Fate) → slice_get fs s ≡ Some f → f.outcome ≡ outcome (own (n + s) h)) →
+    map (λ (f : Fate). f.outcome) fs ≡ map (λ s. outcome (own s h)) (range_with_len n (length fs))
+ended [] h n e = refl
+ended (f ∷ fs) h n e = two first (ended fs h (n + 1) (λ s g p. e (suc s) g p ∙ ap (λ m. outcome (own m h)) (moved s)))
+  where
+    first : f.outcome ≡ outcome (own n h)
+    first = e 0 f refl ∙ ap (λ m. outcome (own m h)) (add-zero n)
+
+    moved : (s : ℕ) → n + suc s ≡ n + 1 + s
+    moved s = omega arith
+
+    two : {a b : Outcome} {xs ys : List Outcome} → a ≡ b → xs ≡ ys → a ∷ xs ≡ b ∷ ys
+    two p q = cc

@@ -1,19 +1,20 @@
 // One pass over the entries of a run.
 ghost use Rattle.hib_base.specs.Tables.{Tables, in_order};
 ghost use Rattle.hib_base.specs.declared.scripts.Script.{Script};
-ghost use Rattle.hib_journal.specs.Sessions.{Journal, committed};
+ghost use Rattle.hib_journal.specs.Sessions.{Journal, committed, is_empty};
 ghost use Rattle.hib_order_judge.specs.Desks.{AreDesks};
 ghost use Rattle.hib_order_judge.specs.Verdicts.{verdicts, verdicts_of};
 ghost use Rattle.hib_order_law.specs.Judged.{is_lost_update};
-ghost use Rattle.std.specs.Prelude.{◌≡◌, ◌∷◌, [], IfOk, OnOk, false, true};
+ghost use Rattle.std.specs.Prelude.{◌≡◌, ◌∷◌, ◌||◌, [], IfOk, OnOk, false, true};
 
 use crate::desks::Desks;
 use crate::laying::{committer, rows_after};
 use crate::tests_of::{is_old_list, is_refused, is_stale_hit};
-use hib_base::{Entry, Rows, Script};
+use hib_base::{Entry, Key, Rows, Script};
 use hib_order_law::Verdicts;
 use hib_report::unsound_keys;
 use std::alloc::{AllocError, Global};
+use std::collections::BTreeSet;
 
 /// Of no entry.
 fn none() -> Verdicts
@@ -41,6 +42,13 @@ fn is_lost_update(entries: &[Entry], rows: &Rows, desks: &Desks<'_>, entry: &Ent
     }
 }
 
+/// Whether one of both is so.
+fn either(a: bool, b: bool) -> bool
+    ensures { result ≡ (a || b) }
+{
+    a || b
+}
+
 /// Takes the next entry, one of these, before which these rows are committed and this is known of the sessions. Of keys nothing is
 /// judged.
 fn note(
@@ -59,10 +67,18 @@ fn note(
         → judged.new ≡ record (verdicts script.now start (entry.now ∷ h)) { unsound_key = false }) }
 {
     let is_old = is_old_list(alloc, script, rows, desks.found(entry.session), entry)?;
-    judged.old_list = is_old || judged.old_list;
-    judged.stale_hit = is_stale_hit(rows, entry) || judged.stale_hit;
-    judged.lost_update = is_lost_update(entries, rows, desks, entry) || judged.lost_update;
-    judged.refused_commit = is_refused(entry) || judged.refused_commit;
+    let old_list = either(is_old, judged.old_list);
+    let stale_hit = either(is_stale_hit(rows, entry), judged.stale_hit);
+    let is_lost = is_lost_update(entries, rows, desks, entry);
+    let lost_update = either(is_lost, judged.lost_update);
+    let refused_commit = either(is_refused(entry), judged.refused_commit);
+    *judged = Verdicts {
+        stale_hit,
+        old_list,
+        lost_update,
+        refused_commit,
+        unsound_key: judged.unsound_key,
+    };
     Ok(())
 }
 
@@ -89,6 +105,13 @@ fn judge_entries(
     Ok(verdicts)
 }
 
+/// Whether there is no key.
+fn is_none(keys: &BTreeSet<Key>) -> bool
+    ensures { result ≡ is_empty keys.now.keys }
+{
+    keys.is_empty()
+}
+
 /// Judges a run, of which these are the committed rows at the start and the entries, the oldest first. Want of memory alone is an
 /// error.
 pub fn judge(
@@ -102,6 +125,6 @@ pub fn judge(
 {
     let unsound = unsound_keys(alloc, script, entries)?;
     let mut verdicts = judge_entries(alloc, script, start, entries)?;
-    verdicts.unsound_key = !unsound.is_empty();
+    verdicts.unsound_key = !is_none(&unsound);
     Ok(verdicts)
 }

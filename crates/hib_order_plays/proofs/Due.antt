@@ -24,7 +24,7 @@ plain_all [] p q = refl
 plain_all (e ∷ h) p q =
     and_both (is_plain e) (list_all is_plain h) (at e.session (is_fault e.reply) (omega arith) (omega arith)) (plain_all h (omega arith) (omega arith))
   where
-    at : (o : Option ℕ) (f : Bool) → one_if_none o ≡ 0 → cond f 1 0 ≡ 0 → (is_some o && not f) ≡ true
+    at : (o : Option ℕ) (f : Bool) → one_if_none o ≡ 0 → ◌≡◌ {A = ℕ} (cond f 1 0) 0 → (is_some o && not f) ≡ true
     at None f p q = absurd (omega (arith, p))
     at (Some s) true p q = absurd (omega (arith, q))
     at (Some s) false p q = refl
@@ -39,7 +39,7 @@ before script start (e ∷ l) h u = before script start l h (record {
 })
 
 -- one step was asked for and due: one entry of its session was added
-grown_by : (s : ℕ) (old new added : Journal) → option_and_then (λ (p : Playing). Some (p.0, p.1)) (play_one (is_by s) old (added ++ [])) ≡ Some (new, []) →
+grown_by : (s : ℕ) (old new added : Journal) → option_and_then {U = Playing} (λ (p : Playing). Some (p.0, p.1)) (play_one (is_by s) old (added ++ [])) ≡ Some (new, []) →
     sessions_in new ≡ s ∷ sessions_in old
 grown_by s old new [] p = none_some p
 grown_by s old new (e ∷ added) p = by (is_by s e) refl
@@ -78,11 +78,11 @@ due_at script start (s ∷ steps) ss (suc i) d c l =
     turned = sym (ap (λ l. l ++ ss) (reverse_onto (take i steps) s []) ∙ append_assoc (reverse (take i steps)) (s ∷ []) ss)
 
 -- one more of the steps was made
-pub step_more : (script : Script) (start : Tables) (steps : List ℕ) (i s : ℕ) (old new : Journal) → can_begin script start [] steps ≡ true → i < length steps →
-    s ≡ get_or steps i s → Leads (play_steps script s 1) played old new → (IsUndisturbed script start old → sessions_in old ≡ reverse (take i steps)) →
+pub step_more : (script : Script) (start : Tables) (steps : List ℕ) (i d : ℕ) (old new : Journal) → can_begin script start [] steps ≡ true → i < length steps →
+    Leads (play_steps script (get_or steps i d) 1) played old new → (IsUndisturbed script start old → sessions_in old ≡ reverse (take i steps)) →
     IsUndisturbed script start new → sessions_in new ≡ reverse (take (i + 1) steps)
-step_more script start steps i s old new c l v w f u =
-    one_step script s old new w due ∙ ap (λ ss. s ∷ ss) was ∙ sym more
+step_more script start steps i d old new c l w f u =
+    one_step script (get_or steps i d) old new w due ∙ ap (λ ss. get_or steps i d ∷ ss) was ∙ sym more
   where
     undisturbed : IsUndisturbed script start old
     undisturbed = before script start (reverse w.added) old (subst (IsUndisturbed script start) w.grown u)
@@ -94,12 +94,11 @@ step_more script start steps i s old new c l v w f u =
     old_is = order_makes script start old undisturbed.legal undisturbed.numbered undisturbed.plain
         ∙ ap (made script start) (was ∙ sym (append-nil (reverse (take i steps))))
 
-    due : has_next script old s ≡ true
-    due = subst (λ h. has_next script h s ≡ true) (sym old_is)
-        (subst (λ n. has_next script (made script start (reverse (take i steps) ++ [])) n ≡ true) (sym v) (due_at script start steps [] i s c l))
+    due : has_next script old (get_or steps i d) ≡ true
+    due = subst (λ h. has_next script h (get_or steps i d) ≡ true) (sym old_is) (due_at script start steps [] i d c l)
 
-    more : reverse (take (i + 1) steps) ≡ s ∷ reverse (take i steps)
-    more = ap reverse (take_more steps i s l ∙ ap (λ n. take i steps ++ n ∷ []) (sym v)) ∙ reverse-append (take i steps) (s ∷ [])
+    more : reverse (take (i + 1) steps) ≡ get_or steps i d ∷ reverse (take i steps)
+    more = ap reverse (take_more steps i d l) ∙ reverse-append (take i steps) (get_or steps i d ∷ [])
 
 sessions_append : (a b : List Entry) → sessions_in (a ++ b) ≡ sessions_in a ++ sessions_in b
 sessions_append [] b = refl

@@ -13,9 +13,12 @@ use Rattle.hib_journal.specs.Sessions.{Journal, own, was_killed}
 use Rattle.hib_journal.specs.Plan.{Plan, first_act, left_of, after}
 use Rattle.hib_journal.specs.Next.{next}
 use Rattle.hib_journal.specs.Legal.{IsLegal}
-use Rattle.hib_journal.specs.Runs.{IsNumbered}
+use Rattle.hib_journal.specs.Runs.{IsNumbered, fault_count}
 use Rattle.hib_journal.specs.Played.{has_next}
+use Rattle.hib_core.specs.Bound.{outside_count}
 use Rattle.hib_core.specs.Factory.{AreOver}
+use Rattle.hib_core.specs.Standing.{Origin, RoseBy}
+use Rattle.hib_order_plays.proofs.Due.{plain_all}
 use Rattle.hib_order_law.specs.Orders.{IsRun, IsUndisturbed, is_plain, onto}
 
 onto_is : (es h : List Entry) → onto es h ≡ reverse es ++ h
@@ -46,13 +49,23 @@ over_all script h o s = by (cases_lt s (length script.sessions))
     by (inl l) = o s l
     by (inr l) = rw (none_there script s (own s h) (slice_get_past script.sessions s l)) (no (was_killed s h))
 
-pub run_is : (script : Script) (start : Tables) (j : Kept) → IsLegal script (Some start) (past j) → IsNumbered (past j) → AreOver script (past j) →
-    list_all is_plain (past j) ≡ true → IsRun script start j.list
-run_is script start j l n o p = record {
-  undisturbed = subst (IsUndisturbed script start) (past_is j) (record { legal = l; numbered = n; plain = p });
-  over = subst (λ h. (s : ℕ) → has_next script h s ≡ false) (past_is j) (over_all script (past j) o);
+-- a count that has not risen
+none_rose : (n : ℕ) → RoseBy 0 n 0 → n ≡ 0
+none_rose n p = omega (arith, p)
+
+-- a journal without entries from outside, over a keeper that never fails
+pub undisturbed_is : (script : Script) (start : Tables) (from : Origin) (j k : Kept) → from.tables ≡ Some start → from.faults ≡ 0 →
+    IsLegal script from.tables (past j) → IsNumbered (past j) → RoseBy from.faults (fault_count (past j)) 0 → j ≡ k → outside_count (past k) ≡ 0 →
+    IsUndisturbed script start (past j)
+undisturbed_is script start from j k t f l n r e o = record {
+  legal = subst (λ x. IsLegal script x (past j)) t l;
+  numbered = n;
+  plain = plain_all (past j) (ap (λ x. outside_count (past x)) e ∙ o)
+      (none_rose (fault_count (past j)) (subst (λ x. RoseBy x (fault_count (past j)) 0) f r));
 }
 
--- a count that has not risen
-pub none_rose : (n : ℕ) → min (0 + n) (2 ^ 64 - 1) ≤ 0 → n ≡ 0
-none_rose n p = omega (arith, p)
+pub run_is : (script : Script) (start : Tables) (j : Kept) → IsUndisturbed script start (past j) → AreOver script (past j) → IsRun script start j.list
+run_is script start j u o = record {
+  undisturbed = subst (IsUndisturbed script start) (past_is j) u;
+  over = subst (λ h. (s : ℕ) → has_next script h s ≡ false) (past_is j) (over_all script (past j) o);
+}

@@ -3,6 +3,7 @@ ghost use Rattle.hib_base.specs.Tables.{Tables};
 ghost use Rattle.hib_base.specs.Valid.{is_valid};
 ghost use Rattle.hib_core.specs.Bound.{outside_count};
 ghost use Rattle.hib_core.specs.Factory.{AreOver};
+ghost use Rattle.hib_core.specs.Playing.{GoesOn};
 ghost use Rattle.hib_journal.specs.Kept.{past};
 ghost use Rattle.hib_listeners.specs.Told.{tells};
 ghost use Rattle.hib_order_law.specs.Orders.{IsRun, IsUndisturbed, begins, can_begin, sessions_in};
@@ -69,6 +70,22 @@ fn begin<N: Name, K: Keeper, L: Listener>(
     Ok(())
 }
 
+/// Runs the session of the last of these steps to its end.
+fn run_last<N: Name, K: Keeper, L: Listener>(
+    alloc: Global,
+    factory: &mut Factory<K, N, L>,
+    steps: &[u32],
+) -> Result<(), AllocError>
+    ensures inside { outside_count (past factory.new.journal)
+        ≡ outside_count (past factory.old.journal) }
+    ensures goes { OnOk result (GoesOn (past factory.old.journal) (past factory.new.journal)) }
+{
+    match steps.last() {
+        Some(last) => factory.run_steps(alloc, SessionNo(*last), u32::MAX),
+        None => Ok(()),
+    }
+}
+
 /// Makes these steps, which are due, and then runs the session of the last one to its end, and then each.
 fn follow<N: Name, K: Keeper, L: Listener>(
     alloc: Global,
@@ -76,17 +93,15 @@ fn follow<N: Name, K: Keeper, L: Listener>(
     steps: &[u32],
 ) -> Result<(), AllocError>
     ensures over { OnOk result (AreOver N.script (past factory.new.journal)) }
-    ensures inside { outside_count (past factory.new.journal)
-        ≡ outside_count (past factory.old.journal) }
+    ensures inside { OnOk result (outside_count (past factory.new.journal)
+        ≡ outside_count (past factory.old.journal)) }
     ensures begins { OnOk result ((start : Tables) → past factory.old.journal ≡ []
         → can_begin N.script start [] steps.now ≡ true
         → IsUndisturbed N.script start (past factory.new.journal)
         → begins steps.now (sessions_in factory.new.journal.list) ≡ true) }
 {
     begin(alloc, factory, steps)?;
-    if let Some(last) = steps.last() {
-        factory.run_steps(alloc, SessionNo(*last), u32::MAX)?;
-    }
+    run_last(alloc, factory, steps)?;
     factory.finish(alloc)
 }
 
@@ -98,6 +113,31 @@ fn no_memory<L: Drop>(refused: OpenRefused<SureKeeper, L>) -> AllocError
         OpenFault::NoMemory(_) => AllocError,
         OpenFault::StoreFault(_) => unreachable!(),
     }
+}
+
+/// Plays a run that begins with these steps, which are due, in a factory in which nothing was done.
+fn play_over<N: Name, L: Listener + Drop>(
+    alloc: Global,
+    mut factory: Factory<SureKeeper, N, L>,
+    steps: &[u32],
+) -> Result<Run, AllocError>
+    requires empty { past factory.journal ≡ [] }
+    requires from { new_origin N.script ≡ N.from }
+    requires due { can_begin N.script (rows_at_start N.script) [] steps.now ≡ true }
+    ensures script { IfOk result (λ r. r.script ≡ N.script) }
+    ensures run { IfOk result (λ r. IsRun N.script (rows_at_start N.script) r.journal.list) }
+    ensures begins { IfOk result (λ r. begins steps.now r.order.items ≡ true) }
+    ensures order { IfOk result (λ r. r.order.items ≡ sessions_in r.journal.list) }
+{
+    let followed = follow(alloc, &mut factory, steps);
+    let (_keeper, script, journal, _listeners) = factory.close();
+    followed?;
+    let order = order_of(alloc, journal.as_slice())?;
+    Ok(Run {
+        script,
+        journal,
+        order,
+    })
 }
 
 /// Plays a run that begins with these steps, each of which is due at its turn, in the factory of this name, over a new keeper in
@@ -119,17 +159,8 @@ pub fn play_in<N: Name, L: Listener + Drop>(
     ensures order { IfOk result (λ r. r.order.items ≡ sessions_in r.journal.list) }
 {
     let keeper = SureKeeper::new(alloc);
-    let mut factory = match Factory::<SureKeeper, N, L>::open(alloc, script, keeper, listeners) {
-        Ok(factory) => factory,
-        Err(refused) => return Err(no_memory(refused)),
-    };
-    let followed = follow(alloc, &mut factory, steps);
-    let (_keeper, script, journal, _listeners) = factory.close();
-    followed?;
-    let order = order_of(alloc, journal.as_slice())?;
-    Ok(Run {
-        script,
-        journal,
-        order,
-    })
+    match Factory::<SureKeeper, N, L>::open(alloc, script, keeper, listeners) {
+        Ok(factory) => play_over(alloc, factory, steps),
+        Err(refused) => Err(no_memory(refused)),
+    }
 }

@@ -25,7 +25,7 @@ impl SureKeeper {
     }
 }
 
-#[tactic(auto, using(crate::proofs::Sure::never))]
+#[tactic(auto, using(crate::proofs::Never::never))]
 impl Keeper for SureKeeper {
     ghost tables = { λ k. Some k.keeper.rows.items };
 

@@ -73,7 +73,7 @@ struct Judged {
 }
 
 /// Judges a run that was played from these rows.
-fn judged(alloc: Global, rows: &Rows, run: &Run) -> Result<Judged, AllocError>
+fn judge_run(alloc: Global, rows: &Rows, run: &Run) -> Result<Judged, AllocError>
     requires rows { rows.now ≡ rows_at_start run.now.script }
     requires ordered { in_order rows.now ≡ true }
     ensures verdicts { IfOk result (λ j.
@@ -128,7 +128,7 @@ impl<N: Name> Player for Stage<N> {
         };
         let nobody: Vec<Recorder> = Vec::new(alloc);
         let run = play_in::<N, Recorder>(alloc, script, nobody, begun)?;
-        let Judged { verdicts, ending } = judged(alloc, &self.rows, &run)?;
+        let Judged { verdicts, ending } = judge_run(alloc, &self.rows, &run)?;
         let Run {
             script,
             journal: _,
