@@ -36,10 +36,13 @@ whole_text false level = codes " cut " ++ decimal level ++ codes "\n"
 abbrev pub tried_text : ℕ → Told → List ℕ
 tried_text most t = codes "orders " ++ decimal t.findings.tried ++ codes " switches " ++ decimal most ++ whole_text t.whole t.level
 
+abbrev pub level_text : ℕ → ℕ → List ℕ
+level_text k n = codes "switches " ++ decimal k ++ codes " " ++ decimal n ++ codes "\n"
+
 -- a line for each number of switches, from this one on
 abbrev pub levels_text : ℕ → List ℕ → List ℕ
 levels_text k [] = []
-levels_text k (n ∷ ns) = (codes "switches " ++ decimal k ++ codes " " ++ decimal n ++ codes "\n") ++ levels_text (k + 1) ns
+levels_text k (n ∷ ns) = level_text k n ++ levels_text (k + 1) ns
 
 abbrev pub said_text : Option Outcome → List ℕ
 said_text None = []
@@ -49,10 +52,14 @@ abbrev pub comma : ℕ → List ℕ
 comma zero = []
 comma (suc n) = codes ","
 
--- how each session has ended, from the one with this number on
+-- how a session has ended
+abbrev pub outcome_text_of : ℕ → SessionDef → Option Outcome → List ℕ
+outcome_text_of s d o = comma s ++ codes " " ++ d.name ++ codes " " ++ said_text o
+
+-- and each, from the one with this number on
 abbrev pub outcomes_text : List Outcome → ℕ → List SessionDef → List ℕ
 outcomes_text os s [] = []
-outcomes_text os s (d ∷ ds) = (comma s ++ codes " " ++ d.name ++ codes " " ++ said_text (slice_get os s)) ++ outcomes_text os (s + 1) ds
+outcomes_text os s (d ∷ ds) = outcome_text_of s d (slice_get os s) ++ outcomes_text os (s + 1) ds
 
 -- how many orders ended so
 abbrev pub ending_text : Script → Ending → List ℕ

@@ -1,10 +1,10 @@
 // The whole text.
-ghost use Rattle.hib_order_text.specs.Texts.{ending_text, endings_text, findings_text, levels_text, never_text, nevers_text, outcomes_text, said_text, text, tried_text};
+ghost use Rattle.hib_order_text.specs.Texts.{comma, ending_text, endings_text, findings_text, level_text, levels_text, never_text, nevers_text, outcome_text_of, outcomes_text, said_text, text, tried_text};
 ghost use Rattle.hib_order_tries.specs.declared.endings.Ending.{Ending};
-ghost use Rattle.std.specs.Prelude.{◌≡◌, ◌++◌, IfOk, OnOk, flat_map};
+ghost use Rattle.std.specs.Prelude.{◌≡◌, ◌++◌, IfOk, OnOk, flat_map, slice_get};
 
 use crate::findings::{Finding, put_finding};
-use hib_base::{EntityDef, Outcome, Reply, Script, Strategy};
+use hib_base::{EntityDef, Outcome, Reply, Script, SessionDef, Strategy};
 use hib_order_tries::{Ending, Endings, Findings, Told};
 use hib_report::put_reply;
 use hib_texts::{put_labelled, put_number};
@@ -23,16 +23,59 @@ fn put_tried(alloc: Global, out: &mut Vec<u8>, most: u32, told: &Told) -> Result
     out.extend_from_slice(b"\n")
 }
 
+fn put_level(
+    alloc: Global,
+    out: &mut Vec<u8>,
+    switches: usize,
+    orders: u64,
+) -> Result<(), AllocError>
+    ensures { OnOk result (out.new.items ≡ out.old.items ++ level_text switches orders) }
+{
+    put_labelled(alloc, out, b"switches ", switches as u64)?;
+    put_labelled(alloc, out, b" ", orders)?;
+    out.extend_from_slice(b"\n")
+}
+
 /// A line for each number of switches.
 fn put_levels(alloc: Global, out: &mut Vec<u8>, levels: &[u64]) -> Result<(), AllocError>
     ensures { OnOk result (out.new.items ≡ out.old.items ++ levels_text 0 levels.now) }
 {
     for (switches, orders) in levels.iter().enumerate() {
-        put_labelled(alloc, out, b"switches ", switches as u64)?;
-        put_labelled(alloc, out, b" ", *orders)?;
-        out.extend_from_slice(b"\n")?;
+        put_level(alloc, out, switches, *orders)?;
     }
     Ok(())
+}
+
+/// The outcome of a session, if there is one.
+fn outcome_at(outcomes: &[Outcome], session: usize) -> Option<Outcome>
+    ensures { result ≡ slice_get outcomes.now session }
+{
+    outcomes.get(session).copied()
+}
+
+/// An outcome, if there is one.
+fn put_said(
+    alloc: Global,
+    out: &mut Vec<u8>,
+    script: &Script,
+    outcome: Option<Outcome>,
+) -> Result<(), AllocError>
+    ensures { OnOk result (out.new.items ≡ out.old.items ++ said_text outcome) }
+{
+    match outcome {
+        None => Ok(()),
+        Some(outcome) => put_reply(alloc, out, script, &Reply::Ended { outcome }),
+    }
+}
+
+/// A comma before each session but the first one.
+fn put_comma(out: &mut Vec<u8>, session: usize) -> Result<(), AllocError>
+    ensures { OnOk result (out.new.items ≡ out.old.items ++ comma session) }
+{
+    if session == 0 {
+        return Ok(());
+    }
+    out.extend_from_slice(b",")
 }
 
 /// How a session has ended.
@@ -40,14 +83,18 @@ fn put_outcome(
     alloc: Global,
     out: &mut Vec<u8>,
     script: &Script,
-    outcome: Option<&Outcome>,
+    session: usize,
+    def: &SessionDef,
+    outcome: Option<Outcome>,
 ) -> Result<(), AllocError>
-    ensures { OnOk result (out.new.items ≡ out.old.items ++ said_text outcome.entry) }
+    ensures { OnOk result (out.new.items
+        ≡ out.old.items ++ outcome_text_of session def.now outcome) }
 {
-    match outcome {
-        None => Ok(()),
-        Some(outcome) => put_reply(alloc, out, script, &Reply::Ended { outcome: *outcome }),
-    }
+    put_comma(out, session)?;
+    out.extend_from_slice(b" ")?;
+    out.extend_from_slice(def.name.as_slice())?;
+    out.extend_from_slice(b" ")?;
+    put_said(alloc, out, script, outcome)
 }
 
 /// How each session has ended, by its name.
@@ -55,19 +102,15 @@ fn put_outcomes(
     alloc: Global,
     out: &mut Vec<u8>,
     script: &Script,
+    sessions: &[SessionDef],
     outcomes: &[Outcome],
 ) -> Result<(), AllocError>
     ensures { OnOk result (out.new.items
-        ≡ out.old.items ++ outcomes_text outcomes.now 0 script.now.sessions) }
+        ≡ out.old.items ++ outcomes_text outcomes.now 0 sessions.now) }
 {
-    for (session, def) in script.sessions.as_slice().iter().enumerate() {
-        if session > 0 {
-            out.extend_from_slice(b",")?;
-        }
-        out.extend_from_slice(b" ")?;
-        out.extend_from_slice(def.name.as_slice())?;
-        out.extend_from_slice(b" ")?;
-        put_outcome(alloc, out, script, outcomes.get(session))?;
+    for (session, def) in sessions.iter().enumerate() {
+        let outcome = outcome_at(outcomes, session);
+        put_outcome(alloc, out, script, session, def, outcome)?;
     }
     Ok(())
 }
@@ -81,7 +124,13 @@ fn put_ending(
     ensures { OnOk result (out.new.items ≡ out.old.items ++ ending_text script.now ending.now) }
 {
     put_number(alloc, out, ending.count)?;
-    put_outcomes(alloc, out, script, ending.outcomes.as_slice())?;
+    put_outcomes(
+        alloc,
+        out,
+        script,
+        script.sessions.as_slice(),
+        ending.outcomes.as_slice(),
+    )?;
     out.extend_from_slice(b"\n")
 }
 
