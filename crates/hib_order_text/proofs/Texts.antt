@@ -1,5 +1,5 @@
 -- One line more of a text.
-use Rattle.std.proofs.Common.{◌≡◌, ◌≢◌, ◌∷◌, ◌++◌, ◌+◌, ◌<◌, ◌≤◌, ◌∙◌, ◌⊎◌, ℕ, List, [], Option, Some, None, inl, inr, ap, sym, append_assoc, length, take, get_or, flat_map, arith}
+use Rattle.std.proofs.Common.{◌≡◌, ◌∷◌, ◌++◌, ◌+◌, ◌<◌, ◌≤◌, ◌∙◌, ◌⊎◌, ℕ, List, [], Option, Some, None, inl, inr, ap, sym, append_assoc, length, take, get_or, flat_map, arith}
 use Rattle.std.specs.Prelude.{slice_get}
 use Rattle.std.proofs.lemmas.Grind.{flat_map-append}
 use Rattle.std.proofs.lemmas.List.{append-nil, take_more}
@@ -23,9 +23,9 @@ pub each_step : {X : Type 0} (f : X → List ℕ) (xs : List X) (i : ℕ) (x : X
     slice_get xs i ≡ Some x → new ≡ out ++ f x → out ≡ old ++ flat_map f (take i xs) → new ≡ old ++ flat_map f (take (i + 1) xs)
 each_step {X = X} f xs i x old out new p n w =
     let more : take (i + 1) xs ≡ take i xs ++ x ∷ [] =
-        take_more xs i x (slice_get_within xs i x p) ∙ ap (λ (y : X). take i xs ++ y ∷ []) (get_or_from_slice_get xs i x x p) in
+    take_more xs i x (slice_get_within xs i x p) ∙ ap (λ (y : X). take i xs ++ y ∷ []) (get_or_from_slice_get xs i x x p) in
     let all : flat_map f (take (i + 1) xs) ≡ flat_map f (take i xs) ++ f x =
-        ap (flat_map f) more ∙ (flat_map-append f (take i xs) (x ∷ []) ∙ ap (λ (y : List ℕ). flat_map f (take i xs) ++ y) (append-nil (f x))) in
+    ap (flat_map f) more ∙ (flat_map-append f (take i xs) (x ∷ []) ∙ ap (λ (y : List ℕ). flat_map f (take i xs) ++ y) (append-nil (f x))) in
     n ∙ (ap (λ (o : List ℕ). o ++ f x) w ∙ (append_assoc old (flat_map f (take i xs)) (f x) ∙ ap (λ (y : List ℕ). old ++ y) (sym all)))
 
 some_none : {X : Type 0} (x : X) → ◌≡◌ {A = Option X} (Some x) None → ⊥

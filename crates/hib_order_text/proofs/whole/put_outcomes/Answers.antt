@@ -1,4 +1,4 @@
-use Rattle.std.proofs.Common.{◌≡◌, ◌∷◌, ◌++◌, ◌+◌, ◌<◌, ◌∙◌, ℕ, List, ap, sym, drop, drop-cons, get_or, add-one, arith}
+use Rattle.std.proofs.Common.{◌≡◌, ◌∷◌, ◌++◌, ◌+◌, ◌∙◌, ℕ, List, ap, sym, drop, drop-cons, get_or, add-one}
 use Rattle.std.specs.Prelude.{Option}
 use Rattle.hib_journal.specs.Types.{Outcome, SessionDef}
 use Rattle.hib_order_text.specs.Texts.{outcome_text_of, outcomes_text}
