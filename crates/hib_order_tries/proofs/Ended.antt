@@ -1,5 +1,5 @@
 -- Endings by their marks, with one more order.
-use Rattle.std.specs.Prelude.{map, bytes_eq, sum_by}
+use Rattle.std.specs.Prelude.{map, bytes_eq}
 use Rattle.std.specs.Option.{option_map_or}
 use Rattle.std.specs.List.{All, Contains}
 use Rattle.std.specs.Map.{lookup}

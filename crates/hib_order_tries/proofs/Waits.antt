@@ -1,6 +1,6 @@
 -- What waits, kept in any form.
-use Rattle.std.specs.Prelude.{not, map, take, ◌-◌, ◌||◌}
-use Rattle.std.proofs.Common.{◌≡◌, ◌++◌, ◌+◌, ◌<◌, ◌≤◌, ◌⊎◌, ℕ, inl, inr, Bool, true, false, List, [], ◌∷◌, sym, ap, ◌∙◌, subst, arith}
+use Rattle.std.specs.Prelude.{map, take, ◌-◌}
+use Rattle.std.proofs.Common.{◌≡◌, ◌++◌, ◌+◌, ◌<◌, ◌≤◌, ◌⊎◌, ℕ, inl, inr, Bool, false, List, [], ◌∷◌, ap, ◌∙◌, subst, arith}
 use Rattle.hib_base.specs.Tables.{Tables}
 use Rattle.hib_journal.specs.Types.{Script, Entry}
 use Rattle.hib_order_law.specs.Search.{AreTried, IsSearch}

@@ -86,7 +86,8 @@ fn two_sessions(rt: HostRuntime) -> Result<(), Fail> {
     assert_eq!(rt; told.findings.stale_hit.count, 4);
     assert_eq!(rt; told.findings.lost_update.count, 9);
     assert_eq!(rt; told.findings.unsound_key.count, 0);
-    let first = told.findings.refused_commit.first.ok_or("one is refused")?;
+    let refused = told.findings.refused_commit.first.as_ref();
+    let first = refused.ok_or("one is refused")?;
     assert_eq!(rt; first.switches, 0);
     assert_eq!(rt; first.order.as_slice(), [1, 1, 0, 0, 0].as_slice());
     assert_eq!(rt; told.findings.endings.len(), 2);

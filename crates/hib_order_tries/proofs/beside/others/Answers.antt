@@ -1,4 +1,4 @@
-use Rattle.std.proofs.Common.{◌≡◌, ◌-◌, ◌<◌, ◌≤◌, ℕ, suc, List, [], false, sym, ap, subst, arith, drop, length, map, refl, slice_index}
+use Rattle.std.proofs.Common.{◌≡◌, ◌-◌, ◌<◌, ◌≤◌, ℕ, suc, List, [], sym, ap, subst, arith, drop, length, map, refl, slice_index}
 use Rattle.hib_order_law.specs.Search.{AreOthers}
 use Rattle.hib_order_tries.specs.Tail.{IsTail}
 use Rattle.hib_order_tries.specs.Left.{AreLeft}

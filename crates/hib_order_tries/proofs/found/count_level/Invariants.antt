@@ -1,4 +1,4 @@
-use Rattle.std.proofs.Common.{◌≡◌, ◌≤◌, ◌⊎◌, ℕ, length, slice_index_or}
+use Rattle.std.proofs.Common.{◌≡◌, ℕ, length, slice_index_or}
 use Rattle.hib_order_tries.proofs.found.count_level.Given as goal
 
 abbrev pub invariant-loop-place : goal.invariant-loop-place

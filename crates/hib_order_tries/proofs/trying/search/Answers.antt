@@ -1,4 +1,4 @@
-use Rattle.std.proofs.Common.{◌≡◌, ◌++◌, ◌∷◌, ◌≤◌, [], ℕ, Bool, false, true, List, length, map, sym, ap, ◌∙◌, subst}
+use Rattle.std.proofs.Common.{◌≡◌, ◌++◌, ◌∷◌, ◌≤◌, [], ℕ, true, List, length, map, sym, ap, ◌∙◌, subst}
 use Rattle.hib_order_law.specs.Orders.{can_begin}
 use Rattle.hib_order_tries.specs.Amid.{IsAmid}
 use Rattle.hib_order_tries.specs.Found.{IsPlayed}

@@ -1,4 +1,4 @@
-use Rattle.std.proofs.Common.{◌≤◌, List, map}
+use Rattle.std.proofs.Common.{◌≤◌, map}
 use Rattle.hib_order_tries.specs.Amid.{IsAmid}
 use Rattle.hib_order_tries.specs.Found.{AreCounted}
 use Rattle.hib_order_tries.proofs.trying.search.Given as goal

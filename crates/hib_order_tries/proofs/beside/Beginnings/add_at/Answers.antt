@@ -1,4 +1,4 @@
-use Rattle.std.proofs.Common.{◌≡◌, ◌+◌, ◌++◌, ◌<◌, ◌==◌, ℕ, Bool, List, [], ◌∷◌, false, sym, ◌∙◌, subst, take, length, map, slice_index, eq-eqb, inl, inr}
+use Rattle.std.proofs.Common.{◌≡◌, ◌+◌, ◌++◌, ◌==◌, ℕ, List, [], ◌∷◌, false, sym, ◌∙◌, subst, take, map, slice_index, eq-eqb, inl, inr}
 use Rattle.std.proofs.lemmas.Bool.{eqb-true}
 use Rattle.std.proofs.lemmas.List.{take_more}
 use Rattle.hib_base.proofs.Tables.{Tested, tested}

@@ -1,6 +1,6 @@
 use Rattle.std.specs.Prelude.{option_copied}
 use Rattle.std.specs.Option.{option_map_or}
-use Rattle.std.proofs.Common.{◌≡◌, ◌+◌, ℕ, List, cond, refl, sym, ap, ◌∙◌, subst}
+use Rattle.std.proofs.Common.{◌≡◌, ◌+◌, List, cond, sym, ap, ◌∙◌, subst}
 use Rattle.std.specs.List.{All}
 use Rattle.indexmap.specs.IndexMap.{insert_entry}
 use Rattle.hib_order_tries.specs.Found.{AreApart, ended_so}

@@ -1,6 +1,4 @@
 use Rattle.std.proofs.Common.{◌≡◌, ◌≤◌, ℕ, true, refl, arith}
-use Rattle.hib_journal.specs.Types.{Entry}
-use Rattle.hib_order_tries.specs.Found.{IsFound}
 use Rattle.hib_order_tries.proofs.Counts.{no_levels, few_levels, no_endings, few_endings}
 use Rattle.hib_order_tries.proofs.found.Findings.none.Goals as goal
 

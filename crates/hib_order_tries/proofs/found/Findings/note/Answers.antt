@@ -1,4 +1,4 @@
-use Rattle.std.proofs.Common.{◌≡◌, ◌+◌, ◌∷◌, ℕ, List, length, sym, ap, ◌∙◌, subst, arith, slice_index_or, cond}
+use Rattle.std.proofs.Common.{◌≡◌, ◌+◌, ℕ, length, sym, ap, ◌∙◌, subst, arith, slice_index_or, cond}
 use Rattle.std.specs.Prelude.{◌==◌}
 use Rattle.hib_order_law.specs.Orders.{switches}
 use Rattle.hib_order_tries.specs.Amid.{AreJudged}

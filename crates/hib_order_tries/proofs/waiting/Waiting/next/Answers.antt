@@ -1,4 +1,4 @@
-use Rattle.std.proofs.Common.{◌≡◌, ◌++◌, ◌+◌, ◌≤◌, ◌⊎◌, ◌∷◌, List, ℕ, [], false, inl, inr, ap, map, sym, ◌∙◌, subst}
+use Rattle.std.proofs.Common.{◌≡◌, ◌++◌, ◌+◌, ◌≤◌, ◌⊎◌, ◌∷◌, List, [], false, inl, inr, map, sym, subst}
 use Rattle.hib_base.specs.declared.entries.Entry.{Entry}
 use Rattle.hib_order_law.specs.Search.{IsSearch}
 use Rattle.hib_order_tries.proofs.Waits.{none_taken, none_left, empty_ends, empty_rises}
