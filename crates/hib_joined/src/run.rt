@@ -1,18 +1,15 @@
 // The run of a script over parts under locks of their own, to its one journal.
-ghost use Rattle.std.specs.Prelude.{◌≡◌, ◌≤◌, true, map, IfOk, IfErr};
+ghost use Rattle.std.specs.Prelude.{◌≡◌, ◌≤◌, true, IfOk, IfErr};
 ghost use Rattle.hib_base.specs.Valid.{is_valid};
 ghost use Rattle.hib_outside.specs.Causes.{Rose};
 ghost use Rattle.hib_store.specs.Stores.{handed_back, is_store_fault};
 ghost use Rattle.hib_engines.specs.Origin.{told_start};
-ghost use Rattle.hib_joined.specs.Joined.{AreJoinedUnless};
 ghost use Rattle.hib_joined.specs.Run.{CameToOne};
-ghost use Rattle.hib_journal.specs.Kept.{past};
 
 use crate::joining::{Joined, join_unless};
-use hib_base::{EntityNo, Script};
+use hib_base::Script;
 use hib_engines::Name;
 use hib_law::law;
-use hib_merge::Lists;
 use hib_outside::{Gate, Keeper};
 use hib_parts::Parts;
 use hib_split::{Split, work_split};
@@ -29,23 +26,14 @@ pub struct JoinedRun<K> {
     pub keeper: K,
     /// What the lists of its parts and of its sessions came to.
     pub joined: Joined,
-    /// The list of each part.
-    pub lists: Lists,
-    /// The list of each session.
-    pub mine: Lists,
-    /// The entity whose region was asked for, and that of the region which a lock gave, if they differ.
-    pub strange: Option<(EntityNo, EntityNo)>,
-    /// Whether memory ran out in the run.
-    pub out_of_memory: bool,
 }
 
 /// Runs each session of a script to its end on so many workers, each part behind a lock of its own, and joins the lists into one
 /// journal. Before a step a worker passes the gate, with the number of its session's entries so far. With one worker no thread is
 /// started, no lock is taken and the gate isn't asked; then the run is never torn. The keeper is seeded with the script's rows, each
 /// of which it takes if its key has none. At an error the keeper is handed back, with the rows that it had. If the run is torn, or
-/// memory ran out after it began, the keeper comes back with the rows of the commits that were made so far. The lists come back as they
-/// were joined, so that whoever is told of a torn run can see what it tore over; want of memory is told as that alone. It may wait for
-/// other threads.
+/// memory ran out after it began, the keeper comes back with the rows of the commits that were made so far. It may wait for other
+/// threads.
 pub fn run_joined<R: Threads + Wait + Sync, K: Keeper, N: Name + Send + Sync, G: Gate>(
     rt: &R,
     alloc: Global,
@@ -64,8 +52,6 @@ pub fn run_joined<R: Threads + Wait + Sync, K: Keeper, N: Name + Send + Sync, G:
     } ≡ N.from }
     ensures came { IfOk result (λ r. CameToOne workers N.script N.from r.joined
         (K.tables r.keeper) (K.faults r.keeper) (K.asked r.keeper)) }
-    ensures joined { IfOk result (λ r. AreJoinedUnless r.strange r.out_of_memory
-        (map past r.lists) r.mine r.joined) }
     ensures back { IfErr result (λ e. K.tables (handed_back e) ≡ K.tables keeper) }
     ensures back_faults { IfErr result (λ e. K.faults keeper ≤ K.faults (handed_back e)) }
     ensures back_asked { IfErr result (λ e. K.asked (handed_back e) ≡ K.asked keeper) }
@@ -88,12 +74,5 @@ pub fn run_joined<R: Threads + Wait + Sync, K: Keeper, N: Name + Send + Sync, G:
         out_of_memory,
     } = work_split(rt, alloc, parts, script, workers, gate);
     let joined = join_unless(alloc, strange, out_of_memory, &lists, &mine);
-    Ok(JoinedRun {
-        keeper,
-        joined,
-        lists,
-        mine,
-        strange,
-        out_of_memory,
-    })
+    Ok(JoinedRun { keeper, joined })
 }

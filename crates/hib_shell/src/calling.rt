@@ -13,10 +13,10 @@ use hib_outside::{Keeper, OpenGate, StdSink, StdSource};
 use hib_top::top;
 use hib_words::Command;
 use std::alloc::AllocError;
+use std::io;
 use std::io::Stderr;
 use std::sync::Wait;
 use std::thread::Threads;
-use std::io;
 
 /// Writes its lines on standard error.
 pub type ErrorTrace = Trace<StdSink<Stderr>>;

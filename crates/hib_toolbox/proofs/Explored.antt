@@ -47,7 +47,7 @@ pub none_told : (law : NoneLaw) (script : Script) (most : ℕ) (whole : Bool) (l
     (es : List Entry) → IsWithin script (rows_at_start script) most es → has_in script finding es ≡ false
 none_told law script most whole level findings told finding all none =
     let tried : AreTried script (rows_at_start script) most (most + 1) told.0 =
-        subst (λ (b : Bool). AreTried script (rows_at_start script) most (cond b (most + 1) level) told.0) all told.1 in
+    subst (λ (b : Bool). AreTried script (rows_at_start script) most (cond b (most + 1) level) told.0) all told.1 in
     if_none (found_of findings finding).first none
     (law script (rows_at_start script) (has_in script finding) most told.0 (found_of findings finding) tried (found_is script told.0 findings finding told.2))
 

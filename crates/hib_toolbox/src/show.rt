@@ -39,11 +39,7 @@ pub struct Show {
 }
 
 /// The script with the schedule that plays an order. An order of 2^32 steps or more is answered as want of memory.
-fn script_shown(
-    alloc: Global,
-    script: Script,
-    first: &Option<First>,
-) -> Result<Script, AllocError>
+fn script_shown(alloc: Global, script: Script, first: &Option<First>) -> Result<Script, AllocError>
     ensures { IfOk result (λ s. s ≡ script_shown script first.now) }
 {
     let Some(first) = first else {
@@ -57,8 +53,7 @@ fn script_shown(
 }
 
 /// Puts the schedule of the finding into the script whose orders were tried.
-fn with_finding(alloc: Global, finding: Finding, run: Explored) -> Outcome<Explored>
-{
+fn with_finding(alloc: Global, finding: Finding, run: Explored) -> Outcome<Explored> {
     let Explored { script, told } = run;
     let script = script_shown(alloc, script, &found_of(&told.findings, finding).first);
     match script {

@@ -79,12 +79,7 @@ fn try_orders<S: Source, W: Sink>(
 }
 
 /// Tries the orders of a script's sessions, and writes the script with the schedule of a finding.
-fn show_finding<S: Source, W: Sink>(
-    alloc: Global,
-    show: Show,
-    source: &mut S,
-    out: &mut W,
-) -> Ended
+fn show_finding<S: Source, W: Sink>(alloc: Global, show: Show, source: &mut S, out: &mut W) -> Ended
     ensures does { (number : ℕ) → finding_numbered number ≡ show.finding
         → DoesTool (Tool.Orders show.orders.switches show.orders.at_most (Some number))
         (streams (S.left source.old) (S.faults source.old) (W.taken out.old) (W.faults out.old))

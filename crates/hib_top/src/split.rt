@@ -121,14 +121,9 @@ fn split_named<N: Name + Send + Sync, R: Threads + Wait + Sync, K: Keeper, L: Li
 {
     let Lent { keeper, listeners } = lent;
     match run_joined::<R, K, N, G>(rt, alloc, &script, keeper, workers, gate) {
-        Ok(JoinedRun {
-            keeper,
-            joined,
-            lists: _,
-            mine: _,
-            strange: _,
-            out_of_memory: _,
-        }) => hear_joined::<N, K, L>(alloc, script, joined, workers, keeper, listeners),
+        Ok(JoinedRun { keeper, joined }) => hear_joined::<N, K, L>(
+            alloc, script, joined, workers, keeper, listeners,
+        ),
         Err(fault) => not_run(fault, listeners),
     }
 }

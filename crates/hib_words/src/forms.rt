@@ -68,8 +68,11 @@ const WORK_OPTIONS: [OptionName; 5] = [
 
 const MAKE_OPTIONS: [OptionName; 2] = [OptionName::Seed, OptionName::Text];
 
-const ORDERS_OPTIONS: [OptionName; 3] =
-    [OptionName::Switches, OptionName::AtMost, OptionName::Show];
+const ORDERS_OPTIONS: [OptionName; 3] = [
+    OptionName::Switches,
+    OptionName::AtMost,
+    OptionName::Show,
+];
 
 impl Verb {
     /// The word that it is written by.
@@ -174,7 +177,8 @@ impl OptionName {
             OptionName::Split => "Puts each part behind a lock of its own, and not all behind one",
             OptionName::Seed => "Makes the script from N, 0 to 4294967295",
             OptionName::Text => "Writes the script that was made, and runs nothing",
-            OptionName::Switches => "Tries the orders with at most N switches, 0 to 64; 2 if it isn't given",
+            OptionName::Switches =>
+                "Tries the orders with at most N switches, 0 to 64; 2 if it isn't given",
             OptionName::AtMost => "Tries at most N orders, 1 to 4294967295",
             OptionName::Show => "Writes the script with the schedule of finding K, 1 to 5",
         }

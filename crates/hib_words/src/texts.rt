@@ -92,7 +92,8 @@ Zughvarti, sessions over a second-level cache, with a proof
 proved with a Rattle kit of logic dac8208d650f15bf
 ";
 
-const ABOUT_TOOLS: &str = "Finds the orders of sessions that end badly, and makes reports of journals.";
+const ABOUT_TOOLS: &str =
+    "Finds the orders of sessions that end badly, and makes reports of journals.";
 
 const AFTER_TOOLS_HELP: &str = "
 A script comes by standard input. Its sessions are played in every order with at most N switches, the
@@ -148,7 +149,8 @@ impl Verb {
             Verb::Collect => "Runs a script with collections, and writes its journal",
             Verb::Bulk => "Runs a script with bulk changes, and writes its journal",
             Verb::Nodes => "Runs a script at two nodes over one store, and writes its journal",
-            Verb::Orders => "Tries the orders of a script's sessions, and writes which of them end badly",
+            Verb::Orders =>
+                "Tries the orders of a script's sessions, and writes which of them end badly",
             Verb::Report => "Writes the report of a journal that comes after its script",
         }
     }
