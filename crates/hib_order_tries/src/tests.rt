@@ -2,8 +2,8 @@
 ghost use Rattle.hib_order_tries.specs.Found.{AreCounted};
 ghost use Rattle.std.specs.Prelude.{◌≡◌, ◌+◌, ◌≤◌, IfOk, OnOk, length};
 
-use crate::player::Played;
-use crate::trying::{Progress, Told};
+use crate::player::{Played, Player};
+use crate::trying::{Progress, Told, search};
 use hib_base::Outcome;
 use hib_order_law::Verdicts;
 use std::alloc::{AllocError, Global};
@@ -75,6 +75,62 @@ fn searched(alloc: Global, steps: &[u32], most: usize, limit: u64) -> Result<Tol
         }
     }
     Ok(progress.told(false, 1000))
+}
+
+/// A player of a script without sessions.
+#[derive(Drop)]
+struct Idle;
+
+impl Player for Idle {
+    ghost use Rattle.hib_base.specs.declared.replies.Outcome.{Outcome};
+    ghost use Rattle.hib_order_law.specs.declared.verdicts.Verdicts.{Verdicts};
+    ghost use Rattle.std.specs.Prelude.{[], false};
+
+    ghost script = { record {
+      timeout = 0;
+      results = 0;
+      mapping = [];
+      rows = [];
+      queries = [];
+      sessions = [];
+      schedule = [];
+    } };
+
+    ghost start = { [] };
+
+    ghost judged = { λ es. record {
+      stale_hit = false;
+      old_list = false;
+      lost_update = false;
+      refused_commit = false;
+      unsound_key = false;
+    } };
+
+    ghost ended = { λ es. [] };
+
+    fn play(&mut self, alloc: Global, _begun: &[u32]) -> Result<Played, AllocError> {
+        Ok(Played {
+            order: Vec::new(alloc),
+            verdicts: Verdicts {
+                stale_hit: false,
+                old_list: false,
+                lost_update: false,
+                refused_commit: false,
+                unsound_key: false,
+            },
+            ending: Vec::new(alloc),
+        })
+    }
+}
+
+#[test]
+fn over_a_player(rt: HostRuntime) -> Result<(), Fail> {
+    let mut idle = Idle;
+    let told = search(rt.alloc(), &mut idle, 3, 1)?;
+    assert!(rt; told.whole);
+    assert_eq!(rt; told.findings.tried, 1);
+    assert_eq!(rt; told.played, 1);
+    Ok(())
 }
 
 #[test]

@@ -41,6 +41,7 @@ impl Progress {
     pub fn new(alloc: Global) -> Result<Progress, AllocError>
         ensures tried { IfOk result (λ s. s.findings.tried ≡ 0) }
         ensures counts { IfOk result (λ s. AreCounted s.findings) }
+        ensures level { IfOk result (λ s. s.waiting.level ≡ 0) }
         ensures amid { IfOk result (λ s. (script : Script) (start : Tables)
             (judged : List Entry → Verdicts) (ended : List Entry → List Outcome) (most : ℕ)
             → IsAmid script start judged ended most s.waiting.level
@@ -69,6 +70,7 @@ impl Progress {
             → (self.new ≡ self.old) × (self.old.findings.tried ≡ limit)) }
         ensures limit { OnOk result (self.new.findings.tried ≤ limit) }
         ensures counts { OnOk result (AreCounted self.new.findings) }
+        ensures level { self.new.waiting.level ≡ self.old.waiting.level }
         ensures taken { IfOk result (λ taken. taken ≡ true → (script : Script) (start : Tables)
             (judged : List Entry → Verdicts) (ended : List Entry → List Outcome) (most : ℕ)
             (begun : List ℕ) → IsAmid script start judged ended most self.old.waiting.level
@@ -106,9 +108,9 @@ impl Progress {
     }
 }
 
-/// Tries the orders within a number of switches, those with the fewest first, each once, and so many of them at most: `limit`. All are tried
-/// unless there are more than that, or 2^64 - 1 runs were played. What is kept grows with the script and with the endings that are
-/// told, and not with the orders.
+/// Tries the orders within a number of switches, those with the fewest first, each once, and so many of them at most: `limit`. All
+/// are tried unless there are more than that, or 2^64 - 1 runs were played. What is kept grows with the script and with the endings
+/// that are told, and not with the orders. An error is want of memory, and then nothing is told.
 pub fn search<P: Player>(
     alloc: Global,
     player: &mut P,
@@ -117,6 +119,7 @@ pub fn search<P: Player>(
 ) -> Result<Told, AllocError>
     ensures tried { IfOk result (λ t.
         IsTold P.script P.start P.judged P.ended most t.whole t.level t.findings) }
+    ensures level { IfOk result (λ t. t.level ≤ most) }
     ensures limit { IfOk result (λ t. t.findings.tried ≤ limit) }
     ensures whole { IfOk result (λ t.
         (t.whole ≡ true) ⊎ (t.findings.tried ≡ limit) ⊎ (t.played ≡ 2 ^ 64 - 1)) }

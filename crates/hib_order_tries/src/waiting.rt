@@ -40,6 +40,7 @@ impl Waiting {
     /// Takes one. If none waits, then the beginning of all orders comes again, for those that make one more switch; and none if no
     /// order makes so many, or none may.
     pub fn next(&mut self, alloc: Global, most: usize) -> Option<Vec<u32>>
+        ensures level { self.old.level ≤ most → self.new.level ≤ most }
         ensures some { IfSome result (λ b. (script : Script) (start : Tables)
             (runs seen : List (List Entry)) → IsSearch script start most self.old.level runs seen
             (map (λ v. v.items) self.old.now.items) self.old.beyond

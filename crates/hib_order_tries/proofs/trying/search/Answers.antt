@@ -1,4 +1,4 @@
-use Rattle.std.proofs.Common.{◌≡◌, ◌++◌, ◌∷◌, ◌≤◌, [], ℕ, true, List, length, map, sym, ap, ◌∙◌, subst}
+use Rattle.std.proofs.Common.{◌≡◌, ◌++◌, ◌∷◌, ◌≤◌, [], ℕ, true, List, length, map, arith, sym, ap, ◌∙◌, subst}
 use Rattle.hib_order_law.specs.Orders.{can_begin}
 use Rattle.hib_order_tries.specs.Amid.{IsAmid}
 use Rattle.hib_order_tries.specs.Found.{IsPlayed}
@@ -55,4 +55,5 @@ loop-played-preserved g c =
       c.in_ok-take.ensures.taken c.if-not-branch.false g.P.Player.script g.P.Player.start g.P.Player.judged g.P.Player.ended most begun amid played from,
       c.in_ok-take.ensures.counts,
       c.in_ok-take.ensures.limit,
+      omega (arith, c.take.ensures.level, c.next.ensures.level c.loop-played.invariant.3),
     )
