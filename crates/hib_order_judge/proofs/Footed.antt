@@ -1,17 +1,15 @@
 -- On what the instances of a session rest, after one more of its entries.
 use Rattle.std.specs.Prelude.{not, ◌&&◌, ◌||◌, option_map, option_and_then}
-use Rattle.std.specs.Option.{option_map_or, option_or, option_flatten}
+use Rattle.std.specs.Option.{option_or, option_flatten}
 use Rattle.std.specs.List.{list_any}
-use Rattle.std.proofs.Common.{◌≡◌, ℕ, Bool, true, false, cond, List, [], ◌∷◌, Some, None, Option, refl, sym, ap, ◌∙◌, inl, inr}
+use Rattle.std.proofs.Common.{◌≡◌, ℕ, Bool, true, false, cond, [], ◌∷◌, Some, None, Option, refl, ap, ◌∙◌}
 use Rattle.std.proofs.Math.Bool.{and-true, and-false}
 use Rattle.hib_base.specs.Keys.{same_key}
-use Rattle.hib_base.specs.Tables.{key_of}
-use Rattle.hib_base.proofs.Tables.{Tested, tested}
 use Rattle.hib_journal.specs.Types.{Key, Row, Change, Commit, Part, Act, Reply, Entry}
 use Rattle.hib_journal.specs.Sessions.{Journal}
-use Rattle.hib_journal.specs.Held.{Arrival, Stay, Instance, instance_of, stay, longer, stay_after, arrival, has_left, base_of, is_inserted, is_undone, is_break, is_begin, held, row_written, deletes, inserts, removes, last_written}
+use Rattle.hib_journal.specs.Held.{Arrival, Stay, Instance, instance_of, stay, longer, has_left, base_of, is_inserted, is_undone, is_begin, held, row_written, deletes, inserts, removes, last_written}
 use Rattle.hib_order_law.specs.Judged.{before_write, writes_key, rests_on}
-use Rattle.hib_order_judge.specs.Footings.{Basis, is_fresh, basis_by, basis_in, touched, touches, basis_written, basis_here, basis_after, rest_in, rest_after}
+use Rattle.hib_order_judge.specs.Footings.{Basis, is_fresh, basis_by, basis_in, basis_after, rest_in, rest_after}
 
 -- of an instance that stays, after an entry that deletes it, removes it, inserts it or writes a row of it
 basis_longer : (d x i : Bool) → Option Row → Option Basis → Option Basis

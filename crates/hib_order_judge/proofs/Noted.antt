@@ -1,21 +1,21 @@
 -- What is known of each session, with one entry more.
-use Rattle.std.specs.Prelude.{◌||◌, slice_get, slice_set, Ok, Err, OnOk, Result, map, option_and_then}
-use Rattle.std.specs.Option.{option_map_or, option_flatten}
+use Rattle.std.specs.Prelude.{◌||◌, slice_get, slice_set, Ok, Err, OnOk, Result, map}
+use Rattle.std.specs.Option.{option_map_or}
 use Rattle.std.specs.List.{list_any, range_with_len}
-use Rattle.std.proofs.Common.{◌≡◌, ℕ, zero, suc, ◌+◌, ◌<◌, ◌≤◌, ◌==◌, Bool, true, false, not, List, [], ◌∷◌, ◌++◌, length, get_or, take, reverse, Some, None, Option, refl, sym, ap, ◌∙◌, subst, add-zero, arith, inl, inr, eq-eqb}
+use Rattle.std.proofs.Common.{◌≡◌, ℕ, zero, suc, ◌+◌, ◌<◌, ◌==◌, Bool, false, not, List, [], ◌∷◌, ◌++◌, length, get_or, take, reverse, Some, None, refl, sym, ap, ◌∙◌, subst, add-zero, arith, inl, inr, eq-eqb}
 use Rattle.std.proofs.lemmas.Bool.{eqb-true, true≢false}
 use Rattle.std.proofs.lemmas.List.{take_more, append_assoc, append-nil}
 use Rattle.std.proofs.lemmas.Grind.{reverse_onto}
 use Rattle.std.proofs.lemmas.Option.{slice_get-get_or}
 use Rattle.hib_base.proofs.Tables.{Tested, tested}
 use Rattle.hib_base.specs.Tables.{Tables, key_of, row_at}
-use Rattle.hib_journal.specs.Types.{Key, Row, Change, Outcome, Entry}
-use Rattle.hib_journal.specs.Sessions.{Journal, own, changes_in, is_empty}
+use Rattle.hib_journal.specs.Types.{Change, Outcome, Entry}
 use Rattle.hib_journal.specs.Legal.{outcome}
+use Rattle.hib_journal.specs.Sessions.{Journal, own, changes_in}
 use Rattle.hib_order_law.specs.Judged.{is_lost_by, rests_on, same_row}
 use Rattle.hib_order_law.specs.Orders.{onto}
-use Rattle.hib_order_judge.specs.Footings.{rest_at, rest_in}
-use Rattle.hib_order_judge.specs.Desks.{IsDesk, IsKnown, AreDesks, changes_at, is_lost_row, has_lost_row}
+use Rattle.hib_order_judge.specs.Footings.{rest_at}
+use Rattle.hib_order_judge.specs.Desks.{IsDesk, IsKnown, AreDesks, is_lost_row, has_lost_row}
 use Rattle.hib_order_judge.specs.declared.desk.Desk.{Desk}
 use Rattle.hib_report.specs.declared.fates.Fate.{Fate}
 use Rattle.hib_order_judge.proofs.Footed.{rests_are}

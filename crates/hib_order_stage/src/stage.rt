@@ -26,15 +26,14 @@ pub struct Stage<N: Name> {
 }
 
 impl<N: Name> Model for Stage<N> {
-    ghost use Rattle.std.specs.Prelude.{◌≡◌, [], Option, IfSome, true};
+    ghost use Rattle.std.specs.Prelude.{◌≡◌, ⊤, [], IfSome, true};
     ghost use Rattle.hib_base.specs.Tables.{in_order};
     ghost use Rattle.hib_base.specs.Valid.{is_valid};
-    ghost use Rattle.hib_base.specs.declared.scripts.Script.{Script};
     ghost use Rattle.hib_order_stage.specs.Staged.{new_origin, rows_at_start};
 
-    ghost Value = { Option Script };
+    ghost Value = { ⊤ };
 
-    ghost view = { λ s. s.script };
+    ghost view = { λ s. tt };
 
     ghost invariant = { λ s. (is_valid N.script ≡ true) × (new_origin N.script ≡ N.from)
         × ([] ≡ N.told) × (s.rows ≡ rows_at_start N.script) × (in_order s.rows ≡ true)

@@ -1,4 +1,4 @@
-use Rattle.std.proofs.Common.{sym, ◌∙◌, ap, rules}
+use Rattle.std.proofs.Common.{sym, ◌∙◌, ap}
 use Rattle.std.proofs.lemmas.Result.{on_ok_weaker}
 use Rattle.hib_order_judge.proofs.Kept.{footed}
 use Rattle.hib_order_judge.specs.Footings.{basis_here, basis_of}

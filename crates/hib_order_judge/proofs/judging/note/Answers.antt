@@ -1,6 +1,6 @@
 use Rattle.std.specs.Prelude.{◌||◌}
 use Rattle.std.specs.Option.{option_map_or}
-use Rattle.std.proofs.Common.{◌≡◌, [], Bool, false, ap, ◌∙◌}
+use Rattle.std.proofs.Common.{◌≡◌, [], false, ap, ◌∙◌}
 use Rattle.hib_journal.specs.Sessions.{own}
 use Rattle.hib_journal.specs.Types.{Entry}
 use Rattle.hib_order_judge.proofs.Noted.{or_same}

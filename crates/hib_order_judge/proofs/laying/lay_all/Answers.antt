@@ -1,4 +1,4 @@
-use Rattle.std.proofs.Common.{◌≡◌, true, subst, sym, refl}
+use Rattle.std.proofs.Common.{◌≡◌, true, subst, sym}
 use Rattle.hib_base.specs.Tables.{in_order}
 use Rattle.hib_order_judge.proofs.Kept.{laid_more}
 use Rattle.hib_outside.proofs.Orders.{in_order_change}
