@@ -10,7 +10,9 @@ use Rattle.hib_words.specs.declared.tools.Tool.{Tool}
 use Rattle.hib_words.specs.declared.tools.Tool.TheVariants as tool
 use Rattle.hib_toolbox.specs.declared.ended.Said.{Said}
 use Rattle.hib_toolbox.specs.Call.{DoesBy, DoesIf, DoesTool, Promised}
-use Rattle.hib_toolbox.specs.Exploring.{exploring, finding_numbered, showing}
+use Rattle.hib_order_text.specs.declared.findings.Finding.{Finding}
+use Rattle.hib_toolbox.specs.declared.orders.Explored.{Explored}
+use Rattle.hib_toolbox.specs.Exploring.{IsSaid, IsSaidOf, exploring, finding_numbered, showing}
 use Rattle.hib_toolbox.specs.Reporting.{reporting}
 
 -- ---- a call in which memory ran out before anything was done
@@ -77,14 +79,23 @@ promised_some asked a old new answer said e d other = record {
   usage = λ m. (λ u. absurd (other u), λ none. absurd (some_none a (e ∙ none)));
 }
 
-pub promised_none : (asked : Option Tool) (o : Outside) (answer : Status) → None ≡ asked → answer ≡ Status.Usage → Promised asked o o answer Said.Nothing
-promised_none asked o answer e u = record {
-  does = none_does asked o answer e;
+pub promised_none : (asked : Option Tool) (o : Outside) (answer : Status) (said : Said) → None ≡ asked → answer ≡ Status.Usage → said ≡ Said.Nothing → Promised asked o o answer said
+promised_none asked o answer said e u n = record {
+  does = subst (λ (z : Said). DoesIf asked o o answer z) (sym n) (none_does asked o answer e);
   usage = λ m. (λ v. sym e, λ none. u);
 }
 
-pub promised_short : (asked : Option Tool) (o : Outside) (answer : Status) → answer ≡ Status.NoMemory → Promised asked o o answer Said.Nothing
-promised_short asked o answer e = record {
-  does = subst (λ (a : Status). DoesIf asked o o a Said.Nothing) (sym e) (idle_if asked o);
+pub promised_short : (asked : Option Tool) (o : Outside) (answer : Status) (said : Said) → answer ≡ Status.NoMemory → said ≡ Said.Nothing → Promised asked o o answer said
+promised_short asked o answer said e n = record {
+  does = subst (λ (z : Said). DoesIf asked o o answer z) (sym n) (subst (λ (a : Status). DoesIf asked o o a Said.Nothing) (sym e) (idle_if asked o));
   usage = λ m. absurd (m e);
 }
+
+-- ---- what is said if not all was done
+pub not_said : (answer : Status) (run : Option Explored) → (answer ≡ Status.Done → ⊥) → IsSaid answer run Said.Nothing
+not_said Status.Done run other = absurd (other refl)
+not_said _ run other = refl
+
+pub not_said_of : (finding : Finding) (answer : Status) (run : Option Explored) → (answer ≡ Status.Done → ⊥) → IsSaidOf finding answer run Said.Nothing
+not_said_of finding Status.Done run other = absurd (other refl)
+not_said_of finding _ run other = refl

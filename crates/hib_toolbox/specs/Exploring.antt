@@ -1,5 +1,5 @@
 -- The orders of a script's sessions, tried and told.
-use Rattle.std.specs.Prelude.{◌≡◌, ◌⊎◌, ◌≤◌, ◌^◌, ◌-◌, ◌||◌, ℕ, Bool, true, false, cond, List, [], ⊤, ⊥, is_some, IfSome, Some, None, Option, Ok, Err}
+use Rattle.std.specs.Prelude.{◌≡◌, ◌⊎◌, ◌≤◌, ◌^◌, ◌-◌, ◌||◌, ◌==◌, ℕ, Bool, true, false, cond, List, [], is_some, IfSome, Some, None, Option, Ok, Err}
 use Rattle.std.specs.Option.{option_map_or}
 use Rattle.hib_journal.specs.Types.{Key, Strategy, Script, Entry}
 use Rattle.hib_journal.specs.Next.{strategy}
@@ -31,11 +31,8 @@ use Rattle.hib_toolbox.specs.Reporting.{IsToldSo}
 
 -- the finding of a number, 1 to 5
 abbrev pub finding_numbered : ℕ → Finding
-finding_numbered 1 = Finding.StaleHit
-finding_numbered 2 = Finding.OldList
-finding_numbered 3 = Finding.LostUpdate
-finding_numbered 4 = Finding.UnsoundKey
-finding_numbered _ = Finding.RefusedCommit
+finding_numbered n =
+    cond (n == 1) Finding.StaleHit (cond (n == 2) Finding.OldList (cond (n == 3) Finding.LostUpdate (cond (n == 4) Finding.UnsoundKey Finding.RefusedCommit)))
 
 -- the most orders that are tried
 abbrev pub limit_of : Option ℕ → ℕ

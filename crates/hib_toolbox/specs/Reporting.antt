@@ -1,5 +1,5 @@
 -- The report of a journal that comes after its script.
-use Rattle.std.specs.Prelude.{◌≡◌, ⊤, ⊥}
+use Rattle.std.specs.Prelude.{◌≡◌, ⊤}
 use Rattle.hib_input.specs.WithJournal.{IsInput, IsBadInput, IsWholeInput}
 use Rattle.hib_input.specs.declared.with_journal.WithJournal.{WithJournal}
 use Rattle.hib_report.specs.Report.{report}

@@ -1,8 +1,8 @@
 // The orders of a script's sessions, tried and told.
-ghost use Rattle.std.specs.Prelude.{◌≡◌, Err, IfErr, IfOk, Ok, true};
+ghost use Rattle.std.specs.Prelude.{◌≡◌, ◌≤◌, Err, IfErr, IfOk, Ok, length, true};
 ghost use Rattle.hib_base.specs.Valid.{is_valid};
 ghost use Rattle.hib_call.specs.Ends.{Comes, IsWhere};
-ghost use Rattle.hib_call.specs.Outside.{shared_by};
+ghost use Rattle.hib_call.specs.Outside.{Shared, shared_by};
 ghost use Rattle.hib_script.specs.Outline.{Outline, outline_of};
 ghost use Rattle.hib_script.specs.Script.{script_of};
 ghost use Rattle.hib_toolbox.specs.Exploring.{exploring, is_any, is_there, limit_of};
@@ -64,6 +64,26 @@ pub struct Orders {
     pub at_most: Option<u32>,
 }
 
+/// Tries the orders of a script's sessions. Nothing that is lent is touched.
+pub fn tried(alloc: Global, orders: Orders, script: Script) -> Outcome<Explored>
+    requires { is_valid script ≡ true }
+    ensures { (lent : Shared)
+        → Comes (exploring orders.switches orders.at_most) script lent lent result }
+{
+    what_is_told_is_so();
+    schedules_play_orders();
+    shown_runs_come_again();
+    rows_cohere();
+    let limit = limit_of(orders.at_most);
+    match search_orders(alloc, script, orders.switches as usize, limit) {
+        Ok(searched) => {
+            let Searched { told, script } = searched;
+            Outcome::Over(Explored { script, told })
+        }
+        Err(_) => Outcome::Stopped(Status::NoMemory, None),
+    }
+}
+
 /// Tries the orders of a script's sessions, and hands back what is lent as it is.
 pub fn explore<K: Keeper, L: Listener>(
     alloc: Global,
@@ -78,24 +98,13 @@ pub fn explore<K: Keeper, L: Listener>(
         result.lent.listeners.items)
         result.outcome }
 {
-    what_is_told_is_so();
-    schedules_play_orders();
-    shown_runs_come_again();
-    rows_cohere();
-    let outcome = match search_orders(
-        alloc,
-        script,
-        orders.switches as usize,
-        limit_of(orders.at_most),
-    ) {
-        Ok(Searched { told, script }) => Outcome::Over(Explored { script, told }),
-        Err(_) => Outcome::Stopped(Status::NoMemory, None),
-    };
+    let outcome = tried(alloc, orders, script);
     Ran { outcome, lent }
 }
 
 /// Reads a script.
 pub fn read_script(alloc: Global, text: &[u8]) -> Result<Script, InputFault>
+    requires { length text.now ≤ 1048576 }
     ensures script { IfOk result (λ script. script_of text.now ≡ Ok (outline_of script)) }
     ensures valid { IfOk result (λ script. is_valid script ≡ true) }
     ensures refused { IfErr result (IsWhere (λ refused. script_of text.now ≡ Err refused)) }

@@ -2,11 +2,12 @@
 ghost use Rattle.std.specs.Prelude.{◌≡◌, IfOk, true};
 ghost use Rattle.hib_base.specs.Valid.{is_valid};
 ghost use Rattle.hib_call.specs.Ends.{Comes};
-ghost use Rattle.hib_call.specs.Outside.{shared_by};
+ghost use Rattle.hib_base.specs.declared.scripts.Script.{Script};
+ghost use Rattle.hib_call.specs.Outside.{Shared, shared_by};
 ghost use Rattle.hib_order_tries.specs.declared.found.First.{First};
-ghost use Rattle.hib_toolbox.specs.Exploring.{finding_numbered, script_shown, showing};
+ghost use Rattle.hib_toolbox.specs.Exploring.{exploring, finding_numbered, script_shown, showing};
 
-use crate::orders::{Explored, Orders, explore, is_there, read_script};
+use crate::orders::{Explored, Orders, is_there, read_script, tried};
 use hib_base::{Script, Seq};
 use hib_call::{InputFault, Lent, Outcome, Ran, Status, Task, tell_text};
 use hib_order_schedule::{schedule_of, with_schedule};
@@ -52,13 +53,21 @@ fn script_shown(alloc: Global, script: Script, first: &Option<First>) -> Result<
     Ok(with_schedule(script, Seq::from_vec(schedule)))
 }
 
-/// Puts the schedule of the finding into the script whose orders were tried.
-fn with_finding(alloc: Global, finding: Finding, run: Explored) -> Outcome<Explored> {
-    let Explored { script, told } = run;
-    let script = script_shown(alloc, script, &found_of(&told.findings, finding).first);
-    match script {
-        Ok(script) => Outcome::Over(Explored { script, told }),
-        Err(_) => Outcome::Stopped(Status::NoMemory, None),
+/// Puts the schedule of the finding into the script whose orders were tried. Nothing that is lent is touched.
+fn with_finding(alloc: Global, show: Show, outcome: Outcome<Explored>) -> Outcome<Explored>
+    ensures { (script : Script) (lent : Shared)
+        → Comes (exploring show.orders.switches show.orders.at_most) script lent lent outcome
+        → Comes (showing show.orders.switches show.orders.at_most show.finding) script lent lent result }
+{
+    match outcome {
+        Outcome::Over(run) => {
+            let Explored { script, told } = run;
+            match script_shown(alloc, script, &found_of(&told.findings, show.finding).first) {
+                Ok(script) => Outcome::Over(Explored { script, told }),
+                Err(_) => Outcome::Stopped(Status::NoMemory, None),
+            }
+        }
+        Outcome::Stopped(status, run) => Outcome::Stopped(status, run),
     }
 }
 
@@ -76,11 +85,8 @@ pub fn explore_for<K: Keeper, L: Listener>(
         result.lent.listeners.items)
         result.outcome }
 {
-    let Ran { outcome, lent } = explore(alloc, show.orders, script, lent);
-    let outcome = match outcome {
-        Outcome::Over(run) => with_finding(alloc, show.finding, run),
-        Outcome::Stopped(status, run) => Outcome::Stopped(status, run),
-    };
+    let outcome = tried(alloc, show.orders, script);
+    let outcome = with_finding(alloc, show, outcome);
     Ran { outcome, lent }
 }
 

@@ -2,17 +2,18 @@
 ghost use Rattle.std.specs.Prelude.{◌≡◌, ◌≢◌, ℕ, None, Some, map, string_bytes, true};
 ghost use Rattle.hib_base.specs.Valid.{is_valid};
 ghost use Rattle.hib_toolbox.specs.Call.{DoesTool, Promised, streams};
-ghost use Rattle.hib_toolbox.specs.Exploring.{finding_numbered};
+ghost use Rattle.hib_toolbox.specs.Exploring.{IsSaid, IsSaidOf, finding_numbered};
 ghost use Rattle.hib_words.specs.Tools.{tool_command};
 ghost use Rattle.hib_words.specs.declared.tools.Tool.{Tool};
 
 use crate::ended::{Ended, Said};
-use crate::orders::{Orders, explore, is_any, is_there};
+use crate::orders::{Explored, Orders, explore, is_any, is_there};
 use crate::report::{Report, as_read};
 use crate::show::{Show, explore_for, finding_numbered};
 use hib_base::Seq;
 use hib_call::{Lent, Status, call};
 use hib_listeners::Recorder;
+use hib_order_text::Finding;
 use hib_outside::{MemKeeper, Sink, Source};
 use hib_words::{Tool, read_tool};
 use std::alloc::Global;
@@ -46,6 +47,44 @@ fn report<S: Source, W: Sink>(alloc: Global, source: &mut S, out: &mut W) -> End
     }
 }
 
+/// What is said of a search beside how its call ended.
+fn said_of(status: &Status, run: &Option<Explored>) -> Said
+    ensures { IsSaid status.now run.now result }
+{
+    match status {
+        Status::Done => match run {
+            Some(run) => {
+                if is_any(run) {
+                    Said::Found
+                } else {
+                    Said::Nothing
+                }
+            }
+            None => Said::Nothing,
+        },
+        _ => Said::Nothing,
+    }
+}
+
+/// What is said of a search for a finding beside how its call ended.
+fn said_of_finding(finding: Finding, status: &Status, run: &Option<Explored>) -> Said
+    ensures { IsSaidOf finding status.now run.now result }
+{
+    match status {
+        Status::Done => match run {
+            Some(run) => {
+                if is_there(run, finding) {
+                    Said::Nothing
+                } else {
+                    Said::Missing
+                }
+            }
+            None => Said::Nothing,
+        },
+        _ => Said::Nothing,
+    }
+}
+
 /// Tries the orders of a script's sessions.
 fn try_orders<S: Source, W: Sink>(
     alloc: Global,
@@ -68,10 +107,7 @@ fn try_orders<S: Source, W: Sink>(
             requires { is_valid script ≡ true }
         { explore(alloc, orders, script, lent) },
     );
-    let said = match &called.run {
-        Some(run) if called.status.is_done() && is_any(run) => Said::Found,
-        _ => Said::Nothing,
-    };
+    let said = said_of(&called.status, &called.run);
     Ended {
         status: called.status,
         said,
@@ -96,10 +132,7 @@ fn show_finding<S: Source, W: Sink>(alloc: Global, show: Show, source: &mut S, o
             requires { is_valid script ≡ true }
         { explore_for(alloc, show, script, lent) },
     );
-    let said = match &called.run {
-        Some(run) if called.status.is_done() && !is_there(run, show.finding) => Said::Missing,
-        _ => Said::Nothing,
-    };
+    let said = said_of_finding(show.finding, &called.status, &called.run);
     Ended {
         status: called.status,
         said,
@@ -137,6 +170,17 @@ fn serve<S: Source, W: Sink>(alloc: Global, tool: Tool, source: &mut S, out: &mu
     }
 }
 
+/// How a call ended in which nothing was done.
+fn ended_idle(status: Status) -> Ended
+    ensures status { result.status ≡ status }
+    ensures said { result.said ≡ Said.Nothing }
+{
+    Ended {
+        status,
+        said: Said::Nothing,
+    }
+}
+
 /// Does what the words ask of the tools. `orders` reads a script, tries the orders of its sessions and writes what was found, or the
 /// script with the schedule of a finding. `report` reads a script and a journal after it, and writes the report of the journal. If the
 /// words have no form, nothing is read and nothing written.
@@ -151,13 +195,9 @@ pub fn tools<S: Source, W: Sink>(
         (streams (S.left source.new) (S.faults source.new) (W.taken out.new) (W.faults out.new))
         result.status result.said }
 {
-    let status = match read_tool(alloc, words) {
-        Ok(Some(tool)) => return serve(alloc, tool, source, out),
-        Ok(None) => Status::Usage,
-        Err(_) => Status::NoMemory,
-    };
-    Ended {
-        status,
-        said: Said::Nothing,
+    match read_tool(alloc, words) {
+        Ok(Some(tool)) => serve(alloc, tool, source, out),
+        Ok(None) => ended_idle(Status::Usage),
+        Err(_) => ended_idle(Status::NoMemory),
     }
 }

@@ -1,5 +1,5 @@
 -- What is told of the orders of a script is so.
-use Rattle.std.proofs.Common.{◌≡◌, ◌≤◌, ◌+◌, ℕ, Bool, true, false, cond, List, Option, Some, None, refl, sym, subst}
+use Rattle.std.proofs.Common.{◌≡◌, ◌≤◌, ◌+◌, ℕ, Bool, true, false, cond, List, [], Option, Some, None, refl, sym, subst}
 use Rattle.std.specs.Prelude.{IfNone, IfSome}
 use Rattle.hib_base.specs.Tables.{Tables}
 use Rattle.hib_journal.specs.Types.{Script, Entry}
@@ -29,11 +29,11 @@ found_is script runs findings Finding.UnsoundKey f = f.unsound_key
 found_is script runs findings Finding.RefusedCommit f = f.refused_commit
 
 -- the law of what is told
-abbrev pub NoneLaw : Type 1
+abbrev pub NoneLaw : Type 0
 NoneLaw = (script : Script) (start : Tables) (has : List Entry → Bool) (most : ℕ) (runs : List (List Entry)) (found : Found) →
     AreTried script start most (most + 1) runs → IsFound has runs found → IfNone found.first ((es : List Entry) → IsWithin script start most es → has es ≡ false)
 
-abbrev pub FirstLaw : Type 1
+abbrev pub FirstLaw : Type 0
 FirstLaw = (script : Script) (start : Tables) (has : List Entry → Bool) (most done : ℕ) (runs : List (List Entry)) (found : Found) →
     AreTried script start most done runs → IsFound has runs found →
     IfSome found.first (λ f. (es : List Entry) × IsRun script start es × (f.order.items ≡ sessions_in es) × (has es ≡ true))
