@@ -61,7 +61,7 @@ function scan(n, text,  at, end, c, what) {
 }
 
 # A part that is no token. What stands behind it is read on, if anything.
-function scan_odd(n, text, at, what,  close_mark, meant) {
+function scan_odd(n, text, at, what,  close_mark, sense) {
   if (what ~ /^(#|\/\/|\/\*|--)/) {
     bad(n, "token", at, what ~ /^#/ ? 1 : 2, quoted(what ~ /^#/ ? "#" : substr(what, 1, 2)) ": " comment_help(at, what))
     return 0
@@ -74,9 +74,9 @@ function scan_odd(n, text, at, what,  close_mark, meant) {
     return at + length(what)
   }
   bad(n, "token", at, length(what), bare_help(what, at))
-  meant = what
-  sub(/[;,]+$/, "", meant)
-  take(kind_of(meant), meant, at)
+  sense = what
+  sub(/[;,]+$/, "", sense)
+  take(kind_of(sense), sense, at)
   return at + length(what)
 }
 
