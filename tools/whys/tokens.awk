@@ -118,11 +118,11 @@ function bare_help(what, at,  odd) {
 
 function word_help() { return "a word is a letter, then letters, digits, _ and -" }
 
-function compared_help(what,  test) {
+function compared_help(what,  name) {
   if (part[1] != "query" && part[1] != "update" && part[1] != "delete")
     return quoted(what) ": the column and its cell stand side by side, as in `set Book 1 stock 2`"
-  test = what ~ /^==?$/ ? "eq" : what == "<" ? "lt" : what == "<=" ? "le" : what == ">" ? "gt" : what == ">=" ? "ge" : "ne"
-  return quoted(what) ": a test is a word and stands first, as in (" test " stock 4)"
+  name = what ~ /^==?$/ ? "eq" : what == "<" ? "lt" : what == "<=" ? "le" : what == ">" ? "gt" : what == ">=" ? "ge" : "ne"
+  return quoted(what) ": a test is a word and stands first, as in (" name " stock 4)"
 }
 
 # A quoted text from its mark on; answers where it is read on.
