@@ -1,8 +1,8 @@
 # Where lines stand, and what is wrong with each: the program that tools/why runs over a script.
 #
 # Variables: line and said are what the program said. It prints first `at COLUMN LENGTH`, the part of the refused line that the caret
-# stands below (0 where none does), and then the lines of help. With the variable `only` it prints the first bad line alone, as the
-# program would say it.
+# stands below (0 where none does), and then the lines of help. With the variable `only` it prints the first bad line alone, its
+# number and word, as the program would say it; or the forms of lines, if that is `forms`.
 
 # Notes that something is wrong with a line: the word, the part, and a text.
 function bad(n, which, at, size, text) {
@@ -20,6 +20,7 @@ END {
 }
 
 function explain(  n) {
+  if (only == "forms") { print forms_of(); return }
   split("byte long token header line words many-entities many-columns entity-taken column-taken strategy capacity column-type " \
     "ref-unknown default no-columns reserved taken unknown number cells type depth many last no-end", order, " ")
   for (n in order) rank_of[order[n]] = n + 0
