@@ -263,7 +263,7 @@ function row_line(n,  e, at) {
 
 function is_version(i) { return i <= count && (kind[i] == "?" || (kind[i] == "word" && part[i] ~ /^v(0|[1-9][0-9]*)$/)) }
 
-# ---- statements and orders
+# ---- statements
 
 function statement_line(n,  e, w) {
   w = part[1]
@@ -275,8 +275,10 @@ function statement_line(n,  e, w) {
     is_identifier(n, 3)
     are_typed(n, 4, e)
   } else if (w == "set") {
-    if (!fits(n, 2, "ENTITY") || !fits(n, 3, "ID")) return
-    set_line(n, 4, count + 1)
+    if (!fits(n, 2, "ENTITY") || !fits(n, 3, "ID") || !are_pairs(n, 4, count + 1)) return
+    e = entity_in(n, 2)
+    is_identifier(n, 3)
+    check_pairs(n, 4, count + 1, e)
   } else if (has_form(n)) {
     if (w == "find" || w == "remove") { entity_in(n, 2); is_identifier(n, 3) }
     if (w == "list" && kind[2] == "word" && !(part[2] in query_at)) no_name(n, 2, "query")
@@ -285,16 +287,19 @@ function statement_line(n,  e, w) {
   }
 }
 
-# Pairs of a column and a cell of the entity in the second part, if no part before `past` is something else.
-function set_line(n, from, past,  i, e, c, seen) {
-  if (from >= past) { bad_part(n, "words", from, missing["COL"]); return }
+# Whether pairs of a column and a cell stand from one part up to another.
+function are_pairs(n, from, past,  i) {
+  if (from >= past) { bad_part(n, "words", from, missing["COL"]); return 0 }
   for (i = from; i < past; i += 2) {
-    if (!fits(n, i, "COL")) return
-    if (i + 1 > count) { bad_part(n, "words", i + 1, "the cell of " quoted(part[i]) " is missing"); return }
-    if (!is_cell(i + 1)) { no_cell(n, i + 1, 0); return }
+    if (!fits(n, i, "COL")) return 0
+    if (i + 1 >= past) { bad_part(n, "words", i + 1, "the cell of " quoted(part[i]) " is missing"); return 0 }
+    if (!is_cell(i + 1)) return no_cell(n, i + 1, 0)
   }
-  e = entity_in(n, 2)
-  is_identifier(n, 3)
+  return 1
+}
+
+# What is wrong with pairs of columns of an entity, none of which may stand twice.
+function check_pairs(n, from, past, e,  i, c, seen) {
   for (i = from; i < past; i += 2) {
     if (kind[i] == "?") continue
     if (part[i] in seen) bad_part(n, "taken", i, "the column " quoted(part[i]) " is set in this line already")
@@ -303,6 +308,8 @@ function set_line(n, from, past,  i, e, c, seen) {
     has_type(n, i + 1, e, c)
   }
 }
+
+# ---- orders
 
 function order_line(n,  e) {
   if (++orders > 20000) bad_part(n, "many", 1, "there may be 20000 orders")

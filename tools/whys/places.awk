@@ -21,8 +21,8 @@ END {
 
 function explain(  n) {
   if (only == "forms") { print forms_of(); return }
-  split("byte long token header line words many-entities many-columns entity-taken column-taken strategy capacity column-type " \
-    "ref-unknown default no-columns reserved taken unknown number cells type depth many last no-end", order, " ")
+  split("byte long token header order cached line words many-entities many-columns entity-taken column-taken strategy capacity column-type " \
+    "ref-unknown default no-columns reserved taken unknown number plain cells type depth many last no-end", order, " ")
   for (n in order) rank_of[order[n]] = n + 0
   split("timeout results entity row query session schedule", parts, " ")
   for (n in parts) part_rank[parts[n]] = n + 0
@@ -33,7 +33,7 @@ function explain(  n) {
   look_ahead()
   place = "start"
   for (n = 1; n <= NR; n++) if (is_said(n)) read_line(n)
-  if (!section) finish()
+  finish()
   if (only) print_first()
   else print_help()
 }
@@ -63,7 +63,8 @@ function read_line(n) {
   ends = length(lines[n])
   scan(n, notes[n] ? printable(lines[n]) : lines[n])
   if (count == 0) return
-  if (section != "") { section_part(n); return }
+  if (section != "") { section_part(n); keep_form(n); return }
+  check_for_section(n)
   if (place == "start") header(n)
   else if (place == "session") in_session(n)
   else if (place == "schedule") in_schedule(n)
@@ -258,22 +259,8 @@ function in_schedule(n,  w) {
 function finish() {
   ends = length(lines[NR])
   count = 0
-  if (place == "session" || place == "schedule") bad_part(NR, "no-end", 1, open_block() " has no `end`")
+  if (section != "") {
+    if (in_section == "schedule") bad_part(NR, "no-end", 1, "the schedule of line " since " has no `end`")
+  } else if (place == "session" || place == "schedule") bad_part(NR, "no-end", 1, open_block() " has no `end`")
   else if (place == "start") { ends = -1; bad_part(1, "header", 1, "the first line that says something is `hib 1`") }
-}
-
-# ---- sections: of their lines the form alone is looked at
-
-function begin_section(n) {
-  section = lines[n]
-  if (said == "line" && line == n) { count = 1; part[1] = section; first[1] = 1; kind[1] = "word"; misplaced(n, instead(section)) }
-}
-
-function section_part(n,  w, words) {
-  w = part[1]
-  if (section == "journal") { notes[n] = 0; return }
-  words = section == "collections" ? "collection" : section == "bulk" ? "update delete schedule run end" : "place schedule run deliver end"
-  if (!is_among(w, words)) { bad_part(n, "line", 1, quoted(w) " begins no line of this section"); gsub(/ /, ", ", words); may_told[n] = words }
-  else if (w != "update" && w != "delete") has_form(n)
-  keep_form(n)
 }
