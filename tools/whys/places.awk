@@ -61,7 +61,7 @@ function read_line(n) {
   in_condition = 0
   find_byte(n, lines[n])
   ends = length(lines[n])
-  scan(n, notes[n] ? printable(lines[n]) : lines[n])
+  scan(n, lines[n] ~ /[^ -~]/ ? printable(lines[n]) : lines[n])
   if (count == 0) return
   if (section != "") { section_part(n); keep_form(n); return }
   check_for_section(n)

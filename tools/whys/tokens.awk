@@ -93,10 +93,10 @@ function comment_help(at, what) {
 # Why a part without quotation marks is no token.
 function bare_help(what, at,  odd) {
   if (what ~ /^-?[0-9]+[.][0-9]+$/) {
-    odd = what
+    odd = what (what ~ /[.][0-9]$/ ? "0" : "")
     sub(/[.]/, "", odd)
     sub(/^0+/, "", odd)
-    return quoted(what) ": numbers have no point; count cents, for example, " (odd == "" ? "0" : odd)
+    return quoted(what) ": numbers have no point; count " (what ~ /[.][0-9]?[0-9]$/ ? "cents, for example, " (odd == "" ? "0" : odd) : "in a smaller unit")
   }
   if (what ~ /^(=|==|<|<=|>|>=|!=|<>)$/) return compared_help(what)
   if (what == "*") return "`*`: select ids gives the identifiers, select count their number, select COL a column"
