@@ -10,7 +10,10 @@ function learn_forms(  forms, n, i, w) {
   wanted["ENTITY"] = "an entity's name is wanted"; missing["ENTITY"] = "the entity is missing"
   wanted["QUERY"] = "a query's name is wanted"; missing["QUERY"] = "the query is missing"
   wanted["SESSION"] = "a session's name is wanted"; missing["SESSION"] = "the session is missing"
-  wanted["STRATEGY"] = "a strategy is wanted: none, read-only, nonstrict or read-write"; missing["STRATEGY"] = "the strategy is missing: none, read-only, nonstrict or read-write"
+  wanted["STRATEGY"] = "a strategy is wanted: none, read-only, nonstrict or read-write"
+  missing["STRATEGY"] = "the strategy is missing: none, read-only, nonstrict or read-write"
+  wanted["TYPE"] = "a type is wanted: int, text, bool or ref ENTITY"
+  missing["TYPE"] = "the type is missing: int, text, bool or ref ENTITY"
   wanted["VERSIONING"] = "`versioned` or `plain` is wanted"; missing["VERSIONING"] = "`versioned` or `plain` is missing"
   wanted["CAPACITY"] = "a capacity is wanted, a number"; missing["CAPACITY"] = "the capacity is missing, a number"
   wanted["ID"] = "an identifier is wanted, a number"; missing["ID"] = "the identifier is missing, a number"
@@ -41,10 +44,13 @@ function is_kind(i, which) { return i <= count && (kind[i] == which || kind[i] =
 function is_the(i, word) { return i <= count && kind[i] == "word" && part[i] == word }
 
 # Whether the i-th part is what stands at this place of a form; if not, it is told.
-function fits(n, i, slot,  hint) {
-  if (slot == "VERSIONING" ? is_the(i, "versioned") || is_the(i, "plain") || (i <= count && kind[i] == "?") : is_kind(i, slot ~ /^(ID|N|CAPACITY)$/ ? "number" : "word")) return 1
-  if (i <= count && kind[i] == "text") hint = slot ~ /^(ID|N|CAPACITY)$/ ? "; numbers have no quotation marks" : "; names have no quotation marks"
-  bad_part(n, "words", i, i > count ? (slot == "N" && part[1] == "run" ? "the number of steps is missing" : missing[slot]) : wanted[slot] hint)
+function fits(n, i, slot,  which, text) {
+  which = slot ~ /^(ID|N|CAPACITY)$/ ? "number" : "word"
+  if (is_kind(i, which) && (slot != "VERSIONING" || part[i] ~ /^(versioned|plain)$/ || kind[i] == "?")) return 1
+  text = i > count ? missing[slot] : wanted[slot]
+  if (i > count && slot == "N" && part[1] == "run") text = "the number of steps is missing"
+  if (i <= count && kind[i] == "text") text = text "; " (which == "number" ? "numbers" : "names") " have no quotation marks"
+  bad_part(n, "words", i, text)
   return 0
 }
 
@@ -82,7 +88,8 @@ function no_cell(n, i, e,  text, word) {
   word = i > count ? "" : tolower(part[i])
   if (i > count) text = "a cell is missing"
   else if (word ~ /^(null|nil|none|undefined)$/) text = text "; there is no null, and 0 serves as one in a `ref` column"
-  else if (word ~ /^v[0-9]+$/) text = text "; " (part[1] == "row" && e ? name_of[e] " is plain, and its rows have no version" : "a version stands in a `row` alone")
+  else if (word ~ /^v[0-9]+$/ && part[1] == "row" && e) text = text "; " name_of[e] " is plain, and its rows have no version"
+  else if (word ~ /^v[0-9]+$/) text = text "; a version stands in a `row` alone"
   else if (word ~ /^(true|false)$/) text = text ", in small letters"
   else if (kind[i] == "word" || kind[i] == "path") text = text "; is it the text \"" part[i] "\"?"
   bad_part(n, "words", i, text)
@@ -97,18 +104,26 @@ function are_cells(n, i, e) {
 # ---- names
 
 # What is said of a name that isn't there; `which` is entity, query or session.
-function no_name(n, i, which,  text, name) {
+function no_name(n, i, which,  text, name, all) {
   name = part[i]
   if (unsure[which]) { more = 1; return 0 }
   text = "there is no " which " " quoted(name)
+  all = which == "entity" ? "the entities are" : which == "query" ? "the queries are" : "the sessions are"
   if ((which, name) in below && below[which, name] > n)
-    text = "the " which " " quoted(name) " is declared below, at line " below[which, name] "; " (part[1] == "column" ? "it has to stand before this one" : \
-      which == "session" ? "sessions stand before the schedule" : which == "query" ? "queries stand before the sessions" : "entities stand before all else")
-  else if (which == "entity" && name in query_at) text = text "; " quoted(name) " is a query, as in " quoted("list " name) "; the entities are " listed(names["entity"])
-  else if (which == "query" && name in entity_at) text = text "; " quoted(name) " is an entity, as in " quoted("find " name " 1") known("the queries are", name, names["query"])
-  else text = text known(which == "entity" ? "the entities are" : which == "query" ? "the queries are" : "the sessions are", name, names[which])
+    text = "the " which " " quoted(name) " is declared below, at line " below[which, name] "; " place_of(which)
+  else if (which == "entity" && name in query_at)
+    text = text "; " quoted(name) " is a query, as in " quoted("list " name) "; " all " " listed(names[which])
+  else if (which == "query" && name in entity_at)
+    text = text "; " quoted(name) " is an entity, as in " quoted("find " name " 1") known(all, name, names[which])
+  else text = text known(all, name, names[which])
   bad_part(n, part[1] == "column" ? "ref-unknown" : "unknown", i, text)
   return 0
+}
+
+function place_of(which) {
+  if (part[1] == "column") return "it has to stand before this one"
+  if (which == "session") return "sessions stand before the schedule"
+  return which == "query" ? "queries stand before the sessions" : "entities stand before all else"
 }
 
 # The number of the entity that a part names; 0 if there is none, which is told.
@@ -124,72 +139,79 @@ function columns_of(e,  i, out) {
 }
 
 # The number of the column that a part names.
-function column_in(n, i, e, name,  found) {
+function column_in(n, i, e, name,  c, all, text) {
   if ((e, name) in column_at) return column_at[e, name]
   if (!e || loose[e]) { more = 1; return 0 }
-  found = near_column(e, name)
-  bad_part(n, "unknown", i, "there is no column " quoted(name) (name == "by" ? "; write `order COL`" : "") (found != "" ? "; near: " found : "") "; " columns_of(e))
+  for (c = 1; c <= columns[e]; c++) all = all " " column_name[e, c]
+  text = "there is no column " quoted(name) (name == "by" ? "; write `order COL`" : "") or_near(name, all)
+  bad_part(n, "unknown", i, text "; " columns_of(e))
   return 0
 }
 
-function near_column(e, name,  i, all) {
-  for (i = 1; i <= columns[e]; i++) all = all " " column_name[e, i]
-  return near(name, all)
+# Whether a part, which is a cell, has a type; of what is no type nothing is said.
+function is_of(i, type) {
+  if (kind[i] == "?" || type !~ /^(int|text|bool|ref .*)$/) return 1
+  return kind[i] == (type == "text" ? "text" : type == "bool" ? "word" : "number")
 }
 
+function cell_of(type) { return type == "text" ? "a text" : type == "bool" ? "true or false" : "a number" }
+
 # Whether a part is a cell of a column.
-function has_type(n, i, e, c,  type) {
-  if (!c || loose[e] || kind[i] == "?") return 1
-  type = column_type[e, c]
-  if (type !~ /^(int|text|bool|ref .*)$/) return 1
-  if (type == "text" ? kind[i] == "text" : type == "bool" ? kind[i] == "word" : kind[i] == "number") return 1
-  bad_part(n, "type", i, (type == "text" ? "a text" : type == "bool" ? "true or false" : "a number") " is wanted for " column_name[e, c] "; " columns_of(e))
+function has_type(n, i, e, c) {
+  if (!c || loose[e] || is_of(i, column_type[e, c])) return 1
+  bad_part(n, "type", i, cell_of(column_type[e, c]) " is wanted for " column_name[e, c] "; " columns_of(e))
   return 0
 }
 
 # Whether there is a cell of its type for each column of an entity, from the i-th part on.
-function are_typed(n, i, e,  c, size) {
+function are_typed(n, i, e,  c, size, text) {
   if (!e || loose[e]) { more = 1; return }
   size = count - i + 1
-  if (size != columns[e])
-    bad_part(n, "cells", size < columns[e] ? count + 1 : i + columns[e], columns[e] (columns[e] == 1 ? " cell is" : " cells are") " wanted, and there " (size == 1 ? "is 1" : "are " size) "; " columns_of(e))
+  text = columns[e] (columns[e] == 1 ? " cell is" : " cells are") " wanted, and there " (size == 1 ? "is 1" : "are " size)
+  if (size != columns[e]) bad_part(n, "cells", size < columns[e] ? count + 1 : i + columns[e], text "; " columns_of(e))
   for (c = 1; c <= columns[e] && c <= size; c++) if (!has_type(n, i + c - 1, e, c)) return
 }
 
-function is_reserved(word) {
-  return index(" cached from where order desc offset limit select ids count true false none default ", " " word " ") > 0
-}
-
-function check_reserved(n) {
-  if (kind[2] == "word" && is_reserved(part[2]))
-    bad_part(n, "reserved", 2, quoted(part[2]) " is a reserved word, as are cached, from, where, order, desc, offset, limit, select, ids, count, true, false, none, default")
+function check_reserved(n,  words) {
+  words = "cached, from, where, order, desc, offset, limit, select, ids, count, true, false, none, default"
+  if (kind[2] == "word" && index(" " words ",", " " part[2] ","))
+    bad_part(n, "reserved", 2, quoted(part[2]) " is a reserved word, as are " words)
 }
 
 # ---- declarations
 
-function entity_line(n,  e, fine, low, high) {
+function entity_line(n,  e, fine) {
   e = ++entities
   fine = has_form(n)
   name_of[e] = part[2]
   open = e
   if (kind[2] != "word" || count < 2) { unsure["entity"] = more = 1; return }
   if (fine && entities > 64) bad_part(n, "many-entities", 1, "there may be 64 entities")
-  if (part[2] in entity_at) bad_part(n, "entity-taken", 2, "an entity " quoted(part[2]) " is there since line " line_of[entity_at[part[2]]])
+  if (part[2] in entity_at) is_there(n, "entity-taken", "an entity", line_of[entity_at[part[2]]])
   else { entity_at[part[2]] = e; names["entity"] = names["entity"] " " part[2] }
   line_of[e] = n
   versioned[e] = fine ? part[4] == "versioned" : "?"
   strategy[e] = part[3]
   if (!fine) return
-  if (part[3] !~ /^(none|read-only|nonstrict|read-write)$/) {
-    if (kind[3] == "word") bad_part(n, "strategy", 3, quoted(part[3]) " is no strategy; the strategies are none, read-only, nonstrict, read-write" or_near(part[3], "none read-only nonstrict read-write"))
-  } else if (kind[5] == "number") {
-    low = high = 0
-    if (part[3] != "none") { low = 1; high = 100000 }
-    if (part[5] + 0 < low || part[5] + 0 > high) bad_part(n, "capacity", 5, "with the strategy " part[3] " the capacity is " (high ? low " to " high : 0))
-  }
-  if (follower[n] != "column") bad_part(n, "no-columns", count + 1, "a line `column NAME TYPE` has to follow" or_near(follower[n], "column"))
+  check_strategy(n)
+  if (follower[n] != "column")
+    bad_part(n, "no-columns", count + 1, "a line `column NAME TYPE` has to follow" or_near(follower[n], "column"))
   check_reserved(n)
 }
+
+function check_strategy(n,  text) {
+  text = "with the strategy " part[3] " the capacity is "
+  if (kind[3] != "word") return
+  if (part[3] !~ /^(none|read-only|nonstrict|read-write)$/) {
+    text = quoted(part[3]) " is no strategy; the strategies are none, read-only, nonstrict, read-write"
+    bad_part(n, "strategy", 3, text or_near(part[3], "none read-only nonstrict read-write"))
+  } else if (kind[5] != "number") return
+  else if (part[3] == "none" && part[5] != "0") bad_part(n, "capacity", 5, text "0")
+  else if (part[3] != "none" && (part[5] + 0 < 1 || part[5] + 0 > 100000)) bad_part(n, "capacity", 5, text "1 to 100000")
+}
+
+# The declared name is there since another line.
+function is_there(n, which, what, since_line) { bad_part(n, which, 2, what " " quoted(part[2]) " is there since line " since_line) }
 
 function or_near(name, names,  found) {
   found = name == "" ? "" : near(name, names)
@@ -197,10 +219,9 @@ function or_near(name, names,  found) {
 }
 
 # column NAME TYPE, and perhaps default CELL.
-function column_line(n, e,  i, c, type, usual, fine) {
+function column_line(n, e,  i, c, type, fine) {
   form_again = "column NAME TYPE default CELL"
-  fine = fits(n, 2, "NAME")
-  if (fine && !is_kind(3, "word")) { fine = 0; bad_part(n, "words", 3, 3 > count ? "the type is missing: int, text, bool or ref ENTITY" : "a type is wanted: int, text, bool or ref ENTITY") }
+  fine = fits(n, 2, "NAME") && fits(n, 3, "TYPE")
   i = 4
   if (fine && is_the(3, "ref")) { fine = fits(n, 4, "ENTITY"); i = 5 }
   if (fine && i <= count && kind[i] != "?") {
@@ -210,16 +231,18 @@ function column_line(n, e,  i, c, type, usual, fine) {
   }
   if (!fine || kind[2] != "word") { loose[e] = 1; more = 1; return }
   if (columns[e] >= 16) bad_part(n, "many-columns", 1, "an entity may have 16 columns")
-  if ((e, part[2]) in column_at) { bad_part(n, "column-taken", 2, name_of[e] " has a column " quoted(part[2]) " since line " column_line_of[e, part[2]]); return }
+  if ((e, part[2]) in column_at) {
+    bad_part(n, "column-taken", 2, name_of[e] " has a column " quoted(part[2]) " since line " column_line_of[e, part[2]])
+    return
+  }
   type = part[3]
   c = ++columns[e]
   if (type == "ref") {
     type = "ref " part[4]
     target[e, c] = part[4] == name_of[e] ? e : entity_in(n, 4)
-  } else if (type !~ /^(int|text|bool)$/ && kind[3] == "word") {
-    usual = tolower(type) ~ /^(integer|long|short|byte|number|bigint)$/ ? "int" : tolower(type) ~ /^(string|varchar|char)$/ ? "text" : tolower(type) ~ /^bool/ ? "bool" : near(type, "int text bool ref")
-    bad_part(n, "column-type", 3, quoted(type) " is no type; the types are int, text, bool, ref ENTITY" (usual == "" ? "" : "; near: " usual))
-  }
+  } else if (type !~ /^(int|text|bool)$/ && kind[3] == "word")
+    bad_part(n, "column-type", 3, quoted(type) " is no type; the types are int, text, bool, ref ENTITY" \
+      or_near(usual_type(type), "int text bool ref"))
   column_name[e, c] = part[2]
   column_type[e, c] = type
   column_at[e, part[2]] = c
@@ -228,16 +251,22 @@ function column_line(n, e,  i, c, type, usual, fine) {
   check_reserved(n)
 }
 
-function check_default(n, i, e, c,  type) {
+# A type as it is called elsewhere.
+function usual_type(type) {
+  type = tolower(type)
+  if (type ~ /^(integer|long|short|byte|number|bigint)$/) return "int"
+  if (type ~ /^(string|varchar|char)$/) return "text"
+  return type ~ /^bool/ ? "bool" : type
+}
+
+function check_default(n, i, e, c) {
   if (i > count) {
     if (defaults[e]) bad_part(n, "default", count + 1, "a column after one with a default has a default, too")
     return
   }
   defaults[e] = 1
-  type = column_type[e, c]
-  if (kind[i + 1] == "?" || type !~ /^(int|text|bool|ref .*)$/) return
-  if (type == "text" ? kind[i + 1] != "text" : type == "bool" ? kind[i + 1] != "word" : kind[i + 1] != "number")
-    bad_part(n, "default", i + 1, (type == "text" ? "a text" : type == "bool" ? "true or false" : "a number") " is wanted, since the column's type is " type)
+  if (!is_of(i + 1, column_type[e, c]))
+    bad_part(n, "default", i + 1, cell_of(column_type[e, c]) " is wanted, since the column's type is " column_type[e, c])
 }
 
 # row ENTITY ID vN CELL .., or without a version.
@@ -248,7 +277,11 @@ function row_line(n,  e, at) {
   if (e && versioned[e] == "0") form_of_line = "row ENTITY ID CELL .."
   if (!e) form_again = "row ENTITY ID CELL .."
   if (e ? versioned[e] == "1" : is_version(4)) {
-    if (!is_version(4)) { bad_part(n, "words", 4, 4 > count ? "the version is missing, such as v0, since " name_of[e] " is versioned" : "a version such as v0 is wanted, since " name_of[e] " is versioned"); return }
+    if (!is_version(4)) {
+      bad_part(n, "words", 4, (4 > count ? "the version is missing, such as v0" : "a version such as v0 is wanted") \
+        ", since " name_of[e] " is versioned")
+      return
+    }
     at = 5
   }
   if (versioned[e] == "?" && is_version(4)) at = 5
@@ -257,7 +290,8 @@ function row_line(n,  e, at) {
     if ((e, part[3]) in row_at) bad_part(n, "taken", 3, "the row " part[2] " " part[3] " is there since line " row_at[e, part[3]])
     else { row_at[e, part[3]] = n; if (++rows > 10000) bad_part(n, "many", 1, "there may be 10000 rows") }
   }
-  if (at == 5 && kind[4] == "word" && (length(part[4]) > 8 || substr(part[4], 2) + 0 > 1000000)) bad_part(n, "number", 4, "a version is v0 to v1000000")
+  if (at == 5 && kind[4] == "word" && (length(part[4]) > 8 || substr(part[4], 2) + 0 > 1000000))
+    bad_part(n, "number", 4, "a version is v0 to v1000000")
   are_typed(n, at, e)
 }
 

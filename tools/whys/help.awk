@@ -22,12 +22,10 @@ function print_first(  n, i) {
 
 function print_help(  i) {
   i = note_of(line, said)
-  if (!i) { print "at 0 0" } else {
-    print "at " note_at[line, i], note_size[line, i]
-    print "here: " note_text[line, i]
-    if (said ~ /^(token|words)$/) print_forms()
-    if (said == "line" && (line in may_told)) print "may begin a line here: " (may_told[line] == "" ? "none" : may_told[line])
-  }
+  print "at " (i ? note_at[line, i] " " note_size[line, i] : "0 0")
+  if (i) print "here: " note_text[line, i]
+  if (said ~ /^(token|words)$/) print_forms()
+  if (i && said == "line" && (line in may_told)) print "may begin a line here: " (may_told[line] == "" ? "none" : may_told[line])
   print_others()
 }
 

@@ -13,7 +13,7 @@ function apart(a, b,  i, j, cost, d, best) {
     for (j = 1; j <= length(b); j++) {
       cost = substr(a, i, 1) != substr(b, j, 1)
       best = least(least(d[i - 1, j] + 1, d[i, j - 1] + 1), d[i - 1, j - 1] + cost)
-      if (i > 1 && j > 1 && substr(a, i, 1) == substr(b, j - 1, 1) && substr(a, i - 1, 1) == substr(b, j, 1)) best = least(best, d[i - 2, j - 2] + 1)
+      if (i > 1 && j > 1 && substr(a, i, 1) substr(a, i - 1, 1) == substr(b, j - 1, 2)) best = least(best, d[i - 2, j - 2] + 1)
       d[i, j] = best
     }
   return least(d[length(a), length(b)], 3)

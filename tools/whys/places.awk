@@ -119,10 +119,12 @@ function meant(word,  may, found) {
 function instead(word,  w) {
   w = tolower(word)
   if (word ~ /^(hib)$/) return "`hib 1` stands once, at the front"
-  if (word ~ /^(collections|bulk|nodes)$/) return quoted(word) " alone on a line begins a section, which `hib " (word == "collections" ? "collect" : word) "` reads behind the script"
+  if (word ~ /^(collections|bulk|nodes)$/)
+    return quoted(word) " alone on a line begins a section, which `hib " (word == "collections" ? "collect" : word) "` reads behind the script"
   if (word == "journal") return "the line `journal` and what follows is for `hib audit` alone"
   if (place == "session") {
-    if (w ~ /^(begin|start|transaction)$/) return "nothing begins a transaction: it begins with the session, and anew behind each commit or rollback"
+    if (w ~ /^(begin|start|transaction)$/)
+      return "nothing begins a transaction: it begins with the session, and anew behind each commit or rollback"
     if (w ~ /^(update|put|change|modify)$/) return "write `set ENTITY ID COL CELL ..`"
     if (w ~ /^(insert|create|save|add|new)$/) return "write `persist ENTITY ID CELL ..`"
     if (w ~ /^(delete|drop)$/) return "write `remove ENTITY ID`"
@@ -215,7 +217,7 @@ function session_line(n) {
   if (session_name == "") unsure["session"] = more = 1
   if (!has_form(n)) return
   if (session_name == "") return
-  if (session_name in session_at) bad_part(n, "taken", 2, "a session " quoted(session_name) " is there since line " session_at[session_name])
+  if (session_name in session_at) is_there(n, "taken", "a session", session_at[session_name])
   else { session_at[session_name] = n; names["session"] = names["session"] " " session_name }
   if (++sessions > 1000) bad_part(n, "many", 1, "there may be 1000 sessions")
   check_reserved(n)
@@ -223,7 +225,10 @@ function session_line(n) {
 
 # ---- within a session or the schedule
 
-function open_block() { return place == "schedule" ? "the schedule of line " since : "the session " (session_name == "" ? "" : quoted(session_name) " ") "of line " since }
+function open_block() {
+  if (place == "schedule") return "the schedule of line " since
+  return "the session " (session_name == "" ? "" : quoted(session_name) " ") "of line " since
+}
 
 # A line of a part within a block, whose end was forgotten.
 function unended(n) {

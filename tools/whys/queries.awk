@@ -4,8 +4,9 @@ function query_line(n,  e, name) {
   name = part[2]
   if (!fits(n, 2, "NAME")) { unsure["query"] = more = 1; return }
   if (kind[2] == "word") {
-    if (name in query_at) bad_part(n, "taken", 2, "a query " quoted(name) " is there since line " query_at[name])
-    else { query_at[name] = n; names["query"] = names["query"] " " name; if (++queries > 1000) bad_part(n, "many", 1, "there may be 1000 queries") }
+    if (name in query_at) is_there(n, "taken", "a query", query_at[name])
+    else { query_at[name] = n; names["query"] = names["query"] " " name }
+    if (++queries > 1000) bad_part(n, "many", 1, "there may be 1000 queries")
     check_reserved(n)
   } else unsure["query"] = more = 1
   q = is_the(3, "cached") ? 4 : 3
@@ -41,10 +42,10 @@ function clauses(n, e,  sorted, offset, limit) {
   }
   if (!is_the(q, "select")) { no_clause(n, sorted, offset, limit); return }
   q++
-  if (is_the(q, "count") && (sorted || offset || limit)) { bad_part(n, "words", q, "with `count` there is no order, offset or limit"); return }
-  if (!is_kind(q, "word")) { bad_part(n, "words", q, q > count ? "ids, count or a column is missing" : "ids, count or a column is wanted"); return }
-  if (!is_over(n, q + 1, "; one column is selected")) return
-  if (!is_the(q, "ids") && !is_the(q, "count") && kind[q] == "word") column_in(n, q, e, part[q])
+  if (is_the(q, "count") && (sorted || offset || limit)) bad_part(n, "words", q, "with `count` there is no order, offset or limit")
+  else if (!is_kind(q, "word")) bad_part(n, "words", q, "ids, count or a column is " (q > count ? "missing" : "wanted"))
+  else if (!is_over(n, q + 1, "; one column is selected")) return
+  else if (!is_the(q, "ids") && !is_the(q, "count") && kind[q] == "word") column_in(n, q, e, part[q])
 }
 
 function is_clause(i) { return is_the(i, "offset") || is_the(i, "limit") || is_the(i, "select") }
@@ -53,7 +54,8 @@ function no_clause(n, sorted, offset, limit,  text) {
   text = limit ? "select" : offset ? "limit or select" : sorted ? "offset, limit or select" : "order, offset, limit or select"
   if (q > count) { bad_part(n, "words", q, text " is missing; a query ends with select ids, select count or select COL"); return }
   if (part[q] == "where") text = "`where COND` stands before order, offset and limit"
-  else if (part[q] ~ /^(order|offset|limit)$/) text = quoted(part[q]) " stands before what is before it; the order is where, order, offset, limit, select"
+  else if (part[q] ~ /^(order|offset|limit)$/)
+    text = quoted(part[q]) " stands elsewhere: the parts come as where, order, offset, limit, select"
   else {
     text = text " is wanted"
     if (kind[q] == ")") text = text "; a parenthesis is closed that wasn't opened"
@@ -79,7 +81,7 @@ function condition(n, e, depth,  op) {
   if (depth > 16) bad_part(n, "depth", q, "conditions may be nested 16 deep")
   op = ++q <= count ? part[q] : ""
   if (kind[q] != "word" || op !~ /^(and|or|not|eq|ne|lt|le|gt|ge|in)$/)
-    return no_condition(n, q > count ? "and, or, not, eq, ne, lt, le, gt, ge or in is missing" : "and, or, not, eq, ne, lt, le, gt, ge or in is wanted: the test stands first, as in (eq stock 1)")
+    return no_condition(n, "and, or, not, eq, ne, lt, le, gt, ge or in is " (q > count ? "missing" : "wanted: the test stands first, as in (eq stock 1)"))
   q++
   if (op ~ /^(and|or)$/) {
     if (!condition(n, e, depth + 1) || !condition(n, e, depth + 1)) return 0
@@ -96,7 +98,8 @@ function closes(n, why) {
 
 # A test of the column or path in the next part by the cells behind it.
 function test(n, e, op,  at, c, last, from) {
-  if (!is_kind(q, "word") && !is_kind(q, "path")) return no_condition(n, q > count ? "the column is missing" : "a column is wanted, or a path as in `shelf.room`")
+  if (!is_kind(q, "word") && !is_kind(q, "path"))
+    return no_condition(n, q > count ? "the column is missing" : "a column is wanted, or a path as in `shelf.room`")
   at = q++
   from = q
   while (is_cell(q) && (op == "in" || q == from)) q++

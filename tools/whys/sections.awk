@@ -46,7 +46,7 @@ function section_part(n,  w, words) {
 
 # A name that a line of the section declares.
 function section_name(n, what) {
-  if (part[2] in section_at) bad_part(n, "taken", 2, "a " what " " quoted(part[2]) " is there since line " section_at[part[2]])
+  if (part[2] in section_at) is_there(n, "taken", "a " what, section_at[part[2]])
   else section_at[part[2]] = n
 }
 
@@ -74,7 +74,7 @@ function bulk_line(n,  e, past) {
   if (past <= count && !is_the(past, "where")) { bad_part(n, "words", past, "`where`, or the line's end, is wanted"); return }
   e = entity_in(n, 3)
   if (past <= count) { q = past + 1; if (!condition(n, e, 1) || !is_over(n, q, "")) return }
-  if (part[2] in session_at) bad_part(n, "taken", 2, "a session " quoted(part[2]) " is there since line " session_at[part[2]])
+  if (part[2] in session_at) is_there(n, "taken", "a session", session_at[part[2]])
   else section_name(n, "line")
   if (part[1] == "update") check_pairs(n, 5, past, e)
   if (++bulk_lines > 100) bad_part(n, "many", 1, "there may be 100 lines")
@@ -83,9 +83,11 @@ function bulk_line(n,  e, past) {
 # What a script with a section may not have.
 function check_for_section(n,  w) {
   w = section_line ? lines[section_line] : ""
-  if (w == "collections" && place == "schedule" && part[1] ~ /^(kill|evict|restart)$/) bad_part(n, "order", 1, "a schedule before collections has `run` alone")
+  if (w == "collections" && place == "schedule" && part[1] ~ /^(kill|evict|restart)$/)
+    bad_part(n, "order", 1, "a schedule before collections has `run` alone")
   if (w != "bulk" && w != "nodes") return
-  if (part[1] == "entity" && part[3] ~ /^(read-only|nonstrict)$/) bad_part(n, "strategy", 3, "`hib " w "` takes the strategies none and read-write alone")
+  if (part[1] == "entity" && part[3] ~ /^(read-only|nonstrict)$/)
+    bad_part(n, "strategy", 3, "`hib " w "` takes the strategies none and read-write alone")
   if (part[1] == "query" && is_the(3, "cached")) bad_part(n, "cached", 3, "`hib " w "` takes no cached query")
   if (part[1] == "schedule" && place == "behind") bad_part(n, "order", 1, "the schedule stands in the section, behind the line `" w "`")
 }

@@ -96,13 +96,15 @@ function bare_help(what, at,  odd) {
     odd = what (what ~ /[.][0-9]$/ ? "0" : "")
     sub(/[.]/, "", odd)
     sub(/^0+/, "", odd)
-    return quoted(what) ": numbers have no point; count " (what ~ /[.][0-9]?[0-9]$/ ? "cents, for example, " (odd == "" ? "0" : odd) : "in a smaller unit")
+    if (odd == "") odd = 0
+    return quoted(what) ": numbers have no point; count " (what ~ /[.][0-9]?[0-9]$/ ? "cents, for example, " odd : "in a smaller unit")
   }
   if (what ~ /^(=|==|<|<=|>|>=|!=|<>)$/) return compared_help(what)
   if (what == "*") return "`*`: select ids gives the identifiers, select count their number, select COL a column"
   if (what ~ /;$/) return quoted(what) ": no `;` ends a line"
   if (what ~ /,$/) return quoted(what) ": no comma stands between parts, but a space"
-  if (what ~ /^-?[1-9][0-9]*$/) return quoted(what) (what ~ /^-/ ? " is below -9223372036854775808, the least number" : " is above 9223372036854775807, the greatest number")
+  if (what ~ /^[1-9][0-9]*$/) return quoted(what) " is above 9223372036854775807, the greatest number"
+  if (what ~ /^-[1-9][0-9]*$/) return quoted(what) " is below -9223372036854775808, the least number"
   if (what ~ /^-?0[0-9]+$/ || what == "-0") return quoted(what) ": a number other than 0 doesn't begin with 0, and 0 has no sign"
   if (what ~ /^[+][0-9]+$/) return quoted(what) ": no `+` stands before a number"
   if (what ~ /"/) return quoted(what) ": a quotation mark stands in it; a space stands before a text"
@@ -111,7 +113,9 @@ function bare_help(what, at,  odd) {
   odd = what
   gsub(/[A-Za-z0-9_.-]/, "", odd)
   if (odd != "") return quoted(substr(odd, 1, 1)) " can't stand in " quoted(what) "; " word_help()
-  if (what ~ /^[0-9]/) return quoted(what) " begins with a digit and is no number; " (part[1] ~ /^(session|query|entity|column)$/ && count == 1 ? word_help() : "an identifier is a number")
+  if (what ~ /^[0-9]/ && count == 1 && part[1] ~ /^(session|query|entity|column)$/)
+    return quoted(what) " begins with a digit and is no number; " word_help()
+  if (what ~ /^[0-9]/) return quoted(what) " begins with a digit and is no number; an identifier is a number"
   if (what ~ /^[A-Za-z][A-Za-z0-9_-]*$/) return "the word has " length(what) " bytes, and may have 32"
   return quoted(what) ": " word_help()
 }
@@ -173,7 +177,9 @@ function printable(text) {
 
 function byte_help(rest, is_last) {
   if (rest ~ /^\t/) return "a tab; spaces stand between the parts of a line"
-  if (rest ~ /^\r/) return is_last ? "the line ends with a return and a line feed" (returns > 1 ? ", as " returns " lines do" : "") "; `tr -d '\\r'` takes the returns away" : "a return"
+  if (rest ~ /^\r/ && !is_last) return "a return"
+  if (rest ~ /^\r/) return "the line ends with a return and a line feed" (returns > 1 ? ", as " returns " lines do" : "") \
+    "; `tr -d '\\r'` takes the returns away"
   if (rest ~ /^\357\273\277/) return "a byte-order mark; the file has to be saved without one"
   if (rest ~ /^\342\200[\234-\237]/) return "a curved quotation mark; a text stands between two of \""
   if (rest ~ /^\302\240/) return "a space that doesn't break; an ordinary space is wanted"
