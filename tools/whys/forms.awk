@@ -103,10 +103,11 @@ function are_cells(n, i, e) {
 
 # ---- names
 
-# What is said of a name that isn't there; `which` is entity, query or session.
+# What is said of a name that isn't there; `which` is entity, query or session. Of a name it is said once, and of the refused line.
 function no_name(n, i, which,  text, name, all) {
   name = part[i]
   if (unsure[which]) { more = 1; return 0 }
+  if (told_name[which, name]++ && n != line && !only) return 0
   text = "there is no " which " " quoted(name)
   all = which == "entity" ? "the entities are" : which == "query" ? "the queries are" : "the sessions are"
   if ((which, name) in below && below[which, name] > n)
@@ -142,6 +143,7 @@ function columns_of(e,  i, out) {
 function column_in(n, i, e, name,  c, all, text) {
   if ((e, name) in column_at) return column_at[e, name]
   if (!e || loose[e]) { more = 1; return 0 }
+  if (told_name[e, name]++ && n != line && !only) return 0
   for (c = 1; c <= columns[e]; c++) all = all " " column_name[e, c]
   text = "there is no column " quoted(name) (name == "by" ? "; write `order COL`" : "") or_near(name, all)
   bad_part(n, "unknown", i, text "; " columns_of(e))
@@ -187,15 +189,22 @@ function entity_line(n,  e, fine) {
   open = e
   if (kind[2] != "word" || count < 2) { unsure["entity"] = more = 1; return }
   if (fine && entities > 64) bad_part(n, "many-entities", 1, "there may be 64 entities")
-  if (part[2] in entity_at) is_there(n, "entity-taken", "an entity", line_of[entity_at[part[2]]])
-  else { entity_at[part[2]] = e; names["entity"] = names["entity"] " " part[2] }
+  if (part[2] in entity_at) {
+    is_there(n, "entity-taken", "an entity", line_of[entity_at[part[2]]])
+    loose[entity_at[part[2]]] = 1
+  } else {
+    entity_at[part[2]] = e
+    names["entity"] = names["entity"] " " part[2]
+  }
   line_of[e] = n
   versioned[e] = fine ? part[4] == "versioned" : "?"
   strategy[e] = part[3]
   if (!fine) return
   check_strategy(n)
-  if (follower[n] != "column")
+  if (follower[n] != "column") {
+    loose[e] = 1
     bad_part(n, "no-columns", count + 1, "a line `column NAME TYPE` has to follow" or_near(follower[n], "column"))
+  }
   check_reserved(n)
 }
 

@@ -164,12 +164,14 @@ function is_among(word, words) { return index(" " words " ", " " word " ") > 0 }
 
 function behind(n,  p, w) {
   w = part[1]
-  if (w != "column" && !is_part(w) && !stray_word(n) && !strange(n)) return
+  if (w != "column" && !is_part(w) && !stray_word(n) && !strange(n)) {
+    if (open) loose[open] = 1
+    return
+  }
   w = part[1]
   if (w == "column") {
-    stray = 0
-    if (open) column_line(n, open)
-    else misplaced(n, "`column` stands behind its entity, before any other line")
+    if (open) { stray = 0; column_line(n, open) }
+    else if (!stray || only) { stray = 1; misplaced(n, "`column` stands behind its entity, before any other line") }
     return
   }
   if (!is_part(w)) return

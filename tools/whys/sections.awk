@@ -39,7 +39,9 @@ function section_part(n,  w, words) {
   if (w ~ /^(run|deliver)$/ && ++orders > 20000) bad_part(n, "many", 1, "there may be 20000 orders")
   if (w == "deliver") is_within(n, 2, 1, 2, "a node")
   if (w == "run") {
-    if (!(part[2] in session_at) && !(part[2] in section_at)) no_name(n, 2, "session")
+    if (!(part[2] in session_at) && !index(bulk_names " ", " " part[2] " "))
+      bad_part(n, "unknown", 2, "there is no session " (section == "bulk" ? "or bulk line " : "") quoted(part[2]) \
+        known("there are", part[2], names["session"] bulk_names))
     is_within(n, 3, 1, 1000000, "the number of steps")
   }
 }
@@ -63,7 +65,9 @@ function collection_line(n,  e, c) {
 }
 
 function bulk_line(n,  e, past) {
-  if (!fits(n, 2, "NAME") || !fits(n, 3, "ENTITY")) return
+  if (!fits(n, 2, "NAME")) return
+  bulk_names = bulk_names " " part[2]
+  if (!fits(n, 3, "ENTITY")) return
   past = 4
   if (part[1] == "update") {
     if (!is_the(4, "set")) { bad_part(n, "words", 4, 4 > count ? "`set` is missing" : "`set` is wanted"); return }
