@@ -231,6 +231,7 @@ function or_near(name, names,  found) {
 function column_line(n, e,  i, c, type, fine) {
   form_again = "column NAME TYPE default CELL"
   fine = fits(n, 2, "NAME") && fits(n, 3, "TYPE")
+  if (fine && is_the(3, "default") && count == 4) { fine = 0; bad_part(n, "words", 3, missing["TYPE"]) }
   i = 4
   if (fine && is_the(3, "ref")) { fine = fits(n, 4, "ENTITY"); i = 5 }
   if (fine && i <= count && kind[i] != "?") {
