@@ -6,7 +6,7 @@ use Rattle.std.specs.Str.Parse.{digits_value}
 use Rattle.hib_words.specs.Given.{Text, options_in}
 use Rattle.hib_words.specs.declared.words.Command.{Command}
 use Rattle.hib_words.specs.declared.forms.Verb.{Verb}
-use Rattle.hib_words.specs.declared.forms.Verb.TheVariants.{Play, Work, Make, Audit, Collect, Bulk, Nodes}
+use Rattle.hib_words.specs.declared.forms.Verb.TheVariants.{Play, Work, Make, Audit, Collect, Bulk, Nodes, Orders, Report}
 use Rattle.hib_words.specs.Commands.{Asked, Chosen, play, work, make, asked, chosen_in, command, form_of, settings_in, asked_of, is_numeral, number_between, verb_named}
 use Rattle.hib_top.specs.Words.{HasFew}
 
@@ -50,6 +50,8 @@ asked_few Audit chosen = tt
 asked_few Collect chosen = tt
 asked_few Bulk chosen = tt
 asked_few Nodes chosen = tt
+asked_few Orders chosen = tt
+asked_few Report chosen = tt
 
 command_few : (words : List Text) → IfSome (command words) HasFew
 command_few [] = tt
