@@ -6,6 +6,7 @@ mod fields;
 mod lines;
 mod sending;
 
+pub use escapes::put_quoted;
 pub use fields::{Line, read_line};
 pub use lines::{put_line, write};
 pub use sending::send;

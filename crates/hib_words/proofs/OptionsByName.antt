@@ -1,7 +1,8 @@
 -- The getters give what the words gave.
-use Rattle.std.proofs.Common.{◌≡◌, ◌∙◌, Bool, cond, true, false, refl, sym, ap, Option, Some, None, true≢false}
+use Rattle.std.proofs.Common.{◌≡◌, ◌∙◌, Bool, cond, true, false, List, [], ◌∷◌, refl, sym, ap, Option, Some, None, true≢false}
 use Rattle.std.specs.Borrow.{Bor}
-use Rattle.std.specs.Prelude.{codes, not, option_map}
+use Rattle.std.specs.Prelude.{codes, not, option_map, ◌&&◌}
+use Rattle.std.specs.List.{list_all}
 use Rattle.std.specs.Option.{option_map_or}
 use Rattle.clap.specs.Matches.{first_value, found_of, one_text}
 use Rattle.clap.specs.Walk.{first_of, one_of, rows_of}
@@ -13,7 +14,7 @@ use Rattle.hib_words.specs.Commands.{Chosen, chosen_in, form_of, word_of}
 use Rattle.hib_words.specs.Matched.{HoldsGiven, IsProper}
 use Rattle.hib_words.specs.declared.forms.OptionName.TheVariants as name
 use Rattle.hib_words.specs.declared.forms.Verb.{Verb}
-use Rattle.hib_words.specs.declared.forms.Verb.TheVariants.{Play, Work, Make, Audit, Collect, Bulk, Nodes, Orders, Report}
+use Rattle.hib_words.specs.declared.forms.Verb.TheVariants.{Play, Work, Make, Audit, Collect, Bulk, Nodes, Orders, Report, Flat, Schedule, Spans, Rows}
 use Rattle.hib_words.proofs.Getters.{has_flag, flag_given, flag_not_given, value_given}
 
 -- what `get_flag` and `get_str` ensure
@@ -53,128 +54,101 @@ not_valued o is e = true≢false (sym (ap (λ (o : Option Bool). option_map_or n
 not_flagged : (o : Option Bool) → option_map_or (λ b. b) o true ≡ true → o ≡ Some false → ⊥
 not_flagged o is e = true≢false (sym (ap (λ (o : Option Bool). option_map_or (λ b. b) o true) (sym e) ∙ is))
 
+-- ---- a test that each form passes
+
+abbrev on_all : (Verb → Bool) → Bool
+on_all p = list_all p (Play ∷ Work ∷ Make ∷ Audit ∷ Collect ∷ Bulk ∷ Nodes ∷ Orders ∷ Report ∷ Flat ∷ Schedule ∷ Spans ∷ Rows ∷ [])
+
+part : {A : Type 0} (p : A → Bool) (a : A) (rest : List A) → list_all p (a ∷ rest) ≡ true → (p a ≡ true) × (list_all p rest ≡ true)
+part p a rest e = both (p a) (list_all p rest) e
+  where
+    both : (x y : Bool) → (x && y) ≡ true → (x ≡ true) × (y ≡ true)
+    both true y q = (refl, q)
+    both false y q = absurd (true≢false (sym q))
+
+each : (p : Verb → Bool) → on_all p ≡ true → (v : Verb) → p v ≡ true
+each p e v = go v
+  where
+    after1 : (p Play ≡ true) × (list_all p (Work ∷ Make ∷ Audit ∷ Collect ∷ Bulk ∷ Nodes ∷ Orders ∷ Report ∷ Flat ∷ Schedule ∷ Spans ∷ Rows ∷ []) ≡ true)
+    after1 = part p Play (Work ∷ Make ∷ Audit ∷ Collect ∷ Bulk ∷ Nodes ∷ Orders ∷ Report ∷ Flat ∷ Schedule ∷ Spans ∷ Rows ∷ []) e
+
+    after2 : (p Work ≡ true) × (list_all p (Make ∷ Audit ∷ Collect ∷ Bulk ∷ Nodes ∷ Orders ∷ Report ∷ Flat ∷ Schedule ∷ Spans ∷ Rows ∷ []) ≡ true)
+    after2 = part p Work (Make ∷ Audit ∷ Collect ∷ Bulk ∷ Nodes ∷ Orders ∷ Report ∷ Flat ∷ Schedule ∷ Spans ∷ Rows ∷ []) after1.1
+
+    after3 : (p Make ≡ true) × (list_all p (Audit ∷ Collect ∷ Bulk ∷ Nodes ∷ Orders ∷ Report ∷ Flat ∷ Schedule ∷ Spans ∷ Rows ∷ []) ≡ true)
+    after3 = part p Make (Audit ∷ Collect ∷ Bulk ∷ Nodes ∷ Orders ∷ Report ∷ Flat ∷ Schedule ∷ Spans ∷ Rows ∷ []) after2.1
+
+    after4 : (p Audit ≡ true) × (list_all p (Collect ∷ Bulk ∷ Nodes ∷ Orders ∷ Report ∷ Flat ∷ Schedule ∷ Spans ∷ Rows ∷ []) ≡ true)
+    after4 = part p Audit (Collect ∷ Bulk ∷ Nodes ∷ Orders ∷ Report ∷ Flat ∷ Schedule ∷ Spans ∷ Rows ∷ []) after3.1
+
+    after5 : (p Collect ≡ true) × (list_all p (Bulk ∷ Nodes ∷ Orders ∷ Report ∷ Flat ∷ Schedule ∷ Spans ∷ Rows ∷ []) ≡ true)
+    after5 = part p Collect (Bulk ∷ Nodes ∷ Orders ∷ Report ∷ Flat ∷ Schedule ∷ Spans ∷ Rows ∷ []) after4.1
+
+    after6 : (p Bulk ≡ true) × (list_all p (Nodes ∷ Orders ∷ Report ∷ Flat ∷ Schedule ∷ Spans ∷ Rows ∷ []) ≡ true)
+    after6 = part p Bulk (Nodes ∷ Orders ∷ Report ∷ Flat ∷ Schedule ∷ Spans ∷ Rows ∷ []) after5.1
+
+    after7 : (p Nodes ≡ true) × (list_all p (Orders ∷ Report ∷ Flat ∷ Schedule ∷ Spans ∷ Rows ∷ []) ≡ true)
+    after7 = part p Nodes (Orders ∷ Report ∷ Flat ∷ Schedule ∷ Spans ∷ Rows ∷ []) after6.1
+
+    after8 : (p Orders ≡ true) × (list_all p (Report ∷ Flat ∷ Schedule ∷ Spans ∷ Rows ∷ []) ≡ true)
+    after8 = part p Orders (Report ∷ Flat ∷ Schedule ∷ Spans ∷ Rows ∷ []) after7.1
+
+    after9 : (p Report ≡ true) × (list_all p (Flat ∷ Schedule ∷ Spans ∷ Rows ∷ []) ≡ true)
+    after9 = part p Report (Flat ∷ Schedule ∷ Spans ∷ Rows ∷ []) after8.1
+
+    after10 : (p Flat ≡ true) × (list_all p (Schedule ∷ Spans ∷ Rows ∷ []) ≡ true)
+    after10 = part p Flat (Schedule ∷ Spans ∷ Rows ∷ []) after9.1
+
+    after11 : (p Schedule ≡ true) × (list_all p (Spans ∷ Rows ∷ []) ≡ true)
+    after11 = part p Schedule (Spans ∷ Rows ∷ []) after10.1
+
+    after12 : (p Spans ≡ true) × (list_all p (Rows ∷ []) ≡ true)
+    after12 = part p Spans (Rows ∷ []) after11.1
+
+    after13 : (p Rows ≡ true) × (list_all p [] ≡ true)
+    after13 = part p Rows [] after12.1
+
+    go : (v : Verb) → p v ≡ true
+    go Play = after1.0
+    go Work = after2.0
+    go Make = after3.0
+    go Audit = after4.0
+    go Collect = after5.0
+    go Bulk = after6.0
+    go Nodes = after7.0
+    go Orders = after8.0
+    go Report = after9.0
+    go Flat = after10.0
+    go Schedule = after11.0
+    go Spans = after12.0
+    go Rows = after13.0
+
+abbrev flag_in : Text → Verb → Bool
+flag_in id v = option_map_or not (takes_value (form_of v) id) true
+
+abbrev value_in : Text → Verb → Bool
+value_in id v = option_map_or (λ b. b) (takes_value (form_of v) id) true
+
+abbrev no_flag_in : Text → Verb → Bool
+no_flag_in id v = not (has_flag (form_of v) id)
+
 abbrev IsFlagName : Text → Type 0
-IsFlagName id = (v : Verb) → option_map_or not (takes_value (form_of v) id) true ≡ true
+IsFlagName id = on_all (flag_in id) ≡ true
 
 abbrev IsValueName : Text → Type 0
-IsValueName id = (v : Verb) → (option_map_or (λ b. b) (takes_value (form_of v) id) true ≡ true) × (has_flag (form_of v) id ≡ false)
+IsValueName id = (on_all (value_in id) ≡ true) × (on_all (no_flag_in id) ≡ true)
 
-journal_name : IsFlagName (word_of name.Journal)
-journal_name Play = refl
-journal_name Work = refl
-journal_name Make = refl
-journal_name Audit = refl
-journal_name Collect = refl
-journal_name Bulk = refl
-journal_name Nodes = refl
-journal_name Orders = refl
-journal_name Report = refl
-
-trace_name : IsFlagName (word_of name.Trace)
-trace_name Play = refl
-trace_name Work = refl
-trace_name Make = refl
-trace_name Audit = refl
-trace_name Collect = refl
-trace_name Bulk = refl
-trace_name Nodes = refl
-trace_name Orders = refl
-trace_name Report = refl
-
-split_name : IsFlagName (word_of name.Split)
-split_name Play = refl
-split_name Work = refl
-split_name Make = refl
-split_name Audit = refl
-split_name Collect = refl
-split_name Bulk = refl
-split_name Nodes = refl
-split_name Orders = refl
-split_name Report = refl
-
-text_name : IsFlagName (word_of name.Text)
-text_name Play = refl
-text_name Work = refl
-text_name Make = refl
-text_name Audit = refl
-text_name Collect = refl
-text_name Bulk = refl
-text_name Nodes = refl
-text_name Orders = refl
-text_name Report = refl
-
-file_name : IsValueName (word_of name.File)
-file_name Play = (refl, refl)
-file_name Work = (refl, refl)
-file_name Make = (refl, refl)
-file_name Audit = (refl, refl)
-file_name Collect = (refl, refl)
-file_name Bulk = (refl, refl)
-file_name Nodes = (refl, refl)
-file_name Orders = (refl, refl)
-file_name Report = (refl, refl)
-
-workers_name : IsValueName (word_of name.Workers)
-workers_name Play = (refl, refl)
-workers_name Work = (refl, refl)
-workers_name Make = (refl, refl)
-workers_name Audit = (refl, refl)
-workers_name Collect = (refl, refl)
-workers_name Bulk = (refl, refl)
-workers_name Nodes = (refl, refl)
-workers_name Orders = (refl, refl)
-workers_name Report = (refl, refl)
-
-seed_name : IsValueName (word_of name.Seed)
-seed_name Play = (refl, refl)
-seed_name Work = (refl, refl)
-seed_name Make = (refl, refl)
-seed_name Audit = (refl, refl)
-seed_name Collect = (refl, refl)
-seed_name Bulk = (refl, refl)
-seed_name Nodes = (refl, refl)
-seed_name Orders = (refl, refl)
-seed_name Report = (refl, refl)
-
-switches_name : IsValueName (word_of name.Switches)
-switches_name Play = (refl, refl)
-switches_name Work = (refl, refl)
-switches_name Make = (refl, refl)
-switches_name Audit = (refl, refl)
-switches_name Collect = (refl, refl)
-switches_name Bulk = (refl, refl)
-switches_name Nodes = (refl, refl)
-switches_name Orders = (refl, refl)
-switches_name Report = (refl, refl)
-
-at_most_name : IsValueName (word_of name.AtMost)
-at_most_name Play = (refl, refl)
-at_most_name Work = (refl, refl)
-at_most_name Make = (refl, refl)
-at_most_name Audit = (refl, refl)
-at_most_name Collect = (refl, refl)
-at_most_name Bulk = (refl, refl)
-at_most_name Nodes = (refl, refl)
-at_most_name Orders = (refl, refl)
-at_most_name Report = (refl, refl)
-
-show_name : IsValueName (word_of name.Show)
-show_name Play = (refl, refl)
-show_name Work = (refl, refl)
-show_name Make = (refl, refl)
-show_name Audit = (refl, refl)
-show_name Collect = (refl, refl)
-show_name Bulk = (refl, refl)
-show_name Nodes = (refl, refl)
-show_name Orders = (refl, refl)
-show_name Report = (refl, refl)
+not_true : (b : Bool) → not b ≡ true → b ≡ false
+not_true true e = absurd (true≢false (sym e))
+not_true false e = refl
 
 pub all_read : (v : Verb) (r : Option Given) (m : ArgMatches) → HoldsGiven (form_of v) r (Some m)
-    → (journal trace split text : Bool) (file workers seed switches at_most show : Option (Bor Text))
+    → (journal trace split text csv jaeger : Bool) (file workers seed switches at_most show kills : Option (Bor Text))
     → ReadsFlag m (word_of name.Journal) journal → ReadsFlag m (word_of name.Trace) trace → ReadsFlag m (word_of name.Split) split
-    → ReadsFlag m (word_of name.Text) text
+    → ReadsFlag m (word_of name.Text) text → ReadsFlag m (word_of name.Csv) csv → ReadsFlag m (word_of name.Jaeger) jaeger
     → ReadsValue m (word_of name.File) file → ReadsValue m (word_of name.Workers) workers → ReadsValue m (word_of name.Seed) seed
     → ReadsValue m (word_of name.Switches) switches → ReadsValue m (word_of name.AtMost) at_most → ReadsValue m (word_of name.Show) show
+    → ReadsValue m (word_of name.Kills) kills
     → ◌≡◌ {A = Option Chosen} (Some (record {
       journal = journal;
       trace = trace;
@@ -186,20 +160,27 @@ pub all_read : (v : Verb) (r : Option Given) (m : ArgMatches) → HoldsGiven (fo
       switches = option_map (λ s. s.now) switches;
       at_most = option_map (λ s. s.now) at_most;
       show = option_map (λ s. s.now) show;
+      kills = option_map (λ s. s.now) kills;
+      csv = csv;
+      jaeger = jaeger;
     })) (option_map chosen_in r)
-all_read v None m h journal trace split text file workers seed switches at_most show j t p x f w n r o k = cc
-all_read v (Some given) m h journal trace split text file workers seed switches at_most show j t p x f w n r o k =
-    let flag = λ (id : Text) (b : Bool) (is : IsFlagName id) (reads : ReadsFlag m id b). flag_read (form_of v) given m h.0 h.1 id b (not_valued _ (is v)) reads in
-    let value = λ (id : Text) (o : Option (Bor Text)) (is : IsValueName id) (reads : ReadsValue m id o). value_read (form_of v) given m h.0 h.1 id o (not_flagged _ (is v).0) (is v).1 reads in
+all_read v None m h journal trace split text csv jaeger file workers seed switches at_most show kills r0 r1 r2 r3 r4 r5 r6 r7 r8 r9 r10 r11 r12 = cc
+all_read v (Some given) m h journal trace split text csv jaeger file workers seed switches at_most show kills r0 r1 r2 r3 r4 r5 r6 r7 r8 r9 r10 r11 r12 =
+    let flag = λ (id : Text) (b : Bool) (is : IsFlagName id) (reads : ReadsFlag m id b). flag_read (form_of v) given m h.0 h.1 id b (not_valued _ (each (flag_in id) is v)) reads in
+    let value = λ (id : Text) (o : Option (Bor Text)) (is : IsValueName id) (reads : ReadsValue m id o).
+    value_read (form_of v) given m h.0 h.1 id o (not_flagged _ (each (value_in id) is.0 v)) (not_true _ (each (no_flag_in id) is.1 v)) reads in
     λ i. Some (record {
-      journal = flag (word_of name.Journal) journal journal_name j i;
-      trace = flag (word_of name.Trace) trace trace_name t i;
-      split = flag (word_of name.Split) split split_name p i;
-      text = flag (word_of name.Text) text text_name x i;
-      file = value (word_of name.File) file file_name f i;
-      workers = value (word_of name.Workers) workers workers_name w i;
-      seed = value (word_of name.Seed) seed seed_name n i;
-      switches = value (word_of name.Switches) switches switches_name r i;
-      at_most = value (word_of name.AtMost) at_most at_most_name o i;
-      show = value (word_of name.Show) show show_name k i;
+      journal = flag (word_of name.Journal) journal refl r0 i;
+      trace = flag (word_of name.Trace) trace refl r1 i;
+      split = flag (word_of name.Split) split refl r2 i;
+      text = flag (word_of name.Text) text refl r3 i;
+      file = value (word_of name.File) file (refl, refl) r6 i;
+      workers = value (word_of name.Workers) workers (refl, refl) r7 i;
+      seed = value (word_of name.Seed) seed (refl, refl) r8 i;
+      switches = value (word_of name.Switches) switches (refl, refl) r9 i;
+      at_most = value (word_of name.AtMost) at_most (refl, refl) r10 i;
+      show = value (word_of name.Show) show (refl, refl) r11 i;
+      kills = value (word_of name.Kills) kills (refl, refl) r12 i;
+      csv = flag (word_of name.Csv) csv refl r4 i;
+      jaeger = flag (word_of name.Jaeger) jaeger refl r5 i;
     })

@@ -10,7 +10,7 @@ use Rattle.hib_words.specs.Given.{Text, Form, Given, is_given, options_in, value
 use Rattle.hib_words.specs.declared.forms.OptionName.{OptionName}
 use Rattle.hib_words.specs.declared.forms.OptionName.TheVariants as name
 use Rattle.hib_words.specs.declared.forms.Verb.{Verb}
-use Rattle.hib_words.specs.declared.forms.Verb.TheVariants.{Play, Work, Make, Audit, Collect, Bulk, Nodes, Orders, Report}
+use Rattle.hib_words.specs.declared.forms.Verb.TheVariants.{Play, Work, Make, Audit, Collect, Bulk, Nodes, Orders, Report, Flat, Schedule, Spans, Rows}
 use Rattle.hib_words.specs.declared.words.Command.{Command}
 use Rattle.hib_words.specs.declared.words.Command.TheVariants as variant
 use Rattle.hib_words.specs.declared.words.Options.{Options}
@@ -28,6 +28,10 @@ verb_word Bulk = codes "bulk"
 verb_word Nodes = codes "nodes"
 verb_word Orders = codes "orders"
 verb_word Report = codes "report"
+verb_word Flat = codes "flat"
+verb_word Schedule = codes "schedule"
+verb_word Spans = codes "spans"
+verb_word Rows = codes "rows"
 
 abbrev pub word_of : OptionName → Text
 word_of name.Journal = codes "journal"
@@ -40,6 +44,9 @@ word_of name.Text = codes "text"
 word_of name.Switches = codes "switches"
 word_of name.AtMost = codes "at-most"
 word_of name.Show = codes "show"
+word_of name.Kills = codes "kills"
+word_of name.Csv = codes "csv"
+word_of name.Jaeger = codes "jaeger"
 
 abbrev pub is_valued : OptionName → Bool
 is_valued name.File = true
@@ -48,6 +55,7 @@ is_valued name.Seed = true
 is_valued name.Switches = true
 is_valued name.AtMost = true
 is_valued name.Show = true
+is_valued name.Kills = true
 is_valued _ = false
 
 abbrev pub options_of : Verb → List OptionName
@@ -58,8 +66,12 @@ options_of Audit = []
 options_of Collect = []
 options_of Bulk = []
 options_of Nodes = []
-options_of Orders = name.Switches ∷ name.AtMost ∷ name.Show ∷ []
+options_of Orders = name.Switches ∷ name.Kills ∷ name.AtMost ∷ name.Show ∷ []
 options_of Report = []
+options_of Flat = name.Csv ∷ []
+options_of Schedule = []
+options_of Spans = name.Jaeger ∷ []
+options_of Rows = name.File ∷ []
 
 abbrev pub form_of : Verb → Form
 form_of verb = map (λ o. (word_of o, is_valued o)) (options_of verb)
@@ -108,6 +120,9 @@ pub record Chosen : Type 0 where
   pub switches : Option Text
   pub at_most : Option Text
   pub show : Option Text
+  pub kills : Option Text
+  pub csv : Bool
+  pub jaeger : Bool
 
 abbrev pub chosen_in : Given → Chosen
 chosen_in given = record {
@@ -121,6 +136,9 @@ chosen_in given = record {
   switches = value_of (word_of name.Switches) given;
   at_most = value_of (word_of name.AtMost) given;
   show = value_of (word_of name.Show) given;
+  kills = value_of (word_of name.Kills) given;
+  csv = is_given (word_of name.Csv) given;
+  jaeger = is_given (word_of name.Jaeger) given;
 }
 
 -- the options of play and work
@@ -157,6 +175,10 @@ asked Bulk chosen = Some bulk
 asked Nodes chosen = Some nodes
 asked Orders chosen = None
 asked Report chosen = None
+asked Flat chosen = None
+asked Schedule chosen = None
+asked Spans chosen = None
+asked Rows chosen = None
 
 -- the command that words are, without the program's name; none if they have no form
 abbrev pub command : List Text → Option Asked

@@ -37,4 +37,7 @@ chosen_of found = record {
   switches = option_map (λ s. s.now) found.switches;
   at_most = option_map (λ s. s.now) found.at_most;
   show = option_map (λ s. s.now) found.show;
+  kills = option_map (λ s. s.now) found.kills;
+  csv = found.csv;
+  jaeger = found.jaeger;
 }

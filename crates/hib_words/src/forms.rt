@@ -29,6 +29,14 @@ pub enum Verb {
     Orders,
     /// Writes the report of a journal.
     Report,
+    /// Writes a journal with a member for each thing.
+    Flat,
+    /// Writes the script that repeats a journal.
+    Schedule,
+    /// Writes a journal as a trace.
+    Spans,
+    /// Writes the rows of a file.
+    Rows,
 }
 
 /// An option, which each command that has it takes at most once.
@@ -54,6 +62,12 @@ pub enum OptionName {
     AtMost,
     /// The script with the schedule of a finding, in place of what was found.
     Show,
+    /// How many sessions are killed.
+    Kills,
+    /// Columns in place of objects.
+    Csv,
+    /// The spans for Jaeger in place of those for Perfetto.
+    Jaeger,
 }
 
 const PLAY_OPTIONS: [OptionName; 3] = [OptionName::Journal, OptionName::File, OptionName::Trace];
@@ -68,11 +82,18 @@ const WORK_OPTIONS: [OptionName; 5] = [
 
 const MAKE_OPTIONS: [OptionName; 2] = [OptionName::Seed, OptionName::Text];
 
-const ORDERS_OPTIONS: [OptionName; 3] = [
+const ORDERS_OPTIONS: [OptionName; 4] = [
     OptionName::Switches,
+    OptionName::Kills,
     OptionName::AtMost,
     OptionName::Show,
 ];
+
+const FLAT_OPTIONS: [OptionName; 1] = [OptionName::Csv];
+
+const SPANS_OPTIONS: [OptionName; 1] = [OptionName::Jaeger];
+
+const ROWS_OPTIONS: [OptionName; 1] = [OptionName::File];
 
 impl Verb {
     /// The word that it is written by.
@@ -89,6 +110,10 @@ impl Verb {
             Verb::Nodes => "nodes",
             Verb::Orders => "orders",
             Verb::Report => "report",
+            Verb::Flat => "flat",
+            Verb::Schedule => "schedule",
+            Verb::Spans => "spans",
+            Verb::Rows => "rows",
         }
     }
 
@@ -101,7 +126,15 @@ impl Verb {
             Verb::Work => &WORK_OPTIONS,
             Verb::Make => &MAKE_OPTIONS,
             Verb::Orders => &ORDERS_OPTIONS,
-            Verb::Audit | Verb::Collect | Verb::Bulk | Verb::Nodes | Verb::Report => &[],
+            Verb::Flat => &FLAT_OPTIONS,
+            Verb::Spans => &SPANS_OPTIONS,
+            Verb::Rows => &ROWS_OPTIONS,
+            Verb::Audit
+            | Verb::Collect
+            | Verb::Bulk
+            | Verb::Nodes
+            | Verb::Report
+            | Verb::Schedule => { &[] }
         }
     }
 }
@@ -129,6 +162,10 @@ pub fn tool_named(word: &str) -> Option<Verb>
     match word {
         "orders" => Some(Verb::Orders),
         "report" => Some(Verb::Report),
+        "flat" => Some(Verb::Flat),
+        "schedule" => Some(Verb::Schedule),
+        "spans" => Some(Verb::Spans),
+        "rows" => Some(Verb::Rows),
         _ => None,
     }
 }
@@ -149,6 +186,9 @@ impl OptionName {
             OptionName::Switches => "switches",
             OptionName::AtMost => "at-most",
             OptionName::Show => "show",
+            OptionName::Kills => "kills",
+            OptionName::Csv => "csv",
+            OptionName::Jaeger => "jaeger",
         }
     }
 
@@ -163,6 +203,7 @@ impl OptionName {
             OptionName::Switches => Some("N"),
             OptionName::AtMost => Some("N"),
             OptionName::Show => Some("K"),
+            OptionName::Kills => Some("N"),
             _ => None,
         }
     }
@@ -181,6 +222,10 @@ impl OptionName {
                 "Tries the orders with at most N switches, 0 to 64; 2 if it isn't given",
             OptionName::AtMost => "Tries at most N orders, 1 to 4294967295",
             OptionName::Show => "Writes the script with the schedule of finding K, 1 to 5",
+            OptionName::Kills =>
+                "Tries also the orders in which at most N sessions are killed, 0 to 64; 0 if it isn't given",
+            OptionName::Csv => "Writes a line of columns for each entry, and not an object",
+            OptionName::Jaeger => "Writes the spans for Jaeger, and not for Perfetto",
         }
     }
 

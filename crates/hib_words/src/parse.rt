@@ -33,6 +33,12 @@ pub struct Found<'a> {
     pub at_most: Option<&'a str>,
     /// The value of `--show`.
     pub show: Option<&'a str>,
+    /// The value of `--kills`.
+    pub kills: Option<&'a str>,
+    /// `--csv` is among them.
+    pub csv: bool,
+    /// `--jaeger` is among them.
+    pub jaeger: bool,
 }
 
 /// Whether clap reads the word as the definition does: it begins with no hyphen, or with two before something more. No other
@@ -98,6 +104,9 @@ pub fn parse<'a>(
     let switches = matches.get_str("switches");
     let at_most = matches.get_str("at-most");
     let show = matches.get_str("show");
+    let kills = matches.get_str("kills");
+    let csv = matches.get_flag("csv");
+    let jaeger = matches.get_flag("jaeger");
     Ok(Some(Found {
         journal,
         trace,
@@ -109,5 +118,8 @@ pub fn parse<'a>(
         switches,
         at_most,
         show,
+        kills,
+        csv,
+        jaeger,
     }))
 }

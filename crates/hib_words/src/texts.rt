@@ -93,7 +93,7 @@ proved with a Rattle kit of logic dac8208d650f15bf
 ";
 
 const ABOUT_TOOLS: &str =
-    "Finds the orders of sessions that end badly, and makes reports of journals.";
+    "Finds the orders of sessions that end badly, and writes journals as data.";
 
 const AFTER_TOOLS_HELP: &str = "
 A script comes by standard input. Its sessions are played in every order with at most N switches, the
@@ -103,24 +103,35 @@ comes again later:
 Each finding has a number, and the schedule of one order that has it, with the fewest switches. The
 script with that schedule is written by:
   hib_tools orders --switches 1 --show 1 < examples/stale.hib > found.hib
+With --kills the orders are tried too in which sessions are killed between their steps, so many at most:
+  hib_tools orders --switches 1 --kills 1 < examples/stale.hib
 Of a journal as JSON lines, behind its script and a line 'journal', the report is written that
 'hib play' would have written:
   hib work --workers 4 --journal < examples/shop.hib > lines
   (cat examples/shop.hib; echo journal; cat lines) | hib_tools report
+The same input is read by three more words. 'flat' writes the journal for jq and notebooks, 'schedule' the
+script by which 'hib play' repeats it, 'spans' a trace that Perfetto opens:
+  (cat examples/shop.hib; echo journal; cat lines) | hib_tools flat --csv
+  (cat examples/shop.hib; echo journal; cat lines) | hib_tools schedule > again.hib
+  (cat examples/shop.hib; echo journal; cat lines) | hib_tools spans > trace.json
+The rows of a file that 'hib play --file' has worked on, as lines of the script:
+  hib_tools rows --file shop.db < examples/shop.hib
 
 The words --help and --version stand alone: beside another word they are no command.
 
 Exit status, which a line on standard error explains if it isn't 0 or 1:
   0  all was done, and nothing was found
-  1  an order ends badly, and the text was written whole; with --show, there is no finding K
+  1  an order ends badly, and the text was written whole; with --show, there is no finding K; of
+     'schedule', no schedule repeats the journal
   2  the words are no command
   3  the input is no script, as in 'hib: line 7: no-end'; nothing was written
   4  reading failed; nothing was written
   5  writing failed; a first part of the text may be written
   6  the input has more than 1,048,576 bytes, or 67,108,864 with a journal; nothing was written
   8  memory ran out; a first part of the text may be written
+  9  the file can't be read; nothing was written
 
-docs/ORDERS.md tells what an order, a switch and each finding are.
+docs/ORDERS.md tells what an order, a switch and each finding are, docs/DATA.md what the other words write.
 ";
 
 impl Verb {
@@ -136,6 +147,10 @@ impl Verb {
             Verb::Nodes => "hib nodes",
             Verb::Orders => "hib_tools orders",
             Verb::Report => "hib_tools report",
+            Verb::Flat => "hib_tools flat",
+            Verb::Schedule => "hib_tools schedule",
+            Verb::Spans => "hib_tools spans",
+            Verb::Rows => "hib_tools rows",
         }
     }
 
@@ -152,18 +167,34 @@ impl Verb {
             Verb::Orders =>
                 "Tries the orders of a script's sessions, and writes which of them end badly",
             Verb::Report => "Writes the report of a journal that comes after its script",
+            Verb::Flat =>
+                "Writes a journal that comes after its script as JSON with a member for each thing",
+            Verb::Schedule => "Writes the script with the schedule that repeats a journal",
+            Verb::Spans => "Writes a journal that comes after its script as a trace",
+            Verb::Rows => "Writes the rows of a SQLite file as lines of the script",
         }
     }
 }
 
 impl OptionName {
-    /// Its command has no form without it.
-    fn is_required(self) -> bool {
-        matches!(self, OptionName::Workers | OptionName::Seed)
+    /// This command has no form without it.
+    fn is_required(self, verb: Verb) -> bool {
+        match self {
+            OptionName::Workers | OptionName::Seed => true,
+            OptionName::File => matches!(verb, Verb::Rows),
+            _ => false,
+        }
     }
 }
 
-const TOOL_VERBS: [Verb; 2] = [Verb::Orders, Verb::Report];
+const TOOL_VERBS: [Verb; 6] = [
+    Verb::Orders,
+    Verb::Report,
+    Verb::Flat,
+    Verb::Schedule,
+    Verb::Spans,
+    Verb::Rows,
+];
 
 const VERBS: [Verb; 7] = [
     Verb::Play,
@@ -179,7 +210,7 @@ const VERBS: [Verb; 7] = [
 fn shown<'a>(alloc: Global, verb: Verb, name: &'a str) -> Result<Command<'a>, AllocError> {
     let mut command = Command::new(alloc, name).disable_help_flag(true);
     for option in verb.options() {
-        command = command.arg(option.arg(alloc).required(option.is_required()))?;
+        command = command.arg(option.arg(alloc).required(option.is_required(verb)))?;
     }
     Ok(command)
 }

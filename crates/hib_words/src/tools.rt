@@ -1,11 +1,11 @@
 // What the words ask of the tools.
 ghost use Rattle.std.specs.Prelude.{option_map, ◌≡◌, IfOk, map, string_bytes};
 ghost use Rattle.hib_words.specs.Matched.{chosen_of};
-ghost use Rattle.hib_words.specs.Tools.{number_if_any, tool_asked, tool_command};
+ghost use Rattle.hib_words.specs.Tools.{file_in, number_if_any, tool_asked, tool_command};
 
 use crate::forms::{Verb, tool_named};
 use crate::parse::{Found, parse};
-use crate::words::number_between;
+use crate::words::{is_value, number_between};
 use std::alloc::{AllocError, Global};
 
 /// What the words of a command line ask of the tools.
@@ -15,6 +15,8 @@ pub enum Tool {
     Orders {
         /// How many switches an order may make, 0 to 64.
         switches: u32,
+        /// How many sessions may be killed, 0 to 64.
+        kills: u32,
         /// How many orders are tried at most, 1 to 4294967295.
         at_most: Option<u32>,
         /// The number of a finding, 1 to 5, whose schedule is written with the script, and nothing else.
@@ -22,6 +24,20 @@ pub enum Tool {
     },
     /// The report of a journal is written.
     Report,
+    /// A journal is written with a member for each thing.
+    Flat {
+        /// As columns, and not as objects.
+        csv: bool,
+    },
+    /// The script that repeats a journal is written.
+    Schedule,
+    /// A journal is written as a trace.
+    Spans {
+        /// For Jaeger, and not for Perfetto.
+        jaeger: bool,
+    },
+    /// The rows of a file are written.
+    Rows,
 }
 
 /// A number that need not be given; none if it is out of its range.
@@ -43,6 +59,9 @@ fn orders(found: &Found<'_>) -> Option<Tool>
     let Some(switches) = number_if_any(found.switches, 0, 64) else {
         return None;
     };
+    let Some(kills) = number_if_any(found.kills, 0, 64) else {
+        return None;
+    };
     let Some(at_most) = number_if_any(found.at_most, 1, u32::MAX) else {
         return None;
     };
@@ -51,9 +70,25 @@ fn orders(found: &Found<'_>) -> Option<Tool>
     };
     Some(Tool::Orders {
         switches: switches.unwrap_or(2),
+        kills: kills.unwrap_or(0),
         at_most,
         show,
     })
+}
+
+fn rows(found: &Found<'_>) -> Option<Tool>
+    ensures { result ≡ tool_asked Verb.Rows (chosen_of found.now) }
+{
+    match found.file {
+        Some(path) => {
+            if is_value(path) {
+                Some(Tool::Rows)
+            } else {
+                None
+            }
+        }
+        None => None,
+    }
 }
 
 fn tool_from(verb: Verb, found: &Found<'_>) -> Option<Tool>
@@ -62,6 +97,12 @@ fn tool_from(verb: Verb, found: &Found<'_>) -> Option<Tool>
     match verb {
         Verb::Orders => orders(found),
         Verb::Report => Some(Tool::Report),
+        Verb::Flat => Some(Tool::Flat { csv: found.csv }),
+        Verb::Schedule => Some(Tool::Schedule),
+        Verb::Spans => Some(Tool::Spans {
+            jaeger: found.jaeger,
+        }),
+        Verb::Rows => rows(found),
         _ => None,
     }
 }
@@ -81,4 +122,21 @@ pub fn read_tool(alloc: Global, words: &[String]) -> Result<Option<Tool>, AllocE
         return Ok(None);
     };
     Ok(tool_from(verb, &found))
+}
+
+/// The path of the file that these words name, if they name one. The only error is want of memory.
+pub fn file_of_tool<'a>(alloc: Global, words: &'a [String]) -> Result<Option<&'a str>, AllocError>
+    ensures { IfOk result (λ r. option_map (λ s. s.now) r
+        ≡ file_in (map string_bytes words.entry.now)) }
+{
+    let Some(first) = words.first() else {
+        return Ok(None);
+    };
+    let Some(verb) = tool_named(first.as_str()) else {
+        return Ok(None);
+    };
+    match parse(alloc, verb, words)? {
+        Some(found) => Ok(found.file),
+        None => Ok(None),
+    }
 }

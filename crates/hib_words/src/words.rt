@@ -99,7 +99,7 @@ impl Options {
 }
 
 /// The text isn't empty and begins with no hyphen.
-fn is_value(text: &str) -> bool
+pub fn is_value(text: &str) -> bool
     ensures { result ≡ is_value text.now }
 {
     let bytes = text.as_bytes();
@@ -214,7 +214,9 @@ fn command_from(alloc: Global, verb: Verb, found: &Found<'_>) -> Result<Option<C
         Verb::Collect => Ok(Some(Command::Collect)),
         Verb::Bulk => Ok(Some(Command::Bulk)),
         Verb::Nodes => Ok(Some(Command::Nodes)),
-        Verb::Orders | Verb::Report => Ok(None),
+        Verb::Orders | Verb::Report | Verb::Flat | Verb::Schedule | Verb::Spans | Verb::Rows => Ok(
+            None,
+        ),
     }
 }
 

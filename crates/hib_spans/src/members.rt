@@ -1,0 +1,69 @@
+// Members of an object, appended to bytes.
+use hib_base::{Act, Key, Part, Reply, Script, SessionNo};
+use hib_json_lines::put_quoted;
+use hib_report::{put_act, put_part, put_reply};
+use hib_texts::{put_keyed, session_name};
+use std::alloc::{AllocError, Global};
+
+/// The text of an act, in quotation marks.
+pub fn put_quoted_act(
+    alloc: Global,
+    out: &mut Vec<u8>,
+    script: &Script,
+    act: &Act,
+) -> Result<(), AllocError> {
+    let mut text = Vec::new(alloc);
+    put_act(alloc, &mut text, script, act)?;
+    put_quoted(out, text.as_slice())
+}
+
+/// The text of a reply, in quotation marks.
+pub fn put_quoted_reply(
+    alloc: Global,
+    out: &mut Vec<u8>,
+    script: &Script,
+    reply: &Reply,
+) -> Result<(), AllocError> {
+    let mut text = Vec::new(alloc);
+    put_reply(alloc, &mut text, script, reply)?;
+    put_quoted(out, text.as_slice())
+}
+
+/// The word of a part, in quotation marks.
+pub fn put_quoted_part(alloc: Global, out: &mut Vec<u8>, part: Part) -> Result<(), AllocError> {
+    let mut text = Vec::new(alloc);
+    put_part(&mut text, part)?;
+    put_quoted(out, text.as_slice())
+}
+
+/// What a lock is called, in quotation marks.
+pub fn put_quoted_lock(
+    alloc: Global,
+    out: &mut Vec<u8>,
+    script: &Script,
+    key: Key,
+) -> Result<(), AllocError> {
+    let mut text = Vec::new(alloc);
+    put_keyed(alloc, &mut text, script, b"lock ", key)?;
+    put_quoted(out, text.as_slice())
+}
+
+/// The name of a track, in quotation marks: that of a session, or `schedule` for what comes from outside.
+pub fn put_quoted_track(
+    out: &mut Vec<u8>,
+    script: &Script,
+    session: Option<SessionNo>,
+) -> Result<(), AllocError> {
+    match session {
+        None => put_quoted(out, b"schedule"),
+        Some(session) => put_quoted(out, session_name(script, session)),
+    }
+}
+
+/// The number of a track: 0 for what comes from outside, and then each session's.
+pub fn track_of(session: Option<SessionNo>) -> u64 {
+    match session {
+        None => 0,
+        Some(session) => u64::from(session.0) + 1,
+    }
+}
