@@ -19,3 +19,7 @@ script_lines script =
 
 unfoldable pub printed : Script → List ℕ
 printed script = lines_text (script_lines script)
+
+-- the lines of its rows
+unfoldable pub printed_rows : Script → List ℕ
+printed_rows script = lines_text (map (λ x. row_line script x) script.rows)

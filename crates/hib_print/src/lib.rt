@@ -8,4 +8,4 @@ mod queries;
 mod script;
 mod sessions;
 
-pub use script::print;
+pub use script::{print, print_row_lines};

@@ -1,7 +1,7 @@
 // The text of a script.
 ghost use Rattle.std.specs.Prelude.{◌≡◌, ◌∷◌, [], IfOk, OnOk};
 ghost use Rattle.hib_print.specs.Lines.{natural};
-ghost use Rattle.hib_print.specs.Printed.{head_lines, printed};
+ghost use Rattle.hib_print.specs.Printed.{head_lines, printed, printed_rows};
 ghost use Rattle.hib_print.specs.Steps.{AddsLines};
 ghost use Rattle.hib_lex.specs.declared.lexer.Token.{Token};
 
@@ -48,5 +48,15 @@ pub fn print(alloc: Global, script: &Script) -> Result<Bytes, AllocError>
     print_queries(alloc, &mut printer, script)?;
     print_sessions(alloc, &mut printer, script)?;
     print_schedule(alloc, &mut printer, script)?;
+    Ok(Seq::from_vec(printer.text))
+}
+
+/// The lines of a script's rows, as `print` gives them. Fails for want of memory alone.
+#[tactic(auto, unfolding(crate::specs::Printed::printed_rows))]
+pub fn print_row_lines(alloc: Global, script: &Script) -> Result<Bytes, AllocError>
+    ensures { IfOk result (λ b. b ≡ printed_rows script.now) }
+{
+    let mut printer = Printer::new(alloc);
+    print_rows(alloc, &mut printer, script)?;
     Ok(Seq::from_vec(printer.text))
 }

@@ -5,15 +5,19 @@ use Rattle.hib_call.proofs.Taken.{reads_none}
 use Rattle.hib_call.specs.declared.status.Status.{Status}
 use Rattle.hib_call.specs.Called.{IsCalled, ComesTo}
 use Rattle.hib_call.specs.Command as Calls
-use Rattle.hib_call.specs.Outside.{Outside, Shared}
+use Rattle.hib_call.specs.Outside.{Outside}
 use Rattle.hib_words.specs.declared.tools.Tool.{Tool}
 use Rattle.hib_words.specs.declared.tools.Tool.TheVariants as tool
 use Rattle.hib_toolbox.specs.declared.ended.Said.{Said}
-use Rattle.hib_toolbox.specs.Call.{DoesBy, DoesIf, DoesTool, Promised}
+use Rattle.hib_toolbox.specs.Call.{DoesIf, DoesTool, Promised}
 use Rattle.hib_order_text.specs.declared.findings.Finding.{Finding}
 use Rattle.hib_toolbox.specs.declared.orders.Explored.{Explored}
 use Rattle.hib_toolbox.specs.Exploring.{IsSaid, IsSaidOf, exploring, finding_numbered, showing}
+use Rattle.hib_toolbox.specs.Data.{flattening, tracing}
+use Rattle.hib_toolbox.specs.Listing.{listing}
+use Rattle.hib_toolbox.specs.Repeating.{IsSaidOfRepeat, repeating}
 use Rattle.hib_toolbox.specs.Reporting.{reporting}
+use Rattle.hib_toolbox.specs.declared.repeat.Repeated.{Repeated}
 
 -- ---- a call in which memory ran out before anything was done
 no_read_fault : Status.NoMemory ≡ Status.ReadFault → ⊥
@@ -51,9 +55,13 @@ not_usage c old new answer run called e = usage_by c old new run (subst (λ (s :
 
 -- ---- words that ask for something
 idle_by : (asked : Tool) (o : Outside) → DoesTool asked o o Status.NoMemory Said.Nothing
-idle_by tool.Report o = (None, (o.shared, o.shared, short_call reporting o), refl)
-idle_by (tool.Orders switches at_most None) o = (None, (o.shared, o.shared, short_call (exploring switches at_most) o), refl)
-idle_by (tool.Orders switches at_most (Some k)) o = (None, (o.shared, o.shared, short_call (showing switches at_most (finding_numbered k)) o), refl)
+idle_by tool.Report o = (None, short_call reporting o, refl)
+idle_by (tool.Flat csv) o = (None, short_call (flattening csv) o, refl)
+idle_by (tool.Spans jaeger) o = (None, short_call tracing o, refl)
+idle_by tool.Schedule o = (None, short_call repeating o, refl)
+idle_by tool.Rows o = (None, short_call listing o, refl)
+idle_by (tool.Orders switches kills at_most None) o = (None, short_call (exploring switches kills at_most) o, refl)
+idle_by (tool.Orders switches kills at_most (Some k)) o = (None, short_call (showing switches kills at_most (finding_numbered k)) o, refl)
 
 idle_if : (asked : Option Tool) (o : Outside) → DoesIf asked o o Status.NoMemory Said.Nothing
 unfolding DoesIf
@@ -99,3 +107,7 @@ not_said _ run other = refl
 pub not_said_of : (finding : Finding) (answer : Status) (run : Option Explored) → (answer ≡ Status.Done → ⊥) → IsSaidOf finding answer run Said.Nothing
 not_said_of finding Status.Done run other = absurd (other refl)
 not_said_of finding _ run other = refl
+
+pub not_said_of_repeat : (answer : Status) (run : Option Repeated) → (answer ≡ Status.Done → ⊥) → IsSaidOfRepeat answer run Said.Nothing
+not_said_of_repeat Status.Done run other = absurd (other refl)
+not_said_of_repeat _ run other = refl

@@ -1,32 +1,33 @@
 -- What a call of the tools promises, whatever its words.
-use Rattle.std.specs.Prelude.{◌≡◌, ◌≢◌, ◌↔◌, ℕ, List, [], Some, None, Option}
+use Rattle.std.specs.Prelude.{◌≡◌, ◌≢◌, ◌↔◌, Some, None, Option}
 use Rattle.hib_call.specs.declared.status.Status.{Status}
 use Rattle.hib_call.specs.Called.{IsCalled}
-use Rattle.hib_call.specs.Command.{Command}
-use Rattle.hib_call.specs.Outside.{Outside, Shared, outside, shared}
+use Rattle.hib_call.specs.Outside.{Outside}
+use Rattle.hib_base.specs.declared.scripts.Script.{Script}
 use Rattle.hib_input.specs.declared.with_journal.WithJournal.{WithJournal}
 use Rattle.hib_words.specs.declared.tools.Tool.{Tool}
 use Rattle.hib_words.specs.declared.tools.Tool.TheVariants as tool
 use Rattle.hib_toolbox.specs.declared.ended.Said.{Said}
 use Rattle.hib_toolbox.specs.declared.orders.Explored.{Explored}
 use Rattle.hib_toolbox.specs.Exploring.{IsSaid, IsSaidOf, exploring, finding_numbered, showing}
+use Rattle.hib_toolbox.specs.declared.repeat.Repeated.{Repeated}
+use Rattle.hib_toolbox.specs.Data.{flattening, tracing}
+use Rattle.hib_toolbox.specs.Listing.{listing}
+use Rattle.hib_toolbox.specs.Repeating.{IsSaidOfRepeat, repeating}
 use Rattle.hib_toolbox.specs.Reporting.{reporting}
-
--- what source and sink tell at one moment: what is left and how often reading failed, what was taken and how often writing failed
-abbrev pub streams : Option (List ℕ) → ℕ → Option (List ℕ) → ℕ → Outside
-streams left read_faults taken write_faults = outside left read_faults taken write_faults (shared None 0 0 [])
-
--- the call of a command over a keeper and listeners that are nobody's
-abbrev pub DoesBy : {I R : Type 0} → Command I R → Outside → Outside → Status → Option R → Type 0
-DoesBy c old new answer run = (s : Shared) × (t : Shared) × IsCalled c (record old { shared = s }) (record new { shared = t }) answer run
 
 -- what is asked for is done by the call of a command
 abbrev pub DoesTool : Tool → Outside → Outside → Status → Said → Type 0
-DoesTool tool.Report old new answer said = (run : Option WithJournal) × DoesBy reporting old new answer run × (said ≡ Said.Nothing)
-DoesTool (tool.Orders switches at_most None) old new answer said =
-    (run : Option Explored) × DoesBy (exploring switches at_most) old new answer run × IsSaid answer run said
-DoesTool (tool.Orders switches at_most (Some k)) old new answer said =
-    (run : Option Explored) × DoesBy (showing switches at_most (finding_numbered k)) old new answer run × IsSaidOf (finding_numbered k) answer run said
+DoesTool tool.Report old new answer said = (run : Option WithJournal) × IsCalled reporting old new answer run × (said ≡ Said.Nothing)
+DoesTool (tool.Flat csv) old new answer said = (run : Option WithJournal) × IsCalled (flattening csv) old new answer run × (said ≡ Said.Nothing)
+DoesTool (tool.Spans jaeger) old new answer said = (run : Option WithJournal) × IsCalled tracing old new answer run × (said ≡ Said.Nothing)
+DoesTool tool.Schedule old new answer said = (run : Option Repeated) × IsCalled repeating old new answer run × IsSaidOfRepeat answer run said
+DoesTool tool.Rows old new answer said = (run : Option Script) × IsCalled listing old new answer run × (said ≡ Said.Nothing)
+DoesTool (tool.Orders switches kills at_most None) old new answer said =
+    (run : Option Explored) × IsCalled (exploring switches kills at_most) old new answer run × IsSaid answer run said
+DoesTool (tool.Orders switches kills at_most (Some k)) old new answer said =
+    (run : Option Explored) × IsCalled (showing switches kills at_most (finding_numbered k)) old new answer run
+    × IsSaidOf (finding_numbered k) answer run said
 
 -- and if the words have no form, nothing is done
 unfoldable pub DoesIf : Option Tool → Outside → Outside → Status → Said → Type 0

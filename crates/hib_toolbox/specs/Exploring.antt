@@ -8,7 +8,7 @@ use Rattle.hib_journal.specs.Legal.{IsLegal}
 use Rattle.hib_journal.specs.Runs.{IsNumbered, fault_count}
 use Rattle.hib_journal.specs.Sessions.{Journal}
 use Rattle.hib_law.specs.Rows.{IsKeyCoherent}
-use Rattle.hib_order_law.specs.Orders.{IsRun, IsWithin, onto, sessions_in}
+use Rattle.hib_order_law.specs.Orders.{IsRun, IsWithin, onto, steps_in}
 use Rattle.hib_order_law.specs.declared.verdicts.Verdicts.{Verdicts}
 use Rattle.hib_order_schedule.specs.Schedules.{shown, with_schedule}
 use Rattle.hib_order_stage.specs.Staged.{ended_in, judged_from_start, rows_at_start}
@@ -52,30 +52,30 @@ has_in script finding es = has_of (judged_from_start script es) finding
 
 -- an order that is told to have something is that of a run that has it. The script with the schedule that is told plays this run; and
 -- whatever that script plays over these rows without faults is this run
-pub record IsShown (script : Script) (finding : Finding) (f : First) : Type 0 where
+pub record IsShown (script : Script) (kills : ℕ) (finding : Finding) (f : First) : Type 0 where
   pub es : List Entry
-  pub run : IsRun script (rows_at_start script) es
-  pub order : f.order.items ≡ sessions_in es
+  pub run : IsRun script (rows_at_start script) kills es
+  pub order : f.order.items ≡ steps_in es
   pub has : has_in script finding es ≡ true
   pub played : is_played (with_schedule script (shown f.order.items)) (onto es []) ≡ true
   pub again : (h : Journal) → IsLegal (with_schedule script (shown f.order.items)) (Some (rows_at_start script)) h → IsNumbered h →
       fault_count h ≡ 0 → is_played (with_schedule script (shown f.order.items)) h ≡ true → h ≡ onto es []
 
--- the orders of a script with so many switches at most were tried, or so many of them
-pub record Explores (switches : ℕ) (at_most : Option ℕ) (script : Script) (run : Explored) : Type 0 where
+-- the orders of a script with so many switches and kills at most were tried, or so many of them
+pub record Explores (switches kills : ℕ) (at_most : Option ℕ) (script : Script) (run : Explored) : Type 0 where
   pub of : run.script ≡ script
   -- each once; what is counted of them is what they come to; and they are all of them, or all with fewer switches than it says
-  pub told : IsTold script (rows_at_start script) (judged_from_start script) (ended_in script) switches run.told.whole run.told.level run.told.findings
+  pub told : IsTold script (rows_at_start script) (judged_from_start script) (ended_in script) kills switches run.told.whole run.told.level run.told.findings
   -- it stops at the bound alone, or after 2^64 - 1 plays
   pub few : run.told.findings.tried ≤ limit_of at_most
   pub whole : (run.told.whole ≡ true) ⊎ ((run.told.findings.tried ≡ limit_of at_most) ⊎ (run.told.played ≡ 2 ^ 64 - 1))
-  -- if all were tried and something is told of none, then no run of the sessions alone, without faults and with so few switches, has it,
+  -- if all were tried and something is told of none, then no run of the sessions, without faults and with so few switches and kills, has it,
   -- whoever made it
   pub none : (finding : Finding) → run.told.whole ≡ true → (found_of run.told.findings finding).first ≡ None →
-      (es : List Entry) → IsWithin script (rows_at_start script) switches es → has_in script finding es ≡ false
-  pub first : (finding : Finding) → IfSome (found_of run.told.findings finding).first (IsShown script finding)
+      (es : List Entry) → IsWithin script (rows_at_start script) kills switches es → has_in script finding es ≡ false
+  pub first : (finding : Finding) → IfSome (found_of run.told.findings finding).first (IsShown script kills finding)
   -- in no run is a hit of a sound key of a read-write entity another row than the committed one
-  pub never : (es : List Entry) → IsRun script (rows_at_start script) es → (k : Key) → strategy script k.entity ≡ Strategy.ReadWrite →
+  pub never : (es : List Entry) → IsRun script (rows_at_start script) kills es → (k : Key) → strategy script k.entity ≡ Strategy.ReadWrite →
       IsKeyCoherent script (rows_at_start script) k (onto es [])
 
 -- memory may run out before all were tried
@@ -97,15 +97,15 @@ IsSaid Status.Done (Some run) said = said ≡ cond (is_any run.told.findings) Sa
 IsSaid _ _ said = said ≡ Said.Nothing
 
 -- ---- the command
-abbrev pub exploring : ℕ → Option ℕ → Command Script Explored
-exploring switches at_most = record {
+abbrev pub exploring : ℕ → ℕ → Option ℕ → Command Script Explored
+exploring switches kills at_most = record {
   limit = 1048576;
   reads = λ text script. script_of text ≡ Ok (outline_of script);
   refuses = λ text refused. script_of text ≡ Err refused;
   has_form = λ text. (said : Outline) × (script_of text ≡ Ok said);
-  leaves = λ script old new run. Explores switches at_most script run × (new ≡ old);
+  leaves = λ script old new run. Explores switches kills at_most script run × (new ≡ old);
   stops = λ script. Stops;
-  tells = λ run answer taken written. IsWritten answer (text run.script switches run.told) taken written × IsToldSo answer;
+  tells = λ run answer taken written. IsWritten answer (text run.script switches kills run.told) taken written × IsToldSo answer;
 }
 
 -- ---- one finding shown
@@ -115,8 +115,8 @@ abbrev pub script_shown : Script → Option First → Script
 script_shown script None = script
 script_shown script (Some f) = with_schedule script (shown f.order.items)
 
-pub record Shows (switches : ℕ) (at_most : Option ℕ) (finding : Finding) (script : Script) (run : Explored) : Type 0 where
-  pub explored : Explores switches at_most script (record { script = script; told = run.told })
+pub record Shows (switches kills : ℕ) (at_most : Option ℕ) (finding : Finding) (script : Script) (run : Explored) : Type 0 where
+  pub explored : Explores switches kills at_most script (record { script = script; told = run.told })
   pub shown : run.script ≡ script_shown script (found_of run.told.findings finding).first
 
 -- nothing is written if it wasn't found
@@ -127,8 +127,8 @@ abbrev pub IsSaidOf : Finding → Status → Option Explored → Said → Type 0
 IsSaidOf finding Status.Done (Some run) said = said ≡ cond (is_there run.told.findings finding) Said.Nothing Said.Missing
 IsSaidOf finding _ _ said = said ≡ Said.Nothing
 
-abbrev pub showing : ℕ → Option ℕ → Finding → Command Script Explored
-showing switches at_most finding = record (exploring switches at_most) {
-  leaves = λ script old new run. Shows switches at_most finding script run × (new ≡ old);
+abbrev pub showing : ℕ → ℕ → Option ℕ → Finding → Command Script Explored
+showing switches kills at_most finding = record (exploring switches kills at_most) {
+  leaves = λ script old new run. Shows switches kills at_most finding script run × (new ≡ old);
   tells = λ run answer taken written. IsWritten answer (shown_text finding run) taken written × IsToldSo answer;
 }

@@ -1,3 +1,6 @@
 pub mod Reporting
+pub mod Data
+pub mod Listing
+pub mod Repeating
 pub mod Exploring
 pub mod Call

@@ -1,5 +1,5 @@
 // How a call of the tools ended.
-use hib_call::Status;
+use hib_call::{Lent, Status};
 
 /// What is said of a call beside how it ended.
 #[derive(Clone, Copy, Debug, PartialEq, Eq)]
@@ -10,13 +10,19 @@ pub enum Said {
     Found,
     /// The finding that is asked for isn't there.
     Missing,
+    /// No schedule repeats the journal: the entry at this place, from 0, is no session's own step, and no kill.
+    Foreign(usize),
+    /// No schedule repeats the journal: it would have more than 20,000 lines, or a line of more than 1,000,000 steps.
+    Long,
 }
 
 /// How a call of the tools ended.
 #[derive(Drop)]
-pub struct Ended {
+pub struct Ended<K, L> {
     /// How the call ended, as one of the program does.
     pub status: Status,
     /// What is said beside that. Nothing unless the call is done.
     pub said: Said,
+    /// What was lent.
+    pub lent: Lent<K, L>,
 }

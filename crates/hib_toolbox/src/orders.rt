@@ -60,6 +60,8 @@ pub fn is_any(run: &Explored) -> bool
 pub struct Orders {
     /// The most switches of an order.
     pub switches: u32,
+    /// The most sessions that are killed in an order.
+    pub kills: u32,
     /// The most orders that are tried, if that is bounded.
     pub at_most: Option<u32>,
 }
@@ -68,14 +70,20 @@ pub struct Orders {
 pub fn tried(alloc: Global, orders: Orders, script: Script) -> Outcome<Explored>
     requires { is_valid script ≡ true }
     ensures { (lent : Shared)
-        → Comes (exploring orders.switches orders.at_most) script lent lent result }
+        → Comes (exploring orders.switches orders.kills orders.at_most) script lent lent result }
 {
     what_is_told_is_so();
     schedules_play_orders();
     shown_runs_come_again();
     rows_cohere();
     let limit = limit_of(orders.at_most);
-    match search_orders(alloc, script, orders.switches as usize, limit) {
+    match search_orders(
+        alloc,
+        script,
+        orders.kills as usize,
+        orders.switches as usize,
+        limit,
+    ) {
         Ok(searched) => {
             let Searched { told, script } = searched;
             Outcome::Over(Explored { script, told })
@@ -92,7 +100,7 @@ pub fn explore<K: Keeper, L: Listener>(
     lent: Lent<K, L>,
 ) -> Ran<Explored, K, L>
     requires { is_valid script ≡ true }
-    ensures { Comes (exploring orders.switches orders.at_most) script
+    ensures { Comes (exploring orders.switches orders.kills orders.at_most) script
         (shared_by K.tables K.faults K.asked L.heard L.left lent.keeper lent.listeners.items)
         (shared_by K.tables K.faults K.asked L.heard L.left result.lent.keeper
         result.lent.listeners.items)
@@ -127,7 +135,7 @@ impl Task for Orders {
 
     type Run = Explored;
 
-    ghost command = { λ orders. exploring orders.switches orders.at_most };
+    ghost command = { λ orders. exploring orders.switches orders.kills orders.at_most };
 
     ghost is_sound = { λ script. is_valid script ≡ true };
 
@@ -140,7 +148,7 @@ impl Task for Orders {
     }
 
     fn tell<W: Sink>(&self, alloc: Global, run: &Explored, out: &mut W) -> Status {
-        match text(alloc, &run.script, self.switches, &run.told) {
+        match text(alloc, &run.script, self.switches, self.kills, &run.told) {
             Ok(text) => tell_text(text.as_slice(), out),
             Err(_) => Status::NoMemory,
         }

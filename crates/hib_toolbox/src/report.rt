@@ -1,7 +1,8 @@
 // The report of a journal that comes after its script.
-ghost use Rattle.std.specs.Prelude.{◌≡◌};
-ghost use Rattle.hib_call.specs.Ends.{Comes};
+ghost use Rattle.std.specs.Prelude.{◌≡◌, ◌≤◌, IfErr, IfOk, length};
+ghost use Rattle.hib_call.specs.Ends.{Comes, IsWhere};
 ghost use Rattle.hib_call.specs.Outside.{shared_by};
+ghost use Rattle.hib_input.specs.WithJournal.{IsBadInput, IsInput, IsWholeInput};
 ghost use Rattle.hib_toolbox.specs.Reporting.{reporting};
 
 use hib_call::{InputFault, Lent, Outcome, Ran, Status, Task};
@@ -11,7 +12,21 @@ use hib_report::WriteStop;
 use std::alloc::Global;
 
 /// The most bytes that a script has with its journal after it.
-const LIMIT: usize = 67_108_864;
+pub const LIMIT: usize = 67_108_864;
+
+/// Reads a script, the line `journal` and a journal as JSON lines.
+pub fn read_input(alloc: Global, text: &[u8]) -> Result<WithJournal, InputFault>
+    requires { length text.now ≤ 67108864 }
+    ensures input { IfOk result (λ input. IsInput text.now input.script input.journal.list) }
+    ensures refused { IfErr result (IsWhere (IsBadInput text.now)) }
+    ensures whole { IsWholeInput text.now → IfErr result (λ fault. fault ≡ InputFault.NoMemory) }
+{
+    match read_with_journal(alloc, text) {
+        Ok(input) => Ok(input),
+        Err(hib_input::InputFault::Refused(refused)) => Err(InputFault::Refused(refused)),
+        Err(hib_input::InputFault::NoMemory) => Err(InputFault::NoMemory),
+    }
+}
 
 /// Hands on a journal as it was read, and what is lent as it is.
 pub fn as_read<K: Keeper, L: Listener>(
@@ -51,11 +66,7 @@ impl Task for Report {
     }
 
     fn read(&self, alloc: Global, text: &[u8]) -> Result<WithJournal, InputFault> {
-        match read_with_journal(alloc, text) {
-            Ok(input) => Ok(input),
-            Err(hib_input::InputFault::Refused(refused)) => Err(InputFault::Refused(refused)),
-            Err(hib_input::InputFault::NoMemory) => Err(InputFault::NoMemory),
-        }
+        read_input(alloc, text)
     }
 
     fn tell<W: Sink>(&self, alloc: Global, run: &WithJournal, out: &mut W) -> Status {

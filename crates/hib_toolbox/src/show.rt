@@ -56,8 +56,8 @@ fn script_shown(alloc: Global, script: Script, first: &Option<First>) -> Result<
 /// Puts the schedule of the finding into the script whose orders were tried. Nothing that is lent is touched.
 fn with_finding(alloc: Global, show: Show, outcome: Outcome<Explored>) -> Outcome<Explored>
     ensures { (script : Script) (lent : Shared)
-        → Comes (exploring show.orders.switches show.orders.at_most) script lent lent outcome
-        → Comes (showing show.orders.switches show.orders.at_most show.finding) script lent lent result }
+        → Comes (exploring show.orders.switches show.orders.kills show.orders.at_most) script lent lent outcome
+        → Comes (showing show.orders.switches show.orders.kills show.orders.at_most show.finding) script lent lent result }
 {
     match outcome {
         Outcome::Over(run) => {
@@ -79,7 +79,7 @@ pub fn explore_for<K: Keeper, L: Listener>(
     lent: Lent<K, L>,
 ) -> Ran<Explored, K, L>
     requires { is_valid script ≡ true }
-    ensures { Comes (showing show.orders.switches show.orders.at_most show.finding) script
+    ensures { Comes (showing show.orders.switches show.orders.kills show.orders.at_most show.finding) script
         (shared_by K.tables K.faults K.asked L.heard L.left lent.keeper lent.listeners.items)
         (shared_by K.tables K.faults K.asked L.heard L.left result.lent.keeper
         result.lent.listeners.items)
@@ -99,7 +99,7 @@ impl Task for Show {
 
     type Run = Explored;
 
-    ghost command = { λ show. showing show.orders.switches show.orders.at_most show.finding };
+    ghost command = { λ show. showing show.orders.switches show.orders.kills show.orders.at_most show.finding };
 
     ghost is_sound = { λ script. is_valid script ≡ true };
 

@@ -1,203 +1,101 @@
 // The call that the tools' program makes with its words.
-ghost use Rattle.std.specs.Prelude.{◌≡◌, ◌≢◌, ℕ, None, Some, map, string_bytes, true};
-ghost use Rattle.hib_base.specs.Valid.{is_valid};
-ghost use Rattle.hib_toolbox.specs.Call.{DoesTool, Promised, streams};
-ghost use Rattle.hib_toolbox.specs.Exploring.{IsSaid, IsSaidOf, finding_numbered};
+ghost use Rattle.std.specs.Prelude.{◌≡◌, ◌≢◌, map, string_bytes};
+ghost use Rattle.hib_call.specs.Outside.{outside, shared_by};
+ghost use Rattle.hib_toolbox.specs.Call.{DoesTool, Promised};
 ghost use Rattle.hib_words.specs.Tools.{tool_command};
-ghost use Rattle.hib_words.specs.declared.tools.Tool.{Tool};
 
+use crate::calls::{
+    repeat_journal, show_finding, try_orders, write_flat, write_report, write_rows, write_spans,
+};
 use crate::ended::{Ended, Said};
-use crate::orders::{Explored, Orders, explore, is_any, is_there};
-use crate::report::{Report, as_read};
-use crate::show::{Show, explore_for, finding_numbered};
-use hib_base::Seq;
-use hib_call::{Lent, Status, call};
-use hib_listeners::Recorder;
-use hib_order_text::Finding;
-use hib_outside::{MemKeeper, Sink, Source};
+use crate::orders::Orders;
+use crate::show::{Show, finding_numbered};
+use hib_call::{Lent, Status};
+use hib_outside::{Keeper, Listener, Sink, Source};
 use hib_words::{Tool, read_tool};
 use std::alloc::Global;
 
-/// What a call of the tools lends: a keeper in memory without rows, and no listener.
-fn nobody(alloc: Global) -> Lent<MemKeeper, Recorder> {
-    Lent {
-        keeper: MemKeeper::new(alloc, Seq::new(alloc)),
-        listeners: Vec::new(alloc),
-    }
-}
-
-/// Writes the report of a journal.
-fn report<S: Source, W: Sink>(alloc: Global, source: &mut S, out: &mut W) -> Ended
-    ensures does { DoesTool Tool.Report
-        (streams (S.left source.old) (S.faults source.old) (W.taken out.old) (W.faults out.old))
-        (streams (S.left source.new) (S.faults source.new) (W.taken out.new) (W.faults out.new))
-        result.status result.said }
-{
-    let called = call(
-        alloc,
-        &Report,
-        source,
-        out,
-        nobody(alloc),
-        |input, lent| as_read(input, lent),
-    );
-    Ended {
-        status: called.status,
-        said: Said::Nothing,
-    }
-}
-
-/// What is said of a search beside how its call ended.
-fn said_of(status: &Status, run: &Option<Explored>) -> Said
-    ensures { IsSaid status.now run.now result }
-{
-    match status {
-        Status::Done => match run {
-            Some(run) => {
-                if is_any(run) {
-                    Said::Found
-                } else {
-                    Said::Nothing
-                }
-            }
-            None => Said::Nothing,
-        },
-        _ => Said::Nothing,
-    }
-}
-
-/// What is said of a search for a finding beside how its call ended.
-fn said_of_finding(finding: Finding, status: &Status, run: &Option<Explored>) -> Said
-    ensures { IsSaidOf finding status.now run.now result }
-{
-    match status {
-        Status::Done => match run {
-            Some(run) => {
-                if is_there(run, finding) {
-                    Said::Nothing
-                } else {
-                    Said::Missing
-                }
-            }
-            None => Said::Nothing,
-        },
-        _ => Said::Nothing,
-    }
-}
-
-/// Tries the orders of a script's sessions.
-fn try_orders<S: Source, W: Sink>(
+/// Does what is asked.
+fn serve<S: Source, W: Sink, K: Keeper, L: Listener>(
     alloc: Global,
-    orders: Orders,
+    tool: Tool,
     source: &mut S,
     out: &mut W,
-) -> Ended
-    ensures does { DoesTool (Tool.Orders orders.switches orders.at_most None)
-        (streams (S.left source.old) (S.faults source.old) (W.taken out.old) (W.faults out.old))
-        (streams (S.left source.new) (S.faults source.new) (W.taken out.new) (W.faults out.new))
-        result.status result.said }
-{
-    let called = call(
-        alloc,
-        &orders,
-        source,
-        out,
-        nobody(alloc),
-        |script, lent|
-            requires { is_valid script ≡ true }
-        { explore(alloc, orders, script, lent) },
-    );
-    let said = said_of(&called.status, &called.run);
-    Ended {
-        status: called.status,
-        said,
-    }
-}
-
-/// Tries the orders of a script's sessions, and writes the script with the schedule of a finding.
-fn show_finding<S: Source, W: Sink>(alloc: Global, show: Show, source: &mut S, out: &mut W) -> Ended
-    ensures does { (number : ℕ) → finding_numbered number ≡ show.finding
-        → DoesTool (Tool.Orders show.orders.switches show.orders.at_most (Some number))
-        (streams (S.left source.old) (S.faults source.old) (W.taken out.old) (W.faults out.old))
-        (streams (S.left source.new) (S.faults source.new) (W.taken out.new) (W.faults out.new))
-        result.status result.said }
-{
-    let called = call(
-        alloc,
-        &show,
-        source,
-        out,
-        nobody(alloc),
-        |script, lent|
-            requires { is_valid script ≡ true }
-        { explore_for(alloc, show, script, lent) },
-    );
-    let said = said_of_finding(show.finding, &called.status, &called.run);
-    Ended {
-        status: called.status,
-        said,
-    }
-}
-
-/// Does what is asked.
-fn serve<S: Source, W: Sink>(alloc: Global, tool: Tool, source: &mut S, out: &mut W) -> Ended
+    lent: Lent<K, L>,
+) -> Ended<K, L>
     ensures does { DoesTool tool
-        (streams (S.left source.old) (S.faults source.old) (W.taken out.old) (W.faults out.old))
-        (streams (S.left source.new) (S.faults source.new) (W.taken out.new) (W.faults out.new))
+        (outside (S.left source.old) (S.faults source.old) (W.taken out.old) (W.faults out.old)
+        (shared_by K.tables K.faults K.asked L.heard L.left lent.keeper lent.listeners.items))
+        (outside (S.left source.new) (S.faults source.new) (W.taken out.new) (W.faults out.new)
+        (shared_by K.tables K.faults K.asked L.heard L.left result.lent.keeper
+        result.lent.listeners.items))
         result.status result.said }
     ensures usage { result.status ≢ Status.Usage }
 {
     match tool {
-        Tool::Report => report(alloc, source, out),
+        Tool::Report => write_report(alloc, source, out, lent),
+        Tool::Flat { csv } => write_flat(alloc, csv, source, out, lent),
+        Tool::Spans { jaeger } => write_spans(alloc, jaeger, source, out, lent),
+        Tool::Schedule => repeat_journal(alloc, source, out, lent),
+        Tool::Rows => write_rows(alloc, source, out, lent),
         Tool::Orders {
             switches,
+            kills,
             at_most,
-            show: None,
-        } => try_orders(alloc, Orders { switches, at_most }, source, out),
-        Tool::Orders {
-            switches,
-            at_most,
-            show: Some(number),
-        } => show_finding(
-            alloc,
-            Show {
-                orders: Orders { switches, at_most },
-                finding: finding_numbered(number),
-            },
-            source,
-            out,
-        ),
+            show,
+        } => {
+            let orders = Orders {
+                switches,
+                kills,
+                at_most,
+            };
+            match show {
+                None => try_orders(alloc, orders, source, out, lent),
+                Some(number) => {
+                    let finding = finding_numbered(number);
+                    show_finding(alloc, Show { orders, finding }, source, out, lent)
+                }
+            }
+        }
     }
 }
 
 /// How a call ended in which nothing was done.
-fn ended_idle(status: Status) -> Ended
+fn ended_idle<K, L>(status: Status, lent: Lent<K, L>) -> Ended<K, L>
     ensures status { result.status ≡ status }
     ensures said { result.said ≡ Said.Nothing }
+    ensures lent { result.lent ≡ lent }
 {
     Ended {
         status,
         said: Said::Nothing,
+        lent,
     }
 }
 
-/// Does what the words ask of the tools. `orders` reads a script, tries the orders of its sessions and writes what was found, or the
-/// script with the schedule of a finding. `report` reads a script and a journal after it, and writes the report of the journal. If the
-/// words have no form, nothing is read and nothing written.
-pub fn tools<S: Source, W: Sink>(
+/// Does what the words ask of the tools, and hands back what is lent. `orders` reads a script, tries the orders of its sessions and writes
+/// what was found, or the script with the schedule of a finding. `rows` reads a script and writes the rows that the keeper has of its
+/// entities. The others read a script and a journal after it: `report` writes the report of the journal, `flat` its entries with a member
+/// for each thing, `schedule` the script whose schedule repeats it, `spans` a trace. If the words have no form, nothing is read and nothing
+/// written.
+pub fn tools<S: Source, W: Sink, K: Keeper, L: Listener>(
     alloc: Global,
     words: &[String],
     source: &mut S,
     out: &mut W,
-) -> Ended
+    lent: Lent<K, L>,
+) -> Ended<K, L>
     ensures { Promised (tool_command (map string_bytes words.now))
-        (streams (S.left source.old) (S.faults source.old) (W.taken out.old) (W.faults out.old))
-        (streams (S.left source.new) (S.faults source.new) (W.taken out.new) (W.faults out.new))
+        (outside (S.left source.old) (S.faults source.old) (W.taken out.old) (W.faults out.old)
+        (shared_by K.tables K.faults K.asked L.heard L.left lent.keeper lent.listeners.items))
+        (outside (S.left source.new) (S.faults source.new) (W.taken out.new) (W.faults out.new)
+        (shared_by K.tables K.faults K.asked L.heard L.left result.lent.keeper
+        result.lent.listeners.items))
         result.status result.said }
 {
     match read_tool(alloc, words) {
-        Ok(Some(tool)) => serve(alloc, tool, source, out),
-        Ok(None) => ended_idle(Status::Usage),
-        Err(_) => ended_idle(Status::NoMemory),
+        Ok(Some(tool)) => serve(alloc, tool, source, out, lent),
+        Ok(None) => ended_idle(Status::Usage, lent),
+        Err(_) => ended_idle(Status::NoMemory, lent),
     }
 }

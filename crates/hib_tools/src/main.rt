@@ -1,11 +1,16 @@
 //! The tools: a program beside `hib` that reads scripts and journals and says what is in them.
 #![tactic(auto)]
 
-use hib_call::Status;
+mod files;
+
+use files::serve_file;
+use hib_base::Seq;
+use hib_call::{Lent, Status};
 use hib_host::{print_made, print_text, told, words_given};
-use hib_outside::{StdSink, StdSource};
-use hib_toolbox::{Said, tools};
-use hib_words::{TOOLS_VERSION, Topic, tools_help, topic_asked};
+use hib_listeners::Recorder;
+use hib_outside::{Keeper, MemKeeper, StdSink, StdSource};
+use hib_toolbox::{Ended, Said, tools};
+use hib_words::{TOOLS_VERSION, Topic, file_of_tool, tools_help, topic_asked};
 use std::alloc::Global;
 use std::io;
 use std::process::ExitCode;
@@ -22,14 +27,55 @@ fn answer(rt: &HostRuntime, words: &[String]) -> ExitCode {
     if let Some(topic) = topic_asked(words) {
         return told(rt, rt.alloc(), print_topic(rt, rt.alloc(), topic));
     }
+    match file_of_tool(rt.alloc(), words) {
+        Ok(None) => {
+            let keeper = MemKeeper::new(rt.alloc(), Seq::new(rt.alloc()));
+            let Ended {
+                status,
+                said,
+                lent: _,
+            } = serve(rt, words, keeper);
+            code_of(rt, status, said)
+        }
+        Ok(Some(path)) => {
+            let (status, said) = serve_file(rt, words, path);
+            code_of(rt, status, said)
+        }
+        Err(_) => told(rt, rt.alloc(), Status::NoMemory),
+    }
+}
+
+/// Does what the words say over a keeper, with no listener.
+fn serve<K: Keeper>(rt: &HostRuntime, words: &[String], keeper: K) -> Ended<K, Recorder> {
+    let lent: Lent<K, Recorder> = Lent {
+        keeper,
+        listeners: Vec::new(rt.alloc()),
+    };
     let mut source = StdSource::new(rt.reader());
     let mut sink = StdSink::new(io::writer(rt));
-    let ended = tools(rt.alloc(), words, &mut source, &mut sink);
-    match ended.said {
-        Said::Nothing => told(rt, rt.alloc(), ended.status),
+    tools(rt.alloc(), words, &mut source, &mut sink, lent)
+}
+
+/// Says on standard error what there is to say beside the text, and gives the status's number.
+fn code_of(rt: &HostRuntime, status: Status, said: Said) -> ExitCode {
+    match said {
+        Said::Nothing => told(rt, rt.alloc(), status),
         Said::Found => ExitCode::from(1),
         Said::Missing => {
             let _ = eprint!(rt; "hib: there is no such finding\n");
+            ExitCode::from(1)
+        }
+        Said::Foreign(place) => {
+            let entry = place.saturating_add(1);
+            let _ = eprint!(rt;
+                "hib: no schedule repeats entry {entry}, which is no session's own step\n"
+            );
+            ExitCode::from(1)
+        }
+        Said::Long => {
+            let _ = eprint!(rt;
+                "hib: the schedule has more than 20000 lines, or one of more than 1000000 steps\n"
+            );
             ExitCode::from(1)
         }
     }

@@ -1,0 +1,272 @@
+// The call of each word.
+ghost use Rattle.std.specs.Prelude.{◌≡◌, ℕ, None, Some, true};
+ghost use Rattle.hib_base.specs.Valid.{is_valid};
+ghost use Rattle.hib_call.specs.Outside.{outside, shared_by};
+ghost use Rattle.hib_toolbox.specs.Call.{DoesTool};
+ghost use Rattle.hib_toolbox.specs.Exploring.{IsSaid, IsSaidOf, finding_numbered};
+ghost use Rattle.hib_toolbox.specs.Repeating.{IsSaidOfRepeat};
+ghost use Rattle.hib_words.specs.declared.tools.Tool.{Tool};
+
+use crate::ended::{Ended, Said};
+use crate::flat::Flat;
+use crate::orders::{Explored, Orders, explore, is_any, is_there};
+use crate::repeat::{Repeat, Repeatable, Repeated, repeat};
+use crate::report::{Report, as_read};
+use crate::rows::{Rows, list_rows};
+use crate::show::{Show, explore_for};
+use crate::spans::Trace;
+use hib_call::{Called, Lent, Status, call};
+use hib_order_text::Finding;
+use hib_outside::{Keeper, Listener, Sink, Source};
+use std::alloc::Global;
+
+/// How a call ended beside which nothing is said.
+fn ended<R: Drop, K, L>(called: Called<R, K, L>) -> Ended<K, L>
+    ensures status { result.status ≡ called.status }
+    ensures said { result.said ≡ Said.Nothing }
+    ensures lent { result.lent ≡ called.lent }
+{
+    let Called {
+        status,
+        lent,
+        run: _,
+    } = called;
+    Ended {
+        status,
+        said: Said::Nothing,
+        lent,
+    }
+}
+
+/// What is said of a journal that was to be repeated, beside how its call ended.
+fn said_of_repeat(status: &Status, run: &Option<Repeated>) -> Said
+    ensures { IsSaidOfRepeat status.now run.now result }
+{
+    match status {
+        Status::Done => match run {
+            Some(run) => match run.repeatable {
+                Repeatable::Whole => Said::Nothing,
+                Repeatable::Foreign(entry) => Said::Foreign(entry),
+                Repeatable::Long => Said::Long,
+            },
+            None => Said::Nothing,
+        },
+        _ => Said::Nothing,
+    }
+}
+
+/// What is said of a search beside how its call ended.
+fn said_of(status: &Status, run: &Option<Explored>) -> Said
+    ensures { IsSaid status.now run.now result }
+{
+    match status {
+        Status::Done => match run {
+            Some(run) => {
+                if is_any(run) {
+                    Said::Found
+                } else {
+                    Said::Nothing
+                }
+            }
+            None => Said::Nothing,
+        },
+        _ => Said::Nothing,
+    }
+}
+
+/// What is said of a search for a finding beside how its call ended.
+fn said_of_finding(finding: Finding, status: &Status, run: &Option<Explored>) -> Said
+    ensures { IsSaidOf finding status.now run.now result }
+{
+    match status {
+        Status::Done => match run {
+            Some(run) => {
+                if is_there(run, finding) {
+                    Said::Nothing
+                } else {
+                    Said::Missing
+                }
+            }
+            None => Said::Nothing,
+        },
+        _ => Said::Nothing,
+    }
+}
+
+/// Writes the report of a journal.
+pub fn write_report<S: Source, W: Sink, K: Keeper, L: Listener>(
+    alloc: Global,
+    source: &mut S,
+    out: &mut W,
+    lent: Lent<K, L>,
+) -> Ended<K, L>
+    ensures { DoesTool Tool.Report
+        (outside (S.left source.old) (S.faults source.old) (W.taken out.old) (W.faults out.old)
+        (shared_by K.tables K.faults K.asked L.heard L.left lent.keeper lent.listeners.items))
+        (outside (S.left source.new) (S.faults source.new) (W.taken out.new) (W.faults out.new)
+        (shared_by K.tables K.faults K.asked L.heard L.left result.lent.keeper
+        result.lent.listeners.items))
+        result.status result.said }
+{
+    let called = call(alloc, &Report, source, out, lent, |input, lent| {
+        as_read(input, lent)
+    });
+    ended(called)
+}
+
+/// Writes a journal as columns, or as flat objects.
+pub fn write_flat<S: Source, W: Sink, K: Keeper, L: Listener>(
+    alloc: Global,
+    csv: bool,
+    source: &mut S,
+    out: &mut W,
+    lent: Lent<K, L>,
+) -> Ended<K, L>
+    ensures { DoesTool (Tool.Flat csv)
+        (outside (S.left source.old) (S.faults source.old) (W.taken out.old) (W.faults out.old)
+        (shared_by K.tables K.faults K.asked L.heard L.left lent.keeper lent.listeners.items))
+        (outside (S.left source.new) (S.faults source.new) (W.taken out.new) (W.faults out.new)
+        (shared_by K.tables K.faults K.asked L.heard L.left result.lent.keeper
+        result.lent.listeners.items))
+        result.status result.said }
+{
+    let called = call(alloc, &Flat { csv }, source, out, lent, |input, lent| {
+        as_read(input, lent)
+    });
+    ended(called)
+}
+
+/// Writes a journal as a trace.
+pub fn write_spans<S: Source, W: Sink, K: Keeper, L: Listener>(
+    alloc: Global,
+    jaeger: bool,
+    source: &mut S,
+    out: &mut W,
+    lent: Lent<K, L>,
+) -> Ended<K, L>
+    ensures { DoesTool (Tool.Spans jaeger)
+        (outside (S.left source.old) (S.faults source.old) (W.taken out.old) (W.faults out.old)
+        (shared_by K.tables K.faults K.asked L.heard L.left lent.keeper lent.listeners.items))
+        (outside (S.left source.new) (S.faults source.new) (W.taken out.new) (W.faults out.new)
+        (shared_by K.tables K.faults K.asked L.heard L.left result.lent.keeper
+        result.lent.listeners.items))
+        result.status result.said }
+{
+    let called = call(alloc, &Trace { jaeger }, source, out, lent, |input, lent| {
+        as_read(input, lent)
+    });
+    ended(called)
+}
+
+/// Writes the rows that the keeper has.
+pub fn write_rows<S: Source, W: Sink, K: Keeper, L: Listener>(
+    alloc: Global,
+    source: &mut S,
+    out: &mut W,
+    lent: Lent<K, L>,
+) -> Ended<K, L>
+    ensures { DoesTool Tool.Rows
+        (outside (S.left source.old) (S.faults source.old) (W.taken out.old) (W.faults out.old)
+        (shared_by K.tables K.faults K.asked L.heard L.left lent.keeper lent.listeners.items))
+        (outside (S.left source.new) (S.faults source.new) (W.taken out.new) (W.faults out.new)
+        (shared_by K.tables K.faults K.asked L.heard L.left result.lent.keeper
+        result.lent.listeners.items))
+        result.status result.said }
+{
+    let called = call(alloc, &Rows, source, out, lent, |script, lent| {
+        list_rows(alloc, script, lent)
+    });
+    ended(called)
+}
+
+/// Tries the orders of a script's sessions.
+pub fn try_orders<S: Source, W: Sink, K: Keeper, L: Listener>(
+    alloc: Global,
+    orders: Orders,
+    source: &mut S,
+    out: &mut W,
+    lent: Lent<K, L>,
+) -> Ended<K, L>
+    ensures { DoesTool (Tool.Orders orders.switches orders.kills orders.at_most None)
+        (outside (S.left source.old) (S.faults source.old) (W.taken out.old) (W.faults out.old)
+        (shared_by K.tables K.faults K.asked L.heard L.left lent.keeper lent.listeners.items))
+        (outside (S.left source.new) (S.faults source.new) (W.taken out.new) (W.faults out.new)
+        (shared_by K.tables K.faults K.asked L.heard L.left result.lent.keeper
+        result.lent.listeners.items))
+        result.status result.said }
+{
+    let Called { status, lent, run } = call(
+        alloc,
+        &orders,
+        source,
+        out,
+        lent,
+        |script, lent|
+            requires { is_valid script ≡ true }
+        { explore(alloc, orders, script, lent) },
+    );
+    Ended {
+        said: said_of(&status, &run),
+        status,
+        lent,
+    }
+}
+
+/// Tries the orders of a script's sessions, and writes the script with the schedule of a finding.
+pub fn show_finding<S: Source, W: Sink, K: Keeper, L: Listener>(
+    alloc: Global,
+    show: Show,
+    source: &mut S,
+    out: &mut W,
+    lent: Lent<K, L>,
+) -> Ended<K, L>
+    ensures { (number : ℕ) → finding_numbered number ≡ show.finding
+        → DoesTool (Tool.Orders show.orders.switches show.orders.kills show.orders.at_most (Some number))
+        (outside (S.left source.old) (S.faults source.old) (W.taken out.old) (W.faults out.old)
+        (shared_by K.tables K.faults K.asked L.heard L.left lent.keeper lent.listeners.items))
+        (outside (S.left source.new) (S.faults source.new) (W.taken out.new) (W.faults out.new)
+        (shared_by K.tables K.faults K.asked L.heard L.left result.lent.keeper
+        result.lent.listeners.items))
+        result.status result.said }
+{
+    let Called { status, lent, run } = call(
+        alloc,
+        &show,
+        source,
+        out,
+        lent,
+        |script, lent|
+            requires { is_valid script ≡ true }
+        { explore_for(alloc, show, script, lent) },
+    );
+    Ended {
+        said: said_of_finding(show.finding, &status, &run),
+        status,
+        lent,
+    }
+}
+
+/// Writes the script whose schedule repeats a journal.
+pub fn repeat_journal<S: Source, W: Sink, K: Keeper, L: Listener>(
+    alloc: Global,
+    source: &mut S,
+    out: &mut W,
+    lent: Lent<K, L>,
+) -> Ended<K, L>
+    ensures { DoesTool Tool.Schedule
+        (outside (S.left source.old) (S.faults source.old) (W.taken out.old) (W.faults out.old)
+        (shared_by K.tables K.faults K.asked L.heard L.left lent.keeper lent.listeners.items))
+        (outside (S.left source.new) (S.faults source.new) (W.taken out.new) (W.faults out.new)
+        (shared_by K.tables K.faults K.asked L.heard L.left result.lent.keeper
+        result.lent.listeners.items))
+        result.status result.said }
+{
+    let Called { status, lent, run } = call(alloc, &Repeat, source, out, lent, |input, lent| {
+        repeat(alloc, input, lent)
+    });
+    Ended {
+        said: said_of_repeat(&status, &run),
+        status,
+        lent,
+    }
+}

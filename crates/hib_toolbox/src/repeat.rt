@@ -1,0 +1,140 @@
+// The script whose schedule repeats a journal.
+ghost use Rattle.std.specs.Prelude.{◌≡◌};
+ghost use Rattle.hib_call.specs.Ends.{Comes};
+ghost use Rattle.hib_call.specs.Outside.{Shared, shared_by};
+ghost use Rattle.hib_toolbox.specs.Repeating.{is_foreign, repeating};
+
+use crate::report::{LIMIT, read_input};
+use hib_base::{Act, Entry, Script, Seq};
+use hib_call::{InputFault, Lent, Outcome, Ran, Status, Task, tell_text};
+use hib_input::WithJournal;
+use hib_order_law::steps_in;
+use hib_order_schedule::{
+    may_have_schedule, runs_of, schedules_play_orders, whole_runs_come_again, with_schedule,
+};
+use hib_outside::{Keeper, Listener, Sink};
+use std::alloc::Global;
+
+/// Whether a schedule repeats a journal.
+#[derive(Clone, Copy, Debug, PartialEq, Eq)]
+pub enum Repeatable {
+    /// It does.
+    Whole,
+    /// The entry at this place, from 0, is no session's own step, and no kill.
+    Foreign(usize),
+    /// It would have more than 20,000 lines, or a line of more than 1,000,000 steps.
+    Long,
+}
+
+/// A script, and whether its schedule repeats a journal.
+#[derive(Drop)]
+pub struct Repeated {
+    /// The script, with that schedule if there is one.
+    pub script: Script,
+    /// Whether it repeats the journal.
+    pub repeatable: Repeatable,
+}
+
+/// Whether an entry is no session's own step, and kills none.
+fn is_foreign(entry: &Entry) -> bool
+    ensures { result ≡ is_foreign entry.now }
+{
+    match entry.act {
+        Act::Kill { .. } => false,
+        _ => entry.session.is_none(),
+    }
+}
+
+/// The place of the first such entry.
+fn first_foreign(entries: &[Entry]) -> Option<usize>
+    ensures { result ≡ position is_foreign entries.now }
+{
+    entries.iter().position(|entry| is_foreign(entry))
+}
+
+/// Puts the schedule that repeats a journal into its script, if one does. Nothing that is lent is touched. A journal of 2^32 entries or
+/// more is answered as want of memory.
+fn repeated(alloc: Global, input: WithJournal) -> Outcome<Repeated>
+    ensures { (lent : Shared) → Comes repeating input lent lent result }
+{
+    schedules_play_orders();
+    whole_runs_come_again();
+    let WithJournal { script, journal } = input;
+    if let Some(entry) = first_foreign(journal.as_slice()) {
+        return Outcome::Over(Repeated {
+            script,
+            repeatable: Repeatable::Foreign(entry),
+        });
+    }
+    let Ok(order) = steps_in(alloc, journal.as_slice()) else {
+        return Outcome::Stopped(Status::NoMemory, None);
+    };
+    if order.len() >= 4_294_967_296 {
+        return Outcome::Stopped(Status::NoMemory, None);
+    }
+    let Ok(runs) = runs_of(alloc, order.as_slice()) else {
+        return Outcome::Stopped(Status::NoMemory, None);
+    };
+    if !may_have_schedule(&script, runs.as_slice()) {
+        return Outcome::Over(Repeated {
+            script,
+            repeatable: Repeatable::Long,
+        });
+    }
+    Outcome::Over(Repeated {
+        script: with_schedule(script, Seq::from_vec(runs)),
+        repeatable: Repeatable::Whole,
+    })
+}
+
+/// Puts the schedule that repeats a journal into its script, if one does, and hands back what is lent as it is.
+pub fn repeat<K: Keeper, L: Listener>(
+    alloc: Global,
+    input: WithJournal,
+    lent: Lent<K, L>,
+) -> Ran<Repeated, K, L>
+    ensures { Comes repeating input
+        (shared_by K.tables K.faults K.asked L.heard L.left lent.keeper lent.listeners.items)
+        (shared_by K.tables K.faults K.asked L.heard L.left result.lent.keeper
+        result.lent.listeners.items)
+        result.outcome }
+{
+    let outcome = repeated(alloc, input);
+    Ran { outcome, lent }
+}
+
+/// Reads a script, the line `journal` and a journal as JSON lines, and writes the script with the schedule that repeats the journal, if
+/// one does. Nothing is run or judged.
+#[derive(Clone, Copy)]
+pub struct Repeat;
+
+impl Task for Repeat {
+    ghost use Rattle.std.specs.Prelude.{⊤};
+    ghost use Rattle.hib_toolbox.specs.Repeating.{repeating};
+
+    type Input = WithJournal;
+
+    type Run = Repeated;
+
+    ghost command = { λ _. repeating };
+
+    ghost is_sound = { λ _. ⊤ };
+
+    fn limit(&self) -> usize {
+        LIMIT
+    }
+
+    fn read(&self, alloc: Global, text: &[u8]) -> Result<WithJournal, InputFault> {
+        read_input(alloc, text)
+    }
+
+    fn tell<W: Sink>(&self, alloc: Global, run: &Repeated, out: &mut W) -> Status {
+        if run.repeatable != Repeatable::Whole {
+            return tell_text(b"", out);
+        }
+        match hib_print::print(alloc, &run.script) {
+            Ok(text) => tell_text(text.as_slice(), out),
+            Err(_) => Status::NoMemory,
+        }
+    }
+}

@@ -1,0 +1,96 @@
+// The rows that a keeper has of a script's entities.
+ghost use Rattle.std.specs.Prelude.{◌≡◌, IfOk, IfSome};
+ghost use Rattle.std.specs.List.{range_with_len};
+ghost use Rattle.hib_outside.specs.Causes.{FailsByCause};
+ghost use Rattle.hib_outside.specs.Keeps.{rows_of};
+ghost use Rattle.hib_call.specs.Ends.{Comes};
+ghost use Rattle.hib_call.specs.Outside.{shared_by};
+ghost use Rattle.hib_toolbox.specs.Listing.{listing};
+
+use crate::orders::read_script;
+use hib_base::{EntityNo, Rows as AllRows, Script};
+use hib_call::{InputFault, Lent, Outcome, Ran, Status, Task, tell_text};
+use hib_outside::{KeepFault, Keeper, Listener, Sink};
+use std::alloc::{AllocError, Global};
+
+/// So many entities, from the first. More than 65,536 are answered as want of memory.
+fn entities(alloc: Global, count: usize) -> Result<Vec<EntityNo>, AllocError>
+    ensures { IfOk result (λ v. v.items ≡ range_with_len 0 count) }
+{
+    let mut entities = Vec::with_capacity(alloc, count)?;
+    for entity in 0..count {
+        let Ok(entity) = u16::try_from(entity) else {
+            return Err(AllocError);
+        };
+        entities.push(EntityNo(entity))?;
+    }
+    Ok(entities)
+}
+
+/// All rows that a keeper has of so many entities.
+fn listed<K: Keeper>(alloc: Global, keeper: &mut K, count: usize) -> Result<AllRows, KeepFault>
+    ensures rows { IfOk result (λ rows. IfSome (K.tables keeper.old)
+        (λ m. rows ≡ rows_of (range_with_len 0 count) m)) }
+    ensures same { K.tables keeper.new ≡ K.tables keeper.old }
+    ensures cause { FailsByCause (K.faults keeper.old) (K.faults keeper.new) result }
+{
+    let entities = entities(alloc, count)?;
+    keeper.list(alloc, entities.as_slice())
+}
+
+/// Asks a keeper for all rows of a script's entities, and puts them in the place of the script's.
+pub fn list_rows<K: Keeper, L: Listener>(
+    alloc: Global,
+    script: Script,
+    lent: Lent<K, L>,
+) -> Ran<Script, K, L>
+    ensures { Comes listing script
+        (shared_by K.tables K.faults K.asked L.heard L.left lent.keeper lent.listeners.items)
+        (shared_by K.tables K.faults K.asked L.heard L.left result.lent.keeper
+        result.lent.listeners.items)
+        result.outcome }
+{
+    let mut lent = lent;
+    let mut script = script;
+    let outcome = match listed(alloc, &mut lent.keeper, script.mapping.len()) {
+        Ok(rows) => {
+            script.rows = rows;
+            Outcome::Over(script)
+        }
+        Err(KeepFault::NoMemory) => Outcome::Stopped(Status::NoMemory, None),
+        Err(KeepFault::Failed) => Outcome::Stopped(Status::StoreFault, None),
+    };
+    Ran { outcome, lent }
+}
+
+/// Reads a script, asks a keeper for the rows of its entities and writes them as lines of the script.
+#[derive(Clone, Copy)]
+pub struct Rows;
+
+impl Task for Rows {
+    ghost use Rattle.std.specs.Prelude.{⊤};
+    ghost use Rattle.hib_toolbox.specs.Listing.{listing};
+
+    type Input = Script;
+
+    type Run = Script;
+
+    ghost command = { λ _. listing };
+
+    ghost is_sound = { λ _. ⊤ };
+
+    fn limit(&self) -> usize {
+        1_048_576
+    }
+
+    fn read(&self, alloc: Global, text: &[u8]) -> Result<Script, InputFault> {
+        read_script(alloc, text)
+    }
+
+    fn tell<W: Sink>(&self, alloc: Global, run: &Script, out: &mut W) -> Status {
+        match hib_print::print_row_lines(alloc, run) {
+            Ok(text) => tell_text(text.as_slice(), out),
+            Err(_) => Status::NoMemory,
+        }
+    }
+}
