@@ -1,6 +1,6 @@
 -- A journal as data: as flat objects or columns, and as a trace.
 use Rattle.std.specs.Prelude.{ℕ, Bool, true, false, List}
-use Rattle.hib_flat.specs.Flat.{flat, flat_csv}
+use Rattle.hib_flat.specs.Lines.{flat, flat_csv}
 use Rattle.hib_input.specs.declared.with_journal.WithJournal.{WithJournal}
 use Rattle.hib_call.specs.Command.{Command}
 use Rattle.hib_call.specs.Ends.{IsWritten}
