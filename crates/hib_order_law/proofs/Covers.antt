@@ -14,7 +14,7 @@ use Rattle.hib_order_law.proofs.Begun.{Begins, and_left, and_right, begins_so, s
 use Rattle.hib_order_law.proofs.Made.{not_true, order_decides}
 use Rattle.hib_order_law.proofs.Later.{base, has_comes, head_due, head_has, is_free, later}
 
-heads : {A : Type 0} {x y : A} {xs ys : List A} → x ∷ xs ≡ y ∷ ys → x ≡ y
+pub heads : {A : Type 0} {x y : A} {xs ys : List A} → x ∷ xs ≡ y ∷ ys → x ≡ y
 heads e = cc
 
 -- what begins another order kills no more often
@@ -34,7 +34,7 @@ few_kills most_kills other order b l = below (kills other) (kills order) (fewer 
 
 module _ (script : Script) (start : Tables) where
   -- over the same journal two entries are one if their steps are
-  same_head : (h : Journal) (a b : Entry) → IsUndisturbed script start (a ∷ h) → IsUndisturbed script start (b ∷ h) → step_of a ≡ step_of b → a ≡ b
+  pub same_head : (h : Journal) (a b : Entry) → IsUndisturbed script start (a ∷ h) → IsUndisturbed script start (b ∷ h) → step_of a ≡ step_of b → a ≡ b
   same_head h a b u v s = heads (order_decides script start (a ∷ h) (b ∷ h) u v (ap (λ t. t ∷ steps_in h) s))
 
   abbrev Covered : Journal → ℕ → List Entry → List Entry → Type 0
