@@ -1,6 +1,6 @@
 -- An order that begins so, step by step.
-use Rattle.std.specs.Prelude.{◌&&◌, ◌==◌}
-use Rattle.std.proofs.Common.{◌≡◌, ℕ, Bool, true, false, List, [], ◌∷◌, refl, ap, eq-eqb}
+use Rattle.std.specs.Prelude.{◌&&◌}
+use Rattle.std.proofs.Common.{◌≡◌, Bool, true, false, List, [], ◌∷◌, refl, ap, eq-eqb}
 use Rattle.std.proofs.lemmas.Bool.{false≢true, eqb-true}
 use Rattle.hib_order_law.specs.Orders.{begins, same_step}
 use Rattle.hib_order_law.specs.Search.{same_order}

@@ -1,12 +1,12 @@
 -- The first steps of another order of a run may come, each at its turn.
-use Rattle.std.proofs.Common.{◌≡◌, ℕ, zero, suc, inl, inr, true, false, List, [], ◌∷◌, refl, sym, subst}
+use Rattle.std.proofs.Common.{◌≡◌, ℕ, zero, suc, inl, inr, true, List, [], ◌∷◌, refl, sym, subst}
 use Rattle.hib_base.specs.Tables.{Tables}
 use Rattle.hib_journal.specs.Types.{Script, Entry}
 use Rattle.hib_journal.specs.Sessions.{Journal}
 use Rattle.hib_order_law.specs.Orders.{IsUndisturbed, can_begin, is_due, onto, step_of, with_step, IsOther, IsRun}
 use Rattle.hib_order_law.specs.declared.step.Step.{Step}
 use Rattle.hib_order_law.proofs.Begun.{and_both}
-use Rattle.hib_order_law.proofs.Later.{base, head_due, plain_head, tail}
+use Rattle.hib_order_law.proofs.Later.{base, head_due, plain_head}
 use Rattle.hib_order_law.proofs.Made.{entry_is}
 
 module _ (script : Script) (start : Tables) where

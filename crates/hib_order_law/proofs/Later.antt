@@ -6,7 +6,7 @@ use Rattle.std.proofs.Common.{◌≡◌, ℕ, inl, inr, Bool, true, false, List,
 use Rattle.std.proofs.lemmas.Bool.{false≢true, eqb-true}
 use Rattle.hib_base.specs.Tables.{Tables}
 use Rattle.hib_base.proofs.Tables.{Tested, tested}
-use Rattle.hib_journal.specs.Types.{Script, Act, Entry}
+use Rattle.hib_journal.specs.Types.{Script, Entry}
 use Rattle.hib_journal.specs.Sessions.{Journal, is_by, is_open, is_session, killed_by, was_killed}
 use Rattle.hib_journal.specs.Played.{has_next}
 use Rattle.hib_journal.proofs.Sessions.{own_other}

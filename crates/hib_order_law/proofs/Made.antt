@@ -1,5 +1,5 @@
 -- An undisturbed journal is the one that its order makes.
-use Rattle.std.specs.Prelude.{unwrap_or, not, is_some, length, option_map, ◌||◌, ◌&&◌}
+use Rattle.std.specs.Prelude.{unwrap_or, not, is_some, length, option_map, ◌||◌}
 use Rattle.std.specs.List.{list_all}
 use Rattle.std.proofs.Common.{◌≡◌, ◌+◌, ◌⊎◌, ℕ, inl, inr, Bool, true, false, cond, List, [], ◌∷◌, Some, None, Option, refl, sym, ap, ◌∙◌, subst, eq-eqb}
 use Rattle.std.proofs.lemmas.Bool.{false≢true, true≢false}
@@ -109,19 +109,25 @@ module _ (script : Script) (start : Tables) where
       by (inl x) =
           let n : (was_killed x.0 h ≡ false) × (next script x.0 (own x.0 h) ≡ Some e.act) = next_act script (Some start) h e x.0 t (by_self e x.0 x.1) in
           let i : is_outside e.act ≡ false = inside script x.0 (own x.0 h) e.act (steps_in_order script (Some start) x.0 h l) n.1 in
-          inl (x.0, record {
-            session = x.1;
-            inside = i;
-            step = own_step e.session e.act i ∙ ap (λ o. Step.Own (unwrap_or o 0)) x.1;
-            alive = n.0;
-            next = n.1;
-          })
-      by (inr x) = inr (x.1.0, record {
-        session = x.0;
-        act = x.1.1;
-        step = ap (λ a. step_by e.session a) x.1.1;
-        stands = at_kill x.1.0 x.0 x.1.1;
-      })
+          inl (
+            x.0,
+            record {
+              session = x.1;
+              inside = i;
+              step = own_step e.session e.act i ∙ ap (λ o. Step.Own (unwrap_or o 0)) x.1;
+              alive = n.0;
+              next = n.1;
+            },
+          )
+      by (inr x) = inr (
+        x.1.0,
+        record {
+          session = x.0;
+          act = x.1.1;
+          step = ap (λ a. step_by e.session a) x.1.1;
+          stands = at_kill x.1.0 x.0 x.1.1;
+        },
+      )
 
   -- so it is the step that is due
   pub moves : (h : Journal) (e : Entry) → Stepped script h e → IsMove script h e

@@ -36,8 +36,8 @@ pub fn orders_decide()
 pub fn others_cover()
     ensures covered { (script : Script) (start : Tables) (most_kills : ℕ) (begun : List Step)
         (es ds : List Entry) → IsRun script start most_kills es → IsRun script start most_kills ds
-        → is_unkilled (length begun) (steps_in es) ≡ true
-        → begins begun (steps_in es) ≡ true → begins begun (steps_in ds) ≡ true
+        → is_unkilled (length begun) (steps_in es) ≡ true → begins begun (steps_in es) ≡ true
+        → begins begun (steps_in ds) ≡ true
         → (es ≡ ds) ⊎ ((other : List Step) × IsOther script [] (length begun) es other
         × (begins other (steps_in ds) ≡ true) × (kills other ≤ most_kills)
         × (cost (steps_in es) other ≤ switches (steps_in ds))) }
