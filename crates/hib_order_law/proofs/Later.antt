@@ -1,31 +1,24 @@
--- In a run in which each session is at its end, a session has a next act at a point exactly if it comes later.
-use Rattle.std.specs.Prelude.{unwrap_or, not, is_some, ◌||◌, ◌==◌}
+-- In a run in which each session is at its end or killed, a session that has a next act at a point comes later; and one that comes later
+-- has a next act if no session is killed from there on.
+use Rattle.std.specs.Prelude.{not, ◌||◌, ◌==◌}
 use Rattle.std.specs.List.{list_all}
-use Rattle.std.proofs.Common.{◌≡◌, ℕ, inl, inr, true, false, List, [], ◌∷◌, Some, None, Option, refl, sym, ap, ◌∙◌, subst}
+use Rattle.std.proofs.Common.{◌≡◌, ℕ, inl, inr, Bool, true, false, List, [], ◌∷◌, refl, sym, ap, ◌∙◌, subst}
 use Rattle.std.proofs.lemmas.Bool.{false≢true, eqb-true}
 use Rattle.hib_base.specs.Tables.{Tables}
 use Rattle.hib_base.proofs.Tables.{Tested, tested}
 use Rattle.hib_journal.specs.Types.{Script, Entry}
-use Rattle.hib_journal.specs.Sessions.{Journal, own, is_by, is_session, was_killed}
-use Rattle.hib_journal.specs.Next.{next}
-use Rattle.hib_journal.specs.Legal.{is_outside}
-use Rattle.hib_journal.specs.Runs.{is_fault}
+use Rattle.hib_journal.specs.Sessions.{Journal, is_by, is_open, is_session, killed_by, was_killed}
 use Rattle.hib_journal.specs.Played.{has_next}
 use Rattle.hib_journal.proofs.Sessions.{own_other}
-use Rattle.hib_journal.proofs.Steps.{next_act, steps_in_order}
-use Rattle.hib_journal.proofs.Inside.{inside}
 use Rattle.hib_journal.proofs.Open.{killed_same}
-use Rattle.hib_order_law.specs.Orders.{is_plain, IsUndisturbed, comes, onto, sessions_in}
+use Rattle.hib_order_law.specs.Orders.{is_due, is_kill_step, is_plain, IsUndisturbed, comes, onto, step_of, steps_in, whose}
+use Rattle.hib_order_law.specs.declared.step.Step.{Step}
 use Rattle.hib_order_law.proofs.Begun.{and_left, and_right}
-use Rattle.hib_order_law.proofs.Made.{by_self}
+use Rattle.hib_order_law.proofs.Made.{IsKilling, IsOwn, Stepped, entry_due, not_true, stepped}
 
--- the session of a plain entry
-pub plain_session : (e : Entry) → is_plain e ≡ true → e.session ≡ Some (unwrap_or e.session 0)
-plain_session e p = by e.session (and_left (is_some e.session) (not (is_fault e.reply)) p)
-  where
-    by : (o : Option ℕ) → is_some o ≡ true → o ≡ Some (unwrap_or o 0)
-    by None q = absurd (false≢true q)
-    by (Some n) q = refl
+-- no step of these kills
+abbrev pub is_free : List Step → Bool
+is_free ts = list_all (λ t. not (is_kill_step t)) ts
 
 module _ (script : Script) (start : Tables) where
   pub tail : (e : Entry) (h : Journal) → IsUndisturbed script start (e ∷ h) → IsUndisturbed script start h
@@ -42,43 +35,64 @@ module _ (script : Script) (start : Tables) where
   pub plain_head : (e : Entry) (h : Journal) → IsUndisturbed script start (e ∷ h) → is_plain e ≡ true
   plain_head e h u = and_left (is_plain e) (list_all is_plain h) u.plain
 
-  -- what an entry's session does is its next act
-  head_act : (e : Entry) (h : Journal) → IsUndisturbed script start (e ∷ h) →
-      (was_killed (unwrap_or e.session 0) h ≡ false) × (next script (unwrap_or e.session 0) (own (unwrap_or e.session 0) h) ≡ Some e.act)
-  head_act e h u =
-      next_act script (Some start) h e (unwrap_or e.session 0) u.legal.1 (by_self e (unwrap_or e.session 0) (plain_session e (plain_head e h u)))
+  pub head_stepped : (e : Entry) (h : Journal) → IsUndisturbed script start (e ∷ h) → Stepped script h e
+  head_stepped e h u = stepped script start h e u.legal.0 u.legal.1 (plain_head e h u)
 
-  head_inside : (e : Entry) (h : Journal) → IsUndisturbed script start (e ∷ h) → is_outside e.act ≡ false
-  head_inside e h u =
-      inside script (unwrap_or e.session 0) (own (unwrap_or e.session 0) h) e.act (steps_in_order script (Some start) (unwrap_or e.session 0) h u.legal.0)
-      (head_act e h u).1
+  -- the step of an entry may come
+  pub head_due : (e : Entry) (h : Journal) → IsUndisturbed script start (e ∷ h) → is_due script h (step_of e) ≡ true
+  head_due e h u = entry_due script start h e u.legal.0 u.legal.1 (plain_head e h u)
 
-  -- no session is killed
-  pub none_killed : (h : Journal) → IsUndisturbed script start h → (s : ℕ) → was_killed s h ≡ false
-  none_killed [] u s = refl
-  none_killed (e ∷ h) u s = killed_same s e h (head_inside e h u) ∙ none_killed h (tail e h u) s
-
-  -- the session of an entry had a next act
-  pub head_has : (e : Entry) (h : Journal) → IsUndisturbed script start (e ∷ h) → has_next script h (unwrap_or e.session 0) ≡ true
-  head_has e h u = rw ((head_act e h u).0, (head_act e h u).1)
+  -- if it kills none, its session had a next act
+  pub head_has : (e : Entry) (h : Journal) → IsUndisturbed script start (e ∷ h) → is_kill_step (step_of e) ≡ false → has_next script h (whose (step_of e)) ≡ true
+  head_has e h u f = by (head_stepped e h u)
+    where
+      by : Stepped script h e → has_next script h (whose (step_of e)) ≡ true
+      by (inl x) = let o : IsOwn script h e x.0 = x.1 in subst (λ t. has_next script h (whose t) ≡ true) (sym o.step) (rw (o.alive, o.next))
+      by (inr x) = let k : IsKilling script h e x.0 = x.1 in absurd (false≢true (sym f ∙ ap is_kill_step k.step))
 
   -- an entry leaves the next act of another session
-  other_has : (e : Entry) (h : Journal) (s : ℕ) → IsUndisturbed script start (e ∷ h) → (unwrap_or e.session 0 == s) ≡ false →
-      has_next script (e ∷ h) s ≡ has_next script h s
-  other_has e h s u n = rw (none_killed (e ∷ h) u s, none_killed h (tail e h u) s, own_other s e h not_by)
+  pub other_has : (e : Entry) (h : Journal) (s : ℕ) → IsUndisturbed script start (e ∷ h) → (whose (step_of e) == s) ≡ false → has_next script (e ∷ h) s ≡ has_next script h s
+  other_has e h s u n = by (head_stepped e h u)
     where
-      not_by : is_by s e ≡ false
-      not_by = ap (is_session s) (plain_session e (plain_head e h u)) ∙ n
+      by : Stepped script h e → has_next script (e ∷ h) s ≡ has_next script h s
+      by (inl x) = rw (killed_same s e h o.inside, own_other s e h not_by)
+        where
+          o : IsOwn script h e x.0
+          o = x.1
 
-  -- a session has a next act exactly if it comes later
-  pub later : (es : List Entry) (h : Journal) (s : ℕ) → IsUndisturbed script start (onto es h) → has_next script (onto es h) s ≡ false →
-      has_next script h s ≡ comes s (sessions_in es)
-  later [] h s u o = o
-  later (e ∷ es) h s u o = by (tested (unwrap_or e.session 0 == s)) (later es (e ∷ h) s u o)
+          not_by : is_by s e ≡ false
+          not_by = ap (is_session s) o.session ∙ subst (λ t. (whose t == s) ≡ false) o.step n
+      by (inr x) = rw (killed, own_other s e h (ap (is_session s) k.session))
+        where
+          k : IsKilling script h e x.0
+          k = x.1
+
+          killed : was_killed s (e ∷ h) ≡ was_killed s h
+          killed = rw (ap (λ a. killed_by s a (is_open s h)) k.act ∙ subst (λ t. (whose t == s) ≡ false) k.step n) refl
+
+  -- a session that has a next act comes later
+  pub has_comes : (es : List Entry) (h : Journal) (s : ℕ) → IsUndisturbed script start (onto es h) → has_next script (onto es h) s ≡ false → has_next script h s ≡ true →
+      comes s (steps_in es) ≡ true
+  has_comes [] h s u o p = absurd (false≢true (sym o ∙ p))
+  has_comes (e ∷ es) h s u o p = by (tested (whose (step_of e) == s)) (has_comes es (e ∷ h) s u o)
+    where
+      by : Tested (whose (step_of e) == s) → (has_next script (e ∷ h) s ≡ true → comes s (steps_in es) ≡ true) → ((whose (step_of e) == s) || comes s (steps_in es)) ≡ true
+      by (inl q) i = rw q refl
+      by (inr q) i = rw q (i (other_has e h s (base es (e ∷ h) u) q ∙ p))
+
+  -- if none is killed from there on, it has one exactly if it comes later
+  pub later : (es : List Entry) (h : Journal) (s : ℕ) → IsUndisturbed script start (onto es h) → is_free (steps_in es) ≡ true → has_next script (onto es h) s ≡ false →
+      has_next script h s ≡ comes s (steps_in es)
+  later [] h s u f o = o
+  later (e ∷ es) h s u f o =
+      by (tested (whose (step_of e) == s)) (later es (e ∷ h) s u (and_right (not (is_kill_step (step_of e))) (is_free (steps_in es)) f) o)
     where
       here : IsUndisturbed script start (e ∷ h)
       here = base es (e ∷ h) u
 
-      by : Tested (unwrap_or e.session 0 == s) → has_next script (e ∷ h) s ≡ comes s (sessions_in es) → has_next script h s ≡ ((unwrap_or e.session 0 == s) || comes s (sessions_in es))
-      by (inl p) i = rw p (subst (λ i. has_next script h i ≡ true) (eqb-true (unwrap_or e.session 0) s p) (head_has e h here))
+      own_step : is_kill_step (step_of e) ≡ false
+      own_step = not_true (is_kill_step (step_of e)) (and_left (not (is_kill_step (step_of e))) (is_free (steps_in es)) f)
+
+      by : Tested (whose (step_of e) == s) → has_next script (e ∷ h) s ≡ comes s (steps_in es) → has_next script h s ≡ ((whose (step_of e) == s) || comes s (steps_in es))
+      by (inl p) i = rw p (subst (λ i. has_next script h i ≡ true) (eqb-true (whose (step_of e)) s p) (head_has e h here own_step))
       by (inr p) i = rw p (sym (other_has e h s here p) ∙ i)

@@ -5,8 +5,9 @@ use Rattle.std.proofs.Common.{◌≡◌, ◌+◌, ◌++◌, ◌<◌, ◌≤◌, 
 use Rattle.std.proofs.lemmas.List.Elements.{Contains-append_right}
 use Rattle.hib_base.proofs.Tables.{Tested, tested}
 use Rattle.hib_journal.specs.Types.{Entry}
-use Rattle.hib_order_law.specs.Orders.{sessions_in, begins}
+use Rattle.hib_order_law.specs.Orders.{steps_in, begins}
 use Rattle.hib_order_law.specs.Search.{begun_by, same_order, times}
+use Rattle.hib_order_law.specs.declared.step.Step.{Step}
 use Rattle.hib_order_law.proofs.Begun.{is_same, same_is}
 
 -- the first of a list, or one behind it
@@ -26,7 +27,7 @@ Contains-behind x xs y c = Contains-append_right (x ∷ []) xs y c
 pub Contains-none : {X : Type 0} (x : X) → Contains [] x → ⊥
 Contains-none x c = let l : c.0 < 0 = c.1 in omega arith
 
-pub begun_by-append : (order : List ℕ) (xs ys : List (List ℕ)) → begun_by order (xs ++ ys) ≡ begun_by order xs + begun_by order ys
+pub begun_by-append : (order : List Step) (xs ys : List (List Step)) → begun_by order (xs ++ ys) ≡ begun_by order xs + begun_by order ys
 begun_by-append order [] ys = omega arith
 begun_by-append order (x ∷ xs) ys =
     let i : begun_by order (xs ++ ys) ≡ begun_by order xs + begun_by order ys = begun_by-append order xs ys in
@@ -35,7 +36,7 @@ begun_by-append order (x ∷ xs) ys =
     more : (c a x y : ℕ) → a ≡ x + y → c + a ≡ (c + x) + y
     more c a x y p = omega arith
 
-pub begun_by-some : (order other : List ℕ) (xs : List (List ℕ)) → Contains xs other → begins other order ≡ true → 1 ≤ begun_by order xs
+pub begun_by-some : (order other : List Step) (xs : List (List Step)) → Contains xs other → begins other order ≡ true → 1 ≤ begun_by order xs
 begun_by-some order other [] c b = absurd (Contains-none other c)
 begun_by-some order other (x ∷ xs) c b = by (Contains-cases x xs other c) (λ i. begun_by-some order other xs i b)
   where
@@ -47,7 +48,7 @@ begun_by-some order other (x ∷ xs) c b = by (Contains-cases x xs other c) (λ 
     by (inl p) f = at (cond (begins x order) 1 0) (begun_by order xs) (inl (ap (λ k. cond k 1 0) (subst (λ i. begins i order ≡ true) (sym p) b)))
     by (inr i) f = at (cond (begins x order) 1 0) (begun_by order xs) (inr (f i))
 
-pub begun_by-none : (order : List ℕ) (xs : List (List ℕ)) → ((other : List ℕ) → Contains xs other → begins other order ≡ true → ⊥) → begun_by order xs ≡ 0
+pub begun_by-none : (order : List Step) (xs : List (List Step)) → ((other : List Step) → Contains xs other → begins other order ≡ true → ⊥) → begun_by order xs ≡ 0
 begun_by-none order [] f = refl
 begun_by-none order (x ∷ xs) f = by (tested (begins x order)) (begun_by-none order xs (λ other c b. f other (Contains-behind x xs other c) b))
   where
@@ -55,7 +56,7 @@ begun_by-none order (x ∷ xs) f = by (tested (begins x order)) (begun_by-none o
     by (inl p) n = absurd (f x (Contains-first x xs) p)
     by (inr p) n = rw (p, n)
 
-pub times-some : (es : List Entry) (runs : List (List Entry)) → Contains runs es → 1 ≤ times (sessions_in es) runs
+pub times-some : (es : List Entry) (runs : List (List Entry)) → Contains runs es → 1 ≤ times (steps_in es) runs
 times-some es [] c = absurd (Contains-none es c)
 times-some es (ds ∷ runs) c = by (Contains-cases ds runs es c) (λ i. times-some es runs i)
   where
@@ -63,27 +64,27 @@ times-some es (ds ∷ runs) c = by (Contains-cases ds runs es c) (λ i. times-so
     at d n (inl p) = omega arith
     at d n (inr p) = omega arith
 
-    by : (ds ≡ es) ⊎ Contains runs es → (Contains runs es → 1 ≤ times (sessions_in es) runs) → 1 ≤ cond (same_order (sessions_in ds) (sessions_in es)) 1 0 + times (sessions_in es) runs
+    by : (ds ≡ es) ⊎ Contains runs es → (Contains runs es → 1 ≤ times (steps_in es) runs) → 1 ≤ cond (same_order (steps_in ds) (steps_in es)) 1 0 + times (steps_in es) runs
     by (inl p) f =
-        at (cond (same_order (sessions_in ds) (sessions_in es)) 1 0) (times (sessions_in es) runs)
-        (inl (ap (λ k. cond k 1 0) (subst (λ x. same_order (sessions_in x) (sessions_in es) ≡ true) (sym p) (is_same (sessions_in es)))))
-    by (inr i) f = at (cond (same_order (sessions_in ds) (sessions_in es)) 1 0) (times (sessions_in es) runs) (inr (f i))
+        at (cond (same_order (steps_in ds) (steps_in es)) 1 0) (times (steps_in es) runs)
+        (inl (ap (λ k. cond k 1 0) (subst (λ x. same_order (steps_in x) (steps_in es) ≡ true) (sym p) (is_same (steps_in es)))))
+    by (inr i) f = at (cond (same_order (steps_in ds) (steps_in es)) 1 0) (times (steps_in es) runs) (inr (f i))
 
 -- of an order that was met there is a run
-pub times-has : (order : List ℕ) (runs : List (List Entry)) → 1 ≤ times order runs → (es : List Entry) × Contains runs es × (sessions_in es ≡ order)
+pub times-has : (order : List Step) (runs : List (List Entry)) → 1 ≤ times order runs → (es : List Entry) × Contains runs es × (steps_in es ≡ order)
 times-has order [] l = absurd (no l)
   where
     no : 1 ≤ 0 → ⊥
     no l = omega arith
-times-has order (ds ∷ runs) l = by (tested (same_order (sessions_in ds) order)) (times-has order runs)
+times-has order (ds ∷ runs) l = by (tested (same_order (steps_in ds) order)) (times-has order runs)
   where
     plain : (n : ℕ) → 1 ≤ 0 + n → 1 ≤ n
     plain n l = omega arith
 
-    rest : (es : List Entry) × Contains runs es × (sessions_in es ≡ order) → (es : List Entry) × Contains (ds ∷ runs) es × (sessions_in es ≡ order)
+    rest : (es : List Entry) × Contains runs es × (steps_in es ≡ order) → (es : List Entry) × Contains (ds ∷ runs) es × (steps_in es ≡ order)
     rest x = (x.0, Contains-behind ds runs x.0 x.1, x.2)
 
-    by : Tested (same_order (sessions_in ds) order) → (1 ≤ times order runs → (es : List Entry) × Contains runs es × (sessions_in es ≡ order)) →
-        (es : List Entry) × Contains (ds ∷ runs) es × (sessions_in es ≡ order)
-    by (inl p) f = (ds, Contains-first ds runs, same_is (sessions_in ds) order p)
+    by : Tested (same_order (steps_in ds) order) → (1 ≤ times order runs → (es : List Entry) × Contains runs es × (steps_in es ≡ order)) →
+        (es : List Entry) × Contains (ds ∷ runs) es × (steps_in es ≡ order)
+    by (inl p) f = (ds, Contains-first ds runs, same_is (steps_in ds) order p)
     by (inr p) f = rest (f (plain (times order runs) (subst (λ k. 1 ≤ cond k 1 0 + times order runs) p l)))

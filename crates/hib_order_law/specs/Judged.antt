@@ -52,8 +52,8 @@ before_write k (e ∷ m) = cond (is_begin e.act) None (option_or (before_write k
 abbrev pub rests_on : Key → Journal → Option Row
 rests_on k mine = option_and_then (λ m. option_and_then (λ i. i.base) (held m k)) (before_write k mine)
 
--- a commit that is answered committed has a change that rests on a row which is not the committed one any more. The rows of a
--- versioned entity have none such: the commit is stale then
+-- a commit that is answered committed has a change that rests on a row which is not the committed one any more. The commit of a
+-- versioned row is stale then, unless the row came again with the version that the change rests on
 abbrev pub is_lost_by : Tables → Journal → List Change → Bool
 is_lost_by rows mine cs = list_any (λ c. option_map_or (λ r. not (same_row (row_at rows (key_of c)) r)) (rests_on (key_of c) mine) false) cs
 

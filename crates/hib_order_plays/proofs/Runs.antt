@@ -15,11 +15,13 @@ use Rattle.hib_journal.specs.Next.{next}
 use Rattle.hib_journal.specs.Legal.{IsLegal}
 use Rattle.hib_journal.specs.Runs.{IsNumbered, fault_count}
 use Rattle.hib_journal.specs.Played.{has_next}
-use Rattle.hib_core.specs.Bound.{outside_count}
 use Rattle.hib_core.specs.Factory.{AreOver}
 use Rattle.hib_core.specs.Standing.{Origin, RoseBy}
-use Rattle.hib_order_plays.proofs.Due.{plain_all}
-use Rattle.hib_order_law.specs.Orders.{IsRun, IsUndisturbed, is_plain, onto}
+use Rattle.hib_order_law.specs.Orders.{IsRun, IsUndisturbed, begins, is_plain, is_unkilled, kills, onto, steps_in}
+use Rattle.hib_order_law.specs.declared.step.Step.{Step}
+use Rattle.hib_order_plays.proofs.Due.{kills_are}
+use Rattle.hib_order_plays.proofs.Steps.{plain_all}
+use Rattle.hib_order_plays.specs.Starts.{are_steps}
 
 onto_is : (es h : List Entry) → onto es h ≡ reverse es ++ h
 onto_is [] h = refl
@@ -53,19 +55,46 @@ over_all script h o s = by (cases_lt s (length script.sessions))
 none_rose : (n : ℕ) → RoseBy 0 n 0 → n ≡ 0
 none_rose n p = omega (arith, p)
 
--- a journal without entries from outside, over a keeper that never fails
+-- a journal of steps, over a keeper that never fails
 pub undisturbed_is : (script : Script) (start : Tables) (from : Origin) (j k : Kept) → from.tables ≡ Some start → from.faults ≡ 0 →
-    IsLegal script from.tables (past j) → IsNumbered (past j) → RoseBy from.faults (fault_count (past j)) 0 → j ≡ k → outside_count (past k) ≡ 0 →
+    IsLegal script from.tables (past j) → IsNumbered (past j) → RoseBy from.faults (fault_count (past j)) 0 → j ≡ k → are_steps (past k) ≡ true →
     IsUndisturbed script start (past j)
 undisturbed_is script start from j k t f l n r e o = record {
   legal = subst (λ x. IsLegal script x (past j)) t l;
   numbered = n;
-  plain = plain_all (past j) (ap (λ x. outside_count (past x)) e ∙ o)
+  plain = plain_all (past j) (subst (λ x. are_steps (past x) ≡ true) (sym e) o)
       (none_rose (fault_count (past j)) (subst (λ x. RoseBy x (fault_count (past j)) 0) f r));
 }
 
-pub run_is : (script : Script) (start : Tables) (j : Kept) → IsUndisturbed script start (past j) → AreOver script (past j) → IsRun script start j.list
-run_is script start j u o = record {
+pub run_is : (script : Script) (start : Tables) (steps : List Step) (j : Kept) → IsUndisturbed script start (past j) → AreOver script (past j) →
+    begins steps (steps_in j.list) ≡ true → is_unkilled (length steps) (steps_in j.list) ≡ true → IsRun script start (kills steps) j.list
+run_is script start steps j u o b a = record {
   undisturbed = subst (IsUndisturbed script start) (past_is j) u;
   over = subst (λ h. (s : ℕ) → has_next script h s ≡ false) (past_is j) (over_all script (past j) o);
+  few_kills = let e : kills (steps_in j.list) ≡ kills steps = kills_are steps (steps_in j.list) b a in omega (arith, e);
 }
+
+-- what was played to its end from such a beginning
+pub record IsPlayed (script : Script) (start : Tables) (steps : List Step) (j : Kept) : Type 0 where
+  pub run : IsRun script start (kills steps) j.list
+  pub first : begins steps (steps_in j.list) ≡ true
+  pub rest : is_unkilled (length steps) (steps_in j.list) ≡ true
+
+pub played_is : (script : Script) (start : Tables) (from : Origin) (steps : List Step) (j k : Kept) (h : Journal) → from.tables ≡ Some start → from.faults ≡ 0 →
+    IsLegal script from.tables (past j) → IsNumbered (past j) → RoseBy from.faults (fault_count (past j)) 0 → j ≡ k → h ≡ [] →
+    (are_steps h ≡ true → are_steps (past k) ≡ true) → AreOver script (past k) → (IsUndisturbed script start (past k) → begins steps (steps_in k.list) ≡ true) →
+    (IsUndisturbed script start (past k) → is_unkilled (length steps) (steps_in k.list) ≡ true) → IsPlayed script start steps j
+played_is script start from steps j k h t f l n r e p a o b c =
+    record { run = run_is script start steps j u (subst (λ x. AreOver script (past x)) (sym e) o) first rest; first = first; rest = rest }
+  where
+    u : IsUndisturbed script start (past j)
+    u = undisturbed_is script start from j k t f l n r e (a (subst (λ x. are_steps x ≡ true) (sym p) refl))
+
+    v : IsUndisturbed script start (past k)
+    v = subst (λ x. IsUndisturbed script start (past x)) e u
+
+    first : begins steps (steps_in j.list) ≡ true
+    first = subst (λ x. begins steps (steps_in x.list) ≡ true) (sym e) (b v)
+
+    rest : is_unkilled (length steps) (steps_in j.list) ≡ true
+    rest = subst (λ x. is_unkilled (length steps) (steps_in x.list) ≡ true) (sym e) (c v)

@@ -1,6 +1,7 @@
 //! Plays one order of a script's sessions over a factory.
 #![tactic(auto)]
 
+mod entries;
 mod playing;
 mod sure;
 

@@ -1,23 +1,22 @@
 -- What a script plays without faults is decided by its schedule.
-use Rattle.std.specs.Prelude.{unwrap_or, option_and_then}
+use Rattle.std.specs.Prelude.{option_and_then}
 use Rattle.std.specs.Option.{option_map_or}
-use Rattle.std.specs.List.{list_all, range_with_len}
+use Rattle.std.specs.List.{range_with_len}
 use Rattle.std.proofs.Common.{◌≡◌, ◌⊎◌, ℕ, zero, suc, ◌<◌, ◌≤◌, inl, inr, Bool, true, false, cond, List, [], ◌∷◌, length, reverse, Some, None, Option, refl, sym, ap, ◌∙◌, subst, append-nil, arith}
-use Rattle.std.proofs.lemmas.Bool.{false≢true, true≢false, and_parts, cases_lt}
+use Rattle.std.proofs.lemmas.Bool.{false≢true, true≢false, eqb-true, cases_lt}
 use Rattle.std.proofs.lemmas.List.{reverse-reverse}
 use Rattle.hib_base.specs.Tables.{Tables}
 use Rattle.hib_base.proofs.Tables.{Tested, tested}
 use Rattle.hib_journal.specs.Types.{Key, Order, Script, Act, Entry}
-use Rattle.hib_journal.specs.Sessions.{Journal, own, is_by, is_empty, is_open, is_restart}
+use Rattle.hib_journal.specs.Sessions.{Journal, is_by, is_empty, is_open, is_restart}
 use Rattle.hib_journal.specs.Legal.{is_outside}
 use Rattle.hib_journal.specs.Played.{Playing, has_next, play_one, play_steps, play_order, play_orders, play_sessions, is_kill, is_evict, is_played}
-use Rattle.hib_journal.proofs.Inside.{inside}
 use Rattle.hib_journal.proofs.Sessions.{is_some_session}
-use Rattle.hib_journal.proofs.Steps.{next_act, steps_in_order}
-use Rattle.hib_order_law.specs.Orders.{is_plain, IsUndisturbed, onto, with_step}
-use Rattle.hib_order_law.proofs.Made.{by_self, entry_is, none_some, some_same}
-use Rattle.hib_order_law.proofs.Later.{base}
-use Rattle.hib_order_schedule.proofs.Plays.{onto_is, plain_at}
+use Rattle.hib_order_law.specs.Orders.{is_killing, IsUndisturbed, onto, step_by, step_of, with_step}
+use Rattle.hib_order_law.specs.declared.step.Step.{Step}
+use Rattle.hib_order_law.proofs.Made.{IsKilling, IsOwn, Stepped, entry_is, none_some, some_same}
+use Rattle.hib_order_law.proofs.Later.{base, head_stepped, plain_head}
+use Rattle.hib_order_schedule.proofs.Plays.{onto_is}
 
 -- ---- what was played
 
@@ -36,17 +35,21 @@ empty_is (e ∷ l) p = absurd (false≢true p)
 pub onto_turned : (h : Journal) → onto (reverse h) [] ≡ h
 onto_turned h = onto_is (reverse h) [] ∙ append-nil (reverse (reverse h)) ∙ reverse-reverse h
 
-kill_outside : (s : ℕ) (a : Act) → is_kill s a ≡ true → is_outside a ≡ true
-kill_outside s (Act.Kill n) p = refl
-kill_outside s _ p = absurd (false≢true p)
+-- an act that neither a session does nor kills one
+abbrev IsForeign : Act → Type 0
+IsForeign a = (is_outside a ≡ true) × (is_killing a ≡ false)
 
-evict_outside : (k : Key) (a : Act) → is_evict k a ≡ true → is_outside a ≡ true
-evict_outside k (Act.Evict j) p = refl
-evict_outside k _ p = absurd (false≢true p)
+evict_foreign : (k : Key) (a : Act) → is_evict k a ≡ true → IsForeign a
+evict_foreign k (Act.Evict j) p = (refl, refl)
+evict_foreign k _ p = absurd (false≢true p)
 
-restart_outside : (a : Act) → is_restart a ≡ true → is_outside a ≡ true
-restart_outside Act.Restart p = refl
-restart_outside _ p = absurd (false≢true p)
+restart_foreign : (a : Act) → is_restart a ≡ true → IsForeign a
+restart_foreign Act.Restart p = (refl, refl)
+restart_foreign _ p = absurd (false≢true p)
+
+kill_is : (s : ℕ) (by : Option ℕ) (a : Act) → is_kill s a ≡ true → step_by by a ≡ Step.Kill s
+kill_is s by (Act.Kill n) p = ap Step.Kill (eqb-true n s p)
+kill_is s by _ p = absurd (false≢true p)
 
 module _ (script : Script) where
   pub record IsPlayed (h : Journal) : Type 0 where
@@ -68,10 +71,11 @@ module _ (script : Script) (start : Tables) where
   -- after these steps of a session, or fewer if it has no further act
   abbrev walked : ℕ → ℕ → Journal → Journal
   walked s zero h = h
-  walked s (suc n) h = cond (has_next script h s) (walked s n (with_step script start s h)) h
+  walked s (suc n) h = cond (has_next script h s) (walked s n (with_step script start (Step.Own s) h)) h
 
   abbrev ordered : Order → Journal → Journal
   ordered (Order.Run s n) h = walked s n h
+  ordered (Order.Kill s) h = with_step script start (Step.Kill s) h
   ordered _ h = h
 
   abbrev all_ordered : List Order → Journal → Journal
@@ -86,21 +90,33 @@ module _ (script : Script) (start : Tables) where
   made_at : (h es : Journal) (p : Playing) → Some (h, es) ≡ Some p → IsMade (onto es h) h p
   made_at h es p q = let e : (h, es) ≡ p = some_same q in record { made = ap (λ x. x.0) (sym e); same = ap (λ x. onto x.1 x.0) (sym e) }
 
-  -- no session evicts, kills or restarts
-  not_outside : (e : Entry) (h : Journal) → IsUndisturbed script start (e ∷ h) → is_outside e.act ≡ false
-  not_outside e h u =
-      let s : ℕ = unwrap_or e.session 0 in
-      inside script s (own s h) e.act (steps_in_order script (Some start) s h u.legal.0)
-      (next_act script (Some start) h e s u.legal.1 (by_self e s (plain_at script start e h u))).1
+  -- none evicts or restarts
+  not_foreign : (e : Entry) (h : Journal) → IsUndisturbed script start (e ∷ h) → IsForeign e.act → ⊥
+  not_foreign e h u f = by (head_stepped script start e h u)
+    where
+      by : Stepped script h e → ⊥
+      by (inl x) = let o : IsOwn script h e x.0 = x.1 in true≢false (sym f.0 ∙ o.inside)
+      by (inr x) = let k : IsKilling script h e x.0 = x.1 in true≢false (sym (ap is_killing k.act) ∙ f.1)
 
-  none_outside : (test : Entry → Bool) → ((e : Entry) → test e ≡ true → is_outside e.act ≡ true) → (h es : Journal) (p : Playing) → IsUndisturbed script start (onto es h) →
+  none_foreign : (test : Entry → Bool) → ((e : Entry) → test e ≡ true → IsForeign e.act) → (h es : Journal) (p : Playing) → IsUndisturbed script start (onto es h) →
       play_one test h es ≡ Some p → ⊥
-  none_outside test f h [] p u q = none_some q
-  none_outside test f h (e ∷ es) p u q = by (tested (test e)) q
+  none_foreign test f h [] p u q = none_some q
+  none_foreign test f h (e ∷ es) p u q = by (tested (test e)) q
     where
       by : Tested (test e) → cond (test e) (Some (e ∷ h, es)) None ≡ Some p → ⊥
-      by (inl t) q = true≢false (sym (f e t) ∙ not_outside e h (base script start es (e ∷ h) u))
+      by (inl t) q = not_foreign e h (base script start es (e ∷ h) u) (f e t)
       by (inr t) q = none_some (rw t at q)
+
+  -- an entry is what its step makes
+  head_is : (e : Entry) (h : Journal) (t : Step) → IsUndisturbed script start (e ∷ h) → step_of e ≡ t → e ∷ h ≡ with_step script start t h
+  head_is e h t u p = subst (λ i. e ∷ h ≡ with_step script start i h) p (entry_is script start h e u.legal.0 u.legal.1 u.numbered.0 (plain_head script start e h u))
+
+  by_own : (e : Entry) (h : Journal) (s : ℕ) → IsUndisturbed script start (e ∷ h) → is_by s e ≡ true → step_of e ≡ Step.Own s
+  by_own e h s u b = by (head_stepped script start e h u)
+    where
+      by : Stepped script h e → step_of e ≡ Step.Own s
+      by (inl x) = let o : IsOwn script h e x.0 = x.1 in o.step ∙ ap Step.Own (some_same (sym o.session ∙ is_some_session s e.session b))
+      by (inr x) = let k : IsKilling script h e x.0 = x.1 in none_some (sym k.session ∙ is_some_session s e.session b)
 
   -- ---- the steps of a session
 
@@ -116,9 +132,8 @@ module _ (script : Script) (start : Tables) where
       here : IsUndisturbed script start (e ∷ h)
       here = base script start es (e ∷ h) u
 
-      is : is_by s e ≡ true → e ∷ h ≡ with_step script start s h
-      is t = subst (λ i. e ∷ h ≡ with_step script start i h) (ap (λ o. unwrap_or o 0) (is_some_session s e.session t))
-          (entry_is script start h e here.legal.1 here.numbered.0 (and_parts (is_plain e) (list_all is_plain h) here.plain).0)
+      is : is_by s e ≡ true → e ∷ h ≡ with_step script start (Step.Own s) h
+      is t = head_is e h (Step.Own s) here (by_own e h s here t)
 
       by : Tested (has_next script h s) → Tested (is_by s e) → (play_steps script s n (e ∷ h) es ≡ Some p → IsMade (onto es (e ∷ h)) (walked s n (e ∷ h)) p) →
           play_steps script s (suc n) h (e ∷ es) ≡ Some p → IsMade (onto es (e ∷ h)) (walked s (suc n) h) p
@@ -146,10 +161,10 @@ module _ (script : Script) (start : Tables) where
   walked_on s zero zero h l f = refl
   walked_on s zero (suc m) h l f = rw f refl
   walked_on s (suc n) zero h l f = absurd (omega arith)
-  walked_on s (suc n) (suc m) h l f = by (tested (has_next script h s)) (walked_on s n m (with_step script start s h) (omega arith)) f
+  walked_on s (suc n) (suc m) h l f = by (tested (has_next script h s)) (walked_on s n m (with_step script start (Step.Own s) h) (omega arith)) f
     where
       by : Tested (has_next script h s) →
-          (has_next script (walked s n (with_step script start s h)) s ≡ false → walked s m (with_step script start s h) ≡ walked s n (with_step script start s h)) →
+          (has_next script (walked s n (with_step script start (Step.Own s) h)) s ≡ false → walked s m (with_step script start (Step.Own s) h) ≡ walked s n (with_step script start (Step.Own s) h)) →
           has_next script (walked s (suc n) h) s ≡ false → walked s (suc m) h ≡ walked s (suc n) h
       by (inl t) g f = rw t (g (rw t at f))
       by (inr t) g f = rw t refl
@@ -163,15 +178,26 @@ module _ (script : Script) (start : Tables) where
 
   -- ---- orders
 
+  kill_made : (s : ℕ) (h es : Journal) (p : Playing) → IsUndisturbed script start (onto es h) → play_one (λ e. is_kill s e.act) h es ≡ Some p →
+      IsMade (onto es h) (with_step script start (Step.Kill s) h) p
+  kill_made s h [] p u q = none_some q
+  kill_made s h (e ∷ es) p u q = by (tested (is_kill s e.act)) q
+    where
+      by : Tested (is_kill s e.act) → cond (is_kill s e.act) (Some (e ∷ h, es)) None ≡ Some p → IsMade (onto es (e ∷ h)) (with_step script start (Step.Kill s) h) p
+      by (inl t) q =
+          subst (λ j. IsMade (onto es (e ∷ h)) j p) (head_is e h (Step.Kill s) (base script start es (e ∷ h) u) (kill_is s e.session e.act t))
+          (made_at (e ∷ h) es p (rw t at q))
+      by (inr t) q = none_some (rw t at q)
+
   order_made : (o : Order) (h es : Journal) (p : Playing) → IsUndisturbed script start (onto es h) → play_order script o h es ≡ Some p → IsMade (onto es h) (ordered o h) p
   order_made (Order.Run s n) h es p u q = steps_made s n h es p u q
   order_made (Order.Kill s) h es p u q = by (tested (is_open s h)) q
     where
-      by : Tested (is_open s h) → cond (is_open s h) (play_one (λ e. is_kill s e.act) h es) (Some (h, es)) ≡ Some p → IsMade (onto es h) h p
-      by (inl t) q = absurd (none_outside (λ e. is_kill s e.act) (λ e. kill_outside s e.act) h es p u (rw t at q))
-      by (inr t) q = made_at h es p (rw t at q)
-  order_made (Order.Evict k) h es p u q = absurd (none_outside (λ e. is_evict k e.act) (λ e. evict_outside k e.act) h es p u q)
-  order_made Order.Restart h es p u q = absurd (none_outside (λ e. is_restart e.act) (λ e. restart_outside e.act) h es p u q)
+      by : Tested (is_open s h) → cond (is_open s h) (play_one (λ e. is_kill s e.act) h es) (Some (h, es)) ≡ Some p → IsMade (onto es h) (with_step script start (Step.Kill s) h) p
+      by (inl t) q = kill_made s h es p u (rw t at q)
+      by (inr t) q = rw t (made_at h es p (rw t at q))
+  order_made (Order.Evict k) h es p u q = absurd (none_foreign (λ e. is_evict k e.act) (λ e. evict_foreign k e.act) h es p u q)
+  order_made Order.Restart h es p u q = absurd (none_foreign (λ e. is_restart e.act) (λ e. restart_foreign e.act) h es p u q)
 
   orders_made : (os : List Order) (h es : Journal) (p : Playing) → IsUndisturbed script start (onto es h) → play_orders script os h es ≡ Some p → IsMade (onto es h) (all_ordered os h) p
   orders_made [] h es p u q = made_at h es p q

@@ -143,5 +143,9 @@ module _ (script : Script) (os : List Order) where
   pub undisturbed_same : (start : Tables) (h : Journal) → IsUndisturbed script start h → IsUndisturbed other start h
   undisturbed_same start h u = record { legal = legal_same (Some start) h u.legal; numbered = u.numbered; plain = u.plain }
 
-  pub run_same : (start : Tables) (es : List Entry) → IsRun script start es → IsRun other start es
-  run_same start es r = record { undisturbed = undisturbed_same start (onto es []) r.undisturbed; over = λ s. has_same (onto es []) s ∙ r.over s }
+  pub run_same : (start : Tables) (most_kills : ℕ) (es : List Entry) → IsRun script start most_kills es → IsRun other start most_kills es
+  run_same start most_kills es r = record {
+    undisturbed = undisturbed_same start (onto es []) r.undisturbed;
+    over = λ s. has_same (onto es []) s ∙ r.over s;
+    few_kills = r.few_kills;
+  }

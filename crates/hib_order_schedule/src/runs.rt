@@ -1,62 +1,81 @@
-// The runs of an order of sessions.
-ghost use Rattle.hib_order_schedule.specs.Schedules.{before_tail, in_row, runs_of, shown};
-ghost use Rattle.std.specs.Prelude.{◌≡◌, ◌<◌, ◌≤◌, ◌^◌, IfOk, length, slice_index, take};
+// The runs and kills of an order of sessions.
+ghost use Rattle.hib_order_schedule.specs.Schedules.{before_tail, in_row, rises, runs_of, shown};
+ghost use Rattle.std.specs.Prelude.{◌≡◌, ◌<◌, ◌≤◌, ◌^◌, ◌∷◌, IfOk, drop, length, take, true};
 
 use hib_base::{Order, SessionNo};
+use hib_order_law::Step;
 use std::alloc::{AllocError, Global};
 
-/// How many steps the first session makes in a row.
-fn steps_in_row(order: &[u32]) -> usize
-    requires { 0 < length order.now }
-    ensures row { result ≡ in_row (slice_index order.now 0) order.now }
-    ensures some { 0 < result }
+/// How many steps a session makes first in a row.
+fn steps_in_row(session: u32, order: &[Step]) -> usize
+    ensures row { result ≡ in_row session order.now }
     ensures inside { result ≤ length order.now }
 {
-    let session = order[0];
-    for place in 1..order.len() {
-        if order[place] != session {
-            return place;
+    for place in 0..order.len() {
+        match order[place] {
+            Step::Own(next) if next == session => {}
+            Step::Own(_) | Step::Kill(_) => return place,
         }
     }
     order.len()
 }
 
-/// The runs of an order.
-fn runs_of(alloc: Global, order: &[u32]) -> Result<Vec<Order>, AllocError>
+/// The runs and kills of an order.
+fn runs_of(alloc: Global, order: &[Step]) -> Result<Vec<Order>, AllocError>
     requires { length order.now < 2 ^ 32 }
     ensures { IfOk result (λ v. v.items ≡ runs_of order.now) }
 {
     let mut runs = Vec::new(alloc);
     let mut done = 0;
     while done < order.len() {
-        let rest = &order[done..];
-        let steps = steps_in_row(rest);
-        runs.push(Order::Run {
-            session: SessionNo(rest[0]),
-            steps: steps as u32,
-        })?;
-        done += steps;
+        match order[done] {
+            Step::Own(session) => {
+                let steps = steps_in_row(session, &order[done..]);
+                runs.push(Order::Run {
+                    session: SessionNo(session),
+                    steps: steps as u32,
+                })?;
+                done += steps;
+            }
+            Step::Kill(session) => {
+                runs.push(Order::Kill {
+                    session: SessionNo(session),
+                })?;
+                done += 1;
+            }
+        }
     }
     Ok(runs)
 }
 
+/// Whether a step may stand before a tail that rises.
+fn may_rise(step: Step, tail: &[Step]) -> bool
+    requires { rises tail.now ≡ true }
+    ensures { result ≡ rises (step ∷ tail.now) }
+{
+    match step {
+        Step::Own(session) => tail.is_empty() || session <= tail[0].session(),
+        Step::Kill(_) => false,
+    }
+}
+
 /// Where the longest tail of an order begins that brings each session to its end in order of number.
-fn tail_place(order: &[u32]) -> usize
+fn tail_place(order: &[Step]) -> usize
     ensures front { take result order.now ≡ before_tail order.now }
     ensures inside { result ≤ length order.now }
 {
-    for gone in 1..order.len() {
+    for gone in 0..order.len() {
         let at = order.len() - gone;
-        if order[at] < order[at - 1] {
+        if !may_rise(order[at - 1], &order[at..]) {
             return at;
         }
     }
     0
 }
 
-/// The runs that a schedule has to say to play an order: those before the longest tail that brings each session to its end in
-/// order of number. Fails for want of memory alone.
-pub fn schedule_of(alloc: Global, order: &[u32]) -> Result<Vec<Order>, AllocError>
+/// The runs and kills that a schedule has to say to play an order: those before the longest tail that brings each session to its
+/// end in order of number. Fails for want of memory alone.
+pub fn schedule_of(alloc: Global, order: &[Step]) -> Result<Vec<Order>, AllocError>
     requires { length order.now < 2 ^ 32 }
     ensures { IfOk result (λ v. v.items ≡ shown order.now) }
 {
@@ -75,19 +94,64 @@ mod tests {
         }
     }
 
+    fn kill(session: u32) -> Order {
+        Order::Kill {
+            session: SessionNo(session),
+        }
+    }
+
+    /// The steps of these sessions.
+    fn own(alloc: Global, sessions: &[u32]) -> Result<Vec<Step>, AllocError> {
+        let mut steps = Vec::with_capacity(alloc, sessions.len())?;
+        for session in sessions {
+            steps.push(Step::Own(*session))?;
+        }
+        Ok(steps)
+    }
+
     #[test]
     fn a_tail_that_rises_is_left_out(rt: HostRuntime) -> Result<(), AllocError> {
         let alloc = rt.alloc();
-        let told = schedule_of(alloc, &[0, 0, 1, 1, 0])?;
+        let told = schedule_of(alloc, own(alloc, &[0, 0, 1, 1, 0])?.as_slice())?;
         assert!(rt; told.as_slice() == [run(0, 2), run(1, 2)].as_slice());
-        let told = schedule_of(alloc, &[2, 0, 0, 1, 2, 2])?;
+        let told = schedule_of(alloc, own(alloc, &[2, 0, 0, 1, 2, 2])?.as_slice())?;
         assert!(rt; told.as_slice() == [run(2, 1)].as_slice());
-        let told = schedule_of(alloc, &[1, 0, 2, 1])?;
+        let told = schedule_of(alloc, own(alloc, &[1, 0, 2, 1])?.as_slice())?;
         assert!(rt; told.as_slice() == [run(1, 1), run(0, 1), run(2, 1)].as_slice());
-        let told = schedule_of(alloc, &[0, 0, 0])?;
+        let told = schedule_of(alloc, own(alloc, &[0, 0, 0])?.as_slice())?;
         assert!(rt; told.is_empty());
         let told = schedule_of(alloc, &[])?;
         assert!(rt; told.is_empty());
+        Ok(())
+    }
+
+    #[test]
+    fn kills_are_told(rt: HostRuntime) -> Result<(), AllocError> {
+        let alloc = rt.alloc();
+        let killed = [
+            Step::Own(0),
+            Step::Own(0),
+            Step::Kill(0),
+            Step::Own(1),
+            Step::Own(2),
+        ];
+        let told = schedule_of(alloc, killed.as_slice())?;
+        assert!(rt; told.as_slice() == [run(0, 2), kill(0)].as_slice());
+        let amid = [
+            Step::Own(1),
+            Step::Own(0),
+            Step::Kill(1),
+            Step::Own(0),
+            Step::Own(2),
+            Step::Own(0),
+        ];
+        let told = schedule_of(alloc, amid.as_slice())?;
+        assert!(rt;
+            told.as_slice() == [run(1, 1), run(0, 1), kill(1), run(0, 1), run(2, 1)].as_slice()
+        );
+        let last = [Step::Own(0), Step::Kill(0)];
+        let told = schedule_of(alloc, last.as_slice())?;
+        assert!(rt; told.as_slice() == [run(0, 1), kill(0)].as_slice());
         Ok(())
     }
 }

@@ -24,6 +24,7 @@ pub struct Searched {
 fn search_in<N: Name>(
     alloc: Global,
     script: Script,
+    most_kills: usize,
     most: usize,
     limit: u64,
 ) -> Result<Searched, AllocError>
@@ -33,36 +34,40 @@ fn search_in<N: Name>(
     requires told { [] ≡ N.told }
     ensures script { IfOk result (λ s. s.script ≡ N.script) }
     ensures tried { IfOk result (λ s.
-        IsTold N.script (rows_at_start N.script) (judged_from_start N.script) (ended_in N.script) most
-        s.told.whole s.told.level s.told.findings) }
+        IsTold N.script (rows_at_start N.script) (judged_from_start N.script) (ended_in N.script)
+        most_kills most s.told.whole s.told.level s.told.findings) }
+    ensures level { IfOk result (λ s. s.told.level ≤ most) }
     ensures limit { IfOk result (λ s. s.told.findings.tried ≤ limit) }
     ensures whole { IfOk result (λ s.
         (s.told.whole ≡ true) ⊎ (s.told.findings.tried ≡ limit) ⊎ (s.told.played ≡ 2 ^ 64 - 1)) }
 {
     let mut stage = Stage::<N>::new(alloc, script)?;
-    let told = search(alloc, &mut stage, most, limit)?;
+    let told = search(alloc, &mut stage, most_kills, most, limit)?;
     match stage.into_script() {
         Some(script) => Ok(Searched { told, script }),
         None => Err(AllocError),
     }
 }
 
-/// Tries the orders of a script's sessions within a number of switches, those with the fewest first, and so many of them at most,
-/// each by a new factory from the script's rows. Each order is tried once. Fails for want of memory alone.
+/// Tries the orders of a script's sessions within a number of switches and a number of kills, those with the fewest switches first, and
+/// so many of them at most, each by a new factory from the script's rows. Each order is tried once. Fails for want of memory
+/// alone.
 pub fn search_orders(
     alloc: Global,
     script: Script,
+    most_kills: usize,
     most: usize,
     limit: u64,
 ) -> Result<Searched, AllocError>
     requires { is_valid script ≡ true }
     ensures script { IfOk result (λ s. s.script ≡ script) }
     ensures tried { IfOk result (λ s.
-        IsTold script (rows_at_start script) (judged_from_start script) (ended_in script) most
-        s.told.whole s.told.level s.told.findings) }
+        IsTold script (rows_at_start script) (judged_from_start script) (ended_in script)
+        most_kills most s.told.whole s.told.level s.told.findings) }
+    ensures level { IfOk result (λ s. s.told.level ≤ most) }
     ensures limit { IfOk result (λ s. s.told.findings.tried ≤ limit) }
     ensures whole { IfOk result (λ s.
         (s.told.whole ≡ true) ⊎ (s.told.findings.tried ≡ limit) ⊎ (s.told.played ≡ 2 ^ 64 - 1)) }
 {
-    search_in::<Brand>(alloc, script, most, limit)
+    search_in::<Brand>(alloc, script, most_kills, most, limit)
 }

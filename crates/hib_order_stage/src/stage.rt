@@ -8,7 +8,7 @@ use hib_base::{Key, Outcome, Row, Rows, Script, Seq};
 use hib_core::Name;
 use hib_listeners::Recorder;
 use hib_order_judge::{ending, judge};
-use hib_order_law::Verdicts;
+use hib_order_law::{Step, Verdicts};
 use hib_order_plays::{Run, play_in};
 use hib_order_tries::{Played, Player};
 use hib_outside::{Keeper, MemKeeper};
@@ -121,7 +121,7 @@ impl<N: Name> Player for Stage<N> {
 
     ghost ended = { ended_in N.script };
 
-    fn play(&mut self, alloc: Global, begun: &[u32]) -> Result<Played, AllocError> {
+    fn play(&mut self, alloc: Global, begun: &[Step]) -> Result<Played, AllocError> {
         let Some(script) = self.script.take() else {
             return Err(AllocError);
         };
@@ -132,10 +132,12 @@ impl<N: Name> Player for Stage<N> {
             script,
             journal: _,
             order,
+            turns,
         } = run;
         self.script = Some(script);
         Ok(Played {
             order,
+            turns,
             verdicts,
             ending,
         })

@@ -1,10 +1,11 @@
 -- The text of what a search of orders came to.
-use Rattle.std.specs.Prelude.{ℕ, zero, suc, ◌+◌, Bool, true, false, cond, List, [], ◌∷◌, ◌++◌, length, codes, flat_map, slice_get, Some, None, Option}
+use Rattle.std.specs.Prelude.{ℕ, zero, suc, ◌+◌, Bool, true, false, cond, ◌==◌, List, [], ◌∷◌, ◌++◌, length, codes, flat_map, slice_get, Some, None, Option}
 use Rattle.std.specs.Fmt.{decimal}
 use Rattle.hib_journal.specs.Types.{EntityDef, Outcome, Order, SessionDef, Script}
 use Rattle.hib_texts.specs.Texts.{session_text}
 use Rattle.hib_report.specs.Lines.{outcome_text}
 use Rattle.hib_report.specs.Unsound.{is_read_write}
+use Rattle.hib_order_law.specs.declared.step.Step.{Step}
 use Rattle.hib_order_schedule.specs.Schedules.{shown}
 use Rattle.hib_order_tries.specs.declared.endings.Ending.{Ending}
 use Rattle.hib_order_tries.specs.declared.found.First.{First}
@@ -15,16 +16,17 @@ use Rattle.hib_order_text.specs.declared.findings.Finding.{Finding}
 
 -- ---- a schedule, as its script may have it
 
-abbrev pub run_text : Script → Order → List ℕ
-run_text script (Order.Run s n) = codes "run " ++ session_text script s ++ codes " " ++ decimal n ++ codes "\n"
-run_text script _ = []
+abbrev pub line_text : Script → Order → List ℕ
+line_text script (Order.Run s n) = codes "run " ++ session_text script s ++ codes " " ++ decimal n ++ codes "\n"
+line_text script (Order.Kill s) = codes "kill " ++ session_text script s ++ codes "\n"
+line_text script _ = []
 
 abbrev pub schedule_text : Script → List Order → List ℕ
 schedule_text script [] = []
-schedule_text script (o ∷ os) = codes "schedule\n" ++ flat_map (λ x. run_text script x) (o ∷ os) ++ codes "end\n"
+schedule_text script (o ∷ os) = codes "schedule\n" ++ flat_map (λ x. line_text script x) (o ∷ os) ++ codes "end\n"
 
 -- the schedule that plays an order
-abbrev pub order_text : Script → List ℕ → List ℕ
+abbrev pub order_text : Script → List Step → List ℕ
 order_text script order = schedule_text script (shown order)
 
 -- ---- how many orders were tried, and how they end
@@ -33,8 +35,13 @@ abbrev pub whole_text : Bool → ℕ → List ℕ
 whole_text true level = codes " all\n"
 whole_text false level = codes " cut " ++ decimal level ++ codes "\n"
 
-abbrev pub tried_text : ℕ → Told → List ℕ
-tried_text most t = codes "orders " ++ decimal t.findings.tried ++ codes " switches " ++ decimal most ++ whole_text t.whole t.level
+-- the bound of kills, if there may be some
+abbrev pub kills_text : ℕ → List ℕ
+kills_text n = cond (n == 0) [] (codes " kills " ++ decimal n)
+
+abbrev pub tried_text : ℕ → ℕ → Told → List ℕ
+tried_text most_kills most t =
+    codes "orders " ++ decimal t.findings.tried ++ codes " switches " ++ decimal most ++ kills_text most_kills ++ whole_text t.whole t.level
 
 abbrev pub level_text : ℕ → ℕ → List ℕ
 level_text k n = codes "switches " ++ decimal k ++ codes " " ++ decimal n ++ codes "\n"
@@ -115,7 +122,7 @@ nevers_text es = flat_map (λ e. never_text e) es
 
 -- ---- the whole
 
-abbrev pub text : Script → ℕ → Told → List ℕ
-text script most t =
-    tried_text most t ++ levels_text 0 t.findings.levels.items ++ endings_text script t.findings.endings ++ findings_text script t.findings
+abbrev pub text : Script → ℕ → ℕ → Told → List ℕ
+text script most_kills most t =
+    tried_text most_kills most t ++ levels_text 0 t.findings.levels.items ++ endings_text script t.findings.endings ++ findings_text script t.findings
     ++ nevers_text script.mapping ++ codes "end\n"

@@ -1,8 +1,10 @@
 // The schedule of an order, as lines to be pasted into its script.
-ghost use Rattle.hib_order_text.specs.Texts.{order_text, run_text, schedule_text};
+ghost use Rattle.hib_base.specs.declared.scripts.Order.{Order};
+ghost use Rattle.hib_order_text.specs.Texts.{line_text, order_text, schedule_text};
 ghost use Rattle.std.specs.Prelude.{◌≡◌, ◌++◌, ◌<◌, ◌^◌, OnOk, codes, flat_map, length};
 
-use hib_base::{Order, Script};
+use hib_base::{Order, Script, SessionNo};
+use hib_order_law::Step;
 use hib_order_schedule::schedule_of;
 use hib_texts::{put_labelled, put_session};
 use std::alloc::{AllocError, Global};
@@ -11,30 +13,54 @@ fn put_run(
     alloc: Global,
     out: &mut Vec<u8>,
     script: &Script,
-    order: Order,
+    session: SessionNo,
+    steps: u32,
 ) -> Result<(), AllocError>
-    ensures { OnOk result (out.new.items ≡ out.old.items ++ run_text script.now order) }
+    ensures { OnOk result (out.new.items
+        ≡ out.old.items ++ line_text script.now (Order.Run session steps)) }
 {
-    let Order::Run { session, steps } = order else {
-        return Ok(());
-    };
     out.extend_from_slice(b"run ")?;
     put_session(out, script, session)?;
     put_labelled(alloc, out, b" ", u64::from(steps))?;
     out.extend_from_slice(b"\n")
 }
 
-fn put_runs(
+fn put_kill(out: &mut Vec<u8>, script: &Script, session: SessionNo) -> Result<(), AllocError>
+    ensures { OnOk result (out.new.items
+        ≡ out.old.items ++ line_text script.now (Order.Kill session)) }
+{
+    out.extend_from_slice(b"kill ")?;
+    put_session(out, script, session)?;
+    out.extend_from_slice(b"\n")
+}
+
+/// An order, if it is a run or a kill.
+fn put_line(
     alloc: Global,
     out: &mut Vec<u8>,
     script: &Script,
-    runs: &[Order],
+    order: Order,
+) -> Result<(), AllocError>
+    ensures { OnOk result (out.new.items ≡ out.old.items ++ line_text script.now order) }
+{
+    match order {
+        Order::Run { session, steps } => put_run(alloc, out, script, session, steps),
+        Order::Kill { session } => put_kill(out, script, session),
+        Order::Evict { .. } | Order::Restart => Ok(()),
+    }
+}
+
+fn put_lines(
+    alloc: Global,
+    out: &mut Vec<u8>,
+    script: &Script,
+    orders: &[Order],
 ) -> Result<(), AllocError>
     ensures { OnOk result (out.new.items
-        ≡ out.old.items ++ flat_map (λ o. run_text script.now o) runs.now) }
+        ≡ out.old.items ++ flat_map (λ o. line_text script.now o) orders.now) }
 {
-    for run in runs {
-        put_run(alloc, out, script, *run)?;
+    for order in orders {
+        put_line(alloc, out, script, *order)?;
     }
     Ok(())
 }
@@ -43,15 +69,15 @@ fn put_schedule(
     alloc: Global,
     out: &mut Vec<u8>,
     script: &Script,
-    runs: &[Order],
+    orders: &[Order],
 ) -> Result<(), AllocError>
-    ensures { OnOk result (out.new.items ≡ out.old.items ++ schedule_text script.now runs.now) }
+    ensures { OnOk result (out.new.items ≡ out.old.items ++ schedule_text script.now orders.now) }
 {
-    if runs.is_empty() {
+    if orders.is_empty() {
         return Ok(());
     }
     out.extend_from_slice(b"schedule\n")?;
-    put_runs(alloc, out, script, runs)?;
+    put_lines(alloc, out, script, orders)?;
     out.extend_from_slice(b"end\n")
 }
 
@@ -60,13 +86,13 @@ pub fn put_order(
     alloc: Global,
     out: &mut Vec<u8>,
     script: &Script,
-    order: &[u32],
+    order: &[Step],
 ) -> Result<(), AllocError>
     ensures { OnOk result (out.new.items ≡ out.old.items ++ order_text script.now order.now) }
 {
     if order.len() >= 4_294_967_296 {
         return Err(AllocError);
     }
-    let runs = schedule_of(alloc, order)?;
-    put_schedule(alloc, out, script, runs.as_slice())
+    let orders = schedule_of(alloc, order)?;
+    put_schedule(alloc, out, script, orders.as_slice())
 }

@@ -1,5 +1,5 @@
 // The whole text.
-ghost use Rattle.hib_order_text.specs.Texts.{comma, ending_text, endings_text, findings_text, level_text, levels_text, never_text, nevers_text, outcome_text_of, outcomes_text, said_text, text, tried_text};
+ghost use Rattle.hib_order_text.specs.Texts.{comma, ending_text, endings_text, findings_text, kills_text, level_text, levels_text, never_text, nevers_text, outcome_text_of, outcomes_text, said_text, text, tried_text};
 ghost use Rattle.hib_order_tries.specs.declared.endings.Ending.{Ending};
 ghost use Rattle.std.specs.Prelude.{◌≡◌, ◌++◌, IfOk, OnOk, flat_map, slice_get};
 
@@ -10,12 +10,29 @@ use hib_report::put_reply;
 use hib_texts::{put_labelled, put_number};
 use std::alloc::{AllocError, Global};
 
-/// How many orders were tried, within which number of switches, and whether these are all.
-fn put_tried(alloc: Global, out: &mut Vec<u8>, most: u32, told: &Told) -> Result<(), AllocError>
-    ensures { OnOk result (out.new.items ≡ out.old.items ++ tried_text most told.now) }
+/// The bound of kills, if there may be some.
+fn put_kills(alloc: Global, out: &mut Vec<u8>, most_kills: u32) -> Result<(), AllocError>
+    ensures { OnOk result (out.new.items ≡ out.old.items ++ kills_text most_kills) }
+{
+    if most_kills == 0 {
+        return Ok(());
+    }
+    put_labelled(alloc, out, b" kills ", u64::from(most_kills))
+}
+
+/// How many orders were tried, within which numbers of switches and of kills, and whether these are all.
+fn put_tried(
+    alloc: Global,
+    out: &mut Vec<u8>,
+    most_kills: u32,
+    most: u32,
+    told: &Told,
+) -> Result<(), AllocError>
+    ensures { OnOk result (out.new.items ≡ out.old.items ++ tried_text most_kills most told.now) }
 {
     put_labelled(alloc, out, b"orders ", told.findings.tried)?;
     put_labelled(alloc, out, b" switches ", u64::from(most))?;
+    put_kills(alloc, out, most_kills)?;
     if told.whole {
         return out.extend_from_slice(b" all\n");
     }
@@ -201,14 +218,20 @@ fn put_nevers(out: &mut Vec<u8>, mapping: &[EntityDef]) -> Result<(), AllocError
     Ok(())
 }
 
-/// What a search of a script's orders with so many switches at most has come to: how many orders there are, how they end, and of each
-/// finding in how many it is, with the schedule of one that has the fewest switches. Fails for want of memory alone; an order of 2^32
-/// steps or more is answered as that.
-pub fn text(alloc: Global, script: &Script, most: u32, told: &Told) -> Result<Vec<u8>, AllocError>
-    ensures { IfOk result (λ v. v.items ≡ text script.now most told.now) }
+/// What a search of a script's orders with so many kills and switches at most has come to: how many orders there are, how they end, and
+/// of each finding in how many it is, with the schedule of one that has the fewest switches. Fails for want of memory alone; an order
+/// of 2^32 steps or more is answered as that.
+pub fn text(
+    alloc: Global,
+    script: &Script,
+    most_kills: u32,
+    most: u32,
+    told: &Told,
+) -> Result<Vec<u8>, AllocError>
+    ensures { IfOk result (λ v. v.items ≡ text script.now most_kills most told.now) }
 {
     let mut out = Vec::new(alloc);
-    put_tried(alloc, &mut out, most, told)?;
+    put_tried(alloc, &mut out, most_kills, most, told)?;
     put_levels(alloc, &mut out, told.findings.levels.as_slice())?;
     put_endings(alloc, &mut out, script, &told.findings.endings)?;
     put_findings(alloc, &mut out, script, &told.findings)?;
