@@ -1,8 +1,9 @@
 -- What is known of the rest of an order, with the step before it.
-use Rattle.std.specs.Prelude.{length, drop, not, slice_index, ◌||◌, ◌==◌}
+use Rattle.std.specs.Prelude.{length, drop, not, get_or, ◌||◌, ◌==◌}
 use Rattle.std.specs.List.{list_all}
 use Rattle.std.proofs.Common.{◌≡◌, ◌++◌, ◌+◌, ◌<◌, ◌≤◌, ◌⊎◌, ℕ, zero, suc, inl, inr, Bool, true, false, cond, List, [], ◌∷◌, Some, Option, refl, sym, ap, ◌∙◌, subst, arith}
 use Rattle.std.proofs.lemmas.Bool.{false≢true, eqb-true}
+use Rattle.std.proofs.lemmas.List.{get_or_default}
 use Rattle.std.proofs.lemmas.List.Folds.{list_any-append}
 use Rattle.hib_base.proofs.Tables.{Tested, tested}
 use Rattle.hib_order_law.specs.Orders.{comes, is_kill_step, leaves, switches, whose}
@@ -74,7 +75,7 @@ more_own these new s o (inr n) = subst (λ l. AreOwn l) (sym n.1) (record {
   own = all-push (λ t. not (is_kill_step t)) these (Step.Own s) o.own refl;
 })
 
-pub taken : (steps these new : List Step) (first : Option ℕ) (left more : ℕ) (s : Step) → IsTail steps these first left → IsNoted (whose s) these new →
+taken : (steps these new : List Step) (first : Option ℕ) (left more : ℕ) (s : Step) → IsTail steps these first left → IsNoted (whose s) these new →
     more ≡ cond (leaves (whose s) steps) 1 0 + left → IsTail (s ∷ steps) new (Some (whose s)) more
 taken steps these new first left more s t n m = record {
   all = more_all steps these new s s refl t.all n;
@@ -83,10 +84,16 @@ taken steps these new first left more s t n m = record {
   count = m ∙ ap (λ k. cond (leaves (whose s) steps) 1 0 + k) t.count;
 }
 
+pub taken_by : (steps these new : List Step) (first : Option ℕ) (left more n : ℕ) (s : Step) → n ≡ whose s → IsTail steps these first left → IsNoted n these new →
+    more ≡ cond (leaves n steps) 1 0 + left → IsTail (s ∷ steps) new (Some n) more
+taken_by steps these new first left more n s e t k m =
+    subst (λ i. IsTail (s ∷ steps) new (Some i) more) (sym e)
+    (taken steps these new first left more s t (subst (λ i. IsNoted i these new) e k) (subst (λ i. more ≡ cond (leaves i steps) 1 0 + left) e m))
+
 -- an order makes no more switches than it has steps
 pub switches-few : (order : List Step) → switches order ≤ length order
 switches-few [] = omega arith
-switches-few (s ∷ order) = by (leaves s order) (switches-few order)
+switches-few (s ∷ order) = by (leaves (whose s) order) (switches-few order)
   where
     by : (b : Bool) → switches order ≤ length order → cond b 1 0 + switches order ≤ suc (length order)
     by true l = omega arith
@@ -104,13 +111,17 @@ tail-few order these first left n t =
     let c : length (drop n order) ≤ length order = length-drop-le n order in omega arith
 
 -- the step before a place, and the steps from that place on, are those from that step on
-pub dropped : (order : List Step) (at : ℕ) (s : Step) → at < length order → s ≡ slice_index order at → s ∷ drop (suc at) order ≡ drop at order
+pub dropped : (order : List Step) (at : ℕ) (s : Step) → at < length order → s ≡ get_or order at s → s ∷ drop (suc at) order ≡ drop at order
 dropped [] at s l p = absurd (no at l)
   where
     no : (at : ℕ) → at < 0 → ⊥
     no at l = omega arith
 dropped (x ∷ xs) zero s l p = ap (λ i. i ∷ xs) p
 dropped (x ∷ xs) (suc at) s l p = dropped xs at s (omega arith) p
+
+-- so at a place that is told by its distance from the end
+pub tail_back : (order : List Step) (p at : ℕ) (d : Step) → p ≡ at → at < length order → get_or order p d ∷ drop (suc at) order ≡ drop at order
+tail_back order p at d e l = dropped order at (get_or order p d) l (ap (λ i. get_or order i d) e ∙ get_or_default order at d (get_or order p d) l)
 
 pub dropped_all : (at : ℕ) (order : List Step) → length order ≤ at → drop at order ≡ []
 dropped_all zero [] l = refl

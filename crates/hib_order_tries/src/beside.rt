@@ -237,15 +237,15 @@ pub fn others(
         (map (λ v. v.items) o.there.items) o.beyond) }
 {
     let openings = openings(alloc, order, turns, may_kill)?;
-    let open = openings.as_slice();
+    let kills = openings.as_slice();
     let mut found = Beginnings::new(alloc);
     let mut tail = Tail::new(alloc);
     let end = order.len();
-    found.leave(alloc, order, end, &tail, kills_at(open, end), total, level)?;
+    found.leave(alloc, order, end, &tail, kills_at(kills, end), total, level)?;
     for gone in 0..end - from {
         let at = end - 1 - gone;
         tail.take(order[at])?;
-        found.leave(alloc, order, at, &tail, kills_at(open, at), total, level)?;
+        found.leave(alloc, order, at, &tail, kills_at(kills, at), total, level)?;
     }
     Ok(found)
 }

@@ -1,5 +1,5 @@
 // The kills that may come at the places of an order.
-ghost use Rattle.hib_order_law.specs.Orders.{comes, kills, whose};
+ghost use Rattle.hib_order_law.specs.Orders.{comes, is_kill_step, kills, whose};
 ghost use Rattle.hib_order_tries.specs.Found.{IsBelow};
 ghost use Rattle.hib_order_tries.specs.Left.{AreOpenings, open_with, turn_of};
 ghost use Rattle.hib_order_tries.specs.Tail.{AreKills};
@@ -9,13 +9,22 @@ ghost use Rattle.std.specs.Prelude.{◌≡◌, ◌==◌, ℕ, [], IfOk, length, 
 use hib_order_law::{Step, Turn};
 use std::alloc::{AllocError, Global};
 
+fn is_kill(step: Step) -> bool
+    ensures { result ≡ is_kill_step step }
+{
+    match step {
+        Step::Own(_session) => false,
+        Step::Kill(_session) => true,
+    }
+}
+
 /// How many steps of an order kill a session.
 fn count_kills(order: &[Step]) -> usize
     ensures { result ≡ kills order.now }
 {
     let mut count = 0;
-    for gone in 0..order.len() {
-        if let Step::Kill(_session) = order[order.len() - 1 - gone] {
+    for place in 0..order.len() {
+        if is_kill(order[place]) {
             count += 1;
         }
     }
@@ -53,16 +62,16 @@ fn without(alloc: Global, steps: &[Step], session: u32) -> Result<Vec<Step>, All
 }
 
 /// The kills of the sessions that are open after a step, by those of the sessions that are open before it.
-fn opened(alloc: Global, open: &[Step], step: Step, turn: Turn) -> Result<Vec<Step>, AllocError>
-    ensures each { IfOk result (λ v. AreKills open.now → AreKills v.items) }
+fn opened(alloc: Global, olds: &[Step], step: Step, turn: Turn) -> Result<Vec<Step>, AllocError>
+    ensures each { IfOk result (λ v. AreKills olds.now → AreKills v.items) }
     ensures all { IfOk result (λ v. (s : ℕ)
-        → comes s v.items ≡ open_with s step turn (comes s open.now)) }
+        → comes s v.items ≡ open_with s step turn (comes s olds.now)) }
 {
     match turn_of(step, turn) {
-        Turn::GoesOn => open.to_vec(alloc),
-        Turn::Closes => without(alloc, open, step.session()),
+        Turn::GoesOn => olds.to_vec(alloc),
+        Turn::Closes => without(alloc, olds, step.session()),
         Turn::Opens => {
-            let mut steps = without(alloc, open, step.session())?;
+            let mut steps = without(alloc, olds, step.session())?;
             steps.push(Step::Kill(step.session()))?;
             Ok(steps)
         }
