@@ -5,5 +5,6 @@ mod entries;
 mod playing;
 mod sure;
 
+pub use entries::order_of;
 pub use playing::{Run, play_in};
 pub use sure::SureKeeper;

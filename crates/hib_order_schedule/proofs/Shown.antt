@@ -78,11 +78,18 @@ module _ (script : Script) (start : Tables) (most_kills : ℕ) where
   pub plays_shown : (es : List Entry) → IsRun script start most_kills es → is_played (with_schedule script (shown (steps_in es))) (onto es []) ≡ true
   plays_shown es r = let x = tail_of (steps_in es) in plays_front (before_tail (steps_in es)) x.0 es r x.1 x.2
 
-  -- and nothing else is
+  -- and nothing else is, with the runs and kills of any first steps with which it is played
+  front_again : (front : List Step) (es : List Entry) (h : Journal) → IsRun script start most_kills es → is_played (with_schedule script (runs_of front)) (onto es []) ≡ true →
+      IsLegal (with_schedule script (runs_of front)) (Some start) h → IsNumbered h → fault_count h ≡ 0 → is_played (with_schedule script (runs_of front)) h ≡ true → h ≡ onto es []
+  front_again front es h r p l n f q =
+      let other : Script = with_schedule script (runs_of front) in
+      played_once other start h (onto es []) (undisturbed other start h (all_runs front) l n f q)
+      (run_same script (runs_of front) start most_kills es r).undisturbed q p
+
+  pub whole_again : (es : List Entry) (h : Journal) → IsRun script start most_kills es → IsLegal (with_schedule script (runs_of (steps_in es))) (Some start) h →
+      IsNumbered h → fault_count h ≡ 0 → is_played (with_schedule script (runs_of (steps_in es))) h ≡ true → h ≡ onto es []
+  whole_again es h r l n f q = front_again (steps_in es) es h r (plays_whole es r) l n f q
+
   pub comes_again : (es : List Entry) (h : Journal) → IsRun script start most_kills es → IsLegal (with_schedule script (shown (steps_in es))) (Some start) h →
       IsNumbered h → fault_count h ≡ 0 → is_played (with_schedule script (shown (steps_in es))) h ≡ true → h ≡ onto es []
-  comes_again es h r l n f q =
-      let os : List Order = shown (steps_in es) in
-      let other : Script = with_schedule script os in
-      played_once other start h (onto es []) (undisturbed other start h (all_runs (before_tail (steps_in es))) l n f q)
-      (run_same script os start most_kills es r).undisturbed q (plays_shown es r)
+  comes_again es h r l n f q = front_again (before_tail (steps_in es)) es h r (plays_shown es r) l n f q

@@ -60,6 +60,16 @@ pub fn shown_runs_come_again()
         → h ≡ onto es [] }
 {}
 
+/// Whatever a script with all runs and kills of a run plays without faults is that run.
+pub fn whole_runs_come_again()
+    ensures again { (script : Script) (start : Tables) (most_kills : ℕ) (es : List Entry)
+        (h : Journal) → IsRun script start most_kills es
+        → IsLegal (with_schedule script (runs_of (steps_in es))) (Some start) h
+        → IsNumbered h → fault_count h ≡ 0
+        → is_played (with_schedule script (runs_of (steps_in es))) h ≡ true
+        → h ≡ onto es [] }
+{}
+
 /// The runs and kills that a schedule has to say of a run may be the schedule of its script, if there are 20,000 at most and the run
 /// has 1,000,000 steps at most.
 pub fn shown_runs_fit()

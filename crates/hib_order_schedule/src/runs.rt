@@ -20,8 +20,8 @@ fn steps_in_row(session: u32, order: &[Step]) -> usize
     order.len()
 }
 
-/// The runs and kills of an order.
-fn runs_of(alloc: Global, order: &[Step]) -> Result<Vec<Order>, AllocError>
+/// The runs and kills of an order, all of them. Fails for want of memory alone.
+pub fn runs_of(alloc: Global, order: &[Step]) -> Result<Vec<Order>, AllocError>
     requires { length order.now < 2 ^ 32 }
     ensures { IfOk result (λ v. v.items ≡ runs_of order.now) }
 {

@@ -3,6 +3,8 @@
 
 mod searching;
 mod stage;
+mod watcher;
 
 pub use searching::{Searched, search_orders};
 pub use stage::Stage;
+pub use watcher::Watcher;

@@ -5,6 +5,7 @@ ghost use Rattle.hib_order_tries.specs.Found.{IsTold};
 ghost use Rattle.std.specs.Prelude.{◌≡◌, ◌⊎◌, ◌≤◌, ◌^◌, ◌-◌, [], IfOk, true};
 
 use crate::stage::Stage;
+use crate::watcher::Watcher;
 use hib_base::Script;
 use hib_core::Name;
 use hib_order_tries::{Told, search};
@@ -21,12 +22,13 @@ pub struct Searched {
 }
 
 /// Searches the orders on the stage of this name.
-fn search_in<N: Name>(
+fn search_in<N: Name, W: Watcher + Drop>(
     alloc: Global,
     script: Script,
     most_kills: usize,
     most: usize,
     limit: u64,
+    watcher: W,
 ) -> Result<Searched, AllocError>
     requires script { script ≡ N.script }
     requires valid { is_valid N.script ≡ true }
@@ -41,7 +43,7 @@ fn search_in<N: Name>(
     ensures whole { IfOk result (λ s.
         (s.told.whole ≡ true) ⊎ (s.told.findings.tried ≡ limit) ⊎ (s.told.played ≡ 2 ^ 64 - 1)) }
 {
-    let mut stage = Stage::<N>::new(alloc, script)?;
+    let mut stage = Stage::<N, W>::new(alloc, script, watcher)?;
     let told = search(alloc, &mut stage, most_kills, most, limit)?;
     match stage.into_script() {
         Some(script) => Ok(Searched { told, script }),
@@ -50,14 +52,15 @@ fn search_in<N: Name>(
 }
 
 /// Tries the orders of a script's sessions within a number of switches and a number of kills, those with the fewest switches first, and
-/// so many of them at most, each by a new factory from the script's rows. Each order is tried once. Fails for want of memory
-/// alone.
-pub fn search_orders(
+/// so many of them at most, each by a new factory from the script's rows. Each order is tried once. The watcher hears of each run
+/// that is played. Fails for want of memory alone.
+pub fn search_orders<W: Watcher + Drop>(
     alloc: Global,
     script: Script,
     most_kills: usize,
     most: usize,
     limit: u64,
+    watcher: W,
 ) -> Result<Searched, AllocError>
     requires { is_valid script ≡ true }
     ensures script { IfOk result (λ s. s.script ≡ script) }
@@ -69,5 +72,5 @@ pub fn search_orders(
     ensures whole { IfOk result (λ s.
         (s.told.whole ≡ true) ⊎ (s.told.findings.tried ≡ limit) ⊎ (s.told.played ≡ 2 ^ 64 - 1)) }
 {
-    search_in::<Brand>(alloc, script, most_kills, most, limit)
+    search_in::<Brand, W>(alloc, script, most_kills, most, limit, watcher)
 }

@@ -4,6 +4,7 @@ ghost use Rattle.hib_base.specs.Valid.{is_valid};
 ghost use Rattle.hib_order_stage.specs.Staged.{ended_in, judged_from_start, new_origin, rows_at_start};
 ghost use Rattle.std.specs.Prelude.{◌≡◌, [], IfOk, IfSome, true};
 
+use crate::watcher::Watcher;
 use hib_base::{Key, Outcome, Row, Rows, Script, Seq};
 use hib_core::Name;
 use hib_listeners::Recorder;
@@ -17,15 +18,19 @@ use std::marker::{Model, PhantomData};
 
 /// One script, which is played again and again, each time by a new factory over a new keeper in memory, and judged.
 #[derive(Drop)]
-pub struct Stage<N: Name> {
+pub struct Stage<N: Name, W: Watcher> {
     /// The script. None after a play for which memory ran out.
     script: Option<Script>,
     /// The committed rows at the start of each run.
     rows: Rows,
+    /// Who hears of each run.
+    watcher: W,
+    /// How many runs were played.
+    played: u64,
     of: PhantomData<N>,
 }
 
-impl<N: Name> Model for Stage<N> {
+impl<N: Name, W: Watcher> Model for Stage<N, W> {
     ghost use Rattle.std.specs.Prelude.{◌≡◌, ⊤, [], IfSome, true};
     ghost use Rattle.hib_base.specs.Tables.{in_order};
     ghost use Rattle.hib_base.specs.Valid.{is_valid};
@@ -86,9 +91,9 @@ fn judge_run(alloc: Global, rows: &Rows, run: &Run) -> Result<Judged, AllocError
     Ok(Judged { verdicts, ending })
 }
 
-impl<N: Name> Stage<N> {
-    /// A stage for the script of this name.
-    pub fn new(alloc: Global, script: Script) -> Result<Stage<N>, AllocError>
+impl<N: Name, W: Watcher + Drop> Stage<N, W> {
+    /// A stage for the script of this name. The watcher hears of each run that is played.
+    pub fn new(alloc: Global, script: Script, watcher: W) -> Result<Stage<N, W>, AllocError>
         requires script { script ≡ N.script }
         requires valid { is_valid N.script ≡ true }
         requires from { new_origin N.script ≡ N.from }
@@ -98,6 +103,8 @@ impl<N: Name> Stage<N> {
         Ok(Stage {
             script: Some(script),
             rows,
+            watcher,
+            played: 0,
             of: PhantomData,
         })
     }
@@ -110,7 +117,7 @@ impl<N: Name> Stage<N> {
     }
 }
 
-impl<N: Name> Player for Stage<N> {
+impl<N: Name, W: Watcher + Drop> Player for Stage<N, W> {
     ghost use Rattle.hib_order_stage.specs.Staged.{ended_in, judged_from_start, rows_at_start};
 
     ghost script = { N.script };
@@ -135,6 +142,8 @@ impl<N: Name> Player for Stage<N> {
             turns,
         } = run;
         self.script = Some(script);
+        self.played = self.played.saturating_add(1);
+        self.watcher.played(self.played);
         Ok(Played {
             order,
             turns,

@@ -105,7 +105,7 @@ exploring switches kills at_most = record {
   has_form = λ text. (said : Outline) × (script_of text ≡ Ok said);
   leaves = λ script old new run. Explores switches kills at_most script run × (new ≡ old);
   stops = λ script. Stops;
-  tells = λ run answer taken written. IsWritten answer (text run.script switches kills run.told) taken written × IsToldSo answer;
+  tells = λ run answer taken written. IsWritten answer (text run.script kills switches run.told) taken written × IsToldSo answer;
 }
 
 -- ---- one finding shown

@@ -16,6 +16,7 @@ use crate::rows::{Rows, list_rows};
 use crate::show::{Show, explore_for};
 use crate::spans::Trace;
 use hib_call::{Called, Lent, Status, call};
+use hib_order_stage::Watcher;
 use hib_order_text::Finding;
 use hib_outside::{Keeper, Listener, Sink, Source};
 use std::alloc::Global;
@@ -180,12 +181,13 @@ pub fn write_rows<S: Source, W: Sink, K: Keeper, L: Listener>(
 }
 
 /// Tries the orders of a script's sessions.
-pub fn try_orders<S: Source, W: Sink, K: Keeper, L: Listener>(
+pub fn try_orders<S: Source, W: Sink, K: Keeper, L: Listener, H: Watcher + Drop>(
     alloc: Global,
     orders: Orders,
     source: &mut S,
     out: &mut W,
     lent: Lent<K, L>,
+    watcher: H,
 ) -> Ended<K, L>
     ensures { DoesTool (Tool.Orders orders.switches orders.kills orders.at_most None)
         (outside (S.left source.old) (S.faults source.old) (W.taken out.old) (W.faults out.old)
@@ -203,7 +205,7 @@ pub fn try_orders<S: Source, W: Sink, K: Keeper, L: Listener>(
         lent,
         |script, lent|
             requires { is_valid script ≡ true }
-        { explore(alloc, orders, script, lent) },
+        { explore(alloc, orders, script, watcher, lent) },
     );
     Ended {
         said: said_of(&status, &run),
@@ -213,12 +215,13 @@ pub fn try_orders<S: Source, W: Sink, K: Keeper, L: Listener>(
 }
 
 /// Tries the orders of a script's sessions, and writes the script with the schedule of a finding.
-pub fn show_finding<S: Source, W: Sink, K: Keeper, L: Listener>(
+pub fn show_finding<S: Source, W: Sink, K: Keeper, L: Listener, H: Watcher + Drop>(
     alloc: Global,
     show: Show,
     source: &mut S,
     out: &mut W,
     lent: Lent<K, L>,
+    watcher: H,
 ) -> Ended<K, L>
     ensures { (number : ℕ) → finding_numbered number ≡ show.finding
         → DoesTool (Tool.Orders show.orders.switches show.orders.kills show.orders.at_most (Some number))
@@ -237,7 +240,7 @@ pub fn show_finding<S: Source, W: Sink, K: Keeper, L: Listener>(
         lent,
         |script, lent|
             requires { is_valid script ≡ true }
-        { explore_for(alloc, show, script, lent) },
+        { explore_for(alloc, show, script, watcher, lent) },
     );
     Ended {
         said: said_of_finding(show.finding, &status, &run),

@@ -11,7 +11,7 @@ use hib_base::Script;
 use hib_call::{InputFault, Lent, Outcome, Ran, Status, Task, tell_text};
 use hib_law::rows_cohere;
 use hib_order_schedule::{schedules_play_orders, shown_runs_come_again};
-use hib_order_stage::{Searched, search_orders};
+use hib_order_stage::{Searched, Watcher, search_orders};
 use hib_order_text::{Finding, found_of, text};
 use hib_order_tries::{Told, what_is_told_is_so};
 use hib_outside::{Keeper, Listener, Sink};
@@ -66,8 +66,13 @@ pub struct Orders {
     pub at_most: Option<u32>,
 }
 
-/// Tries the orders of a script's sessions. Nothing that is lent is touched.
-pub fn tried(alloc: Global, orders: Orders, script: Script) -> Outcome<Explored>
+/// Tries the orders of a script's sessions. Nothing that is lent is touched. The watcher hears of each run that is played.
+pub fn tried<W: Watcher + Drop>(
+    alloc: Global,
+    orders: Orders,
+    script: Script,
+    watcher: W,
+) -> Outcome<Explored>
     requires { is_valid script ≡ true }
     ensures { (lent : Shared)
         → Comes (exploring orders.switches orders.kills orders.at_most) script lent lent result }
@@ -83,6 +88,7 @@ pub fn tried(alloc: Global, orders: Orders, script: Script) -> Outcome<Explored>
         orders.kills as usize,
         orders.switches as usize,
         limit,
+        watcher,
     ) {
         Ok(searched) => {
             let Searched { told, script } = searched;
@@ -93,10 +99,11 @@ pub fn tried(alloc: Global, orders: Orders, script: Script) -> Outcome<Explored>
 }
 
 /// Tries the orders of a script's sessions, and hands back what is lent as it is.
-pub fn explore<K: Keeper, L: Listener>(
+pub fn explore<K: Keeper, L: Listener, W: Watcher + Drop>(
     alloc: Global,
     orders: Orders,
     script: Script,
+    watcher: W,
     lent: Lent<K, L>,
 ) -> Ran<Explored, K, L>
     requires { is_valid script ≡ true }
@@ -106,7 +113,7 @@ pub fn explore<K: Keeper, L: Listener>(
         result.lent.listeners.items)
         result.outcome }
 {
-    let outcome = tried(alloc, orders, script);
+    let outcome = tried(alloc, orders, script, watcher);
     Ran { outcome, lent }
 }
 
@@ -148,7 +155,7 @@ impl Task for Orders {
     }
 
     fn tell<W: Sink>(&self, alloc: Global, run: &Explored, out: &mut W) -> Status {
-        match text(alloc, &run.script, self.switches, self.kills, &run.told) {
+        match text(alloc, &run.script, self.kills, self.switches, &run.told) {
             Ok(text) => tell_text(text.as_slice(), out),
             Err(_) => Status::NoMemory,
         }

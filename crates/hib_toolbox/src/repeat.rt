@@ -1,5 +1,5 @@
 // The script whose schedule repeats a journal.
-ghost use Rattle.std.specs.Prelude.{◌≡◌};
+ghost use Rattle.std.specs.Prelude.{◌≡◌, position};
 ghost use Rattle.hib_call.specs.Ends.{Comes};
 ghost use Rattle.hib_call.specs.Outside.{Shared, shared_by};
 ghost use Rattle.hib_toolbox.specs.Repeating.{is_foreign, repeating};
@@ -8,7 +8,7 @@ use crate::report::{LIMIT, read_input};
 use hib_base::{Act, Entry, Script, Seq};
 use hib_call::{InputFault, Lent, Outcome, Ran, Status, Task, tell_text};
 use hib_input::WithJournal;
-use hib_order_law::steps_in;
+use hib_order_plays::order_of;
 use hib_order_schedule::{
     may_have_schedule, runs_of, schedules_play_orders, whole_runs_come_again, with_schedule,
 };
@@ -66,7 +66,7 @@ fn repeated(alloc: Global, input: WithJournal) -> Outcome<Repeated>
             repeatable: Repeatable::Foreign(entry),
         });
     }
-    let Ok(order) = steps_in(alloc, journal.as_slice()) else {
+    let Ok(order) = order_of(alloc, journal.as_slice()) else {
         return Outcome::Stopped(Status::NoMemory, None);
     };
     if order.len() >= 4_294_967_296 {

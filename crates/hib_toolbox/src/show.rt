@@ -11,6 +11,7 @@ use crate::orders::{Explored, Orders, is_there, read_script, tried};
 use hib_base::{Script, Seq};
 use hib_call::{InputFault, Lent, Outcome, Ran, Status, Task, tell_text};
 use hib_order_schedule::{schedule_of, with_schedule};
+use hib_order_stage::Watcher;
 use hib_order_text::{Finding, found_of};
 use hib_order_tries::First;
 use hib_outside::{Keeper, Listener, Sink};
@@ -72,10 +73,11 @@ fn with_finding(alloc: Global, show: Show, outcome: Outcome<Explored>) -> Outcom
 }
 
 /// Tries the orders of a script's sessions, and hands back what is lent as it is.
-pub fn explore_for<K: Keeper, L: Listener>(
+pub fn explore_for<K: Keeper, L: Listener, W: Watcher + Drop>(
     alloc: Global,
     show: Show,
     script: Script,
+    watcher: W,
     lent: Lent<K, L>,
 ) -> Ran<Explored, K, L>
     requires { is_valid script ≡ true }
@@ -85,7 +87,7 @@ pub fn explore_for<K: Keeper, L: Listener>(
         result.lent.listeners.items)
         result.outcome }
 {
-    let outcome = tried(alloc, show.orders, script);
+    let outcome = tried(alloc, show.orders, script, watcher);
     let outcome = with_finding(alloc, show, outcome);
     Ran { outcome, lent }
 }

@@ -11,17 +11,19 @@ use crate::ended::{Ended, Said};
 use crate::orders::Orders;
 use crate::show::{Show, finding_numbered};
 use hib_call::{Lent, Status};
+use hib_order_stage::Watcher;
 use hib_outside::{Keeper, Listener, Sink, Source};
 use hib_words::{Tool, read_tool};
 use std::alloc::Global;
 
 /// Does what is asked.
-fn serve<S: Source, W: Sink, K: Keeper, L: Listener>(
+fn serve<S: Source, W: Sink, K: Keeper, L: Listener, H: Watcher + Drop>(
     alloc: Global,
     tool: Tool,
     source: &mut S,
     out: &mut W,
     lent: Lent<K, L>,
+    watcher: H,
 ) -> Ended<K, L>
     ensures does { DoesTool tool
         (outside (S.left source.old) (S.faults source.old) (W.taken out.old) (W.faults out.old)
@@ -50,10 +52,10 @@ fn serve<S: Source, W: Sink, K: Keeper, L: Listener>(
                 at_most,
             };
             match show {
-                None => try_orders(alloc, orders, source, out, lent),
+                None => try_orders(alloc, orders, source, out, lent, watcher),
                 Some(number) => {
                     let finding = finding_numbered(number);
-                    show_finding(alloc, Show { orders, finding }, source, out, lent)
+                    show_finding(alloc, Show { orders, finding }, source, out, lent, watcher)
                 }
             }
         }
@@ -77,13 +79,14 @@ fn ended_idle<K, L>(status: Status, lent: Lent<K, L>) -> Ended<K, L>
 /// what was found, or the script with the schedule of a finding. `rows` reads a script and writes the rows that the keeper has of its
 /// entities. The others read a script and a journal after it: `report` writes the report of the journal, `flat` its entries with a member
 /// for each thing, `schedule` the script whose schedule repeats it, `spans` a trace. If the words have no form, nothing is read and nothing
-/// written.
-pub fn tools<S: Source, W: Sink, K: Keeper, L: Listener>(
+/// written. The watcher hears of each run that `orders` plays.
+pub fn tools<S: Source, W: Sink, K: Keeper, L: Listener, H: Watcher + Drop>(
     alloc: Global,
     words: &[String],
     source: &mut S,
     out: &mut W,
     lent: Lent<K, L>,
+    watcher: H,
 ) -> Ended<K, L>
     ensures { Promised (tool_command (map string_bytes words.now))
         (outside (S.left source.old) (S.faults source.old) (W.taken out.old) (W.faults out.old)
@@ -94,7 +97,7 @@ pub fn tools<S: Source, W: Sink, K: Keeper, L: Listener>(
         result.status result.said }
 {
     match read_tool(alloc, words) {
-        Ok(Some(tool)) => serve(alloc, tool, source, out, lent),
+        Ok(Some(tool)) => serve(alloc, tool, source, out, lent, watcher),
         Ok(None) => ended_idle(Status::Usage, lent),
         Err(_) => ended_idle(Status::NoMemory, lent),
     }

@@ -2,6 +2,7 @@
 #![tactic(auto)]
 
 mod files;
+mod progress;
 
 use files::serve_file;
 use hib_base::Seq;
@@ -11,6 +12,7 @@ use hib_listeners::Recorder;
 use hib_outside::{Keeper, MemKeeper, StdSink, StdSource};
 use hib_toolbox::{Ended, Said, tools};
 use hib_words::{TOOLS_VERSION, Topic, file_of_tool, tools_help, topic_asked};
+use progress::Progress;
 use std::alloc::Global;
 use std::io;
 use std::process::ExitCode;
@@ -53,7 +55,8 @@ fn serve<K: Keeper>(rt: &HostRuntime, words: &[String], keeper: K) -> Ended<K, R
     };
     let mut source = StdSource::new(rt.reader());
     let mut sink = StdSink::new(io::writer(rt));
-    tools(rt.alloc(), words, &mut source, &mut sink, lent)
+    let shown = Progress::on(rt);
+    tools(rt.alloc(), words, &mut source, &mut sink, lent, shown)
 }
 
 /// Says on standard error what there is to say beside the text, and gives the status's number.

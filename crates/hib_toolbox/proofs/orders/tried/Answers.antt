@@ -12,9 +12,9 @@ returns-in-Ok c = λ lent. (
     few = subst (λ (n : ℕ). c.in-Ok.searched.told.findings.tried ≤ n) c.limit_of-limit.ensures c.in-Ok.ensures.limit;
     whole = subst (λ (n : ℕ). (c.in-Ok.searched.told.whole ≡ true) ⊎ ((c.in-Ok.searched.told.findings.tried ≡ n) ⊎ (c.in-Ok.searched.told.played ≡ 2 ^ 64 - 1)))
         c.limit_of-limit.ensures c.in-Ok.ensures.whole;
-    none = none_told c.what_is_told_is_so.ensures.none c.args.script c.args.orders.switches c.in-Ok.searched.told.whole c.in-Ok.searched.told.level
+    none = none_told c.what_is_told_is_so.ensures.none c.args.script c.args.orders.kills c.args.orders.switches c.in-Ok.searched.told.whole c.in-Ok.searched.told.level
         c.in-Ok.searched.told.findings c.in-Ok.ensures.tried;
-    first = first_told c.what_is_told_is_so.ensures.first c.schedules_play_orders.ensures.shown c.shown_runs_come_again.ensures.again c.args.script c.args.orders.switches
+    first = first_told c.what_is_told_is_so.ensures.first c.schedules_play_orders.ensures.shown c.shown_runs_come_again.ensures.again c.args.script c.args.orders.kills c.args.orders.switches
         c.in-Ok.searched.told.whole c.in-Ok.searched.told.level c.in-Ok.searched.told.findings c.in-Ok.ensures.tried;
     never = λ es run k rw. c.rows_cohere.ensures.rows c.args.script (rows_at_start c.args.script) k rw (onto es []) run.undisturbed.legal;
   },

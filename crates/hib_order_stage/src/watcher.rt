@@ -1,0 +1,7 @@
+// Who hears how far a search is.
+
+/// Who hears how far a search is.
+pub trait Watcher {
+    /// So many runs were played by now.
+    fn played(&mut self, runs: u64);
+}
