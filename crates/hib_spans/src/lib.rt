@@ -2,12 +2,12 @@
 //! microsecond. That what is written is the journal's is tested, and not proved.
 #![tactic(auto)]
 
-mod jaeger;
+mod events;
 mod kept;
 mod members;
-mod perfetto;
+mod services;
 #[cfg(test)]
 mod tests;
 
-pub use jaeger::jaeger;
-pub use perfetto::perfetto;
+pub use events::perfetto;
+pub use services::jaeger;

@@ -33,9 +33,14 @@ impl Watcher for Progress<'_> {
 }
 
 impl Drop for Progress<'_> {
-    fn drop(&mut self) {
-        if self.is_shown {
-            let _ = eprint!(self.host; "\r\x1b[K");
+    fn drop(self) {
+        let Self {
+            host,
+            is_terminal: _,
+            is_shown,
+        } = self;
+        if is_shown {
+            let _ = eprint!(host; "\r\x1b[K");
         }
     }
 }

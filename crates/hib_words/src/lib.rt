@@ -9,6 +9,6 @@ mod topics;
 mod words;
 
 pub use texts::{TOOLS_VERSION, VERSION, help, tools_help};
-pub use tools::{Tool, read_tool};
+pub use tools::{Tool, file_of_tool, read_tool};
 pub use topics::{Topic, topic_asked};
 pub use words::{Command, Options, read};
