@@ -1,50 +1,80 @@
 // The trace that Perfetto opens: trace events as JSON.
-use crate::kept::{Begun, Kept};
+ghost use Rattle.hib_spans.specs.Events.{answer_text, holder_text, lock_text, mark_text, named_lock, place_text, step_text, track_text, transaction_text};
+ghost use Rattle.std.specs.Prelude.{◌≡◌, ◌++◌, OnOk};
+
+use crate::kept::{Begun, Kept, begun_by, locked_by, unlocked_by};
 use crate::members::{
-    put_quoted_act, put_quoted_lock, put_quoted_part, put_quoted_reply, put_quoted_track, track_of,
+    put_quoted_act, put_quoted_lock, put_quoted_part, put_quoted_reply, track_name, track_of,
 };
-use hib_base::{Act, Bytes, Entry, Key, Script, Seq, SessionNo, Tick};
+use hib_base::{Act, Bytes, Entry, Key, Part, Reply, Script, Seq, SessionNo};
 use hib_journal::Journal;
+use hib_json_lines::put_quoted;
 use hib_texts::put_labelled;
 use std::alloc::{AllocError, Global};
 
 /// When an event is, and on which track; with these the object ends.
-fn put_place(
-    alloc: Global,
-    out: &mut Vec<u8>,
-    tick: Tick,
-    session: Option<SessionNo>,
-) -> Result<(), AllocError> {
-    put_labelled(alloc, out, b",\"ts\":", tick.0)?;
-    put_labelled(alloc, out, b",\"pid\":1,\"tid\":", track_of(session))?;
+fn put_place(alloc: Global, out: &mut Vec<u8>, tick: u64, track: u64) -> Result<(), AllocError>
+    ensures { OnOk result (out.new.items ≡ out.old.items ++ place_text tick track) }
+{
+    put_labelled(alloc, out, b",\"ts\":", tick)?;
+    put_labelled(alloc, out, b",\"pid\":1,\"tid\":", track)?;
     out.extend_from_slice(b"}")
 }
 
 /// The name of a track.
-fn put_track(
-    alloc: Global,
-    out: &mut Vec<u8>,
-    script: &Script,
-    session: Option<SessionNo>,
-) -> Result<(), AllocError> {
+fn put_track(alloc: Global, out: &mut Vec<u8>, name: &[u8], track: u64) -> Result<(), AllocError>
+    ensures { OnOk result (out.new.items ≡ out.old.items ++ track_text name.now track) }
+{
     put_labelled(
         alloc,
         out,
         b",\n{\"name\":\"thread_name\",\"ph\":\"M\",\"pid\":1,\"tid\":",
-        track_of(session),
+        track,
     )?;
     out.extend_from_slice(b",\"args\":{\"name\":")?;
-    put_quoted_track(out, script, session)?;
+    put_quoted(out, name)?;
     out.extend_from_slice(b"}}")
 }
 
 /// The name of each track.
 fn put_tracks(alloc: Global, out: &mut Vec<u8>, script: &Script) -> Result<(), AllocError> {
-    put_track(alloc, out, script, None)?;
+    put_track(alloc, out, track_name(script, None), 0)?;
     for session in 0..script.sessions.len() {
-        put_track(alloc, out, script, Some(SessionNo(session as u32)))?;
+        let number = SessionNo(session as u32);
+        let name = track_name(script, Some(number));
+        put_track(alloc, out, name, track_of(Some(number)))?;
     }
     Ok(())
+}
+
+/// What a step does, and on which part.
+fn put_step(
+    alloc: Global,
+    out: &mut Vec<u8>,
+    script: &Script,
+    act: &Act,
+    part: Part,
+) -> Result<(), AllocError>
+    ensures { OnOk result (out.new.items ≡ out.old.items ++ step_text script.now act.now part) }
+{
+    out.extend_from_slice(b",\n{\"name\":")?;
+    put_quoted_act(alloc, out, script, act)?;
+    out.extend_from_slice(b",\"cat\":")?;
+    put_quoted_part(alloc, out, part)
+}
+
+/// That it is a mark, and what was answered.
+fn put_answer(
+    alloc: Global,
+    out: &mut Vec<u8>,
+    script: &Script,
+    reply: &Reply,
+) -> Result<(), AllocError>
+    ensures { OnOk result (out.new.items ≡ out.old.items ++ answer_text script.now reply.now) }
+{
+    out.extend_from_slice(b",\"ph\":\"i\",\"s\":\"t\",\"args\":{\"reply\":")?;
+    put_quoted_reply(alloc, out, script, reply)?;
+    out.extend_from_slice(b"}")
 }
 
 /// A step, as a mark on the track of its session.
@@ -53,15 +83,12 @@ fn put_mark(
     out: &mut Vec<u8>,
     script: &Script,
     entry: &Entry,
-) -> Result<(), AllocError> {
-    out.extend_from_slice(b",\n{\"name\":")?;
-    put_quoted_act(alloc, out, script, &entry.act)?;
-    out.extend_from_slice(b",\"cat\":")?;
-    put_quoted_part(alloc, out, entry.part)?;
-    out.extend_from_slice(b",\"ph\":\"i\",\"s\":\"t\",\"args\":{\"reply\":")?;
-    put_quoted_reply(alloc, out, script, &entry.reply)?;
-    out.extend_from_slice(b"}")?;
-    put_place(alloc, out, entry.tick, entry.session)
+) -> Result<(), AllocError>
+    ensures { OnOk result (out.new.items ≡ out.old.items ++ mark_text script.now entry.now) }
+{
+    put_step(alloc, out, script, &entry.act, entry.part)?;
+    put_answer(alloc, out, script, &entry.reply)?;
+    put_place(alloc, out, entry.tick.0, track_of(entry.session))
 }
 
 /// The begin or the end of a transaction.
@@ -69,33 +96,60 @@ fn put_transaction(
     alloc: Global,
     out: &mut Vec<u8>,
     phase: &[u8],
-    tick: Tick,
-    session: SessionNo,
-) -> Result<(), AllocError> {
+    tick: u64,
+    track: u64,
+) -> Result<(), AllocError>
+    ensures { OnOk result (out.new.items ≡ out.old.items ++ transaction_text phase.now tick track) }
+{
     out.extend_from_slice(b",\n{\"name\":\"transaction\",\"cat\":\"transaction\",\"ph\":\"")?;
     out.extend_from_slice(phase)?;
     out.extend_from_slice(b"\"")?;
-    put_place(alloc, out, tick, Some(session))
+    put_place(alloc, out, tick, track)
 }
 
-/// The begin or the end of a lock: a key and a session tell it from others that are held at the same time.
+/// What a lock is called, and that it begins or ends.
+fn put_named_lock(
+    alloc: Global,
+    out: &mut Vec<u8>,
+    script: &Script,
+    phase: &[u8],
+    key: Key,
+) -> Result<(), AllocError>
+    ensures { OnOk result (out.new.items ≡ out.old.items ++ named_lock script.now phase.now key) }
+{
+    out.extend_from_slice(b",\n{\"name\":")?;
+    put_quoted_lock(alloc, out, script, key)?;
+    out.extend_from_slice(b",\"cat\":\"lock\",\"ph\":\"")?;
+    out.extend_from_slice(phase)
+}
+
+/// What tells a lock from others that are held at the same time: its key and its session.
+fn put_holder(alloc: Global, out: &mut Vec<u8>, key: Key, track: u64) -> Result<(), AllocError>
+    ensures { OnOk result (out.new.items ≡ out.old.items ++ holder_text key track) }
+{
+    let Key { entity, id } = key;
+    put_labelled(alloc, out, b"\",\"id\":\"", u64::from(entity.0))?;
+    put_labelled(alloc, out, b".", id)?;
+    put_labelled(alloc, out, b".", track)?;
+    out.extend_from_slice(b"\"")
+}
+
+/// The begin or the end of a lock.
 fn put_lock(
     alloc: Global,
     out: &mut Vec<u8>,
     script: &Script,
     phase: &[u8],
-    entry: &Entry,
     key: Key,
-) -> Result<(), AllocError> {
-    out.extend_from_slice(b",\n{\"name\":")?;
-    put_quoted_lock(alloc, out, script, key)?;
-    out.extend_from_slice(b",\"cat\":\"lock\",\"ph\":\"")?;
-    out.extend_from_slice(phase)?;
-    put_labelled(alloc, out, b"\",\"id\":\"", u64::from(key.entity.0))?;
-    put_labelled(alloc, out, b".", key.id)?;
-    put_labelled(alloc, out, b".", track_of(entry.session))?;
-    out.extend_from_slice(b"\"")?;
-    put_place(alloc, out, entry.tick, entry.session)
+    tick: u64,
+    track: u64,
+) -> Result<(), AllocError>
+    ensures { OnOk result (out.new.items
+        ≡ out.old.items ++ lock_text script.now phase.now key tick track) }
+{
+    put_named_lock(alloc, out, script, phase, key)?;
+    put_holder(alloc, out, key, track)?;
+    put_place(alloc, out, tick, track)
 }
 
 /// The transactions that end with an entry.
@@ -103,10 +157,10 @@ fn put_ends(
     alloc: Global,
     out: &mut Vec<u8>,
     ended: &[Begun],
-    tick: Tick,
+    tick: u64,
 ) -> Result<(), AllocError> {
     for begun in ended {
-        put_transaction(alloc, out, b"E", tick, begun.session)?;
+        put_transaction(alloc, out, b"E", tick, begun.track)?;
     }
     Ok(())
 }
@@ -118,20 +172,21 @@ fn put_entry(
     script: &Script,
     kept: &Kept,
     entry: &Entry,
+    track: u64,
 ) -> Result<(), AllocError> {
-    if let (Act::Begin, Some(session)) = (&entry.act, entry.session) {
-        put_transaction(alloc, out, b"B", entry.tick, session)?;
+    let tick = entry.tick.0;
+    if let Some(begun) = begun_by(entry) {
+        put_transaction(alloc, out, b"B", tick, begun)?;
     }
     put_mark(alloc, out, script, entry)?;
-    match &entry.act {
-        Act::Lock { key, .. } => put_lock(alloc, out, script, b"b", entry, *key)?,
-        Act::Unlock { key, .. } | Act::AfterUpdate { key, .. } => {
-            put_lock(alloc, out, script, b"e", entry, *key)?
-        }
-        _ => {}
+    if let Some(key) = locked_by(entry) {
+        put_lock(alloc, out, script, b"b", key, tick, track)?;
+    }
+    if let Some(key) = unlocked_by(entry) {
+        put_lock(alloc, out, script, b"e", key, tick, track)?;
     }
     let ended = kept.ended(alloc, entry)?;
-    put_ends(alloc, out, ended.as_slice(), entry.tick)
+    put_ends(alloc, out, ended.as_slice(), tick)
 }
 
 /// A journal as trace events in JSON, which Perfetto opens. Each session is a track, and the orders of the schedule are one more; a
@@ -146,8 +201,9 @@ pub fn perfetto(alloc: Global, script: &Script, journal: &Journal) -> Result<Byt
     put_tracks(alloc, &mut out, script)?;
     let mut kept = Kept::new(alloc);
     for entry in journal.as_slice() {
-        put_entry(alloc, &mut out, script, &kept, entry)?;
-        kept.note(entry)?;
+        let track = track_of(entry.session);
+        put_entry(alloc, &mut out, script, &kept, entry, track)?;
+        kept.note(entry, track)?;
     }
     out.extend_from_slice(b"\n]}\n")?;
     Ok(Seq::from_vec(out))

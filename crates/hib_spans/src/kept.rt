@@ -1,33 +1,66 @@
 // What is known at an entry of the entries before it.
-use hib_base::{Act, Entry, Key, SessionNo, Tick};
+use hib_base::{Act, Entry, Key, SessionNo};
 use std::alloc::{AllocError, Global};
 use std::collections::BTreeMap;
 
 /// A transaction that has begun.
 #[derive(Clone, Copy, Debug, PartialEq, Eq)]
 pub struct Begun {
-    /// Its session.
-    pub session: SessionNo,
+    /// The track of its session.
+    pub track: u64,
     /// When it began.
-    pub tick: Tick,
+    pub tick: u64,
 }
 
-/// The transactions that are open, and the locks that are held.
+/// The transactions that are open, and the locks that are held, by the tracks of their sessions.
 #[derive(Drop)]
 pub struct Kept {
     /// When the open transaction of a session began.
-    times: BTreeMap<SessionNo, Tick>,
+    times: BTreeMap<u64, u64>,
     /// The transactions that have begun since the last restart.
     begun: Vec<Begun>,
     /// When a session has locked a key.
-    locks: BTreeMap<(SessionNo, Key), Tick>,
+    locks: BTreeMap<(u64, Key), u64>,
 }
 
-/// The session whose transaction an entry ends, if it names one.
-fn ended_by(entry: &Entry) -> Option<SessionNo> {
+/// The number of a session's track.
+fn track(session: SessionNo) -> u64 {
+    u64::from(session.0) + 1
+}
+
+/// The track on which an entry begins a transaction.
+pub fn begun_by(entry: &Entry) -> Option<u64> {
+    match (&entry.act, entry.session) {
+        (Act::Begin, Some(session)) => Some(track(session)),
+        _ => None,
+    }
+}
+
+/// The track whose transaction an entry ends, if it names one.
+fn ended_by(entry: &Entry) -> Option<u64> {
     match &entry.act {
-        Act::End => entry.session,
-        Act::Kill { session } => Some(*session),
+        Act::End => match entry.session {
+            Some(session) => Some(track(session)),
+            None => None,
+        },
+        Act::Kill { session } => Some(track(*session)),
+        _ => None,
+    }
+}
+
+/// The key that an entry locks.
+pub fn locked_by(entry: &Entry) -> Option<Key> {
+    match &entry.act {
+        Act::Lock { key, .. } => Some(*key),
+        _ => None,
+    }
+}
+
+/// The key whose lock an entry gives back.
+pub fn unlocked_by(entry: &Entry) -> Option<Key> {
+    match &entry.act {
+        Act::Unlock { key, .. } => Some(*key),
+        Act::AfterUpdate { key, .. } => Some(*key),
         _ => None,
     }
 }
@@ -42,14 +75,14 @@ impl Kept {
         }
     }
 
-    /// When the open transaction of a session began, if it has one.
-    pub fn time(&self, session: SessionNo) -> Option<Tick> {
-        self.times.get(&session).copied()
+    /// When the open transaction of a track began, if it has one.
+    pub fn time(&self, track: u64) -> Option<u64> {
+        self.times.get(&track).copied()
     }
 
-    /// When a session has locked a key, if it holds the lock.
-    pub fn lock(&self, session: SessionNo, key: Key) -> Option<Tick> {
-        self.locks.get(&(session, key)).copied()
+    /// When the session of a track has locked a key, if it holds the lock.
+    pub fn lock(&self, track: u64, key: Key) -> Option<u64> {
+        self.locks.get(&(track, key)).copied()
     }
 
     /// The transactions that an entry ends, those that began first before the others.
@@ -58,51 +91,51 @@ impl Kept {
             return self.open(alloc);
         }
         let mut ended = Vec::new(alloc);
-        if let Some(session) = ended_by(entry) {
-            if let Some(tick) = self.time(session) {
-                ended.push(Begun { session, tick })?;
+        if let Some(track) = ended_by(entry) {
+            if let Some(tick) = self.time(track) {
+                ended.push(Begun { track, tick })?;
             }
         }
         Ok(ended)
-    }
-
-    /// Takes an entry.
-    pub fn note(&mut self, entry: &Entry) -> Result<(), AllocError> {
-        if let Some(session) = ended_by(entry) {
-            self.times.remove(&session);
-        }
-        match (&entry.act, entry.session) {
-            (Act::Begin, Some(session)) => {
-                self.times.insert(session, entry.tick)?;
-                self.begun.push(Begun {
-                    session,
-                    tick: entry.tick,
-                })?;
-            }
-            (Act::Restart, _) => {
-                self.times.clear();
-                self.locks.clear();
-                self.begun.clear();
-            }
-            (Act::Lock { key, .. }, Some(session)) => {
-                self.locks.insert((session, *key), entry.tick)?;
-            }
-            (Act::Unlock { key, .. } | Act::AfterUpdate { key, .. }, Some(session)) => {
-                self.locks.remove(&(session, *key));
-            }
-            _ => {}
-        }
-        Ok(())
     }
 
     /// The transactions that are open, those that began first before the others.
     pub fn open(&self, alloc: Global) -> Result<Vec<Begun>, AllocError> {
         let mut open = Vec::new(alloc);
         for begun in self.begun.iter() {
-            if self.time(begun.session) == Some(begun.tick) {
+            if self.time(begun.track) == Some(begun.tick) {
                 open.push(*begun)?;
             }
         }
         Ok(open)
+    }
+
+    /// A transaction begins.
+    fn begin(&mut self, track: u64, tick: u64) -> Result<(), AllocError> {
+        self.times.insert(track, tick)?;
+        self.begun.push(Begun { track, tick })
+    }
+
+    /// Takes an entry, whose session has this track.
+    pub fn note(&mut self, entry: &Entry, track: u64) -> Result<(), AllocError> {
+        if let Act::Restart = entry.act {
+            self.times.clear();
+            self.locks.clear();
+            self.begun.clear();
+            return Ok(());
+        }
+        if let Some(ended) = ended_by(entry) {
+            self.times.remove(&ended);
+        }
+        if let Some(begun) = begun_by(entry) {
+            self.begin(begun, entry.tick.0)?;
+        }
+        if let Some(key) = locked_by(entry) {
+            self.locks.insert((track, key), entry.tick.0)?;
+        }
+        if let Some(key) = unlocked_by(entry) {
+            self.locks.remove(&(track, key));
+        }
+        Ok(())
     }
 }

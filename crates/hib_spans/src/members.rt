@@ -1,4 +1,10 @@
 // Members of an object, appended to bytes.
+ghost use Rattle.hib_report.specs.Lines.{act_text, part_text, reply_text};
+ghost use Rattle.hib_spans.specs.Events.{track_name, track_of};
+ghost use Rattle.hib_texts.specs.Texts.{key_text};
+ghost use Rattle.json.specs.Print.{quoted};
+ghost use Rattle.std.specs.Prelude.{◌≡◌, ◌++◌, OnOk, codes};
+
 use hib_base::{Act, Key, Part, Reply, Script, SessionNo};
 use hib_json_lines::put_quoted;
 use hib_report::{put_act, put_part, put_reply};
@@ -11,7 +17,10 @@ pub fn put_quoted_act(
     out: &mut Vec<u8>,
     script: &Script,
     act: &Act,
-) -> Result<(), AllocError> {
+) -> Result<(), AllocError>
+    ensures { OnOk result (out.new.items
+        ≡ out.old.items ++ quoted (act_text script.now act.now)) }
+{
     let mut text = Vec::new(alloc);
     put_act(alloc, &mut text, script, act)?;
     put_quoted(out, text.as_slice())
@@ -23,14 +32,19 @@ pub fn put_quoted_reply(
     out: &mut Vec<u8>,
     script: &Script,
     reply: &Reply,
-) -> Result<(), AllocError> {
+) -> Result<(), AllocError>
+    ensures { OnOk result (out.new.items
+        ≡ out.old.items ++ quoted (reply_text script.now reply.now)) }
+{
     let mut text = Vec::new(alloc);
     put_reply(alloc, &mut text, script, reply)?;
     put_quoted(out, text.as_slice())
 }
 
 /// The word of a part, in quotation marks.
-pub fn put_quoted_part(alloc: Global, out: &mut Vec<u8>, part: Part) -> Result<(), AllocError> {
+pub fn put_quoted_part(alloc: Global, out: &mut Vec<u8>, part: Part) -> Result<(), AllocError>
+    ensures { OnOk result (out.new.items ≡ out.old.items ++ quoted (part_text part)) }
+{
     let mut text = Vec::new(alloc);
     put_part(&mut text, part)?;
     put_quoted(out, text.as_slice())
@@ -42,26 +56,29 @@ pub fn put_quoted_lock(
     out: &mut Vec<u8>,
     script: &Script,
     key: Key,
-) -> Result<(), AllocError> {
+) -> Result<(), AllocError>
+    ensures { OnOk result (out.new.items
+        ≡ out.old.items ++ quoted (codes "lock " ++ key_text script.now key)) }
+{
     let mut text = Vec::new(alloc);
     put_keyed(alloc, &mut text, script, b"lock ", key)?;
     put_quoted(out, text.as_slice())
 }
 
-/// The name of a track, in quotation marks: that of a session, or `schedule` for what comes from outside.
-pub fn put_quoted_track(
-    out: &mut Vec<u8>,
-    script: &Script,
-    session: Option<SessionNo>,
-) -> Result<(), AllocError> {
+/// The name of a track: that of a session, or `schedule` for what comes from outside.
+pub fn track_name(script: &Script, session: Option<SessionNo>) -> &[u8]
+    ensures { result.now ≡ track_name script.now session }
+{
     match session {
-        None => put_quoted(out, b"schedule"),
-        Some(session) => put_quoted(out, session_name(script, session)),
+        None => b"schedule",
+        Some(session) => session_name(script, session),
     }
 }
 
 /// The number of a track: 0 for what comes from outside, and then each session's.
-pub fn track_of(session: Option<SessionNo>) -> u64 {
+pub fn track_of(session: Option<SessionNo>) -> u64
+    ensures { result ≡ track_of session }
+{
     match session {
         None => 0,
         Some(session) => u64::from(session.0) + 1,

@@ -1,79 +1,63 @@
 // The trace that Jaeger opens: its own JSON.
-use crate::kept::{Begun, Kept};
+use crate::kept::{Begun, Kept, unlocked_by};
 use crate::members::{
-    put_quoted_act, put_quoted_lock, put_quoted_part, put_quoted_reply, put_quoted_track, track_of,
+    put_quoted_act, put_quoted_lock, put_quoted_part, put_quoted_reply, track_name, track_of,
 };
-use hib_base::{Act, Bytes, Entry, Script, Seq, SessionNo, Tick};
+use hib_base::{Bytes, Entry, Script, Seq, SessionNo};
 use hib_journal::Journal;
-use hib_texts::{put_labelled, put_number};
+use hib_json_lines::put_quoted;
+use hib_texts::put_labelled;
 use std::alloc::{AllocError, Global};
 
-/// What a span is within.
-#[derive(Clone, Copy)]
-enum Within {
-    /// A transaction.
-    Transaction(Begun),
-    /// The whole run.
-    Run,
-}
-
 /// The identifier of the span of a transaction.
-fn put_transaction_id(alloc: Global, out: &mut Vec<u8>, begun: Begun) -> Result<(), AllocError> {
-    put_labelled(alloc, out, b"a", u64::from(begun.session.0))?;
-    put_labelled(alloc, out, b"b", begun.tick.0)
+fn put_transaction_id(
+    alloc: Global,
+    out: &mut Vec<u8>,
+    track: u64,
+    tick: u64,
+) -> Result<(), AllocError> {
+    put_labelled(alloc, out, b"a", track)?;
+    put_labelled(alloc, out, b"b", tick)
 }
 
-/// The span that a span is within.
-fn put_reference(alloc: Global, out: &mut Vec<u8>, within: Within) -> Result<(), AllocError> {
+/// The span that a span is within: the transaction of a track that began at this tick, or the whole run.
+fn put_reference(
+    alloc: Global,
+    out: &mut Vec<u8>,
+    track: u64,
+    begun: Option<u64>,
+) -> Result<(), AllocError> {
     out.extend_from_slice(
         b",\"references\":[{\"refType\":\"CHILD_OF\",\"traceID\":\"1\",\"spanID\":\"",
     )?;
-    match within {
-        Within::Run => out.extend_from_slice(b"1")?,
-        Within::Transaction(begun) => put_transaction_id(alloc, out, begun)?,
+    match begun {
+        None => out.extend_from_slice(b"1")?,
+        Some(tick) => put_transaction_id(alloc, out, track, tick)?,
     }
     out.extend_from_slice(b"\"}]")
 }
 
-/// From when to when a span is, and on which track; what has no tags ends with these.
+/// From when to when a span is, and on which track.
 fn put_times(
     alloc: Global,
     out: &mut Vec<u8>,
-    from: Tick,
-    to: Tick,
-    session: Option<SessionNo>,
+    from: u64,
+    to: u64,
+    track: u64,
 ) -> Result<(), AllocError> {
-    put_labelled(alloc, out, b",\"startTime\":", from.0)?;
-    put_labelled(alloc, out, b",\"duration\":", to.0.saturating_sub(from.0))?;
-    put_labelled(
-        alloc,
-        out,
-        b",\"logs\":[],\"processID\":\"p",
-        track_of(session),
-    )?;
+    put_labelled(alloc, out, b",\"startTime\":", from)?;
+    put_labelled(alloc, out, b",\"duration\":", to.saturating_sub(from))?;
+    put_labelled(alloc, out, b",\"logs\":[],\"processID\":\"p", track)?;
     out.extend_from_slice(b"\"")
 }
 
-/// The span of a step.
-fn put_step(
+/// The part and the reply of a step, as tags.
+fn put_tags(
     alloc: Global,
     out: &mut Vec<u8>,
     script: &Script,
-    within: Within,
-    place: u64,
     entry: &Entry,
 ) -> Result<(), AllocError> {
-    put_labelled(alloc, out, b",\n{\"traceID\":\"1\",\"spanID\":\"c", place)?;
-    out.extend_from_slice(b"\",\"operationName\":")?;
-    put_quoted_act(alloc, out, script, &entry.act)?;
-    put_reference(alloc, out, within)?;
-    put_times(
-        alloc,
-        out,
-        entry.tick,
-        Tick(entry.tick.0.saturating_add(1)),
-        entry.session,
-    )?;
     out.extend_from_slice(b",\"tags\":[{\"key\":\"part\",\"type\":\"string\",\"value\":")?;
     put_quoted_part(alloc, out, entry.part)?;
     out.extend_from_slice(b"},{\"key\":\"reply\",\"type\":\"string\",\"value\":")?;
@@ -81,18 +65,38 @@ fn put_step(
     out.extend_from_slice(b"}]}")
 }
 
+/// The span of a step.
+fn put_step(
+    alloc: Global,
+    out: &mut Vec<u8>,
+    script: &Script,
+    begun: Option<u64>,
+    place: u64,
+    entry: &Entry,
+) -> Result<(), AllocError> {
+    let track = track_of(entry.session);
+    let tick = entry.tick.0;
+    put_labelled(alloc, out, b",\n{\"traceID\":\"1\",\"spanID\":\"c", place)?;
+    out.extend_from_slice(b"\",\"operationName\":")?;
+    put_quoted_act(alloc, out, script, &entry.act)?;
+    put_reference(alloc, out, track, begun)?;
+    put_times(alloc, out, tick, tick.saturating_add(1), track)?;
+    put_tags(alloc, out, script, entry)
+}
+
 /// The span of a transaction that has ended, or is open at the end of the journal.
 fn put_transaction(
     alloc: Global,
     out: &mut Vec<u8>,
-    begun: Begun,
-    to: Tick,
+    track: u64,
+    from: u64,
+    to: u64,
 ) -> Result<(), AllocError> {
     out.extend_from_slice(b",\n{\"traceID\":\"1\",\"spanID\":\"")?;
-    put_transaction_id(alloc, out, begun)?;
+    put_transaction_id(alloc, out, track, from)?;
     out.extend_from_slice(b"\",\"operationName\":\"transaction\"")?;
-    put_reference(alloc, out, Within::Run)?;
-    put_times(alloc, out, begun.tick, to, Some(begun.session))?;
+    put_reference(alloc, out, track, None)?;
+    put_times(alloc, out, from, to, track)?;
     out.extend_from_slice(b",\"tags\":[]}")
 }
 
@@ -100,10 +104,10 @@ fn put_transactions(
     alloc: Global,
     out: &mut Vec<u8>,
     all: &[Begun],
-    to: Tick,
+    to: u64,
 ) -> Result<(), AllocError> {
     for begun in all {
-        put_transaction(alloc, out, *begun, to)?;
+        put_transaction(alloc, out, begun.track, begun.tick, to)?;
     }
     Ok(())
 }
@@ -114,36 +118,23 @@ fn put_lock(
     out: &mut Vec<u8>,
     script: &Script,
     kept: &Kept,
-    within: Within,
+    begun: Option<u64>,
     place: u64,
     entry: &Entry,
 ) -> Result<(), AllocError> {
-    let (Act::Unlock { key, .. } | Act::AfterUpdate { key, .. }, Some(session)) = (
-        &entry.act,
-        entry.session,
-    ) else {
+    let Some(key) = unlocked_by(entry) else {
         return Ok(());
     };
-    let Some(from) = kept.lock(session, *key) else {
+    let track = track_of(entry.session);
+    let Some(from) = kept.lock(track, key) else {
         return Ok(());
     };
     put_labelled(alloc, out, b",\n{\"traceID\":\"1\",\"spanID\":\"d", place)?;
     out.extend_from_slice(b"\",\"operationName\":")?;
-    put_quoted_lock(alloc, out, script, *key)?;
-    put_reference(alloc, out, within)?;
-    put_times(alloc, out, from, entry.tick, Some(session))?;
+    put_quoted_lock(alloc, out, script, key)?;
+    put_reference(alloc, out, track, begun)?;
+    put_times(alloc, out, from, entry.tick.0, track)?;
     out.extend_from_slice(b",\"tags\":[]}")
-}
-
-/// What an entry is within.
-fn within_of(kept: &Kept, session: Option<SessionNo>) -> Within {
-    let Some(session) = session else {
-        return Within::Run;
-    };
-    match kept.time(session) {
-        Some(tick) => Within::Transaction(Begun { session, tick }),
-        None => Within::Run,
-    }
 }
 
 /// The spans of an entry: the step, a lock that is given back, the transactions that end.
@@ -155,19 +146,19 @@ fn put_entry(
     place: u64,
     entry: &Entry,
 ) -> Result<(), AllocError> {
-    let within = within_of(kept, entry.session);
-    put_step(alloc, out, script, within, place, entry)?;
-    put_lock(alloc, out, script, kept, within, place, entry)?;
+    let begun = kept.time(track_of(entry.session));
+    put_step(alloc, out, script, begun, place, entry)?;
+    put_lock(alloc, out, script, kept, begun, place, entry)?;
     let ended = kept.ended(alloc, entry)?;
-    put_transactions(alloc, out, ended.as_slice(), entry.tick)
+    put_transactions(alloc, out, ended.as_slice(), entry.tick.0)
 }
 
 /// The span of the run.
-fn put_run(alloc: Global, out: &mut Vec<u8>, to: Tick) -> Result<(), AllocError> {
+fn put_run(alloc: Global, out: &mut Vec<u8>, to: u64) -> Result<(), AllocError> {
     out.extend_from_slice(
         b"{\"data\":[{\"traceID\":\"1\",\"spans\":[\n{\"traceID\":\"1\",\"spanID\":\"1\",\"operationName\":\"run\",\"references\":[]",
     )?;
-    put_times(alloc, out, Tick(0), to, None)?;
+    put_times(alloc, out, 0, to, 0)?;
     out.extend_from_slice(b",\"tags\":[]}")
 }
 
@@ -176,39 +167,39 @@ fn put_spans(
     out: &mut Vec<u8>,
     script: &Script,
     journal: &Journal,
-    to: Tick,
+    to: u64,
 ) -> Result<(), AllocError> {
     let mut kept = Kept::new(alloc);
     let mut place: u64 = 0;
     for entry in journal.as_slice() {
         place = place.saturating_add(1);
         put_entry(alloc, out, script, &kept, place, entry)?;
-        kept.note(entry)?;
+        kept.note(entry, track_of(entry.session))?;
     }
     let open = kept.open(alloc)?;
     put_transactions(alloc, out, open.as_slice(), to)
 }
 
 /// A track, which Jaeger shows as a service.
-fn put_track(
-    alloc: Global,
-    out: &mut Vec<u8>,
-    script: &Script,
-    session: Option<SessionNo>,
-) -> Result<(), AllocError> {
-    out.extend_from_slice(b"\"p")?;
-    put_number(alloc, out, track_of(session))?;
+fn put_track(alloc: Global, out: &mut Vec<u8>, name: &[u8], track: u64) -> Result<(), AllocError> {
+    put_labelled(alloc, out, b"\"p", track)?;
     out.extend_from_slice(b"\":{\"serviceName\":")?;
-    put_quoted_track(out, script, session)?;
+    put_quoted(out, name)?;
     out.extend_from_slice(b",\"tags\":[]}")
 }
 
 fn put_tracks(alloc: Global, out: &mut Vec<u8>, script: &Script) -> Result<(), AllocError> {
     out.extend_from_slice(b"\n],\"processes\":{\n")?;
-    put_track(alloc, out, script, None)?;
+    put_track(alloc, out, track_name(script, None), 0)?;
     for session in 0..script.sessions.len() {
+        let number = SessionNo(session as u32);
         out.extend_from_slice(b",\n")?;
-        put_track(alloc, out, script, Some(SessionNo(session as u32)))?;
+        put_track(
+            alloc,
+            out,
+            track_name(script, Some(number)),
+            track_of(Some(number)),
+        )?;
     }
     out.extend_from_slice(b"\n}}]}\n")
 }
@@ -218,8 +209,8 @@ fn put_tracks(alloc: Global, out: &mut Vec<u8>, script: &Script) -> Result<(), A
 /// the journal ends there. Fails for want of memory alone.
 pub fn jaeger(alloc: Global, script: &Script, journal: &Journal) -> Result<Bytes, AllocError> {
     let to = match journal.last() {
-        Some(entry) => entry.tick,
-        None => Tick(0),
+        Some(entry) => entry.tick.0,
+        None => 0,
     };
     let mut out = Vec::new(alloc);
     put_run(alloc, &mut out, to)?;

@@ -118,14 +118,14 @@ const PERFETTO: &[u8] = br#"{"displayTimeUnit":"ns","traceEvents":[
 const JAEGER: &[u8] = br#"{"data":[{"traceID":"1","spans":[
 {"traceID":"1","spanID":"1","operationName":"run","references":[],"startTime":0,"duration":6,"logs":[],"processID":"p0","tags":[]},
 {"traceID":"1","spanID":"c1","operationName":"begin","references":[{"refType":"CHILD_OF","traceID":"1","spanID":"1"}],"startTime":1,"duration":1,"logs":[],"processID":"p1","tags":[{"key":"part","type":"string","value":"registry"},{"key":"reply","type":"string","value":"floor 1"}]},
-{"traceID":"1","spanID":"c2","operationName":"lock Book 7 v- floor 1","references":[{"refType":"CHILD_OF","traceID":"1","spanID":"a0b1"}],"startTime":2,"duration":1,"logs":[],"processID":"p1","tags":[{"key":"part","type":"string","value":"region"},{"key":"reply","type":"string","value":"lock 2 until 12"}]},
+{"traceID":"1","spanID":"c2","operationName":"lock Book 7 v- floor 1","references":[{"refType":"CHILD_OF","traceID":"1","spanID":"a1b1"}],"startTime":2,"duration":1,"logs":[],"processID":"p1","tags":[{"key":"part","type":"string","value":"region"},{"key":"reply","type":"string","value":"lock 2 until 12"}]},
 {"traceID":"1","spanID":"c3","operationName":"begin","references":[{"refType":"CHILD_OF","traceID":"1","spanID":"1"}],"startTime":3,"duration":1,"logs":[],"processID":"p2","tags":[{"key":"part","type":"string","value":"registry"},{"key":"reply","type":"string","value":"floor 1"}]},
 {"traceID":"1","spanID":"c4","operationName":"kill b","references":[{"refType":"CHILD_OF","traceID":"1","spanID":"1"}],"startTime":4,"duration":1,"logs":[],"processID":"p0","tags":[{"key":"part","type":"string","value":"registry"},{"key":"reply","type":"string","value":"done"}]},
-{"traceID":"1","spanID":"a1b3","operationName":"transaction","references":[{"refType":"CHILD_OF","traceID":"1","spanID":"1"}],"startTime":3,"duration":1,"logs":[],"processID":"p2","tags":[]},
-{"traceID":"1","spanID":"c5","operationName":"unlock Book 7 lock 2","references":[{"refType":"CHILD_OF","traceID":"1","spanID":"a0b1"}],"startTime":5,"duration":1,"logs":[],"processID":"p1","tags":[{"key":"part","type":"string","value":"region"},{"key":"reply","type":"string","value":"released 0"}]},
-{"traceID":"1","spanID":"d5","operationName":"lock Book 7","references":[{"refType":"CHILD_OF","traceID":"1","spanID":"a0b1"}],"startTime":2,"duration":3,"logs":[],"processID":"p1","tags":[]},
-{"traceID":"1","spanID":"c6","operationName":"end","references":[{"refType":"CHILD_OF","traceID":"1","spanID":"a0b1"}],"startTime":6,"duration":1,"logs":[],"processID":"p1","tags":[{"key":"part","type":"string","value":"registry"},{"key":"reply","type":"string","value":"rolled-back"}]},
-{"traceID":"1","spanID":"a0b1","operationName":"transaction","references":[{"refType":"CHILD_OF","traceID":"1","spanID":"1"}],"startTime":1,"duration":5,"logs":[],"processID":"p1","tags":[]}
+{"traceID":"1","spanID":"a2b3","operationName":"transaction","references":[{"refType":"CHILD_OF","traceID":"1","spanID":"1"}],"startTime":3,"duration":1,"logs":[],"processID":"p2","tags":[]},
+{"traceID":"1","spanID":"c5","operationName":"unlock Book 7 lock 2","references":[{"refType":"CHILD_OF","traceID":"1","spanID":"a1b1"}],"startTime":5,"duration":1,"logs":[],"processID":"p1","tags":[{"key":"part","type":"string","value":"region"},{"key":"reply","type":"string","value":"released 0"}]},
+{"traceID":"1","spanID":"d5","operationName":"lock Book 7","references":[{"refType":"CHILD_OF","traceID":"1","spanID":"a1b1"}],"startTime":2,"duration":3,"logs":[],"processID":"p1","tags":[]},
+{"traceID":"1","spanID":"c6","operationName":"end","references":[{"refType":"CHILD_OF","traceID":"1","spanID":"a1b1"}],"startTime":6,"duration":1,"logs":[],"processID":"p1","tags":[{"key":"part","type":"string","value":"registry"},{"key":"reply","type":"string","value":"rolled-back"}]},
+{"traceID":"1","spanID":"a1b1","operationName":"transaction","references":[{"refType":"CHILD_OF","traceID":"1","spanID":"1"}],"startTime":1,"duration":5,"logs":[],"processID":"p1","tags":[]}
 ],"processes":{
 "p0":{"serviceName":"schedule","tags":[]},
 "p1":{"serviceName":"a","tags":[]},
