@@ -1,20 +1,19 @@
 -- The act of a well-formed entry is read again from its object.
-use Rattle.std.proofs.Common.{◌≡◌, ℕ, ◌<◌, List, [], ◌∷◌, length, map, Option, Some, None, refl, ap, ap₂, ◌∙◌, Bool, true, ◌&&◌, codes, nat_lt, nat_le, option_map}
+use Rattle.std.proofs.Common.{◌≡◌, ℕ, ◌<◌, List, [], ◌∷◌, length, map, Option, Some, refl, ap, ap₂, ◌∙◌, true, ◌&&◌, codes, nat_lt, nat_le, option_map}
 use Rattle.std.specs.List.{list_all}
 use Rattle.hib_base.specs.Fits.{entity_columns}
 use Rattle.hib_journal.specs.Types.{Key, Cell, Row, Change, Part, Act, Reply, Entry, Script}
-use Rattle.hib_texts.specs.Texts.{entity_text, query_text, session_text, column_text}
+use Rattle.hib_texts.specs.Texts.{entity_text, query_text}
 use Rattle.hib_entry_fields.specs.Fields.{entity_of, query_of, session_of, column_of}
-use Rattle.hib_entry_fields.specs.Known.{is_key, is_entity, is_query, is_session, is_tick, is_cell, are_cells, are_tables, is_set, are_sets}
+use Rattle.hib_entry_fields.specs.Known.{is_key, is_entity, is_query, is_tick, is_cell, are_cells, is_set, are_sets}
 use Rattle.hib_entry_fields.proofs.PieceLaws.{and_left, and_right}
 use Rattle.hib_entry_fields.proofs.NameLaws.{IsNamed, known_entity, known_query, known_session, known_column}
 use Rattle.hib_entry_fields.proofs.FieldLaws.{lt_from}
 use Rattle.hib_entry_texts.proofs.ActWhole.{part_word}
 use Rattle.hib_flat.specs.Words.{act_word, change_word}
 use Rattle.hib_flat.specs.Parts as parts
-use Rattle.hib_flat.specs.Members.{cells, set_cells}
-use Rattle.hib_flat_law.specs.Reading.{or_zero, or_empty, act_by, key_at, row_at, cells_at, query_at, tables_at}
-use Rattle.hib_flat_law.proofs.Printed.{AreFineCells}
+use Rattle.hib_flat.specs.Members.{set_cells}
+use Rattle.hib_flat_law.specs.Reading.{or_zero, or_empty, act_by, query_at}
 use Rattle.hib_flat_law.proofs.Facts as facts
 use Rattle.hib_flat_law.proofs.Fine.{fine_cells}
 use Rattle.hib_flat_law.proofs.Looks.{found, IsGood, at_killed, at_query, at_tables, at_list, at_version, at_expected, at_time, at_floor, at_lock, key_back, at_cells, row_back}

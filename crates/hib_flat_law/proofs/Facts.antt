@@ -1,10 +1,9 @@
 -- What the parts of a well-formed entry are: known keys, rows that are well formed, small numbers.
 use Rattle.std.proofs.Common.{◌≡◌, ℕ, ◌^◌, ◌<◌, List, Option, Some, None, refl, Bool, true, ◌&&◌, arith}
 use Rattle.std.specs.Option.{option_or}
-use Rattle.std.proofs.lemmas.Bool.Decides.{nat_tests}
 use Rattle.hib_base.specs.Fits.{is_identifier}
-use Rattle.hib_journal.specs.Types.{Key, Cell, Row, Change, Act, Commit, Checked, Miss, Put, Locked, Unlocked, Inserted, Updated, Reply, Script}
-use Rattle.hib_entry_fields.specs.Known.{is_key, is_query, is_tick, is_version, are_cells, is_row, are_tables, are_sets}
+use Rattle.hib_journal.specs.Types.{Key, Cell, Row, Change, Act, Commit, Checked, Miss, Put, Unlocked, Inserted, Updated, Reply, Script}
+use Rattle.hib_entry_fields.specs.Known.{is_key, is_query, is_tick, is_version, are_cells, is_row, are_sets}
 use Rattle.hib_entry_fields.proofs.PieceLaws.{and_left, and_right}
 use Rattle.hib_entry_fields.proofs.FieldLaws.{lt_from, tick_small, identifier_small}
 use Rattle.hib_entry_texts.specs.WellFormed.{is_change, is_act, is_read, is_commit, is_check, is_dropped_query, is_count, is_miss, is_evicted_id, is_put, is_lock, is_unlock, is_insert, is_update, is_begun, is_ended, is_done, is_found, is_persisted, is_changed, is_removed, is_cleared, is_loaded, is_listed, is_written, is_committed, is_stamped, is_checked, is_looked, is_kept, is_got, is_stored, is_locked, is_unlocked, is_inserted, is_updated, is_dropped, is_evicted, is_reply}

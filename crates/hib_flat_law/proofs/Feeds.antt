@@ -1,5 +1,5 @@
 -- No line has a line feed in it, so the lines of a journal are those of its entries.
-use Rattle.std.proofs.Common.{◌≡◌, ℕ, suc, ◌^◌, ◌<◌, List, [], ◌∷◌, ◌++◌, Option, Some, None, refl, ap, sym, subst, ◌∙◌, Bool, true, false, not, ◌&&◌, ◌==◌, arith, append_assoc, codes, pos, negsuc}
+use Rattle.std.proofs.Common.{◌≡◌, ℕ, suc, ◌^◌, ◌<◌, List, [], ◌∷◌, ◌++◌, Some, None, refl, ap, sym, subst, ◌∙◌, Bool, true, false, not, ◌==◌, arith, append_assoc, codes, pos, negsuc}
 use Rattle.std.specs.Fmt.{decimal}
 use Rattle.std.specs.List.{list_all, AllZip}
 use Rattle.std.proofs.lemmas.List.Folds.{list_all-append}
@@ -12,7 +12,7 @@ use Rattle.hib_lex.specs.Tokens.{is_digit}
 use Rattle.hib_lex.specs.Lines.{lines_of, before_lines}
 use Rattle.hib_base.specs.Valid.{is_valid}
 use Rattle.hib_journal.specs.Types.{Cell, Entry, Script}
-use Rattle.hib_entry_fields.specs.Known.{is_cell, are_cells, is_tick}
+use Rattle.hib_entry_fields.specs.Known.{is_cell, are_cells}
 use Rattle.hib_entry_fields.proofs.PieceLaws.{and_left, and_right, numeral}
 use Rattle.hib_entry_fields.proofs.FieldLaws.{lt_from, tick_small}
 use Rattle.hib_entry_fields.proofs.NameLaws.{valid_names}

@@ -1,5 +1,5 @@
 -- The members of a well-formed entry can be written as they are: names have nothing to escape, numbers are small, cells are well formed.
-use Rattle.std.proofs.Common.{◌≡◌, ℕ, suc, ◌^◌, ◌<◌, ◌≤◌, List, [], ◌∷◌, ◌++◌, map, Option, Some, None, refl, ap, ap₂, sym, ◌∙◌, Bool, true, false, not, ◌&&◌, arith, nat_lt, nat_le, length, option_map}
+use Rattle.std.proofs.Common.{◌≡◌, ℕ, suc, ◌≤◌, List, [], ◌∷◌, ◌++◌, map, Option, Some, None, refl, ap₂, Bool, true, not, ◌&&◌, arith, nat_lt, nat_le, length, option_map}
 use Rattle.std.specs.Prelude.{slice_get}
 use Rattle.std.specs.List.{list_all}
 use Rattle.std.proofs.lemmas.Bool.Decides.{nat_tests}
@@ -12,7 +12,7 @@ use Rattle.hib_base.specs.Valid.{are_columns, max_columns}
 use Rattle.hib_base.proofs.Lists.{all_at}
 use Rattle.hib_journal.specs.Types.{Key, Cell, Row, ColumnDef, EntityDef, Query, SessionDef, Part, Change, Act, Outcome, Commit, Checked, Miss, Put, Unlocked, Inserted, Updated, Evicted, Reply, Entry, Script}
 use Rattle.hib_report.specs.Lines.{part_text, outcome_text}
-use Rattle.hib_texts.specs.Texts.{entity_name, query_name, session_name, column_name, column_in, entity_text, query_text, session_text, column_text}
+use Rattle.hib_texts.specs.Texts.{entity_name, query_name, session_name, column_name, column_in, entity_text, query_text, session_text}
 use Rattle.hib_entry_fields.specs.Known.{is_key, is_cell, are_cells, is_version, is_set, are_sets}
 use Rattle.hib_entry_fields.proofs.PieceLaws.{and_left, and_right}
 use Rattle.hib_entry_fields.proofs.NameLaws.{IsNamed}
@@ -20,7 +20,7 @@ use Rattle.hib_entry_texts.specs.WellFormed.{is_act}
 use Rattle.hib_flat.specs.Words.{act_word, change_word, reply_word, cause_word, miss_word, read_word, commit_word, check_word, put_word, unlock_word, insert_word, update_word, evict_word}
 use Rattle.hib_flat.specs.Parts as parts
 use Rattle.hib_flat.specs.Members.{word, numbered, named, boolean, words, list, key_entity, key_id, members, cells, cells_of, cells_from, set_cells, row_cells}
-use Rattle.hib_flat_law.proofs.Printed.{IsBare, AreBare, IsFine, IsFineIf, AreFine, AreFineCells}
+use Rattle.hib_flat_law.proofs.Printed.{IsBare, AreBare, IsFineIf, AreFine, AreFineCells}
 use Rattle.hib_flat_law.proofs.Facts as facts
 
 -- ---- names
@@ -121,9 +121,10 @@ fine_row script None None h w = tt
 fine_sets : (script : Script) (entity : ℕ) (xs : List (ℕ × Cell)) → IsNamed script → list_all (λ x. is_set script entity x) xs ≡ true → AreFineCells (set_cells script entity xs)
 fine_sets script entity [] h w = tt
 fine_sets script entity (x ∷ xs) h w =
-    let one : is_set script entity x ≡ true = and_left (is_set script entity x) (list_all (λ x. is_set script entity x) xs) w in
-    ((column_same (slice_get script.mapping entity) x.0 (columns_named script entity h), and_right (nat_lt x.0 (length (entity_columns script.mapping entity))) (is_cell x.1) one),
-    fine_sets script entity xs h (and_right (is_set script entity x) (list_all (λ x. is_set script entity x) xs) w))
+    let one : is_set script entity x ≡ true = and_left (is_set script entity x) (list_all (λ x. is_set script entity x) xs) w in (
+      (column_same (slice_get script.mapping entity) x.0 (columns_named script entity h), and_right (nat_lt x.0 (length (entity_columns script.mapping entity))) (is_cell x.1) one),
+      fine_sets script entity xs h (and_right (is_set script entity x) (list_all (λ x. is_set script entity x) xs) w),
+    )
 
 fine_cells_of : (script : Script) (a : Act) (k : Option Key) (r : Option Row) → IsNamed script → is_act script a ≡ true → facts.RowIf r → AreFineCells (cells_of script a k r)
 fine_cells_of script (Act.Set q xs) k r h w f =
@@ -259,31 +260,82 @@ pub fine_members : (script : Script) (e : Entry) → IsNamed script → is_act s
 unfolding escape_byte
 fine_members script e h w g =
     let a = e.act in
-    let r = e.reply in
-    ((refl, fine_name (session_text script) (bare_session script h) e.session),
-    ((refl, bare_part e.part),
-    ((refl, bare_bytes (act_word a) (plain_act a)),
-    ((refl, bare_bytes (reply_word r) (plain_reply r)),
-    ((refl, fine_cause r),
-    ((refl, fine_name (session_text script) (bare_session script h) (parts.killed_in a)),
-    ((refl, fine_name (entity_text script) (bare_entity script h) (key_entity (parts.key_in a r))),
-    ((refl, fine_number (key_id (parts.key_in a r)) (facts.key_id_small script (parts.key_in a r) (facts.key_known script a r w g))),
-    ((refl, fine_number (parts.version_in a r) (facts.version_in_small script a r w g)),
-    ((refl, fine_number (parts.expected_in a) (facts.expected_small script a w)),
-    ((refl, fine_number (parts.found_in r) (facts.found_small script r g)),
-    ((refl, fine_name (query_text script) (bare_query script h) (parts.query_in a)),
-    ((refl, fine_name (query_text script) (bare_query script h) (parts.dropped_in r)),
-    ((refl, fine_list (parts.list_in a r) (facts.list_fine script a r w g)),
-    ((refl, fine_tables script (parts.tables_in a) h),
-    ((refl, fine_name (entity_text script) (bare_entity script h) (parts.table_in r)),
-    ((refl, fine_number (parts.stamp_in r) (facts.stamp_small script r g)),
-    ((refl, fine_number (parts.time_in a r) (facts.time_small script a r w g)),
-    ((refl, fine_number (parts.floor_in a r) (facts.floor_small script a r w g)),
-    ((refl, fine_number (parts.lock_in a r) (facts.lock_small script a r w g)),
-    ((refl, fine_number (parts.until_in r) (facts.until_small script r g)),
-    ((refl, fine_number (parts.released_in r) (facts.released_small script r g)),
-    ((refl, fine_number (parts.stored_in r) (facts.stored_small script r g)),
-    ((refl, fine_number (parts.holders_in r) (facts.holders_small script r g)),
-    ((refl, fine_number (parts.evicted_in r) (facts.evicted_in_small script r g)),
-    ((refl, fine_late (parts.late_in r)),
-    tt))))))))))))))))))))))))))
+    let r = e.reply in (
+      (refl, fine_name (session_text script) (bare_session script h) e.session),
+      (
+        (refl, bare_part e.part),
+        (
+          (refl, bare_bytes (act_word a) (plain_act a)),
+          (
+            (refl, bare_bytes (reply_word r) (plain_reply r)),
+            (
+              (refl, fine_cause r),
+              (
+                (refl, fine_name (session_text script) (bare_session script h) (parts.killed_in a)),
+                (
+                  (refl, fine_name (entity_text script) (bare_entity script h) (key_entity (parts.key_in a r))),
+                  (
+                    (refl, fine_number (key_id (parts.key_in a r)) (facts.key_id_small script (parts.key_in a r) (facts.key_known script a r w g))),
+                    (
+                      (refl, fine_number (parts.version_in a r) (facts.version_in_small script a r w g)),
+                      (
+                        (refl, fine_number (parts.expected_in a) (facts.expected_small script a w)),
+                        (
+                          (refl, fine_number (parts.found_in r) (facts.found_small script r g)),
+                          (
+                            (refl, fine_name (query_text script) (bare_query script h) (parts.query_in a)),
+                            (
+                              (refl, fine_name (query_text script) (bare_query script h) (parts.dropped_in r)),
+                              (
+                                (refl, fine_list (parts.list_in a r) (facts.list_fine script a r w g)),
+                                (
+                                  (refl, fine_tables script (parts.tables_in a) h),
+                                  (
+                                    (refl, fine_name (entity_text script) (bare_entity script h) (parts.table_in r)),
+                                    (
+                                      (refl, fine_number (parts.stamp_in r) (facts.stamp_small script r g)),
+                                      (
+                                        (refl, fine_number (parts.time_in a r) (facts.time_small script a r w g)),
+                                        (
+                                          (refl, fine_number (parts.floor_in a r) (facts.floor_small script a r w g)),
+                                          (
+                                            (refl, fine_number (parts.lock_in a r) (facts.lock_small script a r w g)),
+                                            (
+                                              (refl, fine_number (parts.until_in r) (facts.until_small script r g)),
+                                              (
+                                                (refl, fine_number (parts.released_in r) (facts.released_small script r g)),
+                                                (
+                                                  (refl, fine_number (parts.stored_in r) (facts.stored_small script r g)),
+                                                  (
+                                                    (refl, fine_number (parts.holders_in r) (facts.holders_small script r g)),
+                                                    (
+                                                      (refl, fine_number (parts.evicted_in r) (facts.evicted_in_small script r g)),
+                                                      (
+                                                        (refl, fine_late (parts.late_in r)),
+                                                        tt,
+                                                      ),
+                                                    ),
+                                                  ),
+                                                ),
+                                              ),
+                                            ),
+                                          ),
+                                        ),
+                                      ),
+                                    ),
+                                  ),
+                                ),
+                              ),
+                            ),
+                          ),
+                        ),
+                      ),
+                    ),
+                  ),
+                ),
+              ),
+            ),
+          ),
+        ),
+      ),
+    )

@@ -1,6 +1,6 @@
 -- What is found under the names of an entry's object.
-use Rattle.std.proofs.Common.{◌≡◌, ℕ, suc, ◌^◌, ◌<◌, List, [], ◌∷◌, ◌++◌, take, drop, length, map, Option, Some, None, refl, ap, ap₂, sym, subst, ◌∙◌, Bool, true, false, not, ◌&&◌, ◌==◌, arith, bytes_eq, codes, cond, option_map, pos, negsuc, nat_lt, nat_le}
-use Rattle.std.specs.Fmt.{decimal, signed_decimal}
+use Rattle.std.proofs.Common.{◌≡◌, ℕ, suc, ◌^◌, ◌<◌, List, [], ◌∷◌, ◌++◌, drop, length, map, Option, Some, None, refl, ap, ap₂, sym, subst, ◌∙◌, Bool, true, false, not, ◌&&◌, ◌==◌, arith, bytes_eq, codes, cond, option_map, pos, negsuc, nat_le}
+use Rattle.std.specs.Fmt.{decimal}
 use Rattle.std.specs.List.{list_all, list_any}
 use Rattle.std.specs.Option.{option_or}
 use Rattle.std.proofs.lemmas.Bool.{or_parts, not-true}
@@ -10,9 +10,9 @@ use Rattle.json.specs.Json as json
 use Rattle.serde_json.specs.Data as data_of
 use Rattle.serde_json.specs.Written.{outline, items_outline, members_outline}
 use Rattle.hib_lex.specs.Tokens.{is_digit}
-use Rattle.hib_journal.specs.Types.{Key, Cell, Row, ColumnDef, Act, Reply, Entry, Script}
+use Rattle.hib_journal.specs.Types.{Key, Cell, Row, ColumnDef, Entry, Script}
 use Rattle.hib_report.specs.Lines.{part_text}
-use Rattle.hib_texts.specs.Texts.{entity_text, query_text, session_text, column_name}
+use Rattle.hib_texts.specs.Texts.{entity_text, query_text, session_text}
 use Rattle.hib_entry_fields.specs.Fields.{number_of, signed_of, entity_of}
 use Rattle.hib_entry_fields.specs.Known.{is_key, is_cell, are_cells, is_tick}
 use Rattle.hib_entry_fields.proofs.PieceLaws.{and_left, and_right, number_again, numeral, lt_true}
@@ -21,9 +21,9 @@ use Rattle.hib_entry_fields.proofs.FieldLaws.{IsKey, known_key, lt_from, tick_sm
 use Rattle.hib_entry_texts.specs.WellFormed.{is_act}
 use Rattle.hib_flat.specs.Words.{act_word, reply_word, cause_word}
 use Rattle.hib_flat.specs.Parts as parts
-use Rattle.hib_flat.specs.Members.{Value, number, word, boolean, words, list, Member, numbered, named, key_entity, key_id, members, cells, cells_from}
+use Rattle.hib_flat.specs.Members.{Value, word, boolean, words, list, Member, numbered, named, key_entity, key_id, members, cells, cells_from}
 use Rattle.hib_flat_law.specs.Objects.{cell_data, cells_data, words_data, value_data, members_data, cell_members, members_of}
-use Rattle.hib_flat_law.specs.Reading.{look, number_in, word_in, is_true, or_zero, or_empty, word_of, cell_of, words_of, cells_of, words_in, list_in, number_at, word_at, version_at, key_at, is_cell_name, cells_at, row_at}
+use Rattle.hib_flat_law.specs.Reading.{look, number_in, word_in, is_true, or_zero, or_empty, cell_of, words_of, cells_of, words_in, list_in, number_at, word_at, key_at, is_cell_name, cells_at, row_at}
 use Rattle.hib_flat_law.proofs.Printed.{AreFineCells}
 use Rattle.hib_flat_law.proofs.Facts as facts
 

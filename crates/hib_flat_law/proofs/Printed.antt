@@ -1,5 +1,5 @@
 -- The line of an entry is the text of its object, and is read as this object.
-use Rattle.std.proofs.Common.{◌≡◌, ℕ, suc, length, ◌^◌, ◌<◌, ◌≤◌, List, [], ◌∷◌, ◌++◌, Option, Some, None, refl, ap, ap₂, sym, ◌∙◌, Bool, true, false, ◌==◌, ◌||◌, ◌&&◌, arith, append_assoc, flat_map, codes, pos, negsuc, nat_lt}
+use Rattle.std.proofs.Common.{◌≡◌, ℕ, suc, length, ◌^◌, ◌<◌, ◌≤◌, List, [], ◌∷◌, ◌++◌, Option, Some, None, refl, ap, ap₂, sym, ◌∙◌, Bool, true, false, ◌==◌, ◌||◌, arith, append_assoc, flat_map, codes, pos, negsuc, nat_lt}
 use Rattle.std.specs.Fmt.{decimal}
 use Rattle.std.specs.List.{list_all}
 use Rattle.std.proofs.lemmas.Bool.{or_parts}
@@ -14,9 +14,8 @@ use Rattle.json.proofs.Printed.Trees.{document-print}
 use Rattle.serde_json.specs.Data as data_of
 use Rattle.serde_json.specs.Written.{outline, items_outline, members_outline, compact_text, items_text, members_text}
 use Rattle.serde_json.proofs.Texts.{print-outline}
-use Rattle.hib_base.specs.Fits.{is_printable, is_text}
+use Rattle.hib_base.specs.Fits.{is_printable}
 use Rattle.hib_journal.specs.Types.{Cell, Entry, Script}
-use Rattle.hib_texts.specs.Texts as texts
 use Rattle.hib_texts.specs.Texts.{escaped, cell_text}
 use Rattle.hib_entry_fields.specs.Known.{is_cell, are_cells}
 use Rattle.hib_lex.specs.Tokens.{is_digit}
@@ -24,7 +23,7 @@ use Rattle.hib_entry_fields.proofs.PieceLaws.{and_left, and_right, numeral}
 use Rattle.hib_entry_fields.proofs.FieldLaws.{lt_from}
 use Rattle.hib_flat.specs.Members.{Value, number, word, boolean, words, list, Member, members, cells}
 use Rattle.hib_flat.specs.Lines.{in_quotes, words_text, list_text, value_text, member_text, cell_member, flat_line}
-use Rattle.hib_flat_law.specs.Objects.{cell_data, cells_data, words_data, value_data, members_data, cell_members, members_of, object_of, number_data}
+use Rattle.hib_flat_law.specs.Objects.{cell_data, cells_data, words_data, value_data, members_data, cell_members, object_of}
 
 -- ---- what can be written
 
@@ -166,7 +165,7 @@ negative_number (d ∷ ds) a l h = rw (no_dash d (and_left (is_digit d) (list_al
 
 cell_number : (c : Cell) → is_cell c ≡ true → tree.HasNumbers (outline (cell_data c))
 cell_number (Cell.Int (pos n)) h = let lt : n < 2 ^ 63 = lt_from n (2 ^ 63) h in IsNumber-decimal n (omega arith)
-cell_number (Cell.Int (negsuc n)) h = 
+cell_number (Cell.Int (negsuc n)) h =
     let lt : n < 2 ^ 63 = lt_from n (2 ^ 63) h in
     let small : suc n < 2 ^ 64 = omega (arith, lt) in
     negative_number (decimal (suc n)) (numeral (suc n) small).0 (numeral (suc n) small).2 (IsNumber-decimal (suc n) small)

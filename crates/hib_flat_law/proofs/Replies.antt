@@ -1,19 +1,18 @@
 -- The reply of a well-formed entry is read again from its object.
-use Rattle.std.proofs.Common.{◌≡◌, ℕ, List, Option, Some, None, refl, ap, ap₂, ◌∙◌, Bool, true, ◌&&◌, codes, length, option_map}
+use Rattle.std.proofs.Common.{◌≡◌, ℕ, Option, Some, None, refl, ap, ap₂, ◌∙◌, true, codes, length, option_map}
 use Rattle.hib_base.specs.Fits.{entity_columns}
 use Rattle.hib_journal.specs.Types.{Key, Row, Part, Act, Outcome, Commit, Checked, Miss, Put, Locked, Unlocked, Inserted, Updated, Evicted, Reply, Script}
 use Rattle.hib_report.specs.Lines.{outcome_text}
-use Rattle.hib_texts.specs.Texts.{entity_text, query_text}
+use Rattle.hib_texts.specs.Texts.{query_text}
 use Rattle.hib_entry_fields.specs.Fields.{entity_of, query_of}
-use Rattle.hib_entry_fields.specs.Known.{is_key, is_entity, is_query, is_tick, is_version}
+use Rattle.hib_entry_fields.specs.Known.{is_key, is_entity, is_tick, is_version}
 use Rattle.hib_entry_fields.proofs.PieceLaws.{and_left}
 use Rattle.hib_entry_fields.proofs.NameLaws.{IsNamed, known_entity, known_query}
 use Rattle.hib_entry_fields.proofs.FieldLaws.{lt_from}
 use Rattle.hib_entry_texts.specs.Replies.{outcome_of, persisted_of, changed_of, removed_of, dropped_reply_of, evicted_of}
 use Rattle.hib_entry_texts.specs.WellFormed.{is_dropped_query, is_begun, is_ended, is_done, is_found, is_persisted, is_changed, is_removed, is_cleared, is_loaded, is_listed, is_written, is_committed, is_stamped, is_checked, is_looked, is_kept, is_got, is_stored, is_locked, is_unlocked, is_inserted, is_updated, is_dropped, is_evicted, is_reply}
 use Rattle.hib_flat.specs.Words.{reply_word, miss_word, evict_word}
-use Rattle.hib_flat_law.specs.Reading.{or_zero, or_empty, read_of, listed_of, commit_of, checked_of, looked_of, miss_of, got_of, put_of, locked_of, unlocked_of, inserted_of, updated_of, reply_by, number_in, word_in, look, number_at}
-use Rattle.hib_flat_law.proofs.Facts as facts
+use Rattle.hib_flat_law.specs.Reading.{or_zero, read_of, listed_of, commit_of, checked_of, looked_of, miss_of, got_of, put_of, locked_of, unlocked_of, inserted_of, updated_of, reply_by, word_in, look, number_at}
 use Rattle.hib_flat_law.proofs.Fine.{fine_cells}
 use Rattle.hib_flat_law.proofs.Looks.{found, IsGood, at_cause, at_dropped, at_table, at_late, at_list, at_found, at_stamp, at_time, at_floor, at_lock, at_until, at_released, at_stored, at_holders, at_evicted, key_back, row_back}
 use Rattle.hib_flat_law.proofs.Acts.{mk}

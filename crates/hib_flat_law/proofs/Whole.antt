@@ -1,11 +1,10 @@
 -- The line of a well-formed entry is read again as this entry, and has no line feed.
-use Rattle.std.proofs.Common.{◌≡◌, ℕ, ◌+◌, List, [], ◌∷◌, ◌++◌, Option, Some, None, refl, ap, ap₂, ◌∙◌, Bool, true, ◌&&◌, arith, codes, length, option_map}
+use Rattle.std.proofs.Common.{◌≡◌, ℕ, Option, Some, None, refl, ap, ap₂, ◌∙◌, true, ◌&&◌, codes, length, option_map}
 use Rattle.std.specs.Prelude.{option_and_then}
 use Rattle.json.specs.Json as json
 use Rattle.serde_json.specs.Written.{outline}
 use Rattle.hib_base.specs.Valid.{is_valid}
-use Rattle.hib_journal.specs.Types.{Part, Act, Reply, Entry, Script}
-use Rattle.hib_report.specs.Lines.{part_text}
+use Rattle.hib_journal.specs.Types.{Part, Reply, Entry, Script}
 use Rattle.hib_texts.specs.Texts.{session_text}
 use Rattle.hib_entry_fields.specs.Fields.{session_of}
 use Rattle.hib_entry_fields.specs.Known.{is_tick}
@@ -16,12 +15,12 @@ use Rattle.hib_entry_texts.specs.WellFormed.{IsEntry, is_actor, is_act, is_reply
 use Rattle.hib_entry_texts.proofs.ActWhole.{part_word_of}
 use Rattle.hib_flat.specs.Lines.{flat_line}
 use Rattle.hib_flat_law.specs.Objects.{object_of}
-use Rattle.hib_flat_law.specs.Reading.{number_at, word_at, act_by, act_at, session_at, reply_by, entry_with, entry_in, entry_of, read_flat}
+use Rattle.hib_flat_law.specs.Reading.{word_at, act_by, act_at, session_at, reply_by, entry_with, entry_in, entry_of, read_flat}
 use Rattle.hib_flat_law.proofs.Facts as facts
 use Rattle.hib_flat_law.proofs.Printed.{line_read}
 use Rattle.hib_flat_law.proofs.Fine.{fine_members, fine_cells}
 use Rattle.hib_flat_law.proofs.Looks.{found, IsGood, at_tick, at_session, at_part, at_act, at_reply}
-use Rattle.hib_flat_law.proofs.Acts.{mk, act_back}
+use Rattle.hib_flat_law.proofs.Acts.{act_back}
 use Rattle.hib_flat_law.proofs.Replies.{reply_back}
 
 -- ---- what is known of a well-formed entry

@@ -1,5 +1,5 @@
 -- The value that the line of an entry is: an object whose members have types.
-use Rattle.std.specs.Prelude.{ℕ, List, [], ◌∷◌, ◌++◌, codes, Option, Some, None, pos, negsuc}
+use Rattle.std.specs.Prelude.{ℕ, List, [], ◌∷◌, ◌++◌, codes, Some, None, pos, negsuc}
 use Rattle.serde_json.specs.Data as data_of
 use Rattle.hib_journal.specs.Types.{Cell, Entry, Script}
 use Rattle.hib_flat.specs.Members.{Value, number, word, boolean, words, list, Member, members, cells}

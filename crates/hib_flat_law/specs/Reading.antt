@@ -1,8 +1,8 @@
 -- The entry that an object looks like, by the names of its members, and not by their order but for the cells. What looks like nothing
 -- gives some value.
-use Rattle.std.specs.Prelude.{ℕ, Bool, true, false, cond, List, [], ◌∷◌, take, drop, map, codes, bytes_eq, Option, Some, None, option_map, option_and_then}
+use Rattle.std.specs.Prelude.{ℕ, Bool, false, cond, List, [], ◌∷◌, take, drop, map, codes, bytes_eq, Option, Some, None, option_map, option_and_then}
 use Rattle.json.specs.Json as json
-use Rattle.hib_journal.specs.Types.{Key, Cell, Row, Change, Part, Act, Outcome, Commit, Checked, Miss, Put, Locked, Unlocked, Inserted, Updated, Evicted, Reply, Entry, Script}
+use Rattle.hib_journal.specs.Types.{Key, Cell, Row, Change, Part, Act, Commit, Checked, Miss, Put, Locked, Unlocked, Inserted, Updated, Reply, Entry, Script}
 use Rattle.hib_entry_fields.specs.Fields.{number_of, signed_of, entity_of, query_of, session_of, column_of}
 use Rattle.hib_entry_texts.specs.Replies.{outcome_of, persisted_of, changed_of, removed_of, dropped_reply_of, evicted_of}
 use Rattle.hib_entry_texts.specs.WellFormed.{part_of}
