@@ -20,20 +20,20 @@ ghost use Rattle.std.specs.Prelude.{◌≡◌, List, Some, true};
 /// type, in their order.
 #[tactic(auto, using(crate::proofs::Whole::object_read))]
 pub fn lines_are_objects()
-    ensures { (script : Script) (e : Entry) → is_valid script ≡ true → IsEntry script e
+    ensures object { (script : Script) (e : Entry) → is_valid script ≡ true → IsEntry script e
         → document (flat_line script e) ≡ Some (outline (object_of script e)) }
 {}
 
 /// The line of a well-formed entry is read again as this entry.
 #[tactic(auto, using(crate::proofs::Whole::line_back))]
 pub fn lines_are_read_back()
-    ensures { (script : Script) (e : Entry) → is_valid script ≡ true → IsEntry script e
+    ensures back { (script : Script) (e : Entry) → is_valid script ≡ true → IsEntry script e
         → read_flat script (flat_line script e) ≡ Some e }
 {}
 
 /// The lines of a journal whose entries are well formed are read again as these entries, one for each line.
 #[tactic(auto, using(crate::proofs::Feeds::journal_back))]
 pub fn journals_are_read_back()
-    ensures { (script : Script) (es : List Entry) → is_valid script ≡ true → AreEntries script es
+    ensures lines { (script : Script) (es : List Entry) → is_valid script ≡ true → AreEntries script es
         → AllZip (λ l e. read_flat script l ≡ Some e) (lines_of (flat script es)) es }
 {}
