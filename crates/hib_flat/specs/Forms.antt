@@ -2,8 +2,8 @@
 use Rattle.std.specs.Prelude.{ℕ, List, [], ◌++◌, codes, flat_map}
 use Rattle.hib_journal.specs.Types.{Entry, Script}
 use Rattle.hib_flat.specs.declared.form.Form.{Form}
-use Rattle.hib_flat.specs.Members.{Value, Member}
-use Rattle.hib_flat.specs.Lines.{value_text, csv_value, member_text, csv_member, in_quotes, csv_quoted, flat_line, csv_line}
+use Rattle.hib_flat.specs.Members.{Member}
+use Rattle.hib_flat.specs.Lines.{member_text, csv_member, in_quotes, csv_quoted, flat_line, csv_line}
 use Rattle.hib_flat.specs.Columns.{columns}
 
 -- a member, with what stands before it

@@ -1,6 +1,7 @@
 -- What an act and its reply have, each under one name in all of them.
-use Rattle.std.specs.Prelude.{ℕ, Bool, List, Option, Some, None, option_or}
-use Rattle.hib_journal.specs.Types.{Key, Cell, Row, Change, Act, Commit, Checked, Miss, Put, Locked, Unlocked, Inserted, Updated, Reply}
+use Rattle.std.specs.Prelude.{ℕ, Bool, List, Option, Some, None}
+use Rattle.std.specs.Option.{option_or}
+use Rattle.hib_journal.specs.Types.{Key, Cell, Row, Change, Act, Commit, Checked, Miss, Put, Unlocked, Inserted, Updated, Reply}
 use Rattle.hib_base.specs.Tables.{key_of, row_left}
 
 -- ---- keys, rows and queries
@@ -56,14 +57,10 @@ abbrev pub row_version : Option Row → Option ℕ
 row_version None = None
 row_version (Some r) = r.version
 
--- of the copy for which a lock is taken
-abbrev pub lock_version : Act → Option ℕ
-lock_version (Act.Lock k v f) = v
-lock_version _ = None
-
--- of the row, or of the copy
+-- of the row, or of the copy for which a lock is taken
 abbrev pub version_in : Act → Reply → Option ℕ
-version_in a r = option_or (lock_version a) (row_version (row_in a r))
+version_in (Act.Lock k v f) r = v
+version_in a r = row_version (row_in a r)
 
 abbrev pub change_expected : Change → Option ℕ
 change_expected (Change.Insert k r) = None

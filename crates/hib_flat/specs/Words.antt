@@ -1,6 +1,6 @@
 -- The words of acts and replies.
 use Rattle.std.specs.Prelude.{ℕ, List, codes, Option, Some, None}
-use Rattle.hib_journal.specs.Types.{Row, Change, Act, Outcome, Commit, Checked, Miss, Put, Unlocked, Inserted, Updated, Evicted, Reply}
+use Rattle.hib_journal.specs.Types.{Row, Change, Act, Commit, Checked, Miss, Put, Unlocked, Inserted, Updated, Evicted, Reply}
 use Rattle.hib_report.specs.Lines.{outcome_text}
 
 abbrev pub change_word : Change → List ℕ

@@ -71,7 +71,7 @@ fn put_row_of(
 ) -> Result<(), AllocError>
     ensures { OnOk result (out.new.items
         ≡ out.old.items ++ flat_map cell_member (row_cells script.now key
-        (option_copied row))) }
+        (option_copied row.entry))) }
 {
     match (key, row) {
         (Some(key), Some(row)) => {
@@ -135,7 +135,7 @@ fn row_cell_of<'a>(
     name: &[u8],
 ) -> Option<&'a Cell>
     ensures { option_copied result ≡ cell_at name.now (row_cells script.now key
-        (option_copied row)) }
+        (option_copied row.entry)) }
 {
     match (key, row) {
         (Some(key), Some(row)) => {
@@ -158,7 +158,7 @@ fn cell_named<'a>(script: &Script, entry: &'a Entry, name: &[u8]) -> Option<&'a 
 
 fn put_csv_cell_if(alloc: Global, out: &mut Vec<u8>, cell: Option<&Cell>) -> Result<(), AllocError>
     ensures { OnOk result (out.new.items
-        ≡ out.old.items ++ csv_some_cell (option_copied cell)) }
+        ≡ out.old.items ++ csv_some_cell (option_copied cell.entry)) }
 {
     match cell {
         None => Ok(()),

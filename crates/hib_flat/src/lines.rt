@@ -85,5 +85,6 @@ pub fn put_header(out: &mut Vec<u8>, script: &Script, names: &[Text]) -> Result<
 {
     out.extend_from_slice(NAMES)?;
     put_cell_names(out, names)?;
-    out.extend_from_slice(b"\n")
+    out.extend_from_slice(b"\n")?;
+    Ok(())
 }

@@ -108,7 +108,8 @@ fn put_joined_names(
         None => Ok(()),
         Some((first, rest)) => {
             put_quoted(out, entity_name(script, *first))?;
-            put_more_names(out, script, rest)
+            put_more_names(out, script, rest)?;
+            Ok(())
         }
     }
 }
@@ -141,7 +142,7 @@ pub fn put_list_member(
     value: Option<&Listing>,
 ) -> Result<(), AllocError>
     ensures { OnOk result (out.new.items ≡ out.old.items ++ piece form
-        (name.now, option_map list (option_copied value))) }
+        (name.now, option_map list (option_copied value.entry))) }
 {
     match value {
         None => put_none(out, form, name),
@@ -166,7 +167,7 @@ pub fn put_names_member(
     ensures { OnOk result (out.new.items ≡ out.old.items ++ piece form (
       name.now,
       option_map
-          (λ ts. words (map (entity_text script.now) ts)) (option_copied value),
+          (λ ts. words (map (entity_text script.now) ts)) (option_copied value.entry),
     )) }
 {
     match value {

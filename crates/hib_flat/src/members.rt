@@ -36,8 +36,8 @@ fn put_headings(
     put_session_member(out, form, script, b"killed", killed_in(&entry.act))
 }
 
-fn key_entity(key: Option<Key>) -> Option<EntityNo>
-    ensures { result ≡ flat.key_entity key }
+fn key_entity(key: &Option<Key>) -> Option<EntityNo>
+    ensures { result ≡ flat.key_entity key.now }
 {
     match key {
         None => None,
@@ -45,8 +45,8 @@ fn key_entity(key: Option<Key>) -> Option<EntityNo>
     }
 }
 
-fn key_id(key: Option<Key>) -> Option<u64>
-    ensures { result ≡ flat.key_id key }
+fn key_id(key: &Option<Key>) -> Option<u64>
+    ensures { result ≡ flat.key_id key.now }
 {
     match key {
         None => None,
@@ -66,8 +66,8 @@ fn put_subjects(
 {
     let key = key_in(&entry.act, &entry.reply);
     let version = version_in(&entry.act, &entry.reply);
-    put_entity_member(out, form, script, b"entity", key_entity(key))?;
-    put_number_member(alloc, out, form, b"id", key_id(key))?;
+    put_entity_member(out, form, script, b"entity", key_entity(&key))?;
+    put_number_member(alloc, out, form, b"id", key_id(&key))?;
     put_number_member(alloc, out, form, b"version", version)?;
     put_number_member(alloc, out, form, b"expected", expected_in(&entry.act))?;
     put_number_member(alloc, out, form, b"found", found_in(&entry.reply))
@@ -129,5 +129,6 @@ pub fn put_members(
     put_subjects(alloc, out, form, script, entry)?;
     put_results(alloc, out, form, script, entry)?;
     put_times(alloc, out, form, entry)?;
-    put_marks(alloc, out, form, entry)
+    put_marks(alloc, out, form, entry)?;
+    Ok(())
 }

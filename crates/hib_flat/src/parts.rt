@@ -97,7 +97,7 @@ fn wide(number: Option<u32>) -> Option<u64>
 }
 
 fn row_version(row: Option<&Row>) -> Option<u64>
-    ensures { result ≡ parts.row_version (option_copied row) }
+    ensures { result ≡ parts.row_version (option_copied row.entry) }
 {
     match row {
         None => None,
@@ -105,20 +105,14 @@ fn row_version(row: Option<&Row>) -> Option<u64>
     }
 }
 
-fn lock_version(act: &Act) -> Option<u64>
-    ensures { result ≡ parts.lock_version act.now }
-{
-    match act {
-        Act::Lock { version, .. } => wide(*version),
-        _ => None,
-    }
-}
-
 /// The version of the row, or of the copy for which a lock is taken.
 pub fn version_in(act: &Act, reply: &Reply) -> Option<u64>
     ensures { result ≡ parts.version_in act.now reply.now }
 {
-    lock_version(act).or(row_version(row_in(act, reply)))
+    match act {
+        Act::Lock { version, .. } => wide(*version),
+        _ => row_version(row_in(act, reply)),
+    }
 }
 
 fn change_expected(change: &Change) -> Option<u64>

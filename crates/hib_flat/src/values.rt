@@ -105,7 +105,7 @@ pub fn put_word_if(
     value: Option<&[u8]>,
 ) -> Result<(), AllocError>
     ensures { OnOk result (out.new.items ≡ out.old.items ++ piece form
-        (name.now, option_map word (option_copied value))) }
+        (name.now, option_map word (option_copied value.entry))) }
 {
     match value {
         None => put_none(out, form, name),
