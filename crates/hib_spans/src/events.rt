@@ -6,7 +6,7 @@ use crate::kept::{Begun, Kept, begun_by, locked_by, unlocked_by};
 use crate::members::{
     put_quoted_act, put_quoted_lock, put_quoted_part, put_quoted_reply, track_name, track_of,
 };
-use hib_base::{Act, Bytes, Entry, Key, Part, Reply, Script, Seq, SessionNo};
+use hib_base::{Act, Bytes, EntityNo, Entry, Key, Part, Reply, Script, Seq, SessionNo};
 use hib_journal::Journal;
 use hib_json_lines::put_quoted;
 use hib_texts::put_labelled;
@@ -40,7 +40,10 @@ fn put_track(alloc: Global, out: &mut Vec<u8>, name: &[u8], track: u64) -> Resul
 fn put_tracks(alloc: Global, out: &mut Vec<u8>, script: &Script) -> Result<(), AllocError> {
     put_track(alloc, out, track_name(script, None), 0)?;
     for session in 0..script.sessions.len() {
-        let number = SessionNo(session as u32);
+        let Ok(session) = u32::try_from(session) else {
+            return Ok(());
+        };
+        let number = SessionNo(session);
         let name = track_name(script, Some(number));
         put_track(alloc, out, name, track_of(Some(number)))?;
     }
@@ -113,22 +116,24 @@ fn put_named_lock(
     out: &mut Vec<u8>,
     script: &Script,
     phase: &[u8],
-    key: Key,
+    key: &Key,
 ) -> Result<(), AllocError>
-    ensures { OnOk result (out.new.items ≡ out.old.items ++ named_lock script.now phase.now key) }
+    ensures { OnOk result (out.new.items
+        ≡ out.old.items ++ named_lock script.now phase.now key.now) }
 {
     out.extend_from_slice(b",\n{\"name\":")?;
-    put_quoted_lock(alloc, out, script, key)?;
+    put_quoted_lock(alloc, out, script, *key)?;
     out.extend_from_slice(b",\"cat\":\"lock\",\"ph\":\"")?;
     out.extend_from_slice(phase)
 }
 
 /// What tells a lock from others that are held at the same time: its key and its session.
-fn put_holder(alloc: Global, out: &mut Vec<u8>, key: Key, track: u64) -> Result<(), AllocError>
-    ensures { OnOk result (out.new.items ≡ out.old.items ++ holder_text key track) }
+fn put_holder(alloc: Global, out: &mut Vec<u8>, key: &Key, track: u64) -> Result<(), AllocError>
+    ensures { OnOk result (out.new.items ≡ out.old.items ++ holder_text key.now track) }
 {
-    let Key { entity, id } = key;
-    put_labelled(alloc, out, b"\",\"id\":\"", u64::from(entity.0))?;
+    let EntityNo(entity) = key.entity;
+    let id = key.id;
+    put_labelled(alloc, out, b"\",\"id\":\"", u64::from(entity))?;
     put_labelled(alloc, out, b".", id)?;
     put_labelled(alloc, out, b".", track)?;
     out.extend_from_slice(b"\"")
@@ -140,12 +145,12 @@ fn put_lock(
     out: &mut Vec<u8>,
     script: &Script,
     phase: &[u8],
-    key: Key,
+    key: &Key,
     tick: u64,
     track: u64,
 ) -> Result<(), AllocError>
     ensures { OnOk result (out.new.items
-        ≡ out.old.items ++ lock_text script.now phase.now key tick track) }
+        ≡ out.old.items ++ lock_text script.now phase.now key.now tick track) }
 {
     put_named_lock(alloc, out, script, phase, key)?;
     put_holder(alloc, out, key, track)?;
@@ -180,10 +185,10 @@ fn put_entry(
     }
     put_mark(alloc, out, script, entry)?;
     if let Some(key) = locked_by(entry) {
-        put_lock(alloc, out, script, b"b", key, tick, track)?;
+        put_lock(alloc, out, script, b"b", &key, tick, track)?;
     }
     if let Some(key) = unlocked_by(entry) {
-        put_lock(alloc, out, script, b"e", key, tick, track)?;
+        put_lock(alloc, out, script, b"e", &key, tick, track)?;
     }
     let ended = kept.ended(alloc, entry)?;
     put_ends(alloc, out, ended.as_slice(), tick)

@@ -81,8 +81,8 @@ impl Kept {
     }
 
     /// When the session of a track has locked a key, if it holds the lock.
-    pub fn lock(&self, track: u64, key: Key) -> Option<u64> {
-        self.locks.get(&(track, key)).copied()
+    pub fn lock(&self, track: u64, key: &Key) -> Option<u64> {
+        self.locks.get(&(track, *key)).copied()
     }
 
     /// The transactions that an entry ends, those that began first before the others.
@@ -113,7 +113,8 @@ impl Kept {
     /// A transaction begins.
     fn begin(&mut self, track: u64, tick: u64) -> Result<(), AllocError> {
         self.times.insert(track, tick)?;
-        self.begun.push(Begun { track, tick })
+        self.begun.push(Begun { track, tick })?;
+        Ok(())
     }
 
     /// Takes an entry, whose session has this track.

@@ -126,7 +126,7 @@ fn put_lock(
         return Ok(());
     };
     let track = track_of(entry.session);
-    let Some(from) = kept.lock(track, key) else {
+    let Some(from) = kept.lock(track, &key) else {
         return Ok(());
     };
     put_labelled(alloc, out, b",\n{\"traceID\":\"1\",\"spanID\":\"d", place)?;
@@ -192,7 +192,10 @@ fn put_tracks(alloc: Global, out: &mut Vec<u8>, script: &Script) -> Result<(), A
     out.extend_from_slice(b"\n],\"processes\":{\n")?;
     put_track(alloc, out, track_name(script, None), 0)?;
     for session in 0..script.sessions.len() {
-        let number = SessionNo(session as u32);
+        let Ok(session) = u32::try_from(session) else {
+            return Ok(());
+        };
+        let number = SessionNo(session);
         out.extend_from_slice(b",\n")?;
         put_track(
             alloc,
