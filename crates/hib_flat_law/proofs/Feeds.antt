@@ -32,12 +32,6 @@ none_both a b h k = rw (list_all-append (λ b. not (b == 10)) a b) (and_from (ha
 none_first : (a b : List ℕ) → has_none (a ++ b) ≡ true → has_none a ≡ true
 none_first a b h = and_left (has_none a) (has_none b) (sym (list_all-append (λ b. not (b == 10)) a b) ∙ h)
 
--- as the text of an act in a JSON line
-quoted_none : (s : List ℕ) → has_none (quoted s) ≡ true
-unfolding escape_byte
-quoted_none s =
-    none_first (quoted s) (codes ",\"part\":\"\",\"reply\":\"\",\"session\":null,\"tick\":" ++ (decimal 0 ++ codes "}")) (line_none (record { act = s; part = []; reply = []; session = None; tick = 0 }) refl)
-
 digit_none : (d : ℕ) → is_digit d ≡ true → not (d == 10) ≡ true
 digit_none d h = grind (arith, nat_tests)
 
@@ -47,6 +41,12 @@ digits_none (d ∷ ds) h = rw (digit_none d (and_left (is_digit d) (list_all is_
 
 decimal_none : (n : ℕ) → n < 2 ^ 64 → has_none (decimal n) ≡ true
 decimal_none n lt = digits_none (decimal n) (numeral n lt).0
+
+-- as the text of an act in a JSON line
+quoted_none : (s : List ℕ) → has_none (quoted s) ≡ true
+unfolding escape_byte
+quoted_none s =
+    none_first (quoted s) (codes ",\"part\":\"\",\"reply\":\"\",\"session\":null,\"tick\":" ++ (decimal 0 ++ codes "}")) (line_none (record { act = s; part = []; reply = []; session = None; tick = 0 }) (decimal_none 0 (omega arith)))
 
 cell_none : (c : Cell) → is_cell c ≡ true → has_none (compact_text (cell_data c)) ≡ true
 cell_none (Cell.Int (pos n)) h = let lt : n < 2 ^ 63 = lt_from n (2 ^ 63) h in decimal_none n (omega arith)

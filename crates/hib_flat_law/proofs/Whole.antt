@@ -36,10 +36,10 @@ entry_rest : (script : Script) (e : Entry) → IsEntry script e → is_actor scr
 entry_rest script e i =
     and_right (is_reply script e.act e.reply) (is_actor script e.session && is_tick e.tick) (and_right (is_act script e.act) (is_reply script e.act e.reply && (is_actor script e.session && is_tick e.tick)) i.known)
 
-entry_good : (script : Script) (e : Entry) → IsEntry script e → IsGood script e
+pub entry_good : (script : Script) (e : Entry) → IsEntry script e → IsGood script e
 entry_good script e i = record { act = entry_act script e i; reply = facts.reply_good script e.act e.reply (entry_reply script e i) }
 
-entry_tick : (script : Script) (e : Entry) → IsEntry script e → is_tick e.tick ≡ true
+pub entry_tick : (script : Script) (e : Entry) → IsEntry script e → is_tick e.tick ≡ true
 entry_tick script e i = and_right (is_actor script e.session) (is_tick e.tick) (entry_rest script e i)
 
 -- ---- it is read again
