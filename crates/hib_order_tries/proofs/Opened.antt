@@ -27,8 +27,10 @@ kills-push (x ∷ xs) t = more (cond (is_kill_step x) 1 0) (kills (xs ++ t ∷ [
 
 pub kills-more : (order : List Step) (place count : ℕ) (d : Step) → place < length order → count ≡ kills (take place order) →
     (is_kill_step (get_or order place d) ≡ true → count + 1 ≡ kills (take (place + 1) order)) × (is_kill_step (get_or order place d) ≡ false → count ≡ kills (take (place + 1) order))
-kills-more order place count d l e = (λ p. sum count (kills (take (place + 1) order)) (kills (take place order)) (cond (is_kill_step (get_or order place d)) 1 0) 1 all e (ap (λ b. cond b 1 0) p),
-    λ p. none count (kills (take (place + 1) order)) (kills (take place order)) (cond (is_kill_step (get_or order place d)) 1 0) all e (ap (λ b. cond b 1 0) p))
+kills-more order place count d l e = (
+  λ p. sum count (kills (take (place + 1) order)) (kills (take place order)) (cond (is_kill_step (get_or order place d)) 1 0) 1 all e (ap (λ b. cond b 1 0) p),
+  λ p. none count (kills (take (place + 1) order)) (kills (take place order)) (cond (is_kill_step (get_or order place d)) 1 0) all e (ap (λ b. cond b 1 0) p),
+)
   where
     all : kills (take (place + 1) order) ≡ kills (take place order) + cond (is_kill_step (get_or order place d)) 1 0
     all = ap (λ x. kills x) (take_more order place d l) ∙ kills-push (take place order) (get_or order place d)
