@@ -138,13 +138,18 @@ module _ (script : Script) (start : Tables) where
       no : (n : ℕ) → suc n ≤ 0 → ⊥
       no n l = omega arith
   from_leaves (suc at) zero (e ∷ es) h t g f l i a d =
-      inl (refl, from_leaves at zero es (e ∷ h) t (step_on e h es g) (free_on zero e es f refl) (omega arith) (omega arith) a
-      (sym (come_next (λ s. is_open s h) (λ s. is_open s (e ∷ h)) (step_of e) (turn_by e.act) (steps_in es) (turns_in es) at t
-      (λ s. open_step e h s (base script start es (e ∷ h) g.whole))) ∙ d))
-  from_leaves (suc at) (suc n) (e ∷ es) h t g f l i a d =
-      (refl, from_leaves at n es (e ∷ h) t (step_on e h es g) f (omega arith) (omega arith) a
-      (sym (come_next (λ s. is_open s h) (λ s. is_open s (e ∷ h)) (step_of e) (turn_by e.act) (steps_in es) (turns_in es) at t
-      (λ s. open_step e h s (base script start es (e ∷ h) g.whole))) ∙ d))
+      inl (
+        refl,
+        from_leaves at zero es (e ∷ h) t (step_on e h es g) (free_on zero e es f refl) (omega arith) (omega arith) a
+            (sym (come_next (λ s. is_open s h) (λ s. is_open s (e ∷ h)) (step_of e) (turn_by e.act) (steps_in es) (turns_in es) at t
+            (λ s. open_step e h s (base script start es (e ∷ h) g.whole))) ∙ d),
+      )
+  from_leaves (suc at) (suc n) (e ∷ es) h t g f l i a d = (
+    refl,
+    from_leaves at n es (e ∷ h) t (step_on e h es g) f (omega arith) (omega arith) a
+        (sym (come_next (λ s. is_open s h) (λ s. is_open s (e ∷ h)) (step_of e) (turn_by e.act) (steps_in es) (turns_in es) at t
+        (λ s. open_step e h s (base script start es (e ∷ h) g.whole))) ∙ d),
+  )
 
 -- with a bound of kills
 

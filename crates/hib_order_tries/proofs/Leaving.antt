@@ -411,8 +411,12 @@ module _ (may_kill : Bool) (level n : ℕ) (order : List Step) (turns : List Tur
   beside_cases other x = by (cases_le n x.at x.later)
     where
       by : (n ≡ x.at) ⊎ (suc n ≤ x.at) → From (suc n) other ⊎ IsLeft order n these other
-      by (inl p) = inr (x.step, x.is ∙ ap (λ k. first_of order k x.step) (sym p), subst (λ k. is_at order k x.step ≡ false) (sym p) x.apart,
-          f x.step ∙ subst (λ k. may_come may_kill order turns k x.step ≡ true) (sym p) x.due)
+      by (inl p) = inr (
+        x.step,
+        x.is ∙ ap (λ k. first_of order k x.step) (sym p),
+        subst (λ k. is_at order k x.step ≡ false) (sym p) x.apart,
+        f x.step ∙ subst (λ k. may_come may_kill order turns k x.step ≡ true) (sym p) x.due,
+      )
       by (inr p) = inl (record { at = x.at; step = x.step; later = p; inside = x.inside; is = x.is; apart = x.apart; due = x.due })
 
   each : (other : List Step) → Contains (there ++ here) other → From n other × (cost order other ≤ level)

@@ -1,9 +1,9 @@
 -- The kills that may come at a place of an order.
 use Rattle.std.specs.Prelude.{not, length, map, slice_index_or, take, ◌&&◌, ◌||◌, ◌==◌}
 use Rattle.std.specs.List.{filter, list_all}
-use Rattle.std.proofs.Common.{◌≡◌, ◌++◌, ◌+◌, ◌<◌, ◌≤◌, ◌⊎◌, ℕ, zero, suc, inl, inr, Bool, true, false, cond, List, [], ◌∷◌, refl, sym, ap, ◌∙◌, subst, arith, get_or, length-map}
+use Rattle.std.proofs.Common.{◌≡◌, ◌++◌, ◌+◌, ◌<◌, ◌≤◌, ◌⊎◌, ℕ, zero, suc, inl, inr, Bool, true, false, cond, List, [], ◌∷◌, refl, sym, ap, ◌∙◌, subst, arith, get_or}
 use Rattle.std.proofs.lemmas.Bool.{false≢true, eqb-true}
-use Rattle.std.proofs.lemmas.List.{map-append, take_more}
+use Rattle.std.proofs.lemmas.List.{length-map, map-append, take_more}
 use Rattle.hib_base.proofs.Tables.{Tested, tested}
 use Rattle.hib_order_law.specs.Orders.{comes, is_kill_step, kills, whose}
 use Rattle.hib_order_law.specs.declared.step.Step.{Step}
@@ -27,8 +27,10 @@ kills-push (x ∷ xs) t = more (cond (is_kill_step x) 1 0) (kills (xs ++ t ∷ [
 
 pub kills-more : (order : List Step) (place count : ℕ) (d : Step) → place < length order → count ≡ kills (take place order) →
     (is_kill_step (get_or order place d) ≡ true → count + 1 ≡ kills (take (place + 1) order)) × (is_kill_step (get_or order place d) ≡ false → count ≡ kills (take (place + 1) order))
-kills-more order place count d l e = (λ p. sum count (kills (take (place + 1) order)) (kills (take place order)) (cond (is_kill_step (get_or order place d)) 1 0) 1 all e (ap (λ b. cond b 1 0) p),
-    λ p. none count (kills (take (place + 1) order)) (kills (take place order)) (cond (is_kill_step (get_or order place d)) 1 0) all e (ap (λ b. cond b 1 0) p))
+kills-more order place count d l e = (
+  λ p. sum count (kills (take (place + 1) order)) (kills (take place order)) (cond (is_kill_step (get_or order place d)) 1 0) 1 all e (ap (λ b. cond b 1 0) p),
+  λ p. none count (kills (take (place + 1) order)) (kills (take place order)) (cond (is_kill_step (get_or order place d)) 1 0) all e (ap (λ b. cond b 1 0) p),
+)
   where
     all : kills (take (place + 1) order) ≡ kills (take place order) + cond (is_kill_step (get_or order place d)) 1 0
     all = ap (λ x. kills x) (take_more order place d l) ∙ kills-push (take place order) (get_or order place d)
@@ -227,7 +229,7 @@ pub openings_more : {V : Type 0} (f : V → List Step) (order : List Step) (turn
 openings_more f order turns place xs new l a b at i = by (cases (length xs) at)
   where
     many : length (map f xs) ≡ length xs
-    many = length-map f xs
+    many = length-map xs f
 
     split : map f (xs ++ new ∷ []) ≡ map f xs ++ f new ∷ []
     split = map-append f xs (new ∷ [])
@@ -261,3 +263,10 @@ openings_more f order turns place xs new l a b at i = by (cases (length xs) at)
         subst (λ x. AreOpen true order turns at x)
         (sym (ap (λ y. slice_index_or y at []) split ∙ at_last (map f xs) (f new) at (ends (length (map f xs)) (length xs) l many p i)))
         (subst (λ k. AreOpen true order turns k (f new)) (sym (is_place (length xs) l p i)) b)
+
+pub length-push : {V : Type 0} (xs : List V) (x : V) → length (xs ++ x ∷ []) ≡ length xs + 1
+length-push [] x = omega arith
+length-push (y ∷ xs) x = more (length (xs ++ x ∷ [])) (length xs) (length-push xs x)
+  where
+    more : (n m : ℕ) → n ≡ m + 1 → suc n ≡ suc m + 1
+    more n m p = omega arith

@@ -218,9 +218,9 @@ impl Beginnings {
 }
 
 /// The first steps of the other orders of one that share so many steps at least, if they cost no more switches than a level; and whether
-/// there are others. From there on the order kills no session. `turns` says what each of its steps does to its session, and `total` how
-/// many switches it makes; those with one more kill are among the others if one may come. What is built is what is answered; beside that each
-/// step of the order takes as long as there are sessions.
+/// there are others. From there on the order kills no session. `turns` says what each of its steps does to its session, `may_kill`
+/// whether one more session may be killed, and `total` how many switches it makes. What is built is what is answered; beside that each
+/// step of the order takes as long as there are sessions, and if a session may be killed, the open ones are kept for each step.
 pub fn others(
     alloc: Global,
     order: &[Step],

@@ -56,8 +56,8 @@ impl Progress {
         })
     }
 
-    /// Takes a run that was played and begins with first steps that waited, so many; with this bound of kills. False if it is one more than may be tried: then
-    /// nothing has changed.
+    /// Takes a run that was played and begins with first steps that waited, so many; as many kills may come as the bound says. False if
+    /// it is one more than may be tried: then nothing has changed.
     pub fn take(
         &mut self,
         alloc: Global,
@@ -91,8 +91,7 @@ impl Progress {
             return Ok(false);
         }
         let turns = run.turns.as_slice();
-        self.waiting
-            .add(alloc, run.order.as_slice(), turns, from, most_kills, total)?;
+        self.waiting.add(alloc, run.order.as_slice(), turns, from, most_kills, total)?;
         if total == self.waiting.level {
             self.findings.note(alloc, run, total)?;
         }
@@ -115,9 +114,9 @@ impl Progress {
     }
 }
 
-/// Tries the orders within a number of switches and a number of kills, those with the fewest switches first, each once, and so many of them
-/// at most: `limit`. All are tried unless there are more than that, or 2^64 - 1 runs were played. What is kept grows with the script and with the endings
-/// that are told, and not with the orders. An error is want of memory, and then nothing is told.
+/// Tries the orders within a number of switches and a number of kills, those with the fewest switches first, each once, and so many of
+/// them at most: `limit`. All are tried unless there are more than that, or 2^64 - 1 runs were played. What is kept grows with the script
+/// and with the endings that are told, and not with the orders. An error is want of memory, and then nothing is told.
 pub fn search<P: Player>(
     alloc: Global,
     player: &mut P,
