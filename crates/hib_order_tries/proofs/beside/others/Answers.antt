@@ -38,14 +38,6 @@ take-requires c =
     let l = tail-few c.args.order.now c.loop-gone.tail.steps.items c.loop-gone.tail.first c.loop-gone.tail.switches at t in
     omega (arith, l)
 
-pub leave-requires-2-clause-tail : goal.leave-requires-2-clause-tail
-leave-requires-2-clause-tail c =
-    let order : List Step = c.args.order.now in
-    let at : ℕ = length order - 1 - c.loop-gone.gone in
-    let inside : at < length order = omega arith in
-    subst (λ x. IsTail x c.take.new.self.steps.items c.take.new.self.first c.take.new.self.switches) (tail_back order at at (Step.Own 0) refl inside)
-    (c.in_ok-take.ensures (drop (suc at) order) (c.loop-gone.invariant (suc at) (omega arith)).0)
-
 pub loop-gone-preserved : goal.loop-gone-preserved
 loop-gone-preserved c = λ at e.
     let order : List Step = c.args.order.now in

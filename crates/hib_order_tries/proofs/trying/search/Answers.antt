@@ -58,8 +58,14 @@ loop-played-preserved g c =
     subst (λ x. IsPlayed g.P.Player.script g.P.Player.start g.P.Player.judged g.P.Player.ended x c.in_ok-run.run'.order.items c.in_ok-run.run'.turns.items c.in_ok-run.run'.verdicts c.in_ok-run.run'.ending.items)
     c.as_slice.ensures.value c.in_ok-run.ensures in
     let from : c.len.result ≡ length begun = c.len.ensures ∙ sym c.as_slice.ensures.len ∙ ap (λ x. length x) c.as_slice.ensures.value in (
-      c.in_ok-take.ensures.taken c.if-not-branch.false g.P.Player.script g.P.Player.start g.P.Player.judged g.P.Player.ended c.args.most_kills most begun amid played from,
+      c.in_ok-take.ensures.taken c.if-not-branch.false g.P.Player.script g.P.Player.start g.P.Player.judged g.P.Player.ended most begun amid played from,
       c.in_ok-take.ensures.counts,
       c.in_ok-take.ensures.limit,
       omega (arith, c.take.ensures.level, c.next.ensures.level c.loop-played.invariant.3),
     )
+
+pub returns-clause-tried : goal.returns-clause-tried
+returns-clause-tried g c =
+    told_end g.P.Player.script g.P.Player.start g.P.Player.judged g.P.Player.ended c.args.most_kills c.args.most c.loop-played.progress.waiting.level
+    (map (λ v. v.items) c.loop-played.progress.waiting.now.items) c.loop-played.progress.waiting.beyond c.told-2.result.whole c.told-2.result.level c.loop-played.progress.findings
+    c.told-2.result.findings c.loop-played.invariant.0 c.told-2.ensures.whole c.told-2.ensures.level c.told-2.ensures.findings
