@@ -5,7 +5,8 @@ use Rattle.std.proofs.Common.{◌≡◌, ◌+◌, ◌<◌, ◌≤◌, ◌⊎◌,
 use Rattle.std.proofs.lemmas.Bool.{false≢true}
 use Rattle.std.proofs.lemmas.List.Sums.{sum_by-cons}
 use Rattle.hib_journal.specs.Types.{Entry}
-use Rattle.hib_order_law.specs.Orders.{sessions_in, switches}
+use Rattle.hib_order_law.specs.Orders.{steps_in, switches}
+use Rattle.hib_order_law.specs.declared.step.Step.{Step}
 use Rattle.hib_order_law.proofs.Tally.{Contains-cases, Contains-first, Contains-behind}
 use Rattle.hib_order_tries.specs.Found.{IsBelow, IsFirst, IsFound}
 use Rattle.hib_order_tries.specs.declared.found.First.{First}
@@ -47,25 +48,25 @@ module _ (has : List Entry → Bool) (runs : List (List Entry)) (es : List Entry
       plain n c d p r = omega arith
 
   -- the first that was found is still the first after a run that doesn't have it, or makes no fewer switches
-  still_first : (order : List ℕ) (least : ℕ) → IsFirst has runs order least → (has es ≡ false) ⊎ (least ≤ switches (sessions_in es)) → IsFirst has (es ∷ runs) order least
+  still_first : (order : List Step) (least : ℕ) → IsFirst has runs order least → (has es ≡ false) ⊎ (least ≤ switches (steps_in es)) → IsFirst has (es ∷ runs) order least
   still_first order least f n = (f.0, Contains-behind es runs f.0 f.1, f.2, f.3, f.4, λ ds c h. by ds (Contains-cases es runs ds c) h n)
     where
-      by : (ds : List Entry) → (es ≡ ds) ⊎ Contains runs ds → has ds ≡ true → (has es ≡ false) ⊎ (least ≤ switches (sessions_in es)) → least ≤ switches (sessions_in ds)
+      by : (ds : List Entry) → (es ≡ ds) ⊎ Contains runs ds → has ds ≡ true → (has es ≡ false) ⊎ (least ≤ switches (steps_in es)) → least ≤ switches (steps_in ds)
       by ds (inr c) h n = f.5 ds c h
       by ds (inl p) h (inl q) = absurd (false≢true (sym q ∙ subst (λ d. has d ≡ true) (sym p) h))
-      by ds (inl p) h (inr l) = subst (λ d. least ≤ switches (sessions_in d)) p l
+      by ds (inl p) h (inr l) = subst (λ d. least ≤ switches (steps_in d)) p l
 
   -- a run with fewer switches than those that have it, or where none has it, comes first
-  now_first : (order : List ℕ) (least : ℕ) → has es ≡ true → order ≡ sessions_in es → least ≡ switches order →
-      ((ds : List Entry) → Contains runs ds → has ds ≡ true → least ≤ switches (sessions_in ds)) → IsFirst has (es ∷ runs) order least
+  now_first : (order : List Step) (least : ℕ) → has es ≡ true → order ≡ steps_in es → least ≡ switches order →
+      ((ds : List Entry) → Contains runs ds → has ds ≡ true → least ≤ switches (steps_in ds)) → IsFirst has (es ∷ runs) order least
   now_first order least h o l f = (es, Contains-first es runs, h, o, l, λ ds c k. by ds (Contains-cases es runs ds c) k)
     where
-      same : least ≡ switches (sessions_in es)
+      same : least ≡ switches (steps_in es)
       same = l ∙ ap (λ x. switches x) o
 
-      by : (ds : List Entry) → (es ≡ ds) ⊎ Contains runs ds → has ds ≡ true → least ≤ switches (sessions_in ds)
+      by : (ds : List Entry) → (es ≡ ds) ⊎ Contains runs ds → has ds ≡ true → least ≤ switches (steps_in ds)
       by ds (inr c) k = f ds c k
-      by ds (inl p) k = subst (λ d. least ≤ switches (sessions_in d)) p (plain least (switches (sessions_in es)) same)
+      by ds (inl p) k = subst (λ d. least ≤ switches (steps_in d)) p (plain least (switches (steps_in es)) same)
         where
           plain : (a b : ℕ) → a ≡ b → a ≤ b
           plain a b p = omega arith
@@ -93,7 +94,7 @@ module _ (has : List Entry → Bool) (runs : List (List Entry)) (es : List Entry
       none (Some f) x = x
 
   -- a run that has it, and comes after the first or before it
-  pub found_later : (old new : Found) (total : ℕ) → IsFound has runs old → has es ≡ true → new.count ≡ old.count + 1 → new.first ≡ old.first → total ≡ switches (sessions_in es) →
+  pub found_later : (old new : Found) (total : ℕ) → IsFound has runs old → has es ≡ true → new.count ≡ old.count + 1 → new.first ≡ old.first → total ≡ switches (steps_in es) →
       IfNone old.first ⊥ → IfSome old.first (λ f. f.switches ≤ total) → IsFound has (es ∷ runs) new
   found_later old new total f h c e t n l = record {
     count = count_more old.count new.count f.count h c;
@@ -109,19 +110,19 @@ module _ (has : List Entry → Bool) (runs : List (List Entry)) (es : List Entry
       none None x = absurd x
       none (Some f) x = x
 
-  pub found_now : (old new : Found) (order : List ℕ) (total : ℕ) (now : First) → IsFound has runs old → has es ≡ true → new.count ≡ old.count + 1 → new.first ≡ Some now →
-      now.order.items ≡ order → now.switches ≡ total → order ≡ sessions_in es → total ≡ switches order → IfSome old.first (λ f. total ≤ f.switches) → IsFound has (es ∷ runs) new
+  pub found_now : (old new : Found) (order : List Step) (total : ℕ) (now : First) → IsFound has runs old → has es ≡ true → new.count ≡ old.count + 1 → new.first ≡ Some now →
+      now.order.items ≡ order → now.switches ≡ total → order ≡ steps_in es → total ≡ switches order → IfSome old.first (λ f. total ≤ f.switches) → IsFound has (es ∷ runs) new
   found_now old new order total now f h c e i s o t l = record {
     count = count_more old.count new.count f.count h c;
     first = subst (λ o. IfSome o (λ f. IsFirst has (es ∷ runs) f.order.items f.switches)) (sym e)
-        (now_first now.order.items now.switches h (i ∙ o) (s ∙ t ∙ ap (λ x. switches x) (sym i)) (λ ds c k. subst (λ n. n ≤ switches (sessions_in ds)) (sym s) (less old.first f.first f.none l ds c k)));
+        (now_first now.order.items now.switches h (i ∙ o) (s ∙ t ∙ ap (λ x. switches x) (sym i)) (λ ds c k. subst (λ n. n ≤ switches (steps_in ds)) (sym s) (less old.first f.first f.none l ds c k)));
     none = subst (λ o. IfNone o ((ds : List Entry) → Contains (es ∷ runs) ds → has ds ≡ false)) (sym e) tt;
   }
     where
       less : (o : Option First) → IfSome o (λ f. IsFirst has runs f.order.items f.switches) → IfNone o ((ds : List Entry) → Contains runs ds → has ds ≡ false) →
-          IfSome o (λ f. total ≤ f.switches) → (ds : List Entry) → Contains runs ds → has ds ≡ true → total ≤ switches (sessions_in ds)
+          IfSome o (λ f. total ≤ f.switches) → (ds : List Entry) → Contains runs ds → has ds ≡ true → total ≤ switches (steps_in ds)
       less None x n k ds c q = absurd (false≢true (sym (n ds c) ∙ q))
-      less (Some f) x n k ds c q = chain total f.switches (switches (sessions_in ds)) k (x.5 ds c q)
+      less (Some f) x n k ds c q = chain total f.switches (switches (steps_in ds)) k (x.5 ds c q)
         where
           chain : (a b c : ℕ) → a ≤ b → b ≤ c → a ≤ c
           chain a b c p q = omega arith

@@ -3,7 +3,7 @@ use Rattle.std.specs.Prelude.{count_by, ◌==◌}
 use Rattle.std.proofs.Common.{◌≡◌, ◌+◌, ◌≤◌, ℕ, zero, suc, Bool, true, cond, List, [], ◌∷◌, refl, sym, ap, ◌∙◌, subst, arith, slice_index_or}
 use Rattle.std.proofs.lemmas.List.Sums.{sum_by-cons}
 use Rattle.hib_journal.specs.Types.{Entry, Outcome}
-use Rattle.hib_order_law.specs.Orders.{sessions_in, switches}
+use Rattle.hib_order_law.specs.Orders.{steps_in, switches}
 use Rattle.hib_order_tries.specs.Found.{AreApart, AreEndings, AreLevels, ended_so}
 use Rattle.hib_order_tries.specs.declared.endings.Ending.{Ending}
 
@@ -27,9 +27,9 @@ few_levels levels n e k = few (slice_index_or levels k 0) (ap (λ l. slice_index
     few m p = omega arith
 
 pub more_levels : (runs : List (List Entry)) (es : List Entry) (old new : List ℕ) (total : ℕ) → AreLevels runs old →
-    ((k : ℕ) → slice_index_or new k 0 ≡ slice_index_or old k 0 + cond (total == k) 1 0) → total ≡ switches (sessions_in es) → AreLevels (es ∷ runs) new
+    ((k : ℕ) → slice_index_or new k 0 ≡ slice_index_or old k 0 + cond (total == k) 1 0) → total ≡ switches (steps_in es) → AreLevels (es ∷ runs) new
 more_levels runs es old new total a f e k =
-    count_more (λ ds. switches (sessions_in ds) == k) es runs (slice_index_or new k 0) (slice_index_or old k 0) (cond (total == k) 1 0) (f k) (a k) (ap (λ n. cond (n == k) 1 0) e)
+    count_more (λ ds. switches (steps_in ds) == k) es runs (slice_index_or new k 0) (slice_index_or old k 0) (cond (total == k) 1 0) (f k) (a k) (ap (λ n. cond (n == k) 1 0) e)
 
 pub no_endings : (ended : List Entry → List Outcome) (endings : List Ending) → endings ≡ [] → AreEndings ended [] endings
 no_endings ended endings e = subst (λ l. AreEndings ended [] l) (sym e) (record { count = λ test. refl; once = tt })

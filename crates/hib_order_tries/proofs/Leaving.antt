@@ -1,44 +1,48 @@
 -- What leaves an order at a place, and at each from one on.
-use Rattle.std.specs.Prelude.{length, drop, take, map, slice_index, ◌||◌, ◌==◌}
-use Rattle.std.specs.List.{Contains}
-use Rattle.std.proofs.Common.{◌≡◌, ◌++◌, ◌+◌, ◌<◌, ◌≤◌, ◌⊎◌, ℕ, zero, suc, inl, inr, Bool, true, false, cond, List, [], ◌∷◌, refl, sym, ap, ◌∙◌, subst, arith, eq-eqb, append_assoc, append-nil}
-use Rattle.std.proofs.lemmas.Bool.{false≢true, eqb-true}
+use Rattle.std.specs.Prelude.{length, drop, take, map, slice_get, not, ◌&&◌, ◌||◌, ◌==◌}
+use Rattle.std.specs.List.{Contains, list_all}
+use Rattle.std.proofs.Common.{◌≡◌, ◌++◌, ◌+◌, ◌<◌, ◌≤◌, ◌⊎◌, ℕ, zero, suc, inl, inr, Bool, true, false, cond, List, [], ◌∷◌, Option, refl, sym, ap, ◌∙◌, subst, arith, append_assoc, append-nil}
+use Rattle.std.proofs.lemmas.Bool.{false≢true, true≢false}
 use Rattle.std.proofs.lemmas.List.{map-append}
 use Rattle.std.proofs.lemmas.List.Folds.{list_any-append}
 use Rattle.std.proofs.lemmas.List.Elements.{Contains-append_left, Contains-append_right, Contains-append_cases, Contains-push, Contains-push_cases}
 use Rattle.hib_base.proofs.Tables.{Tested, tested}
-use Rattle.hib_order_law.specs.Orders.{IsOther, begins, comes, cost}
-use Rattle.hib_order_law.specs.Search.{AreOthers, begun_by}
-use Rattle.hib_order_law.proofs.Begun.{Begins, begins_so, so_begins}
+use Rattle.hib_order_law.specs.Orders.{begins, comes, cost, is_kill_step, same_step, whose}
+use Rattle.hib_order_law.specs.Search.{begun_by}
+use Rattle.hib_order_law.specs.declared.step.Step.{Step}
+use Rattle.hib_order_law.specs.declared.step.Turn.{Turn}
+use Rattle.hib_order_law.proofs.Begun.{Begins, and_left, and_right, begins_so, is_step, so_begins, step_is}
 use Rattle.hib_order_law.proofs.Tally.{Contains-none, begun_by-append, begun_by-none}
-use Rattle.hib_order_law.proofs.Search.{others_longer}
-use Rattle.hib_order_tries.specs.Tail.{count_of}
-use Rattle.hib_order_tries.specs.Left.{AreLeft, AreLeftBy, IsAdded, IsLeft, first_of}
+use Rattle.hib_order_tries.specs.Tail.{AreKills, AreOwn, IsTail, count_of}
+use Rattle.hib_order_tries.specs.Left.{AreBeside, AreLeft, AreLeftBy, AreOpen, IsAdded, IsBeside, IsLeft, first_of, has_step, is_at, may_come, opens}
 
--- one place, session by session
+-- one place, step by step
 
 or_true : (a : Bool) → (a || (true || false)) ≡ true
 or_true true = refl
 or_true false = refl
 
-comes_before : (t : ℕ) (these : List ℕ) (s : ℕ) → comes t these ≡ true → comes t (these ++ s ∷ []) ≡ true
-comes_before t these s c = list_any-append (λ i. i == t) these (s ∷ []) ∙ rw c refl
+has-append : (t : Step) (xs ys : List Step) → has_step t (xs ++ ys) ≡ (has_step t xs || has_step t ys)
+has-append t xs ys = list_any-append (λ s. same_step s t) xs ys
 
-comes_last : (these : List ℕ) (s : ℕ) → comes s (these ++ s ∷ []) ≡ true
-comes_last these s = list_any-append (λ i. i == s) these (s ∷ []) ∙ rw (eq-eqb s s refl) (or_true (comes s these))
+has_before : (t : Step) (these : List Step) (more : List Step) → has_step t these ≡ true → has_step t (these ++ more) ≡ true
+has_before t these more c = has-append t these more ∙ rw c refl
 
-comes_cases : (t : ℕ) (these : List ℕ) (s : ℕ) → comes t (these ++ s ∷ []) ≡ true → (comes t these ≡ true) ⊎ (s ≡ t)
-comes_cases t these s c = by (tested (comes t these)) (sym (list_any-append (λ i. i == t) these (s ∷ [])) ∙ c)
+has_last : (these : List Step) (s : Step) → has_step s (these ++ s ∷ []) ≡ true
+has_last these s = has-append s these (s ∷ []) ∙ rw (is_step s s refl) (or_true (has_step s these))
+
+has_cases : (t : Step) (these : List Step) (s : Step) → has_step t (these ++ s ∷ []) ≡ true → (has_step t these ≡ true) ⊎ (s ≡ t)
+has_cases t these s c = by (tested (has_step t these)) (sym (has-append t these (s ∷ [])) ∙ c)
   where
     plain : (b : Bool) → (false || (b || false)) ≡ true → b ≡ true
     plain true p = refl
     plain false p = p
 
-    by : Tested (comes t these) → (comes t these || ((s == t) || false)) ≡ true → (comes t these ≡ true) ⊎ (s ≡ t)
+    by : Tested (has_step t these) → (has_step t these || (same_step s t || false)) ≡ true → (has_step t these ≡ true) ⊎ (s ≡ t)
     by (inl p) q = inl p
-    by (inr p) q = inr (eqb-true s t (plain (s == t) (subst (λ b. (b || ((s == t) || false)) ≡ true) p q)))
+    by (inr p) q = inr (step_is s t (plain (same_step s t) (subst (λ b. (b || (same_step s t || false)) ≡ true) p q)))
 
-module _ (level at : ℕ) (order : List ℕ) where
+module _ (level at : ℕ) (order : List Step) where
   pub left_none : AreLeftBy level at order [] [] false
   left_none = record {
     each = λ other c. absurd (Contains-none other c);
@@ -47,30 +51,30 @@ module _ (level at : ℕ) (order : List ℕ) where
     more = λ p. absurd (false≢true p);
   }
 
-  wider : (these : List ℕ) (s : ℕ) (other : List ℕ) → IsLeft order at these other → IsLeft order at (these ++ s ∷ []) other
-  wider these s other x = (x.0, x.1, x.2, comes_before x.0 these s x.3)
+  wider : (these : List Step) (s : Step) (other : List Step) → IsLeft order at these other → IsLeft order at (these ++ s ∷ []) other
+  wider these s other x = (x.0, x.1, x.2, has_before x.0 these (s ∷ []) x.3)
 
   -- with one more session, it leaves for one of those before or for that one
-  left_cases : (these : List ℕ) (s : ℕ) (other : List ℕ) → IsLeft order at (these ++ s ∷ []) other →
-      IsLeft order at these other ⊎ ((other ≡ first_of order at s) × ((slice_index order at == s) ≡ false))
-  left_cases these s other x = by (comes_cases x.0 these s x.3)
+  left_cases : (these : List Step) (s : Step) (other : List Step) → IsLeft order at (these ++ s ∷ []) other →
+      IsLeft order at these other ⊎ ((other ≡ first_of order at s) × (is_at order at s ≡ false))
+  left_cases these s other x = by (has_cases x.0 these s x.3)
     where
-      by : (comes x.0 these ≡ true) ⊎ (s ≡ x.0) → IsLeft order at these other ⊎ ((other ≡ first_of order at s) × ((slice_index order at == s) ≡ false))
+      by : (has_step x.0 these ≡ true) ⊎ (s ≡ x.0) → IsLeft order at these other ⊎ ((other ≡ first_of order at s) × (is_at order at s ≡ false))
       by (inl c) = inl (x.0, x.1, x.2, c)
-      by (inr p) = inr (x.1 ∙ ap (λ i. first_of order at i) (sym p), subst (λ i. (slice_index order at == i) ≡ false) (sym p) x.2)
+      by (inr p) = inr (x.1 ∙ ap (λ i. first_of order at i) (sym p), subst (λ i. is_at order at i ≡ false) (sym p) x.2)
 
-  map_more : (both these : List ℕ) (s : ℕ) →
+  map_more : (both these : List Step) (s : Step) →
       begun_by both (map (first_of order at) (these ++ s ∷ [])) ≡ begun_by both (map (first_of order at) these) + (cond (begins (first_of order at s) both) 1 0 + 0)
   map_more both these s = ap (λ l. begun_by both l) (map-append (first_of order at) these (s ∷ [])) ∙ begun_by-append both (map (first_of order at) these) (first_of order at s ∷ [])
 
-  module _ (these : List ℕ) (s : ℕ) (there : List (List ℕ)) (beyond : Bool) (f : AreLeftBy level at order these there beyond) where
-    each_before : (other : List ℕ) → Contains there other → IsLeft order at (these ++ s ∷ []) other × (cost order other ≤ level)
+  module _ (these : List Step) (s : Step) (there : List (List Step)) (beyond : Bool) (f : AreLeftBy level at order these there beyond) where
+    each_before : (other : List Step) → Contains there other → IsLeft order at (these ++ s ∷ []) other × (cost order other ≤ level)
     each_before other c = (wider these s other (f.each other c).0, (f.each other c).1)
 
-    more_before : beyond ≡ true → (other : List ℕ) × IsLeft order at (these ++ s ∷ []) other × (level < cost order other)
+    more_before : beyond ≡ true → (other : List Step) × IsLeft order at (these ++ s ∷ []) other × (level < cost order other)
     more_before p = let x = f.more p in (x.0, wider these s x.0 x.1, x.2)
 
-    once_before : (both : List ℕ) → begun_by both there ≤ begun_by both (map (first_of order at) (these ++ s ∷ []))
+    once_before : (both : List Step) → begun_by both there ≤ begun_by both (map (first_of order at) (these ++ s ∷ []))
     once_before both =
         more (begun_by both there) (begun_by both (map (first_of order at) these)) (cond (begins (first_of order at s) both) 1 0)
         (begun_by both (map (first_of order at) (these ++ s ∷ []))) (f.once both) (map_more both these s)
@@ -79,7 +83,7 @@ module _ (level at : ℕ) (order : List ℕ) where
         more n m d x p q = omega arith
 
     -- the session of the step itself isn't another's
-    left_same : (slice_index order at == s) ≡ true → AreLeftBy level at order (these ++ s ∷ []) there beyond
+    left_same : is_at order at s ≡ true → AreLeftBy level at order (these ++ s ∷ []) there beyond
     left_same e = record {
       each = each_before;
       once = once_before;
@@ -87,13 +91,13 @@ module _ (level at : ℕ) (order : List ℕ) where
       more = more_before;
     }
       where
-        all : (other : List ℕ) → IsLeft order at these other ⊎ ((other ≡ first_of order at s) × ((slice_index order at == s) ≡ false)) →
+        all : (other : List Step) → IsLeft order at these other ⊎ ((other ≡ first_of order at s) × (is_at order at s ≡ false)) →
             Contains there other ⊎ ((level < cost order other) × (beyond ≡ true))
         all other (inl x) = f.all other x
         all other (inr x) = absurd (false≢true (sym x.1 ∙ e))
 
     -- another session's first steps are there if they cost no more than the level
-    left_there : (slice_index order at == s) ≡ false → cost order (first_of order at s) ≤ level →
+    left_there : is_at order at s ≡ false → cost order (first_of order at s) ≤ level →
         AreLeftBy level at order (these ++ s ∷ []) (there ++ first_of order at s ∷ []) beyond
     left_there e l = record {
       each = λ other c. each other (Contains-push_cases there (first_of order at s) other c);
@@ -107,53 +111,53 @@ module _ (level at : ℕ) (order : List ℕ) where
         more : (n' n m d x : ℕ) → n ≤ m → x ≡ m + (d + 0) → n' ≡ n + (d + 0) → n' ≤ x
         more n' n m d x p q r = omega arith
 
-        each : (other : List ℕ) → Contains there other ⊎ (first_of order at s ≡ other) → IsLeft order at (these ++ s ∷ []) other × (cost order other ≤ level)
+        each : (other : List Step) → Contains there other ⊎ (first_of order at s ≡ other) → IsLeft order at (these ++ s ∷ []) other × (cost order other ≤ level)
         each other (inl c) = each_before other c
-        each other (inr p) = ((s, sym p, e, comes_last these s), subst (λ o. cost order o ≤ level) p l)
+        each other (inr p) = ((s, sym p, e, has_last these s), subst (λ o. cost order o ≤ level) p l)
 
-        before : (other : List ℕ) → Contains there other ⊎ ((level < cost order other) × (beyond ≡ true)) →
+        before : (other : List Step) → Contains there other ⊎ ((level < cost order other) × (beyond ≡ true)) →
             Contains (there ++ first_of order at s ∷ []) other ⊎ ((level < cost order other) × (beyond ≡ true))
         before other (inl c) = inl (Contains-append_left there (first_of order at s ∷ []) other c)
         before other (inr x) = inr x
 
-        all : (other : List ℕ) → IsLeft order at these other ⊎ ((other ≡ first_of order at s) × ((slice_index order at == s) ≡ false)) →
+        all : (other : List Step) → IsLeft order at these other ⊎ ((other ≡ first_of order at s) × (is_at order at s ≡ false)) →
             Contains (there ++ first_of order at s ∷ []) other ⊎ ((level < cost order other) × (beyond ≡ true))
         all other (inl x) = before other (f.all other x)
         all other (inr x) = inl (subst (λ o. Contains (there ++ first_of order at s ∷ []) o) (sym x.0) (Contains-push there (first_of order at s)))
 
     -- and else it is told that there are such
-    left_beyond : (slice_index order at == s) ≡ false → level < cost order (first_of order at s) → AreLeftBy level at order (these ++ s ∷ []) there true
+    left_beyond : is_at order at s ≡ false → level < cost order (first_of order at s) → AreLeftBy level at order (these ++ s ∷ []) there true
     left_beyond e l = record {
       each = each_before;
       once = once_before;
       all = λ other x. all other (left_cases these s other x);
-      more = λ p. (first_of order at s, (s, refl, e, comes_last these s), l);
+      more = λ p. (first_of order at s, (s, refl, e, has_last these s), l);
     }
       where
-        before : (other : List ℕ) → Contains there other ⊎ ((level < cost order other) × (beyond ≡ true)) →
+        before : (other : List Step) → Contains there other ⊎ ((level < cost order other) × (beyond ≡ true)) →
             Contains there other ⊎ ((level < cost order other) × (true ≡ true))
         before other (inl c) = inl c
         before other (inr x) = inr (x.0, refl)
 
-        all : (other : List ℕ) → IsLeft order at these other ⊎ ((other ≡ first_of order at s) × ((slice_index order at == s) ≡ false)) →
+        all : (other : List Step) → IsLeft order at these other ⊎ ((other ≡ first_of order at s) × (is_at order at s ≡ false)) →
             Contains there other ⊎ ((level < cost order other) × (true ≡ true))
         all other (inl x) = before other (f.all other x)
         all other (inr x) = inr (subst (λ o. level < cost order o) (sym x.0) l, refl)
 
   -- those of no session were added
-  pub none_added : (there : List (List ℕ)) (beyond : Bool) → AreLeft level at order [] there beyond there beyond
+  pub none_added : (there : List (List Step)) (beyond : Bool) → AreLeft level at order [] there beyond there beyond
   none_added there beyond = ([], false, left_none, sym (append-nil there), by beyond)
     where
       by : (b : Bool) → b ≡ (b || false)
       by true = refl
       by false = refl
 
-  pub same_added : (these : List ℕ) (s : ℕ) (there now : List (List ℕ)) (beyond now_beyond : Bool) → AreLeft level at order these there beyond now now_beyond →
-      (slice_index order at == s) ≡ true → AreLeft level at order (these ++ s ∷ []) there beyond now now_beyond
+  pub same_added : (these : List Step) (s : Step) (there now : List (List Step)) (beyond now_beyond : Bool) → AreLeft level at order these there beyond now now_beyond →
+      is_at order at s ≡ true → AreLeft level at order (these ++ s ∷ []) there beyond now now_beyond
   same_added these s there now beyond now_beyond x e = (x.0, x.1, left_same these s x.0 x.1 x.2 e, x.3, x.4)
 
-  pub one_added : (these : List ℕ) (s : ℕ) (there now new : List (List ℕ)) (beyond now_beyond new_beyond : Bool) → AreLeft level at order these there beyond now now_beyond →
-      (slice_index order at == s) ≡ false → IsAdded level (cost order (first_of order at s)) (first_of order at s) now now_beyond new new_beyond →
+  pub one_added : (these : List Step) (s : Step) (there now new : List (List Step)) (beyond now_beyond new_beyond : Bool) → AreLeft level at order these there beyond now now_beyond →
+      is_at order at s ≡ false → IsAdded level (cost order (first_of order at s)) (first_of order at s) now now_beyond new new_beyond →
       AreLeft level at order (these ++ s ∷ []) there beyond new new_beyond
   one_added these s there now new beyond now_beyond new_beyond x e (inl a) =
       (x.0 ++ first_of order at s ∷ [], x.1, left_there these s x.0 x.1 x.2 e a.0, a.1 ∙ ap (λ l. l ++ first_of order at s ∷ []) x.3 ∙ append_assoc there x.0 (first_of order at s ∷ []), a.2 ∙ x.4)
@@ -163,67 +167,168 @@ module _ (level at : ℕ) (order : List ℕ) where
       by true = refl
       by false = refl
 
+  -- those of some steps and those of others were added
+  module _ (these more : List Step) (there later_ones : List (List Step)) (beyond cut : Bool) (a : AreLeftBy level at order these there beyond) (b : AreLeftBy level at order more later_ones cut) where
+    first_left : (other : List Step) → IsLeft order at these other → IsLeft order at (these ++ more) other
+    first_left other x = (x.0, x.1, x.2, has_before x.0 these more x.3)
+
+    then_left : (other : List Step) → IsLeft order at more other → IsLeft order at (these ++ more) other
+    then_left other x = (x.0, x.1, x.2, has-append x.0 these more ∙ rw x.3 (or_last (has_step x.0 these)))
+      where
+        or_last : (c : Bool) → (c || true) ≡ true
+        or_last true = refl
+        or_last false = refl
+
+    one_left : (other : List Step) → IsLeft order at (these ++ more) other → IsLeft order at these other ⊎ IsLeft order at more other
+    one_left other x = by (tested (has_step x.0 these)) (sym (has-append x.0 these more) ∙ x.3)
+      where
+        by : Tested (has_step x.0 these) → (has_step x.0 these || has_step x.0 more) ≡ true → IsLeft order at these other ⊎ IsLeft order at more other
+        by (inl p) q = inl (x.0, x.1, x.2, p)
+        by (inr p) q = inr (x.0, x.1, x.2, subst (λ c. (c || has_step x.0 more) ≡ true) p q)
+
+    left_both : AreLeftBy level at order (these ++ more) (there ++ later_ones) (beyond || cut)
+    left_both = record {
+      each = λ other c. each other (Contains-append_cases there later_ones other c);
+      once = λ both. sum (begun_by both (there ++ later_ones)) (begun_by both there) (begun_by both later_ones) (begun_by both (map (first_of order at) these))
+          (begun_by both (map (first_of order at) more)) (begun_by both (map (first_of order at) (these ++ more))) (begun_by-append both there later_ones)
+          (ap (λ l. begun_by both l) (map-append (first_of order at) these more) ∙ begun_by-append both (map (first_of order at) these) (map (first_of order at) more)) (a.once both) (b.once both);
+      all = λ other x. all other (one_left other x);
+      more = λ p. told (tested beyond) p;
+    }
+      where
+        sum : (n x y k l m : ℕ) → n ≡ x + y → m ≡ k + l → x ≤ k → y ≤ l → n ≤ m
+        sum n x y k l m e1 e2 e3 e4 = omega arith
+
+        each : (other : List Step) → Contains there other ⊎ Contains later_ones other → IsLeft order at (these ++ more) other × (cost order other ≤ level)
+        each other (inl c) = (first_left other (a.each other c).0, (a.each other c).1)
+        each other (inr c) = (then_left other (b.each other c).0, (b.each other c).1)
+
+        left : (c d : Bool) → c ≡ true → (c || d) ≡ true
+        left true d p = refl
+        left false d p = absurd (false≢true p)
+
+        right : (c d : Bool) → d ≡ true → (c || d) ≡ true
+        right true d p = refl
+        right false d p = p
+
+        later : (other : List Step) → Contains there other ⊎ ((level < cost order other) × (beyond ≡ true)) →
+            Contains (there ++ later_ones) other ⊎ ((level < cost order other) × ((beyond || cut) ≡ true))
+        later other (inl c) = inl (Contains-append_left there later_ones other c)
+        later other (inr x) = inr (x.0, left beyond cut x.1)
+
+        now : (other : List Step) → Contains later_ones other ⊎ ((level < cost order other) × (cut ≡ true)) →
+            Contains (there ++ later_ones) other ⊎ ((level < cost order other) × ((beyond || cut) ≡ true))
+        now other (inl c) = inl (Contains-append_right there later_ones other c)
+        now other (inr x) = inr (x.0, right beyond cut x.1)
+
+        all : (other : List Step) → IsLeft order at these other ⊎ IsLeft order at more other →
+            Contains (there ++ later_ones) other ⊎ ((level < cost order other) × ((beyond || cut) ≡ true))
+        all other (inl x) = later other (a.all other x)
+        all other (inr x) = now other (b.all other x)
+
+        told : Tested beyond → (beyond || cut) ≡ true → (other : List Step) × IsLeft order at (these ++ more) other × (level < cost order other)
+        told (inl p) q = let x = a.more p in (x.0, first_left x.0 x.1, x.2)
+        told (inr p) q = let x = b.more (subst (λ c. (c || cut) ≡ true) p q) in (x.0, then_left x.0 x.1, x.2)
+
+  pub both_added : (these more : List Step) (there now new : List (List Step)) (beyond now_beyond new_beyond : Bool) → AreLeft level at order these there beyond now now_beyond →
+      AreLeft level at order more now now_beyond new new_beyond → AreLeft level at order (these ++ more) there beyond new new_beyond
+  both_added these more there now new beyond now_beyond new_beyond x y =
+      (x.0 ++ y.0, x.1 || y.1, left_both these more x.0 y.0 x.1 y.1 x.2 y.2, y.3 ∙ ap (λ l. l ++ y.0) x.3 ∙ append_assoc there x.0 y.0, y.4 ∙ ap (λ b. b || y.1) x.4 ∙ or_assoc beyond x.1 y.1)
+    where
+      or_assoc : (a b c : Bool) → ((a || b) || c) ≡ (a || (b || c))
+      or_assoc true b c = refl
+      or_assoc false b c = refl
+
+-- the steps that may come at a place
+
+abbrev pub count_step : Step → List Step → ℕ
+count_step t [] = 0
+count_step t (s ∷ ss) = cond (same_step s t) 1 0 + count_step t ss
+
+count_step-append : (t : Step) (xs ys : List Step) → count_step t (xs ++ ys) ≡ count_step t xs + count_step t ys
+count_step-append t [] ys = omega arith
+count_step-append t (x ∷ xs) ys = more (cond (same_step x t) 1 0) (count_step t (xs ++ ys)) (count_step t xs) (count_step t ys) (count_step-append t xs ys)
+  where
+    more : (c a x y : ℕ) → a ≡ x + y → c + a ≡ (c + x) + y
+    more c a x y p = omega arith
+
+own_has : (s : ℕ) (xs : List Step) → list_all (λ t. not (is_kill_step t)) xs ≡ true →
+    (has_step (Step.Own s) xs ≡ comes s xs) × (has_step (Step.Kill s) xs ≡ false) × (count_step (Step.Own s) xs ≡ count_of s xs) × (count_step (Step.Kill s) xs ≡ 0)
+own_has s [] a = (refl, refl, refl, refl)
+own_has s (Step.Own n ∷ xs) a =
+    let i = own_has s xs a in
+    (ap (λ b. (n == s) || b) i.0, i.1, ap (λ k. cond (n == s) 1 0 + k) i.2, zero_more (count_step (Step.Kill s) xs) i.3)
+  where
+    zero_more : (n : ℕ) → n ≡ 0 → 0 + n ≡ 0
+    zero_more n p = omega arith
+own_has s (Step.Kill n ∷ xs) a = absurd (false≢true a)
+
+kill_has : (s : ℕ) (xs : List Step) → list_all is_kill_step xs ≡ true →
+    (has_step (Step.Kill s) xs ≡ comes s xs) × (has_step (Step.Own s) xs ≡ false) × (count_step (Step.Kill s) xs ≡ count_of s xs) × (count_step (Step.Own s) xs ≡ 0)
+kill_has s [] a = (refl, refl, refl, refl)
+kill_has s (Step.Kill n ∷ xs) a =
+    let i = kill_has s xs a in
+    (ap (λ b. (n == s) || b) i.0, i.1, ap (λ k. cond (n == s) 1 0 + k) i.2, zero_more (count_step (Step.Own s) xs) i.3)
+  where
+    zero_more : (n : ℕ) → n ≡ 0 → 0 + n ≡ 0
+    zero_more n p = omega arith
+kill_has s (Step.Own n ∷ xs) a = absurd (false≢true a)
+
+-- a step of each session that comes later, and the kill of each that is open
+module _ (may_kill : Bool) (order : List Step) (turns : List Turn) (at : ℕ) (own kill : List Step) (f : (s : ℕ) → comes s own ≡ comes s (drop at order)) (o : AreOwn own)
+    (k : AreOpen may_kill order turns at kill) where
+  all_come : (t : Step) → has_step t (own ++ kill) ≡ may_come may_kill order turns at t
+  all_come (Step.Own s) = has-append (Step.Own s) own kill ∙ rw ((own_has s own o.own).0, (kill_has s kill k.each.kill).1) (plain (comes s own) ∙ f s)
+    where
+      plain : (b : Bool) → (b || false) ≡ b
+      plain true = refl
+      plain false = refl
+  all_come (Step.Kill s) = has-append (Step.Kill s) own kill ∙ rw ((own_has s own o.own).1, (kill_has s kill k.each.kill).0) (k.all s)
+
+  once_each : (t : Step) → count_step t (own ++ kill) ≤ 1
+  once_each (Step.Own s) =
+      sum (count_step (Step.Own s) (own ++ kill)) (count_step (Step.Own s) own) (count_step (Step.Own s) kill) (count_of s own) (count_step-append (Step.Own s) own kill) (own_has s own o.own).2
+      (kill_has s kill k.each.kill).3 (o.once s)
+    where
+      sum : (n x y k : ℕ) → n ≡ x + y → x ≡ k → y ≡ 0 → k ≤ 1 → n ≤ 1
+      sum n x y k p q r l = omega arith
+  once_each (Step.Kill s) =
+      sum (count_step (Step.Kill s) (own ++ kill)) (count_step (Step.Kill s) own) (count_step (Step.Kill s) kill) (count_of s kill) (count_step-append (Step.Kill s) own kill)
+      (kill_has s kill k.each.kill).2 (own_has s own o.own).3 (k.each.once s)
+    where
+      sum : (n x y k : ℕ) → n ≡ x + y → y ≡ k → x ≡ 0 → k ≤ 1 → n ≤ 1
+      sum n x y k p q r l = omega arith
+
 -- all places from one on
 
--- another order leaves at a place, or shares its step too
-leaves_here : (n : ℕ) (order other : List ℕ) → IsOther n order other → IsOther (suc n) order other ⊎ IsLeft order n (drop (suc n) order) other
-leaves_here n order [] o = absurd o
-leaves_here n [] (t ∷ ts) o = absurd o
-leaves_here zero (s ∷ ss) (t ∷ ts) (inl o) = inl o
-leaves_here zero (s ∷ ss) (t ∷ ts) (inr o) = inr (t, ap (λ x. t ∷ x) o.0, o.1, o.2)
-leaves_here (suc n) (s ∷ ss) (t ∷ ts) o = by (leaves_here n ss ts o.1)
-  where
-    by : IsOther (suc n) ss ts ⊎ IsLeft ss n (drop (suc n) ss) ts → IsOther (suc (suc n)) (s ∷ ss) (t ∷ ts) ⊎ IsLeft (s ∷ ss) (suc n) (drop (suc n) ss) (t ∷ ts)
-    by (inl x) = inl (o.0, x)
-    by (inr x) = inr (x.0, two (sym o.0) x.1, x.2, x.3)
-      where
-        two : {x y : ℕ} {xs ys : List ℕ} → x ≡ y → xs ≡ ys → x ∷ xs ≡ y ∷ ys
-        two p q = cc
-
-is_other : (n : ℕ) (order : List ℕ) (t : ℕ) → n < length order → (slice_index order n == t) ≡ false → comes t (drop (suc n) order) ≡ true → IsOther n order (first_of order n t)
-is_other n [] t l d c = absurd (no n l)
-  where
-    no : (n : ℕ) → n < 0 → ⊥
-    no n l = omega arith
-is_other zero (s ∷ ss) t l d c = inr (refl, d, c)
-is_other (suc n) (s ∷ ss) t l d c = (refl, is_other n ss t (omega arith) d c)
-
-other_fewer : (n : ℕ) (order other : List ℕ) → IsOther (suc n) order other → IsOther n order other
-other_fewer n order [] o = absurd o
-other_fewer n [] (t ∷ ts) o = absurd o
-other_fewer zero (s ∷ ss) (t ∷ ts) o = inl o
-other_fewer (suc n) (s ∷ ss) (t ∷ ts) o = (o.0, other_fewer n ss ts o.1)
-
 -- what shares a step doesn't leave there
-conflict : (n : ℕ) (order both : List ℕ) (t : ℕ) → n < length order → Begins (take (suc n) order) both → Begins (first_of order n t) both → (slice_index order n == t) ≡ false → ⊥
+conflict : (n : ℕ) (order both : List Step) (t : Step) → n < length order → Begins (take (suc n) order) both → Begins (first_of order n t) both → is_at order n t ≡ false → ⊥
 conflict n [] both t l b c d = no n l
   where
     no : (n : ℕ) → n < 0 → ⊥
     no n l = omega arith
 conflict zero (s ∷ ss) [] t l b c d = absurd b
-conflict zero (s ∷ ss) (u ∷ us) t l b c d = false≢true (sym d ∙ eq-eqb s t (b.0 ∙ sym c.0))
+conflict zero (s ∷ ss) (u ∷ us) t l b c d = false≢true (sym d ∙ is_step s t (b.0 ∙ sym c.0))
 conflict (suc n) (s ∷ ss) [] t l b c d = absurd b
 conflict (suc n) (s ∷ ss) (u ∷ us) t l b c d = conflict n ss us t (omega arith) b.1 c.1 d
 
-length-take' : (n : ℕ) (order : List ℕ) → n ≤ length order → n ≡ length (take n order)
-length-take' zero order l = refl
-length-take' (suc n) [] l = absurd (no n l)
+-- what leaves later shares the steps before
+shares : (n at : ℕ) (order more both : List Step) → n ≤ at → Begins (take at order ++ more) both → Begins (take n order) both
+shares zero at order more both l b = tt
+shares (suc n) at [] more both l b = tt
+shares (suc n) zero (s ∷ order) more both l b = absurd (no n l)
   where
     no : (n : ℕ) → suc n ≤ 0 → ⊥
     no n l = omega arith
-length-take' (suc n) (s ∷ order) l = ap (λ k. suc k) (length-take' n order (omega arith))
+shares (suc n) (suc at) (s ∷ order) more [] l b = absurd b
+shares (suc n) (suc at) (s ∷ order) more (u ∷ both) l b = (b.0, shares n at order more both (omega arith) b.1)
 
-begins_take : (n : ℕ) (order : List ℕ) → Begins (take n order) order
-begins_take zero order = tt
-begins_take (suc n) [] = tt
-begins_take (suc n) (s ∷ order) = (refl, begins_take n order)
-
--- the first steps for sessions of which each stands there once: an order begins with one of them at most
-one_by : (n : ℕ) (order both : List ℕ) (s : ℕ) (these : List ℕ) → begins (first_of order n s) both ≡ true → begun_by both (map (first_of order n) these) ≤ count_of s these
+-- the first steps for steps of which each stands there once: an order begins with one of them at most
+one_by : (n : ℕ) (order both : List Step) (s : Step) (these : List Step) → begins (first_of order n s) both ≡ true → begun_by both (map (first_of order n) these) ≤ count_step s these
 one_by n order both s [] b = omega arith
 one_by n order both s (t ∷ these) b = by (tested (begins (first_of order n t) both)) (one_by n order both s these b)
   where
-    same : (k : ℕ) (xs os : List ℕ) → Begins (take k xs ++ s ∷ []) os → Begins (take k xs ++ t ∷ []) os → t ≡ s
+    same : (k : ℕ) (xs os : List Step) → Begins (take k xs ++ s ∷ []) os → Begins (take k xs ++ t ∷ []) os → t ≡ s
     same zero xs [] b c = absurd b
     same zero xs (o ∷ os) b c = c.0 ∙ sym b.0
     same (suc k) [] [] b c = absurd b
@@ -237,16 +342,16 @@ one_by n order both s (t ∷ these) b = by (tested (begins (first_of order n t) 
     one : (a c : ℕ) → a ≤ c → 1 + a ≤ 1 + c
     one a c l = omega arith
 
-    by : Tested (begins (first_of order n t) both) → begun_by both (map (first_of order n) these) ≤ count_of s these →
-        cond (begins (first_of order n t) both) 1 0 + begun_by both (map (first_of order n) these) ≤ cond (t == s) 1 0 + count_of s these
+    by : Tested (begins (first_of order n t) both) → begun_by both (map (first_of order n) these) ≤ count_step s these →
+        cond (begins (first_of order n t) both) 1 0 + begun_by both (map (first_of order n) these) ≤ cond (same_step t s) 1 0 + count_step s these
     by (inl p) i =
-        rw (p, eq-eqb t s (same n order both (begins_so (first_of order n s) both b) (begins_so (first_of order n t) both p)))
-        (one (begun_by both (map (first_of order n) these)) (count_of s these) i)
-    by (inr p) i = rw p (more (begun_by both (map (first_of order n) these)) (count_of s these) (cond (t == s) 1 0) i)
+        rw (p, is_step t s (same n order both (begins_so (first_of order n s) both b) (begins_so (first_of order n t) both p)))
+        (one (begun_by both (map (first_of order n) these)) (count_step s these) i)
+    by (inr p) i = rw p (more (begun_by both (map (first_of order n) these)) (count_step s these) (cond (same_step t s) 1 0) i)
 
-one_at_most : (n : ℕ) (order both these : List ℕ) → ((s : ℕ) → count_of s these ≤ 1) → begun_by both (map (first_of order n) these) ≤ 1
+one_at_most : (n : ℕ) (order both these : List Step) → ((s : Step) → count_step s these ≤ 1) → begun_by both (map (first_of order n) these) ≤ 1
 one_at_most n order both [] f = omega arith
-one_at_most n order both (t ∷ these) f = by (tested (begins (first_of order n t) both)) (one_at_most n order both these (λ s. less (cond (t == s) 1 0) (count_of s these) (f s)))
+one_at_most n order both (t ∷ these) f = by (tested (begins (first_of order n t) both)) (one_at_most n order both these (λ s. less (cond (same_step t s) 1 0) (count_step s these) (f s)))
   where
     less : (a c : ℕ) → a + c ≤ 1 → c ≤ 1
     less a c l = omega arith
@@ -258,67 +363,79 @@ one_at_most n order both (t ∷ these) f = by (tested (begins (first_of order n 
     chain a b p q = omega arith
 
     by : Tested (begins (first_of order n t) both) → begun_by both (map (first_of order n) these) ≤ 1 → cond (begins (first_of order n t) both) 1 0 + begun_by both (map (first_of order n) these) ≤ 1
-    by (inl p) i = chain (begun_by both (map (first_of order n) (t ∷ these))) (count_of t (t ∷ these)) (one_by n order both t (t ∷ these) p) (f t)
+    by (inl p) i = chain (begun_by both (map (first_of order n) (t ∷ these))) (count_step t (t ∷ these)) (one_by n order both t (t ∷ these) p) (f t)
     by (inr p) i = rw p (zero' (begun_by both (map (first_of order n) these)) i)
 
--- no other order shares all steps of one
-pub others_none : (level n : ℕ) (order : List ℕ) → length order ≤ n → AreOthers level n order [] false
-others_none level n order l = record {
+cases_le : (n m : ℕ) → n ≤ m → (n ≡ m) ⊎ (suc n ≤ m)
+cases_le zero zero l = inl refl
+cases_le zero (suc m) l = inr (omega arith)
+cases_le (suc n) zero l = absurd (no n l)
+  where
+    no : (n : ℕ) → suc n ≤ 0 → ⊥
+    no n l = omega arith
+cases_le (suc n) (suc m) l = by (cases_le n m (omega arith))
+  where
+    by : (n ≡ m) ⊎ (suc n ≤ m) → (suc n ≡ suc m) ⊎ (suc (suc n) ≤ suc m)
+    by (inl p) = inl (ap (λ k. suc k) p)
+    by (inr p) = inr (omega arith)
+
+-- no other order leaves one after its end
+pub beside_none : (may_kill : Bool) (level n : ℕ) (order : List Step) (turns : List Turn) → length order < n → AreBeside may_kill level n order turns [] false
+beside_none may_kill level n order turns l = record {
   each = λ other c. absurd (Contains-none other c);
   once = λ both. omega arith;
-  all = λ other o. absurd (past n order other l o);
+  all = λ other b. absurd (no (length order) n b.at l b.later b.inside);
   more = λ p. absurd (false≢true p);
 }
   where
-    past : (n : ℕ) (order other : List ℕ) → length order ≤ n → IsOther n order other → ⊥
-    past n order [] l o = o
-    past n [] (t ∷ ts) l o = o
-    past zero (s ∷ ss) (t ∷ ts) l o = no (length ss) l
-      where
-        no : (k : ℕ) → suc k ≤ 0 → ⊥
-        no k l = omega arith
-    past (suc n) (s ∷ ss) (t ∷ ts) l o = past n ss ts (omega arith) o.1
-
--- a session other than that of the step comes there exactly if it comes later
-comes_later : (n : ℕ) (order : List ℕ) (t : ℕ) → n < length order → (slice_index order n == t) ≡ false → comes t (drop n order) ≡ comes t (drop (suc n) order)
-comes_later n [] t l d = absurd (no n l)
-  where
-    no : (n : ℕ) → n < 0 → ⊥
-    no n l = omega arith
-comes_later zero (s ∷ ss) t l d = rw d refl
-comes_later (suc n) (s ∷ ss) t l d = comes_later n ss t (omega arith) d
+    no : (o n k : ℕ) → o < n → n ≤ k → k ≤ o → ⊥
+    no o n k p q r = omega arith
 
 -- those from the next place on, and those at a place, are those from that place on
-module _ (level n : ℕ) (order sessions : List ℕ) (there here : List (List ℕ)) (beyond cut : Bool) (l : n < length order) (f : (s : ℕ) → comes s sessions ≡ comes s (drop n order))
-    (g : (s : ℕ) → count_of s sessions ≤ 1) (a : AreOthers level (suc n) order there beyond) (b : AreLeftBy level n order sessions here cut) where
-  left_other : (other : List ℕ) → IsLeft order n sessions other → IsOther n order other
-  left_other other x = subst (λ o. IsOther n order o) (sym x.1) (is_other n order x.0 l x.2 (sym (comes_later n order x.0 l x.2) ∙ sym (f x.0) ∙ x.3))
+module _ (may_kill : Bool) (level n : ℕ) (order : List Step) (turns : List Turn) (these : List Step) (there here : List (List Step)) (beyond cut : Bool) (l : n ≤ length order)
+    (f : (t : Step) → has_step t these ≡ may_come may_kill order turns n t) (g : (t : Step) → count_step t these ≤ 1) (a : AreBeside may_kill level (suc n) order turns there beyond)
+    (b : AreLeftBy level n order these here cut) where
+  abbrev From : ℕ → List Step → Type 0
+  From k other = IsBeside may_kill k order turns other
 
-  each : (other : List ℕ) → Contains (there ++ here) other → IsOther n order other × (cost order other ≤ level)
+  left_beside : (other : List Step) → IsLeft order n these other → From n other
+  left_beside other x = record { at = n; step = x.0; later = omega arith; inside = l; is = x.1; apart = x.2; due = sym (f x.0) ∙ x.3 }
+
+  next_beside : (other : List Step) → From (suc n) other → From n other
+  next_beside other x = record { at = x.at; step = x.step; later = less x.at x.later; inside = x.inside; is = x.is; apart = x.apart; due = x.due }
+    where
+      less : (k : ℕ) → suc n ≤ k → n ≤ k
+      less k p = omega arith
+
+  beside_cases : (other : List Step) → From n other → From (suc n) other ⊎ IsLeft order n these other
+  beside_cases other x = by (cases_le n x.at x.later)
+    where
+      by : (n ≡ x.at) ⊎ (suc n ≤ x.at) → From (suc n) other ⊎ IsLeft order n these other
+      by (inl p) = inr (
+        x.step,
+        x.is ∙ ap (λ k. first_of order k x.step) (sym p),
+        subst (λ k. is_at order k x.step ≡ false) (sym p) x.apart,
+        f x.step ∙ subst (λ k. may_come may_kill order turns k x.step ≡ true) (sym p) x.due,
+      )
+      by (inr p) = inl (record { at = x.at; step = x.step; later = p; inside = x.inside; is = x.is; apart = x.apart; due = x.due })
+
+  each : (other : List Step) → Contains (there ++ here) other → From n other × (cost order other ≤ level)
   each other c = by (Contains-append_cases there here other c)
     where
-      by : Contains there other ⊎ Contains here other → IsOther n order other × (cost order other ≤ level)
-      by (inl x) = (other_fewer n order other (a.each other x).0, (a.each other x).1)
-      by (inr x) = (left_other other (b.each other x).0, (b.each other x).1)
+      by : Contains there other ⊎ Contains here other → From n other × (cost order other ≤ level)
+      by (inl x) = (next_beside other (a.each other x).0, (a.each other x).1)
+      by (inr x) = (left_beside other (b.each other x).0, (b.each other x).1)
 
-  shares : (other both : List ℕ) → IsOther (suc n) order other → begins other both ≡ true → begins (take (suc n) order) both ≡ true
-  shares other both o c =
-      so_begins (take (suc n) order) both (chain (take (suc n) order) other both (begins_so (take (suc n) order) other
-      (others_longer (take (suc n) order) order other (so_begins (take (suc n) order) order (begins_take (suc n) order)) (subst (λ k. IsOther k order other) (length-take' (suc n) order (omega arith)) o)))
-      (begins_so other both c))
-    where
-      chain : (x y z : List ℕ) → Begins x y → Begins y z → Begins x z
-      chain [] y z b c = tt
-      chain (s ∷ x) [] z b c = absurd b
-      chain (s ∷ x) (t ∷ y) [] b c = absurd c
-      chain (s ∷ x) (t ∷ y) (u ∷ z) b c = (b.0 ∙ c.0, chain x y z b.1 c.1)
+  next_shares : (other both : List Step) → From (suc n) other → begins other both ≡ true → begins (take (suc n) order) both ≡ true
+  next_shares other both x c =
+      so_begins (take (suc n) order) both (shares (suc n) x.at order (x.step ∷ []) both x.later (subst (λ o. Begins o both) x.is (begins_so other both c)))
 
-  leaves_not : (other both : List ℕ) → begins (take (suc n) order) both ≡ true → IsLeft order n sessions other → begins other both ≡ true → ⊥
-  leaves_not other both p x c =
-      conflict n order both x.0 l (begins_so (take (suc n) order) both p) (begins_so (first_of order n x.0) both (subst (λ o. begins o both ≡ true) x.1 c)) x.2
+  leaves_not : n < length order → (other both : List Step) → begins (take (suc n) order) both ≡ true → IsLeft order n these other → begins other both ≡ true → ⊥
+  leaves_not i other both p x c =
+      conflict n order both x.0 i (begins_so (take (suc n) order) both p) (begins_so (first_of order n x.0) both (subst (λ o. begins o both ≡ true) x.1 c)) x.2
 
-  once : (both : List ℕ) → begun_by both (there ++ here) ≤ 1
-  once both = rw (begun_by-append both there here) (by (tested (begins (take (suc n) order) both)))
+  once : (both : List Step) → begun_by both (there ++ here) ≤ 1
+  once both = rw (begun_by-append both there here) (by (tested (begins (take (suc n) order) both)) (cases_le n (length order) l))
     where
       first : (x y : ℕ) → x ≤ 1 → y ≡ 0 → x + y ≤ 1
       first x y p q = omega arith
@@ -326,20 +443,30 @@ module _ (level n : ℕ) (order sessions : List ℕ) (there here : List (List �
       second : (x y m : ℕ) → x ≡ 0 → y ≤ m → m ≤ 1 → x + y ≤ 1
       second x y m p q r = omega arith
 
-      by : Tested (begins (take (suc n) order) both) → begun_by both there + begun_by both here ≤ 1
-      by (inl p) = first (begun_by both there) (begun_by both here) (a.once both) (begun_by-none both here (λ other c x. leaves_not other both p (b.each other c).0 x))
-      by (inr p) =
-          second (begun_by both there) (begun_by both here) (begun_by both (map (first_of order n) sessions))
-          (begun_by-none both there (λ other c x. false≢true (sym p ∙ shares other both (a.each other c).0 x))) (b.once both) (one_at_most n order both sessions g)
+      no : (o k : ℕ) → n ≡ o → suc n ≤ k → k ≤ o → ⊥
+      no o k p q r = omega arith
 
-  for_these : (other : List ℕ) → IsLeft order n (drop (suc n) order) other → IsLeft order n sessions other
-  for_these other x = (x.0, x.1, x.2, f x.0 ∙ comes_later n order x.0 l x.2 ∙ x.3)
+      here_alone : begun_by both there ≡ 0 → begun_by both there + begun_by both here ≤ 1
+      here_alone z = second (begun_by both there) (begun_by both here) (begun_by both (map (first_of order n) these)) z (b.once both) (one_at_most n order both these g)
 
-  pub others_more : AreOthers level n order (there ++ here) (beyond || cut)
-  others_more = record {
+      none_next : n ≡ length order → (other : List Step) → From (suc n) other → ⊥
+      none_next q other x = no (length order) x.at q x.later x.inside
+
+      less : (k : ℕ) → suc n ≤ k → n < k
+      less k p = omega arith
+
+      by : Tested (begins (take (suc n) order) both) → (n ≡ length order) ⊎ (suc n ≤ length order) → begun_by both there + begun_by both here ≤ 1
+      by t (inl q) = here_alone (begun_by-none both there (λ other c x. none_next q other (a.each other c).0))
+      by (inl p) (inr q) =
+          first (begun_by both there) (begun_by both here) (a.once both)
+          (begun_by-none both here (λ other c x. leaves_not (less (length order) q) other both p (b.each other c).0 x))
+      by (inr p) (inr q) = here_alone (begun_by-none both there (λ other c x. false≢true (sym p ∙ next_shares other both (a.each other c).0 x)))
+
+  beside_more : AreBeside may_kill level n order turns (there ++ here) (beyond || cut)
+  beside_more = record {
     each = each;
     once = once;
-    all = λ other o. all other (leaves_here n order other o);
+    all = λ other o. all other (beside_cases other o);
     more = λ p. more (tested beyond) p;
   }
     where
@@ -351,27 +478,28 @@ module _ (level n : ℕ) (order sessions : List ℕ) (there here : List (List �
       right true d p = refl
       right false d p = p
 
-      later : (other : List ℕ) → Contains there other ⊎ ((level < cost order other) × (beyond ≡ true)) →
+      later : (other : List Step) → Contains there other ⊎ ((level < cost order other) × (beyond ≡ true)) →
           Contains (there ++ here) other ⊎ ((level < cost order other) × ((beyond || cut) ≡ true))
       later other (inl c) = inl (Contains-append_left there here other c)
       later other (inr x) = inr (x.0, left beyond cut x.1)
 
-      now : (other : List ℕ) → Contains here other ⊎ ((level < cost order other) × (cut ≡ true)) →
+      now : (other : List Step) → Contains here other ⊎ ((level < cost order other) × (cut ≡ true)) →
           Contains (there ++ here) other ⊎ ((level < cost order other) × ((beyond || cut) ≡ true))
       now other (inl c) = inl (Contains-append_right there here other c)
       now other (inr x) = inr (x.0, right beyond cut x.1)
 
-      all : (other : List ℕ) → IsOther (suc n) order other ⊎ IsLeft order n (drop (suc n) order) other →
-          Contains (there ++ here) other ⊎ ((level < cost order other) × ((beyond || cut) ≡ true))
+      all : (other : List Step) → From (suc n) other ⊎ IsLeft order n these other → Contains (there ++ here) other ⊎ ((level < cost order other) × ((beyond || cut) ≡ true))
       all other (inl o) = later other (a.all other o)
-      all other (inr x) = now other (b.all other (for_these other x))
+      all other (inr x) = now other (b.all other x)
 
-      more : Tested beyond → (beyond || cut) ≡ true → (other : List ℕ) × IsOther n order other × (level < cost order other)
-      more (inl p) q = let x = a.more p in (x.0, other_fewer n order x.0 x.1, x.2)
-      more (inr p) q = let x = b.more (subst (λ c. (c || cut) ≡ true) p q) in (x.0, left_other x.0 x.1, x.2)
+      more : Tested beyond → (beyond || cut) ≡ true → (other : List Step) × From n other × (level < cost order other)
+      more (inl p) q = let x = a.more p in (x.0, next_beside x.0 x.1, x.2)
+      more (inr p) q = let x = b.more (subst (λ c. (c || cut) ≡ true) p q) in (x.0, left_beside x.0 x.1, x.2)
 
-pub others_added : (level n : ℕ) (order sessions : List ℕ) (there new : List (List ℕ)) (beyond new_beyond : Bool) → n < length order → ((s : ℕ) → comes s sessions ≡ comes s (drop n order)) →
-    ((s : ℕ) → count_of s sessions ≤ 1) → AreOthers level (suc n) order there beyond → AreLeft level n order sessions there beyond new new_beyond → AreOthers level n order new new_beyond
-others_added level n order sessions there new beyond new_beyond l f g a x =
-    subst (λ y. AreOthers level n order y new_beyond) (sym x.3)
-    (subst (λ y. AreOthers level n order (there ++ x.0) y) (sym x.4) (others_more level n order sessions there x.0 beyond x.1 l f g a x.2))
+pub beside_added : (may_kill : Bool) (level n : ℕ) (order : List Step) (turns : List Turn) (own kill : List Step) (first : Option ℕ) (left : ℕ) (there new : List (List Step))
+    (beyond new_beyond : Bool) → n ≤ length order → IsTail (drop n order) own first left → AreOpen may_kill order turns n kill → AreBeside may_kill level (suc n) order turns there beyond →
+    AreLeft level n order (own ++ kill) there beyond new new_beyond → AreBeside may_kill level n order turns new new_beyond
+beside_added may_kill level n order turns own kill first left there new beyond new_beyond l t k a x =
+    subst (λ y. AreBeside may_kill level n order turns y new_beyond) (sym x.3)
+    (subst (λ y. AreBeside may_kill level n order turns (there ++ x.0) y) (sym x.4)
+    (beside_more may_kill level n order turns (own ++ kill) there x.0 beyond x.1 l (all_come may_kill order turns n own kill t.all t.each k) (once_each may_kill order turns n own kill t.all t.each k) a x.2))

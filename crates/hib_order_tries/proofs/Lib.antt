@@ -1,6 +1,8 @@
 pub mod Tails
 pub mod Befores
+pub mod Opened
 pub mod Leaving
+pub mod Besides
 pub mod Counted
 pub mod Ended
 pub mod Counts

@@ -3,23 +3,27 @@ use Rattle.std.specs.Prelude.{◌≡◌, ◌+◌, ◌<◌, ◌≤◌, ◌==◌, 
 use Rattle.std.specs.List.{Contains}
 use Rattle.hib_base.specs.Tables.{Tables}
 use Rattle.hib_journal.specs.Types.{Script, Entry, Outcome}
-use Rattle.hib_order_law.specs.Orders.{IsRun, begins, sessions_in, switches}
+use Rattle.hib_order_law.specs.Orders.{IsRun, begins, is_unkilled, kills, steps_in, switches, turns_in}
 use Rattle.hib_order_law.specs.Search.{AreTried}
+use Rattle.hib_order_law.specs.declared.step.Step.{Step}
+use Rattle.hib_order_law.specs.declared.step.Turn.{Turn}
 use Rattle.hib_order_law.specs.declared.verdicts.Verdicts.{Verdicts}
 use Rattle.hib_order_tries.specs.declared.endings.Ending.{Ending}
 use Rattle.hib_order_tries.specs.declared.found.Found.{Found}
 use Rattle.hib_order_tries.specs.declared.found.Findings.{Findings}
 
--- a run was played that begins so; its order, what is judged of it, and how each session has ended
-abbrev pub IsPlayed : Script → Tables → (List Entry → Verdicts) → (List Entry → List Outcome) → List ℕ → List ℕ → Verdicts → List Outcome → Type 0
-IsPlayed script start judged ended begun order verdicts ending =
-    (es : List Entry) × IsRun script start es × (begins begun (sessions_in es) ≡ true) × (order ≡ sessions_in es) × (verdicts ≡ judged es) × (ending ≡ ended es)
+-- a run was played that begins so and kills no session after that; its order, what each step does to its session, what is judged of it, and
+-- how each session has ended
+abbrev pub IsPlayed : Script → Tables → (List Entry → Verdicts) → (List Entry → List Outcome) → List Step → List Step → List Turn → Verdicts → List Outcome → Type 0
+IsPlayed script start judged ended begun order turns verdicts ending =
+    (es : List Entry) × IsRun script start (kills begun) es × (begins begun (steps_in es) ≡ true) × (is_unkilled (length begun) (steps_in es) ≡ true)
+    × (order ≡ steps_in es) × (turns ≡ turns_in es) × (verdicts ≡ judged es) × (ending ≡ ended es)
 
 -- an order is that of a run that was tried and has something, and none of those that have it makes fewer switches
-abbrev pub IsFirst : (List Entry → Bool) → List (List Entry) → List ℕ → ℕ → Type 0
+abbrev pub IsFirst : (List Entry → Bool) → List (List Entry) → List Step → ℕ → Type 0
 IsFirst has runs order least =
-    (es : List Entry) × Contains runs es × (has es ≡ true) × (order ≡ sessions_in es) × (least ≡ switches order)
-    × ((ds : List Entry) → Contains runs ds → has ds ≡ true → least ≤ switches (sessions_in ds))
+    (es : List Entry) × Contains runs es × (has es ≡ true) × (order ≡ steps_in es) × (least ≡ switches order)
+    × ((ds : List Entry) → Contains runs ds → has ds ≡ true → least ≤ switches (steps_in ds))
 
 -- how many of the runs that were tried have something, and the first of them; none exactly if none has it
 pub record IsFound (has : List Entry → Bool) (runs : List (List Entry)) (found : Found) : Type 0 where
@@ -29,7 +33,7 @@ pub record IsFound (has : List Entry → Bool) (runs : List (List Entry)) (found
 
 -- how many of the runs that were tried make no switch, one, two and so on; none makes as many as there are numbers
 abbrev pub AreLevels : List (List Entry) → List ℕ → Type 0
-AreLevels runs levels = (k : ℕ) → slice_index_or levels k 0 ≡ count_by (λ es. switches (sessions_in es) == k) runs
+AreLevels runs levels = (k : ℕ) → slice_index_or levels k 0 ≡ count_by (λ es. switches (steps_in es) == k) runs
 
 -- the runs whose outcomes pass a test, by the endings that are told: the sum of their counts
 abbrev pub ended_so : (List Outcome → Bool) → List Ending → ℕ
@@ -57,11 +61,11 @@ pub record AreFindings (judged : List Entry → Verdicts) (ended : List Entry �
   pub refused_commit : IsFound (λ es. (judged es).refused_commit) runs findings.refused_commit
   pub unsound_key : IsFound (λ es. (judged es).unsound_key) runs findings.unsound_key
 
--- what a search tells: of some runs within the bound, each once, what they have come to. All within the bound are among them if it says so,
+-- what a search tells: of some runs within the bounds, each once, what they have come to. All within the bounds are among them if it says so,
 -- and else all with fewer switches than a number
-abbrev pub IsTold : Script → Tables → (List Entry → Verdicts) → (List Entry → List Outcome) → ℕ → Bool → ℕ → Findings → Type 0
-IsTold script start judged ended most whole level findings =
-    (runs : List (List Entry)) × AreTried script start most (cond whole (most + 1) level) runs × AreFindings judged ended runs findings
+abbrev pub IsTold : Script → Tables → (List Entry → Verdicts) → (List Entry → List Outcome) → ℕ → ℕ → Bool → ℕ → Findings → Type 0
+IsTold script start judged ended most_kills most whole level findings =
+    (runs : List (List Entry)) × AreTried script start most_kills most (cond whole (most + 1) level) runs × AreFindings judged ended runs findings
 
 -- nothing was counted more often than orders were tried
 pub record AreCounted (findings : Findings) : Type 0 where

@@ -1,24 +1,26 @@
 // The first steps of the other orders of one.
-ghost use Rattle.hib_order_law.specs.Orders.{comes, cost, switches};
-ghost use Rattle.hib_order_law.specs.Search.{AreOthers};
-ghost use Rattle.hib_order_tries.specs.Left.{AreLeft, IsAdded, IsBefore, cost_left, first_of};
+ghost use Rattle.hib_order_law.specs.Orders.{comes, cost, same_step, switches};
+ghost use Rattle.hib_order_law.specs.declared.step.Step.{Step};
+ghost use Rattle.hib_order_tries.specs.Left.{AreBeside, AreLeft, AreOpen, IsAdded, IsBefore, cost_left, first_of, is_at};
 ghost use Rattle.hib_order_tries.specs.Tail.{IsTail};
 ghost use Rattle.std.specs.Prelude.{◌≡◌, ◌++◌, ◌∷◌, ◌+◌, ◌<◌, ◌≤◌, ◌^◌, [], IfOk, OnOk, drop, false, length, map, take};
 
+use crate::openings::{kills_at, openings};
 use crate::tail::Tail;
+use hib_order_law::{Step, Turn};
 use std::alloc::{AllocError, Global};
 
 /// First steps of other orders of one.
 #[derive(Drop)]
 pub struct Beginnings {
     /// Those that cost no more switches than a level.
-    pub there: Vec<Vec<u32>>,
+    pub there: Vec<Vec<Step>>,
     /// Whether there are others, which cost more.
     pub beyond: bool,
 }
 
 /// How many switches an order makes.
-pub fn switches(alloc: Global, order: &[u32]) -> Result<usize, AllocError>
+pub fn switches(alloc: Global, order: &[Step]) -> Result<usize, AllocError>
     ensures { IfOk result (λ n. n ≡ switches order.now) }
 {
     let mut tail = Tail::new(alloc);
@@ -39,9 +41,9 @@ struct Before {
 
 impl Before {
     /// What the steps before a place of an order cost, of which the tail from that place on is known and how many switches it makes.
-    fn of(order: &[u32], at: usize, tail: &Tail, total: usize) -> Before
-        requires inside { at < length order.now }
-        requires tail { IsTail (drop at order.now) tail.now.sessions.items tail.now.first
+    fn of(order: &[Step], at: usize, tail: &Tail, total: usize) -> Before
+        requires inside { at ≤ length order.now }
+        requires tail { IsTail (drop at order.now) tail.now.steps.items tail.now.first
             tail.now.switches }
         requires total { total ≡ switches order.now }
         ensures before { IsBefore order.now at result.spent result.left }
@@ -53,7 +55,7 @@ impl Before {
                 left: None,
             };
         }
-        let session = order[at - 1];
+        let session = order[at - 1].session();
         let rest = if tail.leaves(session) {
             tail.switches + 1
         } else {
@@ -70,14 +72,14 @@ impl Before {
     }
 
     /// What they cost with one more step.
-    fn cost(&self, session: u32) -> usize
+    fn cost(&self, step: Step) -> usize
         requires { self.now.spent < 2 ^ 63 }
-        ensures { result ≡ self.now.spent + cost_left self.now.left session }
+        ensures { result ≡ self.now.spent + cost_left self.now.left step }
     {
         match self.left {
             None => self.spent,
             Some(left) => {
-                if left == session {
+                if step.session() == left {
                     self.spent
                 } else {
                     self.spent + 1
@@ -87,19 +89,45 @@ impl Before {
     }
 }
 
-/// The first steps of an order, and then one of another session.
+/// Whether two steps are one.
+fn same_step(one: Step, other: Step) -> bool
+    ensures { result ≡ same_step one other }
+{
+    match one {
+        Step::Own(session) => match other {
+            Step::Own(by) => session == by,
+            Step::Kill(_session) => false,
+        },
+        Step::Kill(session) => match other {
+            Step::Own(_session) => false,
+            Step::Kill(by) => session == by,
+        },
+    }
+}
+
+/// Whether a step is the one at a place of an order.
+fn is_at(order: &[Step], at: usize, step: Step) -> bool
+    ensures { result ≡ is_at order.now at step }
+{
+    match order.get(at) {
+        None => false,
+        Some(there) => same_step(*there, step),
+    }
+}
+
+/// The first steps of an order, and then another.
 fn first_steps(
     alloc: Global,
-    order: &[u32],
+    order: &[Step],
     at: usize,
-    session: u32,
-) -> Result<Vec<u32>, AllocError>
+    step: Step,
+) -> Result<Vec<Step>, AllocError>
     requires { at ≤ length order.now }
-    ensures { IfOk result (λ v. v.items ≡ first_of order.now at session) }
+    ensures { IfOk result (λ v. v.items ≡ first_of order.now at step) }
 {
     let mut steps = Vec::with_capacity(alloc, at + 1)?;
     steps.extend_from_slice(&order[..at])?;
-    steps.push(session)?;
+    steps.push(step)?;
     Ok(steps)
 }
 
@@ -114,78 +142,110 @@ impl Beginnings {
         }
     }
 
-    /// Adds those that leave an order at a place for a session. They are built if they cost no more switches than a level.
+    /// Adds those that leave an order at a place with a step. They are built if they cost no more switches than a level.
     fn add(
         &mut self,
         alloc: Global,
-        order: &[u32],
+        order: &[Step],
         at: usize,
-        session: u32,
+        step: Step,
         cost: usize,
         level: usize,
     ) -> Result<(), AllocError>
         requires { at ≤ length order.now }
-        ensures { OnOk result (IsAdded level cost (first_of order.now at session)
+        ensures { OnOk result (IsAdded level cost (first_of order.now at step)
             (map (λ v. v.items) self.old.there.items) self.old.beyond
             (map (λ v. v.items) self.new.there.items) self.new.beyond) }
     {
         if cost <= level {
-            self.there.push(first_steps(alloc, order, at, session)?)?;
+            self.there.push(first_steps(alloc, order, at, step)?)?;
         } else {
             self.beyond = true;
         }
         Ok(())
     }
 
-    /// Adds those that leave an order at a place for one of these sessions.
+    /// Adds those that leave an order at a place with one of these steps.
     fn add_at(
         &mut self,
         alloc: Global,
-        order: &[u32],
+        order: &[Step],
         at: usize,
-        sessions: &[u32],
+        these: &[Step],
         before: Before,
         level: usize,
     ) -> Result<(), AllocError>
-        requires inside { at < length order.now }
+        requires inside { at ≤ length order.now }
         requires before { IsBefore order.now at before.spent before.left }
         requires spent { before.spent < 2 ^ 63 }
-        ensures { OnOk result (AreLeft level at order.now sessions.now
+        ensures { OnOk result (AreLeft level at order.now these.now
             (map (λ v. v.items) self.old.there.items) self.old.beyond
             (map (λ v. v.items) self.new.there.items) self.new.beyond) }
     {
-        for place in 0..sessions.len() {
-            let session = sessions[place];
-            if session != order[at] {
-                self.add(alloc, order, at, session, before.cost(session), level)?;
+        for place in 0..these.len() {
+            let step = these[place];
+            if !is_at(order, at, step) {
+                self.add(alloc, order, at, step, before.cost(step), level)?;
             }
         }
         Ok(())
     }
+
+    /// Adds those that leave an order at a place, of which the tail from that place on is known, how many switches it makes, and which
+    /// kills may come there.
+    fn leave(
+        &mut self,
+        alloc: Global,
+        order: &[Step],
+        at: usize,
+        tail: &Tail,
+        kills: &[Step],
+        total: usize,
+        level: usize,
+    ) -> Result<(), AllocError>
+        requires inside { at ≤ length order.now }
+        requires tail { IsTail (drop at order.now) tail.now.steps.items tail.now.first
+            tail.now.switches }
+        requires total { total ≡ switches order.now }
+        ensures { OnOk result (AreLeft level at order.now (tail.now.steps.items ++ kills.now)
+            (map (λ v. v.items) self.old.there.items) self.old.beyond
+            (map (λ v. v.items) self.new.there.items) self.new.beyond) }
+    {
+        let before = Before::of(order, at, tail, total);
+        self.add_at(alloc, order, at, tail.steps(), before, level)?;
+        self.add_at(alloc, order, at, kills, before, level)
+    }
 }
 
 /// The first steps of the other orders of one that share so many steps at least, if they cost no more switches than a level; and whether
-/// there are others. `total` is how many switches the order makes. What is built is what is answered; beside that each step of the order
-/// takes as long as there are sessions.
+/// there are others. From there on the order kills no session. `turns` says what each of its steps does to its session, `may_kill`
+/// whether one more session may be killed, and `total` how many switches it makes. What is built is what is answered; beside that each
+/// step of the order takes as long as there are sessions, and if a session may be killed, the open ones are kept for each step.
 pub fn others(
     alloc: Global,
-    order: &[u32],
+    order: &[Step],
+    turns: &[Turn],
     from: usize,
+    may_kill: bool,
     total: usize,
     level: usize,
 ) -> Result<Beginnings, AllocError>
     requires from { from ≤ length order.now }
+    requires turns { length turns.now ≡ length order.now }
     requires total { total ≡ switches order.now }
-    ensures { IfOk result (λ o. AreOthers level from order.now (map (λ v. v.items) o.there.items)
-        o.beyond) }
+    ensures { IfOk result (λ o. AreBeside may_kill level from order.now turns.now
+        (map (λ v. v.items) o.there.items) o.beyond) }
 {
+    let openings = openings(alloc, order, turns, may_kill)?;
+    let kills = openings.as_slice();
     let mut found = Beginnings::new(alloc);
     let mut tail = Tail::new(alloc);
-    for gone in 0..order.len() - from {
-        let at = order.len() - 1 - gone;
+    let end = order.len();
+    found.leave(alloc, order, end, &tail, kills_at(kills, end), total, level)?;
+    for gone in 0..end - from {
+        let at = end - 1 - gone;
         tail.take(order[at])?;
-        let before = Before::of(order, at, &tail, total);
-        found.add_at(alloc, order, at, tail.sessions(), before, level)?;
+        found.leave(alloc, order, at, &tail, kills_at(kills, at), total, level)?;
     }
     Ok(found)
 }

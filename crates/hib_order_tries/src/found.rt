@@ -1,21 +1,21 @@
 // What the orders that were tried have come to.
 ghost use Rattle.hib_base.specs.declared.entries.Entry.{Entry};
 ghost use Rattle.hib_base.specs.declared.replies.Outcome.{Outcome};
-ghost use Rattle.hib_order_law.specs.Orders.{sessions_in, switches};
+ghost use Rattle.hib_order_law.specs.Orders.{steps_in, switches};
 ghost use Rattle.hib_order_tries.specs.Found.{AreCounted, AreFindings, IsBelow, IsFound};
 ghost use Rattle.hib_order_tries.specs.Amid.{AreJudged, IsJudged};
 ghost use Rattle.std.specs.Prelude.{◌≡◌, ◌∷◌, ◌<◌, ◌^◌, ◌-◌, ◌+◌, ◌==◌, ℕ, Bool, List, [], IfNone, IfSome, OnOk, cond, slice_index_or, true};
 
 use crate::endings::Endings;
 use crate::player::Played;
-use hib_order_law::Verdicts;
+use hib_order_law::{Step, Verdicts};
 use std::alloc::{AllocError, Global};
 
 /// An order that has something.
 #[derive(Drop)]
 pub struct First {
-    /// The session of each of its steps.
-    pub order: Vec<u32>,
+    /// Its steps.
+    pub order: Vec<Step>,
     /// How many of them leave a session that comes again later.
     pub switches: usize,
 }
@@ -55,7 +55,7 @@ impl Found {
         &mut self,
         alloc: Global,
         has: bool,
-        order: &[u32],
+        order: &[Step],
         total: usize,
     ) -> Result<(), AllocError>
         requires room { self.old.count < 2 ^ 64 - 1 }
@@ -140,7 +140,7 @@ impl Findings {
         &mut self,
         alloc: Global,
         verdicts: Verdicts,
-        order: &[u32],
+        order: &[Step],
         total: usize,
     ) -> Result<(), AllocError>
         requires room { self.old.tried < 2 ^ 64 - 1 }
@@ -169,7 +169,7 @@ impl Findings {
         ensures noted { OnOk result ((judged : List Entry → Verdicts)
             (ended : List Entry → List Outcome) (runs : List (List Entry)) (es : List Entry)
             → AreFindings judged ended runs self.old → run.verdicts ≡ judged es
-            → run.order.items ≡ sessions_in es → run.ending.items ≡ ended es
+            → run.order.items ≡ steps_in es → run.ending.items ≡ ended es
             → AreFindings judged ended (es ∷ runs) self.new) }
     {
         self.note_verdicts(alloc, run.verdicts, run.order.as_slice(), total)?;

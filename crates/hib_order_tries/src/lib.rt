@@ -1,10 +1,11 @@
-//! Tries each order of sessions within a number of switches, those with the fewest first, and says which of them end badly.
+//! Tries each order of sessions and kills within a number of switches, those with the fewest first, and says which of them end badly.
 #![tactic(auto)]
 
 mod beside;
 mod endings;
 mod found;
 mod laws;
+mod openings;
 mod player;
 mod tail;
 #[cfg(test)]

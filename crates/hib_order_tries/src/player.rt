@@ -8,14 +8,16 @@ ghost use Rattle.hib_order_tries.specs.Found.{IsPlayed};
 ghost use Rattle.std.specs.Prelude.{◌≡◌, List, [], IfOk, true};
 
 use hib_base::Outcome;
-use hib_order_law::Verdicts;
+use hib_order_law::{Step, Turn, Verdicts};
 use std::alloc::{AllocError, Global};
 
-/// A run that was played to the end of each session.
+/// A run that was played to the end of each session that isn't killed.
 #[derive(Drop)]
 pub struct Played {
-    /// The session of each step.
-    pub order: Vec<u32>,
+    /// Its steps.
+    pub order: Vec<Step>,
+    /// What each step does to its session.
+    pub turns: Vec<Turn>,
     /// What is judged of the run.
     pub verdicts: Verdicts,
     /// How each session has ended, by its number.
@@ -38,10 +40,11 @@ pub trait Player {
     /// How each session of a run has ended.
     ghost ended: { List Entry → List Outcome };
 
-    /// Plays a run that begins with these steps, to the end of each session. Each of the steps is due at its turn. Want of memory is
-    /// the only error; after it the player plays the next run as if this one had not been asked for.
-    fn play(&mut self, alloc: Global, begun: &[u32]) -> Result<Played, AllocError>
+    /// Plays a run that begins with these steps, to the end of each session that isn't killed; after these steps none is killed. Each of
+    /// the steps may come at its turn. Want of memory is the only error. After it the player may answer want of memory for ever; a run
+    /// that it does play is played as if this one had not been asked for.
+    fn play(&mut self, alloc: Global, begun: &[Step]) -> Result<Played, AllocError>
         requires { can_begin script start [] begun.now ≡ true }
         ensures { IfOk result (λ p. IsPlayed script start judged ended begun.now p.order.items
-            p.verdicts p.ending.items) };
+            p.turns.items p.verdicts p.ending.items) };
 }

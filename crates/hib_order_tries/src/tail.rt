@@ -1,15 +1,24 @@
 // What comes in an order from a place on.
-ghost use Rattle.hib_order_law.specs.Orders.{comes, leaves, switches};
+ghost use Rattle.hib_order_law.specs.Orders.{comes, leaves, switches, whose};
+ghost use Rattle.hib_order_law.specs.declared.step.Step.{Step};
 ghost use Rattle.hib_order_tries.specs.Tail.{IsTail};
 ghost use Rattle.std.specs.Prelude.{◌≡◌, ◌∷◌, ◌<◌, ◌≤◌, ◌^◌, ℕ, List, [], IfOk, IfNone, IfSome, OnOk, None, Some, length, drop};
 
+use hib_order_law::Step;
 use std::alloc::{AllocError, Global};
+
+/// Whether a step of a session is among these.
+pub fn is_among(steps: &[Step], session: u32) -> bool
+    ensures { result ≡ comes session steps.now }
+{
+    steps.iter().any(|step| step.session() == session)
+}
 
 /// What comes in an order from a place on.
 #[derive(Drop)]
 pub struct Tail {
-    /// The sessions that come, each once.
-    sessions: Vec<u32>,
+    /// A step of each session that comes.
+    steps: Vec<Step>,
     /// The session of the first step.
     first: Option<u32>,
     /// How many steps leave a session that comes again later.
@@ -19,33 +28,33 @@ pub struct Tail {
 impl Tail {
     /// The end of an order, where nothing comes.
     pub fn new(alloc: Global) -> Tail
-        ensures { IsTail [] result.sessions.items result.first result.switches }
+        ensures { IsTail [] result.steps.items result.first result.switches }
     {
         Tail {
-            sessions: Vec::new(alloc),
+            steps: Vec::new(alloc),
             first: None,
             switches: 0,
         }
     }
 
-    /// The sessions that come.
-    pub fn sessions(&self) -> &[u32]
-        ensures { result.now ≡ self.now.sessions.items }
+    /// A step of each session that comes.
+    pub fn steps(&self) -> &[Step]
+        ensures { result.now ≡ self.now.steps.items }
     {
-        self.sessions.as_slice()
+        self.steps.as_slice()
     }
 
     /// Whether a session comes.
     pub fn comes(&self, session: u32) -> bool
-        ensures { result ≡ comes session self.now.sessions.items }
+        ensures { result ≡ comes session self.now.steps.items }
     {
-        self.sessions.iter().any(|other| *other == session)
+        is_among(self.steps.as_slice(), session)
     }
 
     /// Whether the first step leaves this session: it is another session's, and this one comes later.
     pub fn leaves(&self, session: u32) -> bool
-        ensures { (steps : List ℕ)
-            → IsTail steps self.now.sessions.items self.now.first self.now.switches
+        ensures { (steps : List Step)
+            → IsTail steps self.now.steps.items self.now.first self.now.switches
             → result ≡ leaves session steps }
     {
         match self.first {
@@ -55,17 +64,18 @@ impl Tail {
     }
 
     /// Takes the step before these.
-    pub fn take(&mut self, session: u32) -> Result<(), AllocError>
+    pub fn take(&mut self, step: Step) -> Result<(), AllocError>
         requires { self.old.switches < 2 ^ 63 }
-        ensures { OnOk result ((steps : List ℕ)
-            → IsTail steps self.old.sessions.items self.old.first self.old.switches
-            → IsTail (session ∷ steps) self.new.sessions.items self.new.first self.new.switches) }
+        ensures { OnOk result ((steps : List Step)
+            → IsTail steps self.old.steps.items self.old.first self.old.switches
+            → IsTail (step ∷ steps) self.new.steps.items self.new.first self.new.switches) }
     {
+        let session = step.session();
         if self.leaves(session) {
             self.switches += 1;
         }
         if !self.comes(session) {
-            self.sessions.push(session)?;
+            self.steps.push(Step::Own(session))?;
         }
         self.first = Some(session);
         Ok(())

@@ -3,6 +3,7 @@ ghost use Rattle.hib_base.specs.Tables.{Tables};
 ghost use Rattle.hib_base.specs.declared.entries.Entry.{Entry};
 ghost use Rattle.hib_base.specs.declared.replies.Outcome.{Outcome};
 ghost use Rattle.hib_base.specs.declared.scripts.Script.{Script};
+ghost use Rattle.hib_order_law.specs.declared.step.Step.{Step};
 ghost use Rattle.hib_order_law.specs.declared.verdicts.Verdicts.{Verdicts};
 ghost use Rattle.hib_order_tries.specs.Amid.{IsAmid};
 ghost use Rattle.hib_order_tries.specs.Found.{AreCounted, IsPlayed, IsTold};
@@ -43,8 +44,9 @@ impl Progress {
         ensures counts { IfOk result (λ s. AreCounted s.findings) }
         ensures level { IfOk result (λ s. s.waiting.level ≡ 0) }
         ensures amid { IfOk result (λ s. (script : Script) (start : Tables)
-            (judged : List Entry → Verdicts) (ended : List Entry → List Outcome) (most : ℕ)
-            → IsAmid script start judged ended most s.waiting.level
+            (judged : List Entry → Verdicts) (ended : List Entry → List Outcome)
+            (most_kills most : ℕ)
+            → IsAmid script start judged ended most_kills most s.waiting.level
             (map (λ v. v.items) s.waiting.now.items) s.waiting.beyond s.findings) }
     {
         let waiting = Waiting::new(alloc)?;
@@ -54,16 +56,18 @@ impl Progress {
         })
     }
 
-    /// Takes a run that was played and begins with first steps that waited, so many. False if it is one more than may be tried: then
-    /// nothing has changed.
+    /// Takes a run that was played and begins with first steps that waited, so many; as many kills may come as the bound says. False if
+    /// it is one more than may be tried: then nothing has changed.
     pub fn take(
         &mut self,
         alloc: Global,
         run: Played,
         from: usize,
+        most_kills: usize,
         limit: u64,
     ) -> Result<bool, AllocError>
         requires from { from ≤ length run.order.items }
+        requires turns { length run.turns.items ≡ length run.order.items }
         requires counts { AreCounted self.old.findings }
         requires limit { self.old.findings.tried ≤ limit }
         ensures stopped { IfOk result (λ taken. taken ≡ false
@@ -73,11 +77,12 @@ impl Progress {
         ensures level { self.new.waiting.level ≡ self.old.waiting.level }
         ensures taken { IfOk result (λ taken. taken ≡ true → (script : Script) (start : Tables)
             (judged : List Entry → Verdicts) (ended : List Entry → List Outcome) (most : ℕ)
-            (begun : List ℕ) → IsAmid script start judged ended most self.old.waiting.level
+            (begun : List Step)
+            → IsAmid script start judged ended most_kills most self.old.waiting.level
             (map (λ v. v.items) self.old.waiting.now.items ++ begun ∷ []) self.old.waiting.beyond
             self.old.findings → IsPlayed script start judged ended begun run.order.items
-            run.verdicts run.ending.items → from ≡ length begun
-            → IsAmid script start judged ended most self.new.waiting.level
+            run.turns.items run.verdicts run.ending.items → from ≡ length begun
+            → IsAmid script start judged ended most_kills most self.new.waiting.level
             (map (λ v. v.items) self.new.waiting.now.items) self.new.waiting.beyond
             self.new.findings) }
     {
@@ -85,7 +90,8 @@ impl Progress {
         if total == self.waiting.level && self.findings.tried >= limit {
             return Ok(false);
         }
-        self.waiting.add(alloc, run.order.as_slice(), from, total)?;
+        let turns = run.turns.as_slice();
+        self.waiting.add(alloc, run.order.as_slice(), turns, from, most_kills, total)?;
         if total == self.waiting.level {
             self.findings.note(alloc, run, total)?;
         }
@@ -108,17 +114,18 @@ impl Progress {
     }
 }
 
-/// Tries the orders within a number of switches, those with the fewest first, each once, and so many of them at most: `limit`. All
-/// are tried unless there are more than that, or 2^64 - 1 runs were played. What is kept grows with the script and with the endings
-/// that are told, and not with the orders. An error is want of memory, and then nothing is told.
+/// Tries the orders within a number of switches and a number of kills, those with the fewest switches first, each once, and so many of
+/// them at most: `limit`. All are tried unless there are more than that, or 2^64 - 1 runs were played. What is kept grows with the script
+/// and with the endings that are told, and not with the orders. An error is want of memory, and then nothing is told.
 pub fn search<P: Player>(
     alloc: Global,
     player: &mut P,
+    most_kills: usize,
     most: usize,
     limit: u64,
 ) -> Result<Told, AllocError>
     ensures tried { IfOk result (λ t.
-        IsTold P.script P.start P.judged P.ended most t.whole t.level t.findings) }
+        IsTold P.script P.start P.judged P.ended most_kills most t.whole t.level t.findings) }
     ensures level { IfOk result (λ t. t.level ≤ most) }
     ensures limit { IfOk result (λ t. t.findings.tried ≤ limit) }
     ensures whole { IfOk result (λ t.
@@ -130,7 +137,7 @@ pub fn search<P: Player>(
             return Ok(progress.told(true, played));
         };
         let run = player.play(alloc, begun.as_slice())?;
-        if !progress.take(alloc, run, begun.len(), limit)? {
+        if !progress.take(alloc, run, begun.len(), most_kills, limit)? {
             return Ok(progress.told(false, played + 1));
         }
     }

@@ -15,12 +15,12 @@ returns-then-not-self-clause-none c =
     empty_ends (λ v. v.items) c.args.most c.args.self.now.level c.args.self.now.beyond c.args.self.now.now.items empty over
 
 pub returns-clause-some : goal.returns-clause-some
-returns-clause-some c = λ script start runs seen s.
+returns-clause-some c = λ script start most_kills runs seen s.
     let empty : c.args.self.now.now.items ≡ [] = none_taken c.args.self.now.now.items c.pop.new.self.items _ c.in_default.ensures.items c.in_default.ensures.cases.0 c.in_default.ensures.rest in
     let kept : c.pop.new.self.items ≡ [] = none_left c.args.self.now.now.items c.pop.new.self.items _ c.in_default.ensures.cases.0 c.in_default.ensures.rest in
     let none : List (List Entry) = [] in (
       none,
-      subst (λ x. IsSearch script start c.args.most (c.args.self.now.level + 1) runs none (map (λ v. v.items) x ++ c.new.result.items ∷ []) false) (sym kept)
-          (subst (λ x. IsSearch script start c.args.most (c.args.self.now.level + 1) runs none (x ∷ []) false) (sym c.new.ensures.items)
-          (empty_rises (λ v. v.items) c.args.most c.args.self.now.level c.args.self.now.beyond c.args.self.now.now.items empty c.if-self-most.false script start runs seen s)),
+      subst (λ x. IsSearch script start most_kills c.args.most (c.args.self.now.level + 1) runs none (map (λ v. v.items) x ++ c.new.result.items ∷ []) false) (sym kept)
+          (subst (λ x. IsSearch script start most_kills c.args.most (c.args.self.now.level + 1) runs none (x ∷ []) false) (sym c.new.ensures.items)
+          (empty_rises (λ v. v.items) c.args.most c.args.self.now.level c.args.self.now.beyond c.args.self.now.now.items empty c.if-self-most.false script start most_kills runs seen s)),
     )
