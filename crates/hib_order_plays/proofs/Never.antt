@@ -1,6 +1,6 @@
 -- A keeper of which no call is to fail.
 use Rattle.std.specs.Prelude.{Result, Ok, Err, ◌↔◌}
-use Rattle.std.proofs.Common.{◌≡◌, ◌≤◌, ℕ, true, List, [], sym, ap, ◌∙◌, arith}
+use Rattle.std.proofs.Common.{◌≡◌, ℕ, true, List, [], sym, ap, ◌∙◌, arith}
 use Rattle.std.proofs.lemmas.Bool.{false≢true}
 use Rattle.hib_outside.specs.Causes.{FailsByCause, is_due}
 use Rattle.hib_outside.specs.declared.keeper.KeepFault.{KeepFault}

@@ -1,7 +1,6 @@
 -- What a factory hands back of an undisturbed run is one.
-use Rattle.std.specs.Prelude.{length, slice_get, not, ◌&&◌, reverse, min, None}
-use Rattle.std.specs.List.{list_all}
-use Rattle.std.proofs.Common.{◌≡◌, ◌++◌, ◌<◌, ◌≤◌, ◌+◌, ◌-◌, ◌^◌, arith, ◌⊎◌, ℕ, Bool, true, false, inl, inr, List, [], ◌∷◌, Some, refl, sym, ap, ◌∙◌, subst}
+use Rattle.std.specs.Prelude.{length, slice_get, not, ◌&&◌, reverse, None}
+use Rattle.std.proofs.Common.{◌≡◌, ◌++◌, ◌<◌, ◌≤◌, arith, ◌⊎◌, ℕ, Bool, true, false, inl, inr, List, [], ◌∷◌, Some, refl, sym, ap, ◌∙◌, subst}
 use Rattle.std.proofs.lemmas.List.{append_assoc, append-nil}
 use Rattle.std.proofs.lemmas.Grind.{reverse_onto}
 use Rattle.std.proofs.lemmas.Option.{slice_get_past}
@@ -17,7 +16,7 @@ use Rattle.hib_journal.specs.Runs.{IsNumbered, fault_count}
 use Rattle.hib_journal.specs.Played.{has_next}
 use Rattle.hib_core.specs.Factory.{AreOver}
 use Rattle.hib_core.specs.Standing.{Origin, RoseBy}
-use Rattle.hib_order_law.specs.Orders.{IsRun, IsUndisturbed, begins, is_plain, is_unkilled, kills, onto, steps_in}
+use Rattle.hib_order_law.specs.Orders.{IsRun, IsUndisturbed, begins, is_unkilled, kills, onto, steps_in}
 use Rattle.hib_order_law.specs.declared.step.Step.{Step}
 use Rattle.hib_order_plays.proofs.Due.{kills_are}
 use Rattle.hib_order_plays.proofs.Steps.{plain_all}

@@ -1,7 +1,7 @@
 -- A journal of steps: what a step adds, and what sessions add.
 use Rattle.std.specs.Prelude.{not, ◌&&◌, ◌||◌, is_some, option_and_then}
 use Rattle.std.specs.List.{list_all}
-use Rattle.std.proofs.Common.{◌≡◌, ◌++◌, ◌+◌, ◌≤◌, ℕ, inl, inr, Bool, true, false, cond, List, [], ◌∷◌, Some, None, Option, refl, sym, ap, ◌∙◌, subst, arith}
+use Rattle.std.proofs.Common.{◌≡◌, ◌++◌, ◌≤◌, ℕ, inl, inr, Bool, true, false, cond, [], ◌∷◌, Some, None, Option, refl, sym, ap, ◌∙◌, subst, arith}
 use Rattle.std.proofs.lemmas.Bool.{false≢true, eqb-true}
 use Rattle.hib_base.specs.Tables.{Tables}
 use Rattle.hib_base.proofs.Tables.{Tested, tested}
@@ -133,23 +133,23 @@ module _ (script : Script) (start : Tables) where
       by (inr x) = let k : IsKilling script h e x.0 = x.1 in none_some (sym k.session ∙ is_some_session s e.session b)
 
   -- a step of a session was asked for and due
-  pub one_own : (s : ℕ) (old new : Journal) → Leads (play_steps script s 1) played old new → IsUndisturbed script start new → is_due script old (Step.Own s) ≡ true →
-      steps_in new ≡ Step.Own s ∷ steps_in old
-  one_own s old new w u d =
-      let has : has_next script old s ≡ true = due_has script s old d in
+  pub one_own : (t : Step) (s : ℕ) (old new : Journal) → t ≡ Step.Own s → Leads (play_steps script s 1) played old new → IsUndisturbed script start new →
+      is_due script old t ≡ true → steps_in new ≡ t ∷ steps_in old
+  one_own t s old new e w u d =
+      let has : has_next script old s ≡ true = due_has script s old (subst (λ x. is_due script old x ≡ true) e d) in
       let p : play_steps script s 1 old (w.added ++ []) ≡ Some (new, []) = w.plays [] in
       let q : option_and_then {U = Playing} (λ (p : Playing). Some (p.0, p.1)) (play_one (is_by s) old (w.added ++ [])) ≡ Some (new, []) = rw has at p in
       let x : (e : Entry) × (new ≡ e ∷ old) × (is_by s e ≡ true) = one_grown (is_by s) old new w.added (some_back (play_one (is_by s) old (w.added ++ [])) (new, []) q) in
-      ap steps_in x.1 ∙ ap (λ t. t ∷ steps_in old) (by_own x.0 old s (subst (IsUndisturbed script start) x.1 u) x.2)
+      ap steps_in x.1 ∙ ap (λ y. y ∷ steps_in old) (by_own x.0 old s (subst (IsUndisturbed script start) x.1 u) x.2 ∙ sym e)
 
   -- a kill was asked for and due
-  pub one_kill : (s : ℕ) (old new : Journal) → Leads (play_order script (Order.Kill s)) played old new → is_due script old (Step.Kill s) ≡ true →
-      steps_in new ≡ Step.Kill s ∷ steps_in old
-  one_kill s old new w d =
-      let stands : is_open s old ≡ true = due_open script s old d in
+  pub one_kill : (t : Step) (s : ℕ) (old new : Journal) → t ≡ Step.Kill s → Leads (play_order script (Order.Kill s)) played old new → is_due script old t ≡ true →
+      steps_in new ≡ t ∷ steps_in old
+  one_kill t s old new e w d =
+      let stands : is_open s old ≡ true = due_open script s old (subst (λ x. is_due script old x ≡ true) e d) in
       let p : play_order script (Order.Kill s) old (w.added ++ []) ≡ Some (new, []) = w.plays [] in
       let x : (e : Entry) × (new ≡ e ∷ old) × (is_kill s e.act ≡ true) = one_grown (λ e. is_kill s e.act) old new w.added (rw stands at p) in
-      ap steps_in x.1 ∙ ap (λ t. t ∷ steps_in old) (kill_is s x.0.session x.0.act x.2)
+      ap steps_in x.1 ∙ ap (λ y. y ∷ steps_in old) (kill_is s x.0.session x.0.act x.2 ∙ sym e)
 
   -- what sessions add kills none
   pub own_steps : (l h : Journal) → IsUndisturbed script start (l ++ h) → are_of_sessions l ≡ true → list_all (λ t. not (is_kill_step t)) (steps_in l) ≡ true

@@ -24,7 +24,7 @@ returns-in-Own-clause-steps g c =
 pub returns-in-Own-clause-made : goal.returns-in-Own-clause-made
 returns-in-Own-clause-made g c =
     on_ok_weaker c.run_steps.result
-    (λ w start. one_own g.N.Name.script start c.in-Own.session (past c.args.factory.now.journal) (past c.run_steps.new.self.journal) w)
+    (λ w start. one_own g.N.Name.script start c.args.step c.in-Own.session (past c.args.factory.now.journal) (past c.run_steps.new.self.journal) c.in-Own.is w)
     c.run_steps.ensures.played
 
 pub returns-in-Kill-clause-goes : goal.returns-in-Kill-clause-goes
@@ -42,5 +42,5 @@ returns-in-Kill-clause-steps g c =
 pub returns-in-Kill-clause-made : goal.returns-in-Kill-clause-made
 returns-in-Kill-clause-made g c =
     on_ok_weaker c.kill.result
-    (λ w start u. one_kill g.N.Name.script start c.in-Kill.session (past c.args.factory.now.journal) (past c.kill.new.self.journal) w)
+    (λ w start u. one_kill g.N.Name.script start c.args.step c.in-Kill.session (past c.args.factory.now.journal) (past c.kill.new.self.journal) c.in-Kill.is w)
     c.kill.ensures.obeyed.leads
