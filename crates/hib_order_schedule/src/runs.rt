@@ -100,25 +100,33 @@ mod tests {
         }
     }
 
-    /// The steps of these sessions.
-    fn own(alloc: Global, sessions: &[u32]) -> Result<Vec<Step>, AllocError> {
-        let mut steps = Vec::with_capacity(alloc, sessions.len())?;
-        for session in sessions {
-            steps.push(Step::Own(*session))?;
-        }
-        Ok(steps)
-    }
-
     #[test]
     fn a_tail_that_rises_is_left_out(rt: HostRuntime) -> Result<(), AllocError> {
         let alloc = rt.alloc();
-        let told = schedule_of(alloc, own(alloc, &[0, 0, 1, 1, 0])?.as_slice())?;
+        let back = [
+            Step::Own(0),
+            Step::Own(0),
+            Step::Own(1),
+            Step::Own(1),
+            Step::Own(0),
+        ];
+        let told = schedule_of(alloc, back.as_slice())?;
         assert!(rt; told.as_slice() == [run(0, 2), run(1, 2)].as_slice());
-        let told = schedule_of(alloc, own(alloc, &[2, 0, 0, 1, 2, 2])?.as_slice())?;
+        let first = [
+            Step::Own(2),
+            Step::Own(0),
+            Step::Own(0),
+            Step::Own(1),
+            Step::Own(2),
+            Step::Own(2),
+        ];
+        let told = schedule_of(alloc, first.as_slice())?;
         assert!(rt; told.as_slice() == [run(2, 1)].as_slice());
-        let told = schedule_of(alloc, own(alloc, &[1, 0, 2, 1])?.as_slice())?;
+        let between = [Step::Own(1), Step::Own(0), Step::Own(2), Step::Own(1)];
+        let told = schedule_of(alloc, between.as_slice())?;
         assert!(rt; told.as_slice() == [run(1, 1), run(0, 1), run(2, 1)].as_slice());
-        let told = schedule_of(alloc, own(alloc, &[0, 0, 0])?.as_slice())?;
+        let alone = [Step::Own(0), Step::Own(0), Step::Own(0)];
+        let told = schedule_of(alloc, alone.as_slice())?;
         assert!(rt; told.is_empty());
         let told = schedule_of(alloc, &[])?;
         assert!(rt; told.is_empty());
