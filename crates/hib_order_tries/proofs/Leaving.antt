@@ -16,8 +16,6 @@ use Rattle.hib_order_law.proofs.Tally.{Contains-none, begun_by-append, begun_by-
 use Rattle.hib_order_tries.specs.Tail.{AreKills, AreOwn, IsTail, count_of}
 use Rattle.hib_order_tries.specs.Left.{AreBeside, AreLeft, AreLeftBy, AreOpen, IsAdded, IsBeside, IsLeft, first_of, has_step, is_at, may_come, opens}
 
--- one place, step by step
-
 or_true : (a : Bool) → (a || (true || false)) ≡ true
 or_true true = refl
 or_true false = refl
@@ -239,8 +237,6 @@ module _ (level at : ℕ) (order : List Step) where
       or_assoc true b c = refl
       or_assoc false b c = refl
 
--- the steps that may come at a place
-
 abbrev pub count_step : Step → List Step → ℕ
 count_step t [] = 0
 count_step t (s ∷ ss) = cond (same_step s t) 1 0 + count_step t ss
@@ -298,8 +294,6 @@ module _ (may_kill : Bool) (order : List Step) (turns : List Turn) (at : ℕ) (o
     where
       sum : (n x y k : ℕ) → n ≡ x + y → y ≡ k → x ≡ 0 → k ≤ 1 → n ≤ 1
       sum n x y k p q r l = omega arith
-
--- all places from one on
 
 -- what shares a step doesn't leave there
 conflict : (n : ℕ) (order both : List Step) (t : Step) → n < length order → Begins (take (suc n) order) both → Begins (first_of order n t) both → is_at order n t ≡ false → ⊥
