@@ -1,2 +1,4 @@
-pub mod Calls
+pub mod Promises
+pub mod Ranges
+pub mod Repeats
 pub mod Tried

@@ -1,7 +1,7 @@
 -- The script whose schedule repeats a journal.
-use Rattle.std.specs.Prelude.{◌≡◌, ⊥, ℕ, Bool, true, false, not, ◌||◌, List, [], length, is_some, position, Some, None, Option}
+use Rattle.std.specs.Prelude.{◌≡◌, ℕ, Bool, true, false, not, ◌||◌, List, [], length, is_some, position, Some, None, Option}
 use Rattle.hib_base.specs.Tables.{Tables}
-use Rattle.hib_journal.specs.Types.{Script, Entry}
+use Rattle.hib_journal.specs.Types.{Script, Entry, Order}
 use Rattle.hib_journal.specs.Legal.{IsLegal}
 use Rattle.hib_journal.specs.Played.{is_played}
 use Rattle.hib_journal.specs.Runs.{IsNumbered, fault_count}
@@ -39,6 +39,12 @@ IsRepeated script es Repeatable.Long by =
 IsRepeated script es Repeatable.Whole by =
     (position is_foreign es ≡ None) × (may_be_schedule (length script.sessions) (runs_of (steps_in es)) ≡ true)
     × (by ≡ with_schedule script (runs_of (steps_in es))) × Repeats script es by
+
+-- the script with orders as its schedule, if it may have them
+abbrev pub IsScheduled : Script → List Order → Repeatable → Script → Type 0
+IsScheduled script os (Repeatable.Foreign n) by = ⊥
+IsScheduled script os Repeatable.Long by = (may_be_schedule (length script.sessions) os ≡ false) × (by ≡ script)
+IsScheduled script os Repeatable.Whole by = (may_be_schedule (length script.sessions) os ≡ true) × (by ≡ with_schedule script os)
 
 -- memory may run out before it is known
 abbrev pub StopsRepeating : Shared → Shared → Status → Option Repeated → Type 0

@@ -10,7 +10,7 @@ ghost use Rattle.hib_words.specs.declared.tools.Tool.{Tool};
 use crate::ended::{Ended, Said};
 use crate::flat::Flat;
 use crate::orders::{Explored, Orders, explore, is_any, is_there};
-use crate::repeat::{Repeat, Repeatable, Repeated, repeat};
+use crate::repeat::{Repeat, Repeatable, Repeated, repeat_run};
 use crate::report::{Report, as_read};
 use crate::rows::{Rows, list_rows};
 use crate::show::{Show, explore_for};
@@ -265,7 +265,7 @@ pub fn repeat_journal<S: Source, W: Sink, K: Keeper, L: Listener>(
         result.status result.said }
 {
     let Called { status, lent, run } = call(alloc, &Repeat, source, out, lent, |input, lent| {
-        repeat(alloc, input, lent)
+        repeat_run(alloc, input, lent)
     });
     Ended {
         said: said_of_repeat(&status, &run),

@@ -1,10 +1,44 @@
 // A journal as flat objects or columns.
+ghost use Rattle.std.specs.Prelude.{◌≡◌};
+ghost use Rattle.hib_call.specs.Ends.{IsWritten};
+ghost use Rattle.hib_flat.specs.Lines.{flat, flat_csv};
+ghost use Rattle.hib_outside.specs.Causes.{Rose};
+ghost use Rattle.hib_toolbox.specs.Reporting.{IsToldSo};
+
 use crate::report::{LIMIT, read_input};
 use hib_call::{InputFault, Status, Task};
 use hib_input::WithJournal;
 use hib_outside::Sink;
 use hib_report::WriteStop;
 use std::alloc::Global;
+
+/// Writes a journal as flat objects.
+fn tell_objects<W: Sink>(alloc: Global, run: &WithJournal, out: &mut W) -> Status
+    ensures told { IsWritten result (flat run.now.script run.now.journal.list) (W.taken out.old)
+        (W.taken out.new) }
+    ensures so { IsToldSo result }
+    ensures write { result ≡ Status.WriteFault → Rose (W.faults out.old) (W.faults out.new) }
+{
+    match hib_flat::write(alloc, &run.script, run.journal.as_slice(), out) {
+        Ok(()) => Status::Done,
+        Err(WriteStop::Failed) => Status::WriteFault,
+        Err(WriteStop::NoMemory) => Status::NoMemory,
+    }
+}
+
+/// Writes a journal as columns.
+fn tell_columns<W: Sink>(alloc: Global, run: &WithJournal, out: &mut W) -> Status
+    ensures told { IsWritten result (flat_csv run.now.script run.now.journal.list) (W.taken out.old)
+        (W.taken out.new) }
+    ensures so { IsToldSo result }
+    ensures write { result ≡ Status.WriteFault → Rose (W.faults out.old) (W.faults out.new) }
+{
+    match hib_flat::write_csv(alloc, &run.script, run.journal.as_slice(), out) {
+        Ok(()) => Status::Done,
+        Err(WriteStop::Failed) => Status::WriteFault,
+        Err(WriteStop::NoMemory) => Status::NoMemory,
+    }
+}
 
 /// Reads a script, the line `journal` and a journal as JSON lines, and writes the journal with a member for each thing. Nothing is run
 /// or judged.
@@ -35,15 +69,9 @@ impl Task for Flat {
     }
 
     fn tell<W: Sink>(&self, alloc: Global, run: &WithJournal, out: &mut W) -> Status {
-        let written = if self.csv {
-            hib_flat::write_csv(alloc, &run.script, run.journal.as_slice(), out)
-        } else {
-            hib_flat::write(alloc, &run.script, run.journal.as_slice(), out)
-        };
-        match written {
-            Ok(()) => Status::Done,
-            Err(WriteStop::Failed) => Status::WriteFault,
-            Err(WriteStop::NoMemory) => Status::NoMemory,
+        if self.csv {
+            return tell_columns(alloc, run, out);
         }
+        tell_objects(alloc, run, out)
     }
 }

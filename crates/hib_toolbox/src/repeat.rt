@@ -1,11 +1,13 @@
 // The script whose schedule repeats a journal.
-ghost use Rattle.std.specs.Prelude.{◌≡◌, position};
+ghost use Rattle.std.specs.Prelude.{◌≡◌, IfOk, position};
 ghost use Rattle.hib_call.specs.Ends.{Comes};
 ghost use Rattle.hib_call.specs.Outside.{Shared, shared_by};
-ghost use Rattle.hib_toolbox.specs.Repeating.{is_foreign, repeating};
+ghost use Rattle.hib_order_law.specs.Orders.{steps_in};
+ghost use Rattle.hib_order_schedule.specs.Schedules.{runs_of};
+ghost use Rattle.hib_toolbox.specs.Repeating.{IsScheduled, is_foreign, repeating};
 
 use crate::report::{LIMIT, read_input};
-use hib_base::{Act, Entry, Script, Seq};
+use hib_base::{Act, Entry, Order, Script, Seq};
 use hib_call::{InputFault, Lent, Outcome, Ran, Status, Task, tell_text};
 use hib_input::WithJournal;
 use hib_order_plays::order_of;
@@ -13,7 +15,7 @@ use hib_order_schedule::{
     may_have_schedule, runs_of, schedules_play_orders, whole_runs_come_again, with_schedule,
 };
 use hib_outside::{Keeper, Listener, Sink};
-use std::alloc::Global;
+use std::alloc::{AllocError, Global};
 
 /// Whether a schedule repeats a journal.
 #[derive(Clone, Copy, Debug, PartialEq, Eq)]
@@ -52,43 +54,54 @@ fn first_foreign(entries: &[Entry]) -> Option<usize>
     entries.iter().position(|entry| is_foreign(entry))
 }
 
-/// Puts the schedule that repeats a journal into its script, if one does. Nothing that is lent is touched. A journal of 2^32 entries or
-/// more is answered as want of memory.
-fn repeated(alloc: Global, input: WithJournal) -> Outcome<Repeated>
+/// All runs and kills of a journal. A journal of 2^32 entries or more is answered as want of memory.
+fn orders_of(alloc: Global, entries: &[Entry]) -> Result<Vec<Order>, AllocError>
+    ensures { IfOk result (λ v. v.items ≡ runs_of (steps_in entries.now)) }
+{
+    let order = order_of(alloc, entries)?;
+    if order.len() >= 4_294_967_296 {
+        return Err(AllocError);
+    }
+    runs_of(alloc, order.as_slice())
+}
+
+/// The script with these orders as its schedule, if it may have them.
+fn put_schedule(script: Script, orders: Vec<Order>) -> Repeated
+    ensures { IsScheduled script orders.items result.repeatable result.script }
+{
+    if !may_have_schedule(&script, orders.as_slice()) {
+        return Repeated {
+            script,
+            repeatable: Repeatable::Long,
+        };
+    }
+    Repeated {
+        script: with_schedule(script, Seq::from_vec(orders)),
+        repeatable: Repeatable::Whole,
+    }
+}
+
+/// Puts the schedule that repeats a journal into its script, if one does. Nothing that is lent is touched.
+fn make_schedule(alloc: Global, input: WithJournal) -> Outcome<Repeated>
     ensures { (lent : Shared) → Comes repeating input lent lent result }
 {
     schedules_play_orders();
     whole_runs_come_again();
     let WithJournal { script, journal } = input;
-    if let Some(entry) = first_foreign(journal.as_slice()) {
-        return Outcome::Over(Repeated {
+    match first_foreign(journal.as_slice()) {
+        Some(entry) => Outcome::Over(Repeated {
             script,
             repeatable: Repeatable::Foreign(entry),
-        });
+        }),
+        None => match orders_of(alloc, journal.as_slice()) {
+            Ok(orders) => Outcome::Over(put_schedule(script, orders)),
+            Err(_) => Outcome::Stopped(Status::NoMemory, None),
+        },
     }
-    let Ok(order) = order_of(alloc, journal.as_slice()) else {
-        return Outcome::Stopped(Status::NoMemory, None);
-    };
-    if order.len() >= 4_294_967_296 {
-        return Outcome::Stopped(Status::NoMemory, None);
-    }
-    let Ok(runs) = runs_of(alloc, order.as_slice()) else {
-        return Outcome::Stopped(Status::NoMemory, None);
-    };
-    if !may_have_schedule(&script, runs.as_slice()) {
-        return Outcome::Over(Repeated {
-            script,
-            repeatable: Repeatable::Long,
-        });
-    }
-    Outcome::Over(Repeated {
-        script: with_schedule(script, Seq::from_vec(runs)),
-        repeatable: Repeatable::Whole,
-    })
 }
 
 /// Puts the schedule that repeats a journal into its script, if one does, and hands back what is lent as it is.
-pub fn repeat<K: Keeper, L: Listener>(
+pub fn repeat_run<K: Keeper, L: Listener>(
     alloc: Global,
     input: WithJournal,
     lent: Lent<K, L>,
@@ -99,7 +112,7 @@ pub fn repeat<K: Keeper, L: Listener>(
         result.lent.listeners.items)
         result.outcome }
 {
-    let outcome = repeated(alloc, input);
+    let outcome = make_schedule(alloc, input);
     Ran { outcome, lent }
 }
 

@@ -13,29 +13,39 @@ use hib_call::{InputFault, Lent, Outcome, Ran, Status, Task, tell_text};
 use hib_outside::{KeepFault, Keeper, Listener, Sink};
 use std::alloc::{AllocError, Global};
 
-/// So many entities, from the first. More than 65,536 are answered as want of memory.
-fn entities(alloc: Global, count: usize) -> Result<Vec<EntityNo>, AllocError>
+/// So many entities, from the first.
+#[tactic(auto, using(crate::proofs::Ranges::one_more, crate::proofs::Ranges::none_left))]
+fn entities(alloc: Global, count: u16) -> Result<Vec<EntityNo>, AllocError>
     ensures { IfOk result (λ v. v.items ≡ range_with_len 0 count) }
 {
-    let mut entities = Vec::with_capacity(alloc, count)?;
+    let mut entities = Vec::new(alloc);
     for entity in 0..count {
-        let Ok(entity) = u16::try_from(entity) else {
-            return Err(AllocError);
-        };
         entities.push(EntityNo(entity))?;
     }
     Ok(entities)
 }
 
-/// All rows that a keeper has of so many entities.
+/// All rows that a keeper has of so many entities. More than 65,535 are answered as want of memory.
 fn listed<K: Keeper>(alloc: Global, keeper: &mut K, count: usize) -> Result<AllRows, KeepFault>
     ensures rows { IfOk result (λ rows. IfSome (K.tables keeper.old)
         (λ m. rows ≡ rows_of (range_with_len 0 count) m)) }
     ensures same { K.tables keeper.new ≡ K.tables keeper.old }
     ensures cause { FailsByCause (K.faults keeper.old) (K.faults keeper.new) result }
 {
+    let Ok(count) = u16::try_from(count) else {
+        return Err(KeepFault::NoMemory);
+    };
     let entities = entities(alloc, count)?;
     keeper.list(alloc, entities.as_slice())
+}
+
+/// The script with other rows.
+fn with_rows(script: Script, rows: AllRows) -> Script
+    ensures { result ≡ record script { rows = rows } }
+{
+    let mut script = script;
+    script.rows = rows;
+    script
 }
 
 /// Asks a keeper for all rows of a script's entities, and puts them in the place of the script's.
@@ -50,17 +60,17 @@ pub fn list_rows<K: Keeper, L: Listener>(
         result.lent.listeners.items)
         result.outcome }
 {
-    let mut lent = lent;
-    let mut script = script;
-    let outcome = match listed(alloc, &mut lent.keeper, script.mapping.len()) {
-        Ok(rows) => {
-            script.rows = rows;
-            Outcome::Over(script)
-        }
+    let Lent { keeper, listeners } = lent;
+    let mut keeper = keeper;
+    let outcome = match listed(alloc, &mut keeper, script.mapping.len()) {
+        Ok(rows) => Outcome::Over(with_rows(script, rows)),
         Err(KeepFault::NoMemory) => Outcome::Stopped(Status::NoMemory, None),
         Err(KeepFault::Failed) => Outcome::Stopped(Status::StoreFault, None),
     };
-    Ran { outcome, lent }
+    Ran {
+        outcome,
+        lent: Lent { keeper, listeners },
+    }
 }
 
 /// Reads a script, asks a keeper for the rows of its entities and writes them as lines of the script.

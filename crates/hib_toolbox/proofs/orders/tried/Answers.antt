@@ -5,7 +5,7 @@ use Rattle.hib_toolbox.proofs.Tried.{first_told, none_told}
 use Rattle.hib_toolbox.proofs.orders.tried.Goals as goal
 
 pub returns-in-Ok : goal.returns-in-Ok
-returns-in-Ok c = λ lent. (
+returns-in-Ok g c = λ lent. (
   record {
     of = c.in-Ok.ensures.script;
     told = c.in-Ok.ensures.tried;
