@@ -56,7 +56,7 @@ fn turn_by(all: Option<&u32>, made: usize) -> Turn {
         Some(all) => {
             if made == 0 {
                 Turn::Opens
-            } else if made as u64 + 1 == u64::from(*all) {
+            } else if (*all as usize).checked_sub(1) == Some(made) {
                 Turn::Closes
             } else {
                 Turn::GoesOn

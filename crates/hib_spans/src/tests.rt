@@ -59,39 +59,57 @@ fn entry(tick: u64, session: Option<SessionNo>, part: Part, act: Act, reply: Rep
     }
 }
 
-/// Session a locks a key and gives it back, b is killed.
-fn journal(alloc: Global) -> Result<Journal, AllocError> {
-    let mut journal = Journal::open(alloc);
-    let began = Reply::Began { floor: Tick(1) };
-    journal.push(entry(1, A, Part::Registry, Act::Begin, began))?;
-    let locked = Locked {
-        id: Tick(2),
-        until: Tick(12),
-        evicted: None,
-    };
+fn began(tick: u64, session: Option<SessionNo>) -> Entry {
+    let reply = Reply::Began { floor: Tick(1) };
+    entry(tick, session, Part::Registry, Act::Begin, reply)
+}
+
+fn locked() -> Entry {
     let lock = Act::Lock {
         key: KEY,
         version: None,
         floor: Tick(1),
     };
-    let region = Part::Region(EntityNo(0));
-    journal.push(entry(2, A, region, lock, Reply::Locked(locked)))?;
-    let began = Reply::Began { floor: Tick(1) };
-    journal.push(entry(3, B, Part::Registry, Act::Begin, began))?;
+    let reply = Reply::Locked(Locked {
+        id: Tick(2),
+        until: Tick(12),
+        evicted: None,
+    });
+    entry(2, A, Part::Region(EntityNo(0)), lock, reply)
+}
+
+fn killed() -> Entry {
     let kill = Act::Kill {
         session: SessionNo(1),
     };
-    journal.push(entry(4, None, Part::Registry, kill, Reply::Done))?;
+    entry(4, None, Part::Registry, kill, Reply::Done)
+}
+
+fn unlocked() -> Entry {
     let unlock = Act::Unlock {
         key: KEY,
         lock: Tick(2),
     };
-    let released = Reply::Unlocked(Unlocked::Released { holders: 0 });
-    journal.push(entry(5, A, region, unlock, released))?;
-    let ended = Reply::Ended {
+    let reply = Reply::Unlocked(Unlocked::Released { holders: 0 });
+    entry(5, A, Part::Region(EntityNo(0)), unlock, reply)
+}
+
+fn ended() -> Entry {
+    let reply = Reply::Ended {
         outcome: Outcome::RolledBack,
     };
-    journal.push(entry(6, A, Part::Registry, Act::End, ended))?;
+    entry(6, A, Part::Registry, Act::End, reply)
+}
+
+/// Session a locks a key and gives it back, b is killed.
+fn journal(alloc: Global) -> Result<Journal, AllocError> {
+    let mut journal = Journal::open(alloc);
+    journal.push(began(1, A))?;
+    journal.push(locked())?;
+    journal.push(began(3, B))?;
+    journal.push(killed())?;
+    journal.push(unlocked())?;
+    journal.push(ended())?;
     Ok(journal)
 }
 
