@@ -59,29 +59,37 @@ fn serve<K: Keeper>(rt: &HostRuntime, words: &[String], keeper: K) -> Ended<K, R
     tools(rt.alloc(), words, &mut source, &mut sink, lent, shown)
 }
 
-/// Says on standard error what there is to say beside the text, and gives the status's number.
+/// Says on standard error what there is to say, and gives the status's number.
 fn code_of(rt: &HostRuntime, status: Status, said: Said) -> ExitCode {
-    match said {
-        Said::Nothing => told(rt, rt.alloc(), status),
-        Said::Found => ExitCode::from(1),
-        Said::Missing => {
-            let _ = eprint!(rt; "hib: there is no such finding\n");
-            ExitCode::from(1)
-        }
-        Said::Foreign(place) => {
-            let entry = place.saturating_add(1);
-            let _ = eprint!(rt;
-                "hib: no schedule repeats entry {entry}, which is no session's own step\n"
-            );
-            ExitCode::from(1)
-        }
-        Said::Long => {
-            let _ = eprint!(rt;
-                "hib: the schedule has more than 20000 lines, or one of more than 1000000 steps\n"
-            );
-            ExitCode::from(1)
-        }
+    if let Said::Nothing = said {
+        return told(rt, rt.alloc(), status);
     }
+    say(rt, said);
+    ExitCode::from(1)
+}
+
+/// Says what there is to say of a call that is done.
+fn say(rt: &HostRuntime, said: Said) {
+    match said {
+        Said::Nothing | Said::Found => {}
+        Said::Missing => say_text(rt, "hib: there is no such finding\n"),
+        Said::Foreign(place) => say_foreign(rt, place),
+        Said::Long => say_text(
+            rt,
+            "hib: the schedule has too many lines, or too long ones\n",
+        ),
+    }
+}
+
+/// Prints a text on standard error. That nobody may be listening there changes nothing.
+fn say_text(rt: &HostRuntime, text: &str) {
+    let _ = eprint!(rt; "{text}");
+}
+
+/// Says which entry no schedule repeats.
+fn say_foreign(rt: &HostRuntime, place: usize) {
+    let entry = place.saturating_add(1);
+    let _ = eprint!(rt; "hib: no schedule repeats entry {entry}, an eviction or a restart\n");
 }
 
 /// Prints what is asked for on standard output, and answers how that ended.
