@@ -9,3 +9,5 @@ pub mod Queries
 pub mod Scripts
 pub mod Valid
 pub mod Kinds
+pub mod Items
+pub mod Sets

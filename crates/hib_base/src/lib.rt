@@ -9,6 +9,7 @@ mod replies;
 mod rows;
 mod scripts;
 mod seq;
+mod shared;
 mod widening;
 
 pub use entries::{Act, Entry, Part};
@@ -20,7 +21,7 @@ pub use replies::{
 };
 pub use rows::{
     Bytes, Cell, Cells, Change, Changes, Listing, Names, Row, Rows, Sets, Text, copy_cells,
-    copy_names, copy_sets,
+    copy_names, copy_sets, owned_cells, set_cells,
 };
 pub use scripts::{
     ColumnDef, ColumnType, Columns, Cond, EntityDef, Mapping, Mode, Node, Op, Order, Orders, Path,
@@ -28,6 +29,7 @@ pub use scripts::{
     Strategy, Target, is_cached, strategy_of,
 };
 pub use seq::Seq;
+pub use shared::Shared;
 pub use widening::{entity_columns, has_defaults, is_narrow, widened_cells};
 
 /// Acts that are due one after another.

@@ -1,10 +1,13 @@
 // Cells, rows and changes.
-ghost use Rattle.std.specs.Prelude.{◌≡◌, IfOk, option_copied};
+ghost use Rattle.std.specs.Prelude.{◌≡◌, IfOk, IfErr, OnOk, OnErr, option_copied, set};
+ghost use Rattle.hib_base.specs.Sets.{with_cells};
 ghost use Rattle.hib_base.specs.Tables.{key_of, row_left};
 
 use crate::numbers::{EntityNo, Key};
 use crate::seq::Seq;
+use crate::shared::Shared;
 use std::alloc::{AllocError, Global};
+use std::sync::Arc;
 
 /// Bytes, as they are read or written.
 pub type Bytes = Seq<u8>;
@@ -24,10 +27,10 @@ pub enum Cell {
 }
 
 /// The cells of a row, one for each column.
-pub type Cells = Seq<Cell>;
+pub type Cells = Shared<Cell>;
 
 /// What a query answers.
-pub type Listing = Seq<Cell>;
+pub type Listing = Shared<Cell>;
 
 /// A row of an entity.
 #[derive(Drop, PartialEq, Eq)]
@@ -78,15 +81,74 @@ pub type Sets = Seq<(u16, Cell)>;
 /// Entities, by number.
 pub type Names = Seq<EntityNo>;
 
-/// An equal list of cells. Fails for want of memory alone.
+/// Copies of cells, in a vector of their own. Fails for want of memory alone.
+pub fn owned_cells(alloc: Global, cells: &[Cell]) -> Result<Vec<Cell>, AllocError>
+    ensures { IfOk result (λ c. c.items ≡ cells.now) }
+{
+    let mut copy = Vec::with_capacity(alloc, cells.len())?;
+    for cell in cells {
+        copy.push(cell.copy(alloc)?)?;
+    }
+    Ok(copy)
+}
+
+/// An equal list of cells: the same one, which takes no memory, unless it has as many owners as can be counted. Fails for
+/// want of memory alone.
 pub fn copy_cells(alloc: Global, cells: &Cells) -> Result<Cells, AllocError>
     ensures { IfOk result (λ c. c ≡ cells.now) }
 {
-    let mut copy = Vec::with_capacity(alloc, cells.len())?;
-    for cell in cells.as_slice() {
-        copy.push(cell.copy(alloc)?)?;
+    match cells.share() {
+        Ok(copy) => Ok(copy),
+        Err(_) => Shared::from_vec(owned_cells(alloc, cells.as_slice())?),
     }
-    Ok(Seq::from_vec(copy))
+}
+
+fn put_cell(cells: &mut [Cell], place: usize, cell: Cell)
+    ensures { cells.new ≡ set cells.old place cell }
+{
+    if place < cells.len() {
+        cells[place] = cell;
+    }
+}
+
+fn put_cells(cells: &mut [Cell], sets: Sets)
+    ensures { cells.new ≡ with_cells sets cells.old }
+{
+    for (place, cell) in sets.into_vec() {
+        put_cell(cells, place as usize, cell);
+    }
+}
+
+/// Sets cells of a list that has one owner. Of another list the sets are handed back.
+fn set_alone(cells: &mut Cells, sets: Sets) -> Result<(), Sets>
+    ensures ok { OnOk result (cells.new ≡ with_cells sets cells.old) }
+    ensures err { OnErr result (cells.new ≡ cells.old) }
+    ensures same { IfErr result (λ s. s ≡ sets) }
+{
+    match Arc::get_mut(&mut cells.items) {
+        Some(list) => {
+            put_cells(list, sets);
+            Ok(())
+        }
+        None => Err(sets),
+    }
+}
+
+/// Sets cells; a place that isn't there is passed over. It takes memory if the list has other owners, for whom it stays
+/// as it is. At an error nothing has changed.
+pub fn set_cells(alloc: Global, cells: &mut Cells, sets: Sets) -> Result<(), AllocError>
+    ensures ok { OnOk result (cells.new ≡ with_cells sets cells.old) }
+    ensures err { OnErr result (cells.new ≡ cells.old) }
+{
+    match set_alone(cells, sets) {
+        Ok(()) => Ok(()),
+        Err(sets) => {
+            let mut copy = owned_cells(alloc, cells.as_slice())?;
+            put_cells(&mut copy, sets);
+            *cells = Shared::from_vec(copy)?;
+            Ok(())
+        }
+    }
 }
 
 /// An equal list of sets. Fails for want of memory alone.

@@ -5,7 +5,7 @@ ghost use Rattle.hib_base.specs.Fits as fits;
 ghost use Rattle.hib_base.specs.Start as start;
 
 use crate::numbers::EntityNo;
-use crate::rows::{Cells, Row, copy_cells};
+use crate::rows::{Cell, Cells, Row, copy_cells, owned_cells};
 use crate::scripts::{ColumnDef, EntityDef};
 use std::alloc::{AllocError, Global};
 
@@ -46,18 +46,23 @@ pub fn is_narrow(columns: &[ColumnDef], cells: &Cells) -> bool
 }
 
 /// Adds the default of a column at the end of cells, if it has one.
-fn add_default(alloc: Global, cells: &mut Cells, column: &ColumnDef) -> Result<(), AllocError>
-    ensures { OnOk result (cells.new ≡ cells.old ++ start.before_default column.now.default []) }
+fn add_default(alloc: Global, cells: &mut Vec<Cell>, column: &ColumnDef) -> Result<(), AllocError>
+    ensures { OnOk result (cells.new.items
+        ≡ cells.old.items ++ start.before_default column.now.default []) }
 {
-    match &column.default {
-        Some(cell) => cells.push(cell.copy(alloc)?),
-        None => Ok(()),
+    if let Some(cell) = &column.default {
+        cells.push(cell.copy(alloc)?)?;
     }
+    Ok(())
 }
 
 /// Adds the defaults of columns at the end of cells.
-fn add_defaults(alloc: Global, cells: &mut Cells, columns: &[ColumnDef]) -> Result<(), AllocError>
-    ensures { OnOk result (cells.new ≡ cells.old ++ start.defaults_of columns.now) }
+fn add_defaults(
+    alloc: Global,
+    cells: &mut Vec<Cell>,
+    columns: &[ColumnDef],
+) -> Result<(), AllocError>
+    ensures { OnOk result (cells.new.items ≡ cells.old.items ++ start.defaults_of columns.now) }
 {
     for column in columns {
         add_default(alloc, cells, column)?;
@@ -74,11 +79,12 @@ pub fn widened_cells(
 ) -> Result<Cells, AllocError>
     ensures { IfOk result (λ c. c ≡ start.widened_cells columns.now cells.now) }
 {
-    let mut wide = copy_cells(alloc, cells)?;
-    if is_narrow(columns, cells) {
-        add_defaults(alloc, &mut wide, &columns[cells.len()..])?;
+    if !is_narrow(columns, cells) {
+        return copy_cells(alloc, cells);
     }
-    Ok(wide)
+    let mut wide = owned_cells(alloc, cells.as_slice())?;
+    add_defaults(alloc, &mut wide, &columns[cells.len()..])?;
+    Cells::from_vec(wide)
 }
 
 impl Row {

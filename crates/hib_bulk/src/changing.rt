@@ -1,9 +1,9 @@
 // What a line makes of the rows that it finds.
-ghost use Rattle.std.specs.Prelude.{◌≡◌, set, map, IfOk, OnOk};
-ghost use Rattle.hib_journal.specs.Held.{next_version, with_cells};
+ghost use Rattle.std.specs.Prelude.{◌≡◌, map, IfOk};
+ghost use Rattle.hib_journal.specs.Held.{next_version};
 ghost use Rattle.hib_bulk_law.specs.Rows.{row_after, change_to};
 
-use hib_base::{Cell, Change, Changes, Key, Row, Seq, copy_cells};
+use hib_base::{Change, Changes, Key, Row, Seq, copy_cells, copy_sets, set_cells};
 use hib_bulk_law::{BulkChange, BulkDef};
 use std::alloc::{AllocError, Global};
 
@@ -18,25 +18,6 @@ fn version_after(version: Option<u32>) -> Option<u32>
     }
 }
 
-fn set_cell(cells: &mut [Cell], place: usize, cell: Cell)
-    ensures { cells.new ≡ set cells.old place cell }
-{
-    if place < cells.len() {
-        cells[place] = cell;
-    }
-}
-
-/// Sets copies of cells; a place that the row doesn't have is passed over.
-fn set_cells(alloc: Global, cells: &mut [Cell], sets: &[(u16, Cell)]) -> Result<(), AllocError>
-    ensures { OnOk result (cells.new ≡ with_cells sets.now cells.old) }
-{
-    for pair in sets {
-        let cell = pair.1.copy(alloc)?;
-        set_cell(cells, pair.0 as usize, cell);
-    }
-    Ok(())
-}
-
 /// A row's change by a line: an update to the row with the cells set and the next version, or a delete.
 fn change_of(alloc: Global, change: &BulkChange, key: Key, row: &Row) -> Result<Change, AllocError>
     ensures { IfOk result (λ c. c
@@ -44,14 +25,14 @@ fn change_of(alloc: Global, change: &BulkChange, key: Key, row: &Row) -> Result<
 {
     match change {
         BulkChange::Set(sets) => {
-            let mut cells = copy_cells(alloc, &row.cells)?.into_vec();
-            set_cells(alloc, &mut cells, sets.as_slice())?;
+            let mut cells = copy_cells(alloc, &row.cells)?;
+            set_cells(alloc, &mut cells, copy_sets(alloc, sets)?)?;
             Ok(Change::Update {
                 key,
                 expected: row.version,
                 row: Row {
                     version: version_after(row.version),
-                    cells: Seq::from_vec(cells),
+                    cells,
                 },
             })
         }

@@ -54,7 +54,7 @@ fn left(alloc: Global, region: &mut RwRegion) -> Result<u64, AllocError> {
         let now = Tick(KEYS + id);
         let row = Row {
             version: None,
-            cells: Cells::new(alloc),
+            cells: Cells::from_vec(Vec::new(alloc))?,
         };
         if region.put(id, row, now, now, now)? != stored {
             left = left.saturating_add(1);

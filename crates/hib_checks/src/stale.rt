@@ -1,5 +1,5 @@
 // Commits that meet another version, by direct calls of the store: sessions that act one after the other meet none.
-use hib_base::{Cell, Change, Commit, EntityNo, Key, Mapping, Row, Rows, Seq, SessionNo};
+use hib_base::{Cell, Cells, Change, Commit, EntityNo, Key, Mapping, Row, Rows, Seq, SessionNo};
 use hib_outside::MemKeeper;
 use hib_store::Store;
 use std::alloc::{AllocError, Global};
@@ -14,11 +14,11 @@ fn key(id: u64) -> Key {
 }
 
 fn row(alloc: Global, version: u32) -> Result<Row, AllocError> {
-    let mut cells = Seq::new(alloc);
+    let mut cells = Vec::new(alloc);
     cells.push(Cell::Int(3))?;
     Ok(Row {
         version: Some(version),
-        cells,
+        cells: Cells::from_vec(cells)?,
     })
 }
 

@@ -7,7 +7,7 @@ use crate::clauses::{
     step_sorting,
 };
 use crate::terms::{step_condition, step_operand, step_operands, step_operator, step_subject};
-use hib_base::{Cells, EntityDef, EntityNo, Node, Op, Select, Seq, Sorts, Text};
+use hib_base::{Cell, EntityDef, EntityNo, Node, Op, Select, Seq, Sorts, Text};
 use hib_columns::Column;
 use hib_lex::{Token, is_the_word};
 use hib_mapping::{entity_number, is_word, word, word_bytes};
@@ -66,7 +66,7 @@ pub enum Place {
     /// With the cell that a column is compared with.
     Operand(Op, Option<Column>),
     /// With one more cell of `in`, or its end.
-    Operands(Option<Column>, Cells),
+    Operands(Option<Column>, Seq<Cell>),
     /// With a clause after `where`.
     Clauses,
     /// With the first column of an order.

@@ -234,7 +234,7 @@ pub fn step_operands(
     form: Form,
     frames: Frames,
     column: Option<Column>,
-    cells: Cells,
+    cells: Seq<Cell>,
     token: &Token,
 ) -> Result<Option<Draft>, AllocError>
     ensures { IfOk result (λ d. d ≡ lines.step_operands form frames column cells token.now) }
@@ -249,7 +249,7 @@ fn among(
     form: Form,
     frames: Frames,
     column: Option<Column>,
-    cells: Cells,
+    cells: Seq<Cell>,
 ) -> Result<Option<Draft>, AllocError>
     ensures { IfOk result (λ d. d ≡ lines.among form frames column cells) }
 {
@@ -270,13 +270,13 @@ fn is_none_of(cells: &[Cell]) -> bool
     }
 }
 
-fn with_among(mut form: Form, column: Option<Column>, cells: Cells) -> Result<Form, AllocError>
+fn with_among(mut form: Form, column: Option<Column>, cells: Seq<Cell>) -> Result<Form, AllocError>
     ensures { IfOk result (λ f. f ≡ lines.with_among form column cells) }
 {
     form.deep = form.deep || cells.len() > MOST_CELLS;
     form.nodes.push(Node::Among {
         path: path_or_first(column),
-        cells,
+        cells: Cells::from_vec(cells.into_vec())?,
     })?;
     Ok(form)
 }
@@ -285,7 +285,7 @@ fn one_more(
     form: Form,
     frames: Frames,
     column: Option<Column>,
-    cells: Cells,
+    cells: Seq<Cell>,
     cell: Option<Cell>,
 ) -> Result<Option<Draft>, AllocError>
     ensures { IfOk result (λ d. d ≡ lines.one_more form frames column cells cell) }
@@ -300,7 +300,7 @@ fn with_operand(
     mut form: Form,
     frames: Frames,
     column: Option<Column>,
-    mut cells: Cells,
+    mut cells: Seq<Cell>,
     cell: Cell,
 ) -> Result<Option<Draft>, AllocError>
     ensures { IfOk result (λ d. d ≡ lines.with_operand form frames column cells cell) }

@@ -84,14 +84,14 @@ pub fn cells_at(alloc: Global, bytes: &[u8]) -> Result<(Cells, &[u8]), AllocErro
     let mut rest = bytes;
     for _ in 0..bytes.len() {
         match cell_at(alloc, after_one(rest))? {
-            None => return Ok((Seq::from_vec(cells), rest)),
+            None => return Ok((Cells::from_vec(cells)?, rest)),
             Some((cell, after)) => {
                 cells.push(cell)?;
                 rest = after;
             }
         }
     }
-    Ok((Seq::from_vec(cells), rest))
+    Ok((Cells::from_vec(cells)?, rest))
 }
 
 /// The row after a space, and what follows it. Fails for want of memory alone.

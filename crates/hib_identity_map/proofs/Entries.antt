@@ -50,6 +50,15 @@ change_same k f (p ∷ ps) h e = by (same_key k p.0) e (λ x. change_same k f ps
 pub changed : (k : Key) (i : ℕ) (f : Held → Held) (ps : Pairs) (h : Held) → position (same_key k) (keys_of ps) ≡ Some i → slice_get (values_of ps) i ≡ Some h → set_value_at ps i (f h) ≡ change_in k f ps
 changed k i f ps h at is = written k i ps (f h) at ∙ change_same k f ps h ((Found-position (same_key k) ps i at).value ∙ is)
 
+-- nothing changes if the instance stays as it is
+pub kept_same : (k : Key) (ps : Pairs) → change_in k (λ h. h) ps ≡ ps
+kept_same k [] = refl
+kept_same k (p ∷ ps) = by (same_key k p.0) (kept_same k ps)
+  where
+    by : (b : Bool) → change_in k (λ h. h) ps ≡ ps → cond b ((p.0, p.1) ∷ ps) (p ∷ change_in k (λ h. h) ps) ≡ p ∷ ps
+    by true e = refl
+    by false e = ap (λ xs. p ∷ xs) e
+
 absent_same : (k : Key) (f : Held → Held) (ps : Pairs) → is_some (lookup (same_key k) ps) ≡ false → change_in k f ps ≡ ps
 absent_same k f [] e = refl
 absent_same k f (p ∷ ps) e = by (same_key k p.0) e (λ x. absent_same k f ps x)
@@ -62,8 +71,3 @@ absent_same k f (p ∷ ps) e = by (same_key k p.0) e (λ x. absent_same k f ps x
 -- nothing changes if the key is not there
 pub unchanged : (k : Key) (f : Held → Held) (ps : Pairs) → false ≡ is_some (lookup (same_key k) ps) → ps ≡ change_in k f ps
 unchanged k f ps e = sym (absent_same k f ps (sym e))
-
--- one more cell
-pub cells_more : (sets : List (ℕ × Cell)) (p : ℕ × Cell) (cells : List Cell) → with_cells (sets ++ p ∷ []) cells ≡ set (with_cells sets cells) p.0 p.1
-cells_more [] p cells = refl
-cells_more (q ∷ sets) p cells = cells_more sets p (set cells q.0 q.1)

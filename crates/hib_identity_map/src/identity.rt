@@ -90,12 +90,14 @@ impl IdentityMap {
         base_at(&mut self.entries, key, base);
     }
 
-    /// Sets cells of the instance of a key, if there is one. It takes no memory.
-    pub fn set_cells(&mut self, alloc: Global, key: Key, sets: Sets)
-        ensures { self.new ≡ record self.old
-            { held = change_in key (with_sets sets) self.old.held } }
+    /// Sets cells of the instance of a key, if there is one. It takes memory if others share the cells. At an error nothing
+    /// has changed.
+    pub fn set_cells(&mut self, alloc: Global, key: Key, sets: Sets) -> Result<(), AllocError>
+        ensures ok { OnOk result (self.new
+            ≡ record self.old { held = change_in key (with_sets sets) self.old.held }) }
+        ensures err { OnErr result (self.new ≡ self.old) }
     {
-        cells_at(alloc, &mut self.entries, key, sets);
+        cells_at(alloc, &mut self.entries, key, sets)
     }
 
     /// Marks the instance of a key, if there is one, as removed. It takes no memory.
@@ -225,14 +227,21 @@ fn base_at(entries: &mut IndexMap<Key, Held>, key: Key, base: Row)
     set_base(held, base);
 }
 
-fn cells_at(alloc: Global, entries: &mut IndexMap<Key, Held>, key: Key, sets: Sets)
-    ensures { entries.new.entries ≡ change_in key (with_sets sets) entries.old.entries }
+fn cells_at(
+    alloc: Global,
+    entries: &mut IndexMap<Key, Held>,
+    key: Key,
+    sets: Sets,
+) -> Result<(), AllocError>
+    ensures ok { OnOk result (entries.new.entries
+        ≡ change_in key (with_sets sets) entries.old.entries) }
+    ensures err { OnErr result (entries.new.entries ≡ entries.old.entries) }
 {
     let Some(index) = entries.get_index_of(&key) else {
-        return;
+        return Ok(());
     };
     let held = &mut entries[index];
-    set_cells(alloc, held, sets);
+    set_cells(alloc, held, sets)
 }
 
 fn mark_at(entries: &mut IndexMap<Key, Held>, key: Key)

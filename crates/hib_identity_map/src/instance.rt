@@ -1,11 +1,9 @@
 // What becomes of one instance.
-ghost use Rattle.std.specs.Prelude.{◌≡◌, set};
+ghost use Rattle.std.specs.Prelude.{◌≡◌, OnOk, OnErr};
 ghost use Rattle.hib_identity_map.specs.Identity.{state_written, written, as_removed, with_sets};
-ghost use Rattle.hib_journal.specs.Held.{with_cells};
 
-use hib_base::{Cell, Held, Row, Seq, Sets, State};
-use std::alloc::Global;
-use std::mem;
+use hib_base::{Held, Row, Sets, State};
+use std::alloc::{AllocError, Global};
 
 fn after_write(state: State) -> State
     ensures { result ≡ state_written state }
@@ -32,27 +30,11 @@ pub fn mark(held: &mut Held)
     held.state = State::Removed;
 }
 
-fn put_cell(cells: &mut [Cell], place: usize, cell: Cell)
-    ensures { cells.new ≡ set cells.old place cell }
+/// Sets cells of an instance's row; a place that the row doesn't have is passed over. It takes memory if others share
+/// the cells. At an error nothing has changed.
+pub fn set_cells(alloc: Global, held: &mut Held, sets: Sets) -> Result<(), AllocError>
+    ensures ok { OnOk result (held.new ≡ with_sets sets held.old) }
+    ensures err { OnErr result (held.new ≡ held.old) }
 {
-    if place < cells.len() {
-        cells[place] = cell;
-    }
-}
-
-fn put_cells(cells: &mut [Cell], sets: Sets)
-    ensures { cells.new ≡ with_cells sets cells.old }
-{
-    for (place, cell) in sets.into_vec() {
-        put_cell(cells, place as usize, cell);
-    }
-}
-
-/// Sets cells of an instance's row; a place that the row doesn't have is passed over.
-pub fn set_cells(alloc: Global, held: &mut Held, sets: Sets)
-    ensures { held.new ≡ with_sets sets held.old }
-{
-    let mut cells = mem::replace(&mut held.row.cells, Seq::new(alloc)).into_vec();
-    put_cells(&mut cells, sets);
-    held.row.cells = Seq::from_vec(cells);
+    hib_base::set_cells(alloc, &mut held.row.cells, sets)
 }

@@ -4,6 +4,7 @@ use Rattle.std.specs.Option.{option_map_or, option_or}
 use Rattle.std.specs.List.{filter, list_any, filter_map}
 use Rattle.hib_journal.specs.Types.{Key, Row, Cell, Change, Commit, State, Act, Reply, Entry}
 use Rattle.hib_base.specs.Keys.{same_key}
+pub use Rattle.hib_base.specs.Sets.{with_cells}
 use Rattle.hib_journal.specs.Query.{same_cell}
 use Rattle.hib_journal.specs.Sessions.{Journal}
 
@@ -89,10 +90,6 @@ last_written k (e ∷ m) = option_or (row_written k e.act) (last_written k m)
 abbrev pub base_of : Key → Stay → Option Row
 base_of k (Arrival.Read j r, m) = option_or (last_written k m) (Some r)
 base_of k (Arrival.Made j r, m) = last_written k m
-
-abbrev pub with_cells : List (ℕ × Cell) → List Cell → List Cell
-with_cells [] cs = cs
-with_cells (p ∷ ps) cs = with_cells ps (set cs p.0 p.1)
 
 abbrev pub cells_after : Key → Act → Reply → List Cell → List Cell
 cells_after k (Act.Set j ps) Reply.Set cs = cond (same_key j k) (with_cells ps cs) cs

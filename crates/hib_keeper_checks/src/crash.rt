@@ -1,5 +1,5 @@
 // A disk that stops at a call. Step by step a keeper is given rows, the disk stops, and is opened again.
-use hib_base::{Cell, Change, EntityNo, Key, Mapping, Row, Seq};
+use hib_base::{Cell, Cells, Change, EntityNo, Key, Mapping, Row, Seq};
 use hib_keeper_sqlite::adopt;
 use hib_outside::{Applied, Keeper};
 use sqlite::{Connection, Files, Options};
@@ -20,11 +20,11 @@ fn key(id: u64) -> Key {
 }
 
 fn row(alloc: Global, step: i64) -> Option<Row> {
-    let mut cells = Seq::new(alloc);
+    let mut cells = Vec::new(alloc);
     cells.push(Cell::Int(step)).ok()?;
     Some(Row {
         version: None,
-        cells,
+        cells: Cells::from_vec(cells).ok()?,
     })
 }
 

@@ -5,7 +5,7 @@ ghost use Rattle.hib_make.specs.Rows.{key, numbered, row, number, truth, author_
 
 use crate::draws::Draws;
 use crate::entities::{AUTHOR, BOOK, CUSTOMER, SHELF};
-use hib_base::{Cell, EntityNo, Key, Row, Rows, Seq, Text};
+use hib_base::{Cell, Cells, EntityNo, Key, Row, Rows, Seq, Text};
 use std::alloc::{AllocError, Global};
 
 /// A word and a number after it.
@@ -42,14 +42,19 @@ pub fn truth(answer: u32) -> Cell
     Cell::Bool(answer == 1)
 }
 
-fn row(entity: EntityNo, id: u32, version: Option<u32>, cells: Vec<Cell>) -> (Key, Row)
-    ensures { result ≡ row entity id version cells.items }
+fn row(
+    entity: EntityNo,
+    id: u32,
+    version: Option<u32>,
+    cells: Vec<Cell>,
+) -> Result<(Key, Row), AllocError>
+    ensures { IfOk result (λ r. r ≡ row entity id version cells.items) }
 {
     let row = Row {
         version,
-        cells: Seq::from_vec(cells),
+        cells: Cells::from_vec(cells)?,
     };
-    (key(entity, id), row)
+    Ok((key(entity, id), row))
 }
 
 fn push_author(
@@ -64,7 +69,7 @@ fn push_author(
 {
     let name = numbered(alloc, b"author ", place)?;
     let cells = vec![in alloc; Cell::Text(name)]?;
-    rows.push(row(AUTHOR, place, None, cells))?;
+    rows.push(row(AUTHOR, place, None, cells)?)?;
     Ok(())
 }
 
@@ -88,7 +93,7 @@ fn push_book(
         number(stock),
         number(100 + price),
     ]?;
-    rows.push(row(BOOK, place, Some(0), cells))?;
+    rows.push(row(BOOK, place, Some(0), cells)?)?;
     Ok(())
 }
 
@@ -105,7 +110,7 @@ fn push_customer(
     let name = numbered(alloc, b"customer ", place)?;
     let credit = draws.draw(1000);
     let cells = vec![in alloc; Cell::Text(name), number(1000 + credit)]?;
-    rows.push(row(CUSTOMER, place, Some(0), cells))?;
+    rows.push(row(CUSTOMER, place, Some(0), cells)?)?;
     Ok(())
 }
 
@@ -122,7 +127,7 @@ fn push_shelf(
     let label = numbered(alloc, b"shelf ", place)?;
     let full = draws.draw(2);
     let cells = vec![in alloc; Cell::Text(label), truth(full)]?;
-    rows.push(row(SHELF, place, None, cells))?;
+    rows.push(row(SHELF, place, None, cells)?)?;
     Ok(())
 }
 

@@ -7,7 +7,8 @@ use crate::draws::Draws;
 use crate::entities::{BOOK, CUSTOMER, ORDER, SHELF};
 use crate::rows::{key, number, numbered, truth};
 use hib_base::{
-    Cell, EntityNo, Key, Order, Orders, QueryNo, Seq, SessionDef, SessionNo, Sessions, Statement,
+    Cell, Cells, EntityNo, Key, Order, Orders, QueryNo, Seq, SessionDef, SessionNo, Sessions,
+    Statement,
 };
 use std::alloc::{AllocError, Global};
 
@@ -110,7 +111,7 @@ fn push_placed(
     let cells = vec![in alloc; number(1 + customer), number(1 + book), number(1 + amount)]?;
     statements.push(Statement::Persist {
         key: key(ORDER, 1000 * session + place),
-        cells: Seq::from_vec(cells),
+        cells: Cells::from_vec(cells)?,
     })?;
     Ok(())
 }

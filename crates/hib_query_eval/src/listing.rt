@@ -8,7 +8,7 @@ ghost use Rattle.hib_query_eval.specs.Enough.{enough, is_enough, is_listed, firs
 
 use crate::view::View;
 use crate::{conditions, orders};
-use hib_base::{Cell, Key, Listing, Query, Row, Rows, Select, Seq};
+use hib_base::{Cell, Key, Listing, Query, Row, Rows, Select};
 use std::alloc::{AllocError, Global};
 
 /// What a query gives over rows in order of keys: of the rows of its entity that meet its condition the count; or
@@ -134,22 +134,22 @@ fn cut<'a, 'b>(rows: &'a [&'b (Key, Row)], offset: u32, limit: u32) -> &'a [&'b 
 fn count(alloc: Global, rows: usize) -> Result<Listing, AllocError>
     ensures { rows < 2 ^ 63 → IfOk result (λ l. l ≡ Cell.Int (pos rows) ∷ []) }
 {
-    let mut list = Seq::new(alloc);
+    let mut list = Vec::new(alloc);
     list.push(Cell::Int(i64::try_from(rows).unwrap_or(i64::MAX)))?;
-    Ok(list)
+    Listing::from_vec(list)
 }
 
 fn identifiers(alloc: Global, rows: &[&(Key, Row)]) -> Result<Listing, AllocError>
     ensures { IfOk result (λ l. l ≡ map (λ a. Cell.Int (pos a.now.0.id)) rows.now) }
 {
-    let mut list = Seq::new(alloc);
+    let mut list = Vec::new(alloc);
     for row in rows {
         let Ok(id) = i64::try_from(row.0.id) else {
             return Err(AllocError);
         };
         list.push(Cell::Int(id))?;
     }
-    Ok(list)
+    Listing::from_vec(list)
 }
 
 /// The cells of a column.
@@ -157,11 +157,11 @@ fn cells_of(alloc: Global, column: u16, rows: &[&(Key, Row)]) -> Result<Listing,
     ensures { IfOk result (λ l. l ≡ map
         (λ a. unwrap_or (slice_get a.now.1.cells column) (Cell.Bool false)) rows.now) }
 {
-    let mut list = Seq::new(alloc);
+    let mut list = Vec::new(alloc);
     for row in rows {
         list.push(cell_of(alloc, column, &row.1)?)?;
     }
-    Ok(list)
+    Listing::from_vec(list)
 }
 
 /// A row's cell of a column; false stands for one that is missing.

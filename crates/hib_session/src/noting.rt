@@ -235,8 +235,7 @@ impl Memory {
         ensures err { OnErr result (self.new ≡ self.old) }
     {
         let sets = copy_sets(alloc, sets)?;
-        self.instances.set_cells(alloc, *key, sets);
-        Ok(())
+        self.instances.set_cells(alloc, *key, sets)
     }
 
     /// A lock was given.

@@ -133,7 +133,8 @@ pub fn unpack(alloc: Global, body: &[u8]) -> Result<Option<Cells>, AllocError>
         }
     }
     if at == body.len() {
-        Ok(Some(Seq::from_vec(cells)))
+        let list = Cells::from_vec(cells)?;
+        Ok(Some(list))
     } else {
         Ok(None)
     }

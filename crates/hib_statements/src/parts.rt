@@ -47,14 +47,14 @@ fn size(token: &Token) -> u64
 pub fn cells(alloc: Global, tokens: &[Token]) -> Result<Option<Cells>, AllocError>
     ensures { IfOk result (λ c. c ≡ parts.cells_of tokens.now) }
 {
-    let mut cells = Seq::new(alloc);
+    let mut cells = Vec::new(alloc);
     for token in tokens {
         match cell(alloc, token)? {
             Some(cell) => cells.push(cell)?,
             None => return Ok(None),
         }
     }
-    Ok(Some(cells))
+    Ok(Some(Cells::from_vec(cells)?))
 }
 
 /// Whether each cell has the type of its column.

@@ -19,9 +19,9 @@ loop-done-preserved c =
           (goes_on c.args.body.now (slice_index_or c.args.body.now 0 0 - (c.loop-done._done + 1)) _ c.loop-done.at c.in-Some.size c.loop-done.cells.items c.in-Some.cell _ (omega arith) it.1 c.loop-done.invariant.cells);
     }
 
-pub returns-then-at-body-clause-cells : goal.returns-then-at-body-clause-cells
-returns-then-at-body-clause-cells c =
-    ap (λ cs. Some cs) c.from_vec.ensures ∙ sym (ends c.args.body.now _ c.loop-done.at c.loop-done.cells.items _ (omega arith) (drop_all c.loop-done.at c.args.body.now (omega arith)) c.loop-done.invariant.cells)
+pub returns-in_ok-list-clause-cells : goal.returns-in_ok-list-clause-cells
+returns-in_ok-list-clause-cells c =
+    ap (λ cs. Some cs) c.in_ok-list.ensures ∙ sym (ends c.args.body.now _ c.loop-done.at c.loop-done.cells.items _ (omega arith) (drop_all c.loop-done.at c.args.body.now (omega arith)) c.loop-done.invariant.cells)
 
 pub returns-else-at-body-clause-cells : goal.returns-else-at-body-clause-cells
 returns-else-at-body-clause-cells c =
@@ -30,11 +30,11 @@ returns-else-at-body-clause-cells c =
 pub returns-in-None-clause-exactly : goal.returns-in-None-clause-exactly
 returns-in-None-clause-exactly c = gives_exactly None c.args.body.now c.type_inv.body (returns-in-None-clause-cells c)
 
-pub returns-then-at-body-clause-exactly : goal.returns-then-at-body-clause-exactly
-returns-then-at-body-clause-exactly c = gives_exactly (Some c.from_vec.result) c.args.body.now c.type_inv.body (returns-then-at-body-clause-cells c)
+pub returns-in_ok-list-clause-exactly : goal.returns-in_ok-list-clause-exactly
+returns-in_ok-list-clause-exactly c = gives_exactly (Some c.in_ok-list.list) c.args.body.now c.type_inv.body (returns-in_ok-list-clause-cells c)
 
-pub returns-then-at-body-clause-back : goal.returns-then-at-body-clause-back
-returns-then-at-body-clause-back c = gives_back (Some c.from_vec.result) c.args.body.now c.type_inv.body (returns-then-at-body-clause-cells c)
+pub returns-in_ok-list-clause-back : goal.returns-in_ok-list-clause-back
+returns-in_ok-list-clause-back c = gives_back (Some c.in_ok-list.list) c.args.body.now c.type_inv.body (returns-in_ok-list-clause-cells c)
 
 pub returns-else-at-body-clause-exactly : goal.returns-else-at-body-clause-exactly
 returns-else-at-body-clause-exactly c = gives_exactly None c.args.body.now c.type_inv.body (returns-else-at-body-clause-cells c)

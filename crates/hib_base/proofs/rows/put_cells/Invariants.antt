@@ -1,6 +1,6 @@
 use Rattle.std.proofs.Common.{◌≡◌}
-use Rattle.hib_journal.specs.Held.{with_cells}
-use Rattle.hib_identity_map.proofs.instance.put_cells.Given as goal
+use Rattle.hib_base.specs.Sets.{with_cells}
+use Rattle.hib_base.proofs.rows.put_cells.Given as goal
 
 -- the cells so far are set
 abbrev pub invariant-loop-place : goal.invariant-loop-place
