@@ -2,9 +2,12 @@
 use Rattle.std.specs.Option.{option_map_or}
 use Rattle.std.proofs.Common.{◌≡◌, ℕ, suc, ◌+◌, ◌*◌, ◌≤◌, ◌<◌, ◌==◌, Bool, true, false, cond, List, [], ◌∷◌, length, slice_get, IsSome, Some, None, Option, refl, sym, ap, ◌∙◌, subst, arith, inl, inr}
 use Rattle.std.proofs.lemmas.Bool.{false≢true, eqb-true, eqb-false}
-use Rattle.std.proofs.lemmas.Nat.{mul-le}
+use Rattle.std.proofs.lemmas.List.Sums.{sum_by-cons}
+use Rattle.hib_base.specs.Scripts.{statement_count}
 use Rattle.hib_base.specs.Tables.{Tables}
+use Rattle.hib_base.specs.Valid.{is_valid}
 use Rattle.hib_base.proofs.Tables.{Tested, tested}
+use Rattle.hib_base.proofs.Valid.{Rules, rules}
 use Rattle.hib_journal.specs.Types.{SessionDef, Script, Act, Reply, Entry}
 use Rattle.hib_journal.specs.Sessions.{Journal, own, is_by, was_killed}
 use Rattle.hib_journal.specs.Plan.{InOrder}
@@ -93,17 +96,27 @@ run_few o f script told h l =
 
 -- within the limits of a script
 
-most_more : (n : ℕ) → n ≤ 5000 → most_entries n ≤ 500300030000
-most_more n l =
-    let i : n * (4 * n) ≤ 5000 * 20000 = mul-le n (4 * n) 5000 20000 l (omega (arith, l)) in
-    mul-le n (n * (4 * n) + 12 * n + 6) 5000 100060006 l (omega (arith, i, l))
+most_sum : (ds : List SessionDef) → most_in ds ≡ 5 * statement_count ds + length ds
+most_sum [] = omega arith
+most_sum (d ∷ ds) =
+    let i = most_sum ds in
+    let c : statement_count (d ∷ ds) ≡ length d.statements + statement_count ds = sum_by-cons (λ (y : SessionDef). length y.statements) d ds in
+    omega (arith, i, c)
 
-pub most_few : (ds : List SessionDef) → ((i : ℕ) (d : SessionDef) → slice_get ds i ≡ Some d → length d.statements ≤ 5000) → most_in ds ≤ length ds * 500300030000
-most_few [] f = omega arith
-most_few (d ∷ ds) f =
-    let i = most_more (length d.statements) (f 0 d refl) in
-    let j = most_few ds (λ n e p. f (suc n) e p) in
-    omega (arith, i, j)
+most_within : (script : Script) → is_valid script ≡ true → most_in script.sessions + length script.schedule ≤ 46000
+most_within script v =
+    let r : Rules script = rules script v in
+    let m = most_sum script.sessions in
+    let s : length script.sessions ≤ 1000 = r.sessions in
+    let t : statement_count script.sessions ≤ 5000 = r.statements in
+    let o : length script.schedule ≤ 20000 = r.orders in
+    omega (arith, m, s, t, o)
+
+pub run_within : Ordered → Few → (script : Script) (told : Option Tables) (h : Journal) → is_valid script ≡ true → IsLegal script told h → outside_count h ≤ length script.schedule → length h ≤ 150000
+run_within p f script told h v l n =
+    let i = run_few p f script told h l in
+    let m = most_within script v in
+    omega (arith, i, m, n)
 
 -- a session's entry is none from outside
 pub inside_same : (e : Entry) (s : ℕ) (h new : Journal) → e.session ≡ Some s → new ≡ e ∷ h → outside_count new ≡ outside_count h

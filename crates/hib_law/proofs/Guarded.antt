@@ -1,6 +1,8 @@
 -- What always holds of one key of a read-write region and of the sessions, and how each kind of entry keeps a seen row safe. It speaks of no journal.
 use Rattle.std.proofs.Common.{◌≡◌, ℕ, zero, suc, ◌<◌, ◌≤◌, ◌⊎◌, inl, inr, Bool, true, false, cond, not, ◌||◌, ◌==◌, ltb, leb, List, [], ◌∷◌, length, Some, None, Option, refl, ap, sym, ◌∙◌, arith}
-use Rattle.std.proofs.lemmas.Bool.{eqb-false, or_parts, and_parts, ltb-true, leb-false, true≢false, false≢true}
+use Rattle.std.specs.List.{list_any}
+use Rattle.std.proofs.lemmas.Bool.{eqb-false, eqb-true, or_parts, and_parts, ltb-true, leb-false, true≢false, false≢true}
+use Rattle.hib_base.proofs.Tables.{Tested, tested}
 use Rattle.hib_journal.specs.Types.{Row, Put}
 use Rattle.hib_journal.specs.Slot.{Touch, LockState, Slot, is_positive}
 use Rattle.hib_journal.specs.Room.{may_leave}
@@ -8,6 +10,7 @@ use Rattle.hib_journal.specs.Regions.{is_below, free_answer, put}
 use Rattle.hib_journal.specs.Coherence.{remove}
 use Rattle.hib_law.specs.Locks.{holder_count}
 use Rattle.hib_law.specs.Seen.{IsGuarded, IsNotBelow, IsSafe}
+use Rattle.hib_law.specs.Lone.{IsAlone}
 use Rattle.hib_journal.proofs.Slots.{touched, freed}
 
 -- lists of sessions
@@ -15,6 +18,15 @@ use Rattle.hib_journal.proofs.Slots.{touched, freed}
 abbrev pub In : ℕ → List ℕ → Type 0
 In s [] = ⊥
 In s (x ∷ xs) = (x ≡ s) ⊎ In s xs
+
+-- the other way to say that a session is listed
+pub listed_in : (s : ℕ) (xs : List ℕ) → list_any (λ t. t == s) xs ≡ true → In s xs
+listed_in s [] p = absurd (false≢true p)
+listed_in s (x ∷ xs) p = by_test (tested (x == s)) p (listed_in s xs)
+  where
+    by_test : Tested (x == s) → list_any (λ t. t == s) (x ∷ xs) ≡ true → (list_any (λ t. t == s) xs ≡ true → In s xs) → In s (x ∷ xs)
+    by_test (inl q) p f = inl (eqb-true x s q)
+    by_test (inr q) p f = inr (f (rw q at p))
 
 -- a row that was committed once: the committed one is not below it, or the key was deleted
 pub record IsGrown (b : Row) (row : Option Row) (deleted : Bool) : Type 0 where
@@ -32,12 +44,6 @@ abbrev pub IsSingle : Slot → Type 0
 IsSingle Slot.Vacant = Unit {0}
 IsSingle (Slot.Item r t) = Unit {0}
 IsSingle (Slot.Lock l) = l.shared ≡ false → l.holders ≤ 1
-
--- what a session knows that alone holds a lock of this version: before its commit the committed row has the lock's
--- version, afterwards it is the row that its last change left
-pub record IsAlone (version : Option ℕ) (row : Option Row) (done : Bool) (last : Option Row) : Type 0 where
-  pub before : done ≡ false → (v : ℕ) → version ≡ Some v → (r : Row) × (row ≡ Some r) × (r.version ≡ Some v)
-  pub after : done ≡ true → (r : Row) → last ≡ Some r → row ≡ Some r
 
 abbrev pub IsLone : Slot → Option Row → List ℕ → (ℕ → Bool) → (ℕ → Option Row) → Type 0
 IsLone Slot.Vacant row holders done last = Unit {0}

@@ -23,7 +23,8 @@ use Rattle.hib_journal.proofs.Sessions.{by, is_some_session, time_le_tick}
 use Rattle.hib_law.proofs.Guarded.{In}
 use Rattle.hib_law.proofs.Coherent.{ordered}
 use Rattle.hib_journal.proofs.Open.{begun_open}
-use Rattle.hib_law.proofs.Stamped.{IsAtLeast, stamp_last, stamp_kept}
+use Rattle.hib_law.specs.Standing.{IsAtLeast, IsResultTrue, AreResultsTrue, kept_moment}
+use Rattle.hib_law.proofs.Stamped.{stamp_last, stamp_kept}
 use Rattle.hib_law.proofs.Orderly.{Doer, doer}
 use Rattle.hib_law.proofs.QueryRules.{owed, owed_by, MayKeep, MayCheck, AllowedQuery, allowed_query}
 use Rattle.hib_journal.proofs.Untouched.{touches, gives_same}
@@ -341,6 +342,19 @@ module _ (script : Script) (start : Tables) where
       by_doer (Doer.Outside x y) = absurd (outside_not y)
       by_doer (Doer.Session s c b w) = by_own s c w (own s g) refl (subst (λ z. AllowedQuery script (own s g) z) a (allowed_query script start s g d lg st b))
 
+  -- its list is what the query gave over the committed rows
+  list_given : (d : Entry) (g : Journal) (q t : ℕ) (l : List Cell) (f : IsKeptFrom d g q t l) → IsStep script (Some start) f.journal f.entry →
+      (qd : Query) → slice_get script.queries q ≡ Some qd → is_declared script qd ≡ true → l ≡ Query.gives qd (committed start (f.entry ∷ f.journal))
+  list_given d g q t l f sv qd y z =
+      let a1 : l ≡ Query.gives qd (views start f.journal f.session) = list_says f.journal f.entry q f.session l qd sv.reply f.by_list f.act f.reply y in
+      let a2 : Query.gives qd (views start f.journal f.session) ≡ Query.gives qd (committed start f.journal) =
+      gives_same qd (changes f.session f.journal) (committed start f.journal) (λ n i. untouched n (tables_of script q) (changes f.session f.journal) (in_here n i) f.clear) in
+      let a3 : committed start (f.entry ∷ f.journal) ≡ committed start f.journal = rw f.act refl in
+      a1 ∙ (a2 ∙ ap (λ w. Query.gives qd w) (sym a3))
+    where
+      in_here : (n : ℕ) → Query.reads qd n ≡ true → In n (tables_of script q)
+      in_here n i = rw y (in_tables n (length script.mapping) qd i (declared_reads script qd n z i))
+
   -- a Check that is answered Fresh is a true hit
   pub hit_true : (h : Journal) (e : Entry) (s q t : ℕ) → IsLegal script (Some start) h → IsStep script (Some start) h e → e.session ≡ Some s → e.act ≡ Act.Check q t →
       e.reply ≡ Reply.Check Checked.Fresh → IsHitTrue script start s q t h
@@ -360,7 +374,7 @@ module _ (script : Script) (start : Tables) where
             list = x;
             found = fo;
             listed = (f.entry, f.journal, mo, f.act, f.reply);
-            given = λ qd y z. given qd y z lv.1;
+            given = λ qd y z. list_given d g2 q t x f lv.1 qd y z ∙ ap (λ w. Query.gives qd (committed start w)) (sym mo);
             since = subst (λ m. AtEachEntry (λ g c. length m ≤ length g → commits (λ y. is_in_tables (tables_of script q) (y ∷ [])) g c ≡ true →
                 is_listed c (unstamped (tables_of script q) h) ≡ true) h) (sym mo)
                 (at_each_since (λ g c. commits (λ y. is_in_tables (tables_of script q) (y ∷ [])) g c ≡ true → is_listed c (unstamped (tables_of script q) h) ≡ true)
@@ -384,18 +398,6 @@ module _ (script : Script) (start : Tables) where
               let a2 : last_tick (λ d. true) g ≤ c.tick = lc.1.tick.ordered in
               let a3 : t < f.entry.tick = f.early in
               since_fresh q t c g h l w (omega arith) (check_says h e q t st.reply a r) m
-
-          given : (qd : Query) → slice_get script.queries q ≡ Some qd → is_declared script qd ≡ true → IsStep script (Some start) f.journal f.entry →
-              x ≡ Query.gives qd (committed start (moment s q h))
-          given qd y z sv =
-              let a1 : x ≡ Query.gives qd (views start f.journal f.session) = list_says f.journal f.entry q f.session x qd sv.reply f.by_list f.act f.reply y in
-              let a2 : Query.gives qd (views start f.journal f.session) ≡ Query.gives qd (committed start f.journal) =
-              gives_same qd (changes f.session f.journal) (committed start f.journal) (λ n i. untouched n (tables_of script q) (changes f.session f.journal) (in_here n i) f.clear) in
-              let a3 : committed start (f.entry ∷ f.journal) ≡ committed start f.journal = rw f.act refl in
-              a1 ∙ (a2 ∙ (ap (λ w. Query.gives qd w) (sym a3) ∙ ap (λ w. Query.gives qd (committed start w)) (sym mo)))
-            where
-              in_here : (n : ℕ) → Query.reads qd n ≡ true → In n (tables_of script q)
-              in_here n i = rw y (in_tables n (length script.mapping) qd i (declared_reads script qd n z i))
 
       by_own : was_killed s h ≡ false → (m : Journal) → own s h ≡ m → MayCheck m q t → IsHitTrue script start s q t h
       by_own k [] o x = absurd x
@@ -421,3 +423,16 @@ module _ (script : Script) (start : Tables) where
   pub hits_true : (h : Journal) → IsLegal script (Some start) h → AreHitsTrue script start h
   hits_true [] l = tt
   hits_true (e ∷ h) l = ((λ s q t c a r. hit_true h e s q t l.0 l.1 c a r), hits_true h l.0)
+
+  -- a result that is kept is what its List has answered
+  pub results_true : (h : Journal) → IsLegal script (Some start) h → AreResultsTrue script start h
+  results_true h lg q t l p =
+      let v : (d : Entry) × (g : Journal) × (up_to (λ x. keeps_by q x.act) h ≡ d ∷ g) × (d.act ≡ Act.Keep q t l) × IsPast (d ∷ g) h = up_keep q t l h p in
+      let ld : IsLegal script (Some start) (v.0 ∷ v.1) = legal_past script start (v.0 ∷ v.1) h v.4 lg in
+      let f : IsKeptFrom v.0 v.1 q t l = keep_from v.1 v.0 q t l ld.0 ld.1 v.3 in
+      let lv : IsLegal script (Some start) (f.entry ∷ f.journal) = legal_past script start (f.entry ∷ f.journal) v.1 f.past ld.0 in
+      let mo : kept_moment q h ≡ f.entry ∷ f.journal = rw (v.2, f.by_keep) (f.up) in
+      record {
+        listed = (f.entry, f.journal, mo, f.act, f.reply, f.early);
+        given = λ qd y z. list_given v.0 v.1 q t l f lv.1 qd y z ∙ ap (λ w. Query.gives qd (committed start w)) (sym mo);
+      }

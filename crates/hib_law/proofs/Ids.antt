@@ -19,7 +19,7 @@ use Rattle.hib_law.specs.Locks.{is_holder, IsLockHeld, IsGivenBack, AreLocksKept
 use Rattle.hib_base.proofs.Tables.{Tested, tested, same_key_refl}
 use Rattle.hib_journal.proofs.Slots.{touched}
 use Rattle.hib_law.specs.Locks.{holder_count}
-use Rattle.hib_law.proofs.Guarded.{In, in_remove, in_none}
+use Rattle.hib_law.proofs.Guarded.{In, in_remove, in_none, listed_in}
 use Rattle.hib_law.proofs.Effects.{Effect, is_remove}
 use Rattle.hib_law.proofs.Views.{slot_touched, slot_rests, takes_not_back, to_kept}
 use Rattle.hib_law.proofs.Coherent.{WasSound, was_sound, effect_of, rest_of}
@@ -33,15 +33,7 @@ use Rattle.hib_law.proofs.Holders.{holds_holder}
 use Rattle.hib_law.proofs.Whole.{coherent, is_kept}
 use Rattle.hib_law.proofs.Basics.{replied}
 
--- the two ways to say who holds a lock
-holder_in : (s : ℕ) (xs : List ℕ) → list_any (λ t. t == s) xs ≡ true → In s xs
-holder_in s [] p = absurd (false≢true p)
-holder_in s (x ∷ xs) p = by_test (tested (x == s)) p (holder_in s xs)
-  where
-    by_test : Tested (x == s) → list_any (λ t. t == s) (x ∷ xs) ≡ true → (list_any (λ t. t == s) xs ≡ true → In s xs) → In s (x ∷ xs)
-    by_test (inl q) p f = inl (eqb-true x s q)
-    by_test (inr q) p f = inr (f (rw q at p))
-
+-- the other way to say who holds a lock
 in_holder : (s : ℕ) (xs : List ℕ) → In s xs → list_any (λ t. t == s) xs ≡ true
 in_holder s [] i = absurd i
 in_holder s (x ∷ xs) (inl p) = rw (eq-eqb x s p) refl
@@ -211,7 +203,7 @@ module _ (script : Script) (start : Tables) (k : Key) (rw_k : strategy script k.
   lock_held h l w = record {
     count = count_is h l w;
     id = λ s p.
-        let i : In s (holders k h) = holder_in s (holders k h) p in
+        let i : In s (holders k h) = listed_in s (holders k h) p in
         lock_there (slot script.timeout k h) (lock_id k (own s h)) (held_lock h l w s i) (ids h l w s i);
   }
 

@@ -1,19 +1,14 @@
 -- The stamp of a table is no earlier than any entry since the restart that stamped it.
-use Rattle.std.proofs.Common.{◌≡◌, ℕ, ◌+◌, ◌≤◌, Bool, true, false, cond, ◌∷◌, Some, None, Option, refl, arith}
-use Rattle.std.proofs.lemmas.Bool.{false≢true}
-use Rattle.hib_journal.specs.Types.{Act, Entry}
-use Rattle.hib_journal.specs.Sessions.{Journal}
+use Rattle.std.proofs.Common.{◌≡◌, ℕ, ◌+◌, ◌≤◌, ◌⊎◌, inl, inr, Bool, true, false, cond, [], ◌∷◌, Some, None, Option, refl, arith}
+use Rattle.std.proofs.lemmas.Bool.{false≢true, true≢false}
+use Rattle.hib_base.specs.Tables.{Tables}
+use Rattle.hib_base.proofs.Tables.{Tested, tested}
+use Rattle.hib_journal.specs.Types.{Script, Act, Entry}
+use Rattle.hib_journal.specs.Sessions.{Journal, is_restart, last_tick}
+use Rattle.hib_journal.specs.Legal.{IsLegal}
 use Rattle.hib_journal.specs.Stamps.{stamp, stamp_after, names}
-
--- whether an act stamps t
-abbrev pub stamps : ℕ → Act → Bool
-stamps t (Act.Pre ts) = names t ts
-stamps t (Act.Stamp ts) = names t ts
-stamps t _ = false
-
-abbrev pub IsAtLeast : ℕ → Option ℕ → Type 0
-IsAtLeast n None = ⊥
-IsAtLeast n (Some v) = n ≤ v
+use Rattle.hib_law.specs.Standing.{stamps, stamped_at, IsAtLeast, AreStampsLate}
+use Rattle.hib_law.proofs.Guarded.{In, listed_in}
 
 -- the stamp of a table is no earlier than any entry since the restart that stamped it: here, than the last one
 pub stamp_last : (timeout t : ℕ) (e : Entry) (h : Journal) → stamps t e.act ≡ true → IsAtLeast e.tick (stamp timeout t (e ∷ h))
@@ -38,3 +33,45 @@ stamp_kept timeout t n e h l a r = by_act e.act r
     by_act (Act.Stamp ts) r = later (names t ts) e.tick l
     by_act Act.Restart r = absurd (r refl)
     by_act _ r = a
+
+-- ---- of a whole journal
+
+-- none of the ticks is later than the newest entry
+stamped_low : (script : Script) (start : Tables) (t n : ℕ) (h : Journal) → IsLegal script (Some start) h → In n (stamped_at t h) → n ≤ last_tick (λ _. true) h
+stamped_low script start t n [] l i = absurd i
+stamped_low script start t n (e ∷ h) l i = by_restart (tested (is_restart e.act)) (tested (stamps t e.act)) i (stamped_low script start t n h l.0)
+  where
+    later : n ≤ last_tick (λ _. true) h → n ≤ e.tick
+    later x = let y : last_tick (λ _. true) h ≤ e.tick = l.1.tick.ordered in omega (arith, x, y)
+
+    by_restart : Tested (is_restart e.act) → Tested (stamps t e.act) → In n (stamped_at t (e ∷ h)) → (In n (stamped_at t h) → n ≤ last_tick (λ _. true) h) → n ≤ e.tick
+    by_restart (inl r) s i f = let g : ⊥ = rw r at i in absurd g
+    by_restart (inr r) (inl s) i f =
+        let g : (e.tick ≡ n) ⊎ In n (stamped_at t h) = rw (r, s) at i in
+        elim g [ inl p ↦ omega (arith, p) | inr j ↦ later (f j) ]
+    by_restart (inr r) (inr s) i f = let g : In n (stamped_at t h) = rw (r, s) at i in later (f g)
+
+at_least : (n m : ℕ) (v : Option ℕ) → n ≤ m → IsAtLeast m v → IsAtLeast n v
+at_least n m None l a = a
+at_least n m (Some v) l a = omega (arith, l, a)
+
+stamped_late : (script : Script) (start : Tables) (t n : ℕ) (h : Journal) → IsLegal script (Some start) h → In n (stamped_at t h) → IsAtLeast n (stamp script.timeout t h)
+stamped_late script start t n [] l i = absurd i
+stamped_late script start t n (e ∷ h) l i = by_restart (tested (is_restart e.act)) (tested (stamps t e.act)) i (stamped_late script start t n h l.0)
+  where
+    low : n ≤ e.tick
+    low = stamped_low script start t n (e ∷ h) l i
+
+    goes_on : is_restart e.act ≡ false → e.act ≡ Act.Restart → ⊥
+    goes_on r q = let g : true ≡ false = rw q at r in true≢false g
+
+    by_restart : Tested (is_restart e.act) → Tested (stamps t e.act) → In n (stamped_at t (e ∷ h)) → (In n (stamped_at t h) → IsAtLeast n (stamp script.timeout t h)) →
+        IsAtLeast n (stamp script.timeout t (e ∷ h))
+    by_restart (inl r) s i f = let g : ⊥ = rw r at i in absurd g
+    by_restart (inr r) (inl s) i f = at_least n e.tick (stamp script.timeout t (e ∷ h)) low (stamp_last script.timeout t e h s)
+    by_restart (inr r) (inr s) i f =
+        let g : In n (stamped_at t h) = rw (r, s) at i in
+        stamp_kept script.timeout t n e h low (f g) (goes_on r)
+
+pub stamps_late : (script : Script) (start : Tables) (h : Journal) → IsLegal script (Some start) h → AreStampsLate script h
+stamps_late script start h l t n p = stamped_late script start t n h l (listed_in n (stamped_at t h) p)

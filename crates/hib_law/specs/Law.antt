@@ -12,6 +12,8 @@ use Rattle.hib_law.specs.Hits.{AreHitsTrue}
 use Rattle.hib_law.specs.Misses.{HasCause}
 use Rattle.hib_law.specs.Locks.{AreLocksKept}
 use Rattle.hib_law.specs.Seen.{AreSeenSafe, AreFloorsLow}
+use Rattle.hib_law.specs.Lone.{IsLockLone}
+use Rattle.hib_law.specs.Standing.{AreStampsLate, AreResultsTrue}
 
 pub record Coheres (script : Script) (start : Tables) (h : Journal) : Type 0 where
   -- a sound read-write key: its item is the committed row, and so is a hit of it
@@ -27,6 +29,12 @@ pub record Coheres (script : Script) (start : Tables) (h : Journal) : Type 0 whe
   pub given : (k : Key) → strategy script k.entity ≡ Strategy.ReadOnly → AtEachPrefix (IsItemGiven start k) h
   -- the lock of a sound read-write key is held by those who took it, and is given back
   pub locks : (k : Key) → strategy script k.entity ≡ Strategy.ReadWrite → AreLocksKept script k h
+  -- a lock that isn't shared has one holder at most, and nobody else has changed the row since it was placed
+  pub lone : (k : Key) → strategy script k.entity ≡ Strategy.ReadWrite → AtEachPrefix (IsLockLone script start k) h
+  -- the stamp of a table is at least the tick of each entry since the restart that stamped it
+  pub stamps : AtEachPrefix (AreStampsLate script) h
+  -- a result that is kept is what its query gave over the rows that were committed at its List, later than the result's time
+  pub results : AtEachPrefix (AreResultsTrue script start) h
   -- what an open session has seen of a sound read-write key is committed still, or a put of it will be refused
   pub safe : (k : Key) → strategy script k.entity ≡ Strategy.ReadWrite → AtEachPrefix (AreSeenSafe script start k) h
   -- the floor of an open session is no later than the time of any open session

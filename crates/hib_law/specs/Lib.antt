@@ -5,4 +5,6 @@ pub mod Hits
 pub mod Locks
 pub mod Misses
 pub mod Seen
+pub mod Lone
+pub mod Standing
 pub mod Law

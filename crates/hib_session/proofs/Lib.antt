@@ -6,6 +6,8 @@ pub mod Known
 pub mod Flushed
 pub mod Taken
 pub mod Taking
+pub mod Once
+pub mod Still
 pub mod Few
 pub mod Killed
 pub mod Together

@@ -2,11 +2,12 @@
 use Rattle.std.specs.Prelude.{ℕ, ◌+◌, ◌*◌, [], ◌∷◌, Some, None, Option}
 use Rattle.hib_journal.specs.Sessions.{Journal}
 
--- the entries of a session of n statements, at most. A statement brings at most two instances and removes one, so that no flush has more
--- than 4 n changes and 8 n + 1 acts, and no transaction more than 4 n n changes; what completes it has at most one act for each of these, and
--- 2 more. So a statement has at most 4 n n + 12 n + 6 acts, with the Begin before it
+-- the entries of a session of n statements, at most. A persist, set or remove pays for itself and for one lock or removal, one write
+-- and one act that completes it; a find for Get, Load and Put; a list for Pre, Look, Check, List and Keep; a flush for Pre; a commit
+-- for Pre, Commit, Stamp, End and the Begin that may follow; a rollback for one less. So none pays for more than 5 acts, and the
+-- session's first Begin is one more
 abbrev pub most_entries : ℕ → ℕ
-most_entries n = n * (n * (4 * n) + 12 * n + 6)
+most_entries n = 5 * n + 1
 
 abbrev pub one_if_none : Option ℕ → ℕ
 one_if_none None = 1

@@ -13,18 +13,18 @@ use Rattle.hib_law.specs.Hits.{AreListsGiven}
 use Rattle.hib_formed.specs.Early.{AreEarly}
 use Rattle.hib_split_law.specs.Merged.{AreDue}
 use Rattle.hib_split_law.proofs.Merge.{last_few}
-use Rattle.hib_core.specs.Bound.{most_in, outside_count}
+use Rattle.hib_core.specs.Bound.{outside_count}
 use Rattle.hib_core.specs.Standing.{Origin}
 use Rattle.hib_core.proofs.Evictions.{all_named}
 use Rattle.hib_joined.specs.Run.{IsOneRun}
 use Rattle.hib_top.specs.declared.turns.Turns.{Turns}
 use Rattle.hib_top.specs.Running.{IsFinished, IsPlayed}
 use Rattle.hib_top.proofs.Finished.{all_ended}
-use Rattle.hib_top.proofs.Formed.{Formed, Limit, few_entries, start_formed}
+use Rattle.hib_top.proofs.Formed.{Formed, early_enough, start_formed}
 
 -- ---- laws that are called
 abbrev pub Short : Type 0
-Short = (script : Script) (told : Option Tables) (h : Journal) → IsLegal script told h → length h ≤ most_in script.sessions + outside_count h
+Short = (script : Script) (told : Option Tables) (h : Journal) → is_valid script ≡ true → IsLegal script told h → outside_count h ≤ length script.schedule → length h ≤ 150000
 
 abbrev pub Given : Type 0
 Given = (script : Script) (told : Option Tables) (h : Journal) → is_valid script ≡ true → IsLegal script told h → IfSome told (λ start. AreListsGiven script start h)
@@ -46,11 +46,11 @@ early (e ∷ h) d few =
     let l : e.tick ≤ length (e ∷ h) = last_few (λ _. true) (e ∷ h) d in
     (early h d.0 (omega (arith, few)), omega (arith, l, few))
 
-pub is_played : Short → Limit → Given → Formed → (n : ℕ) (script : Script) (from : Origin) (h : Journal) (rows : Option Tables) (failed asked_for : ℕ) → is_valid script ≡ true →
+pub is_played : Short → Given → Formed → (n : ℕ) (script : Script) (from : Origin) (h : Journal) (rows : Option Tables) (failed asked_for : ℕ) → is_valid script ≡ true →
     IsOneRun script from h rows failed asked_for → IsPlayed (Turns.OnParts n) script from.tables rows h
-is_played short limit given formed n script from h rows failed asked_for v one =
-    let few : length h ≤ most_in script.sessions + length script.schedule = omega (arith, short script from.tables h one.legal, one.inside) in
-    let small : length h ≤ 2 ^ 61 = few_entries limit script h v few in
+is_played short given formed n script from h rows failed asked_for v one =
+    let few : length h ≤ 150000 = short script from.tables h v one.legal (let o : outside_count h ≡ 0 = one.inside in omega (arith, o)) in
+    let small : length h ≤ 2 ^ 61 = early_enough h few in
     let named : name_identifiers h ≡ true = all_named h one.inside in
     record {
       legal = one.legal;

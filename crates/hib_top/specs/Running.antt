@@ -14,7 +14,7 @@ use Rattle.hib_split_law.specs.Merged.{AreDue}
 use Rattle.hib_joined.specs.Joined.{AreApart}
 use Rattle.hib_listeners.specs.Heard.{HaveHeard}
 use Rattle.hib_listeners.specs.Told.{Told}
-use Rattle.hib_core.specs.Bound.{most_in, outside_count}
+use Rattle.hib_core.specs.Bound.{outside_count}
 use Rattle.hib_core.specs.Standing.{Origin, RoseBy, RoseWithin, told_start}
 use Rattle.hib_report.specs.Report.{report, summary}
 use Rattle.hib_json_lines.specs.Line.{json_lines}
@@ -56,8 +56,8 @@ pub record IsPlayed (turns : Turns) (script : Script) (start rows : Option Table
   -- and each list from the cache is what its query gave
   pub given : IfSome start (λ told. AreListsGiven script told h)
   pub ticked : AreTicked turns h
-  -- it is short: the sessions have few entries, and each order of the schedule adds one of another kind at most
-  pub few : length h ≤ most_in script.sessions + length script.schedule
+  -- it is short
+  pub few : length h ≤ 150000
   -- what was evicted from outside has an identifier
   pub named : name_identifiers h ≡ true
   -- if the rows at the start fit the mapping, each entry is well formed

@@ -22,7 +22,7 @@ returns-in-One g c = λ kept q.
     let h = past c.in-One.journal in
     let one : IsOneRun script from h rows failed asked = subst (λ (z : Joined). CameToOne n script from z rows failed asked) c.in-One.is c.requires.came in
     let played : IsPlayed (Turns.OnParts n) script from.tables rows h =
-    is_played c.runs_are_short.ensures.short c.runs_are_short.ensures.limit c.lists_are_given.ensures.lists c.entries_are_formed.ensures.formed n script from h rows failed asked c.requires.valid one in
+    is_played c.runs_are_short.ensures.few c.lists_are_given.ensures.lists c.entries_are_formed.ensures.formed n script from h rows failed asked c.requires.valid one in
     let begun : IsPlayed (Turns.OnParts n) script (told_start script kept) rows h = subst (λ (t : Option Tables). IsPlayed (Turns.OnParts n) script t rows h) (sym q) played in
     let run : Played = record { script = c.args.script; journal = c.in-One.journal } in
     elim c.hear_run-outcome.ensures [

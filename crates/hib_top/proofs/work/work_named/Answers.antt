@@ -1,8 +1,8 @@
-use Rattle.std.proofs.Common.{◌≡◌, ◌≤◌, ◌+◌, ◌^◌, Bool, true, false, length, Option, sym, ◌∙◌, ap, subst, arith}
+use Rattle.std.proofs.Common.{◌≡◌, ◌≤◌, ◌^◌, Bool, true, false, length, Option, sym, ◌∙◌, ap, subst, arith}
 use Rattle.hib_base.specs.Tables.{Tables}
 use Rattle.hib_journal.specs.Kept.{Kept, past}
 use Rattle.hib_journal.specs.Runs.{ask_count, name_identifiers}
-use Rattle.hib_core.specs.Bound.{most_in, outside_count}
+use Rattle.hib_core.specs.Bound.{outside_count}
 use Rattle.hib_core.specs.Factory.{AreOver}
 use Rattle.hib_core.proofs.Evictions.{all_named}
 use Rattle.hib_core.specs.Standing.{Origin, told_start}
@@ -13,7 +13,7 @@ use Rattle.hib_top.specs.declared.turns.Turns.{Turns}
 use Rattle.hib_top.specs.Running.{IsPlayed}
 use Rattle.hib_top.proofs.Ends.{heard_either, once_more, over, stopped, told_by}
 use Rattle.hib_top.proofs.Finished.{all_ended}
-use Rattle.hib_top.proofs.Formed.{few_entries, start_formed}
+use Rattle.hib_top.proofs.Formed.{early_enough, start_formed}
 use Rattle.hib_top.proofs.work.work_named.Goals as goal
 use Rattle.hib_top.proofs.work.work_named.Goals.{then-out_of_memory, else-out_of_memory}
 
@@ -22,8 +22,8 @@ returns g c =
     let turns = Turns.OnWorkers c.args.workers in
     let h = past c.close-keeper.result.2 in
     let inside : outside_count h ≡ 0 = ap (λ (k : Kept). outside_count (past k)) c.close-keeper.ensures.journal ∙ c.work-factory.ensures.worked.inside in
-    let few : length h ≤ most_in g.N.Name.script.sessions + length g.N.Name.script.schedule = omega (arith, c.close-keeper.ensures.short, inside) in
-    let small : length h ≤ 2 ^ 61 = few_entries c.runs_are_short.ensures.limit g.N.Name.script h c.requires.valid few in
+    let few : length h ≤ 150000 = c.runs_are_short.ensures.few g.N.Name.script g.N.Name.from.tables h c.requires.valid c.close-keeper.ensures.legal (omega (arith, inside)) in
+    let small : length h ≤ 2 ^ 61 = early_enough h few in
     let named : name_identifiers h ≡ true = all_named h inside in
     let played : IsPlayed turns g.N.Name.script g.N.Name.from.tables (g.K.Keeper.tables c.close-keeper.result.0) h =
     record {
