@@ -2,6 +2,7 @@ pub mod Ranges
 pub mod KeyMaps
 pub mod Kept
 pub mod Orders
+pub mod Covered
 pub mod Known
 pub mod Flushed
 pub mod Taken
