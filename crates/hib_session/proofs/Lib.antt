@@ -5,6 +5,7 @@ pub mod Orders
 pub mod Covered
 pub mod Known
 pub mod Flushed
+pub mod Refused
 pub mod Taken
 pub mod Taking
 pub mod Few
