@@ -27,8 +27,8 @@ turned_more : (acts : List Act) (i : ℕ) (d : Act) → i < length acts → set 
 turned_more acts i d l = rw add-one (turned_suc acts i d l)
 
 -- one more
-pub turned_at : (acts xs : List Act) (i : ℕ) (x y : Act) → i < length acts → xs ≡ turned i acts → x ≡ get_or xs i x → y ≡ refused_act x → set xs i y ≡ turned (i + 1) acts
-turned_at acts xs i x y l e g f = ap (set xs i) (f ∙ ap refused_act g) ∙ (ap (λ zs. set zs i (refused_act (get_or zs i x))) e ∙ turned_more acts i x l)
+pub turned_at : (acts xs : List Act) (i : ℕ) (d y : Act) → i < length acts → xs ≡ turned i acts → y ≡ refused_act (get_or xs i d) → set xs i y ≡ turned (i + 1) acts
+turned_at acts xs i d y l e f = ap (set xs i) f ∙ (ap (λ zs. set zs i (refused_act (get_or zs i d))) e ∙ turned_more acts i d l)
 
 -- ---- what completes a transaction
 

@@ -5,7 +5,7 @@ use Rattle.hib_session.proofs.ahead.refuse_all.Goals as goal
 pub loop-act-preserved : goal.loop-act-preserved
 loop-act-preserved c =
     let less : c.loop-act.act-index < length c.args.acts.now = omega arith in
-    turned_at c.args.acts.now c.loop-act.acts c.loop-act.act-index c.act-item.result c.refuse.new.act less c.loop-act.invariant c.act-item.is c.refuse.ensures
+    turned_at c.args.acts.now c.loop-act.acts c.loop-act.act-index c.act-item.result c.refuse.new.act less c.loop-act.invariant c.refuse.ensures
 
 pub returns : goal.returns
 returns c =
