@@ -1,19 +1,18 @@
 -- The keys that are kept of instances with a change that is pending are all that there are of them.
 use Rattle.std.proofs.Common.{◌≡◌, length, arith, ℕ, inl, inr, Bool, true, false, cond, not, ◌&&◌, ◌||◌, List, [], ◌∷◌, ◌++◌, Some, None, Option, refl, sym, ap, ◌∙◌, subst}
-use Rattle.std.proofs.lemmas.Bool.{false≢true, true≢false, and_parts, and_from, or_parts}
+use Rattle.std.proofs.lemmas.Bool.{false≢true, true≢false, and_parts, and_from}
 use Rattle.std.proofs.lemmas.List.Folds.{list_any-append}
 use Rattle.std.specs.List.{filter_map, cons_option, list_any}
-use Rattle.std.specs.Option.{option_map, is_some}
+use Rattle.std.specs.Option.{option_map}
 use Rattle.hib_base.specs.Keys.{same_key}
 use Rattle.hib_base.specs.Tables.{key_of}
 use Rattle.hib_base.proofs.Tables.{same_key_eq, same_key_refl, Tested, tested}
-use Rattle.hib_journal.specs.Types.{Key, Row, State, Change, Held, Query}
+use Rattle.hib_journal.specs.Types.{Key, Row, State, Change, Held}
 use Rattle.hib_journal.specs.Held.{same_cells, insert_by, update_by, delete_by, next_version}
-use Rattle.hib_journal.specs.Query.{reads}
 use Rattle.hib_completion.specs.Completed.{is_key_in}
-use Rattle.hib_dirty_check.specs.Changed.{insert_of, update_of, delete_of}
+use Rattle.hib_dirty_check.specs.Changed.{insert_of, update_of}
 use Rattle.hib_flush.specs.Planned.{planned, inserts_in, updates_in, deletes_in, delete_held}
-use Rattle.hib_identity_map.specs.Identity.{MapState, Pairs, look_in, are_distinct, is_absent, drop_in, add_in, change_in, without, remove_last, state_written, written}
+use Rattle.hib_identity_map.specs.Identity.{MapState, Pairs, look_in, are_distinct, drop_in, add_in, change_in, without, remove_last, state_written, written}
 use Rattle.hib_session.specs.Instances.{is_changed, is_pending, is_removed_state, is_gone, Covers}
 use Rattle.hib_completion.proofs.Keys.{in_more}
 use Rattle.indexmap.specs.IndexSet.{insert_key}

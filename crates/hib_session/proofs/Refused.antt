@@ -1,5 +1,5 @@
 -- The acts that complete a transaction whose commit wasn't applied, of those that complete one whose commit was.
-use Rattle.std.proofs.Common.{◌≡◌, ℕ, zero, suc, ◌+◌, ◌<◌, add-one, arith, length, Bool, true, false, cond, ◌&&◌, List, [], ◌∷◌, ◌++◌, filter, map, set, get_or, Some, None, Option, option_and_then, refl, sym, ap, ◌∙◌}
+use Rattle.std.proofs.Common.{◌≡◌, ℕ, zero, suc, ◌+◌, ◌<◌, add-one, arith, length, Bool, true, false, cond, ◌&&◌, List, [], ◌∷◌, ◌++◌, filter, map, set, get_or, Some, None, Option, option_and_then, refl, ap, ◌∙◌}
 use Rattle.std.specs.List.{flat_map}
 use Rattle.hib_base.specs.Tables.{row_left, first_on, last_on}
 use Rattle.hib_journal.specs.Types.{Key, Row, Change, Strategy, Mode, Script, Act}

@@ -1,6 +1,5 @@
 // What is made ready before the act that is due is done: the acts that complete a transaction, however it ends.
-ghost use Rattle.std.specs.Prelude.{◌≡◌, ◌++◌, filter, map, cond};
-ghost use Rattle.hib_base.specs.declared.entries.Act.{Act as ActOf};
+ghost use Rattle.std.specs.Prelude.{◌≡◌, filter, map, cond};
 ghost use Rattle.hib_session.specs.Ahead.{refused_act, is_kept, refused_of};
 
 use hib_base::{Act, Acts, Seq};

@@ -1,7 +1,7 @@
 use Rattle.hib_base.specs.Keys.{same_key}
 use Rattle.indexmap.specs.IndexSet.{insert_key}
 use Rattle.hib_identity_map.specs.Identity.{as_removed, remove_last}
-use Rattle.hib_session.proofs.Covered.{covers_changed, covers_dropped, covers_touched, grown, is_there, removal_keeps, removal_there}
+use Rattle.hib_session.proofs.Covered.{covers_changed, covers_dropped, grown, is_there, removal_keeps, removal_there}
 use Rattle.hib_session.proofs.instances.Instances.remove.Goals as goal
 
 pub invariant_of-self-then-unwritten : goal.invariant_of-self-then-unwritten

@@ -1,4 +1,4 @@
-use Rattle.std.proofs.Common.{rules, ◌≡◌, true, ◌&&◌, nat_lt, ap, sym, ◌∙◌}
+use Rattle.std.proofs.Common.{rules, ◌≡◌, true, ◌&&◌, nat_lt, ap, ◌∙◌}
 use Rattle.hib_journal.specs.Query.{reads}
 use Rattle.hib_flush.specs.Planned.{planned}
 use Rattle.hib_identity_map.specs.Identity.{MapState}

@@ -1,4 +1,4 @@
-use Rattle.std.proofs.Common.{rules, IsTrue, ◌≡◌, [], sym, ap, ◌∙◌}
+use Rattle.std.proofs.Common.{rules, ◌≡◌, [], sym, ap, ◌∙◌}
 use Rattle.hib_journal.specs.Next.{flush_of}
 use Rattle.hib_flush.specs.Planned.{planned}
 use Rattle.hib_flush.proofs.Pending.{pending_kept}
