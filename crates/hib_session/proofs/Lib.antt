@@ -2,8 +2,10 @@ pub mod Ranges
 pub mod KeyMaps
 pub mod Kept
 pub mod Orders
+pub mod Covered
 pub mod Known
 pub mod Flushed
+pub mod Refused
 pub mod Taken
 pub mod Taking
 pub mod Once

@@ -139,7 +139,7 @@ look_changed k f (p ∷ ps) q = by (tested (same_key k p.0)) (tested (same_key q
     by (inr a) (inl b) i = let c : same_key k q ≡ false = flip q k false (along q p.0 k false b (flip k p.0 false a)) in rw (a, b, c) refl
     by (inr a) (inr b) i = rw (a, b) i
 
-both : (p : Key × Held) (ps : Pairs) → are_distinct (p ∷ ps) ≡ true → (look_in ps p.0 ≡ None) × (are_distinct ps ≡ true)
+pub both : (p : Key × Held) (ps : Pairs) → are_distinct (p ∷ ps) ≡ true → (look_in ps p.0 ≡ None) × (are_distinct ps ≡ true)
 both p ps d = let a : (is_absent (look_in ps p.0) ≡ true) × (are_distinct ps ≡ true) = and_parts (is_absent (look_in ps p.0)) (are_distinct ps) d in (absent_none (look_in ps p.0) a.0, a.1)
 
 dropped_none : (k q : Key) → ◌≡◌ {A = Option Held} None (cond (same_key k q) None None)

@@ -1,5 +1,5 @@
 -- What is made ready before the act that is due is done.
-use Rattle.std.specs.Prelude.{◌≡◌, Bool, true, false, List, [], ◌∷◌, Some, None, Option}
+use Rattle.std.specs.Prelude.{◌≡◌, Bool, true, false, List, [], ◌∷◌, filter, map, Some, None, Option}
 use Rattle.std.specs.Option.{is_some}
 use Rattle.hib_journal.specs.Types.{Mode, Script, Act}
 use Rattle.hib_journal.specs.Sessions.{Journal}
@@ -10,10 +10,23 @@ use Rattle.hib_session.specs.declared.written.Written.{Written}
 use Rattle.hib_base.specs.Tables.{row_left}
 use Rattle.hib_session.specs.Memory.{has_copies}
 
--- the acts that complete a transaction with these entries, whichever way it ends
+-- an act after a commit that was applied, if the transaction ends otherwise: a lock is given back without a row
+abbrev pub refused_act : Act → Act
+refused_act (Act.AfterUpdate k l r) = Act.Unlock k l
+refused_act a = a
+
+-- and no new row is put
+abbrev pub is_kept : Act → Bool
+is_kept (Act.AfterInsert k r f) = false
+is_kept a = true
+
+abbrev pub refused_of : List Act → List Act
+refused_of acts = map refused_act (filter is_kept acts)
+
+-- the acts are those that complete a transaction with these entries after a commit that was applied
 abbrev pub Ends : Script → Mode → Journal → Option Ending → Type 0
 Ends script m mine None = Unit {0}
-Ends script m mine (Some e) = (e.committed ≡ completion script m true mine) × (e.refused ≡ completion script m false mine)
+Ends script m mine (Some e) = e.acts ≡ completion script m true mine
 
 -- the copies are those of the first write that is queued
 abbrev pub Copies : List Act → Option Written → Type 0

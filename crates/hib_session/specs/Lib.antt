@@ -1,4 +1,5 @@
 pub mod Queries
+pub mod Instances
 pub mod Changed
 pub mod Memory
 pub mod Control

@@ -370,9 +370,8 @@ impl Control {
         }
         match self.stage {
             Stage::Committing | Stage::RollingBack => {
-                let committed = memory.completion(alloc, script, self.mode, true)?;
-                let refused = memory.completion(alloc, script, self.mode, false)?;
-                Ok(Some(Ending { committed, refused }))
+                let acts = memory.completion(alloc, script, self.mode, true)?;
+                Ok(Some(Ending { acts }))
             }
             _ => Ok(None),
         }

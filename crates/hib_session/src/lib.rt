@@ -5,6 +5,7 @@ mod ahead;
 mod bounds;
 mod changed;
 mod control;
+mod instances;
 mod keyed;
 mod killing;
 mod memory;

@@ -1,23 +1,24 @@
 // What a session remembers of its own entries: its transaction's time, floor and changes, its locks and its instances.
-ghost use Rattle.std.specs.Prelude.{◌≡◌, ◌||◌, ◌∷◌, [], ◌++◌, IfOk, IsOk, OnOk, true, Some, None, MatchOption, is_some, cond};
+ghost use Rattle.std.specs.Prelude.{◌≡◌, ◌||◌, ◌∷◌, [], ◌++◌, IfOk, IfSome, IsOk, OnOk, true, Some, None, MatchOption, is_some, cond};
 ghost use Rattle.hib_journal.specs.Sessions.{Journal};
 ghost use Rattle.hib_journal.specs.Held.{pending};
 ghost use Rattle.hib_base.specs.declared.entries.Act.{Act};
 ghost use Rattle.hib_journal.specs.Next.{is_in, is_in_tables, is_free, may_read, may_put, flush_of, tables_of, before_cached, completion};
+ghost use Rattle.hib_flush.specs.Planned.{planned};
 ghost use Rattle.hib_completion.specs.Completed.{acts_of, is_key_in};
 ghost use Rattle.hib_identity_map.specs.Holds.{held_in, shown_of};
 ghost use Rattle.hib_session.specs.Memory.{marked_in, before_key_in, before_in, flush_in, with_room, Knows, Recalls};
 
 use crate::changed::Changed;
+use crate::instances::Instances;
 use crate::keyed::{has_room, has_room_in, is_among};
-use crate::queries::{is_cached as is_kept, is_touched};
+use crate::queries::{is_cached as is_kept, is_touched, query_of};
 use hib_base::{
     Act, Acts, Change, Changes, Held, Key, Mode, Outcome, QueryNo, Script, Seq, Strategy, Tick,
     is_cached, strategy_of,
 };
 use hib_completion::{acts, tables};
 use hib_flush::plan;
-use hib_identity_map::IdentityMap;
 use indexmap::{IndexMap, IndexSet};
 use std::alloc::{AllocError, Global};
 use std::marker::Model;
@@ -30,7 +31,7 @@ pub struct Memory {
     /// The floor that its last Begin answered, or 0.
     pub floor: Tick,
     /// Its instances in order of arrival.
-    pub instances: IdentityMap,
+    pub instances: Instances,
     /// Of a key, whether its instance was made and never written.
     pub marks: IndexMap<Key, bool>,
     /// The changes that it wrote since its last Begin, in order.
@@ -98,7 +99,7 @@ impl Memory {
         Memory {
             time: Tick(0),
             floor: Tick(0),
-            instances: IdentityMap::open(alloc),
+            instances: Instances::open(alloc),
             marks: IndexMap::new(alloc),
             changes: Changed::new(alloc),
             fresh: IndexSet::new(alloc),
@@ -123,6 +124,9 @@ impl Memory {
         ensures ok { OnOk result (self.new.room ≡ true) }
         ensures room { self.old.room ≡ true → IsOk result }
     {
+        if self.has_room() {
+            return Ok(());
+        }
         self.marks.reserve(1)?;
         self.changes.reserve()?;
         self.fresh.reserve(1)?;
@@ -186,6 +190,17 @@ impl Memory {
         is_kept(script, query) && by_mode && !is_touched(script, query, self.changes.as_slice())
     }
 
+    /// Whether a change of one of a query's tables is pending; none if that isn't known without a plan.
+    fn touches(&self, script: &Script, query: QueryNo) -> Option<bool>
+        ensures { IfSome result (λ b. b
+            ≡ is_in_tables (tables_of script.now query) (planned self.now.instances)) }
+    {
+        match query_of(script, query) {
+            Some(query) => self.instances.touch(query, script.mapping.len()),
+            None => Some(false),
+        }
+    }
+
     /// Whether a query is to be preceded by a flush: a change of one of its tables is pending.
     pub fn must_flush(
         &self,
@@ -196,7 +211,10 @@ impl Memory {
         ensures { IfOk result (λ b. (mine : Journal) → Knows self.now mine
             → b ≡ is_in_tables (tables_of script.now query) (pending mine)) }
     {
-        let changes = plan(alloc, &self.instances)?;
+        if let Some(found) = self.touches(script, query) {
+            return Ok(found);
+        }
+        let changes = plan(alloc, self.instances.map())?;
         Ok(is_touched(script, query, changes.as_slice()))
     }
 
@@ -272,7 +290,10 @@ impl Memory {
         ensures { IfOk result (λ q. (mine : Journal) → Knows self.now mine
             → q ≡ flush_of script.now mine (pending mine)) }
     {
-        let changes = plan(alloc, &self.instances)?;
+        if self.instances.are_untouched() {
+            return Ok(Seq::new(alloc));
+        }
+        let changes = plan(alloc, self.instances.map())?;
         let acts = self.flush_acts(alloc, script, changes)?;
         Ok(acts)
     }

@@ -79,7 +79,7 @@ impl Memory {
         ensures err { OnErr result (self.new ≡ self.old) }
     {
         let held = made_held(alloc, row)?;
-        self.instances.arrive(key, held)?;
+        self.instances.make(key, held)?;
         put(&mut self.marks, *key, true);
         Ok(())
     }
@@ -152,7 +152,7 @@ impl Memory {
         put(&mut self.marks, *key, false);
         add(&mut self.fresh, *key);
         self.changes.push(change);
-        self.instances.set_base(*key, base);
+        self.instances.set_base(key, base);
     }
 
     /// An update was written: the instance stands for the written row from now on. It takes no memory.
@@ -168,14 +168,14 @@ impl Memory {
     {
         add(&mut self.fresh, *key);
         self.changes.push(change);
-        self.instances.set_base(*key, base);
+        self.instances.set_base(key, base);
     }
 
     /// A delete was written: the instance leaves. It takes no memory.
-    fn delete(&mut self, change: Change, key: Key)
+    fn delete(&mut self, change: Change, key: &Key)
         requires { self.old.room ≡ true }
         ensures { self.new ≡ record self.old {
-          instances = with_pairs self.old.instances (drop_in key self.old.instances.held);
+          instances = with_pairs self.old.instances (drop_in key.now self.old.instances.held);
           changes = self.old.changes ++ change ∷ [];
           room = self.new.room;
         } }
@@ -200,7 +200,7 @@ impl Memory {
         match (&change, base) {
             (Change::Insert { .. }, Some(base)) => self.insert(change, &key, base),
             (Change::Update { .. }, Some(base)) => self.update(change, &key, base),
-            (_, _) => self.delete(change, key),
+            (_, _) => self.delete(change, &key),
         }
     }
 
@@ -216,13 +216,7 @@ impl Memory {
             }) }
         ensures err { OnErr result (self.new ≡ self.old) }
     {
-        self.instances.note_removal(*key)?;
-        if is_marked(&self.marks, *key) {
-            self.instances.drop(*key);
-        } else {
-            self.instances.mark(*key);
-        }
-        Ok(())
+        self.instances.remove(key, is_marked(&self.marks, *key))
     }
 
     /// Cells of a row were set.
@@ -235,7 +229,7 @@ impl Memory {
         ensures err { OnErr result (self.new ≡ self.old) }
     {
         let sets = copy_sets(alloc, sets)?;
-        self.instances.set_cells(alloc, *key, sets)
+        self.instances.set_cells(alloc, key, sets)
     }
 
     /// A lock was given.

@@ -1,5 +1,5 @@
 // Which tables a query reads.
-ghost use Rattle.std.specs.Prelude.{◌≡◌, length, slice_get, ◌==◌, false};
+ghost use Rattle.std.specs.Prelude.{◌≡◌, length, slice_get, ◌==◌, false, option_copied};
 ghost use Rattle.std.specs.Option.{option_map_or};
 ghost use Rattle.hib_journal.specs.Query.{mentions as mentioned, reads as is_read, mentions};
 ghost use Rattle.hib_journal.specs.Next.{is_in_tables, tables_of};
@@ -37,7 +37,8 @@ fn conditions_on(condition: &Option<Cond>, entity: EntityNo) -> bool
     }
 }
 
-fn reads(query: &Query, entity: EntityNo) -> bool
+/// Whether a query reads a table.
+pub fn reads(query: &Query, entity: EntityNo) -> bool
     ensures { result ≡ is_read query.now entity }
 {
     query.entity == entity || conditions_on(&query.condition, entity)
@@ -56,12 +57,19 @@ fn touches(query: &Query, entities: usize, changes: &[Change]) -> bool
     false
 }
 
+/// The query of a number; an undeclared one has none.
+pub fn query_of(script: &Script, query: QueryNo) -> Option<&Query>
+    ensures { option_copied result ≡ slice_get script.now.queries query }
+{
+    script.queries.as_slice().get(query.0 as usize)
+}
+
 // By a test of each change.
 fn touches_named(script: &Script, query: QueryNo, changes: &[Change]) -> bool
     ensures { result ≡ touching_in (length script.now.mapping)
         (slice_get script.now.queries query) changes.now }
 {
-    match script.queries.as_slice().get(query.0 as usize) {
+    match query_of(script, query) {
         Some(query) => touches(query, script.mapping.len(), changes),
         None => false,
     }
@@ -78,7 +86,7 @@ pub fn is_touched(script: &Script, query: QueryNo, changes: &[Change]) -> bool
 pub fn is_cached(script: &Script, query: QueryNo) -> bool
     ensures { result ≡ option_map_or (λ d. d.cached) (slice_get script.now.queries query) false }
 {
-    match script.queries.as_slice().get(query.0 as usize) {
+    match query_of(script, query) {
         Some(query) => query.cached,
         None => false,
     }
