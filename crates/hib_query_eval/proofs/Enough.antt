@@ -5,16 +5,16 @@ use Rattle.std.specs.Option.{option_map_or}
 use Rattle.std.specs.List.{filter}
 use Rattle.std.proofs.lemmas.List.{take_all, take_more, take-append-le, take-append-drop, drop-take, length-take, length-map, length-append, map-append, append-nil}
 use Rattle.std.proofs.lemmas.List.Elements.{filter-append}
-use Rattle.std.proofs.lemmas.Bool.{true≢false, and_parts, leb-true, leb-false, le-ltb, eqb-true, eq-eqb, or_right, ltb-false}
+use Rattle.std.proofs.lemmas.Bool.{true≢false, and_parts, and_from, leb-true, leb-false, le-ltb, eqb-true, eq-eqb, or_right, ltb-false}
 use Rattle.hib_base.specs.Keys.{same_key, is_before}
 use Rattle.hib_base.specs.Tables.{Tables, is_first, in_order}
-use Rattle.hib_base.proofs.Tables.{Tested, tested}
+use Rattle.hib_base.proofs.Tables.{Tested, tested, same_key_eq}
 use Rattle.hib_outside.specs.Places.{one_further, place_in}
 use Rattle.hib_outside.proofs.Orders.{precedes, is_first_trans, rest_in_order}
 use Rattle.hib_journal.specs.Types.{Key, Row, Cell, Sort, Select, Query}
 use Rattle.hib_journal.specs.Room.{key}
 use Rattle.hib_journal.specs.Query.{holds, listed, placed, sorted, selected, gives}
-use Rattle.hib_query_eval.specs.Enough.{enough_for, enough, is_enough, first_of, is_listed, IsListed, place_of, FromEntity}
+use Rattle.hib_query_eval.specs.Enough.{enough_for, enough, is_enough, first_of, is_listed, IsFirst, place_of, HasEntity}
 
 -- ---- a loop that stops where a number is enough
 not_full : (o : Option ℕ) (done : Tables) (x : Key × Row) → is_enough (length (first_of o done)) o ≡ false → first_of o (done ++ x ∷ []) ≡ first_of o done ++ x ∷ []
@@ -66,12 +66,15 @@ module _ {A : Type 0} (now : A → Key × Row) (P : Key × Row → Bool) (o : Op
   pub rows_done : length rows ≤ i → map now met ≡ first_of o (filter P rows)
   rows_done l = h ∙ ap (λ t. first_of o (filter P t)) (take_all i rows l)
 
--- ---- the first rows of an entity
-module _ (P : Key × Row → Bool) (k : Key) (f : (a : Key × Row) → same_key a.0 k ≡ false → is_before k a.0 ≡ false → P a ≡ false) where
-  further : (p : Result ℕ ℕ) → place_of (one_further p) ≡ suc (place_of p)
-  further (Ok i) = refl
-  further (Err i) = refl
+-- ---- the rows of an entity
+further : (p : Result ℕ ℕ) → place_of (one_further p) ≡ suc (place_of p)
+further (Ok i) = refl
+further (Err i) = refl
 
+place_further : (x : Key × Row) (xs : Tables) (k : Key) → same_key x.0 k ≡ false → is_before k x.0 ≡ false → place_of (place_in (x ∷ xs) k) ≡ suc (place_of (place_in xs k))
+place_further x xs k s b = (λ i. place_of (cond (s i) (Ok 0) (cond (b i) (Err 0) (one_further (place_in xs k))))) ∙ further (place_in xs k)
+
+module _ (P : Key × Row → Bool) (k : Key) (f : (a : Key × Row) → same_key a.0 k ≡ false → is_before k a.0 ≡ false → P a ≡ false) where
   skipped : (t : Tables) → filter P (drop (place_of (place_in t k)) t) ≡ filter P t
   skipped [] = refl
   skipped (x ∷ xs) = at (tested (same_key x.0 k)) (tested (is_before k x.0)) (skipped xs)
@@ -80,11 +83,9 @@ module _ (P : Key × Row → Bool) (k : Key) (f : (a : Key × Row) → same_key 
       at (inl s) b h = rw s refl
       at (inr s) (inl b) h = rw (s, b) refl
       at (inr s) (inr b) h =
-          let e : place_of (place_in (x ∷ xs) k) ≡ suc (place_of (place_in xs k)) =
-          (λ i. place_of (cond (s i) (Ok 0) (cond (b i) (Err 0) (one_further (place_in xs k))))) ∙ further (place_in xs k) in
-          ap (λ n. filter P (drop n (x ∷ xs))) e ∙ h ∙ sym (ap (λ v. cond v (x ∷ filter P xs) (filter P xs)) (f x s b))
+          ap (λ n. filter P (drop n (x ∷ xs))) (place_further x xs k s b) ∙ h ∙ sym (ap (λ v. cond v (x ∷ filter P xs) (filter P xs)) (f x s b))
 
-pub from_entity : (entity : ℕ) (t : Tables) (n : ℕ) → n ≡ place_of (place_in t (key entity 0)) → FromEntity entity t (drop n t)
+pub from_entity : (entity : ℕ) (t : Tables) (n : ℕ) → n ≡ place_of (place_in t (key entity 0)) → HasEntity entity t (drop n t)
 from_entity entity t n e P g = ap (λ m. filter P (drop m t)) e ∙ skipped P (key entity 0) other t
   where
     other : (a : Key × Row) → same_key a.0 (key entity 0) ≡ false → is_before (key entity 0) a.0 ≡ false → P a ≡ false
@@ -107,21 +108,76 @@ from_entity entity t n e P g = ap (λ m. filter P (drop m t)) e ∙ skipped P (k
                 let e : a.0.id ≡ 0 = omega arith in
                 true≢false (sym (eq-eqb a.0.id 0 e) ∙ z)
 
+pub in_order_drop : (n : ℕ) (t : Tables) → in_order t ≡ true → in_order (drop n t) ≡ true
+in_order_drop zero t o = o
+in_order_drop (suc n) [] o = refl
+in_order_drop (suc n) (x ∷ xs) o = in_order_drop n xs (rest_in_order x xs o).1
+
+-- behind a key no row passes
+module _ (P : Key × Row → Bool) (k : Key) (f : (a : Key × Row) → k.entity ≤ a.0.entity → P a ≡ false) where
+  none_behind : (t : Tables) → in_order t ≡ true → is_first k t ≡ true → filter P t ≡ []
+  none_behind [] o h = refl
+  none_behind (x ∷ xs) o h =
+      let r : (is_first x.0 xs ≡ true) × (in_order xs ≡ true) = rest_in_order x xs o in
+      ap (λ b. cond b (x ∷ filter P xs) (filter P xs)) (f x (above ((precedes k x.0 h).by))) ∙ none_behind xs r.1 (is_first_trans k x.0 xs h r.0)
+    where
+      above : (k.entity < x.0.entity) ⊎ ((k.entity ≡ x.0.entity) × (k.id < x.0.id)) → k.entity ≤ x.0.entity
+      above (inl l) = omega arith
+      above (inr l) = let e : k.entity ≡ x.0.entity = l.0 in omega arith
+
+  pub cut_behind : (t : Tables) → in_order t ≡ true → filter P (take (place_of (place_in t k)) t) ≡ filter P t
+  cut_behind [] o = refl
+  cut_behind (x ∷ xs) o =
+      let r : (is_first x.0 xs ≡ true) × (in_order xs ≡ true) = rest_in_order x xs o in
+      at r.0 r.1 (tested (same_key x.0 k)) (tested (is_before k x.0)) (cut_behind xs r.1)
+    where
+      at : is_first x.0 xs ≡ true → in_order xs ≡ true → Tested (same_key x.0 k) → Tested (is_before k x.0) → filter P (take (place_of (place_in xs k)) xs) ≡ filter P xs
+          → filter P (take (place_of (place_in (x ∷ xs) k)) (x ∷ xs)) ≡ filter P (x ∷ xs)
+      at g o (inl s) b h =
+          let e : x.0 ≡ k = same_key_eq x.0 k s in
+          let p : P x ≡ false = f x (subst (λ j. k.entity ≤ j.entity) (sym e) (omega arith)) in
+          ap (λ c. filter P (take (place_of (cond c (Ok 0) (cond (is_before k x.0) (Err 0) (one_further (place_in xs k))))) (x ∷ xs))) s
+          ∙ sym (none_behind xs o (subst (λ j. is_first j xs ≡ true) e g)) ∙ sym (ap (λ c. cond c (x ∷ filter P xs) (filter P xs)) p)
+      at g o (inr s) (inl b) h =
+          (λ i. filter P (take (place_of (cond (s i) (Ok 0) (cond (b i) (Err 0) (one_further (place_in xs k))))) (x ∷ xs)))
+          ∙ sym (none_behind (x ∷ xs) (and_from (is_first x.0 xs) (in_order xs) g o) b)
+      at g o (inr s) (inr b) h = ap (λ n. filter P (take n (x ∷ xs))) (place_further x xs k s b) ∙ ap (λ t. cond (P x) (x ∷ t) t) h
+
+pub before_next : (entity next : ℕ) (t rest : Tables) (n : ℕ) → next ≡ entity + 1 → in_order rest ≡ true → HasEntity entity t rest → n ≡ place_of (place_in rest (key next 0))
+    → HasEntity entity t (take n rest)
+before_next entity next t rest n e o f p P g = ap (λ m. filter P (take m rest)) p ∙ cut_behind P (key next 0) other rest o ∙ f P g
+  where
+    other : (a : Key × Row) → next ≤ a.0.entity → P a ≡ false
+    other a l = at (tested (P a))
+      where
+        at : Tested (P a) → P a ≡ false
+        at (inr q) = q
+        at (inl q) = let n : a.0.entity ≡ entity = eqb-true a.0.entity entity (g a q) in absurd (omega arith)
+
 of_entity : (q : Query) (t : Tables) (a : Key × Row) → is_listed q t a ≡ true → (a.0.entity == q.entity) ≡ true
 of_entity q t a h = (and_parts (a.0.entity == q.entity) (option_map_or (holds t a.1) q.condition true) h).0
 
 -- as many as are enough stand among the first rows
-pub listed_first : (q : Query) (view t own first met : Tables) (n m : ℕ) → FromEntity q.entity t own → first ≡ take m own
-    → met ≡ first_of (Some n) (filter (is_listed q view) first) → n ≤ length met → met ≡ first_of (Some n) (filter (is_listed q view) t)
-listed_first q view t own first met n m f e h l =
-    let P : Key × Row → Bool = is_listed q view in
+pub listed_first : (P : Key × Row → Bool) (own first met : Tables) (n m : ℕ) → first ≡ take m own → met ≡ first_of (Some n) (filter P first) → n ≤ length met
+    → met ≡ take n (filter P own)
+listed_first P own first met n m e h l =
     let g : met ≡ take n (filter P (take m own)) = h ∙ ap (λ r. take n (filter P r)) e in
     let k : n ≤ length (filter P (take m own)) = long (length (filter P (take m own))) (subst (λ v. n ≤ v) (ap length g ∙ length-take n (filter P (take m own))) l) in
     g ∙ sym (take-append-le n (filter P (take m own)) (filter P (drop m own)) k)
-    ∙ ap (take n) (sym (filter-append P (take m own) (drop m own)) ∙ ap (filter P) (take-append-drop m own) ∙ f P (of_entity q view))
+    ∙ ap (take n) (sym (filter-append P (take m own) (drop m own)) ∙ ap (filter P) (take-append-drop m own))
   where
     long : (v : ℕ) → n ≤ min n v → n ≤ v
     long v h = omega arith
+
+-- what is listed of an entity's rows
+pub first_listed : (q : Query) (view t own met : Tables) (most o : Option ℕ) → view ≡ t → HasEntity q.entity t own → most ≡ o → met ≡ first_of o (filter (is_listed q view) own)
+    → IsFirst most q t met
+first_listed q view t own met most o e f m h =
+    inr (h ∙ (λ i. first_of (sym m i) (f (is_listed q view) (of_entity q view) i)) ∙ ap (λ v. first_of most (filter (is_listed q v) t)) e)
+
+pub all_first : (q : Query) (t rows : Tables) → IsFirst None q t rows → rows ≡ listed q t
+all_first q t rows (inl e) = e
+all_first q t rows (inr e) = e
 
 -- ---- rows of one entity stand in the order of their identifiers
 module _ (q : Query) (view : Tables) where
@@ -191,11 +247,11 @@ same_selected q t Select.Ids (x ∷ os) o l r b c d = refl
 same_selected q t (Select.Column n) [] o l r b c d = ap (map (λ a. unwrap_or (slice_get a.1.cells n) (Cell.Bool false))) (same_cut q t o l r b c d)
 same_selected q t (Select.Column n) (x ∷ os) o l r b c d = refl
 
-pub enough_selected : (q : Query) (t rows : Tables) → in_order t ≡ true → IsListed q t rows → selected q rows q.select ≡ selected q (listed q t) q.select
+pub enough_selected : (q : Query) (t rows : Tables) → in_order t ≡ true → IsFirst (enough q) q t rows → selected q rows q.select ≡ selected q (listed q t) q.select
 enough_selected q t rows r (inl e) = ap (λ s. selected q s q.select) e
 enough_selected q t rows r (inr e) = ap (λ s. selected q s q.select) e ∙ same_selected q t q.select q.order q.offset q.limit r refl refl refl
 
-pub given_of : (q : Query) (t u s rows : Tables) (l : List Cell) → in_order s ≡ true → u ≡ t → s ≡ u → IsListed q s rows → l ≡ selected q rows q.select → l ≡ gives q t
+pub given_of : (q : Query) (t u s rows : Tables) (l : List Cell) → in_order s ≡ true → u ≡ t → s ≡ u → IsFirst (enough q) q s rows → l ≡ selected q rows q.select → l ≡ gives q t
 unfolding gives
 given_of q t u s rows l r e f h g = g ∙ enough_selected q s rows r h ∙ ap (λ v. selected q (listed q v) q.select) (f ∙ e)
 

@@ -43,25 +43,30 @@ row_at_kept p (e ∷ es) k = at (tested (p e.0.entity)) (tested (same_key e.0 k)
     at (inr r) (inl s) h = let c : p k.entity ≡ false = one s ∙ r in rw (r, c) (rw c at h)
     at (inr r) (inr s) h = rw (r, s) h
 
-is_first_kept : (p : ℕ → Bool) (k : Key) (t : Tables) → is_first k t ≡ true → in_order t ≡ true → is_first k (kept p t) ≡ true
-is_first_kept p k [] f o = refl
-is_first_kept p k (e ∷ es) f o =
-    let r : (is_first e.0 es ≡ true) × (in_order es ≡ true) = rest_in_order e es o in
-    at (tested (p e.0.entity)) (is_first_kept p k es (is_first_trans k e.0 es f r.0) r.1)
-  where
-    at : Tested (p e.0.entity) → is_first k (kept p es) ≡ true → is_first k (kept p (e ∷ es)) ≡ true
-    at (inl r) h = rw r f
-    at (inr r) h = rw r h
+-- the rows that pass a test stay in order
+module _ (P : Key × Row → Bool) where
+  pub is_first_passed : (k : Key) (t : Tables) → is_first k t ≡ true → in_order t ≡ true → is_first k (filter P t) ≡ true
+  is_first_passed k [] f o = refl
+  is_first_passed k (e ∷ es) f o =
+      let r : (is_first e.0 es ≡ true) × (in_order es ≡ true) = rest_in_order e es o in
+      at (tested (P e)) (is_first_passed k es (is_first_trans k e.0 es f r.0) r.1)
+    where
+      at : Tested (P e) → is_first k (filter P es) ≡ true → is_first k (filter P (e ∷ es)) ≡ true
+      at (inl r) h = rw r f
+      at (inr r) h = rw r h
+
+  pub in_order_passed : (t : Tables) → in_order t ≡ true → in_order (filter P t) ≡ true
+  in_order_passed [] o = refl
+  in_order_passed (e ∷ es) o =
+      let r : (is_first e.0 es ≡ true) × (in_order es ≡ true) = rest_in_order e es o in
+      at (tested (P e)) (is_first_passed e.0 es r.0 r.1) (in_order_passed es r.1)
+    where
+      at : Tested (P e) → is_first e.0 (filter P es) ≡ true → in_order (filter P es) ≡ true → in_order (filter P (e ∷ es)) ≡ true
+      at (inl r) f h = rw r (and_from (is_first e.0 (filter P es)) (in_order (filter P es)) f h)
+      at (inr r) f h = rw r h
 
 pub in_order_kept : (p : ℕ → Bool) (t : Tables) → in_order t ≡ true → in_order (kept p t) ≡ true
-in_order_kept p [] o = refl
-in_order_kept p (e ∷ es) o =
-    let r : (is_first e.0 es ≡ true) × (in_order es ≡ true) = rest_in_order e es o in
-    at (tested (p e.0.entity)) (is_first_kept p e.0 es r.0 r.1) (in_order_kept p es r.1)
-  where
-    at : Tested (p e.0.entity) → is_first e.0 (kept p es) ≡ true → in_order (kept p es) ≡ true → in_order (kept p (e ∷ es)) ≡ true
-    at (inl r) f h = rw r (and_from (is_first e.0 (kept p es)) (in_order (kept p es)) f h)
-    at (inr r) f h = rw r h
+in_order_kept p t o = in_order_passed (λ e. p e.0.entity) t o
 
 other_way : (a b : Key) → same_key a b ≡ false → same_key b a ≡ false
 other_way a b n = at (tested (same_key b a))

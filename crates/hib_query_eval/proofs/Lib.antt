@@ -12,3 +12,4 @@ pub mod Searched
 pub mod Enough
 pub mod Lowest
 pub mod Mets
+pub mod Overlays

@@ -1,15 +1,16 @@
 -- Identifiers among which those of all rows are that meet a condition after changes.
 use Rattle.std.specs.Option.{option_map_or}
-use Rattle.std.proofs.Common.{◌≡◌, ℕ, zero, suc, ◌+◌, ◌<◌, true, false, cond, ◌&&◌, ◌||◌, ◌==◌, List, [], ◌∷◌, ◌++◌, length, take, get_or, Some, None, refl, ap, sym, ◌∙◌, subst, inl, inr, arith, add-one}
-use Rattle.std.specs.List.{list_any}
+use Rattle.std.proofs.Common.{◌≡◌, ℕ, zero, suc, ◌+◌, ◌<◌, Bool, true, false, cond, ◌&&◌, ◌||◌, ◌==◌, List, [], ◌∷◌, ◌++◌, length, take, get_or, Some, None, Option, IfSome, refl, ap, sym, ◌∙◌, subst, inl, inr, arith, add-one}
+use Rattle.std.specs.List.{list_any, filter}
 use Rattle.std.proofs.lemmas.Bool.{true≢false, or_parts, and_parts, eqb-true, eq-eqb, ne_eqb}
 use Rattle.hib_base.specs.Keys.{same_key}
 use Rattle.hib_base.specs.Tables.{Tables, row_at, key_of, after_changes}
 use Rattle.hib_base.proofs.Tables.{Tested, tested}
 use Rattle.hib_journal.specs.Types.{Key, Row, Change, Cond, Query}
-use Rattle.hib_journal.specs.Query.{holds, mentions}
+use Rattle.hib_journal.specs.Query.{holds, mentions, listed}
 use Rattle.hib_journal.specs.Room.{key}
 use Rattle.hib_query_eval.specs.declared.places.Place.{Place}
+use Rattle.hib_query_eval.specs.Enough.{is_listed}
 use Rattle.hib_query_eval.specs.Covers.{Covers, HasAll, HasMet}
 use Rattle.hib_query_eval.specs.Places.{IsIndexOf, has_id}
 use Rattle.hib_query_eval.specs.Views.{is_changed}
@@ -70,16 +71,30 @@ not_stepped c (d ∷ cs) e n r =
     or_parts (mentions (key_of d).entity c) (list_any (λ d. mentions (key_of d).entity c) cs) e in
     rw (ne_eqb (key_of d).entity n (λ s. true≢false (sym r ∙ subst (λ m. mentions m c ≡ false) s p.0))) (not_stepped c cs p.1 n r)
 
--- the rows that meet a condition after changes of no table to which it steps: those that met it, or that are changed
-pub covers_changed : (ps : List Place) (cs : List Change) (q : Query) (c : Cond) (old new : List ℕ) → q.condition ≡ Some c → list_any (λ d. mentions (key_of d).entity c) cs ≡ false
-    → Covers ps q.entity c old → ((i : ℕ) → has_id i old ≡ true → has_id i new ≡ true) → ((i : ℕ) → is_changed (key q.entity i) cs ≡ true → has_id i new ≡ true)
-    → (t : Tables) → IsIndexOf ps t → HasMet q (after_changes cs t) new
-covers_changed ps cs q c old new e s f g h t x r i at m = by (tested (is_changed (key q.entity i) cs))
-  where
-    met : holds t r c ≡ true
-    met =
-        sym (holds_same (after_changes cs t) t r c (λ n j v. row_same (key n j) cs t (not_stepped c cs s n v))) ∙ ap (λ x. option_map_or (holds (after_changes cs t) r) x true) (sym e) ∙ m
+-- identifiers among which are those of the rows that meet a query's condition
+pub all_met : {A : Type 0} (items : A → List ℕ) (ps : List Place) (q : Query) (c : Cond) (o : Option A) → q.condition ≡ Some c
+    → IfSome o (λ a. Covers ps q.entity c (items a)) → IfSome o (λ a. (t : Tables) → IsIndexOf ps t → HasMet q t (items a))
+all_met items ps q c None e f = tt
+all_met items ps q c (Some a) e f = λ t x r i at m. f t x r i at (ap (λ o. option_map_or (holds t r) o true) (sym e) ∙ m)
 
-    by : Tested (is_changed (key q.entity i) cs) → has_id i new ≡ true
-    by (inl v) = h i v
-    by (inr v) = g i (f t x r i (unless_changed cs t (key q.entity i) r at v) met)
+-- what a query lists after changes that touch no table to which its condition steps
+pub listed_after : (q : Query) (cs : List Change) (t : Tables) → option_map_or (λ c. list_any (λ d. mentions (key_of d).entity c) cs) q.condition false ≡ false
+    → filter (is_listed q t) (after_changes cs t) ≡ listed q (after_changes cs t)
+listed_after q cs t d = ap (λ p. filter (λ a. (a.0.entity == q.entity) && p a) (after_changes cs t)) swap
+  where
+    apart : (o : Option Cond) → option_map_or (λ c. list_any (λ d. mentions (key_of d).entity c) cs) o false ≡ false → (n : ℕ) → option_map_or (mentions n) o false ≡ true → touches n cs ≡ false
+    apart None d n h = absurd (true≢false (sym h))
+    apart (Some c) d n h = not_stepped c cs d n h
+
+    same : (r : Row) (o : Option Cond) → ((n : ℕ) → option_map_or (mentions n) o false ≡ true → touches n cs ≡ false)
+        → option_map_or (holds t r) o true ≡ option_map_or (holds (after_changes cs t) r) o true
+    same r None f = refl
+    same r (Some c) f = sym (holds_same (after_changes cs t) t r c (λ n i h. row_same (key n i) cs t (f n h)))
+
+    swap : ◌≡◌ {A = Key × Row → Bool} (λ a. option_map_or (holds t a.1) q.condition true) (λ a. option_map_or (holds (after_changes cs t) a.1) q.condition true)
+    swap = λ i a. same a.1 q.condition (apart q.condition d) i
+
+-- a condition that mentions no table
+pub none_stepped : (c : Cond) (cs : List Change) → ((n : ℕ) → mentions n c ≡ false) → false ≡ list_any (λ d. mentions (key_of d).entity c) cs
+none_stepped c [] f = refl
+none_stepped c (d ∷ cs) f = λ i. sym (f (key_of d).entity) i || none_stepped c cs f i

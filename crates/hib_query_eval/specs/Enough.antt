@@ -1,5 +1,5 @@
 -- How many of the rows that a query lists are enough for what it gives.
-use Rattle.std.specs.Prelude.{◌≡◌, ℕ, ◌+◌, Bool, true, false, ◌&&◌, ◌==◌, nat_le, ◌⊎◌, List, [], ◌∷◌, take, Some, None, Option, Result, Ok, Err}
+use Rattle.std.specs.Prelude.{◌≡◌, ℕ, ◌+◌, Bool, true, false, cond, ◌&&◌, ◌==◌, nat_le, ◌⊎◌, List, [], ◌∷◌, take, Some, None, Option, Result, Ok, Err}
 use Rattle.std.specs.Option.{option_map_or}
 use Rattle.std.specs.List.{filter}
 use Rattle.hib_journal.specs.Types.{Key, Row, Sort, Select, Query}
@@ -28,15 +28,20 @@ first_of (Some n) t = take n t
 abbrev pub is_listed : Query → Tables → Key × Row → Bool
 is_listed q t a = (a.0.entity == q.entity) && option_map_or (holds t a.1) q.condition true
 
--- the rows that a query lists, or as many of the first as are enough
-abbrev pub IsListed : Query → Tables → Tables → Type 0
-IsListed q t rows = (rows ≡ listed q t) ⊎ (rows ≡ first_of (enough q) (listed q t))
+-- the rows that a query lists, or the first of them, where a number is enough
+abbrev pub IsFirst : Option ℕ → Query → Tables → Tables → Type 0
+IsFirst most q t rows = (rows ≡ listed q t) ⊎ (rows ≡ first_of most (listed q t))
+
+-- the row of a key, if a query lists it
+abbrev pub row_listed : Query → Tables → Key → Option Row → Option Row
+row_listed q t k None = None
+row_listed q t k (Some r) = cond (is_listed q t (k, r)) (Some r) None
 
 -- where a key's row stands, or else where it belongs
 abbrev pub place_of : Result ℕ ℕ → ℕ
 place_of (Ok i) = i
 place_of (Err i) = i
 
--- all rows of an entity are among the rest
-abbrev pub FromEntity : ℕ → Tables → Tables → Type 0
-FromEntity entity t rest = (P : Key × Row → Bool) → ((a : Key × Row) → P a ≡ true → (a.0.entity == entity) ≡ true) → filter P rest ≡ filter P t
+-- all rows of an entity are among some of the rows
+abbrev pub HasEntity : ℕ → Tables → Tables → Type 0
+HasEntity entity t some = (P : Key × Row → Bool) → ((a : Key × Row) → P a ≡ true → (a.0.entity == entity) ≡ true) → filter P some ≡ filter P t

@@ -83,7 +83,7 @@ fn add_new(
 }
 
 /// Gives a key a copy of a row, or none.
-fn set_row(
+pub fn set_row(
     alloc: Global,
     rows: &mut Vec<(Key, Row)>,
     key: &Key,

@@ -6,8 +6,7 @@ ghost use Rattle.hib_journal.specs.Types.{Commit};
 ghost use Rattle.hib_query_eval.specs.Met.{met};
 
 use crate::places::Place;
-use crate::view::View;
-use crate::{changing, listing, met, reading, searches};
+use crate::{changing, met, overlay, reading};
 use hib_base::{Change, Cond, EntityNo, Key, Listing, Query, Row, Rows};
 use std::alloc::{AllocError, Global};
 use std::collections::BTreeSet;
@@ -73,11 +72,8 @@ impl Index {
         ensures ordered { in_order self.now ≡ true }
         ensures given { IfOk result (λ l. l ≡ gives query.now (after_changes own.now self.now)) }
     {
-        let rows = self.rows.as_slice();
         let changes = reading::touching(query, own);
-        let view = View::over(alloc, rows, changes)?;
-        let met = searches::listed(alloc, query, rows, &self.places, changes, &view)?;
-        listing::selected(alloc, query, &met)
+        overlay::gives(alloc, query, self.rows.as_slice(), &self.places, changes)
     }
 
     /// The rows of an entity that meet a condition, if there is one. Fails for want of memory alone.

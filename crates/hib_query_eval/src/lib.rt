@@ -10,6 +10,7 @@ mod laws;
 mod listing;
 mod met;
 mod orders;
+mod overlay;
 mod places;
 mod reading;
 mod searches;

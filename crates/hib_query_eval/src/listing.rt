@@ -120,7 +120,15 @@ pub fn listed<'a>(
 fn is_listed<'a>(query: &Query, view: &'a View<'_>, row: &'a (Key, Row)) -> bool
     ensures { result ≡ is_listed query.now view.now row.now }
 {
-    row.0.entity == query.entity && conditions::meets(view, &row.1, &query.condition)
+    lists(query, view, &row.0, &row.1)
+}
+
+/// Whether a query lists a row of a key.
+#[inline]
+pub fn lists<'a>(query: &Query, view: &'a View<'_>, key: &Key, row: &'a Row) -> bool
+    ensures { result ≡ is_listed query.now view.now (key.now, row.now) }
+{
+    key.entity == query.entity && conditions::meets(view, row, &query.condition)
 }
 
 /// So many rows from a place on.

@@ -1,5 +1,5 @@
 // Which tables a query reads.
-ghost use Rattle.std.specs.Prelude.{◌≡◌, ◌||◌, ◌==◌, false};
+ghost use Rattle.std.specs.Prelude.{◌≡◌, ◌||◌, ◌==◌, ℕ, false};
 ghost use Rattle.std.specs.Option.{option_map_or};
 ghost use Rattle.std.specs.List.{list_any};
 ghost use Rattle.hib_base.specs.Tables.{Tables, key_of, after_changes};
@@ -52,16 +52,41 @@ fn is_touched(query: &Query, changes: &[Change]) -> bool
     false
 }
 
+/// Whether a condition steps to any table.
+fn steps(condition: &Cond) -> bool
+    ensures { result ≡ false → (n : ℕ) → mentions n condition.now ≡ false }
+{
+    match condition {
+        Cond::And(first, second) | Cond::Or(first, second) => steps(first) || steps(second),
+        Cond::Not(only) => steps(only),
+        Cond::Test { path, .. } | Cond::Among { path, .. } => path.target.is_some(),
+    }
+}
+
 /// Whether changes touch a table to which a condition steps.
-pub fn is_stepped(condition: &Cond, changes: &[Change]) -> bool
+fn is_stepped(condition: &Cond, changes: &[Change]) -> bool
     ensures { result ≡ list_any (λ c. mentions (key_of c).entity condition.now) changes.now }
 {
+    if !steps(condition) {
+        return false;
+    }
     for change in changes {
         if mentions(change.key().entity, condition) {
             return true;
         }
     }
     false
+}
+
+/// Whether changes touch a table to which a query's condition steps.
+pub fn touches_steps(query: &Query, changes: &[Change]) -> bool
+    ensures { result ≡ option_map_or (λ q. list_any (λ c. mentions (key_of c).entity q) changes.now)
+        query.now.condition false }
+{
+    match &query.condition {
+        Some(condition) => is_stepped(condition, changes),
+        None => false,
+    }
 }
 
 /// The changes, or none if they touch no table that a query reads.

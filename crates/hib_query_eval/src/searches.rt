@@ -1,5 +1,5 @@
 // The rows that a query lists, by an index and with changes laid over.
-ghost use Rattle.std.specs.Prelude.{◌≡◌, ◌≤◌, ℕ, true, length, [], None, Ok, Some, IfOk, IfSome, OnOk, map, option_copied};
+ghost use Rattle.std.specs.Prelude.{◌≡◌, ◌≤◌, ℕ, true, length, IfOk, IfSome, OnOk, map, take, option_copied};
 ghost use Rattle.std.specs.List.Sorted.{IsStrictlyIncreasing};
 ghost use Rattle.hib_base.specs.Tables.{Tables, in_order, after_changes};
 ghost use Rattle.hib_journal.specs.Room.{key as key_at};
@@ -7,7 +7,7 @@ ghost use Rattle.hib_journal.specs.Query.{listed};
 ghost use Rattle.std.specs.List.{filter};
 ghost use Rattle.hib_outside.specs.Places.{place_in};
 ghost use Rattle.hib_query_eval.specs.Covers.{HasAll, HasMet};
-ghost use Rattle.hib_query_eval.specs.Enough.{enough, is_listed, first_of, IsListed, place_of, FromEntity};
+ghost use Rattle.hib_query_eval.specs.Enough.{is_listed, IsFirst, place_of, HasEntity};
 ghost use Rattle.hib_query_eval.specs.Found.{row_in, if_met};
 ghost use Rattle.hib_query_eval.specs.Places.{IsIndexOf, has_id};
 ghost use Rattle.hib_query_eval.specs.Views.{is_changed};
@@ -15,7 +15,7 @@ ghost use Rattle.hib_query_eval.specs.Views.{is_changed};
 use crate::candidates::{candidates, is_wide};
 use crate::places::Place;
 use crate::view::View;
-use crate::{conditions, listing, reading};
+use crate::{conditions, listing};
 use hib_base::{Change, EntityNo, Key, Query, Row};
 use hib_outside::keyed;
 use std::alloc::{AllocError, Global};
@@ -97,29 +97,18 @@ fn rising(mut ids: Vec<u64>) -> Vec<u64>
     ids
 }
 
-/// Identifiers among which are those of all rows that meet a query's condition after changes. None if the places don't
-/// narrow the condition, or if the changes touch a table to which it steps.
+/// Identifiers among which are those of all rows that meet a query's condition. None if the places don't narrow it much.
 fn narrowed(
     alloc: Global,
     query: &Query,
     places: &BTreeSet<Place>,
-    changes: &[Change],
     most: usize,
 ) -> Result<Option<Vec<u64>>, AllocError>
     ensures { IfOk result (λ o. IfSome o (λ ids. (t : Tables) → IsIndexOf places.now.keys t
-        → HasMet query.now (after_changes changes.now t) ids.items)) }
+        → HasMet query.now t ids.items)) }
 {
-    let Some(condition) = &query.condition else {
-        return Ok(None);
-    };
-    if reading::is_stepped(condition, changes) {
-        return Ok(None);
-    }
-    match candidates(alloc, places, query.entity, condition, most)? {
-        Some(mut ids) => {
-            add_changed(&mut ids, query.entity, changes)?;
-            Ok(Some(ids))
-        }
+    match &query.condition {
+        Some(condition) => candidates(alloc, places, query.entity, condition, most),
         None => Ok(None),
     }
 }
@@ -138,70 +127,31 @@ fn every_id(
     Ok(ids)
 }
 
-/// Identifiers among which are those of all rows that meet a query's condition after changes. None only without changes:
-/// then all rows are to be gone over.
-fn searched(
-    alloc: Global,
-    query: &Query,
-    rows: &[(Key, Row)],
-    places: &BTreeSet<Place>,
-    changes: &[Change],
-) -> Result<Option<Vec<u64>>, AllocError>
-    requires ordered { in_order rows.now ≡ true }
-    requires indexed { IsIndexOf places.now.keys rows.now }
-    ensures all { IfOk result (λ o. IfSome o
-        (λ ids. HasMet query.now (after_changes changes.now rows.now) ids.items)) }
-    ensures none { result ≡ Ok None → changes.now ≡ [] }
-{
-    let most = rows_of(rows, query.entity) / 8;
-    match narrowed(alloc, query, places, changes, most)? {
-        Some(ids) => Ok(Some(ids)),
-        None if changes.is_empty() => Ok(None),
-        None => {
-            let ids = every_id(alloc, query.entity, rows, changes)?;
-            Ok(Some(ids))
-        }
-    }
-}
-
 /// The rows that are enough, where so many are listed among the first rows. None else, and where the places tell that few rows meet
 /// the condition.
 fn listed_early<'a>(
     alloc: Global,
     query: &Query,
-    rows: &'a [(Key, Row)],
+    own: &'a [(Key, Row)],
     places: &BTreeSet<Place>,
     view: &'a View<'_>,
+    enough: usize,
 ) -> Result<Option<Vec<&'a (Key, Row)>>, AllocError>
-    requires { in_order rows.now ≡ true }
     ensures { IfOk result (λ o. IfSome o (λ v. map (λ r. r.now) v.items
-        ≡ first_of (enough query.now) (filter (is_listed query.now view.now) rows.now))) }
+        ≡ take enough (filter (is_listed query.now view.now) own.now))) }
 {
-    let Some(enough) = listing::enough(query) else {
-        return Ok(None);
-    };
     if let Some(condition) = &query.condition {
         let many = enough.saturating_mul(2).saturating_add(64);
         if !is_wide(alloc, places, query.entity, condition, many)? {
             return Ok(None);
         }
     }
-    let own = from_entity(rows, query.entity);
     let first = &own[..own.len().min(enough.saturating_mul(16).saturating_add(512))];
     let met = listing::listed(alloc, query, first, view, Some(enough))?;
     if met.len() < enough {
         return Ok(None);
     }
     Ok(Some(met))
-}
-
-/// The rows from the first one of an entity on.
-fn from_entity(rows: &[(Key, Row)], entity: EntityNo) -> &[(Key, Row)]
-    requires { in_order rows.now ≡ true }
-    ensures { FromEntity entity rows.now result.now }
-{
-    let first = place(rows, Key { entity, id: 0 });
-    &rows[first..]
 }
 
 /// The place of a key's row, or where it belongs.
@@ -216,46 +166,80 @@ fn place(rows: &[(Key, Row)], key: Key) -> usize
     }
 }
 
-/// How many rows of an entity there are, but for one whose identifier is the last.
-fn rows_of(rows: &[(Key, Row)], entity: EntityNo) -> usize
+/// The rows from the first one of an entity on.
+fn from_entity(rows: &[(Key, Row)], entity: EntityNo) -> &[(Key, Row)]
     requires { in_order rows.now ≡ true }
+    ensures ordered { in_order result.now ≡ true }
+    ensures has_all { HasEntity entity rows.now result.now }
 {
     let first = place(rows, Key { entity, id: 0 });
-    let last = place(
-        rows,
-        Key {
-            entity,
-            id: u64::MAX,
-        },
-    );
-    last.saturating_sub(first)
+    &rows[first..]
 }
 
-/// The rows that a query lists of a view, which is that of rows with changes laid over them.
+/// The rows of an entity, which stand together.
+pub fn of_entity(rows: &[(Key, Row)], entity: EntityNo) -> &[(Key, Row)]
+    requires { in_order rows.now ≡ true }
+    ensures { HasEntity entity rows.now result.now }
+{
+    let rest = from_entity(rows, entity);
+    match entity.0.checked_add(1) {
+        Some(next) => {
+            let next = EntityNo(next);
+            let behind = place(
+                rest,
+                Key {
+                    entity: next,
+                    id: 0,
+                },
+            );
+            &rest[..behind]
+        }
+        None => rest,
+    }
+}
+
+/// The rows that a query lists of rows in order. Where a number is enough, perhaps no more than that.
 pub fn listed<'a>(
     alloc: Global,
     query: &Query,
     rows: &'a [(Key, Row)],
     places: &BTreeSet<Place>,
-    changes: &[Change],
     view: &'a View<'_>,
+    most: Option<usize>,
 ) -> Result<Vec<&'a (Key, Row)>, AllocError>
-    requires rows { in_order rows.now ≡ true }
-    requires ordered { in_order view.now ≡ true }
+    requires ordered { in_order rows.now ≡ true }
     requires indexed { IsIndexOf places.now.keys rows.now }
-    requires view { view.now ≡ after_changes changes.now rows.now }
-    ensures { IfOk result (λ v. IsListed query.now view.now (map (λ r. r.now) v.items)) }
+    requires view { view.now ≡ rows.now }
+    ensures { IfOk result (λ v. IsFirst most query.now rows.now (map (λ r. r.now) v.items)) }
 {
-    if changes.is_empty() {
-        if let Some(met) = listed_early(alloc, query, rows, places, view)? {
+    let own = of_entity(rows, query.entity);
+    if let Some(enough) = most {
+        if let Some(met) = listed_early(alloc, query, own, places, view, enough)? {
             return Ok(met);
         }
     }
-    match searched(alloc, query, rows, places, changes)? {
+    match narrowed(alloc, query, places, own.len() / 8)? {
         Some(ids) => {
             let ids = rising(ids);
             found(alloc, query, view, ids.as_slice())
         }
-        None => listing::listed(alloc, query, rows, view, listing::enough(query)),
+        None => listing::listed(alloc, query, own, view, most),
     }
+}
+
+/// The rows that a query lists of a view, which is that of rows with changes laid over them.
+pub fn listed_over<'a>(
+    alloc: Global,
+    query: &Query,
+    rows: &[(Key, Row)],
+    changes: &[Change],
+    view: &'a View<'_>,
+) -> Result<Vec<&'a (Key, Row)>, AllocError>
+    requires ordered { in_order view.now ≡ true }
+    requires view { view.now ≡ after_changes changes.now rows.now }
+    ensures { IfOk result (λ v. map (λ r. r.now) v.items ≡ listed query.now view.now) }
+{
+    let ids = every_id(alloc, query.entity, rows, changes)?;
+    let ids = rising(ids);
+    found(alloc, query, view, ids.as_slice())
 }
