@@ -144,7 +144,30 @@ fn all_completed(
     Ok(acts)
 }
 
-/// What completes each of the keys of these changes, in order of first change.
+/// What completes the key of the only change.
+fn one_completed(
+    alloc: Global,
+    mapping: &Mapping,
+    change: &Change,
+    locks: &IndexMap<Key, Tick>,
+    done: bool,
+    floor: Tick,
+) -> Result<Acts, AllocError>
+    ensures { IfOk result (λ q. q ≡ keys_acts mapping.now (change.now ∷ []) locks.now.entries done
+        floor (keys_of (change.now ∷ []))) }
+{
+    let key = change.key();
+    let strategy = strategy_of(mapping.as_slice(), key.entity);
+    let lock = lock_number(locks, &key);
+    let row = put_back(done, Some(change));
+    let mut acts = Seq::new(alloc);
+    if let Some(act) = key_completed(alloc, Some(change), strategy, key, lock, floor, row)? {
+        acts.push(act)?;
+    }
+    Ok(acts)
+}
+
+/// What completes each of the keys of these changes, in order of first change. Maps are made only if there are several.
 fn keys_completed(
     alloc: Global,
     mapping: &Mapping,
@@ -156,8 +179,14 @@ fn keys_completed(
     ensures { IfOk result (λ q. q ≡ keys_acts mapping.now changes.now locks.now.entries done floor
         (keys_of changes.now)) }
 {
-    let touched = Touched::of(alloc, changes)?;
-    all_completed(alloc, mapping, changes, &touched, locks, done, floor)
+    match changes {
+        [] => Ok(Seq::new(alloc)),
+        [change] => one_completed(alloc, mapping, change, locks, done, floor),
+        _ => {
+            let touched = Touched::of(alloc, changes)?;
+            all_completed(alloc, mapping, changes, &touched, locks, done, floor)
+        }
+    }
 }
 
 /// What completes a transaction that wrote these changes, but for its End: key by key in order of first change, a row is
