@@ -56,8 +56,8 @@ pub fn columns(alloc: Global, bytes: &[u8]) -> Result<EntityDef, AllocError> {
     for _ in 0..number_of(count) {
         columns.push(column(alloc, None))?;
     }
-    for default in defaults.into_vec() {
-        columns.push(column(alloc, Some(default)))?;
+    for default in defaults.as_slice() {
+        columns.push(column(alloc, Some(default.copy(alloc)?)))?;
     }
     Ok(EntityDef {
         name: Seq::new(alloc),
