@@ -2,7 +2,7 @@
 
 use crate::{ending, judge};
 use hib_base::{
-    Act, Cell, Change, Commit, EntityNo, Entry, Key, Outcome, Part, Reply, Row, Script, Seq,
+    Act, Cell, Cells, Change, Commit, EntityNo, Entry, Key, Outcome, Part, Reply, Row, Script, Seq,
     SessionDef, SessionNo, Tick,
 };
 use hib_order_law::Verdicts;
@@ -23,11 +23,11 @@ const NONE: Verdicts = Verdicts {
 };
 
 fn row(alloc: Global, cell: i64) -> Result<Row, AllocError> {
-    let mut cells = Seq::new(alloc);
+    let mut cells = Vec::new(alloc);
     cells.push(Cell::Int(cell))?;
     Ok(Row {
         version: None,
-        cells,
+        cells: Cells::from_vec(cells)?,
     })
 }
 
