@@ -13,7 +13,7 @@ use Rattle.hib_journal.specs.Sessions.{Journal, changes_in, changes_after, time_
 use Rattle.hib_journal.specs.Held.{held, pending, is_fresh, without_key}
 use Rattle.hib_journal.specs.Plan.{Plan, after, left_of, first_act, one, each, InOrder}
 use Rattle.hib_journal.specs.Next
-use Rattle.hib_session.proofs.Once.{times, AllAsk, all_pending, once_pending}
+use Rattle.hib_session.proofs.Once.{none_some, some_same, times, AllAsk, all_pending, once_pending}
 use Rattle.hib_session.proofs.Still.{touched, touched_by, has, filter_few, without_less, asks_not_still, IsCalm, IsDue, calm_start, calm_after, is_pause, ask_pause, ask_write, once_apart, once_rest}
 use Rattle.hib_session.specs.Bound.{most_entries}
 
@@ -27,15 +27,9 @@ more : (p : Plan) (n m : ℕ) → n ≤ m → AtMost n p → AtMost m p
 more Plan.Over n m l w = tt
 more (Plan.Do a rest) n m l w = (omega (arith, l, w.0), λ e q. more (rest e) (n - 1) (m - 1) (omega (arith, l)) (w.1 e q))
 
-none_some : {A : Type 0} (a : A) → ◌≡◌ {A = Option A} None (Some a) → ⊥
-none_some a p = cc
-
-some_same : {A : Type 0} (a b : A) → ◌≡◌ {A = Option A} (Some a) (Some b) → a ≡ b
-some_same a b p = cc
-
 step : (p : Plan) (k : ℕ) (e : Entry) → AtMost k p → first_act p ≡ Some e.act → (1 ≤ k) × AtMost (k - 1) (after p e)
-step Plan.Over k e w p = absurd (none_some e.act p)
-step (Plan.Do a rest) k e w p = (w.0, w.1 e (sym (some_same a e.act p)))
+step Plan.Over k e w p = none_some p
+step (Plan.Do a rest) k e w p = (w.0, w.1 e (sym (some_same p)))
 
 few : (p : Plan) (n : ℕ) (mine : Journal) → AtMost n p → InOrder p mine → (length mine ≤ n) × AtMost (n - length mine) (left_of p mine)
 few p n [] w o = (omega arith, subst (λ m. AtMost m p) (let e : n ≡ n - 0 = omega arith in e) w)
