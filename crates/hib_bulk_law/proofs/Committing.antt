@@ -163,8 +163,8 @@ module _ (script : Script) (lines : List BulkDef) (start : Tables) (k : Key) (rw
       mine a q u d p w (Kind.Begins x) i = let g : false ≡ true = rw x at d in absurd (false≢true g)
       mine a q u d p w (Kind.Writes c x) i =
           let g : done_in (own s (plain h)) ≡ true = rw x at d in
-          let f : done_in (own s (plain h)) ≡ false = subst (λ y. Working.Allowed script k (own s (plain h)) y) x w in
-          absurd (true≢false (sym g ∙ f))
+          let f : Working.Allowed script k (own s (plain h)) (Act.Write c) = subst (λ y. Working.Allowed script k (own s (plain h)) y) x w in
+          absurd (true≢false (sym g ∙ f.0))
       mine a q u d p w (Kind.Commits x y) i =
           let a2 : e.act ≡ BulkAct.Plain Act.Commit = q ∙ ap (λ z. BulkAct.Plain z) x in
           let r2 : e.reply ≡ BulkReply.Plain (Reply.Commit Commit.Committed) = commit_reply e.reply (subst (λ z. plain_reply z e.reply ≡ Reply.Commit Commit.Committed) x y) in

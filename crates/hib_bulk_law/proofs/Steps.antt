@@ -273,7 +273,9 @@ module _ (script : Script) (lines : List BulkDef) (start : Tables) (k : Key) (rw
       mine b w (Kind.Begins x) = absurd (true≢false (sym held ∙ subst (λ z. Working.Allowed script k (own u G) z) x w))
       mine b w (Kind.Writes d x) = record {
         done = rw (b, x) refl;
-        last = λ y. absurd (true≢false (sym y ∙ subst (λ z. Working.Allowed script k (own u G) z) x w));
+        last = λ y.
+            let f : Working.Allowed script k (own u G) (Act.Write d) = subst (λ z. Working.Allowed script k (own u G) z) x w in
+            absurd (true≢false (sym y ∙ f.0));
         expects = λ y v z. sym (expected_on u held) ∙ rw b at z;
       }
       mine b w (Kind.Commits x y) =

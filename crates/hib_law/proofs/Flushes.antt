@@ -16,9 +16,9 @@ use Rattle.hib_journal.proofs.Plans.{Allows, allows_join, runs_each}
 use Rattle.hib_law.proofs.Walks.{allows_as}
 use Rattle.hib_law.proofs.HeldRows.{HasRead, fresh_stay, reads_on}
 use Rattle.hib_law.proofs.Pending.{PendingBy, new_unwritten, insert_says, update_says, delete_says}
-use Rattle.hib_law.proofs.Working.{IsWorking, IsFreeIn, IsSettled, settled_plain, Allowed, Right, Goes, holds, working_plain}
+use Rattle.hib_law.proofs.Working.{IsWorking, IsFreeIn, IsSettled, IsNoUpdate, MayWrite, settled_plain, Allowed, Right, Goes, holds, working_plain}
 use Rattle.hib_law.proofs.Basics.{none_some, some_same}
-use Rattle.hib_law.proofs.Flushing.{first_append_other, IsNoUpdate, MayWrite, working_lock, not_in_first, in_first, IsFlushing, flushing_on, flushing_write, none_not_in, Kept, kept_on, free_write, held_stay}
+use Rattle.hib_law.proofs.Flushing.{first_append_other, working_lock, not_in_first, in_first, IsFlushing, flushing_on, flushing_write, none_not_in, Kept, kept_on, free_write, held_stay}
 
 -- some changes name k; each is of what is held of its key; and k is changed once at most
 module _ (k : Key) (start : Journal) where
@@ -45,7 +45,7 @@ module _ (script : Script) (k : Key) (rw_k : strategy script k.entity ≡ Strate
   allow_write : (c : Change) (n m : Journal) → IsFlushing k start m → MayWrite k m c → PendingBy (held start (key_of c)) c →
       changes_in m ≡ changes_in n → Kept k n m c → IsFreeIn k n (first_on k (changes_in n)) → Allow (Act.Write c ∷ []) m (Wrote c n)
   allow_write c n m f a b q g w = (
-    f.working.undone,
+    (f.working.undone, a),
     λ e p r.
         let u : changes_in (e ∷ m) ≡ changes_in n ++ c ∷ [] = rw p (ap (λ cs. cs ++ c ∷ []) q) in (
           flushing_write k start m e c f p a r b,

@@ -6,13 +6,13 @@ use Rattle.hib_journal.specs.Types.{State, Key, Row, Change, Act, Entry}
 use Rattle.hib_base.specs.Keys.{same_key}
 use Rattle.hib_base.specs.Tables.{key_of, first_on}
 use Rattle.hib_journal.specs.Sessions.{Journal, floor_in, changes_in}
-use Rattle.hib_journal.specs.Held.{Arrival, is_begin, held, stay, Stay, base_of, has_left, instance_of, is_removed, state_of, Instance, next_version}
+use Rattle.hib_journal.specs.Held.{Arrival, is_begin, held, stay, Stay, base_of, has_left, instance_of, is_removed, state_of, Instance}
 use Rattle.hib_journal.specs.Next.{is_in}
 use Rattle.hib_base.proofs.Tables.{Tested, tested, same_key_eq}
 use Rattle.hib_law.proofs.Commits.{AreSteps, IsStep}
 use Rattle.hib_law.proofs.HeldRows.{HasRead, reads_on}
 use Rattle.hib_law.proofs.Pending.{PendingBy}
-use Rattle.hib_law.proofs.Working.{IsWorking, IsReadyIn, IsFreeIn, free_same, Right, holds, holds_after}
+use Rattle.hib_law.proofs.Working.{IsWorking, IsReadyIn, IsFreeIn, IsNoUpdate, MayWrite, free_same, Right, holds, holds_after}
 use Rattle.hib_law.proofs.Basics.{none_some, some_same}
 
 -- one more change at the end of a list
@@ -60,18 +60,6 @@ steps_none k (d ∷ cs) p = by_key (tested (same_key (key_of d) k)) p (steps_non
     by_key : Tested (same_key (key_of d) k) → first_on k (d ∷ cs) ≡ None → (first_on k cs ≡ None → AreSteps k cs) → AreSteps k (d ∷ cs)
     by_key (inl q) p i = let g : Some d ≡ None = rw q at p in none_some (sym g)
     by_key (inr q) p i = let g : first_on k cs ≡ None = rw q at p in (other d q, i g)
-
--- what a change must meet to be written: an insert of k comes first on k; another change of k goes up by one and, if it
--- comes first, under the lock
-abbrev pub IsNoUpdate : Option Change → Type 0
-IsNoUpdate None = Unit {0}
-IsNoUpdate (Some (Change.Insert j r)) = Unit {0}
-IsNoUpdate (Some c) = ⊥
-
-abbrev pub MayWrite : Key → Journal → Change → Type 0
-MayWrite k m (Change.Insert j r) = same_key j k ≡ true → IsNoUpdate (first_on k (changes_in m))
-MayWrite k m (Change.Update j v r) = same_key j k ≡ true → (r.version ≡ next_version v) × (first_on k (changes_in m) ≡ None → holds k m ≡ true)
-MayWrite k m (Change.Delete j v) = same_key j k ≡ true → first_on k (changes_in m) ≡ None → holds k m ≡ true
 
 -- after the write the session is ready still
 ready_write : (k : Key) (m n : Journal) (c : Change) → changes_in n ≡ changes_in m ++ c ∷ [] → holds k n ≡ holds k m → MayWrite k m c →

@@ -23,7 +23,7 @@ use Rattle.hib_journal.proofs.Sessions.{by, is_some_session, time_le_tick}
 use Rattle.hib_law.proofs.Guarded.{In}
 use Rattle.hib_law.proofs.Coherent.{ordered}
 use Rattle.hib_journal.proofs.Open.{begun_open}
-use Rattle.hib_law.specs.Standing.{IsAtLeast, IsResultTrue, AreResultsTrue, kept_moment}
+use Rattle.hib_law.specs.Standing.{IsAtLeast, AreResultsTrue, kept_moment}
 use Rattle.hib_law.proofs.Stamped.{stamp_last, stamp_kept}
 use Rattle.hib_law.proofs.Orderly.{Doer, doer}
 use Rattle.hib_law.proofs.QueryRules.{owed, owed_by, MayKeep, MayCheck, AllowedQuery, allowed_query}

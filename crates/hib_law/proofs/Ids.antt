@@ -2,7 +2,7 @@
 use Rattle.std.specs.Prelude.{option_and_then, option_to_list, ◌++◌}
 use Rattle.std.specs.Option.{option_map_or}
 use Rattle.std.proofs.Common.{◌≡◌, ℕ, zero, suc, ◌⊎◌, inl, inr, Bool, true, false, ◌||◌, ◌==◌, List, [], ◌∷◌, length, Some, None, Option, refl, ap, sym, ◌∙◌, subst, eq-eqb}
-use Rattle.std.proofs.lemmas.Bool.{true≢false, false≢true, eqb-true}
+use Rattle.std.proofs.lemmas.Bool.{true≢false, false≢true}
 use Rattle.std.specs.List.{list_any}
 use Rattle.hib_journal.specs.Types.{Key, Row, Strategy, Locked, Unlocked, Updated, Script, Act, Reply, Entry}
 use Rattle.hib_base.specs.Keys.{same_key}
@@ -34,7 +34,7 @@ use Rattle.hib_law.proofs.Whole.{coherent, is_kept}
 use Rattle.hib_law.proofs.Basics.{replied}
 
 -- the other way to say who holds a lock
-in_holder : (s : ℕ) (xs : List ℕ) → In s xs → list_any (λ t. t == s) xs ≡ true
+pub in_holder : (s : ℕ) (xs : List ℕ) → In s xs → list_any (λ t. t == s) xs ≡ true
 in_holder s [] i = absurd i
 in_holder s (x ∷ xs) (inl p) = rw (eq-eqb x s p) refl
 in_holder s (x ∷ xs) (inr i) = by_test (x == s) (in_holder s xs i)

@@ -14,6 +14,8 @@ use Rattle.hib_law.proofs.Misses.{have_causes}
 use Rattle.hib_law.proofs.Stored.{items_old}
 use Rattle.hib_law.proofs.ReadOnly.{items_given}
 use Rattle.hib_law.proofs.Ids.{locks_kept}
+use Rattle.hib_law.specs.Writers.{AreWritersHolders}
+use Rattle.hib_law.proofs.Writers.{writers_hold}
 use Rattle.hib_journal.specs.Next.{strategy}
 use Rattle.hib_law.specs.Prefixes.{AtEachPrefix}
 use Rattle.hib_law.specs.Seen.{AreSeenSafe, AreFloorsLow}
@@ -67,6 +69,7 @@ coheres script start h l = record {
   given = λ k p. items_given script start k p h l;
   locks = λ k p. locks_kept script start k p h l;
   safe = λ k p. seen_safe script start k p h l;
+  writers = λ k p. each (AreWritersHolders k) script start (λ g l. writers_hold script start k p g l) h l;
   lone = λ k p. locks_lone script start k p h l;
   stamps = stamps_are_late script start h l;
   results = results_are_true script start h l;

@@ -24,6 +24,7 @@ pub mod Holders
 pub mod Orderly
 pub mod Whole
 pub mod Ids
+pub mod Writers
 -- Lists of queries.
 pub mod Stamped
 pub mod Given

@@ -87,8 +87,8 @@ module _ (script : Script) (start : Tables) (k : Key) (rw_k : strategy script k.
       mine p w a (Kind.Begins x) i = let g : false ≡ true = rw (p, x) at d in absurd (false≢true g)
       mine p w a (Kind.Writes c x) i =
           let g : is_done s h ≡ true = rw (p, x) at d in
-          let f : is_done s h ≡ false = subst (λ y. Allowed script k (own s h) y) x a in
-          absurd (true≢false (sym g ∙ f))
+          let f : Allowed script k (own s h) (Act.Write c) = subst (λ y. Allowed script k (own s h) y) x a in
+          absurd (true≢false (sym g ∙ f.0))
       mine p w a (Kind.Commits x y) i =
           let g : option_and_then row_left (last_on k (changes s h)) ≡ Some r = rw (p, x) at q in
           let c : row_at (committed start (e ∷ h)) k ≡ left_by (last_on k (changes s h)) (row_at (committed start h) k) =
@@ -250,7 +250,7 @@ module _ (script : Script) (start : Tables) (k : Key) (rw_k : strategy script k.
         mine : is_by u e ≡ true → Kind e.act e.reply → (is_done u (e ∷ h) ≡ is_done u h) × (is_done u h ≡ true → last_row k u (e ∷ h) ≡ last_row k u h)
         mine p (Kind.Begins x) =
             absurd (true≢false (sym (holder_holds script start k rw_k u h l i) ∙ allowed u Act.Begin p x))
-        mine p (Kind.Writes d x) = (rw (p, x) refl, λ y. absurd (true≢false (sym y ∙ allowed u (Act.Write d) p x)))
+        mine p (Kind.Writes d x) = (rw (p, x) refl, λ y. absurd (true≢false (sym y ∙ (allowed u (Act.Write d) p x).0)))
         mine p (Kind.Commits x y) =
             let g : ◌≡◌ {A = Option ℕ} (Some u) None = rw (x, y, is_some_session u e.session p) at c in none_some (sym g)
         mine p (Kind.Other x y z) = (rw p (x (is_done u h)), λ w. rw p (ap (λ cs. option_and_then row_left (last_on k cs)) (y (changes u h))))

@@ -6,7 +6,7 @@ use Rattle.hib_journal.specs.Types.{Key, Row, Change, Strategy, Mode, Script, Ac
 use Rattle.hib_base.specs.Keys.{same_key}
 use Rattle.hib_base.specs.Tables.{first_on, last_on, row_left}
 use Rattle.hib_journal.specs.Sessions.{Journal, time_in, floor_in, changes_in, changes_after, is_begun, begun_after}
-use Rattle.hib_journal.specs.Held.{Arrival, arrival, held}
+use Rattle.hib_journal.specs.Held.{Arrival, arrival, held, next_version}
 use Rattle.hib_journal.specs.Plan.{Block, one}
 use Rattle.hib_journal.specs.Next.{strategy, is_cached, mode_reads, mode_puts, is_in, may_read, may_put, put_loaded, load, load_unless_hit, get, find_away, find, lock_id}
 use Rattle.hib_journal.specs.Coherence.{takes, gives_back, done_in, done_after}
@@ -39,6 +39,18 @@ pub record IsWorking (k : Key) (m : Journal) : Type 0 where
   pub undone : done_in m ≡ false
   pub ready : IsReadyIn k m (first_on k (changes_in m))
 
+-- what a change must meet to be written: an insert of k comes first on k; another change of k goes up by one and, if it
+-- comes first, under the lock
+abbrev pub IsNoUpdate : Option Change → Type 0
+IsNoUpdate None = Unit {0}
+IsNoUpdate (Some (Change.Insert j r)) = Unit {0}
+IsNoUpdate (Some c) = ⊥
+
+abbrev pub MayWrite : Key → Journal → Change → Type 0
+MayWrite k m (Change.Insert j r) = same_key j k ≡ true → IsNoUpdate (first_on k (changes_in m))
+MayWrite k m (Change.Update j v r) = same_key j k ≡ true → (r.version ≡ next_version v) × (first_on k (changes_in m) ≡ None → holds k m ≡ true)
+MayWrite k m (Change.Delete j v) = same_key j k ≡ true → first_on k (changes_in m) ≡ None → holds k m ≡ true
+
 abbrev pub Allowed : Script → Key → Journal → Act → Type 0
 Allowed script k m (Act.Get j t) = same_key j k ≡ true → is_in k (changes_in m) ≡ false
 Allowed script k m (Act.Put j r t f) = same_key j k ≡ true →
@@ -52,7 +64,7 @@ Allowed script k m (Act.AfterUpdate j i r) = same_key j k ≡ true →
 Allowed script k m (Act.AfterInsert j r f) = same_key j k ≡ true →
     (done_in m ≡ true) × (option_and_then row_left (last_on k (changes_in m)) ≡ Some r) × (f ≡ floor_in m) × (is_begun m ≡ true)
 Allowed script k m Act.Commit = (done_in m ≡ false) × IsReadyIn k m (first_on k (changes_in m)) × (is_begun m ≡ true)
-Allowed script k m (Act.Write c) = done_in m ≡ false
+Allowed script k m (Act.Write c) = (done_in m ≡ false) × MayWrite k m c
 Allowed script k m Act.Begin = holds k m ≡ false
 Allowed script k m (Act.RegionRemove j) = strategy script j.entity ≡ Strategy.ReadWrite → ⊥
 Allowed script k m _ = Unit {0}

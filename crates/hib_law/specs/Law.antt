@@ -13,6 +13,7 @@ use Rattle.hib_law.specs.Misses.{HasCause}
 use Rattle.hib_law.specs.Locks.{AreLocksKept}
 use Rattle.hib_law.specs.Seen.{AreSeenSafe, AreFloorsLow}
 use Rattle.hib_law.specs.Lone.{IsLockLone}
+use Rattle.hib_law.specs.Writers.{AreWritersHolders}
 use Rattle.hib_law.specs.Standing.{AreStampsLate, AreResultsTrue}
 
 pub record Coheres (script : Script) (start : Tables) (h : Journal) : Type 0 where
@@ -29,6 +30,8 @@ pub record Coheres (script : Script) (start : Tables) (h : Journal) : Type 0 whe
   pub given : (k : Key) → strategy script k.entity ≡ Strategy.ReadOnly → AtEachPrefix (IsItemGiven start k) h
   -- the lock of a sound read-write key is held by those who took it, and is given back
   pub locks : (k : Key) → strategy script k.entity ≡ Strategy.ReadWrite → AreLocksKept script k h
+  -- an open session that has written a change of a row holds the lock of its key until it gives it back
+  pub writers : (k : Key) → strategy script k.entity ≡ Strategy.ReadWrite → AtEachPrefix (AreWritersHolders k) h
   -- a lock that isn't shared has one holder at most, and nobody else has changed the row since it was placed
   pub lone : (k : Key) → strategy script k.entity ≡ Strategy.ReadWrite → AtEachPrefix (IsLockLone script start k) h
   -- the stamp of a table is at least the tick of each entry since the restart that stamped it

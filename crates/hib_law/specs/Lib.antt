@@ -5,6 +5,7 @@ pub mod Hits
 pub mod Locks
 pub mod Misses
 pub mod Seen
+pub mod Writers
 pub mod Lone
 pub mod Standing
 pub mod Law

@@ -162,8 +162,8 @@ module _ (script : Script) (start : Tables) (places : Nodings) (n : ℕ) (k : Ke
       mine b w a (Kind.Begins x) i = let g : false ≡ true = rw (b, x) at d in absurd (false≢true g)
       mine b w a (Kind.Writes c x) i =
           let g : is_done s (entries h) ≡ true = rw (b, x) at d in
-          let f : is_done s (entries h) ≡ false = subst (λ y. Allowed script k (own s (entries h)) y) x a in
-          absurd (true≢false (sym g ∙ f))
+          let f : Allowed script k (own s (entries h)) (Act.Write c) = subst (λ y. Allowed script k (own s (entries h)) y) x a in
+          absurd (true≢false (sym g ∙ f.0))
       mine b w a (Kind.Commits x y) i =
           let g : option_and_then row_left (last_on k (changes s (entries h))) ≡ Some r = rw (b, x) at q in
           let c : row_at (committed start (entries (e ∷ h))) k ≡ left_by (last_on k (changes s (entries h))) (row_at (committed start (entries h)) k) =

@@ -287,8 +287,8 @@ module _ (script : Script) (start : Tables) (places : Nodings) (n : ℕ) (k : Ke
             let f : holds k (own u (of_node n h)) ≡ false = subst (λ z. Allowed script k (own u (of_node n h)) z) x a in
             absurd (true≢false (sym (holder_holds script start places n k rw_k u h l.0 i) ∙ f))
         mine b a (Kind.Writes d x) =
-            let f : done_in (own u (of_node n h)) ≡ false = subst (λ z. Allowed script k (own u (of_node n h)) z) x a in
-            (rw (q, b, x) refl, λ y. absurd (true≢false (sym y ∙ f)))
+            let f : Allowed script k (own u (of_node n h)) (Act.Write d) = subst (λ z. Allowed script k (own u (of_node n h)) z) x a in
+            (rw (q, b, x) refl, λ y. absurd (true≢false (sym y ∙ f.0)))
         mine b a (Kind.Commits x y) =
             let g : ◌≡◌ {A = Option ℕ} (Some u) None = rw (x, y, is_some_session u e.entry.session b) at c in none_some (sym g)
         mine b a (Kind.Other x y z) =
