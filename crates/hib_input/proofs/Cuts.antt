@@ -1,11 +1,10 @@
 -- The place at which a line cuts a text.
-use Rattle.std.proofs.Common.{◌≡◌, ℕ, zero, suc, ◌+◌, ◌-◌, ◌<◌, ◌≤◌, Bool, true, false, cond, not, ◌&&◌, ◌==◌, List, [], ◌∷◌, ◌++◌, length, take, drop, get_or, Option, Some, None, option_map, refl, sym, ap, ◌∙◌, append_assoc, arith, add-one, min, nat_le}
+use Rattle.std.proofs.Common.{◌≡◌, ℕ, zero, suc, ◌+◌, ◌-◌, ◌<◌, ◌≤◌, Bool, true, false, cond, not, ◌&&◌, ◌==◌, List, [], ◌∷◌, ◌++◌, length, take, drop, get_or, Option, Some, None, option_map, refl, sym, ap, ◌∙◌, append_assoc, arith, add-one, min}
 use Rattle.std.specs.List.{list_all}
-use Rattle.std.proofs.lemmas.List.{append-nil, append_cancel_right, drop_all, length-drop, take_all, length-append, length-take, get_or-drop}
+use Rattle.std.proofs.lemmas.List.{append-nil, append_cancel_right, drop_all, length-drop, length-append, length-take, get_or-drop}
 use Rattle.std.proofs.lemmas.Bool.Decides.{nat_tests}
 use Rattle.hib_lex.specs.Lines.{line_feed, before_lines, lines_of, line_length}
-use Rattle.hib_lex.proofs.Texts.{lines_first}
-use Rattle.hib_journal_json.proofs.Journals.{line_here}
+use Rattle.hib_lex.proofs.Texts.{lines_first, from_place, line_here, drop_least}
 use Rattle.hib_input.specs.Cut.{TextLines, is_mark, with_first, cut}
 
 -- ---- a text is cut after a line feed
@@ -40,9 +39,6 @@ feed_behind (b ∷ bs) h = by (b == line_feed) refl h (λ k. feed_behind bs k)
     by true e h rest = is_feed b e
     by false e h rest = let k : line_length bs < length bs = omega (arith, h) in rest k
 
-from_place : (text : List ℕ) (start : ℕ) → take (length text - start) (drop start text) ≡ drop start text
-from_place text start = take_all (length text - start) (drop start text) (simp length-drop (omega arith))
-
 -- ---- the lines so far
 
 pub record SoFar (w text : List ℕ) (start count : ℕ) : Type 0 where
@@ -75,17 +71,6 @@ cut_on w (l ∷ before) ls h = by (is_mark w l) h (λ e. cut_on w before ls e)
         cond b (Some ([], before ++ ls)) (option_map (with_first l) (cut w (before ++ ls))) ≡ option_map (behind_all (l ∷ before)) (cut w ls)
     by true e rest = absurd (cc)
     by false e rest = ap (option_map (with_first l)) (rest e) ∙ more (cut w ls)
-
--- the rest of a text from a place after its end on is nothing
-drop_least : (text : List ℕ) (i : ℕ) → drop (min (length text) i) text ≡ drop i text
-drop_least text i = by (nat_le i (length text)) refl
-  where
-    by : (b : Bool) → nat_le i (length text) ≡ b → drop (min (length text) i) text ≡ drop i text
-    by true e = let s : min (length text) i ≡ i = grind (arith, nat_tests) in ap (λ n. drop n text) s
-    by false e =
-        let s : min (length text) i ≡ length text = grind (arith, nat_tests) in
-        let m : length text ≤ i = grind (arith, nat_tests) in
-        ap (λ n. drop n text) s ∙ (drop_all (length text) text (omega arith) ∙ sym (drop_all i text m))
 
 pub found : (w text : List ℕ) (start size count : ℕ) → SoFar w text start count → start < length text → size ≡ line_length (take (length text - start) (drop start text)) →
     is_mark w (take (start + size - start) (drop start text)) ≡ true → cut w (lines_of text) ≡ Some (lines_of (take start text), lines_of (drop (min (length text) (start + size + 1)) text))

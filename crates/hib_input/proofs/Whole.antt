@@ -1,10 +1,11 @@
 -- What is read of a text that has the form, and of one that hasn't.
 use Rattle.std.proofs.Common.{◌≡◌, ℕ, suc, ◌-◌, ◌≤◌, Bool, true, false, cond, ◌==◌, List, [], ◌∷◌, length, take, drop, Option, Some, None, Result, Ok, Err, inl, inr, refl, sym, ap, ◌∙◌, subst, arith}
 use Rattle.std.specs.Prelude.{IfOk, IfErr}
-use Rattle.std.proofs.lemmas.List.{length-drop, length-take, take_all}
+use Rattle.std.proofs.lemmas.List.{length-drop, length-take}
 use Rattle.hib_base.specs.declared.refusals.Refused.{Refused}
 use Rattle.hib_journal.specs.Types.{Script, Entry}
 use Rattle.hib_lex.specs.Lines.{line_feed, before_lines, lines_of}
+use Rattle.hib_lex.proofs.Texts.{from_place}
 use Rattle.hib_script.specs.Outline.{Outline, outline_of}
 use Rattle.hib_journal_json.specs.Entries.{AreLines}
 use Rattle.hib_journal_json.proofs.Journals.{same_length, none_bad}
@@ -66,9 +67,6 @@ not_bad before behind said (InputFault.Refused r) is lines (inr bad) =
     absurd (none_bad bad.0 behind read.0 bad.1.1.0 read.1 bad.1.1.1.0)
 
 -- the rest of a text, as code takes it
-from_place : (text : List ℕ) (start : ℕ) → take (length text - start) (drop start text) ≡ drop start text
-from_place text start = take_all (length text - start) (drop start text) (simp length-drop (omega arith))
-
 pub whole_read : (text : List ℕ) (b k : ℕ) (r : Result WithJournal InputFault) → IfErr r (IsBadCut (lines_of (take b text)) (lines_of (take (length text - k) (drop k text)))) →
     cut_off text ≡ Some (lines_of (take b text), lines_of (drop k text)) → IsWholeInput text → IfErr r (λ f. f ≡ InputFault.NoMemory)
 whole_read text b k (Ok i) bad here w = tt

@@ -2,14 +2,14 @@
 use Rattle.std.proofs.Common.{◌≡◌, ℕ, zero, suc, ◌+◌, ◌-◌, ◌<◌, ◌≤◌, List, [], ◌∷◌, ◌++◌, length, take, drop, Option, Some, None, refl, ap, sym, ◌∙◌, subst, true, false, not, ◌&&◌, ◌==◌, arith, append_assoc, IsUtf8, nat_lt, option_map}
 use Rattle.std.specs.Fmt.{decimal}
 use Rattle.std.specs.List.{list_all}
-use Rattle.std.proofs.lemmas.List.{append-nil, drop_all, length-drop, drop-drop, take_all}
+use Rattle.std.proofs.lemmas.List.{append-nil, drop_all}
 use Rattle.std.proofs.lemmas.Bool.{not-true}
 use Rattle.std.proofs.lemmas.Bool.Decides.{nat_tests}
 use Rattle.json.proofs.Printed.Utf8.{are_ascii, IsUtf8-are_ascii}
 use Rattle.hib_base.specs.Valid.{is_valid}
 use Rattle.hib_lex.specs.Tokens.{is_digit}
 use Rattle.hib_lex.specs.Lines.{before_lines, lines_of, line_length}
-use Rattle.hib_lex.proofs.Texts.{lines_first, length_fits}
+use Rattle.hib_lex.proofs.Texts.{line_here}
 use Rattle.hib_journal.specs.Types.{Entry, Script}
 use Rattle.hib_texts.specs.Texts.{session_text}
 use Rattle.hib_entry_fields.specs.Known.{is_tick}
@@ -76,26 +76,6 @@ bad_behind script (k ∷ ls) [] l more a b = absurd a
 bad_behind script (k ∷ ls) (e ∷ es) l more a b = ((e, a.0), bad_behind script ls es l more a.1 b)
 
 -- ---- the line at a place of the text
-
-from_place : (text : List ℕ) (start : ℕ) → take (length text - start) (drop start text) ≡ drop start text
-from_place text start = take_all (length text - start) (drop start text) (simp length-drop (omega arith))
-
-pub size_within : (text : List ℕ) (start size : ℕ) → start < length text → size ≡ line_length (take (length text - start) (drop start text)) → start + size ≤ length text
-size_within text start size h k =
-    let same : size ≡ line_length (drop start text) = rw (from_place text start) at k in
-    let fits : line_length (drop start text) ≤ length text - start = simp length-drop at (length_fits (drop start text)) in
-    omega (arith, fits, same)
-
-line_by : (text : List ℕ) (start size here behind : ℕ) → 0 < length (drop start text) → size ≡ line_length (drop start text) → here ≡ size → behind ≡ start + suc size
-    → lines_of (drop start text) ≡ take here (drop start text) ∷ lines_of (drop behind text)
-line_by text start size here behind inside same e f = rw (lines_first (drop start text) inside) (rw (e, f, same) (rw (drop-drop (suc (line_length (drop start text))) start text) refl))
-
-pub line_here : (text : List ℕ) (start size : ℕ) → start < length text → size ≡ line_length (take (length text - start) (drop start text))
-    → lines_of (drop start text) ≡ take (start + size - start) (drop start text) ∷ lines_of (drop (start + size + 1) text)
-line_here text start size h k =
-    let same : size ≡ line_length (drop start text) = rw (from_place text start) at k in
-    let inside : 0 < length (drop start text) = simp length-drop (omega arith) in
-    line_by text start size (start + size - start) (start + size + 1) inside same (omega arith) (omega arith)
 
 -- what was read before a place, and what is left
 pub record SoFar (script : Script) (text : List ℕ) (start : ℕ) (es : List Entry) : Type 0 where

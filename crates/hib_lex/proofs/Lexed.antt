@@ -9,7 +9,7 @@ use Rattle.hib_base.specs.declared.refusals.Kind.{Kind}
 use Rattle.hib_base.specs.declared.refusals.Refused.{Refused}
 use Rattle.hib_base.proofs.Gives.{Gives, Then, then_cond}
 use Rattle.hib_base.proofs.Lists.{all_more}
-use Rattle.hib_lex.specs.Lines.{lines_of, content_of, tokens_or_bad, with_content, with_line, lexing, lex_after}
+use Rattle.hib_lex.specs.Lines.{lines_of, content_of, tokens_or_bad, line_with, with_said, with_line, lexing, lex_after}
 use Rattle.hib_lex.specs.Tokens as lines
 use Rattle.hib_lex.specs.Tokens.{Place, Scan, is_lexical, is_blank, path_at, natural_of, negative_of, number_of, or_path, bare_of, with_bare, is_end, is_zero, is_positive, size_of, tokens_of}
 use Rattle.hib_lex.specs.declared.lexer.Token.{Token}
@@ -149,7 +149,7 @@ content_lexed line = by_tests (list_all is_printable line) (nat_le (length line)
 abbrev pub are_lines_lexed : List Line → Bool
 are_lines_lexed ls = list_all (λ l. are_lexed l.tokens) ls
 
-with_content_lexed : (done : Lines) (c : Content) → are_lines_lexed done.lines ≡ true → is_content c ≡ true → Gives (with_content done c) (λ l. are_lines_lexed l.lines ≡ true)
+with_content_lexed : (done : Lines) (c : Content) → are_lines_lexed done.lines ≡ true → is_content c ≡ true → Gives (with_said done (line_with (done.count + 1) c)) (λ l. are_lines_lexed l.lines ≡ true)
 with_content_lexed done Content.Nothing h w = h
 with_content_lexed done (Content.Tokens ts) h w = all_more (λ (l : Line). are_lexed l.tokens) done.lines (record { line = done.count + 1; tokens = ts }) h w
 with_content_lexed done (Content.Bad kind) h w = tt

@@ -1,6 +1,7 @@
 -- The first line of a text, and what is read of the rest.
-use Rattle.std.proofs.Common.{◌≡◌, ℕ, suc, ◌+◌, ◌-◌, ◌<◌, ◌≤◌, List, [], ◌∷◌, length, take, drop, get_or, cond, true, false, ◌==◌, Result, Ok, Err, refl, ap, sym, ◌∙◌, arith, add-one, drop-cons}
+use Rattle.std.proofs.Common.{◌≡◌, ℕ, suc, ◌+◌, ◌-◌, ◌<◌, ◌≤◌, Bool, List, [], ◌∷◌, length, take, drop, get_or, cond, true, false, ◌==◌, min, nat_le, Result, Ok, Err, refl, ap, sym, ◌∙◌, arith, add-one, drop-cons}
 use Rattle.std.proofs.lemmas.List.{drop_all, length-drop, drop-drop, take_all}
+use Rattle.std.proofs.lemmas.Bool.Decides.{nat_tests}
 use Rattle.hib_base.specs.declared.refusals.Refused.{Refused}
 use Rattle.hib_lex.specs.declared.lines.Lines.{Lines}
 use Rattle.hib_lex.specs.declared.errors.LexError.{LexError}
@@ -40,7 +41,7 @@ pub lexing_done : (done : Lines) (text : List ℕ) (start : ℕ) → length text
 lexing_done done text start h = rw (drop_all start text h) refl
 
 -- the bytes of a text from a place on, as code takes them
-from_place : (text : List ℕ) (start : ℕ) → take (length text - start) (drop start text) ≡ drop start text
+pub from_place : (text : List ℕ) (start : ℕ) → take (length text - start) (drop start text) ≡ drop start text
 from_place text start = take_all (length text - start) (drop start text) (simp length-drop (omega arith))
 
 pub lexing_on : (done : Lines) (text : List ℕ) (start size : ℕ) (r next : Result Lines Refused) → lexing (Ok done) (lines_of (drop start text)) ≡ r → start < length text → size ≡ line_length (take (length text - start) (drop start text)) → with_line done (take (start + size - start) (drop start text)) ≡ next → lexing next (lines_of (drop (start + size + 1) text)) ≡ r
@@ -58,3 +59,26 @@ size_within text start size h k =
 pub where_on : (done : Lines) (text : List ℕ) (start size : ℕ) (r : Result Lines Refused) (x : LexError) → lexing (Ok done) (lines_of (drop start text)) ≡ r → start < length text → size ≡ line_length (take (length text - start) (drop start text)) → IsWhere (with_line done (take (start + size - start) (drop start text))) x → IsWhere r x
 where_on done text start size r LexError.NoMemory e h k w = tt
 where_on done text start size r (LexError.Refused x) e h k w = sym (lexing_on done text start size r (Err x) e h k w)
+
+line_by : (text : List ℕ) (start size here behind : ℕ) → 0 < length (drop start text) → size ≡ line_length (drop start text) → here ≡ size → behind ≡ start + suc size →
+    lines_of (drop start text) ≡ take here (drop start text) ∷ lines_of (drop behind text)
+line_by text start size here behind inside same e f = rw (lines_first (drop start text) inside) (rw (e, f, same) (rw (drop-drop (suc (line_length (drop start text))) start text) refl))
+
+-- the line at a place, and those after it
+pub line_here : (text : List ℕ) (start size : ℕ) → start < length text → size ≡ line_length (take (length text - start) (drop start text)) →
+    lines_of (drop start text) ≡ take (start + size - start) (drop start text) ∷ lines_of (drop (start + size + 1) text)
+line_here text start size h k =
+    let same : size ≡ line_length (drop start text) = rw (from_place text start) at k in
+    let inside : 0 < length (drop start text) = simp length-drop (omega arith) in
+    line_by text start size (start + size - start) (start + size + 1) inside same (omega arith) (omega arith)
+
+-- the rest of a text from a place after its end on is nothing
+pub drop_least : (text : List ℕ) (i : ℕ) → drop (min (length text) i) text ≡ drop i text
+drop_least text i = by (nat_le i (length text)) refl
+  where
+    by : (b : Bool) → nat_le i (length text) ≡ b → drop (min (length text) i) text ≡ drop i text
+    by true e = let s : min (length text) i ≡ i = grind (arith, nat_tests) in ap (λ n. drop n text) s
+    by false e =
+        let s : min (length text) i ≡ length text = grind (arith, nat_tests) in
+        let m : length text ≤ i = grind (arith, nat_tests) in
+        ap (λ n. drop n text) s ∙ (drop_all (length text) text (omega arith) ∙ sym (drop_all i text m))

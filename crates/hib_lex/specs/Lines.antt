@@ -7,6 +7,7 @@ use Rattle.hib_base.specs.declared.refusals.Refused.{Refused}
 use Rattle.hib_lex.specs.Tokens.{is_blank, tokens_of}
 use Rattle.hib_lex.specs.declared.lexer.Token.{Token}
 use Rattle.hib_lex.specs.declared.lines.Content.{Content}
+use Rattle.hib_lex.specs.declared.lines.Line.{Line}
 use Rattle.hib_lex.specs.declared.lines.Lines.{Lines}
 use Rattle.hib_lex.specs.declared.errors.LexError.{LexError}
 
@@ -43,15 +44,23 @@ content_of line =
     (Content.Bad Kind.Long))
     (Content.Bad Kind.Byte)
 
+-- the line of this number that holds such a thing; none if it is skipped
+abbrev pub line_with : ℕ → Content → Result (Option Line) Refused
+line_with n Content.Nothing = Ok None
+line_with n (Content.Tokens ts) = Ok (Some (record { line = n; tokens = ts }))
+line_with n (Content.Bad kind) = Err (record { line = n; kind = kind })
+
+abbrev pub line_of : ℕ → List ℕ → Result (Option Line) Refused
+line_of n line = line_with n (content_of line)
+
 -- ---- the lines with one more; it has the number after those so far
-abbrev pub with_content : Lines → Content → Result Lines Refused
-with_content done Content.Nothing = Ok (record done { count = done.count + 1 })
-with_content done (Content.Tokens ts) =
-    Ok (record { lines = done.lines ++ record { line = done.count + 1; tokens = ts } ∷ []; count = done.count + 1 })
-with_content done (Content.Bad kind) = Err (record { line = done.count + 1; kind = kind })
+abbrev pub with_said : Lines → Result (Option Line) Refused → Result Lines Refused
+with_said done (Ok None) = Ok (record done { count = done.count + 1 })
+with_said done (Ok (Some l)) = Ok (record { lines = done.lines ++ l ∷ []; count = done.count + 1 })
+with_said done (Err r) = Err r
 
 abbrev pub with_line : Lines → List ℕ → Result Lines Refused
-with_line done line = with_content done (content_of line)
+with_line done line = with_said done (line_of (done.count + 1) line)
 
 -- the lines that are left after those so far; the first bad one ends it
 abbrev pub lexing : Result Lines Refused → List (List ℕ) → Result Lines Refused
@@ -69,6 +78,6 @@ abbrev pub lex_of : List ℕ → Result Lines Refused
 lex_of text = lex_after 0 text
 
 -- the first bad line is the one that is refused; want of memory says nothing
-abbrev pub IsWhere : Result Lines Refused → LexError → Type 0
+abbrev pub IsWhere : {A : Type 0} → Result A Refused → LexError → Type 0
 IsWhere r LexError.NoMemory = Unit {0}
 IsWhere r (LexError.Refused x) = r ≡ Err x

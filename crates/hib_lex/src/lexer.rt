@@ -14,6 +14,9 @@ pub const MOST_BYTES: usize = 4096;
 /// The most bytes of a quoted text.
 pub const MOST_TEXT: usize = 200;
 
+/// Room is made for so many tokens at once: few lines have more.
+const USUAL_TOKENS: usize = 6;
+
 /// A part of a line.
 #[derive(Drop)]
 pub enum Token {
@@ -77,7 +80,7 @@ pub(crate) fn tokens_of_lexical(alloc: Global, line: &[u8]) -> Result<Option<Tok
     requires { lines.is_lexical line.now ≡ true }
     ensures { IfOk result (λ t. t ≡ lines.tokens_of line.now) }
 {
-    let mut tokens = Seq::new(alloc);
+    let mut tokens = Seq::from_vec(Vec::with_capacity(alloc, USUAL_TOKENS)?);
     let mut at = 0;
     while at < line.len() {
         match add_part(alloc, &mut tokens, &line[at..])? {

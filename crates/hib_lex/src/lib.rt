@@ -8,5 +8,5 @@ mod words;
 
 pub use errors::LexError;
 pub use lexer::{MOST_BYTES, MOST_TEXT, Token, Tokens, is_lexical, is_skipped, tokens};
-pub use lines::{Line, Lines, lex, lex_after, line_length};
+pub use lines::{Line, Lines, lex, lex_after, line_length, line_of};
 pub use words::{begins, is_the_word};

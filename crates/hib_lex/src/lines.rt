@@ -78,24 +78,29 @@ fn with_line(alloc: Global, done: Lines, line: &[u8]) -> Result<Lines, LexError>
     ensures refused { IfErr result (format.IsWhere (format.with_line done line.now)) }
 {
     let Lines { mut lines, count } = done;
-    let line_number = count + 1;
-    match content_of(alloc, line)? {
-        Content::Nothing => {}
-        Content::Tokens(tokens) => lines.push(Line {
-            line: line_number,
-            tokens,
-        })?,
-        Content::Bad(kind) => {
-            return Err(LexError::Refused(Refused {
-                line: line_number,
-                kind,
-            }));
-        }
+    let count = count + 1;
+    if let Some(line) = line_of(alloc, count, line)? {
+        lines.push(line)?;
     }
-    Ok(Lines {
-        lines,
-        count: line_number,
-    })
+    Ok(Lines { lines, count })
+}
+
+/// The line of this number that has these bytes, or none if it is skipped.
+///
+/// Errors: `Refused` exactly if the line breaks a rule, with the first of the kinds byte, long and token that it has; `NoMemory` if
+/// there is none left.
+pub fn line_of(alloc: Global, number: u32, bytes: &[u8]) -> Result<Option<Line>, LexError>
+    ensures line { IfOk result (λ l. format.line_of number bytes.now ≡ Ok l) }
+    ensures refused { IfErr result (format.IsWhere (format.line_of number bytes.now)) }
+{
+    match content_of(alloc, bytes)? {
+        Content::Nothing => Ok(None),
+        Content::Tokens(tokens) => Ok(Some(Line {
+            line: number,
+            tokens,
+        })),
+        Content::Bad(kind) => Err(LexError::Refused(Refused { line: number, kind })),
+    }
 }
 
 /// What a line holds.

@@ -7,3 +7,4 @@ pub mod Filled
 pub mod Valid
 pub mod Whole
 pub mod Named
+pub mod Passing

@@ -1,5 +1,5 @@
 -- A text that is a script gives a valid one.
-use Rattle.std.proofs.Common.{◌≡◌, ℕ, ◌≤◌, Bool, true, false, nat_lt, List, [], ◌∷◌, length, map, None, Result, Ok, Err, refl, subst, arith, IfOk}
+use Rattle.std.proofs.Common.{◌≡◌, ℕ, ◌≤◌, Bool, true, false, nat_lt, List, [], ◌∷◌, length, map, None, Result, Ok, Err, refl, sym, ◌∙◌, subst, arith, IfOk}
 use Rattle.std.specs.List.{list_all}
 use Rattle.std.proofs.lemmas.List.{length-map}
 use Rattle.std.proofs.lemmas.Bool.{and_parts, and_from}
@@ -14,7 +14,7 @@ use Rattle.hib_base.proofs.Gives.{Gives, given}
 use Rattle.hib_base.proofs.Valid as rules
 use Rattle.hib_criteria.specs.Query.{said, parts_in}
 use Rattle.hib_criteria.proofs.Declared.{is_said_below, are_nodes_below, targets_below}
-use Rattle.hib_lex.specs.Lines.{lex_after}
+use Rattle.hib_lex.specs.Lines.{lex_after, lex_of}
 use Rattle.hib_lex.specs.declared.lines.Line.{Line}
 use Rattle.hib_lex.specs.declared.lines.Lines.{Lines}
 use Rattle.hib_lex.proofs.Lexed.{are_lexed, are_lines_lexed, text_lexed}
@@ -22,7 +22,7 @@ use Rattle.hib_script.specs.Script.{begins_column}
 use Rattle.hib_script.specs.Lines as lines
 use Rattle.hib_script.specs.Lines.{Reader, After}
 use Rattle.hib_script.specs.Outline.{Outline, outline_of}
-use Rattle.hib_script.specs.Script.{at_line, step, reading, ended_at, ended, start, script_in}
+use Rattle.hib_script.specs.Script.{at_line, step, reading, ended_at, ended, start, script_in, script_of}
 use Rattle.hib_script.specs.declared.errors.ScriptError.{ScriptError}
 use Rattle.hib_script.specs.declared.places.Place.{Place}
 use Rattle.hib_criteria.proofs.Depth.{are_shallow, nested_in}
@@ -135,3 +135,14 @@ pub read_valid : (before : ℕ) (text : List ℕ) (l : Lines) (x : Result Script
 read_valid before text l (Ok s) e h =
     valid s (given (script_in (Ok l)) IsKept (outline_of s) (lines_kept l (given (lex_after before text) (λ l. are_lines_lexed l.lines ≡ true) l (text_lexed before text) e)) h)
 read_valid before text l (Err x) e h = h
+
+pub text_valid : (text : List ℕ) (s : Script) → script_of text ≡ Ok (outline_of s) → is_valid s ≡ true
+text_valid text s h = by_lines (lex_of text) refl h
+  where
+    by_lines : (q : Result Lines Refused) → lex_of text ≡ q → script_in q ≡ Ok (outline_of s) → is_valid s ≡ true
+    by_lines (Err x) e g = absurd (cc)
+    by_lines (Ok l) e g = read_valid 0 text l (Ok s) e g
+
+pub valid_if : (text : List ℕ) (r : Result Script ScriptError) (o : Result Outline Refused) → o ≡ script_of text → IfOk r (λ s. o ≡ Ok (outline_of s)) → IfOk r (λ s. is_valid s ≡ true)
+valid_if text (Ok s) o e h = text_valid text s (sym e ∙ h)
+valid_if text (Err x) o e h = h

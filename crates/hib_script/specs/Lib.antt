@@ -3,3 +3,4 @@ pub mod Places
 pub mod Lines
 pub mod Drafts
 pub mod Script
+pub mod Passing

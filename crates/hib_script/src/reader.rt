@@ -1,22 +1,25 @@
 // The script of a text.
 ghost use Rattle.hib_base.specs.Valid.{is_valid};
-ghost use Rattle.hib_lex.specs.Lines.{lex_after};
+ghost use Rattle.hib_base.specs.declared.refusals.Refused.{Refused};
+ghost use Rattle.hib_lex.specs.Lines.{lines_of, lex_after as lex_after_in, line_of as line_in};
 ghost use Rattle.hib_script.specs.Script.{begins_column};
 ghost use Rattle.hib_script.specs.Drafts.{reader_of};
 ghost use Rattle.hib_script.specs.Outline.{outline_of};
+ghost use Rattle.hib_script.specs.Passing.{come_to, unless_bad};
 ghost use Rattle.hib_script.specs.Script as order;
-ghost use Rattle.std.specs.Prelude.{◌≡◌, ◌+◌, ◌^◌, ◌<◌, ℕ, List, length, drop, IfOk, IfErr, OnOk, Ok, true};
+ghost use Rattle.hib_script.specs.declared.errors.ScriptError.TheVariants.{NoMemory};
+ghost use Rattle.std.specs.Prelude.{◌≡◌, ◌∷◌, [], ◌+◌, ◌^◌, ◌<◌, ℕ, List, length, drop, ◌⊎◌, IfOk, IfErr, OnOk, Ok, Err, Some, true};
 
 use crate::drafts::{Draft, close, start};
 use crate::errors::{LineError, ScriptError};
 use crate::lines::after_line;
 use crate::places::Place;
 use hib_base::{Kind, Refused, Script};
-use hib_lex::{LexError, Line, Lines, begins, lex};
+use hib_lex::{LexError, Line, Lines, begins, lex_after, line_length, line_of};
 use std::alloc::{AllocError, Global};
 
 /// The script that a text is. It keeps the rules of scripts: its limits at both ends, each session ends its last transaction, what
-/// it names is there, and more.
+/// it names is there, and more. It holds the tokens of two lines at a time.
 ///
 /// Errors: `Refused` exactly if the text is no script, with its first bad line and the first kind that this has, those
 /// of bytes, length and tokens over the whole text before all others; if the text ends too early, the line is the
@@ -28,10 +31,146 @@ pub fn read(alloc: Global, text: &[u8]) -> Result<Script, ScriptError>
     ensures valid { IfOk result (λ s. is_valid s ≡ true) }
     ensures refused { IfErr result (order.IsWhere (order.script_of text.now)) }
 {
-    match lex(alloc, text) {
-        Ok(lines) => read_lines(alloc, &lines),
+    let mut draft = start(alloc);
+    match read_text(alloc, &mut draft, text) {
+        Ok(count) => ended(count, draft),
+        Err(error) => Err(error),
+    }
+}
+
+/// Reads a text into a draft that is new, and gives the number of its lines.
+#[tactic(auto, using(hib_lex::proofs::Texts::length_fits))]
+fn read_text(alloc: Global, draft: &mut Draft, text: &[u8]) -> Result<u32, ScriptError>
+    requires small { length text.now < 2 ^ 31 }
+    requires new { reader_of draft.old ≡ order.start }
+    ensures read { IfOk result (λ n. order.ended_at n (reader_of draft.new) draft.new.place
+        ≡ order.script_of text.now) }
+    ensures refused { IfErr result (order.IsWhere (order.script_of text.now)) }
+{
+    let mut last = None;
+    let mut count = 0;
+    let mut at = 0;
+    while at < text.len() {
+        let end = at + line_length(&text[at..]);
+        let line = &text[at..end];
+        at = text.len().min(end + 1);
+        last = pass(alloc, draft, last, count, line, &text[at..])?;
+        count += 1;
+    }
+    take_last(alloc, draft, last)?;
+    Ok(count)
+}
+
+/// Reads one more line of a text, after so many others: takes the one before it that said something, and gives the one that does so
+/// now. What is left of the text is read for its first bad line if the line that is taken has a fault.
+fn pass(
+    alloc: Global,
+    draft: &mut Draft,
+    last: Option<Line>,
+    before: u32,
+    line: &[u8],
+    rest: &[u8],
+) -> Result<Option<Line>, ScriptError>
+    requires { before + 1 + length rest.now < 2 ^ 31 }
+    ensures passed { IfOk result (λ l. come_to (reader_of draft.old) last before
+        (line.now ∷ lines_of rest.now)
+        ≡ come_to (reader_of draft.new) l (before + 1) (lines_of rest.now)) }
+    ensures refused { IfErr result (order.IsWhere (come_to (reader_of draft.old) last before
+        (line.now ∷ lines_of rest.now))) }
+{
+    let number = before + 1;
+    match line_said(alloc, number, line) {
+        Ok(Some(next)) => follow(alloc, draft, last, next, number, rest),
+        Ok(None) => Ok(last),
+        Err(error) => Err(error),
+    }
+}
+
+/// Takes the line before this one into a draft, if there is one, and gives this one. It has this number, and a text is left after it.
+fn follow(
+    alloc: Global,
+    draft: &mut Draft,
+    last: Option<Line>,
+    next: Line,
+    number: u32,
+    rest: &[u8],
+) -> Result<Option<Line>, ScriptError>
+    requires { number + length rest.now < 2 ^ 31 }
+    ensures passed { IfOk result (λ l. (n : ℕ) (line : List ℕ) → number ≡ n + 1
+        → line_in number line ≡ Ok (Some next)
+        → come_to (reader_of draft.old) last n (line ∷ lines_of rest.now)
+        ≡ come_to (reader_of draft.new) l number (lines_of rest.now)) }
+    ensures refused { IfErr result (λ x. (n : ℕ) (line : List ℕ) → number ≡ n + 1
+        → line_in number line ≡ Ok (Some next)
+        → order.IsWhere (come_to (reader_of draft.old) last n (line ∷ lines_of rest.now)) x) }
+{
+    let Some(last) = last else {
+        return Ok(Some(next));
+    };
+    let followed = begins(next.tokens.as_slice(), b"column");
+    match take(alloc, draft, followed, &last, number, rest) {
+        Ok(()) => Ok(Some(next)),
+        Err(error) => Err(error),
+    }
+}
+
+/// The line of this number that has these bytes, or none if it is skipped.
+fn line_said(alloc: Global, number: u32, line: &[u8]) -> Result<Option<Line>, ScriptError>
+    ensures line { IfOk result (λ l. line_in number line.now ≡ Ok l) }
+    ensures refused { IfErr result (order.IsWhere (line_in number line.now)) }
+{
+    match line_of(alloc, number, line) {
+        Ok(line) => Ok(line),
         Err(LexError::Refused(refused)) => Err(ScriptError::Refused(refused)),
         Err(LexError::NoMemory) => Err(ScriptError::NoMemory),
+    }
+}
+
+/// Takes a line into a draft, after which a text is left whose lines come after so many others.
+fn take(
+    alloc: Global,
+    draft: &mut Draft,
+    followed: bool,
+    line: &Line,
+    before: u32,
+    rest: &[u8],
+) -> Result<(), ScriptError>
+    requires { before + length rest.now < 2 ^ 31 }
+    ensures step { OnOk result (order.step (reader_of draft.old) followed line.now
+        ≡ Ok (reader_of draft.new)) }
+    ensures refused { IfErr result (λ x. (x ≡ NoMemory) ⊎ ((fault : Refused)
+        × (order.step (reader_of draft.old) followed line.now ≡ Err fault)
+        × order.IsWhere (unless_bad fault (lex_after_in before rest.now)) x)) }
+{
+    match step(alloc, draft, followed, line) {
+        Ok(()) => Ok(()),
+        Err(ScriptError::Refused(fault)) => Err(first_bad(alloc, fault, before, rest)),
+        Err(ScriptError::NoMemory) => Err(ScriptError::NoMemory),
+    }
+}
+
+/// The first bad line of a text before which so many others stand; or else this fault, of a line before it.
+fn first_bad(alloc: Global, fault: Refused, before: u32, text: &[u8]) -> ScriptError
+    requires { before + length text.now < 2 ^ 31 }
+    ensures { order.IsWhere (unless_bad fault (lex_after_in before text.now)) result }
+{
+    match lex_after(alloc, before, text) {
+        Ok(_) => ScriptError::Refused(fault),
+        Err(LexError::Refused(refused)) => ScriptError::Refused(refused),
+        Err(LexError::NoMemory) => ScriptError::NoMemory,
+    }
+}
+
+/// Takes the last line of a text into a draft.
+fn take_last(alloc: Global, draft: &mut Draft, last: Option<Line>) -> Result<(), ScriptError>
+    ensures took { OnOk result ((n : ℕ) → come_to (reader_of draft.old) last n []
+        ≡ order.ended_at n (reader_of draft.new) draft.new.place) }
+    ensures refused { IfErr result (λ x. (n : ℕ) → order.IsWhere
+        (come_to (reader_of draft.old) last n []) x) }
+{
+    match last {
+        Some(last) => step(alloc, draft, false, &last),
+        None => Ok(()),
     }
 }
 
@@ -40,7 +179,7 @@ pub fn read(alloc: Global, text: &[u8]) -> Result<Script, ScriptError>
 /// Errors: as of `read`, but for the kinds of bytes, length and tokens, which no line has that is there.
 pub fn read_lines(alloc: Global, lines: &Lines) -> Result<Script, ScriptError>
     ensures script { IfOk result (λ s. order.script_in (Ok lines.now) ≡ Ok (outline_of s)) }
-    ensures valid { (before : ℕ) (text : List ℕ) → lex_after before text ≡ Ok lines.now
+    ensures valid { (before : ℕ) (text : List ℕ) → lex_after_in before text ≡ Ok lines.now
         → IfOk result (λ s. is_valid s ≡ true) }
     ensures refused { IfErr result (order.IsWhere (order.script_in (Ok lines.now))) }
 {

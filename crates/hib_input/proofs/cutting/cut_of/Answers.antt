@@ -1,5 +1,5 @@
 use Rattle.std.proofs.Common.{◌+◌, ◌≤◌, length, sym, arith}
-use Rattle.hib_journal_json.proofs.Journals.{size_within}
+use Rattle.hib_lex.proofs.Texts.{size_within}
 use Rattle.hib_input.proofs.Cuts.{found, goes_on, not_found}
 use Rattle.hib_input.proofs.cutting.cut_of.Goals as goal
 

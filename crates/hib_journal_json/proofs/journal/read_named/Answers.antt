@@ -1,6 +1,7 @@
 use Rattle.std.proofs.Common.{◌+◌, ◌-◌, ◌≤◌, ◌∙◌, length, take, drop, ap, arith}
 use Rattle.hib_journal_json.specs.Entries.{IsLine, IsBad, refused_at}
-use Rattle.hib_journal_json.proofs.Journals.{size_within, goes_on, stops_at}
+use Rattle.hib_lex.proofs.Texts.{size_within}
+use Rattle.hib_journal_json.proofs.Journals.{goes_on, stops_at}
 use Rattle.hib_journal_json.proofs.journal.read_named.Goals as goal
 
 pub returns-in-None-clause-refused : goal.returns-in-None-clause-refused
