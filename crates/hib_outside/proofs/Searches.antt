@@ -1,6 +1,7 @@
 -- A search by halves for the place of a key.
 use Rattle.std.proofs.Common.{◌≡◌, inl, inr, ℕ, zero, suc, ◌+◌, ◌<◌, ◌≤◌, Bool, true, false, cond, [], ◌∷◌, length, take, drop, get_or, Ok, Err, Result, refl, sym, ap, ◌∙◌, subst, arith, add-one}
 use Rattle.std.proofs.lemmas.Bool.{both_ways}
+use Rattle.std.proofs.lemmas.List.{drop_all}
 use Rattle.hib_base.specs.Keys.{same_key, is_before}
 use Rattle.hib_base.specs.Tables.{Tables, is_first, in_order}
 use Rattle.hib_base.proofs.Tables.{same_key_refl, same_key_eq, Tested, tested}
@@ -69,6 +70,12 @@ place_behind (e ∷ es) k (suc n) d o l h =
 pub place_after : (t : Tables) (k : Key) (n : ℕ) (d : Key × Row) → in_order t ≡ true → n < length t → is_before (get_or t n d).0 k ≡ true
     → place_in t k ≡ further (n + 1) (place_in (drop (n + 1) t) k)
 place_after t k n d o l h = place_behind t k n d o l h ∙ ap (λ j. further j (place_in (drop j t) k)) (sym (add-one n))
+
+-- if the last key comes before the one that is sought, that belongs behind all
+pub place_last : (t : Tables) (k : Key) (n : ℕ) (d : Key × Row) → in_order t ≡ true → n + 1 ≡ length t → is_before (get_or t n d).0 k ≡ true → place_in t k ≡ Err (length t)
+place_last t k n d o e h =
+    let rest : drop (n + 1) t ≡ [] = drop_all (n + 1) t (omega (arith, e)) in
+    place_after t k n d o (omega (arith, e)) h ∙ (ap (λ u. further (n + 1) (place_in u k)) rest ∙ ap Err (omega (arith, e)))
 
 -- if the key that is sought comes before the one at a place, it is sought among those before the place
 pub place_ahead : (t : Tables) (k : Key) (n : ℕ) (d : Key × Row) → n < length t → is_before k (get_or t n d).0 ≡ true → place_in t k ≡ place_in (take n t) k

@@ -1,5 +1,5 @@
 //! Rows in order of keys: where a key's row stands, and how it is put there or taken out.
-ghost use Rattle.std.specs.Prelude.{◌≡◌, ◌+◌, ◌≤◌, ◌<◌, true, length, MatchResult, vec_len, vec_capacity, option_copied};
+ghost use Rattle.std.specs.Prelude.{◌≡◌, ◌+◌, ◌≤◌, ◌<◌, true, length, Err, MatchResult, vec_len, vec_capacity, option_copied};
 ghost use Rattle.hib_base.specs.Keys.{same_key, is_before};
 ghost use Rattle.hib_base.specs.Tables.{in_order, row_at, with_row, without_row};
 ghost use Rattle.hib_outside.specs.Places.{place_in};
@@ -18,12 +18,24 @@ fn comes_before(a: &Key, b: &Key) -> bool
     a.entity.0 < b.entity.0 || (a.entity.0 == b.entity.0 && a.id < b.id)
 }
 
-/// The place of a key's row, or else the place where it belongs. A search by halves.
+/// Whether the last row's key comes before a key, which then belongs behind all rows.
+fn belongs_last(rows: &[(Key, Row)], key: &Key) -> bool
+    requires { in_order rows.now ≡ true }
+    ensures { result ≡ true → place_in rows.now key.now ≡ Err (length rows.now) }
+{
+    let count = rows.len();
+    count > 0 && comes_before(&rows[count - 1].0, key)
+}
+
+/// The place of a key's row, or else the place where it belongs. A search by halves, unless the key belongs behind all rows.
 pub fn find(rows: &[(Key, Row)], key: &Key) -> Result<usize, usize>
     requires { in_order rows.now ≡ true }
     ensures place { result ≡ place_in rows.now key.now }
     ensures within { MatchResult result (λ i. i < length rows.now) (λ i. i ≤ length rows.now) }
 {
+    if belongs_last(rows, key) {
+        return Err(rows.len());
+    }
     let mut low = 0;
     let mut high = rows.len();
     while low < high {
