@@ -17,7 +17,7 @@ use Rattle.hib_journal.specs.Query.{holds, listed, placed, sorted, selected, giv
 use Rattle.hib_query_eval.specs.Enough.{enough_for, enough, is_enough, first_of, is_listed, IsFirst, place_of, HasEntity}
 
 -- ---- a loop that stops where a number is enough
-not_full : (o : Option ℕ) (done : Tables) (x : Key × Row) → is_enough (length (first_of o done)) o ≡ false → first_of o (done ++ x ∷ []) ≡ first_of o done ++ x ∷ []
+pub not_full : (o : Option ℕ) (done : Tables) (x : Key × Row) → is_enough (length (first_of o done)) o ≡ false → first_of o (done ++ x ∷ []) ≡ first_of o done ++ x ∷ []
 not_full None done x h = refl
 not_full (Some n) done x h =
     let l : length (take n done) < n = leb-false n (length (take n done)) h in
@@ -29,7 +29,7 @@ not_full (Some n) done x h =
     short : (n m : ℕ) → min n m < n → m < n
     short n m h = omega arith
 
-full : (o : Option ℕ) (done more : Tables) → is_enough (length (first_of o done)) o ≡ true → first_of o (done ++ more) ≡ first_of o done
+pub full : (o : Option ℕ) (done more : Tables) → is_enough (length (first_of o done)) o ≡ true → first_of o (done ++ more) ≡ first_of o done
 full None done more h = absurd (true≢false (sym h))
 full (Some n) done more h =
     let l : n ≤ length (take n done) = leb-true n (length (take n done)) h in
@@ -113,6 +113,18 @@ in_order_drop zero t o = o
 in_order_drop (suc n) [] o = refl
 in_order_drop (suc n) (x ∷ xs) o = in_order_drop n xs (rest_in_order x xs o).1
 
+pub in_order_take : (n : ℕ) (t : Tables) → in_order t ≡ true → in_order (take n t) ≡ true
+in_order_take zero t o = refl
+in_order_take (suc n) [] o = refl
+in_order_take (suc n) (x ∷ xs) o =
+    let r : (is_first x.0 xs ≡ true) × (in_order xs ≡ true) = rest_in_order x xs o in
+    and_from (is_first x.0 (take n xs)) (in_order (take n xs)) (still n xs r.0) (in_order_take n xs r.1)
+  where
+    still : (n : ℕ) (ys : Tables) → is_first x.0 ys ≡ true → is_first x.0 (take n ys) ≡ true
+    still zero ys f = refl
+    still (suc n) [] f = refl
+    still (suc n) (y ∷ ys) f = f
+
 -- behind a key no row passes
 module _ (P : Key × Row → Bool) (k : Key) (f : (a : Key × Row) → k.entity ≤ a.0.entity → P a ≡ false) where
   none_behind : (t : Tables) → in_order t ≡ true → is_first k t ≡ true → filter P t ≡ []
@@ -174,10 +186,6 @@ pub first_listed : (q : Query) (view t own met : Tables) (most o : Option ℕ) �
     → IsFirst most q t met
 first_listed q view t own met most o e f m h =
     inr (h ∙ (λ i. first_of (sym m i) (f (is_listed q view) (of_entity q view) i)) ∙ ap (λ v. first_of most (filter (is_listed q v) t)) e)
-
-pub all_first : (q : Query) (t rows : Tables) → IsFirst None q t rows → rows ≡ listed q t
-all_first q t rows (inl e) = e
-all_first q t rows (inr e) = e
 
 -- ---- rows of one entity stand in the order of their identifiers
 module _ (q : Query) (view : Tables) where

@@ -68,7 +68,7 @@ module _ (P : Key × Row → Bool) where
 pub in_order_kept : (p : ℕ → Bool) (t : Tables) → in_order t ≡ true → in_order (kept p t) ≡ true
 in_order_kept p t o = in_order_passed (λ e. p e.0.entity) t o
 
-other_way : (a b : Key) → same_key a b ≡ false → same_key b a ≡ false
+pub other_way : (a b : Key) → same_key a b ≡ false → same_key b a ≡ false
 other_way a b n = at (tested (same_key b a))
   where
     at : Tested (same_key b a) → same_key b a ≡ false

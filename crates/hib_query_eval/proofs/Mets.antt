@@ -1,14 +1,14 @@
 -- The rows of an entity that meet a condition hang on its tables alone.
 use Rattle.std.specs.Option.{option_map_or}
 use Rattle.std.specs.List.{filter}
-use Rattle.std.proofs.Common.{◌≡◌, ℕ, Bool, true, false, cond, ◌&&◌, ◌==◌, List, [], ◌∷◌, Some, None, Option, refl, sym, ap, ◌∙◌, inl, inr}
+use Rattle.std.proofs.Common.{◌≡◌, ℕ, Bool, true, false, cond, ◌&&◌, ◌==◌, [], ◌∷◌, Some, None, Option, refl, sym, ap, ◌∙◌, inl, inr}
 use Rattle.hib_base.specs.Tables.{Tables, row_at}
 use Rattle.hib_base.proofs.Tables.{Tested, tested}
 use Rattle.hib_journal.specs.Types.{Key, Row, Cond}
 use Rattle.hib_journal.specs.Query.{holds, mentions}
 use Rattle.hib_journal.specs.Room.{key}
 use Rattle.hib_journal.proofs.Untouched.{rows_in, Agree, holds_same}
-use Rattle.hib_query_eval.specs.Met.{meets, met}
+use Rattle.hib_query_eval.specs.Met.{met}
 
 meets_same : (t u : Tables) (r : Row) (c : Option Cond) → Agree t u (λ n. option_map_or (mentions n) c false) → option_map_or (holds t r) c true ≡ option_map_or (holds u r) c true
 meets_same t u r None f = refl

@@ -1,18 +1,21 @@
 -- Which keys changes change, and the rows that stand there.
-use Rattle.std.proofs.Common.{◌≡◌, ℕ, ◌+◌, ◌<◌, Bool, true, false, cond, ◌&&◌, ◌||◌, ◌==◌, List, [], ◌∷◌, length, take, get_or, Some, None, Option, is_some, refl, ap, sym, ◌∙◌, inl, inr, arith}
+use Rattle.std.proofs.Common.{◌≡◌, ℕ, ◌+◌, ◌<◌, ◌≤◌, Bool, true, false, cond, ◌&&◌, ◌||◌, List, [], ◌∷◌, ◌++◌, length, take, get_or, Some, None, Option, is_some, refl, ap, sym, ◌∙◌, subst, inl, inr}
 use Rattle.std.specs.List.{list_any}
 use Rattle.std.specs.Cmp.{unsigned_tied, nat_eq_equiv}
 use Rattle.std.specs.Ordering.{ordering_then, nat_cmp, is_eq}
 use Rattle.std.specs.declared.cmp.Ordering.{Ordering}
 use Rattle.std.specs.declared.cmp.Ordering.TheVariants.{Less, Equal, Greater}
-use Rattle.std.proofs.lemmas.Bool.{true≢false, eqb-true}
-use Rattle.std.proofs.lemmas.List.Folds.{list_any_more}
+use Rattle.std.proofs.lemmas.Bool.{true≢false}
+use Rattle.std.proofs.lemmas.List.{take_more, take_all}
+use Rattle.std.proofs.lemmas.List.Folds.{list_any-append}
 use Rattle.hib_base.specs.Keys.{same_key}
-use Rattle.hib_base.specs.Tables.{Tables, row_at, key_of, after_changes, last_on, or_change}
+use Rattle.hib_base.specs.Tables.{Tables, row_at, key_of, after_change, after_changes, last_on, or_change}
+use Rattle.hib_outside.proofs.Commits.{after_changes_push}
 use Rattle.hib_base.proofs.Tables.{Tested, tested, same_key_eq, left_by, row_at_changes}
 use Rattle.hib_journal.specs.Types.{Key, Row, Change}
 use Rattle.hib_query_eval.specs.Found.{row_in}
-use Rattle.hib_query_eval.specs.Views.{has_key, is_changed, IsLaid}
+use Rattle.hib_query_eval.specs.declared.own.Laid.{Laid}
+use Rattle.hib_query_eval.specs.Views.{has_key, is_changed, Lays}
 
 -- the derived order of keys
 abbrev pub key_cmp : Key → Key → Ordering
@@ -46,18 +49,30 @@ key_added ks new k f q =
     at false = refl
 
 -- one change more
-pub one_changed : (ks new : List Key) (cs : List Change) (i : ℕ) (c : Change) (k : Key) → i < length cs → c ≡ get_or cs i c → k ≡ key_of c
-    → ((q : Key) → has_key new q ≡ has_key (k ∷ ks) q) → ((q : Key) → has_key ks q ≡ is_changed q (take i cs))
-    → (q : Key) → has_key new q ≡ is_changed q (take (i + 1) cs)
-one_changed ks new cs i c k l e f g h q =
-    g q ∙ (λ j. same_key (f j) q || h q j) ∙ swap (same_key (key_of c) q) (is_changed q (take i cs))
-    ∙ ap (λ d. is_changed q (take i cs) || same_key (key_of d) q) e ∙ sym (list_any_more (λ d. same_key (key_of d) q) cs i c l)
+pub key_changed : (ks new : List Key) (cs : List Change) (c : Change) (k : Key) → k ≡ key_of c
+    → ((q : Key) → has_key new q ≡ has_key (k ∷ ks) q) → ((q : Key) → has_key ks q ≡ is_changed q cs)
+    → (q : Key) → has_key new q ≡ is_changed q (cs ++ c ∷ [])
+key_changed ks new cs c k f g h q =
+    g q ∙ (λ j. same_key (f j) q || h q j) ∙ swap (same_key (key_of c) q) (is_changed q cs) ∙ sym (list_any-append (λ d. same_key (key_of d) q) cs (c ∷ []))
   where
-    swap : (a b : Bool) → (a || b) ≡ (b || a)
+    swap : (a b : Bool) → (a || b) ≡ (b || (a || false))
     swap true true = refl
     swap true false = refl
     swap false true = refl
     swap false false = refl
+
+pub lays_more : (cs : List Change) (c : Change) (k : Key) (old new : Laid) → k ≡ key_of c
+    → ((q : Key) → has_key new.changed.keys q ≡ has_key (k ∷ old.changed.keys) q) → new.left ≡ after_change c old.left → Lays cs old → Lays (cs ++ c ∷ []) new
+lays_more cs c k old new f g e x = record {
+  keys = key_changed old.changed.keys new.changed.keys cs c k f g x.keys;
+  left = e ∙ ap (after_change c) x.left ∙ sym (after_changes_push cs c []);
+}
+
+pub lays_next : (cs : List Change) (i : ℕ) (c : Change) (new : Laid) → i < length cs → c ≡ get_or cs i c → Lays (take i cs ++ c ∷ []) new → Lays (take (i + 1) cs) new
+lays_next cs i c new l e x = subst (λ ds. Lays ds new) (sym (take_more cs i c l ∙ ap (λ d. take i cs ++ d ∷ []) (sym e))) x
+
+pub lays_all : (cs : List Change) (i : ℕ) (laid : Laid) → length cs ≤ i → Lays (take i cs) laid → Lays cs laid
+lays_all cs i laid l x = subst (λ ds. Lays ds laid) (take_all i cs l) x
 
 -- the last change on a key
 changed_last : (k : Key) (cs : List Change) → is_changed k cs ≡ is_some (last_on k cs)
@@ -84,10 +99,6 @@ row_unchanged k cs t h = at (last_on k cs) (sym (changed_last k cs) ∙ h) ∙ s
     at None g = refl
     at (Some c) g = absurd (true≢false g)
 
-pub no_changes : (cs : List Change) → (length cs == 0) ≡ true → cs ≡ []
-no_changes [] h = refl
-no_changes (c ∷ cs) h = let e : length (c ∷ cs) ≡ 0 = eqb-true (length (c ∷ cs)) 0 h in absurd (omega arith)
-
 -- a key with its row is its row
 abbrev with_key : Key → Option Row → Option (Key × Row)
 with_key k None = None
@@ -105,9 +116,9 @@ pub entry_same : (t u : Tables) (k : Key) → row_at t k ≡ row_at u k → row_
 entry_same t u k h = row_in_at t k ∙ ap (with_key k) h ∙ sym (row_in_at u k)
 
 -- the rows among which a key's row stands
-module _ (rows : Tables) (cs : List Change) (ks : List Key) (kept : Tables) (x : IsLaid rows cs ks kept) where
-  pub row_left_there : (k : Key) → has_key ks k ≡ true → row_at kept k ≡ row_at (after_changes cs rows) k
+module _ (rows : Tables) (cs : List Change) (laid : Laid) (x : Lays cs laid) where
+  pub row_left_there : (k : Key) → has_key laid.changed.keys k ≡ true → row_at laid.left k ≡ row_at (after_changes cs rows) k
   row_left_there k h = ap (λ t. row_at t k) x.left ∙ row_changed k cs rows (sym (x.keys k) ∙ h)
 
-  pub row_kept_there : (k : Key) → has_key ks k ≡ false → row_at rows k ≡ row_at (after_changes cs rows) k
+  pub row_kept_there : (k : Key) → has_key laid.changed.keys k ≡ false → row_at rows k ≡ row_at (after_changes cs rows) k
   row_kept_there k h = row_unchanged k cs rows (sym (x.keys k) ∙ h)

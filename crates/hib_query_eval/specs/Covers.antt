@@ -1,12 +1,14 @@
 -- Identifiers among which all rows are that meet a condition.
 use Rattle.std.specs.Prelude.{◌≡◌, ℕ, ◌<◌, ◌^◌, true, pos, List, Some}
 use Rattle.std.specs.Option.{option_map_or}
-use Rattle.hib_journal.specs.Types.{Row, Cell, Cond, Query}
+use Rattle.hib_journal.specs.Types.{Row, Cell, Change, Cond, Query}
 use Rattle.hib_base.specs.Tables.{Tables, row_at}
 use Rattle.hib_journal.specs.Room.{key}
 use Rattle.hib_journal.specs.Query.{holds}
+use Rattle.hib_query_eval.specs.declared.own.Laid.{Laid}
 use Rattle.hib_query_eval.specs.declared.places.Place.{Place}
 use Rattle.hib_query_eval.specs.Places.{IsIndexOf, has_id, has_place}
+use Rattle.hib_query_eval.specs.Views.{is_changed}
 
 -- in all tables of which these are the places
 abbrev pub Covers : List Place → ℕ → Cond → List ℕ → Type 0
@@ -22,6 +24,8 @@ Refer ps entity column targets ids =
 abbrev pub HasMet : Query → Tables → List ℕ → Type 0
 HasMet q t ids = (r : Row) (i : ℕ) → row_at t (key q.entity i) ≡ Some r → option_map_or (holds t r) q.condition true ≡ true → has_id i ids ≡ true
 
--- all rows of an entity
-abbrev pub HasAll : ℕ → Tables → List ℕ → Type 0
-HasAll entity t ids = (r : Row) (i : ℕ) → row_at t (key entity i) ≡ Some r → has_id i ids ≡ true
+-- the rows that changes leave and that meet a query's condition, over whatever tables
+abbrev pub HasLeft : Query → List Change → Laid → List ℕ → Type 0
+HasLeft q cs laid ids =
+    (t : Tables) (r : Row) (i : ℕ) → row_at laid.left (key q.entity i) ≡ Some r → is_changed (key q.entity i) cs ≡ true
+    → option_map_or (holds t r) q.condition true ≡ true → has_id i ids ≡ true

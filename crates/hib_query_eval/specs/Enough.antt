@@ -1,5 +1,5 @@
 -- How many of the rows that a query lists are enough for what it gives.
-use Rattle.std.specs.Prelude.{◌≡◌, ℕ, ◌+◌, Bool, true, false, cond, ◌&&◌, ◌==◌, nat_le, ◌⊎◌, List, [], ◌∷◌, take, Some, None, Option, Result, Ok, Err}
+use Rattle.std.specs.Prelude.{◌≡◌, ℕ, ◌+◌, Bool, true, false, ◌&&◌, ◌==◌, nat_le, ◌⊎◌, List, [], ◌∷◌, take, Some, None, Option, Result, Ok, Err}
 use Rattle.std.specs.Option.{option_map_or}
 use Rattle.std.specs.List.{filter}
 use Rattle.hib_journal.specs.Types.{Key, Row, Sort, Select, Query}
@@ -31,11 +31,6 @@ is_listed q t a = (a.0.entity == q.entity) && option_map_or (holds t a.1) q.cond
 -- the rows that a query lists, or the first of them, where a number is enough
 abbrev pub IsFirst : Option ℕ → Query → Tables → Tables → Type 0
 IsFirst most q t rows = (rows ≡ listed q t) ⊎ (rows ≡ first_of most (listed q t))
-
--- the row of a key, if a query lists it
-abbrev pub row_listed : Query → Tables → Key → Option Row → Option Row
-row_listed q t k None = None
-row_listed q t k (Some r) = cond (is_listed q t (k, r)) (Some r) None
 
 -- where a key's row stands, or else where it belongs
 abbrev pub place_of : Result ℕ ℕ → ℕ

@@ -1,9 +1,10 @@
 -- Changes laid over rows: which keys they change, and what they leave there.
-use Rattle.std.specs.Prelude.{◌≡◌, Bool, true, List, []}
+use Rattle.std.specs.Prelude.{◌≡◌, Bool, true, false, cond, List, [], ◌∷◌, Some, None, Option}
 use Rattle.std.specs.List.{list_any}
 use Rattle.hib_journal.specs.Types.{Key, Change}
-use Rattle.hib_base.specs.Keys.{same_key}
+use Rattle.hib_base.specs.Keys.{same_key, is_before}
 use Rattle.hib_base.specs.Tables.{Tables, in_order, key_of, after_changes}
+use Rattle.hib_query_eval.specs.declared.own.Laid.{Laid}
 
 abbrev pub has_key : List Key → Key → Bool
 has_key ks k = list_any (λ j. same_key j k) ks
@@ -12,8 +13,29 @@ has_key ks k = list_any (λ j. same_key j k) ks
 abbrev pub is_changed : Key → List Change → Bool
 is_changed k cs = list_any (λ c. same_key (key_of c) k) cs
 
+-- whether of two rows the second comes first: there is no first one, or it comes before that one
+abbrev pub comes_first : Tables → Tables → Bool
+comes_first rows [] = false
+comes_first [] (b ∷ bs) = true
+comes_first (a ∷ rows) (b ∷ bs) = is_before b.0 a.0
+
+-- the rows whose keys are none of these, and others, in order of keys
+abbrev pub laid_over : List Key → Tables → Tables → Tables
+laid_over ks [] left = left
+laid_over ks (a ∷ rows) [] = cond (has_key ks a.0) (laid_over ks rows []) (a ∷ laid_over ks rows [])
+laid_over ks (a ∷ rows) (b ∷ left) =
+    cond (is_before b.0 a.0) (b ∷ laid_over ks (a ∷ rows) left) (cond (has_key ks a.0) (laid_over ks rows (b ∷ left)) (a ∷ laid_over ks rows (b ∷ left)))
+
 -- the keys are those that are changed, and the rows are what the changes leave of none
-pub record IsLaid (rows : Tables) (changes : List Change) (changed : List Key) (kept : Tables) : Type 0 where
+pub record Lays (changes : List Change) (laid : Laid) : Type 0 where
+  pub keys : (k : Key) → has_key laid.changed.keys k ≡ is_changed k changes
+  pub left : laid.left ≡ after_changes changes []
+
+-- nothing is laid if there are no changes
+abbrev pub AreLaid : List Change → Option Laid → Type 0
+AreLaid changes None = changes ≡ []
+AreLaid changes (Some laid) = Lays changes laid
+
+pub record IsLaid (rows : Tables) (changes : List Change) (laid : Option Laid) : Type 0 where
   pub ordered : in_order rows ≡ true
-  pub keys : (k : Key) → has_key changed k ≡ is_changed k changes
-  pub left : kept ≡ after_changes changes []
+  pub over : AreLaid changes laid

@@ -83,7 +83,7 @@ fn add_new(
 }
 
 /// Gives a key a copy of a row, or none.
-pub fn set_row(
+fn set_row(
     alloc: Global,
     rows: &mut Vec<(Key, Row)>,
     key: &Key,
@@ -122,15 +122,31 @@ pub fn change_one(
     ensures indexed { IfOk result (λ done. done ≡ true → IsIndexOf places.new.keys rows.new.items) }
 {
     let key = change.key();
-    let found = keyed::row_of(rows.as_slice(), &key);
-    if !applies(change, found) {
+    if !applies(change, keyed::row_of(rows.as_slice(), &key)) {
         return Ok(false);
     }
+    lay_one(alloc, rows, places, change)?;
+    Ok(true)
+}
+
+/// Does a change to rows and to the places of their cells, whether or not it applies.
+pub fn lay_one(
+    alloc: Global,
+    rows: &mut Vec<(Key, Row)>,
+    places: &mut BTreeSet<Place>,
+    change: &Change,
+) -> Result<(), AllocError>
+    requires ordered { in_order rows.old.items ≡ true }
+    requires indexed { IsIndexOf places.old.keys rows.old.items }
+    ensures rows { OnOk result (rows.new.items ≡ after_change change.now rows.old.items) }
+    ensures indexed { OnOk result (IsIndexOf places.new.keys rows.new.items) }
+{
+    let key = change.key();
+    let found = keyed::row_of(rows.as_slice(), &key);
     drop_old(alloc, places, &key, found)?;
     let left = row_left(change);
     add_new(alloc, places, &key, left)?;
-    set_row(alloc, rows, &key, left)?;
-    Ok(true)
+    set_row(alloc, rows, &key, left)
 }
 
 /// The places of the cells of rows.

@@ -1,12 +1,14 @@
 // Rows, found by their cells.
-ghost use Rattle.std.specs.Prelude.{◌≡◌, ◌≢◌, true, map, IfOk, MatchOption};
-ghost use Rattle.hib_base.specs.Tables.{in_order, after_changes, commit_answer};
+ghost use Rattle.std.specs.Prelude.{◌≡◌, ◌≢◌, [], true, map, IfOk, MatchOption};
+ghost use Rattle.hib_base.specs.Tables.{in_order, after_change, after_changes, commit_answer};
 ghost use Rattle.hib_journal.specs.Query.{gives};
 ghost use Rattle.hib_journal.specs.Types.{Commit};
 ghost use Rattle.hib_query_eval.specs.Met.{met};
+ghost use Rattle.hib_query_eval.specs.Places.{IsIndexOf};
 
+use crate::own::Own;
 use crate::places::Place;
-use crate::{changing, met, overlay, reading};
+use crate::{changing, met, overlay};
 use hib_base::{Change, Cond, EntityNo, Key, Listing, Query, Row, Rows};
 use std::alloc::{AllocError, Global};
 use std::collections::BTreeSet;
@@ -46,6 +48,43 @@ impl Index {
         Ok(Index { rows, places })
     }
 
+    /// The index of no rows. It takes no memory.
+    pub(crate) fn empty(alloc: Global) -> Index
+        ensures { result ≡ [] }
+    {
+        Index {
+            rows: Vec::new(alloc),
+            places: BTreeSet::new(alloc),
+        }
+    }
+
+    /// The rows, in order of keys.
+    pub(crate) fn as_slice(&self) -> &[(Key, Row)]
+        ensures ordered { in_order result.now ≡ true }
+        ensures rows { result.now ≡ self.now }
+    {
+        self.rows.as_slice()
+    }
+
+    /// The places of the rows' cells.
+    pub(crate) fn places(&self) -> &BTreeSet<Place>
+        ensures { IsIndexOf result.now.keys self.now }
+    {
+        &self.places
+    }
+
+    /// The index after a change, whether or not it applies. At an error the index is dropped.
+    pub(crate) fn with_change(self, alloc: Global, change: &Change) -> Result<Index, AllocError>
+        ensures { IfOk result (λ index. index ≡ after_change change.now self) }
+    {
+        let Index {
+            mut rows,
+            mut places,
+        } = self;
+        changing::lay_one(alloc, &mut rows, &mut places, change)?;
+        Ok(Index { rows, places })
+    }
+
     /// The index after changes one after the other; none exactly if they don't apply so. At none and at an error the index
     /// is dropped.
     pub fn apply(self, alloc: Global, changes: &[Change]) -> Result<Option<Index>, AllocError>
@@ -68,12 +107,11 @@ impl Index {
 
     /// What a query gives over the rows with a session's own changes laid over them. The rows aren't copied.
     /// Fails for want of memory alone; an identifier that no cell can hold, 2^63 or more, is answered so too.
-    pub fn gives(&self, alloc: Global, query: &Query, own: &[Change]) -> Result<Listing, AllocError>
+    pub fn gives(&self, alloc: Global, query: &Query, own: &Own) -> Result<Listing, AllocError>
         ensures ordered { in_order self.now ≡ true }
         ensures given { IfOk result (λ l. l ≡ gives query.now (after_changes own.now self.now)) }
     {
-        let changes = reading::touching(query, own);
-        overlay::gives(alloc, query, self.rows.as_slice(), &self.places, changes)
+        overlay::gives(alloc, query, self.rows.as_slice(), &self.places, own)
     }
 
     /// The rows of an entity that meet a condition, if there is one. Fails for want of memory alone.

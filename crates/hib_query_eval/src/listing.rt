@@ -19,7 +19,7 @@ pub fn gives(alloc: Global, query: &Query, rows: &Rows) -> Result<Listing, Alloc
     requires { in_order rows.now ≡ true }
     ensures { IfOk result (λ l. l ≡ gives query.now rows.now) }
 {
-    let view = View::of(alloc, rows.as_slice());
+    let view = View::of(rows.as_slice());
     let met = listed(alloc, query, rows.as_slice(), &view, enough(query))?;
     selected(alloc, query, &met)
 }
@@ -43,7 +43,7 @@ fn last_place(query: &Query) -> usize
 }
 
 /// Whether so many rows are enough.
-fn is_enough(count: usize, most: Option<usize>) -> bool
+pub fn is_enough(count: usize, most: Option<usize>) -> bool
     ensures { result ≡ is_enough count most }
 {
     match most {
@@ -117,18 +117,10 @@ pub fn listed<'a>(
 
 /// Whether a query lists a row of a view.
 #[inline]
-fn is_listed<'a>(query: &Query, view: &'a View<'_>, row: &'a (Key, Row)) -> bool
+pub fn is_listed<'a>(query: &Query, view: &'a View<'_>, row: &'a (Key, Row)) -> bool
     ensures { result ≡ is_listed query.now view.now row.now }
 {
-    lists(query, view, &row.0, &row.1)
-}
-
-/// Whether a query lists a row of a key.
-#[inline]
-pub fn lists<'a>(query: &Query, view: &'a View<'_>, key: &Key, row: &'a Row) -> bool
-    ensures { result ≡ is_listed query.now view.now (key.now, row.now) }
-{
-    key.entity == query.entity && conditions::meets(view, row, &query.condition)
+    row.0.entity == query.entity && conditions::meets(view, &row.1, &query.condition)
 }
 
 /// So many rows from a place on.

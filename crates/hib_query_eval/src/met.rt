@@ -4,8 +4,8 @@ ghost use Rattle.std.specs.List.{filter};
 ghost use Rattle.hib_base.specs.Tables.{in_order};
 ghost use Rattle.hib_query_eval.specs.Met.{meets, met};
 
-use crate::conditions;
 use crate::view::View;
+use crate::{conditions, searches};
 use hib_base::{Cond, EntityNo, Key, Row};
 use std::alloc::{AllocError, Global};
 
@@ -47,6 +47,7 @@ pub fn rows_met<'a>(
     requires { in_order rows.now ≡ true }
     ensures { IfOk result (λ v. map (λ r. r.now) v.items ≡ met entity condition.now rows.now) }
 {
-    let view = View::of(alloc, rows);
-    met_of(alloc, entity, condition, rows, &view)
+    let view = View::of(rows);
+    let own = searches::of_entity(rows, entity);
+    met_of(alloc, entity, condition, own, &view)
 }

@@ -41,7 +41,7 @@ fn reads(query: &Query, entity: EntityNo) -> bool
 }
 
 /// Whether changes touch a table that a query reads.
-fn is_touched(query: &Query, changes: &[Change]) -> bool
+pub fn is_touched(query: &Query, changes: &[Change]) -> bool
     ensures { result ≡ list_any (λ c. reads query.now (key_of c).entity) changes.now }
 {
     for change in changes {
@@ -60,6 +60,17 @@ fn steps(condition: &Cond) -> bool
         Cond::And(first, second) | Cond::Or(first, second) => steps(first) || steps(second),
         Cond::Not(only) => steps(only),
         Cond::Test { path, .. } | Cond::Among { path, .. } => path.target.is_some(),
+    }
+}
+
+/// Whether a query's condition steps to any table.
+pub fn steps_anywhere(query: &Query) -> bool
+    ensures { result ≡ false → (n : ℕ) → option_map_or (mentions n) query.now.condition false
+        ≡ false }
+{
+    match &query.condition {
+        Some(condition) => steps(condition),
+        None => false,
     }
 }
 
@@ -86,17 +97,5 @@ pub fn touches_steps(query: &Query, changes: &[Change]) -> bool
     match &query.condition {
         Some(condition) => is_stepped(condition, changes),
         None => false,
-    }
-}
-
-/// The changes, or none if they touch no table that a query reads.
-pub fn touching<'a>(query: &Query, changes: &'a [Change]) -> &'a [Change]
-    ensures { (t : Tables) → gives query.now (after_changes result.now t)
-        ≡ gives query.now (after_changes changes.now t) }
-{
-    if is_touched(query, changes) {
-        changes
-    } else {
-        &[]
     }
 }

@@ -1,21 +1,23 @@
 // The rows that a query lists, by an index and with changes laid over.
-ghost use Rattle.std.specs.Prelude.{◌≡◌, ◌≤◌, ℕ, true, length, IfOk, IfSome, OnOk, map, take, option_copied};
+ghost use Rattle.std.specs.Prelude.{◌≡◌, ◌<◌, ◌≤◌, ℕ, true, false, length, IfOk, IfSome, OnOk, map, take, drop, option_copied};
 ghost use Rattle.std.specs.List.Sorted.{IsStrictlyIncreasing};
+ghost use Rattle.hib_base.specs.Keys.{is_before};
 ghost use Rattle.hib_base.specs.Tables.{Tables, in_order, after_changes};
 ghost use Rattle.hib_journal.specs.Room.{key as key_at};
 ghost use Rattle.hib_journal.specs.Query.{listed};
 ghost use Rattle.std.specs.List.{filter};
 ghost use Rattle.hib_outside.specs.Places.{place_in};
-ghost use Rattle.hib_query_eval.specs.Covers.{HasAll, HasMet};
-ghost use Rattle.hib_query_eval.specs.Enough.{is_listed, IsFirst, place_of, HasEntity};
+ghost use Rattle.hib_query_eval.specs.Covers.{HasLeft, HasMet};
+ghost use Rattle.hib_query_eval.specs.Enough.{first_of, is_listed, IsFirst, place_of, HasEntity};
 ghost use Rattle.hib_query_eval.specs.Found.{row_in, if_met};
 ghost use Rattle.hib_query_eval.specs.Places.{IsIndexOf, has_id};
-ghost use Rattle.hib_query_eval.specs.Views.{is_changed};
+ghost use Rattle.hib_query_eval.specs.Views.{is_changed, comes_first, laid_over, Lays};
 
 use crate::candidates::{candidates, is_wide};
+use crate::own::{self, Laid};
 use crate::places::Place;
 use crate::view::View;
-use crate::{conditions, listing};
+use crate::{conditions, listing, reading};
 use hib_base::{Change, EntityNo, Key, Query, Row};
 use hib_outside::keyed;
 use std::alloc::{AllocError, Global};
@@ -74,19 +76,6 @@ fn add_changed(ids: &mut Vec<u64>, entity: EntityNo, changes: &[Change]) -> Resu
     Ok(())
 }
 
-/// The identifiers of the rows of an entity.
-fn ids_of(alloc: Global, entity: EntityNo, rows: &[(Key, Row)]) -> Result<Vec<u64>, AllocError>
-    ensures { IfOk result (λ ids. HasAll entity rows.now ids.items) }
-{
-    let mut ids = Vec::new(alloc);
-    for row in rows {
-        if row.0.entity == entity {
-            ids.push(row.0.id)?;
-        }
-    }
-    Ok(ids)
-}
-
 /// The same identifiers in order, each once.
 fn rising(mut ids: Vec<u64>) -> Vec<u64>
     ensures rising { IsStrictlyIncreasing result.items }
@@ -113,18 +102,51 @@ fn narrowed(
     }
 }
 
-/// The identifiers of all rows of an entity after changes, and perhaps of others.
-fn every_id(
+/// Adds the identifiers of the rows that changes leave and that meet a query's condition, and perhaps of others whose keys are changed.
+fn add_left(
     alloc: Global,
-    entity: EntityNo,
-    rows: &[(Key, Row)],
+    ids: &mut Vec<u64>,
+    query: &Query,
     changes: &[Change],
-) -> Result<Vec<u64>, AllocError>
-    ensures { IfOk result (λ ids. HasAll entity (after_changes changes.now rows.now) ids.items) }
+    laid: &Laid,
+    most: usize,
+) -> Result<(), AllocError>
+    requires { Lays changes.now laid.now }
+    ensures kept { OnOk result ((i : ℕ) → has_id i ids.old.items ≡ true
+        → has_id i ids.new.items ≡ true) }
+    ensures left { OnOk result (HasLeft query.now changes.now laid.now ids.new.items) }
 {
-    let mut ids = ids_of(alloc, entity, rows)?;
-    add_changed(&mut ids, entity, changes)?;
-    Ok(ids)
+    if !reading::steps_anywhere(query) {
+        if let Some(left) = narrowed(alloc, query, laid.left.places(), most)? {
+            ids.extend_from_slice(left.as_slice())?;
+            return Ok(());
+        }
+    }
+    add_changed(ids, query.entity, changes)
+}
+
+/// Identifiers among which are those of all rows that meet a query's condition once changes are laid over the rows of these places.
+/// None if the places don't narrow it much, or if the changes touch a table to which the condition steps.
+fn narrowed_over(
+    alloc: Global,
+    query: &Query,
+    places: &BTreeSet<Place>,
+    changes: &[Change],
+    laid: &Laid,
+    most: usize,
+) -> Result<Option<Vec<u64>>, AllocError>
+    requires { Lays changes.now laid.now }
+    ensures { IfOk result (λ o. IfSome o (λ ids. (t : Tables) → IsIndexOf places.now.keys t
+        → HasMet query.now (after_changes changes.now t) ids.items)) }
+{
+    if reading::touches_steps(query, changes) {
+        return Ok(None);
+    }
+    let Some(mut ids) = narrowed(alloc, query, places, most)? else {
+        return Ok(None);
+    };
+    add_left(alloc, &mut ids, query, changes, laid, most)?;
+    Ok(Some(ids))
 }
 
 /// The rows that are enough, where so many are listed among the first rows. None else, and where the places tell that few rows meet
@@ -179,7 +201,8 @@ fn from_entity(rows: &[(Key, Row)], entity: EntityNo) -> &[(Key, Row)]
 /// The rows of an entity, which stand together.
 pub fn of_entity(rows: &[(Key, Row)], entity: EntityNo) -> &[(Key, Row)]
     requires { in_order rows.now ≡ true }
-    ensures { HasEntity entity rows.now result.now }
+    ensures ordered { in_order result.now ≡ true }
+    ensures has_all { HasEntity entity rows.now result.now }
 {
     let rest = from_entity(rows, entity);
     match entity.0.checked_add(1) {
@@ -227,19 +250,98 @@ pub fn listed<'a>(
     }
 }
 
-/// The rows that a query lists of a view, which is that of rows with changes laid over them.
+fn comes_before(a: &Key, b: &Key) -> bool
+    ensures { result ≡ is_before a.now b.now }
+{
+    a.entity.0 < b.entity.0 || (a.entity.0 == b.entity.0 && a.id < b.id)
+}
+
+/// Whether of the rows that are left in two lists the second list's comes first.
+fn is_second(rows: &[(Key, Row)], at: usize, left: &[(Key, Row)], behind: usize) -> bool
+    ensures first { result ≡ comes_first (drop at rows.now) (drop behind left.now) }
+    ensures second { result ≡ true → behind < length left.now }
+    ensures within { result ≡ false → behind < length left.now → at < length rows.now }
+{
+    if behind >= left.len() {
+        return false;
+    }
+    if at >= rows.len() {
+        return true;
+    }
+    comes_before(&left[behind].0, &rows[at].0)
+}
+
+/// The rows that a query lists of a view, in order: of some rows, but those of changed keys, and of the rows that changes leave. Where
+/// a number is enough, no more than that.
+fn walked<'a>(
+    alloc: Global,
+    query: &Query,
+    rows: &'a [(Key, Row)],
+    left: &'a [(Key, Row)],
+    changed: &BTreeSet<Key>,
+    view: &'a View<'_>,
+    most: Option<usize>,
+) -> Result<Vec<&'a (Key, Row)>, AllocError>
+    ensures { IfOk result (λ v. map (λ r. r.now) v.items ≡ first_of most
+        (filter (is_listed query.now view.now) (laid_over changed.now.keys rows.now left.now))) }
+{
+    let mut met = Vec::new(alloc);
+    let mut at = 0;
+    let mut behind = 0;
+    while at < rows.len() || behind < left.len() {
+        if listing::is_enough(met.len(), most) {
+            return Ok(met);
+        }
+        if is_second(rows, at, left, behind) {
+            let row = &left[behind];
+            if listing::is_listed(query, view, row) {
+                met.push(row)?;
+            }
+            behind += 1;
+        } else {
+            let row = &rows[at];
+            if listing::is_listed(query, view, row) && !own::is_in(changed, &row.0) {
+                met.push(row)?;
+            }
+            at += 1;
+        }
+    }
+    Ok(met)
+}
+
+/// From how many rows on that meet a condition a walk over all rows is likely to be shorter.
+fn many(rows: usize, most: Option<usize>) -> usize {
+    let many = rows / 8;
+    match most {
+        Some(enough) => many.min(enough.saturating_mul(2).saturating_add(64)),
+        None => many,
+    }
+}
+
+/// The rows that a query lists of a view, which is that of rows with changes laid over them. Where a number is enough, perhaps no more
+/// than that.
 pub fn listed_over<'a>(
     alloc: Global,
     query: &Query,
-    rows: &[(Key, Row)],
+    rows: &'a [(Key, Row)],
+    places: &BTreeSet<Place>,
     changes: &[Change],
+    laid: &'a Laid,
     view: &'a View<'_>,
+    most: Option<usize>,
 ) -> Result<Vec<&'a (Key, Row)>, AllocError>
-    requires ordered { in_order view.now ≡ true }
+    requires ordered { in_order rows.now ≡ true }
+    requires indexed { IsIndexOf places.now.keys rows.now }
+    requires laid { Lays changes.now laid.now }
     requires view { view.now ≡ after_changes changes.now rows.now }
-    ensures { IfOk result (λ v. map (λ r. r.now) v.items ≡ listed query.now view.now) }
+    ensures { IfOk result (λ v. IsFirst most query.now view.now (map (λ r. r.now) v.items)) }
 {
-    let ids = every_id(alloc, query.entity, rows, changes)?;
-    let ids = rising(ids);
-    found(alloc, query, view, ids.as_slice())
+    let own = of_entity(rows, query.entity);
+    let many = many(own.len(), most);
+    if let Some(ids) = narrowed_over(alloc, query, places, changes, laid, many)? {
+        let ids = rising(ids);
+        return found(alloc, query, view, ids.as_slice());
+    }
+    let left = of_entity(laid.left.as_slice(), query.entity);
+    walked(alloc, query, own, left, &laid.changed, view, most)
 }

@@ -1,14 +1,12 @@
 // Rows with changes laid over them, without a copy of the rows.
-ghost use Rattle.std.specs.Prelude.{◌≡◌, ◌∷◌, true, IfOk, OnOk, option_copied};
+ghost use Rattle.std.specs.Prelude.{◌≡◌, true, option_copied};
 ghost use Rattle.hib_base.specs.Tables.{in_order, row_at, after_changes};
-ghost use Rattle.hib_journal.specs.Types.{Key as KeySpec};
 ghost use Rattle.hib_query_eval.specs.Found.{row_in};
-ghost use Rattle.hib_query_eval.specs.Views.{has_key, is_changed};
+ghost use Rattle.hib_query_eval.specs.Views.{Lays};
 
-use hib_base::{Change, Key, Row, Rows, Seq};
+use crate::own::{self, Laid};
+use hib_base::{Change, Key, Row};
 use hib_outside::keyed;
-use std::alloc::{AllocError, Global};
-use std::collections::BTreeSet;
 use std::marker::Model;
 
 /// Rows in order of keys, with changes laid over them. Contracts see the rows that the changes leave.
@@ -16,12 +14,12 @@ use std::marker::Model;
 pub struct View<'a> {
     rows: &'a [(Key, Row)],
     changes: &'a [Change],
-    // The keys that are changed, and the rows that the changes leave there.
-    changed: BTreeSet<Key>,
-    left: Rows,
+    // What the changes leave of no rows. None if there are no changes.
+    laid: Option<&'a Laid>,
 }
 
 impl<'a> Model for View<'a> {
+    ghost use Rattle.std.specs.Prelude.{option_copied};
     ghost use Rattle.hib_base.specs.Tables.{Tables, after_changes};
 
     ghost Value = { Tables };
@@ -30,40 +28,33 @@ impl<'a> Model for View<'a> {
 
     ghost view = { λ v. after_changes v.changes.now v.rows.now };
 
-    ghost invariant = { λ v. IsLaid v.rows.now v.changes.now v.changed.keys v.left };
+    ghost invariant = { λ v. IsLaid v.rows.now v.changes.now (option_copied v.laid) };
 }
 
 impl<'a> View<'a> {
-    /// Rows in order of keys, with changes laid over them. The rows aren't copied.
-    pub fn over(
-        alloc: Global,
-        rows: &'a [(Key, Row)],
-        changes: &'a [Change],
-    ) -> Result<View<'a>, AllocError>
-        requires { in_order rows.now ≡ true }
-        ensures view { IfOk result (λ v. v ≡ after_changes changes.now rows.now) }
-        ensures ordered { IfOk result (λ v. in_order v ≡ true) }
+    /// Rows in order of keys, with changes laid over them, of which it is known what they leave.
+    pub fn over(rows: &'a [(Key, Row)], changes: &'a [Change], laid: &'a Laid) -> View<'a>
+        requires ordered { in_order rows.now ≡ true }
+        requires laid { Lays changes.now laid.now }
+        ensures view { result ≡ after_changes changes.now rows.now }
+        ensures ordered { in_order result ≡ true }
     {
-        let changed = keys_of(alloc, changes)?;
-        let left = hib_outside::laid_over(alloc, Seq::new(alloc), changes)?;
-        Ok(View {
+        View {
             rows,
             changes,
-            changed,
-            left,
-        })
+            laid: Some(laid),
+        }
     }
 
     /// Rows in order of keys, as they are.
-    pub fn of(alloc: Global, rows: &'a [(Key, Row)]) -> View<'a>
+    pub fn of(rows: &'a [(Key, Row)]) -> View<'a>
         requires { in_order rows.now ≡ true }
         ensures { result ≡ rows.now }
     {
         View {
             rows,
             changes: &[],
-            changed: BTreeSet::new(alloc),
-            left: Seq::new(alloc),
+            laid: None,
         }
     }
 
@@ -73,10 +64,9 @@ impl<'a> View<'a> {
         ensures row { row_at result.now key.now ≡ row_at self.now key.now }
         ensures entry { row_in result.now key.now ≡ row_in self.now key.now }
     {
-        if !self.changes.is_empty() && is_in(&self.changed, key) {
-            self.left.as_slice()
-        } else {
-            self.rows
+        match self.laid {
+            Some(laid) if own::is_in(&laid.changed, key) => laid.left.as_slice(),
+            _ => self.rows,
         }
     }
 
@@ -104,29 +94,4 @@ fn entry_of<'a>(rows: &'a [(Key, Row)], key: &Key) -> Option<&'a (Key, Row)>
         Ok(at) => Some(&rows[at]),
         Err(_) => None,
     }
-}
-
-fn is_in(keys: &BTreeSet<Key>, key: &Key) -> bool
-    ensures { result ≡ has_key keys.now.keys key.now }
-{
-    keys.contains(key)
-}
-
-fn add_key(keys: &mut BTreeSet<Key>, key: Key) -> Result<(), AllocError>
-    ensures { OnOk result ((k : KeySpec)
-        → has_key keys.new.keys k ≡ has_key (key ∷ keys.old.keys) k) }
-{
-    keys.insert(key)?;
-    Ok(())
-}
-
-/// The keys of changes.
-fn keys_of(alloc: Global, changes: &[Change]) -> Result<BTreeSet<Key>, AllocError>
-    ensures { IfOk result (λ keys. (k : KeySpec) → has_key keys.keys k ≡ is_changed k changes.now) }
-{
-    let mut keys = BTreeSet::new(alloc);
-    for change in changes {
-        add_key(&mut keys, change.key())?;
-    }
-    Ok(keys)
 }

@@ -1,4 +1,4 @@
-use Rattle.std.proofs.Common.{map, refl, subst, sym, ◌∙◌, ap}
+use Rattle.std.proofs.Common.{map, refl, subst}
 use Rattle.std.proofs.lemmas.Result.{IfOk-weaker}
 use Rattle.hib_query_eval.specs.Enough.{IsFirst}
 use Rattle.hib_query_eval.proofs.Enough.{given_of}
