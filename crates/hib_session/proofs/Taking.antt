@@ -1,5 +1,5 @@
 -- A session that takes the entry of the act that was due.
-use Rattle.std.proofs.Common.{◌≡◌, ◌<◌, ℕ, Bool, true, false, ◌&&◌, List, [], ◌∷◌, IfSome, Some, None, Option, refl, sym, ap, ◌∙◌, subst}
+use Rattle.std.proofs.Common.{◌≡◌, ◌<◌, ℕ, Bool, true, false, not, ◌&&◌, ◌||◌, List, [], ◌∷◌, IfSome, Some, None, Option, refl, sym, ap, ◌∙◌, subst}
 use Rattle.std.proofs.lemmas.Bool.{false≢true, true≢false, and_parts}
 use Rattle.hib_journal.specs.Types.{Key, Change, Statement, Script, Act, Reply, Entry}
 use Rattle.hib_journal.specs.Sessions.{Journal, time_in, time_after, floor_in, floor_after, changes_in, changes_after, is_begun}
@@ -11,10 +11,10 @@ use Rattle.hib_session.specs.declared.control.Control.{Control}
 use Rattle.hib_session.specs.declared.session.Session.{Session}
 use Rattle.hib_session.specs.declared.written.Written.{Written}
 use Rattle.hib_session.specs.declared.ahead.Ending.{Ending}
-use Rattle.hib_session.specs.Memory.{Remembered, Knows, Recalls, Fits, brings, has_copies}
+use Rattle.hib_session.specs.Memory.{Remembered, Knows, Recalls, Fits, brings, has_copies, takes_room}
 use Rattle.hib_journal.specs.Due.{IsAllowed, is_closed}
 use Rattle.hib_session.specs.Control.{Stands, untaken, is_due, is_over_at, is_over, is_settled, act_at, act_staged, weight}
-use Rattle.hib_session.specs.Ahead.{Ends, Copies, asks_rows, has_ending, is_made}
+use Rattle.hib_session.specs.Ahead.{Ends, Copies, asks_rows, has_ending, needs_room, is_made}
 use Rattle.hib_session.specs.Session.{Follows, IsTaken, number_of, left_in, is_ready}
 use Rattle.hib_journal.proofs.Due.{allowed_due, closed_end}
 use Rattle.hib_session.proofs.Taken.{act_due}
@@ -131,8 +131,8 @@ fits_due script s mine a f t n = by_copies s.copies f.copies (act_due script s.c
 -- what is made ready is enough for an entry that brings nothing
 pub made_due : (acts : List Act) (stage : Stage) (b : Bool) (sts : List Statement) (mine : Journal) (a : Act) (w : Option Written) (e : Option Ending) →
     act_at acts stage b sts mine ≡ Some a → brings a ≡ false → is_made acts stage w e ≡ true →
-    (acts ≡ [] → asks_rows stage ≡ false) × ((acts ≡ [] → has_ending stage e ≡ true) × (has_copies w a ≡ true))
-made_due (x ∷ acts) stage b sts mine a w e d n m = (λ q. absurd (no q), (λ q. absurd (no q), subst (λ y. has_copies w y ≡ true) same m))
+    ((acts ≡ [] → asks_rows stage ≡ false) × ((acts ≡ [] → has_ending stage e ≡ true) × (has_copies w a ≡ true))) × (takes_room a ≡ needs_room acts)
+made_due (x ∷ acts) stage b sts mine a w e d n m = ((λ q. absurd (no q), (λ q. absurd (no q), subst (λ y. has_copies w y ≡ true) same m)), ap takes_room (sym same))
   where
     no : x ∷ acts ≡ [] → ⊥
     no q = cc
@@ -151,28 +151,31 @@ made_due [] (Stage.Listing k) b sts mine a w e d n m = absurd (true≢false (ap 
   where
     same : a ≡ Act.List k
     same = cc
-made_due [] Stage.Idle true (st ∷ sts) mine a w e d n m = let same : a ≡ Act.Begin = cc in (λ q. refl, (λ q. m, ap (has_copies w) same))
+made_due [] Stage.Idle true (st ∷ sts) mine a w e d n m = let same : a ≡ Act.Begin = cc in ((λ q. refl, (λ q. m, ap (has_copies w) same)), ap takes_room same)
 made_due [] Stage.Idle true [] mine a w e d n m = absurd (cc)
 made_due [] Stage.Idle false sts mine a w e d n m = absurd (cc)
 made_due [] (Stage.Answering k) b sts mine a w e d n m = absurd (cc)
-made_due [] (Stage.Looking k) b sts mine a w e d n m = let same : a ≡ Act.Look k = cc in (λ q. refl, (λ q. m, ap (has_copies w) same))
-made_due [] (Stage.Checking k t) b sts mine a w e d n m = let same : a ≡ Act.Check k t = cc in (λ q. refl, (λ q. m, ap (has_copies w) same))
-made_due [] Stage.Committing b sts mine a w e d n m = let same : a ≡ Act.Commit = cc in (λ q. refl, (λ q. m, ap (has_copies w) same))
-made_due [] Stage.RollingBack b sts mine a w e d n m = let same : a ≡ Act.Rollback = cc in (λ q. refl, (λ q. m, ap (has_copies w) same))
+made_due [] (Stage.Looking k) b sts mine a w e d n m = let same : a ≡ Act.Look k = cc in ((λ q. refl, (λ q. m, ap (has_copies w) same)), ap takes_room same)
+made_due [] (Stage.Checking k t) b sts mine a w e d n m = let same : a ≡ Act.Check k t = cc in ((λ q. refl, (λ q. m, ap (has_copies w) same)), ap takes_room same)
+made_due [] Stage.Committing b sts mine a w e d n m = let same : a ≡ Act.Commit = cc in ((λ q. refl, (λ q. m, ap (has_copies w) same)), ap takes_room same)
+made_due [] Stage.RollingBack b sts mine a w e d n m = let same : a ≡ Act.Rollback = cc in ((λ q. refl, (λ q. m, ap (has_copies w) same)), ap takes_room same)
 
 -- a session that is ready has nothing to expand
 pub settled_ready : (script : Script) (s : Session) → is_ready script s ≡ true → is_settled script s.control ≡ true
-settled_ready script s r = (and_parts (is_settled script s.control) s.memory.room (and_parts (is_settled script s.control && s.memory.room) (is_made s.control.queue s.control.stage s.copies s.ending) r).0).0
+settled_ready script s r =
+    (and_parts (is_settled script s.control) (not (needs_room s.control.queue) || s.memory.room)
+    (and_parts (is_settled script s.control && (not (needs_room s.control.queue) || s.memory.room)) (is_made s.control.queue s.control.stage s.copies s.ending) r).0).0
 
 -- the memory is there for an entry of the act that is due, unless it brings something
 pub room_next : (script : Script) (s : Session) (mine : Journal) (a : Act) → Follows script s mine → is_ready script s ≡ true → next script s.control.number mine ≡ Some a → brings a ≡ false →
-    ((s.control.queue ≡ [] → asks_rows s.control.stage ≡ false) × (s.control.queue ≡ [] → has_ending s.control.stage s.ending ≡ true)) × ((has_copies s.copies a ≡ true) × (s.memory.room ≡ true))
+    ((s.control.queue ≡ [] → asks_rows s.control.stage ≡ false) × (s.control.queue ≡ [] → has_ending s.control.stage s.ending ≡ true)) × ((has_copies s.copies a ≡ true) × ((not (takes_room a) || s.memory.room) ≡ true))
 room_next script s mine a f r n b =
-    let p : (is_settled script s.control && s.memory.room ≡ true) × (is_made s.control.queue s.control.stage s.copies s.ending ≡ true) =
-    and_parts (is_settled script s.control && s.memory.room) (is_made s.control.queue s.control.stage s.copies s.ending) r in
-    let q : (is_settled script s.control ≡ true) × (s.memory.room ≡ true) = and_parts (is_settled script s.control) s.memory.room p.0 in
+    let u : Bool = not (needs_room s.control.queue) || s.memory.room in
+    let p : ((is_settled script s.control && u) ≡ true) × (is_made s.control.queue s.control.stage s.copies s.ending ≡ true) =
+    and_parts (is_settled script s.control && u) (is_made s.control.queue s.control.stage s.copies s.ending) r in
+    let q : (is_settled script s.control ≡ true) × (u ≡ true) = and_parts (is_settled script s.control) u p.0 in
     let m = made_due s.control.queue s.control.stage s.control.begins (untaken script s.control) mine a s.copies s.ending (act_due script s.control mine f.stands q.0 ∙ n) b p.1 in
-    ((m.0, m.1.0), (m.1.1, q.1))
+    ((m.0.0, m.0.1.0), (m.0.1.1, rw m.1 q.1))
 
 pub if_allowed : (script : Script) (s : Session) (mine : Journal) (o : Option Act) → Follows script s mine → o ≡ next script (number_of s) mine → IfSome o (IsAllowed script (number_of s) mine)
 if_allowed script s mine None f e = tt

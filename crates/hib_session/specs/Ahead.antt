@@ -8,7 +8,7 @@ use Rattle.hib_session.specs.declared.control.Stage.{Stage}
 use Rattle.hib_session.specs.declared.ahead.Ending.{Ending}
 use Rattle.hib_session.specs.declared.written.Written.{Written}
 use Rattle.hib_base.specs.Tables.{row_left}
-use Rattle.hib_session.specs.Memory.{has_copies}
+use Rattle.hib_session.specs.Memory.{has_copies, takes_room}
 
 -- an act after a commit that was applied, if the transaction ends otherwise: a lock is given back without a row
 abbrev pub refused_act : Act → Act
@@ -44,6 +44,11 @@ abbrev pub has_ending : Stage → Option Ending → Bool
 has_ending Stage.Committing e = is_some e
 has_ending Stage.RollingBack e = is_some e
 has_ending _ e = true
+
+-- whether the entry of the next act must find room
+abbrev pub needs_room : List Act → Bool
+needs_room [] = false
+needs_room (a ∷ acts) = takes_room a
 
 -- what the entry of the next act needs is there
 abbrev pub is_made : List Act → Stage → Option Written → Option Ending → Bool

@@ -209,6 +209,12 @@ abbrev pub has_copies : Option Written → Act → Bool
 has_copies w (Act.Write c) = is_some w
 has_copies w _ = true
 
+-- the acts whose entries must find room for what is kept of them: the changes and locks of a transaction
+abbrev pub takes_room : Act → Bool
+takes_room (Act.Write c) = true
+takes_room (Act.Lock k v f) = true
+takes_room _ = false
+
 abbrev pub is_write : Act → Bool
 is_write (Act.Write c) = true
 is_write _ = false

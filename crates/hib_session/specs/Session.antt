@@ -1,5 +1,5 @@
 -- What a session stands for, and what it answers itself.
-use Rattle.std.specs.Prelude.{◌≡◌, ℕ, Bool, false, cond, ◌||◌, ◌&&◌, Some, None, Option, is_some}
+use Rattle.std.specs.Prelude.{◌≡◌, ℕ, Bool, false, cond, not, ◌||◌, ◌&&◌, Some, None, Option, is_some}
 use Rattle.hib_journal.specs.Types.{Script, Act, Reply, Entry}
 use Rattle.hib_journal.specs.Sessions.{Journal, changes_in}
 use Rattle.hib_journal.specs.Held.{held}
@@ -9,7 +9,7 @@ use Rattle.hib_journal.specs.Legal.{outcome, row_of, set_unless}
 use Rattle.hib_session.specs.declared.session.Session.{Session}
 use Rattle.hib_session.specs.Memory.{Knows, Recalls}
 use Rattle.hib_session.specs.Control.{Stands, is_settled, weight}
-use Rattle.hib_session.specs.Ahead.{Ends, Copies, is_made}
+use Rattle.hib_session.specs.Ahead.{Ends, Copies, needs_room, is_made}
 
 -- which session it is
 abbrev pub number_of : Session → ℕ
@@ -34,7 +34,7 @@ pub record Follows (script : Script) (s : Session) (mine : Journal) : Type 0 whe
 
 -- nothing is left to expand before its next act, and the memory is there for an entry of that act that brings nothing
 abbrev pub is_ready : Script → Session → Bool
-is_ready script s = (is_settled script s.control && s.memory.room) && is_made s.control.queue s.control.stage s.copies s.ending
+is_ready script s = (is_settled script s.control && (not (needs_room s.control.queue) || s.memory.room)) && is_made s.control.queue s.control.stage s.copies s.ending
 
 -- the reply to an own act or to End, by the session's own entries; none to another act
 abbrev pub own_reply : Script → Journal → Act → Option Reply

@@ -8,9 +8,9 @@ ghost use Rattle.hib_base.specs.declared.scripts.Mode.{Mode};
 ghost use Rattle.hib_journal.specs.Sessions.{Journal};
 ghost use Rattle.hib_journal.specs.Plan.{Plan, after};
 ghost use Rattle.hib_journal.specs.Next.{list, mode_after, ends, next, completion};
-ghost use Rattle.hib_session.specs.Memory.{Knows, Recalls, Fits, has_copies};
+ghost use Rattle.hib_session.specs.Memory.{Knows, Recalls, Fits, has_copies, takes_room as takes_room_of};
 ghost use Rattle.hib_session.specs.Control.{staged, queued, untaken, decided, is_answering, is_due, is_resting, rank, begin_at, act_staged, Stands, weight};
-ghost use Rattle.hib_session.specs.Ahead.{Ends, Copies, asks_rows, has_ending};
+ghost use Rattle.hib_session.specs.Ahead.{Ends, Copies, asks_rows, has_ending, needs_room as needs_room_in};
 
 use crate::ahead::Ending;
 use crate::memory::Memory;
@@ -163,6 +163,13 @@ fn are_there(act: &Act, copies: &Option<Written>) -> bool
         Act::Write(_) => copies.is_some(),
         _ => true,
     }
+}
+
+/// Whether an act is one whose entry must find room.
+pub fn takes_room(act: &Act) -> bool
+    ensures { result ≡ takes_room_of act.now }
+{
+    matches!(act, Act::Write(_) | Act::Lock { .. })
 }
 
 /// Copies for an act that is a write.
@@ -324,6 +331,13 @@ impl Control {
             queue: Queue::new(alloc),
             stage: self.stage,
         }
+    }
+
+    /// Whether the entry of the next act must find room.
+    pub fn needs_room(&self) -> bool
+        ensures { result ≡ needs_room_in self.now.queue }
+    {
+        !self.queue.is_empty() && takes_room(self.queue.first())
     }
 
     /// Whether what the entry of the next act needs is there: copies for a write, and for an end of the transaction the acts

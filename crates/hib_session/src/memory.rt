@@ -1,5 +1,5 @@
 // What a session remembers of its own entries: its transaction's time, floor and changes, its locks and its instances.
-ghost use Rattle.std.specs.Prelude.{◌≡◌, ◌||◌, ◌∷◌, [], ◌++◌, IfOk, IfSome, IsOk, OnOk, true, Some, None, MatchOption, is_some, cond};
+ghost use Rattle.std.specs.Prelude.{◌≡◌, ◌||◌, ◌∷◌, [], ◌++◌, IfOk, IfSome, IsOk, OnOk, true, not, Some, None, MatchOption, is_some, cond};
 ghost use Rattle.hib_journal.specs.Sessions.{Journal};
 ghost use Rattle.hib_journal.specs.Held.{pending};
 ghost use Rattle.hib_base.specs.declared.entries.Act.{Act};
@@ -118,13 +118,13 @@ impl Memory {
             && has_room(&self.locks)
     }
 
-    /// Makes room for one more of each. At an error nothing has changed but the room.
-    pub fn reserve(&mut self) -> Result<(), AllocError>
+    /// Makes room for one more of each, if it is needed. At an error nothing has changed but the room.
+    pub fn reserve(&mut self, needed: bool) -> Result<(), AllocError>
         ensures same { self.new ≡ with_room self.new.room self.old }
-        ensures ok { OnOk result (self.new.room ≡ true) }
-        ensures room { self.old.room ≡ true → IsOk result }
+        ensures ok { OnOk result ((not needed || self.new.room) ≡ true) }
+        ensures room { (not needed || self.old.room) ≡ true → IsOk result }
     {
-        if self.has_room() {
+        if !needed || self.has_room() {
             return Ok(());
         }
         self.marks.reserve(1)?;

@@ -1,14 +1,15 @@
 // How a memory takes one more entry.
-ghost use Rattle.std.specs.Prelude.{◌≡◌, ◌∷◌, [], ◌++◌, OnOk, OnErr, IfOk, IsOk, is_some, true, false, Some, None};
+ghost use Rattle.std.specs.Prelude.{◌≡◌, ◌∷◌, [], ◌++◌, OnOk, OnErr, IfOk, IsOk, is_some, true, false, not, ◌||◌, Some, None};
 ghost use Rattle.hib_journal.specs.Sessions.{floor_after};
 ghost use Rattle.hib_journal.specs.Held.{is_break};
 ghost use Rattle.hib_journal.specs.Legal.{outcome_after};
 ghost use Rattle.hib_base.specs.declared.entries.Act.{Act};
 ghost use Rattle.hib_identity_map.specs.Identity.{change_in, drop_in, written, with_sets, remove_last};
 ghost use Rattle.hib_base.specs.Tables.{row_left};
-ghost use Rattle.hib_session.specs.Memory.{marked_in, with_value, with_key, made, managed, arrive_in, remove_in, with_pairs, with_room, unless_broken, map_written, marks_written, fresh_written, noted, Fits, brings, has_copies, is_write};
+ghost use Rattle.hib_session.specs.Memory.{marked_in, with_value, with_key, made, managed, arrive_in, remove_in, with_pairs, with_room, unless_broken, map_written, marks_written, fresh_written, noted, Fits, brings, has_copies, is_write, takes_room as takes_room_of};
 
 use crate::changed::Changed;
+use crate::control::takes_room;
 use crate::keyed::{add, put};
 use crate::memory::{Memory, is_marked};
 use crate::written::Written;
@@ -46,9 +47,8 @@ fn made_held(alloc: Global, row: &Row) -> Result<Held, AllocError>
 }
 
 impl Memory {
-    /// A row that was read arrives, in the place of an instance of the same key.
+    /// A row that was read arrives, in the place of an instance of the same key. At an error nothing has changed but the room.
     fn read(&mut self, alloc: Global, key: &Key, row: &Row) -> Result<(), AllocError>
-        requires { self.old.room ≡ true }
         ensures ok { OnOk result (self.new
             ≡ record self.old {
               instances = with_pairs self.old.instances
@@ -57,18 +57,19 @@ impl Memory {
               fresh = with_key key.now self.old.fresh;
               room = self.new.room;
             }) }
-        ensures err { OnErr result (self.new ≡ self.old) }
+        ensures err { OnErr result (self.new ≡ with_room self.new.room self.old) }
     {
         let held = read_held(alloc, row)?;
+        self.marks.reserve(1)?;
+        self.fresh.reserve(1)?;
         self.instances.arrive(key, held)?;
         put(&mut self.marks, *key, false);
         add(&mut self.fresh, *key);
         Ok(())
     }
 
-    /// A new row arrives, in the place of an instance of the same key.
+    /// A new row arrives, in the place of an instance of the same key. At an error nothing has changed but the room.
     fn make(&mut self, alloc: Global, key: &Key, row: &Row) -> Result<(), AllocError>
-        requires { self.old.room ≡ true }
         ensures ok { OnOk result (self.new
             ≡ record self.old {
               instances = with_pairs self.old.instances
@@ -76,9 +77,10 @@ impl Memory {
               marks = with_value key.now true self.old.marks;
               room = self.new.room;
             }) }
-        ensures err { OnErr result (self.new ≡ self.old) }
+        ensures err { OnErr result (self.new ≡ with_room self.new.room self.old) }
     {
         let held = made_held(alloc, row)?;
+        self.marks.reserve(1)?;
         self.instances.make(key, held)?;
         put(&mut self.marks, *key, true);
         Ok(())
@@ -269,17 +271,17 @@ impl Memory {
         Ok(())
     }
 
-    /// Takes one more entry, if there is room.
+    /// Takes one more entry, if there is room for one that must find it. At an error nothing has changed but the room.
     fn take(
         &mut self,
         alloc: Global,
         entry: &Entry,
         copies: Option<Written>,
     ) -> Result<(), AllocError>
-        requires { self.old.room ≡ true }
+        requires { (not (takes_room_of entry.now.act) || self.old.room) ≡ true }
         ensures ok { OnOk result (Fits copies entry.now.act
             → self.new ≡ with_room self.new.room (noted self.old entry.now)) }
-        ensures err { OnErr result (self.new ≡ self.old) }
+        ensures err { OnErr result (self.new ≡ with_room self.new.room self.old) }
         ensures room { brings entry.now.act ≡ false → has_copies copies entry.now.act ≡ true
             → IsOk result }
     {
@@ -289,12 +291,12 @@ impl Memory {
         }
     }
 
-    /// Takes an entry that is no write.
+    /// Takes an entry that is no write. At an error nothing has changed but the room.
     fn take_other(&mut self, alloc: Global, entry: &Entry) -> Result<(), AllocError>
-        requires room { self.old.room ≡ true }
+        requires room { (not (takes_room_of entry.now.act) || self.old.room) ≡ true }
         requires other { is_write entry.now.act ≡ false }
         ensures ok { OnOk result (self.new ≡ with_room self.new.room (noted self.old entry.now)) }
-        ensures err { OnErr result (self.new ≡ self.old) }
+        ensures err { OnErr result (self.new ≡ with_room self.new.room self.old) }
         ensures room { brings entry.now.act ≡ false → IsOk result }
     {
         match (&entry.act, &entry.reply) {
@@ -328,8 +330,8 @@ impl Memory {
         }
     }
 
-    /// Takes one more entry, which may be that of a write of which there are copies. It makes room first; if there is
-    /// room, it takes memory for what the entry brings alone. At an error nothing has changed but the room.
+    /// Takes one more entry, which may be that of a write of which there are copies. If there is room, or the entry needs none, it
+    /// takes memory for what the entry brings alone. At an error nothing has changed but the room.
     pub fn note(
         &mut self,
         alloc: Global,
@@ -339,10 +341,11 @@ impl Memory {
         ensures ok { OnOk result (Fits copies entry.now.act
             → self.new ≡ with_room self.new.room (noted self.old entry.now)) }
         ensures err { OnErr result (self.new ≡ with_room self.new.room self.old) }
-        ensures room { self.old.room ≡ true → brings entry.now.act ≡ false
+        ensures room { (not (takes_room_of entry.now.act) || self.old.room) ≡ true
+            → brings entry.now.act ≡ false
             → has_copies copies entry.now.act ≡ true → IsOk result }
     {
-        self.reserve()?;
+        self.reserve(takes_room(&entry.act))?;
         self.take(alloc, entry, copies)
     }
 }

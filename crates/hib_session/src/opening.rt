@@ -11,7 +11,7 @@ pub fn open_all(alloc: Global, script: &Script) -> Result<Vec<Session>, AllocErr
     requires few { length script.now.sessions < 2 ^ 32 }
     ensures { IfOk result (λ v. AreSessions script.now [] v.items) }
 {
-    let mut sessions = Vec::new(alloc);
+    let mut sessions = Vec::with_capacity(alloc, script.sessions.len())?;
     for number in 0..script.sessions.len() {
         sessions.push(Session::open(alloc, SessionNo(number as u32)))?;
     }

@@ -154,7 +154,7 @@ impl Session {
         ensures { result ≡ Rattle.hib_session.specs.Session.is_ready script.now self.now }
     {
         self.control.is_settled(script)
-            && self.memory.has_room()
+            && (!self.control.needs_room() || self.memory.has_room())
             && self.control.is_made(&self.copies, &self.ending)
     }
 
@@ -179,7 +179,7 @@ impl Session {
         self.copies = None;
         self.ending = None;
         self.control.settle(alloc, script, &self.memory)?;
-        self.memory.reserve()?;
+        self.memory.reserve(self.control.needs_room())?;
         self.copies = self.control.copies(alloc)?;
         self.ending = self.control.ending(alloc, script, &self.memory)?;
         Ok(())
