@@ -36,6 +36,8 @@ use Rattle.hib_engines.specs.contracts.region.Region as RegionT
 use Rattle.hib_query_eval.specs.contracts.places.Value as ValueT
 use Rattle.hib_query_eval.specs.contracts.places.Place as PlaceT
 use Rattle.hib_query_eval.specs.contracts.index.Index as IndexT
+use Rattle.hib_query_eval.specs.contracts.own.Laid as LaidT
+use Rattle.hib_query_eval.specs.contracts.own.Own as OwnT
 use Rattle.hib_store.specs.contracts.store.Store as StoreT
 use Rattle.hib_engines.specs.contracts.store.StoreEngine as StoreEngineT
 use Rattle.hib_outside.specs.declared.keeper.Keeper as keeper
@@ -128,9 +130,15 @@ place_send = search (sendable, crosses, value_send) depth 100 fits 100000
 index_send : IsSend IndexT.the_field.row
 index_send = search (sendable, crosses, maps, place_send, key_send, row_send) depth 100 fits 100000
 
+laid_send : IsSend LaidT.the_field.row
+laid_send = search (sendable, crosses, maps, key_send, index_send) depth 100 fits 100000
+
+own_send : IsSend OwnT.the_field.row
+own_send = search (sendable, crosses, change_send, laid_send) depth 100 fits 100000
+
 module _ (K : RattleType) (k : keeper.Ghosts K.Denot) (sk : IsSend K) where
   stored_send : IsSend (StoreT.the_field K k).row
-  stored_send = search (sendable, crosses, change_send, index_send) depth 100 fits 100000
+  stored_send = search (sendable, crosses, own_send, index_send) depth 100 fits 100000
 
   pub engine_send : IsSend (StoreEngineT.the_field K k).row
   engine_send = search (sendable, crosses, stored_send) depth 100 fits 100000

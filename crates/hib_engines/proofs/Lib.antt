@@ -25,5 +25,6 @@ pub mod Answered
 pub mod Outside
 pub mod Brought
 pub mod Still
+pub mod Left
 -- What may go from thread to thread.
 pub mod Crossing

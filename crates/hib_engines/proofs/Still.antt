@@ -1,5 +1,5 @@
 -- Engines that are as before, but for the keeper's counts, and what an act asks of the keeper.
-use Rattle.std.proofs.Common.{◌≡◌, ℕ, ◌+◌, true, false, cond, List, length, Some, None, Option, refl, sym, ap, ◌∙◌, subst, arith}
+use Rattle.std.proofs.Common.{◌≡◌, ℕ, true, false, cond, List, length, Some, None, Option, refl, sym, ap, ◌∙◌, subst, arith}
 use Rattle.std.proofs.lemmas.Bool.{false≢true}
 use Rattle.std.proofs.lemmas.Option.{none-some, same_Some}
 use Rattle.std.specs.Option.{option_map}
@@ -90,7 +90,7 @@ pub engine_told : (script : Script) (told : Option Tables) (h : Journal) (s now 
 engine_told script told h s now a r x y p v w f = record { answered = v; mine = λ q t. absurd (none-some q (sym p ∙ t)); asked = w; fault = f }
 
 -- an own act that brings something to the session changes no engine
-brings_own : (s : ℕ) (a : Act) (ps : Opened) → brings a ≡ true → own_after s a ps ≡ ps
+pub brings_own : (s : ℕ) (a : Act) (ps : Opened) → brings a ≡ true → own_after s a ps ≡ ps
 brings_own s Act.End ps b = absurd (false≢true b)
 brings_own s _ ps b = refl
 

@@ -152,7 +152,7 @@ rollback_served script told l now s x y kept w o t = record {
 
 -- ---- a commit
 
-empty_nil : (cs : List Change) → is_empty cs ≡ true → cs ≡ []
+pub empty_nil : (cs : List Change) → is_empty cs ≡ true → cs ≡ []
 empty_nil [] p = refl
 empty_nil (c ∷ cs) p = absurd (false≢true p)
 

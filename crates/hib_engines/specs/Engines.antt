@@ -2,8 +2,8 @@
 use Rattle.std.specs.Prelude.{◌≡◌, ℕ, true, false, cond, List, ◌∷◌, length, Some, Option}
 use Rattle.hib_base.specs.Tables.{Tables}
 use Rattle.hib_journal.specs.Types.{Script, Act, Reply}
-use Rattle.hib_journal.specs.Sessions.{Journal, own, was_killed, changes_in}
-use Rattle.hib_journal.specs.Legal.{IsReply, part_of}
+use Rattle.hib_journal.specs.Sessions.{Journal, own, was_killed, changes, changes_in}
+use Rattle.hib_journal.specs.Legal.{IsReply, part_of, is_told}
 use Rattle.hib_journal.specs.Lists.{entry_at, IsLate}
 use Rattle.hib_journal.specs.Runs.{asks, is_fault}
 use Rattle.hib_outside.specs.Causes.{Rose}
@@ -64,6 +64,14 @@ pub record IsAnswered (script : Script) (told : Option Tables) (h : Journal) (by
 -- the keeper was asked once at most for an act of s, and only if the act asks
 abbrev pub IsAskedFor : Journal → ℕ → Act → EnginesState → EnginesState → Type 0
 IsAskedFor h s a x y = RoseWithin x.store.asked (cond (asks (changes_in (own s h)) a) 1 0) y.store.asked
+
+-- an act of s was refused for want of memory, or its answer is let go. All engines are as before, but for the keeper's counts: it was asked
+-- only if the act asks, and nothing at all has changed if the reply to the act doesn't hang on the committed rows
+pub record IsRefused (h : Journal) (s : ℕ) (a : Act) (x y : EnginesState) : Type 0 where
+  pub still : IsStill x y
+  pub entities : y.store.entities ≡ x.store.entities
+  pub asked : IsAskedFor h s a x y
+  pub same : is_told (changes s h) a ≡ false → y ≡ x
 
 -- an act of s was answered, with the session's own reply if it has one; the keeper was asked as the act allows, and it failed if
 -- the reply says so

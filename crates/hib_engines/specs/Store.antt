@@ -1,13 +1,16 @@
 -- A store that stands for a list: its rows are the stored ones, and it defers what the list leaves unsaved.
-use Rattle.std.specs.Prelude.{◌≡◌, ◌≤◌, ◌+◌, ℕ, ◌∷◌, Some, Option}
+use Rattle.std.specs.Prelude.{◌≡◌, ◌≤◌, ◌+◌, ℕ, false, cond, List, ◌∷◌, Some, Option}
 use Rattle.std.specs.Option.{option_map}
 use Rattle.hib_base.specs.Tables.{Tables}
-use Rattle.hib_journal.specs.Types.{Script, Act, Reply}
+use Rattle.hib_journal.specs.Types.{Change, Script, Act, Reply}
 use Rattle.hib_journal.specs.Sessions.{Journal}
+use Rattle.hib_journal.specs.Legal.{is_told}
 use Rattle.hib_journal.specs.Lists.{entry_at, unsaved, stored, IsStoreReply}
+use Rattle.hib_journal.specs.Runs.{asks}
 use Rattle.hib_store.specs.Stores.{StoreState, changes_of}
 use Rattle.hib_store.specs.declared.asking.Loaded.{Loaded}
 use Rattle.hib_store.specs.declared.store.Listed.{Listed}
+use Rattle.hib_engines.specs.Counts.{RoseWithin}
 
 pub record IsStored (told : Option Tables) (l : Journal) (store : StoreState) : Type 0 where
   pub rows : store.tables ≡ option_map (λ start. stored start l) told
@@ -25,6 +28,14 @@ pub record IsCounted (old new : StoreState) : Type 0 where
   pub faults : old.faults ≤ new.faults
   pub later : old.asked ≤ new.asked
   pub few : new.asked ≤ old.asked + 1
+
+-- an act of a session with these changes has left rows and changes as before: the keeper was asked only if the act asks, and nothing at all
+-- has changed if the reply to the act doesn't hang on the committed rows
+pub record IsLeft (cs : List Change) (a : Act) (old new : StoreState) : Type 0 where
+  pub counted : IsCounted old new
+  pub entities : new.entities ≡ old.entities
+  pub asked : RoseWithin old.asked (cond (asks cs a) 1 0) new.asked
+  pub same : is_told cs a ≡ false → new ≡ old
 
 -- the reply that a loaded row is
 abbrev pub reply_of_loaded : Loaded → Reply

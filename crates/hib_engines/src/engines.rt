@@ -18,7 +18,7 @@ ghost use Rattle.hib_session.specs.Session.{Follows, number_of, own_reply};
 ghost use Rattle.hib_engines.specs.Origin.{told_start};
 ghost use Rattle.hib_engines.specs.Served.{AreWithin};
 ghost use Rattle.hib_engines.specs.Registry.{own_after};
-ghost use Rattle.hib_engines.specs.Engines.{AreStanding, IsStill, IsReady, IsAnswered, IsAskedFor, IsTold};
+ghost use Rattle.hib_engines.specs.Engines.{AreStanding, IsStill, IsReady, IsAnswered, IsAskedFor, IsRefused, IsTold};
 
 use crate::joined::laws;
 use crate::region::Region;
@@ -62,13 +62,15 @@ impl<K: Keeper> Model for Engines<K> {
 
 impl<K: Keeper> Engines<K> {
     /// The engines of a valid script, before any act. The rows that the keeper keeps are widened to the script's mapping, and each
-    /// of the script's rows whose key has none is added. At an error the keeper is handed back, with the rows that it had.
+    /// of the script's rows whose key has none is added. Lists of the script's entities are answered from an index. At an error the
+    /// keeper is handed back, with the rows that it had.
     pub fn open(alloc: Global, script: &Script, keeper: K) -> Result<Engines<K>, OpenFault<K>>
         requires { is_valid script.now ≡ true }
         ensures standing { IfOk result (λ e. AreStanding script.now
             (told_start script.now (K.tables keeper)) [] e) }
         ensures faults { IfOk result (λ e. K.faults keeper ≤ e.store.faults) }
         ensures asked { IfOk result (λ e. e.store.asked ≡ K.asked keeper) }
+        ensures entities { IfOk result (λ e. e.store.entities ≡ length script.now.mapping) }
         ensures back { IfErr result (λ e. K.tables (handed_back e) ≡ K.tables keeper) }
         ensures back_faults { IfErr result (λ e. K.faults keeper ≤ K.faults (handed_back e)) }
         ensures back_asked { IfErr result (λ e. K.asked (handed_back e) ≡ K.asked keeper) }
@@ -130,6 +132,7 @@ impl<K: Keeper> Engines<K> {
             → IsAnswered script told h None now (Act.Kill session) Reply.Done self.new }
         ensures faults { self.new.store.faults ≡ self.old.store.faults }
         ensures asked { self.new.store.asked ≡ self.old.store.asked }
+        ensures entities { self.new.store.entities ≡ self.old.store.entities }
     {
         laws();
         self.registry.kill(session);
@@ -144,6 +147,7 @@ impl<K: Keeper> Engines<K> {
             → IsAnswered script told h None now Act.Restart Reply.Done self.new }
         ensures faults { self.new.store.faults ≡ self.old.store.faults }
         ensures asked { self.new.store.asked ≡ self.old.store.asked }
+        ensures entities { self.new.store.entities ≡ self.old.store.entities }
     {
         laws();
         self.store.restart();
@@ -179,6 +183,7 @@ impl<K: Keeper> Engines<K> {
             → IsAnswered script told h (Some session) now act.now r self.new }
         ensures faults { self.new.store.faults ≡ self.old.store.faults }
         ensures asked { self.new.store.asked ≡ self.old.store.asked }
+        ensures entities { self.new.store.entities ≡ self.old.store.entities }
     {
         laws();
         if let Act::Commit = act {
@@ -221,8 +226,15 @@ impl<K: Keeper> Engines<K> {
         ensures fault { IfOk result (λ r. is_fault r ≡ true
             → Rose self.old.store.faults self.new.store.faults) }
         ensures faults { self.old.store.faults ≤ self.new.store.faults }
+        ensures entities { self.new.store.entities ≡ self.old.store.entities }
         ensures still { OnOk result (brings act.now ≡ true → IsStill self.old self.new) }
         ensures err { OnErr result (IsStill self.old self.new) }
+        ensures passed { OnOk result (brings act.now ≡ true → (told : Option Tables) (h : Journal)
+            → IsReady script.now told h session now act.now self.old
+            → IsRefused h session act.now self.old self.new) }
+        ensures refused { OnErr result ((told : Option Tables) (h : Journal)
+            → IsReady script.now told h session now act.now self.old
+            → IsRefused h session act.now self.old self.new) }
     {
         laws();
         match part_of(act, session) {
@@ -238,7 +250,8 @@ impl<K: Keeper> Engines<K> {
 
     /// The answer to an act that is due in a session, at this tick: the session's own, or that of an engine. A fault is answered only
     /// if the keeper failed in this call, and the keeper is asked once at most. At an error the engines are as before, but for the
-    /// keeper's counts, and so they are if the act brings something to the session.
+    /// keeper's counts, and so they are if the act brings something to the session; the counts stay too if the act doesn't call the
+    /// keeper.
     pub fn answer(
         &mut self,
         alloc: Global,
@@ -256,8 +269,15 @@ impl<K: Keeper> Engines<K> {
             → IsReady script.now told h (number_of session.now) now act.now self.old
             → IsTold script.now told h (number_of session.now) now act.now r self.old self.new) }
         ensures faults { self.old.store.faults ≤ self.new.store.faults }
+        ensures entities { self.new.store.entities ≡ self.old.store.entities }
         ensures still { OnOk result (brings act.now ≡ true → IsStill self.old self.new) }
         ensures err { OnErr result (IsStill self.old self.new) }
+        ensures passed { OnOk result (brings act.now ≡ true → (told : Option Tables) (h : Journal)
+            → IsReady script.now told h (number_of session.now) now act.now self.old
+            → IsRefused h (number_of session.now) act.now self.old self.new) }
+        ensures refused { OnErr result ((told : Option Tables) (h : Journal)
+            → IsReady script.now told h (number_of session.now) now act.now self.old
+            → IsRefused h (number_of session.now) act.now self.old self.new) }
         ensures left { OnErr result ((told : Option Tables) (h : Journal)
             → AreStanding script.now told h self.old → AreStanding script.now told h self.new) }
     {

@@ -15,7 +15,7 @@ ghost use Rattle.hib_query_eval.specs.Met.{met};
 ghost use Rattle.hib_store.specs.Stores.{changes_of, handed_back, is_store_fault, tables_committed, MeetsBelow};
 ghost use Rattle.hib_engines.specs.Counts.{RoseWithin};
 ghost use Rattle.hib_engines.specs.Served.{is_for, HasQuery, reads};
-ghost use Rattle.hib_engines.specs.Store.{IsStored, IsStoreServed, IsCounted, reply_of_loaded, reply_of_listed};
+ghost use Rattle.hib_engines.specs.Store.{IsStored, IsStoreServed, IsCounted, IsLeft, reply_of_loaded, reply_of_listed};
 
 use hib_base::{
     Act, Change, Commit, Cond, EntityNo, Key, Mapping, QueryNo, Reply, Row, Script, SessionNo,
@@ -110,6 +110,7 @@ impl<K: Keeper> StoreEngine<K> {
         ensures faults { self.old.faults ≤ self.new.faults }
         ensures entities { self.new.entities ≡ self.old.entities }
         ensures still { IsCounted self.old self.new }
+        ensures left { IsLeft (changes_of self.old session) (Act.Load key) self.old self.new }
     {
         let loaded = self.store.load(alloc, session, key)?;
         Ok(loaded_reply(loaded))
@@ -133,6 +134,7 @@ impl<K: Keeper> StoreEngine<K> {
         ensures faults { self.old.faults ≤ self.new.faults }
         ensures entities { self.new.entities ≡ self.old.entities }
         ensures still { IsCounted self.old self.new }
+        ensures left { IsLeft (changes_of self.old session) (Act.List query) self.old self.new }
     {
         let Some(query) = script.queries.as_slice().get(query.0 as usize) else {
             // No query is asked that isn't there.
@@ -176,6 +178,8 @@ impl<K: Keeper> StoreEngine<K> {
         ensures faults { self.old.faults ≤ self.new.faults }
         ensures entities { self.new.entities ≡ self.old.entities }
         ensures err { OnErr result (IsCounted self.old self.new) }
+        ensures left { OnErr result (IsLeft (changes_of self.old session) Act.Commit self.old
+            self.new) }
     {
         let commit = self.store.commit(alloc, session)?;
         Ok(Reply::Commit(commit))
@@ -196,7 +200,8 @@ impl<K: Keeper> StoreEngine<K> {
     }
 
     /// Answers an act of a session that is asked of the store. The keeper is asked once at most, and only if the act asks. A
-    /// fault is answered only if the keeper failed in this call. At an error all is as before but for the keeper's counts.
+    /// fault is answered only if the keeper failed in this call. At an error all is as before but for the keeper's counts, and they
+    /// stay too if the act doesn't call the keeper.
     pub fn serve(
         &mut self,
         alloc: Global,
@@ -217,6 +222,11 @@ impl<K: Keeper> StoreEngine<K> {
         // A load and a list change nothing but the keeper's counts.
         ensures still { OnOk result (reads act.now ≡ true → IsCounted self.old self.new) }
         ensures err { OnErr result (IsCounted self.old self.new) }
+        // The counts stay if the act doesn't call the keeper.
+        ensures passed { OnOk result (reads act.now ≡ true
+            → IsLeft (changes_of self.old session) act.now self.old self.new) }
+        ensures left { OnErr result (IsLeft (changes_of self.old session) act.now self.old
+            self.new) }
     {
         match act {
             Act::Load { key } => self.load(alloc, session, *key),
@@ -281,6 +291,7 @@ impl<K: Keeper> StoreEngine<K> {
         ensures tables { self.new.tables ≡ self.old.tables }
         ensures faults { self.new.faults ≡ self.old.faults }
         ensures asked { self.new.asked ≡ self.old.asked }
+        ensures entities { self.new.entities ≡ self.old.entities }
     {
         self.store.drop_changes(killed);
     }
@@ -293,6 +304,7 @@ impl<K: Keeper> StoreEngine<K> {
         ensures tables { self.new.tables ≡ self.old.tables }
         ensures faults { self.new.faults ≡ self.old.faults }
         ensures asked { self.new.asked ≡ self.old.asked }
+        ensures entities { self.new.entities ≡ self.old.entities }
     {
         self.store.drop_all();
     }

@@ -10,7 +10,7 @@ use crate::written::Written;
 use crate::{queries, views, written};
 use hib_base::{Change, Commit, Cond, EntityNo, Key, Listing, Mapping, Query, Row, SessionNo};
 use hib_outside::{KeepFault, Keeper};
-use hib_query_eval::Index;
+use hib_query_eval::{Index, Own};
 use std::alloc::{AllocError, Global};
 use std::marker::Model;
 
@@ -203,15 +203,19 @@ impl<K: Keeper> Store<K> {
         ensures others { ¬ ReadsBelow self.old.entities query.now
             → self.new.indexed ≡ self.old.indexed }
     {
-        let changes = written::changes_of(&self.written, session);
         if !queries::reads_below(query, self.entities) {
             let Some(rows) = asking::list(alloc, &mut self.keeper, query)? else {
                 return Ok(Listed::Fault);
             };
+            let changes = written::changes_of(&self.written, session);
             return Ok(Listed::List(views::listed(alloc, query, rows, changes)?));
         }
         asking::make_index(alloc, &mut self.keeper, &mut self.index, self.entities)?;
-        views::answered(alloc, &self.index, query, changes)
+        written::lay(alloc, &mut self.written, session, query)?;
+        match written::own_of(&self.written, session) {
+            Some(own) => views::answered(alloc, &self.index, query, own),
+            None => views::answered(alloc, &self.index, query, &Own::new(alloc)),
+        }
     }
 
     /// Makes the index of the committed rows of the first entities, unless it stands. False only if the keeper failed; if the answer

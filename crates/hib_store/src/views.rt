@@ -10,7 +10,7 @@ ghost use Rattle.hib_store.specs.Types.{Commit};
 
 use crate::store::Listed;
 use hib_base::{Change, Commit, Cond, EntityNo, Key, Listing, Query, Row, Rows};
-use hib_query_eval::Index;
+use hib_query_eval::{Index, Own};
 use std::alloc::{AllocError, Global};
 
 /// What a query gives over the rows of the tables that it reads, with changes laid over them.
@@ -32,16 +32,16 @@ pub fn answered(
     alloc: Global,
     index: &Option<Index>,
     query: &Query,
-    changes: &[Change],
+    own: &Own,
 ) -> Result<Listed, AllocError>
     ensures listed { (n : ℕ) (told : Option Tables) → IfSome told (λ m. in_order m ≡ true)
         → IsIndexed n index.now told → ((k : ℕ) → reads query.now k ≡ true → k < n)
-        → IfOk result (IsListed told changes.now query.now) }
+        → IfOk result (IsListed told own.now query.now) }
     ensures fault { result ≡ Ok Listed.Fault → index.now ≡ None }
     ensures stands { IfOk result (λ listed. listed ≢ Listed.Fault → IsSome index.now) }
 {
     match index {
-        Some(index) => Ok(Listed::List(index.gives(alloc, query, changes)?)),
+        Some(index) => Ok(Listed::List(index.gives(alloc, query, own)?)),
         None => Ok(Listed::Fault),
     }
 }

@@ -2,14 +2,15 @@
 ghost use Rattle.std.specs.Prelude.{◌≡◌, ◌<◌, ◌++◌, ◌∷◌, ◌==◌, cond, ℕ, [], IfOk, OnOk, OnErr, option_copied};
 ghost use Rattle.hib_base.specs.Keys.{same_key};
 ghost use Rattle.hib_base.specs.Tables.{last_on, row_left};
-ghost use Rattle.hib_store.specs.Stores.{changes_in};
+ghost use Rattle.hib_store.specs.Stores.{changes_in, or_none};
 
-use hib_base::{Change, Changes, Key, Row, SessionNo};
+use hib_base::{Change, Key, Query, Row, SessionNo};
+use hib_query_eval::Own;
 use indexmap::IndexMap;
 use std::alloc::{AllocError, Global};
 
 /// The changes of the sessions that have written some, by the sessions' numbers.
-pub type Written = IndexMap<SessionNo, Changes>;
+pub type Written = IndexMap<SessionNo, Own>;
 
 /// The changes of a session.
 pub fn changes_of(written: &Written, session: SessionNo) -> &[Change]
@@ -19,6 +20,28 @@ pub fn changes_of(written: &Written, session: SessionNo) -> &[Change]
         Some(changes) => changes.as_slice(),
         None => &[],
     }
+}
+
+/// The changes of a session, if it has some, with what they leave.
+pub fn own_of(written: &Written, session: SessionNo) -> Option<&Own>
+    ensures { or_none (option_copied result) ≡ changes_in written.now.entries session }
+{
+    written.get(&session)
+}
+
+/// Makes a session's changes ready for a query.
+pub fn lay(
+    alloc: Global,
+    written: &mut Written,
+    session: SessionNo,
+    query: &Query,
+) -> Result<(), AllocError>
+    ensures { written.new.entries ≡ written.old.entries }
+{
+    let Some(index) = written.get_index_of(&session) else {
+        return Ok(());
+    };
+    written[index].lay(alloc, query)
 }
 
 /// Adds the first change of a session that has none.
@@ -35,8 +58,8 @@ fn add_first(
         (changes_in written.old.entries s)) }
     ensures err { OnErr result (written.new.entries ≡ written.old.entries) }
 {
-    let mut changes = Changes::new(alloc);
-    changes.push(change)?;
+    let mut changes = Own::new(alloc);
+    changes.push(alloc, change)?;
     written.insert(session, changes)?;
     Ok(())
 }
@@ -57,7 +80,7 @@ pub fn add_change(
     let Some(index) = written.get_index_of(&session) else {
         return add_first(alloc, written, session, change);
     };
-    written[index].push(change)
+    written[index].push(alloc, change)
 }
 
 /// Drops the changes of a session. It takes no memory.

@@ -1,11 +1,12 @@
-use Rattle.std.proofs.Common.{◌≡◌, None, Some, sym, ap, subst, ◌∙◌}
+use Rattle.std.proofs.Common.{◌≡◌, None, Some, refl, sym, ap, subst, ◌∙◌}
 use Rattle.hib_journal.specs.Sessions.{own}
 use Rattle.hib_session.specs.Session.{number_of, own_reply}
 use Rattle.hib_engines.specs.Registry.{own_after}
-use Rattle.hib_engines.specs.Engines.{EnginesState, IsReady, IsAnswered, IsAskedFor}
-use Rattle.hib_engines.proofs.Outcomes.{three_ok, map_err, err_all}
+use Rattle.hib_engines.specs.Engines.{EnginesState, IsReady, IsAnswered, IsAskedFor, IsRefused}
+use Rattle.hib_engines.proofs.Outcomes.{three_ok, map_err, map_on, err_all}
 use Rattle.hib_engines.proofs.Answered.{own_has, own_answered}
 use Rattle.hib_engines.proofs.Still.{own_told, own_still, engine_told, still_standing}
+use Rattle.hib_engines.proofs.Left.{refused_same, own_refused}
 use Rattle.hib_engines.proofs.engines.Engines.answer.Goals as goal
 
 pub returns-in_err-reply-clause-left : goal.returns-in_err-reply-clause-left
@@ -41,3 +42,22 @@ returns-clause-answered g c = three_ok c.serve.result _ _ _ _ c.serve.ensures.an
 
 pub returns-clause-left : goal.returns-clause-left
 returns-clause-left g c = map_err c.serve.result _ _ c.serve.ensures.err (λ w told h k. still_standing c.args.script.now told h c.args.self.now c.serve.new.self w k)
+
+pub returns-in_err-reply-clause-refused : goal.returns-in_err-reply-clause-refused
+returns-in_err-reply-clause-refused g c = err_all c.from_residual.result _ (λ told h k. refused_same h (number_of c.args.session.now) c.args.act.now c.args.self.now c.args.self.now refl)
+
+pub returns-in-Some-clause-passed : goal.returns-in-Some-clause-passed
+returns-in-Some-clause-passed g c = λ b told h k.
+    own_refused h (number_of c.args.session.now) c.number-number.result c.args.act.now c.args.self.now c.note_own.new.self c.note_own.ensures b
+
+pub returns-clause-passed : goal.returns-clause-passed
+returns-clause-passed g c = map_on c.serve.result _ _ c.serve.ensures.passed (λ p b told h k.
+    let e = c.number-number.ensures in
+    subst (λ m. IsRefused h m c.args.act.now c.args.self.now c.serve.new.self) e
+    (p b told h (subst (λ m. IsReady c.args.script.now told h m c.args.now c.args.act.now c.args.self.now) (sym e) k)))
+
+pub returns-clause-refused : goal.returns-clause-refused
+returns-clause-refused g c = map_err c.serve.result _ _ c.serve.ensures.refused (λ p told h k.
+    let e = c.number-number.ensures in
+    subst (λ m. IsRefused h m c.args.act.now c.args.self.now c.serve.new.self) e
+    (p told h (subst (λ m. IsReady c.args.script.now told h m c.args.now c.args.act.now c.args.self.now) (sym e) k)))
