@@ -23,13 +23,16 @@ use Rattle.hib_core.proofs.Playing.{leads_none}
 -- the journal, its engines and its legality
 
 pub goes_outside : Lawful → (script : Script) (from : Origin) (h : Journal) (a : Act) (r : Reply) (x y : EnginesState) → IsRun script from h x → is_outside a ≡ true → may_come script h (Some a) ≡ Some a →
-    IsAnswered script from.tables h None (length h + 1) a r y → is_fault r ≡ false → y.store.faults ≡ x.store.faults → length h < 2 ^ 62 → IsRun script from (outside_entry h a r ∷ h) y
-goes_outside w script from h a r x y run o m v calm f l = record {
+    IsAnswered script from.tables h None (length h + 1) a r y → is_fault r ≡ false → y.store.faults ≡ x.store.faults → y.store.entities ≡ x.store.entities → length h < 2 ^ 62 →
+    IsRun script from (outside_entry h a r ∷ h) y
+goes_outside w script from h a r x y run o m v calm f n l = record {
   legal = legal_next;
   law = w script from.tables (outside_entry h a r ∷ h) legal_next;
   numbered = (refl, run.numbered);
   engines = v.standing;
+  entities = n ∙ run.entities;
   faults = rose_more from.faults (fault_count h) x.store.faults (cond (is_fault r) 1 0) y.store.faults run.faults none;
+  valid = run.valid;
   built = run.built;
 }
   where
@@ -66,10 +69,10 @@ asked_outside from h a r x y o e g = subst (λ n. RoseWithin from.asked (ask_cou
 -- ---- a kill
 
 pub kill_run : Lawful → (script : Script) (from : Origin) (h : Journal) (n : ℕ) (x y : EnginesState) → IsRun script from h x → is_open n h ≡ true → length h < 2 ^ 62 → y.store.faults ≡ x.store.faults →
-    ((s : Script) (told : Option Tables) (l : Journal) (now : ℕ) → AreStanding s told l x → IsLate Part.Registry now l → IsAnswered s told l None now (Act.Kill n) Reply.Done y) →
+    y.store.entities ≡ x.store.entities → ((s : Script) (told : Option Tables) (l : Journal) (now : ℕ) → AreStanding s told l x → IsLate Part.Registry now l → IsAnswered s told l None now (Act.Kill n) Reply.Done y) →
     IsRun script from (outside_entry h (Act.Kill n) Reply.Done ∷ h) y
-kill_run w script from h n x y run o few f answered = goes_outside w script from h (Act.Kill n) Reply.Done x y run refl (rw o refl)
-    (answered script from.tables h (length h + 1) run.engines (late Part.Registry h (length h + 1) run.numbered refl)) refl f few
+kill_run w script from h n x y run o few f i answered = goes_outside w script from h (Act.Kill n) Reply.Done x y run refl (rw o refl)
+    (answered script from.tables h (length h + 1) run.engines (late Part.Registry h (length h + 1) run.numbered refl)) refl f i few
 
 pub kill_leads : (script : Script) (h : Journal) (n : ℕ) → is_open n h ≡ true → Leads (play_order script (Order.Kill n)) played h (outside_entry h (Act.Kill n) Reply.Done ∷ h)
 kill_leads script h n o = record { added = outside_entry h (Act.Kill n) Reply.Done ∷ []; grown = refl; plays = λ rest. rw (o, self_by n) refl }
@@ -85,7 +88,7 @@ pub evict_run : Lawful → (script : Script) (from : Origin) (h : Journal) (k : 
     IsRun script from (outside_entry h (Act.Evict k) r ∷ h) y
 evict_run w script from h k now r x y run c few e calm q answered = goes_outside w script from h (Act.Evict k) r x y run refl (rw c refl)
     (subst (λ n. IsAnswered script from.tables h None n (Act.Evict k) r y) e (answered script from.tables h run.engines c (late (Part.Region k.entity) h now run.numbered e)))
-    calm (ap (λ (v : EnginesState). v.store.faults) q) few
+    calm (ap (λ (v : EnginesState). v.store.faults) q) (ap (λ (v : EnginesState). v.store.entities) q) few
 
 pub evict_leads : (script : Script) (h : Journal) (k : Key) (r : Reply) → Leads (play_order script (Order.Evict k)) played h (outside_entry h (Act.Evict k) r ∷ h)
 evict_leads script h k r = record { added = outside_entry h (Act.Evict k) r ∷ []; grown = refl; plays = λ rest. rw (same_key_refl k) refl }
@@ -93,10 +96,10 @@ evict_leads script h k r = record { added = outside_entry h (Act.Evict k) r ∷ 
 -- ---- a restart
 
 pub restart_run : Lawful → (script : Script) (from : Origin) (h : Journal) (x y : EnginesState) → IsRun script from h x → length h < 2 ^ 62 → y.store.faults ≡ x.store.faults →
-    ((s : Script) (told : Option Tables) (l : Journal) (now : ℕ) → AreStanding s told l x → IsLate Part.Registry now l → IsAnswered s told l None now Act.Restart Reply.Done y) →
+    y.store.entities ≡ x.store.entities → ((s : Script) (told : Option Tables) (l : Journal) (now : ℕ) → AreStanding s told l x → IsLate Part.Registry now l → IsAnswered s told l None now Act.Restart Reply.Done y) →
     IsRun script from (outside_entry h Act.Restart Reply.Done ∷ h) y
-restart_run w script from h x y run few f answered = goes_outside w script from h Act.Restart Reply.Done x y run refl refl
-    (answered script from.tables h (length h + 1) run.engines (late Part.Registry h (length h + 1) run.numbered refl)) refl f few
+restart_run w script from h x y run few f i answered = goes_outside w script from h Act.Restart Reply.Done x y run refl refl
+    (answered script from.tables h (length h + 1) run.engines (late Part.Registry h (length h + 1) run.numbered refl)) refl f i few
 
 pub restart_leads : (script : Script) (h : Journal) → Leads (play_order script Order.Restart) played h (outside_entry h Act.Restart Reply.Done ∷ h)
 restart_leads script h = record { added = outside_entry h Act.Restart Reply.Done ∷ []; grown = refl; plays = λ rest. refl }

@@ -61,13 +61,15 @@ stays script h _ p = refl
 
 pub goes_on : Lawful → (script : Script) (from : Origin) (h : Journal) (s : ℕ) (a : Act) (r : Reply) (x y : EnginesState) → IsRun script from h x → was_killed s h ≡ false →
     next script s (own s h) ≡ Some a → is_outside a ≡ false → IsAnswered script from.tables h (Some s) (length h + 1) a r y → x.store.faults ≤ y.store.faults →
-    (is_fault r ≡ true → Rose x.store.faults y.store.faults) → length h < 2 ^ 62 → IsRun script from (entry_of h s a r ∷ h) y
-goes_on w script from h s a r x y run live p inside v later fault l = record {
+    y.store.entities ≡ x.store.entities → (is_fault r ≡ true → Rose x.store.faults y.store.faults) → length h < 2 ^ 62 → IsRun script from (entry_of h s a r ∷ h) y
+goes_on w script from h s a r x y run live p inside v later i fault l = record {
   legal = legal_next;
   law = w script from.tables (entry_of h s a r ∷ h) legal_next;
   numbered = (refl, run.numbered);
   engines = v.standing;
+  entities = i ∙ run.entities;
   faults = rose_more from.faults (fault_count h) x.store.faults (cond (is_fault r) 1 0) y.store.faults run.faults (rose_if r x.store.faults y.store.faults later fault);
+  valid = run.valid;
   built = run.built;
 }
   where
@@ -98,25 +100,27 @@ entry_is h s n t a r p e d q =
     ap (λ u. tick u p n) e ∙ (ap (λ v. tick (length h + 1) v n) q ∙ ap (λ m. tick (length h + 1) (part_of a m) m) d)
 
 pub answers_of : Lawful → (script : Script) (from : Origin) (y : Session) (a : Act) (r : Reply) (h : Journal) (now : ℕ) (e : Entry) (x z : EnginesState) → IsRun script from h x → IsTurn script h y a →
-    now ≡ length h + 1 → IsTold script from.tables h (number_of y) now a r x z → x.store.faults ≤ z.store.faults → length h < 2 ^ 62 → e ≡ entry_of h (number_of y) a r → Answers script from (number_of y) a h e x z
-answers_of w script from y a r h now e x z run t m told later l g = record {
+    now ≡ length h + 1 → IsTold script from.tables h (number_of y) now a r x z → x.store.faults ≤ z.store.faults → z.store.entities ≡ x.store.entities → length h < 2 ^ 62 → e ≡ entry_of h (number_of y) a r → Answers script from (number_of y) a h e x z
+answers_of w script from y a r h now e x z run t m told later i l g = record {
   answer = r;
   entry = g;
   run = subst (λ (v : Entry). IsRun script from (v ∷ h) z) (sym g)
-      (goes_on w script from h (number_of y) a r x z run t.live t.next t.due.inside (subst (λ n. IsAnswered script from.tables h (Some (number_of y)) n a r z) m told.answered) later told.fault l);
+      (goes_on w script from h (number_of y) a r x z run t.live t.next t.due.inside (subst (λ n. IsAnswered script from.tables h (Some (number_of y)) n a r z) m told.answered) later i told.fault l);
   taken = subst (λ (v : Entry). IsTaken script (number_of y) (own (number_of y) h) v) (sym g) (record { due = t.next; own = told.mine });
   asked = told.asked;
   fault = told.fault;
 }
 
 -- engines that are as before, but for the keeper's counts, stand for the journal still
-pub run_still : (script : Script) (from : Origin) (h : Journal) (x y : EnginesState) → IsRun script from h x → IsStill x y → IsRun script from h y
-run_still script from h x y run u = record {
+pub run_still : (script : Script) (from : Origin) (h : Journal) (x y : EnginesState) → IsRun script from h x → IsStill x y → y.store.entities ≡ x.store.entities → IsRun script from h y
+run_still script from h x y run u i = record {
   legal = run.legal;
   law = run.law;
   numbered = run.numbered;
   engines = still_standing script from.tables h x y u run.engines;
+  entities = i ∙ run.entities;
   faults = rose_on from.faults (fault_count h) x.store.faults y.store.faults run.faults u.store.faults;
+  valid = run.valid;
   built = run.built;
 }
 

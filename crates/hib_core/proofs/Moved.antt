@@ -1,5 +1,5 @@
 -- A turn of a session: what it leaves of the journal, the engines and the sessions.
-use Rattle.std.proofs.Common.{◌≡◌, ◌≢◌, ℕ, ◌<◌, ◌≤◌, Bool, true, false, List, ◌∷◌, length, Result, Ok, Err, OnOk, OnErr, Some, refl, sym, ap, ◌∙◌, subst, arith}
+use Rattle.std.proofs.Common.{◌≡◌, ◌≢◌, ℕ, ◌<◌, ◌≤◌, Bool, true, false, List, ◌∷◌, length, Result, Ok, Err, OnOk, OnErr, Some, None, Option, refl, sym, ap, ◌∙◌, subst, arith}
 use Rattle.std.proofs.lemmas.List.{get_or-set_same, length-set}
 use Rattle.std.proofs.lemmas.Option.{slice_get_within, slice_get-get_or}
 use Rattle.std.specs.Prelude.{slice_get, slice_set}
@@ -12,10 +12,12 @@ use Rattle.hib_journal.specs.Runs.{is_fault}
 use Rattle.hib_session.specs.declared.session.Session.{Session}
 use Rattle.hib_session.specs.Session.{Follows, IsTaken, number_of, is_killed, left_in}
 use Rattle.hib_engines.specs.declared.stepped.Stepped.{Stepped}
-use Rattle.hib_engines.specs.Engines.{EnginesState, IsStill, IsAskedFor}
+use Rattle.hib_engines.specs.Engines.{EnginesState, IsStill, IsAskedFor, IsRefused}
+use Rattle.hib_engines.proofs.Still.{still_same}
+use Rattle.hib_engines.proofs.Left.{refused_same}
 use Rattle.hib_core.specs.Standing.{Origin, entry_of}
 use Rattle.hib_session.specs.Sessions.{AreSessions}
-use Rattle.hib_core.specs.Factory.{IsRun, IsAsked, IsAskedOnceMore, IsTurn, Answers, Serves, Leaves, Moves, Does, IsOver, left_or}
+use Rattle.hib_core.specs.Factory.{IsRun, IsAsked, IsAskedOnceMore, IsTurn, Answers, Serves, IsRefusedAt, IsStepRefused, Leaves, Moves, Does, IsOver, left_or}
 use Rattle.hib_core.specs.Bound.{outside_count}
 use Rattle.hib_core.proofs.Short.{inside_same}
 use Rattle.hib_session.proofs.Together.{sessions_step}
@@ -49,7 +51,33 @@ serves_of told script from a e h new x w y z q t v g f d = record {
 
 -- or nothing was
 
-pub leaves_of : (told script : Script) (h new : Journal) (x w : EnginesState) (y z : Session) → told ≡ script → new ≡ h → IsStill x w →
+-- nothing has changed, whatever was due
+refused_any : (h : Journal) (s : ℕ) (x : EnginesState) (o : Option Act) → IsRefusedAt h s x x o
+refused_any h s x None = refl
+refused_any h s x (Some a) = refused_same h s a x x refl
+
+pub refused_none : (script : Script) (h : Journal) (s : ℕ) (x : EnginesState) → IsStepRefused script h s x x
+refused_none script h s x = refused_any h s x (next script s (own s h))
+
+-- by the act that was due
+pub refused_at : (script : Script) (h : Journal) (y : Session) (a : Act) (x w : EnginesState) → IsTurn script h y a → IsRefused h (number_of y) a x w → IsStepRefused script h (number_of y) x w
+refused_at script h y a x w t r = subst (λ o. IsRefusedAt h (number_of y) x w o) (sym t.next) r
+
+still_at : (h : Journal) (s : ℕ) (x w : EnginesState) (o : Option Act) → IsRefusedAt h s x w o → IsStill x w
+still_at h s x w None e = still_same x w e
+still_at h s x w (Some a) r = r.still
+
+entities_at : (h : Journal) (s : ℕ) (x w : EnginesState) (o : Option Act) → IsRefusedAt h s x w o → w.store.entities ≡ x.store.entities
+entities_at h s x w None e = ap (λ (v : EnginesState). v.store.entities) e
+entities_at h s x w (Some a) r = r.entities
+
+still_of : (script : Script) (h : Journal) (s : ℕ) (x w : EnginesState) → IsStepRefused script h s x w → IsStill x w
+still_of script h s x w r = still_at h s x w (next script s (own s h)) r
+
+run_refused : (script : Script) (from : Origin) (h : Journal) (s : ℕ) (x w : EnginesState) → IsRun script from h x → IsStepRefused script h s x w → IsRun script from h w
+run_refused script from h s x w run r = run_still script from h x w run (still_of script h s x w r) (entities_at h s x w (next script s (own s h)) r)
+
+pub leaves_of : (told script : Script) (h new : Journal) (x w : EnginesState) (y z : Session) → told ≡ script → new ≡ h → IsStepRefused script h (number_of y) x w →
     ((mine : Journal) → Follows told y mine → Follows told z mine) → Leaves script h new x w y z
 leaves_of told script h new x w y z q e u f = record {
   same = e;
@@ -57,11 +85,11 @@ leaves_of told script h new x w y z q e u f = record {
   follows = subst (λ (v : Script). (mine : Journal) → Follows v y mine → Follows v z mine) q f;
 }
 
-pub leaves_on : (told script : Script) (h new : Journal) (x w : EnginesState) (y u z : Session) → told ≡ script → ((mine : Journal) → Follows told y mine → Follows told u mine) →
+pub leaves_on : (told script : Script) (h new : Journal) (x w : EnginesState) (y u z : Session) → told ≡ script → number_of u ≡ number_of y → ((mine : Journal) → Follows told y mine → Follows told u mine) →
     Leaves script h new x w u z → Leaves script h new x w y z
-leaves_on told script h new x w y u z q f v = record {
+leaves_on told script h new x w y u z q e f v = record {
   same = v.same;
-  engines = v.engines;
+  engines = subst (λ n. IsStepRefused script h n x w) e v.engines;
   follows = λ mine g. v.follows mine (subst (λ (v : Script). (mine : Journal) → Follows v y mine → Follows v u mine) q f mine g);
 }
 
@@ -93,7 +121,9 @@ pub record Turned {E : Type 0} (script : Script) (from : Origin) (s : ℕ) (r : 
   pub done : r ≡ Ok Stepped.Done → IsOver script s h new
   pub same : OnErr r (new ≡ h)
   pub err : OnErr r (IsStill x w)
+  pub counts : OnErr r (IsStepRefused script h s x w)
   pub asked : OnOk r (IsAsked from h x → IsAsked from new w)
+  pub asks_once : (e : Entry) → new ≡ e ∷ h → IsAskedFor h s e.act x w
   pub fault : (e : Entry) → new ≡ e ∷ h → is_fault e.reply ≡ true → Rose x.store.faults w.store.faults
   pub inside : outside_count new ≡ outside_count h
 
@@ -102,6 +132,10 @@ set_there ys n u b = slice_get-get_or (slice_set ys n u) n u (omega (arith, leng
 
 no_entry : (h new : Journal) (e : Entry) → new ≡ h → new ≡ e ∷ h → ⊥
 no_entry h new e p q = let l : length h ≡ length (e ∷ h) = ap length (sym p ∙ q) in omega (arith, l)
+
+-- one that was is the only one
+one_entry : (h new : Journal) (d e : Entry) → new ≡ d ∷ h → new ≡ e ∷ h → d ≡ e
+one_entry h new d e p q = let same : d ∷ h ≡ e ∷ h = sym p ∙ q in cc
 
 not_done : {E : Type 0} → ◌≡◌ {A = Result Stepped E} (Ok Stepped.Did) (Ok Stepped.Done) → ⊥
 not_done p = cc
@@ -143,19 +177,21 @@ turned {E = X} script from s (Ok Stepped.Did) h new x w xs y z run all p k d did
       done = λ e. absurd (not_done e);
       same = tt;
       err = tt;
+      counts = tt;
       asked = λ g. subst (λ (j : Journal). IsAsked from j w) (sym m.served.grown) (record {
         later = omega (arith, g.later, m.served.asked.later);
         few = omega (arith, g.few, m.served.asked.few);
       });
-      fault = λ e q f. let same : entry_of h (number_of y) m.act m.served.answer ∷ h ≡ e ∷ h = sym m.served.grown ∙ q in
-          let one : entry_of h (number_of y) m.act m.served.answer ≡ e = cc in m.served.fault (subst (λ (v : Entry). is_fault v.reply ≡ true) (sym one) f);
+      asks_once = λ e q. subst (λ (v : Entry). IsAskedFor h s v.act x w) (one_entry h new (entry_of h (number_of y) m.act m.served.answer) e m.served.grown q)
+          (subst (λ n. IsAskedFor h n m.act x w) here m.served.asked);
+      fault = λ e q f. m.served.fault (subst (λ (v : Entry). is_fault v.reply ≡ true) (sym (one_entry h new (entry_of h (number_of y) m.act m.served.answer) e m.served.grown q)) f);
       inside = inside_same (entry_of h (number_of y) m.act m.served.answer) (number_of y) h new refl m.served.grown;
     }
 turned {E = X} script from s (Ok Stepped.Done) h new x w xs y z run all p k d did done quiet still = by_leave (still not_did)
   where
     by_leave : Leaves script h new x w y z → Turned {E = X} script from s (Ok Stepped.Done) h new x w xs (slice_set xs s z)
     by_leave v = record {
-      run = subst (λ (j : Journal). IsRun script from j w) (sym v.same) (run_still script from h x w run v.engines);
+      run = subst (λ (j : Journal). IsRun script from j w) (sym v.same) (run_refused script from h (number_of y) x w run v.engines);
       sessions = subst (λ (j : Journal). AreSessions script j (slice_set xs s z)) (sym v.same) (sessions_same script h s xs y z all p k d v.follows);
       did = λ e. absurd (not_did e);
       done = λ e. record {
@@ -164,7 +200,9 @@ turned {E = X} script from s (Ok Stepped.Done) h new x w xs y z run all p k d di
       };
       same = tt;
       err = tt;
+      counts = tt;
       asked = λ g. subst (λ (j : Journal). IsAsked from j w) (sym v.same) (subst (λ (u : EnginesState). IsAsked from h u) (sym (quiet refl)) g);
+      asks_once = λ e q. absurd (no_entry h new e v.same q);
       fault = λ e q f. absurd (no_entry h new e v.same q);
       inside = ap outside_count v.same;
     }
@@ -172,13 +210,15 @@ turned {E = X} script from s (Err a) h new x w xs y z run all p k d did done qui
   where
     by_leave : Leaves script h new x w y z → Turned {E = X} script from s (Err a) h new x w xs (slice_set xs s z)
     by_leave v = record {
-      run = subst (λ (j : Journal). IsRun script from j w) (sym v.same) (run_still script from h x w run v.engines);
+      run = subst (λ (j : Journal). IsRun script from j w) (sym v.same) (run_refused script from h (number_of y) x w run v.engines);
       sessions = subst (λ (j : Journal). AreSessions script j (slice_set xs s z)) (sym v.same) (sessions_same script h s xs y z all p k d v.follows);
       did = λ e. absurd (not_ok a Stepped.Did e);
       done = λ e. absurd (not_ok a Stepped.Done e);
       same = v.same;
-      err = v.engines;
+      err = still_of script h (number_of y) x w v.engines;
+      counts = subst (λ n. IsStepRefused script h n x w) (all.numbers s y p) v.engines;
       asked = tt;
+      asks_once = λ e q. absurd (no_entry h new e v.same q);
       fault = λ e q f. absurd (no_entry h new e v.same q);
       inside = ap outside_count v.same;
     }

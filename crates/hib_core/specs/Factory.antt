@@ -1,6 +1,7 @@
 -- What a factory keeps: its journal is legal, and its engines and sessions stand for it.
-use Rattle.std.specs.Prelude.{◌≡◌, ℕ, ◌+◌, ◌<◌, Bool, true, false, List, ◌∷◌, slice_get, Some, Option, None}
+use Rattle.std.specs.Prelude.{◌≡◌, ℕ, ◌+◌, ◌<◌, Bool, true, false, List, ◌∷◌, length, slice_get, Some, Option, None}
 use Rattle.hib_base.specs.Tables.{Tables}
+use Rattle.hib_base.specs.Valid.{is_valid}
 use Rattle.hib_journal.specs.Types.{Script, Act, Reply, Entry}
 use Rattle.hib_journal.specs.Kept.{Kept, past}
 use Rattle.hib_journal.specs.Sessions.{Journal, own, was_killed}
@@ -17,7 +18,7 @@ pub use Rattle.hib_session.specs.Sessions.{AreOver}
 use Rattle.hib_session.specs.Session.{Follows, IsTaken, number_of, is_killed, left_in}
 use Rattle.hib_engines.specs.Due.{IsDue}
 use Rattle.hib_engines.specs.Built.{IsBuilt}
-use Rattle.hib_engines.specs.Engines.{EnginesState, AreStanding, IsStill, IsAskedFor}
+use Rattle.hib_engines.specs.Engines.{EnginesState, AreStanding, IsAskedFor, IsRefused}
 use Rattle.hib_core.specs.Standing.{Origin, RoseBy, RoseWithin, entry_of}
 
 -- the steps of a factory as contracts see them
@@ -40,14 +41,16 @@ pub record FactoryState : Type 0 where
 abbrev pub Lawful : Type 0
 Lawful = (script : Script) (told : Option Tables) (h : Journal) → IsLegal script told h → Obeys script told h
 
--- the journal is legal, so that it obeys the law, with its ticks in turn, the engines stand for it, and the keeper has failed as often as
--- it says
+-- the script is valid, and the journal legal, so that it obeys the law, with its ticks in turn, the engines stand for it, the store has an
+-- index of the script's entities, and the keeper has failed as often as it says
 pub record IsRun (script : Script) (from : Origin) (h : Journal) (x : EnginesState) : Type 0 where
   pub legal : IsLegal script from.tables h
   pub law : Obeys script from.tables h
   pub numbered : IsNumbered h
   pub engines : AreStanding script from.tables h x
+  pub entities : x.store.entities ≡ length script.mapping
   pub faults : RoseBy from.faults (fault_count h) x.store.faults
+  pub valid : is_valid script ≡ true
   pub built : IsBuilt script
 
 -- the keeper was asked no more often than the journal says
@@ -95,10 +98,19 @@ pub record Serves (script : Script) (from : Origin) (a : Act) (h new : Journal) 
   pub asked : IsAskedFor h (number_of y) a x w
   pub fault : is_fault answer ≡ true → Rose x.store.faults w.store.faults
 
+-- what is left of the engines if this act was due in session s and was refused, or if none was due
+abbrev pub IsRefusedAt : Journal → ℕ → EnginesState → EnginesState → Option Act → Type 0
+IsRefusedAt h s x y None = y ≡ x
+IsRefusedAt h s x y (Some a) = IsRefused h s a x y
+
+-- and so by the act that was due, whichever it was
+abbrev pub IsStepRefused : Script → Journal → ℕ → EnginesState → EnginesState → Type 0
+IsStepRefused script h s x y = IsRefusedAt h s x y (next script s (own s h))
+
 -- nothing was added: the engines are as before, but for the keeper's counts, and the session follows what it followed
 pub record Leaves (script : Script) (h new : Journal) (x w : EnginesState) (y z : Session) : Type 0 where
   pub same : new ≡ h
-  pub engines : IsStill x w
+  pub engines : IsStepRefused script h (number_of y) x w
   pub follows : (mine : Journal) → Follows script y mine → Follows script z mine
 
 -- the act that was due in session y was served

@@ -1,5 +1,5 @@
 // The factory: sessions over shared engines, the journal of their steps, and the listeners that hear of each.
-ghost use Rattle.std.specs.Prelude.{◌≡◌, ◌+◌, ◌<◌, ◌≤◌, ◌^◌, ◌==◌, ℕ, [], ◌∷◌, length, slice_get, is_ok, OnOk, OnErr, IfOk, IfErr, IsOk, Ok, Some, true, false};
+ghost use Rattle.std.specs.Prelude.{◌≡◌, ◌+◌, ◌<◌, ◌≤◌, ◌^◌, ◌==◌, ℕ, [], ◌∷◌, length, slice_get, is_ok, OnOk, OnErr, IfOk, IfErr, IfSome, IsOk, Ok, Some, true, false};
 ghost use Rattle.hib_journal.specs.Kept.{past};
 ghost use Rattle.hib_base.specs.declared.scripts.Order.{Order};
 ghost use Rattle.hib_base.specs.Valid.{is_valid};
@@ -9,15 +9,16 @@ ghost use Rattle.hib_journal.specs.Played.{play_steps, play_order, play_orders, 
 ghost use Rattle.hib_journal.specs.Legal.{IsLegal};
 ghost use Rattle.hib_journal.specs.Runs.{IsNumbered, told_committed, is_fault, fault_count, ask_count};
 ghost use Rattle.hib_base.specs.declared.entries.Entry.{Entry};
+ghost use Rattle.hib_law.specs.Hits.{AreListsGiven};
 ghost use Rattle.hib_law.specs.Law.{Obeys};
 ghost use Rattle.hib_engines.specs.Built.{IsSound};
-ghost use Rattle.hib_engines.specs.Engines.{IsStill};
+ghost use Rattle.hib_engines.specs.Engines.{IsStill, IsAskedFor};
 ghost use Rattle.hib_core.specs.Standing.{RoseBy, RoseWithin, told_start};
 ghost use Rattle.hib_outside.specs.Causes.{Rose};
 ghost use Rattle.hib_store.specs.Stores.{handed_back, is_store_fault};
 ghost use Rattle.hib_core.specs.Bound.{most_in, outside_count};
 ghost use Rattle.hib_session.specs.Sessions.{AreSessions};
-ghost use Rattle.hib_core.specs.Factory.{Does, IsOver, IsAskedOnceMore, AreOver, Hears};
+ghost use Rattle.hib_core.specs.Factory.{Does, IsOver, IsAskedOnceMore, IsStepRefused, AreOver, Hears};
 ghost use Rattle.hib_core.specs.Calls.{HasRun, IsObeyed};
 ghost use Rattle.hib_core.specs.Playing.{played, play_script, GoesOn, Leads, AreNamed};
 ghost use Rattle.hib_listeners.specs.Told.{tells};
@@ -105,8 +106,9 @@ impl<K: Keeper, N: Name, L: Listener> Factory<K, N, L> {
     }
 
     /// One step of a session: the act that is due in it, if one is, and then the listeners hear of its entry. The other sessions stay
-    /// as they are. If memory runs out no entry is added and nothing has changed, but the answer of `refused` and the keeper's
-    /// counts; so a later call may succeed. Only if a listener had none does the entry stand, and no call adds another.
+    /// as they are. The keeper is asked once at most, and only if the act asks for rows. If memory runs out no entry is added and
+    /// nothing has changed, but the answer of `refused` and, if the act that was due calls the keeper, its counts; so a later call may
+    /// succeed. Only if a listener had none does the entry stand, and no call adds another.
     pub fn step(&mut self, alloc: Global, number: SessionNo) -> Result<Stepped, AllocError>
         requires known { number < length N.script.sessions }
         ensures did { result ≡ Ok Stepped.Did
@@ -115,6 +117,8 @@ impl<K: Keeper, N: Name, L: Listener> Factory<K, N, L> {
         ensures done { result ≡ Ok Stepped.Done
             → IsOver N.script number (past self.old.journal) (past self.new.journal) }
         ensures ran { HasRun N.script N.from result self.old self.new }
+        ensures given { IfSome N.from.tables
+            (λ start. AreListsGiven N.script start (past self.new.journal)) }
         ensures killed { was_killed number (past self.old.journal) ≡ true
             → result ≡ Ok Stepped.Done }
         ensures inside { outside_count (past self.new.journal)
@@ -122,12 +126,17 @@ impl<K: Keeper, N: Name, L: Listener> Factory<K, N, L> {
         ensures fault { (e : Entry) → past self.new.journal ≡ e ∷ past self.old.journal
             → is_fault e.reply ≡ true
             → Rose self.old.engines.store.faults self.new.engines.store.faults }
+        ensures asks_once { (e : Entry) → past self.new.journal ≡ e ∷ past self.old.journal
+            → IsAskedFor (past self.old.journal) number e.act self.old.engines self.new.engines }
         ensures hears { Hears (past self.old.journal) (past self.new.journal)
             (is_ok result) self.old.told self.new.told }
         ensures same { OnErr result (self.new.deaf ≡ self.old.deaf
             → past self.new.journal ≡ past self.old.journal) }
         ensures engines { OnErr result (self.new.deaf ≡ self.old.deaf
             → IsStill self.old.engines self.new.engines) }
+        ensures counts { OnErr result (self.new.deaf ≡ self.old.deaf
+            → IsStepRefused N.script (past self.old.journal) number self.old.engines
+            self.new.engines) }
         ensures unheard { OnErr result (self.old.deaf ≡ false → self.new.deaf ≡ true
             → Does N.script number (past self.old.journal) (past self.new.journal) self.old.sessions
             self.new.sessions) }
@@ -201,9 +210,11 @@ impl<K: Keeper, N: Name, L: Listener> Factory<K, N, L> {
         self.core.order(at)
     }
 
-    /// The journal obeys the law.
+    /// The journal obeys the law, and each list from the cache is what its query gave at the moment of the hit.
     pub fn lawful(&self)
-        ensures { Obeys N.script N.from.tables (past self.now.journal) }
+        ensures law { Obeys N.script N.from.tables (past self.now.journal) }
+        ensures given { IfSome N.from.tables
+            (λ start. AreListsGiven N.script start (past self.now.journal)) }
     {
         self.core.lawful();
     }

@@ -1,5 +1,5 @@
 // The steps of a factory, each of which adds one entry to its journal, whoever hears of it.
-ghost use Rattle.std.specs.Prelude.{◌≡◌, ◌≢◌, ◌+◌, ◌<◌, ◌≤◌, ◌^◌, ◌==◌, ℕ, [], ◌∷◌, length, slice_get, OnOk, OnErr, IfOk, IfErr, IsOk, Ok, Some, true, false};
+ghost use Rattle.std.specs.Prelude.{◌≡◌, ◌≢◌, ◌+◌, ◌<◌, ◌≤◌, ◌^◌, ◌==◌, ℕ, [], ◌∷◌, length, slice_get, OnOk, OnErr, IfOk, IfErr, IfSome, IsOk, Ok, Some, true, false};
 ghost use Rattle.hib_journal.specs.Kept.{past};
 ghost use Rattle.hib_base.specs.declared.scripts.Order.{Order};
 ghost use Rattle.hib_base.specs.Valid.{is_valid};
@@ -9,15 +9,16 @@ ghost use Rattle.hib_journal.specs.Played.{has_next};
 ghost use Rattle.hib_journal.specs.Legal.{IsLegal};
 ghost use Rattle.hib_journal.specs.Runs.{IsNumbered, told_committed, is_fault, fault_count, ask_count};
 ghost use Rattle.hib_base.specs.declared.entries.Entry.{Entry};
+ghost use Rattle.hib_law.specs.Hits.{AreListsGiven};
 ghost use Rattle.hib_law.specs.Law.{Obeys};
 ghost use Rattle.hib_engines.specs.Built.{IsSound};
-ghost use Rattle.hib_engines.specs.Engines.{IsStill};
+ghost use Rattle.hib_engines.specs.Engines.{IsStill, IsAskedFor};
 ghost use Rattle.hib_core.specs.Standing.{RoseBy, RoseWithin, told_start};
 ghost use Rattle.hib_outside.specs.Causes.{Rose};
 ghost use Rattle.hib_store.specs.Stores.{handed_back, is_store_fault};
 ghost use Rattle.hib_core.specs.Bound.{most_in, outside_count};
 ghost use Rattle.hib_session.specs.Sessions.{AreSessions};
-ghost use Rattle.hib_core.specs.Factory.{Does, IsOver, IsAsked, IsAskedOnceMore, HasGrown};
+ghost use Rattle.hib_core.specs.Factory.{Does, IsOver, IsAsked, IsAskedOnceMore, IsStepRefused, HasGrown};
 ghost use Rattle.hib_core.specs.Calls.{IsCarriedOut};
 
 use crate::bounds::runs_are_short;
@@ -26,7 +27,7 @@ use crate::turns::{has_turn, turn};
 use hib_base::{Key, Order, Script, SessionNo};
 use hib_engines::{Engines, Name, Stepped};
 use hib_journal::Journal;
-use hib_law::law;
+use hib_law::{law, lists_are_given};
 use hib_outside::Keeper;
 use hib_session::{Session, open_all};
 use hib_store::OpenFault;
@@ -101,8 +102,9 @@ impl<K: Keeper, N: Name> Core<K, N> {
         })
     }
 
-    /// One step of a session: the act that is due in it, if one is. The other sessions stay as they are. If memory runs out no
-    /// entry is added and nothing has changed, but the answer of `refused` and the keeper's counts; so a later call may succeed.
+    /// One step of a session: the act that is due in it, if one is. The other sessions stay as they are. The keeper is asked once at
+    /// most, and only if the act asks for rows. If memory runs out no entry is added and nothing has changed, but the answer of
+    /// `refused` and, if the act that was due calls the keeper, its counts; so a later call may succeed.
     pub fn step(&mut self, alloc: Global, number: SessionNo) -> Result<Stepped, AllocError>
         requires known { number < length N.script.sessions }
         ensures did { result ≡ Ok Stepped.Did
@@ -111,6 +113,8 @@ impl<K: Keeper, N: Name> Core<K, N> {
         ensures done { result ≡ Ok Stepped.Done
             → IsOver N.script number (past self.old.journal) (past self.new.journal) }
         ensures law { Obeys N.script N.from.tables (past self.new.journal) }
+        ensures given { IfSome N.from.tables
+            (λ start. AreListsGiven N.script start (past self.new.journal)) }
         ensures killed { was_killed number (past self.old.journal) ≡ true
             → result ≡ Ok Stepped.Done }
         ensures inside { outside_count (past self.new.journal)
@@ -118,9 +122,13 @@ impl<K: Keeper, N: Name> Core<K, N> {
         ensures fault { (e : Entry) → past self.new.journal ≡ e ∷ past self.old.journal
             → is_fault e.reply ≡ true → Rose self.old.engines.store.faults
             self.new.engines.store.faults }
+        ensures asks_once { (e : Entry) → past self.new.journal ≡ e ∷ past self.old.journal
+            → IsAskedFor (past self.old.journal) number e.act self.old.engines self.new.engines }
         ensures going { OnOk result (self.new.refused ≡ self.old.refused) }
         ensures same { OnErr result (past self.new.journal ≡ past self.old.journal) }
         ensures engines { OnErr result (IsStill self.old.engines self.new.engines) }
+        ensures counts { OnErr result (IsStepRefused N.script (past self.old.journal) number
+            self.old.engines self.new.engines) }
         ensures after { AreSessions N.script (past self.new.journal) self.new.sessions }
         ensures others { (s : ℕ) → (number == s) ≡ false
             → slice_get self.new.sessions s ≡ slice_get self.old.sessions s }
@@ -130,6 +138,7 @@ impl<K: Keeper, N: Name> Core<K, N> {
             → IsAskedOnceMore N.from (past self.new.journal) self.new.engines) }
         ensures refused { OnErr result (self.new.refused ≡ true) }
     {
+        lists_are_given();
         match turn::<K, N>(
             alloc,
             &self.script,
@@ -200,8 +209,11 @@ impl<K: Keeper, N: Name> Core<K, N> {
         ensures killed { was_killed number (past self.now.journal) ≡ true
             → result ≡ Ok Stepped.Done }
         ensures law { Obeys N.script N.from.tables (past self.now.journal) }
+        ensures given { IfSome N.from.tables
+            (λ start. AreListsGiven N.script start (past self.now.journal)) }
         ensures sessions { AreSessions N.script (past self.now.journal) self.now.sessions }
     {
+        lists_are_given();
         if has_turn::<N>(
             alloc,
             &self.script,
@@ -236,10 +248,13 @@ impl<K: Keeper, N: Name> Core<K, N> {
         opened::<K, N>(number, &self.engines, &self.journal)
     }
 
-    /// The journal obeys the law.
+    /// The journal obeys the law, and each list from the cache is what its query gave at the moment of the hit.
     pub fn lawful(&self)
-        ensures { Obeys N.script N.from.tables (past self.now.journal) }
+        ensures law { Obeys N.script N.from.tables (past self.now.journal) }
+        ensures given { IfSome N.from.tables
+            (λ start. AreListsGiven N.script start (past self.now.journal)) }
     {
+        lists_are_given();
         let _ = &self.journal;
     }
 

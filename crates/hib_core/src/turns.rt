@@ -10,11 +10,11 @@ ghost use Rattle.hib_outside.specs.Causes.{Rose};
 ghost use Rattle.hib_session.specs.Memory.{brings};
 ghost use Rattle.hib_session.specs.Session.{Follows, IsTaken, number_of, is_killed, is_ready, left_in};
 ghost use Rattle.hib_engines.specs.Due.{IsDue, HasQueries};
-ghost use Rattle.hib_engines.specs.Engines.{IsStill};
+ghost use Rattle.hib_engines.specs.Engines.{IsStill, IsAskedFor, IsRefused};
 ghost use Rattle.hib_core.specs.Standing.{entry_of};
 ghost use Rattle.hib_core.specs.Bound.{outside_count};
 ghost use Rattle.hib_session.specs.Sessions.{AreSessions};
-ghost use Rattle.hib_core.specs.Factory.{IsRun, IsAsked, IsMember, IsTurn, Answers, Serves, Leaves, Moves, Does, IsOver};
+ghost use Rattle.hib_core.specs.Factory.{IsRun, IsAsked, IsMember, IsTurn, Answers, Serves, Leaves, Moves, Does, IsOver, IsStepRefused};
 
 use hib_base::{Act, Entry, Reply, Script, SessionNo, Tick};
 use hib_clock::next as tick_after;
@@ -129,8 +129,10 @@ fn answered<K: Keeper, N: Name>(
     ensures answers { IfOk result (λ t. Answers N.script N.from (number_of session.now) act.now
         (past journal.old) (entry_of (past journal.old) (number_of session.now) act.now t.1)
         engines.old engines.new) }
-    ensures still { OnOk result (brings act.now ≡ true → IsStill engines.old engines.new) }
-    ensures err { OnErr result (IsStill engines.old engines.new) }
+    ensures passed { OnOk result (brings act.now ≡ true → IsRefused (past journal.old)
+        (number_of session.now) act.now engines.old engines.new) }
+    ensures err { OnErr result (IsRefused (past journal.old) (number_of session.now) act.now
+        engines.old engines.new) }
 {
     law();
     let tick = reserve_tick(journal)?;
@@ -260,8 +262,12 @@ pub fn turn<K: Keeper, N: Name>(
         → IsOver N.script number (past journal.old) (past journal.new) }
     ensures same { OnErr result (past journal.new ≡ past journal.old) }
     ensures err { OnErr result (IsStill engines.old engines.new) }
+    ensures counts { OnErr result (IsStepRefused N.script (past journal.old) number engines.old
+        engines.new) }
     ensures asked { OnOk result (IsAsked N.from (past journal.old) engines.old
         → IsAsked N.from (past journal.new) engines.new) }
+    ensures asks_once { (e : Entry) → past journal.new ≡ e ∷ past journal.old
+        → IsAskedFor (past journal.old) number e.act engines.old engines.new }
     ensures fault { (e : Entry) → past journal.new ≡ e ∷ past journal.old → is_fault e.reply ≡ true
         → Rose engines.old.store.faults engines.new.store.faults }
     ensures inside { outside_count (past journal.new) ≡ outside_count (past journal.old) }

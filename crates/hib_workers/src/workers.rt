@@ -3,6 +3,7 @@ ghost use Rattle.std.specs.Prelude.{◌≡◌, ◌≤◌, ◌<◌, ◌^◌, fals
 ghost use denote.Param.Send.{IsSend};
 ghost use Rattle.hib_journal.specs.Kept.{past};
 ghost use Rattle.hib_session.specs.Bound.{outside_count};
+ghost use Rattle.hib_law.specs.Hits.{AreListsGiven};
 ghost use Rattle.hib_session.specs.Sessions.{AreOver};
 ghost use Rattle.hib_workers.specs.Worked.{IsWorked};
 
@@ -39,6 +40,8 @@ pub fn work<R: Threads + Wait + Sync, K: Keeper, N: Name + Send + Sync, L: Liste
     requires workers { (1 ≤ workers) × (workers ≤ 64) }
     requires inside { outside_count (past factory.journal) ≡ 0 }
     ensures worked { IsWorked N.script N.from factory result.factory }
+    ensures given { IfSome N.from.tables
+        (λ start. AreListsGiven N.script start (past result.factory.journal)) }
     ensures over { result.out_of_memory ≡ false → AreOver N.script (past result.factory.journal) }
     ensures memory { result.out_of_memory ≡ result.factory.refused }
 {
@@ -57,6 +60,8 @@ fn work_from<
     requires handed { factory ≡ H.factory }
     requires inside { outside_count (past factory.journal) ≡ 0 }
     ensures worked { IsWorked N.script N.from H.factory result.factory }
+    ensures given { IfSome N.from.tables
+        (λ start. AreListsGiven N.script start (past result.factory.journal)) }
     ensures over { result.out_of_memory ≡ false → AreOver N.script (past result.factory.journal) }
     ensures memory { result.out_of_memory ≡ result.factory.refused }
 {
@@ -64,6 +69,7 @@ fn work_from<
     let mut desk = on_threads(rt, alloc, desk, workers, gate);
     desk.finish(alloc);
     let factory = desk.close();
+    factory.lawful();
     let out_of_memory = factory.refused();
     Worked {
         factory,

@@ -34,7 +34,7 @@ returns-clause-run g c =
     let grown : past c.tell.new.journal ≡ outside_entry h (Act.Kill n) Reply.Done ∷ h =
     grown_from (past c.reserve_tick.new.journal) h (past c.tell.new.journal) (Act.Kill n) Reply.Done c.tell.ensures same in
     subst (λ (j : Journal). IsRun g.N.Name.script g.N.Name.from j c.kill.new.self) (sym grown)
-    (kill_run c.law.ensures.obeyed g.N.Name.script g.N.Name.from h n x c.kill.new.self c.requires.run begun c.in_ok-now.ensures.few c.kill.ensures.faults c.kill.ensures.answered)
+    (kill_run c.law.ensures.obeyed g.N.Name.script g.N.Name.from h n x c.kill.new.self c.requires.run begun c.in_ok-now.ensures.few c.kill.ensures.faults c.kill.ensures.entities c.kill.ensures.answered)
 
 pub returns-clause-sessions : goal.returns-clause-sessions
 returns-clause-sessions g c =

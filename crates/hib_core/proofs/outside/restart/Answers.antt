@@ -23,7 +23,7 @@ returns-clause-run g c =
     let grown : past c.tell.new.journal ≡ outside_entry h Act.Restart Reply.Done ∷ h =
     grown_from (past c.reserve_tick.new.journal) h (past c.tell.new.journal) Act.Restart Reply.Done c.tell.ensures same in
     subst (λ (j : Journal). IsRun g.N.Name.script g.N.Name.from j c.restart.new.self) (sym grown)
-    (restart_run c.law.ensures.obeyed g.N.Name.script g.N.Name.from h c.args.engines.now c.restart.new.self c.requires.run c.in_ok-now.ensures.few c.restart.ensures.faults c.restart.ensures.answered)
+    (restart_run c.law.ensures.obeyed g.N.Name.script g.N.Name.from h c.args.engines.now c.restart.new.self c.requires.run c.in_ok-now.ensures.few c.restart.ensures.faults c.restart.ensures.entities c.restart.ensures.answered)
 
 pub returns-clause-sessions : goal.returns-clause-sessions
 returns-clause-sessions g c =

@@ -90,6 +90,19 @@ returns-clause-err g c =
     c.take_turn.ensures.number c.take_turn.ensures.killed c.take_turn.ensures.did c.take_turn.ensures.done c.take_turn.ensures.quiet c.take_turn.ensures.still in
     t.err
 
+pub returns-clause-counts : goal.returns-clause-counts
+returns-clause-counts g c =
+    let script = g.N.Name.script in
+    let from = g.N.Name.from in
+    let h = past c.args.journal.now in
+    let xs = c.args.sessions.now.items in
+    let y = c.index_mut-session.result.now in
+    let z = c.take_turn.new.session in
+    let place = at_place script h xs c.number.inside.0 c.args.number y c.requires.sessions c.number.view_is c.requires.known c.index_mut-session.ensures.value in
+    let t = turned script from c.args.number c.take_turn.result h (past c.take_turn.new.journal) c.args.engines.now c.take_turn.new.engines xs y z c.requires.run c.requires.sessions place
+    c.take_turn.ensures.number c.take_turn.ensures.killed c.take_turn.ensures.did c.take_turn.ensures.done c.take_turn.ensures.quiet c.take_turn.ensures.still in
+    t.counts
+
 pub returns-clause-asked : goal.returns-clause-asked
 returns-clause-asked g c =
     let script = g.N.Name.script in
@@ -102,6 +115,19 @@ returns-clause-asked g c =
     let t = turned script from c.args.number c.take_turn.result h (past c.take_turn.new.journal) c.args.engines.now c.take_turn.new.engines xs y z c.requires.run c.requires.sessions place
     c.take_turn.ensures.number c.take_turn.ensures.killed c.take_turn.ensures.did c.take_turn.ensures.done c.take_turn.ensures.quiet c.take_turn.ensures.still in
     t.asked
+
+pub returns-clause-asks_once : goal.returns-clause-asks_once
+returns-clause-asks_once g c =
+    let script = g.N.Name.script in
+    let from = g.N.Name.from in
+    let h = past c.args.journal.now in
+    let xs = c.args.sessions.now.items in
+    let y = c.index_mut-session.result.now in
+    let z = c.take_turn.new.session in
+    let place = at_place script h xs c.number.inside.0 c.args.number y c.requires.sessions c.number.view_is c.requires.known c.index_mut-session.ensures.value in
+    let t = turned script from c.args.number c.take_turn.result h (past c.take_turn.new.journal) c.args.engines.now c.take_turn.new.engines xs y z c.requires.run c.requires.sessions place
+    c.take_turn.ensures.number c.take_turn.ensures.killed c.take_turn.ensures.did c.take_turn.ensures.done c.take_turn.ensures.quiet c.take_turn.ensures.still in
+    t.asks_once
 
 pub returns-clause-fault : goal.returns-clause-fault
 returns-clause-fault g c =

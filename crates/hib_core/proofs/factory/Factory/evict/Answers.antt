@@ -24,7 +24,7 @@ pub returns-then-self : goal.returns-then-self
 returns-then-self g c =
     let told = tells g.L.Listener.heard g.L.Listener.left c.self.inside.listeners in
     subst (λ (v : FactoryState). IsObeyed g.N.Name.script g.N.Name.from (Order.Evict c.args.key) _ v v) c.self.view_is
-    (deaf_obeys g.N.Name.script g.N.Name.from (Order.Evict c.args.key) c.self.inside.core told c.self.inside.deaf _ c.if-self.true c.lawful.ensures)
+    (deaf_obeys g.N.Name.script g.N.Name.from (Order.Evict c.args.key) c.self.inside.core told c.self.inside.deaf _ c.if-self.true c.lawful.ensures.law)
 
 pub returns-in_err-evict : goal.returns-in_err-evict
 returns-in_err-evict g c =

@@ -1,16 +1,26 @@
-use Rattle.std.proofs.Common.{◌≡◌, Ok, is_ok, not, refl, sym, ap, subst, ◌∙◌}
+use Rattle.std.proofs.Common.{◌≡◌, ◌∷◌, Ok, is_ok, not, refl, sym, ap, subst, ◌∙◌}
 use Rattle.hib_journal.specs.Kept.{past}
 use Rattle.hib_journal.specs.Sessions.{Journal}
 use Rattle.hib_listeners.specs.Told.{tells}
+use Rattle.hib_base.specs.declared.entries.Entry.{Entry}
+use Rattle.hib_engines.specs.Engines.{IsAskedFor}
+use Rattle.hib_engines.proofs.Outcomes.{err_all}
 use Rattle.hib_core.specs.Factory.{HasGrown, FactoryState}
 use Rattle.hib_core.specs.Calls.{HasRun}
 use Rattle.hib_core.proofs.Hearing.{longer, heard_so, heard_none, heard_same, heard_more, heard_told}
 use Rattle.hib_core.proofs.Obeyed.{whole, told_runs}
+use Rattle.hib_core.proofs.Moved.{refused_none}
 use Rattle.hib_core.proofs.factory.Factory.step.Goals as goal
 use Rattle.hib_core.proofs.factory.Factory.step.Goals.{in-Ok, in-Err}
 
 pub returns-then-self-clause-fault : goal.returns-then-self-clause-fault
 returns-then-self-clause-fault g c = λ e p _. absurd (longer (past c.args.self.now.journal) e p)
+
+pub returns-then-self-clause-asks_once : goal.returns-then-self-clause-asks_once
+returns-then-self-clause-asks_once g c = λ e p. absurd (longer (past c.args.self.now.journal) e p)
+
+pub returns-then-self-clause-counts : goal.returns-then-self-clause-counts
+returns-then-self-clause-counts g c = err_all c.idle_step.result _ (λ _. refused_none g.N.Name.script (past c.args.self.now.journal) c.args.number c.args.self.now.engines)
 
 pub returns-then-self-clause-hears : goal.returns-then-self-clause-hears
 returns-then-self-clause-hears g c = let h = past c.args.self.now.journal in heard_none h h _ c.args.self.now.told c.args.self.now.told refl refl
@@ -76,3 +86,11 @@ returns-after-tell-clause-ran g c =
       | in-Ok w ↦ ran (ap is_ok w.in-Ok.is ∙ sym (ap is_ok w.result-is))
       | in-Err w ↦ ran (ap is_ok w.in-Err.is ∙ sym (ap is_ok w.result-is))
     ]
+
+pub returns-in-Done-clause-asks_once : goal.returns-in-Done-clause-asks_once
+returns-in-Done-clause-asks_once g c =
+    subst (λ (v : FactoryState). (e : Entry) → past c.step.new.self.journal ≡ e ∷ past v.journal → IsAskedFor (past v.journal) c.args.number e.act v.engines c.step.new.self.engines) c.self.view_is c.step.ensures.asks_once
+
+pub returns-after-tell-clause-asks_once : goal.returns-after-tell-clause-asks_once
+returns-after-tell-clause-asks_once g c =
+    subst (λ (v : FactoryState). (e : Entry) → past c.step.new.self.journal ≡ e ∷ past v.journal → IsAskedFor (past v.journal) c.args.number e.act v.engines c.step.new.self.engines) c.self.view_is c.step.ensures.asks_once
