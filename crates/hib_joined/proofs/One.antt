@@ -20,7 +20,7 @@ use Rattle.hib_session.specs.Bound.{one_if_none, outside_count}
 use Rattle.hib_session.specs.Sessions.{AreOver}
 use Rattle.hib_engines.specs.Counts.{RoseBy, RoseWithin}
 use Rattle.hib_engines.specs.Origin.{Origin}
-use Rattle.hib_split.specs.Alone.{AreAtEnds, AreListed, IsToldBy}
+use Rattle.hib_split.specs.Alone.{AreAtEnds, AreListed, AreOneByOne, IsToldBy}
 use Rattle.hib_joined.specs.declared.joining.Joined.{Joined}
 use Rattle.hib_joined.specs.Joined.{AreApart, AreJoinedUnless}
 use Rattle.hib_joined.specs.Run.{CameToOne, IsOneRun}
@@ -105,13 +105,15 @@ pub came_to : LegalMerged → FewDue → StoreAlone → Obeyed → (n : ℕ) (sc
     (strange ≡ None → short ≡ false → RoseWithin from.asked (store_ask_count (of_part_in Part.Store (map past lists))) asked_for) →
     (n ≡ 1 → strange ≡ None) →
     (n ≡ 1 → short ≡ false → (h : Journal) → IsMerged (map past lists) h → Agrees (map past mine) h × AreDue h) →
-    RoseBy from.faults 0 failed → AreJoinedUnless strange short (map past lists) mine joined → CameToOne n script from joined rows failed asked_for
-came_to lm fd sa ob n script from lists mine (Some p) short joined rows failed asked_for l listed ends told asked alone whole f j =
+    (n ≡ 1 → short ≡ false → AreOneByOne (map past lists)) → RoseBy from.faults 0 failed → AreJoinedUnless strange short (map past lists) mine joined → CameToOne n script from joined rows failed asked_for
+came_to lm fd sa ob n script from lists mine (Some p) short joined rows failed asked_for l listed ends told asked alone whole order f j =
     subst (λ (z : Joined). CameToOne n script from z rows failed asked_for) (sym j.0) (two n l (λ e. none_some p (sym (alone e))), j.1, f)
-came_to lm fd sa ob n script from lists mine None true joined rows failed asked_for l listed ends told asked alone whole f j =
+came_to lm fd sa ob n script from lists mine None true joined rows failed asked_for l listed ends told asked alone whole order f j =
     subst (λ (z : Joined). CameToOne n script from z rows failed asked_for) (sym j) f
-came_to lm fd sa ob n script from lists mine None false (Joined.One k) rows failed asked_for l listed ends told asked alone whole f j =
-    one lm fd sa ob script from (map past lists) (map past mine) (past k) rows failed asked_for listed (ends refl refl) (told refl) (asked refl refl) j.0 j.1.0 j.1.1 j.2
-came_to lm fd sa ob n script from lists mine None false (Joined.Torn t) rows failed asked_for l listed ends told asked alone whole f j =
+came_to lm fd sa ob n script from lists mine None false (Joined.One k) rows failed asked_for l listed ends told asked alone whole order f j = (
+  one lm fd sa ob script from (map past lists) (map past mine) (past k) rows failed asked_for listed (ends refl refl) (told refl) (asked refl refl) j.0 j.1.0 j.1.1 j.2,
+  λ e. order e refl (past k) j.0,
+)
+came_to lm fd sa ob n script from lists mine None false (Joined.Torn t) rows failed asked_for l listed ends told asked alone whole order f j =
     (two n l (λ e. j.3 (whole e refl (past j.0) j.1)), apart mine j.0 t j.2, f)
-came_to lm fd sa ob n script from lists mine None false Joined.NoMemory rows failed asked_for l listed ends told asked alone whole f j = f
+came_to lm fd sa ob n script from lists mine None false Joined.NoMemory rows failed asked_for l listed ends told asked alone whole order f j = f

@@ -12,6 +12,7 @@ use Rattle.hib_session.specs.Bound.{outside_count}
 use Rattle.hib_session.specs.Sessions.{AreOver}
 use Rattle.hib_engines.specs.Counts.{RoseBy, RoseWithin}
 use Rattle.hib_engines.specs.Origin.{Origin}
+pub use Rattle.hib_parts.specs.Run.{AreInOrder, IsOneByOne}
 use Rattle.hib_joined.specs.Joined.{AreApart}
 use Rattle.hib_joined.specs.declared.joining.Joined.{Joined}
 
@@ -28,8 +29,9 @@ pub record IsOneRun (script : Script) (from : Origin) (h : Journal) (rows : Opti
   pub faults : RoseBy from.faults (fault_count h) failed
   pub asked : RoseWithin from.asked (ask_count h) asked_for
 
--- on n workers: the run has one journal; or it is torn, which doesn't come with one worker; or memory ran out
+-- on n workers: the run has one journal, in which one worker steps one session after the other; or it is torn, which doesn't come
+-- with one worker; or memory ran out
 abbrev pub CameToOne : ℕ → Script → Origin → Joined → Option Tables → ℕ → ℕ → Type 0
-CameToOne n script from (Joined.One j) rows failed asked_for = IsOneRun script from (past j) rows failed asked_for
+CameToOne n script from (Joined.One j) rows failed asked_for = IsOneRun script from (past j) rows failed asked_for × (n ≡ 1 → IsOneByOne (past j))
 CameToOne n script from (Joined.Torn t) rows failed asked_for = (2 ≤ n) × AreApart t × RoseBy from.faults 0 failed
 CameToOne n script from Joined.NoMemory rows failed asked_for = RoseBy from.faults 0 failed

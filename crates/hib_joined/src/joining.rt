@@ -43,18 +43,21 @@ fn join(alloc: Global, lists: &Lists, mine: &Lists) -> Joined
 /// The same of a run, unless a lock gave another region than the one that was asked for, or memory ran out.
 pub fn join_unless(
     alloc: Global,
-    strange: Option<(EntityNo, EntityNo)>,
+    strange: &Option<(EntityNo, EntityNo)>,
     out_of_memory: bool,
     lists: &Lists,
     mine: &Lists,
 ) -> Joined
     requires apart { (p : Part) → IsInOne p (map past lists.now) }
     requires rising { AreRising (map past lists.now) }
-    requires strange { IfSome strange (λ p. p.0 ≢ p.1) }
-    ensures { AreJoinedUnless strange out_of_memory (map past lists.now) mine.now result }
+    requires strange { IfSome strange.now (λ p. p.0 ≢ p.1) }
+    ensures { AreJoinedUnless strange.now out_of_memory (map past lists.now) mine.now result }
 {
     if let Some((asked, found)) = strange {
-        return Joined::Torn(Torn::Region { asked, found });
+        return Joined::Torn(Torn::Region {
+            asked: *asked,
+            found: *found,
+        });
     }
     if out_of_memory {
         return Joined::NoMemory;

@@ -8,4 +8,5 @@ pub mod ResultSteps
 pub mod Regions
 pub mod Fences
 pub mod Placing
+pub mod OneByOne
 pub mod Run

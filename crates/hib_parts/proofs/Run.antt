@@ -16,9 +16,10 @@ use Rattle.hib_split_law.specs.Apart.{is_own, IsOwnLegal}
 use Rattle.hib_split_law.specs.Merged.{due_tick}
 use Rattle.hib_split_law.proofs.Apart.{same_self, same_is, last_picked}
 use Rattle.hib_parts.specs.Listed.{AreBy, RegionState, WorkerState, IsDueOn, IsEntered, IsEnteredDue, IsOwnEntered, last_of}
-use Rattle.hib_parts.specs.Run.{IsFirst, is_other, list_in, list_on, IsStepOn, with_own, AreOfRun, GoesOn}
+use Rattle.hib_parts.specs.Run.{IsFirst, is_other, list_in, list_on, IsStepOn, with_own, last_session, AreOfRun, AreOfRunOneByOne, IsNext, IsOneByOne, GoesOn}
 use Rattle.hib_parts.proofs.Placing.{flip, put, picked_put, due_put, turn_put, sessions_put}
 use Rattle.hib_parts.proofs.Steps.{act_same}
+use Rattle.hib_parts.proofs.OneByOne.{put_last, one_more, first_part, later}
 
 -- ---- the tick of a step
 
@@ -244,7 +245,7 @@ module _ (script : Script) (p : Part) (old new : Part → Journal) (w v : Worker
   own_now s true q = refl
   own_now s false q = ap (λ c. cond c (e ∷ of_part (Part.Own s) (others s)) (of_part (Part.Own s) (others s))) (not_own s q)
 
-  after : AreOfRun new (with_own v others)
+  abbrev after : AreOfRun new (with_own v others)
   after = record {
     journal = put e h;
     parts = λ q o. picked_put (of_part q) (λ d. same_part q d.part) (λ d l. refl) e (same_parts q) h ticks
@@ -259,16 +260,35 @@ module _ (script : Script) (p : Part) (old new : Part → Journal) (w v : Worker
     due = due_put e h x.due ticks;
   }
 
+  -- it comes last, if sessions have come one after the other
+  after_one : (w.list ≡ [] → p ≡ Part.Registry) → IsOneByOne h → last_session h ≤ w.number → IsNext (old Part.Registry) w.list h → AreOfRunOneByOne new (with_own v others) v.number v.list
+  after_one begins one below next =
+      let late : last_of h < e.tick = later p old w.list h e.tick m.tick begins next in
+      let here : unwrap_or e.session 0 ≡ w.number = ap (λ o. unwrap_or o 0) y.session in
+      let last : e ∷ h ≡ put e h = sym (put_last e h late) in
+      let newest : last_of v.list ≡ e.tick = ap last_of m.mine in
+      record {
+        run = after;
+        one_by_one = subst IsOneByOne last (one_more e h one x.due ticks late (omega (arith, below, here)));
+        below = subst (λ k. last_session k ≤ v.number) last (omega (arith, here, n));
+        next = inl (subst (λ k. last_of k ≤ last_of v.list) last (omega (arith, newest)));
+      }
+
 -- the act that is due is on its part
 pub due_on : (script : Script) (w : WorkerState) (o : Option Act) (a : Act) (n : ℕ) (p : Part) → o ≡ next script w.number w.list → o ≡ Some a → n ≡ w.number → p ≡ part_of a n → IsDueOn script p w
 due_on script w o a n p e i q h = record { act = a; due = sym e ∙ i; part = sym (h ∙ ap (part_of a) q) }
 
 pub goes_on : (script : Script) (p : Part) (old new : Part → Journal) (w v : WorkerState) → ((s : ℕ) → old (Part.Own s) ≡ []) → IsDueOn script p w → v.number ≡ w.number → IsOwnLegal script v.number v.list → AreBy v.number v.list → IsStepOn p old new w v →
     GoesOn old w new v
-goes_on script p old new w v free d n legal by m = record { on = λ others x. after script p old new w v others x m (is_mine script p old new w v d n legal by m) n free }
+goes_on script p old new w v free d n legal by m =
+    let y : IsMine script p w v m.entry = is_mine script p old new w v d n legal by m in
+    record {
+      on = λ others x. after script p old new w v others x m y n free;
+      one_by_one = λ others o. after_one script p old new w v others o.run m y n free (first_part script p w d y.legal) o.one_by_one o.below o.next;
+    }
 
 pub goes_stay : (old : Part → Journal) (w : WorkerState) → GoesOn old w old w
-goes_stay old w = record { on = λ others x. x }
+goes_stay old w = record { on = λ others x. x; one_by_one = λ others o. o }
 
 pub goes_then : (old mid new : Part → Journal) (w v u : WorkerState) → GoesOn old w mid v → GoesOn mid v new u → GoesOn old w new u
-goes_then old mid new w v u f g = record { on = λ others x. g.on others (f.on others x) }
+goes_then old mid new w v u f g = record { on = λ others x. g.on others (f.on others x); one_by_one = λ others o. g.one_by_one others (f.one_by_one others o) }

@@ -1,10 +1,11 @@
 -- A run on one worker: the lists of parts and those of sessions are those of one journal.
-use Rattle.std.specs.Prelude.{◌≡◌, ◌==◌, ℕ, Bool, true, false, not, cond, take, List, [], ◌∷◌}
+use Rattle.std.specs.Prelude.{◌≡◌, ◌≤◌, ◌⊎◌, ◌==◌, ℕ, Bool, true, false, not, cond, take, List, [], ◌∷◌, unwrap_or}
 use Rattle.std.specs.List.{list_all}
 use Rattle.hib_clock.specs.Due
 use Rattle.hib_journal.specs.Types.{Part, Entry}
 use Rattle.hib_journal.specs.Sessions.{Journal, own, same_part}
 use Rattle.hib_journal.specs.Lists.{of_part}
+use Rattle.hib_journal.specs.Runs.{IsNumbered}
 use Rattle.hib_split_law.specs.Apart.{is_own, HaveSessions}
 use Rattle.hib_split_law.specs.Merged.{IsInTurn, AreDue}
 use Rattle.hib_parts.specs.declared.parts.Parts.{Parts}
@@ -58,6 +59,34 @@ pub record AreOfRun (lists : Part → Journal) (mine : ℕ → Journal) : Type 0
   pub in_turn : IsInTurn journal
   pub due : AreDue journal
 
--- what a session did leaves lists of one journal such lists, whatever the other sessions have done before
+-- the number of the session of the last entry, or 0
+abbrev pub last_session : Journal → ℕ
+last_session [] = 0
+last_session (e ∷ h) = unwrap_or e.session 0
+
+-- sessions come in order of number: no entry is of an earlier session than the one before it
+abbrev pub AreInOrder : Journal → Type 0
+AreInOrder [] = Unit {0}
+AreInOrder (e ∷ h) = AreInOrder h × (last_session h ≤ unwrap_or e.session 0)
+
+-- the sessions came one after the other, in order of number, and the k-th entry has tick k
+pub record IsOneByOne (h : Journal) : Type 0 where
+  pub order : AreInOrder h
+  pub numbered : IsNumbered h
+
+-- the last entry is a session's own, of these entries; or it has none yet, and the last entry is on the registry, where it begins
+abbrev pub IsNext : Journal → Journal → Journal → Type 0
+IsNext registry m h = (last_of h ≤ last_of m) ⊎ ((m ≡ []) × (last_of h ≤ last_of registry))
+
+-- lists of one journal in which sessions came one after the other, and session s, with these entries, is the last one or the next
+pub record AreOfRunOneByOne (lists : Part → Journal) (mine : ℕ → Journal) (s : ℕ) (m : Journal) : Type 0 where
+  pub run : AreOfRun lists mine
+  pub one_by_one : IsOneByOne run.journal
+  pub below : last_session run.journal ≤ s
+  pub next : IsNext (lists Part.Registry) m run.journal
+
+-- what a session did leaves lists of one journal such lists, whatever the other sessions have done before; and if sessions came one
+-- after the other, they still do
 pub record GoesOn (old : Part → Journal) (w : WorkerState) (new : Part → Journal) (v : WorkerState) : Type 0 where
   pub on : (others : ℕ → Journal) → AreOfRun old (with_own w others) → AreOfRun new (with_own v others)
+  pub one_by_one : (others : ℕ → Journal) → AreOfRunOneByOne old (with_own w others) w.number w.list → AreOfRunOneByOne new (with_own v others) v.number v.list

@@ -237,7 +237,8 @@ impl<K: Keeper, N: Name> Parts<K, N> {
     }
 
     /// One step of a session: the act that is due in it, if one is, at the tick that is due. If memory runs out no list has an
-    /// entry more. The lists of parts and of sessions are those of one journal, if they were before.
+    /// entry more. The lists of parts and of sessions are those of one journal, if they were before; and if sessions came one after
+    /// the other in it, they still do.
     pub fn step(
         &mut self,
         alloc: Global,
@@ -266,7 +267,7 @@ impl<K: Keeper, N: Name> Parts<K, N> {
     }
 
     /// Steps a session to its end. If memory runs out the steps so far stand. Else the lists of parts and of sessions are those of one
-    /// journal, if they were before.
+    /// journal, if they were before; and if sessions came one after the other in it, they still do.
     pub fn finish(
         &mut self,
         alloc: Global,

@@ -5,3 +5,4 @@ pub mod Crossing
 pub mod Shared
 pub mod Whole
 pub mod Failed
+pub mod OneByOne

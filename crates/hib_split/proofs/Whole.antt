@@ -19,7 +19,7 @@ use Rattle.hib_split.specs.Alone.{AreOfOne, AreWhole}
 use Rattle.hib_split.proofs.Gathered.{list_below, list_here, list_beyond, list_past}
 
 -- the same lists of sessions
-run_same : (lists : Part → Journal) (f g : ℕ → Journal) → ((s : ℕ) → f s ≡ g s) → AreOfRun lists f → AreOfRun lists g
+abbrev pub run_same : (lists : Part → Journal) (f g : ℕ → Journal) → ((s : ℕ) → f s ≡ g s) → AreOfRun lists f → AreOfRun lists g
 run_same lists f g e x = record {
   journal = x.journal;
   parts = x.parts;
@@ -31,7 +31,7 @@ run_same lists f g e x = record {
 }
 
 -- a session that has done nothing has no list yet
-begin_same : (mine : List Journal) (w : WorkerState) → w.number ≡ length mine → w.list ≡ [] → (s : ℕ) → list_of s mine ≡ with_own w (λ t. list_of t mine) s
+pub begin_same : (mine : List Journal) (w : WorkerState) → w.number ≡ length mine → w.list ≡ [] → (s : ℕ) → list_of s mine ≡ with_own w (λ t. list_of t mine) s
 begin_same mine w n e s = by (w.number == s) refl
   where
     by : (b : Bool) → (w.number == s) ≡ b → list_of s mine ≡ cond b w.list (list_of s mine)
@@ -41,7 +41,7 @@ begin_same mine w n e s = by (w.number == s) refl
     by false q = refl
 
 -- its list comes after those of the sessions before it
-end_same : (mine : List Journal) (v : WorkerState) → v.number ≡ length mine → (s : ℕ) → with_own v (λ t. list_of t mine) s ≡ list_of s (mine ++ v.list ∷ [])
+pub end_same : (mine : List Journal) (v : WorkerState) → v.number ≡ length mine → (s : ℕ) → with_own v (λ t. list_of t mine) s ≡ list_of s (mine ++ v.list ∷ [])
 end_same mine v n s = by (tested (nat_lt s v.number)) (tested (nat_lt v.number s))
   where
     less : (a b : ℕ) → nat_lt a b ≡ true → a < b
@@ -80,7 +80,7 @@ session_run old new ks ls j n w v p q a e b f g x =
 
 -- no session has begun
 
-none_in : (n : ℕ) (rs : List RegionState) → All (λ r. r.list ≡ []) rs → list_in n rs ≡ []
+pub none_in : (n : ℕ) (rs : List RegionState) → All (λ r. r.list ≡ []) rs → list_in n rs ≡ []
 none_in n [] a = refl
 none_in n (r ∷ rs) a = by (r.entity == n) (none_in n rs (All-tail (λ x. x.list ≡ []) r rs a))
   where
@@ -88,7 +88,7 @@ none_in n (r ∷ rs) a = by (r.entity == n) (none_in n rs (All-tail (λ x. x.lis
     by true i = All-head (λ x. x.list ≡ []) r rs a
     by false i = i
 
-pub run_begins : (r s m q : Journal) (rs : List RegionState) → r ≡ [] → s ≡ [] → m ≡ [] → q ≡ [] → All (λ x. x.list ≡ []) rs → AreOfOne (list_on r s m q rs) []
+abbrev pub run_begins : (r s m q : Journal) (rs : List RegionState) → r ≡ [] → s ≡ [] → m ≡ [] → q ≡ [] → All (λ x. x.list ≡ []) rs → AreOfOne (list_on r s m q rs) []
 run_begins r s m q rs a b c d e = record {
   journal = [];
   parts = parts;
@@ -109,8 +109,9 @@ run_begins r s m q rs a b c d e = record {
 
 -- what the lists are merged into is the journal
 
-pub whole : (lists : Part → Journal) (ls mine : List Journal) → AreOfOne lists mine → ((p : Part) → is_own p ≡ false → of_part_in p ls ≡ lists p) → ((s : ℕ) → of_part_in (Part.Own s) ls ≡ of_part (Part.Own s) (list_of s mine)) → AreWhole ls mine
-whole lists ls mine x shared own h m = subst (λ j. Agrees mine j × AreDue j) (sym (merged_once ls h x.journal m merged)) (record { lists = x.sessions; sessions = x.have_sessions }, x.due)
+pub once : (lists : Part → Journal) (ls mine : List Journal) (x : AreOfOne lists mine) → ((p : Part) → is_own p ≡ false → of_part_in p ls ≡ lists p) → ((s : ℕ) → of_part_in (Part.Own s) ls ≡ of_part (Part.Own s) (list_of s mine)) →
+    (h : Journal) → IsMerged ls h → x.journal ≡ h
+once lists ls mine x shared own h m = merged_once ls x.journal h merged m
   where
     in_shared : (p : Part) → is_own p ≡ false → of_part p x.journal ≡ of_part_in p ls
     in_shared p o = x.parts p o ∙ sym (shared p o)
@@ -125,6 +126,9 @@ whole lists ls mine x shared own h m = subst (λ j. Agrees mine j × AreDue j) (
 
     merged : IsMerged ls x.journal
     merged = record { parts = parts; in_turn = x.in_turn }
+
+pub whole : (lists : Part → Journal) (ls mine : List Journal) → AreOfOne lists mine → ((p : Part) → is_own p ≡ false → of_part_in p ls ≡ lists p) → ((s : ℕ) → of_part_in (Part.Own s) ls ≡ of_part (Part.Own s) (list_of s mine)) → AreWhole ls mine
+whole lists ls mine x shared own h m = subst (λ j. Agrees mine j × AreDue j) (once lists ls mine x shared own h m) (record { lists = x.sessions; sessions = x.have_sessions }, x.due)
 
 pub lists_whole : (lists : Part → Journal) (ls ks ms js seen : List Kept) (mid : List Journal) → ls ≡ ks → ms ≡ js → seen ≡ js → AreOfOne lists (map past js) → ((p : Part) → is_own p ≡ false → of_part_in p mid ≡ lists p) →
     ((p : Part) → is_own p ≡ false → of_part_in p (map past ks) ≡ of_part_in p mid) → ((s : ℕ) → of_part_in (Part.Own s) (map past ks) ≡ of_part (Part.Own s) (list_of s (map past seen))) → AreWhole (map past ls) (map past ms)

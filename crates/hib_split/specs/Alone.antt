@@ -1,5 +1,5 @@
 -- What comes of a run.
-use Rattle.std.specs.Prelude.{◌≡◌, ◌<◌, ℕ, List, None, Option}
+use Rattle.std.specs.Prelude.{◌≡◌, ◌<◌, ℕ, List, [], length, None, Option}
 use Rattle.std.specs.Option.{option_map}
 use Rattle.hib_base.specs.Tables.{Tables}
 use Rattle.hib_journal.specs.Types.{Script, Part}
@@ -11,7 +11,7 @@ use Rattle.hib_engines.specs.Counts.{RoseBy}
 use Rattle.hib_split_law.specs.Merged.{list_of, ArePartsLegal, AreOwnLegal, IsMerged, Agrees, AreDue}
 use Rattle.hib_merge.specs.Merging.{AreRising, IsInOne}
 use Rattle.hib_engines.specs.Origin.{Origin}
-use Rattle.hib_parts.specs.Run.{AreOfRun}
+use Rattle.hib_parts.specs.Run.{AreOfRun, AreOfRunOneByOne, IsOneByOne}
 
 -- the lists of parts and those of sessions are legal, each by itself, and those of parts can be merged
 pub record AreListed (script : Script) (told : Option Tables) (lists mine : List Journal) : Type 0 where
@@ -36,3 +36,12 @@ AreWhole lists mine = (h : Journal) → IsMerged lists h → Agrees mine h × Ar
 -- the lists of parts, and those of the sessions so far, are those of one run
 abbrev pub AreOfOne : (Part → Journal) → List Journal → Type 0
 AreOfOne lists mine = AreOfRun lists (λ s. list_of s mine)
+
+-- what the lists of parts are merged into has one session after the other, in order of number, and its k-th entry has tick k
+abbrev pub AreOneByOne : List Journal → Type 0
+AreOneByOne lists = (h : Journal) → IsMerged lists h → IsOneByOne h
+
+-- the lists of parts, and those of the sessions so far, are those of one run of these sessions, one after the other, and the next
+-- one may begin
+abbrev pub AreSoFar : (Part → Journal) → List Journal → Type 0
+AreSoFar lists mine = AreOfRunOneByOne lists (λ s. list_of s mine) (length mine) []

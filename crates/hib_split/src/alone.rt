@@ -1,6 +1,7 @@
 // A run in which the caller makes the steps of one session after the other, with no thread and no lock.
 ghost use Rattle.std.specs.Prelude.{◌≡◌, ◌≤◌, ◌+◌, ℕ, [], length, map, true, false, None, vec_len, vec_capacity, IfOk};
 ghost use Rattle.std.specs.List.{All, filter, range_with_len};
+ghost use Rattle.hib_base.specs.Valid.{is_valid};
 ghost use Rattle.hib_base.specs.declared.entries.Part.{Part};
 ghost use Rattle.hib_journal.specs.Kept.{past};
 ghost use Rattle.hib_journal.specs.Lists.{of_part};
@@ -8,7 +9,7 @@ ghost use Rattle.hib_journal.specs.Next.{is_cached};
 ghost use Rattle.hib_engines.specs.Counts.{RoseWithin};
 ghost use Rattle.hib_split_law.specs.Apart.{store_ask_count};
 ghost use Rattle.hib_split_law.specs.Merged.{list_of, of_part_in};
-ghost use Rattle.hib_split.specs.Alone.{AreAtEnds, AreListed, AreWhole, IsToldBy};
+ghost use Rattle.hib_split.specs.Alone.{AreAtEnds, AreListed, AreOneByOne, AreWhole, IsToldBy};
 
 use crate::gathering::room_for;
 use crate::rest::{Split, go_on};
@@ -65,7 +66,8 @@ pub fn without_room<K: Keeper, N: Name>(alloc: Global, parts: Parts<K, N>) -> Sp
 
 /// Runs each session to its end, the first one first. The tick of a step is one more than the greater of the last ticks of its part
 /// and of its session. If memory runs out, or no tick is left, the steps so far stand. Else, if the parts had no entries before, the
-/// lists of sessions agree with what those of parts are merged into.
+/// lists of sessions agree with what those of parts are merged into. If the script is valid as well, that has one session after the
+/// other, in order of number, and its k-th entry has tick k.
 pub fn run_alone<K: Keeper, N: Name>(alloc: Global, parts: Parts<K, N>, script: &Script) -> Split<K>
     requires script { script.now ≡ N.script }
     requires store { parts.store.list ≡ [] }
@@ -86,6 +88,9 @@ pub fn run_alone<K: Keeper, N: Name>(alloc: Global, parts: Parts<K, N>, script: 
     ensures whole { result.out_of_memory ≡ false → parts.registry ≡ [] → parts.stamps ≡ []
         → parts.results ≡ [] → All (λ r. r.list ≡ []) parts.regions.items
         → AreWhole (map past result.lists) (map past result.mine) }
+    ensures order { result.out_of_memory ≡ false → is_valid N.script ≡ true → parts.registry ≡ []
+        → parts.stamps ≡ [] → parts.results ≡ [] → All (λ r. r.list ≡ []) parts.regions.items
+        → AreOneByOne (map past result.lists) }
     ensures strange { result.strange ≡ None }
 {
     let regions = parts.regions.len();

@@ -1,6 +1,7 @@
 // What comes of a run: the caller steps the sessions to their ends from where workers left them, and puts the lists together.
-ghost use Rattle.std.specs.Prelude.{◌≡◌, ◌≢◌, ◌<◌, ◌≤◌, ◌+◌, ℕ, [], length, map, false, None, vec_len, vec_capacity, IfSome, IsSome};
+ghost use Rattle.std.specs.Prelude.{◌≡◌, ◌≢◌, ◌<◌, ◌≤◌, ◌+◌, ℕ, [], length, map, true, false, None, vec_len, vec_capacity, IfSome, IsSome};
 ghost use Rattle.std.specs.List.{filter, range_with_len};
+ghost use Rattle.hib_base.specs.Valid.{is_valid};
 ghost use Rattle.hib_base.specs.declared.entries.Part.{Part};
 ghost use Rattle.hib_journal.specs.Kept.{past};
 ghost use Rattle.hib_journal.specs.Lists.{of_part};
@@ -9,7 +10,7 @@ ghost use Rattle.hib_engines.specs.Counts.{RoseBy, RoseWithin};
 ghost use Rattle.hib_split_law.specs.Apart.{store_ask_count};
 ghost use Rattle.hib_split_law.specs.Merged.{AreOwnLegal, list_of, of_part_in};
 ghost use Rattle.hib_parts.specs.Run.{GoesOn, part_lists};
-ghost use Rattle.hib_split.specs.Alone.{AreAtEnds, AreListed, AreOfOne, AreWhole, IsToldBy};
+ghost use Rattle.hib_split.specs.Alone.{AreAtEnds, AreListed, AreOfOne, AreOneByOne, AreSoFar, AreWhole, IsToldBy};
 
 use crate::gathering::{add_own_lists, add_shared};
 use crate::strange::Strange;
@@ -113,6 +114,9 @@ fn end_session<K: Keeper, N: Name>(
     ensures run { result ≡ false → aside.old.items ≡ []
         → (before ≡ false → AreOfOne (part_lists parts.old) (map past mine.old.items))
         → AreOfOne (part_lists parts.new) (map past mine.new.items) }
+    ensures order { result ≡ false → aside.old.items ≡ [] → is_valid N.script ≡ true
+        → (before ≡ false → AreSoFar (part_lists parts.old) (map past mine.old.items))
+        → AreSoFar (part_lists parts.new) (map past mine.new.items) }
 {
     let mut session = taken(alloc, aside, number);
     let refused = step_to_end(alloc, script, parts, &mut session, before);
@@ -144,6 +148,9 @@ fn end_sessions<K: Keeper, N: Name>(
     ensures run { result ≡ false → aside.old.items ≡ []
         → AreOfOne (part_lists parts.old) (map past mine.old.items)
         → AreOfOne (part_lists parts.new) (map past mine.new.items) }
+    ensures order { result ≡ false → aside.old.items ≡ [] → is_valid N.script ≡ true
+        → AreSoFar (part_lists parts.old) (map past mine.old.items)
+        → AreSoFar (part_lists parts.new) (map past mine.new.items) }
 {
     parts.registry.built();
     let mut refused = before;
@@ -193,6 +200,8 @@ pub fn go_on<K: Keeper, N: Name>(
         ≡ of_part (Part.Own s) (list_of s (map past result.mine)) }
     ensures whole { result.out_of_memory ≡ false → aside.items ≡ []
         → AreOfOne (part_lists parts) [] → AreWhole (map past result.lists) (map past result.mine) }
+    ensures order { result.out_of_memory ≡ false → aside.items ≡ [] → is_valid N.script ≡ true
+        → AreSoFar (part_lists parts) [] → AreOneByOne (map past result.lists) }
     ensures strange { result.strange ≡ None }
 {
     let mut parts = parts;

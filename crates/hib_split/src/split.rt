@@ -1,6 +1,7 @@
 // A run of the sessions on several threads, over parts under locks of their own.
-ghost use Rattle.std.specs.Prelude.{◌≡◌, ◌≢◌, ◌≤◌, ℕ, [], length, map, false, None, IfSome};
+ghost use Rattle.std.specs.Prelude.{◌≡◌, ◌≢◌, ◌≤◌, ℕ, [], length, map, true, false, None, IfSome};
 ghost use Rattle.std.specs.List.{All, filter, range_with_len};
+ghost use Rattle.hib_base.specs.Valid.{is_valid};
 ghost use Rattle.hib_base.specs.declared.entries.Part.{Part};
 ghost use Rattle.hib_journal.specs.Kept.{past};
 ghost use Rattle.hib_journal.specs.Lists.{of_part};
@@ -8,7 +9,7 @@ ghost use Rattle.hib_journal.specs.Next.{is_cached};
 ghost use Rattle.hib_engines.specs.Counts.{RoseBy, RoseWithin};
 ghost use Rattle.hib_split_law.specs.Apart.{store_ask_count};
 ghost use Rattle.hib_split_law.specs.Merged.{list_of, of_part_in};
-ghost use Rattle.hib_split.specs.Alone.{AreAtEnds, AreListed, AreWhole, IsToldBy};
+ghost use Rattle.hib_split.specs.Alone.{AreAtEnds, AreListed, AreOneByOne, AreWhole, IsToldBy};
 
 use crate::alone::{rooms, run_alone, without_room};
 use crate::bench::{Left, room_for_threads};
@@ -23,7 +24,8 @@ use std::sync::Wait;
 use std::thread::Threads;
 
 /// Runs each session to its end on so many workers, each part behind a lock of its own. With one worker it is `run_alone`: no
-/// thread is started, no lock is taken, and the gate isn't asked. With more, each takes the next session that nobody has taken, and
+/// thread is started, no lock is taken, the gate isn't asked, and the sessions of a valid script come one after the other, in order
+/// of number. With more, each takes the next session that nobody has taken, and
 /// makes its steps one after the other: before a step it passes the gate, with the number of the session's entries so far, and for a
 /// step it takes the lock of the part that is due, or none for an act of the session's own. The tick of a step is one more than the
 /// greater of the last ticks of its part and of its session. After the workers have ended, the caller steps the sessions to their ends.
@@ -63,6 +65,9 @@ pub fn work_split<R: Threads + Wait + Sync, K: Keeper, N: Name + Send + Sync, G:
     ensures whole { workers ≡ 1 → result.out_of_memory ≡ false → parts.registry ≡ []
         → parts.stamps ≡ [] → parts.results ≡ [] → All (λ r. r.list ≡ []) parts.regions.items
         → AreWhole (map past result.lists) (map past result.mine) }
+    ensures order { workers ≡ 1 → result.out_of_memory ≡ false → is_valid N.script ≡ true
+        → parts.registry ≡ [] → parts.stamps ≡ [] → parts.results ≡ []
+        → All (λ r. r.list ≡ []) parts.regions.items → AreOneByOne (map past result.lists) }
     ensures alone { workers ≡ 1 → result.strange ≡ None }
 {
     if workers == 1 {

@@ -1,5 +1,5 @@
 -- What a run comes to.
-use Rattle.std.proofs.Common.{◌≡◌, ◌≤◌, ◌⊎◌, ◌+◌, ℕ, Bool, true, false, List, Some, None, refl, sym, subst, inl, inr, arith}
+use Rattle.std.proofs.Common.{◌≡◌, ◌≤◌, ◌⊎◌, ◌+◌, ℕ, Bool, true, false, List, Some, None, refl, sym, ◌∙◌, subst, inl, inr, arith}
 use Rattle.hib_journal.specs.Types.{Script, Entry}
 use Rattle.hib_listeners.specs.Heard.{HaveHeard}
 use Rattle.hib_listeners.specs.Told.{Told}
@@ -58,6 +58,19 @@ lost n script old new outcome e r = subst (ComesBy (Turns.OnParts n) script old 
 pub torn : (n : ℕ) (script : Script) (old new : Shared) (t : Torn) (outcome : Outcome Played) → outcome ≡ Outcome.Stopped (Status.Torn t) None → 2 ≤ n → AreApart t → RoseBy old.faults 0 new.faults →
     ComesBy (Turns.OnParts n) script old new outcome
 torn n script old new t outcome e two apart r = subst (ComesBy (Turns.OnParts n) script old new) (sym e) ((two, apart, r), tt, λ p. absurd (torn_not_fault t p))
+
+-- a run that is over, or that memory ran out in, is told as no other
+pub over_not_torn : (run : Played) (t : Torn) (outcome : Outcome Played) → outcome ≡ Outcome.Over run → outcome ≡ Outcome.Stopped (Status.Torn t) None → ⊥
+over_not_torn run t outcome p q = cc
+
+pub short_not_torn : (t : Torn) (outcome : Outcome Played) → outcome ≡ Outcome.Stopped Status.NoMemory None → outcome ≡ Outcome.Stopped (Status.Torn t) None → ⊥
+short_not_torn t outcome p q = torn_not_short t (stopped_same (sym p ∙ q))
+  where
+    stopped_same : {a b : Status} → ◌≡◌ {A = Outcome Played} (Outcome.Stopped a None) (Outcome.Stopped b None) → a ≡ b
+    stopped_same e = cc
+
+    torn_not_short : (t : Torn) → Status.NoMemory ≡ Status.Torn t → ⊥
+    torn_not_short t e = cc
 
 -- a factory wasn't opened
 unopened_by : {K : Type 0} (turns : Turns) (script : Script) (old new : Shared) (fault : OpenFault K) → IsUnrun old new → (is_store_fault fault ≡ true → Rose old.faults new.faults) →

@@ -16,7 +16,7 @@ use Rattle.hib_split_law.proofs.Merge.{last_few}
 use Rattle.hib_core.specs.Bound.{outside_count}
 use Rattle.hib_core.specs.Standing.{Origin}
 use Rattle.hib_core.proofs.Evictions.{all_named}
-use Rattle.hib_joined.specs.Run.{IsOneRun}
+use Rattle.hib_joined.specs.Run.{IsOneByOne, IsOneRun}
 use Rattle.hib_top.specs.declared.turns.Turns.{Turns}
 use Rattle.hib_top.specs.Running.{IsFinished, IsPlayed}
 use Rattle.hib_top.proofs.Finished.{all_ended}
@@ -47,8 +47,8 @@ early (e ∷ h) d few =
     (early h d.0 (omega (arith, few)), omega (arith, l, few))
 
 pub is_played : Short → Given → Formed → (n : ℕ) (script : Script) (from : Origin) (h : Journal) (rows : Option Tables) (failed asked_for : ℕ) → is_valid script ≡ true →
-    IsOneRun script from h rows failed asked_for → IsPlayed (Turns.OnParts n) script from.tables rows h
-is_played short given formed n script from h rows failed asked_for v one =
+    IsOneRun script from h rows failed asked_for → (n ≡ 1 → IsOneByOne h) → IsPlayed (Turns.OnParts n) script from.tables rows h
+is_played short given formed n script from h rows failed asked_for v one order =
     let few : length h ≤ 150000 = short script from.tables h v one.legal (let o : outside_count h ≡ 0 = one.inside in omega (arith, o)) in
     let small : length h ≤ 2 ^ 61 = early_enough h few in
     let named : name_identifiers h ≡ true = all_named h one.inside in
@@ -56,7 +56,7 @@ is_played short given formed n script from h rows failed asked_for v one =
       legal = one.legal;
       law = one.law;
       given = given script from.tables h v one.legal;
-      ticked = one.due;
+      ticked = (one.due, λ e. (order e).numbered);
       few = few;
       named = named;
       formed = start_formed formed script from.tables h v small (early h one.due small) named one.legal;
@@ -64,5 +64,5 @@ is_played short given formed n script from h rows failed asked_for v one =
     }
 
 pub is_finished : (n : ℕ) (script : Script) (from : Origin) (h : Journal) (rows : Option Tables) (failed asked_for : ℕ) → IsOneRun script from h rows failed asked_for →
-    IsFinished (Turns.OnParts n) script h
-is_finished n script from h rows failed asked_for one = all_ended (Turns.OnParts n) script h one.over one.inside
+    (n ≡ 1 → IsOneByOne h) → IsFinished (Turns.OnParts n) script h
+is_finished n script from h rows failed asked_for one order = all_ended (Turns.OnParts n) script h one.over (one.inside, λ e. (order e).order)

@@ -12,6 +12,7 @@ use Rattle.hib_law.specs.Hits.{AreListsGiven}
 use Rattle.hib_law.specs.Law.{Obeys}
 use Rattle.hib_split_law.specs.Merged.{AreDue}
 use Rattle.hib_joined.specs.Joined.{AreApart}
+use Rattle.hib_joined.specs.Run.{AreInOrder}
 use Rattle.hib_listeners.specs.Heard.{HaveHeard}
 use Rattle.hib_listeners.specs.Told.{Told}
 use Rattle.hib_core.specs.Bound.{outside_count}
@@ -32,15 +33,17 @@ use Rattle.hib_top.specs.declared.telling.Telling.{Telling}
 use Rattle.hib_top.specs.declared.telling.Played.{Played}
 
 -- by its schedule: the entries are those of its orders, one after the other, and then of the rest of each session. On workers
--- they are steps of sessions alone: no kill, no eviction and no restart
+-- they are steps of sessions alone: no kill, no eviction and no restart. Over parts one worker makes those of one session after the
+-- other, in order of number
 abbrev pub IsOrdered : Turns → Script → Journal → Type 0
 IsOrdered Turns.Scheduled script h = is_played script h ≡ true
+IsOrdered (Turns.OnParts n) script h = (outside_count h ≡ 0) × (n ≡ 1 → AreInOrder h)
 IsOrdered _ script h = outside_count h ≡ 0
 
 -- the k-th entry has tick k; over parts under locks of their own each has the tick that is due, by the last ones of its part and of
--- its session
+-- its session, which on one worker is k as well
 abbrev pub AreTicked : Turns → Journal → Type 0
-AreTicked (Turns.OnParts n) h = AreDue h
+AreTicked (Turns.OnParts n) h = AreDue h × (n ≡ 1 → IsNumbered h)
 AreTicked _ h = IsNumbered h
 
 -- each session is at its end, if it has no next act, or was killed

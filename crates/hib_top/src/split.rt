@@ -8,6 +8,7 @@ ghost use Rattle.hib_call.specs.Outside.{shared, shared_by};
 ghost use Rattle.hib_joined.specs.Run.{CameToOne};
 ghost use Rattle.hib_listeners.specs.Heard.{HaveHeard};
 ghost use Rattle.hib_listeners.specs.Told.{tells};
+ghost use Rattle.hib_merge.specs.declared.tearing.Torn.{Torn};
 ghost use Rattle.hib_top.specs.Running.{origin, running};
 ghost use Rattle.hib_top.specs.declared.telling.Telling.{Telling};
 ghost use Rattle.hib_top.specs.declared.turns.Turns.{Turns};
@@ -69,12 +70,14 @@ fn hear_joined<N: Name, K: Keeper, L: Listener>(
     requires valid { is_valid N.script ≡ true }
     requires came { CameToOne workers N.script N.from joined (K.tables keeper) (K.faults keeper)
         (K.asked keeper) }
-    ensures { (kept : Option Tables) → told_start N.script kept ≡ N.from.tables
+    ensures comes { (kept : Option Tables) → told_start N.script kept ≡ N.from.tables
         → Comes (running (Turns.OnParts workers) Telling.Report) N.script
         (shared kept N.from.faults N.from.asked (tells L.heard L.left listeners.items))
         (shared_by K.tables K.faults K.asked L.heard L.left result.lent.keeper
         result.lent.listeners.items)
         result.outcome }
+    ensures torn { (t : Torn) → result.outcome ≡ Outcome.Stopped (Status.Torn t) None
+        → joined ≡ Joined.Torn t }
 {
     lists_are_given();
     entries_are_formed();
@@ -99,6 +102,22 @@ fn hear_joined<N: Name, K: Keeper, L: Listener>(
     }
 }
 
+/// What the lists of a run came to, and the keeper. The lists are let go.
+fn without_lists<K: Keeper>(run: JoinedRun<K>) -> (Joined, K)
+    ensures joined { result.0 ≡ run.joined }
+    ensures keeper { result.1 ≡ run.keeper }
+{
+    let JoinedRun {
+        keeper,
+        joined,
+        lists: _,
+        mine: _,
+        strange: _,
+        out_of_memory: _,
+    } = run;
+    (joined, keeper)
+}
+
 /// Runs a script over the parts of the factory of this name, each under a lock of its own.
 fn split_named<N: Name + Send + Sync, R: Threads + Wait + Sync, K: Keeper, L: Listener, G: Gate>(
     rt: &R,
@@ -121,9 +140,10 @@ fn split_named<N: Name + Send + Sync, R: Threads + Wait + Sync, K: Keeper, L: Li
 {
     let Lent { keeper, listeners } = lent;
     match run_joined::<R, K, N, G>(rt, alloc, &script, keeper, workers, gate) {
-        Ok(JoinedRun { keeper, joined }) => hear_joined::<N, K, L>(
-            alloc, script, joined, workers, keeper, listeners,
-        ),
+        Ok(run) => {
+            let (joined, keeper) = without_lists(run);
+            hear_joined::<N, K, L>(alloc, script, joined, workers, keeper, listeners)
+        }
         Err(fault) => not_run(fault, listeners),
     }
 }

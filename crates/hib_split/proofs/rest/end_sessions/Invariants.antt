@@ -1,9 +1,10 @@
-use Rattle.std.proofs.Common.{◌≡◌, ◌≤◌, ◌+◌, ◌-◌, false, [], length, map}
+use Rattle.std.proofs.Common.{◌≡◌, ◌≤◌, ◌+◌, ◌-◌, true, false, [], length, map}
 use Rattle.std.specs.Vec.{vec_len, vec_capacity}
+use Rattle.hib_base.specs.Valid.{is_valid}
 use Rattle.hib_journal.specs.Kept.{past}
 use Rattle.hib_split_law.specs.Merged.{AreOwnLegal}
 use Rattle.hib_parts.specs.Run.{part_lists}
-use Rattle.hib_split.specs.Alone.{AreAtEnds, AreOfOne}
+use Rattle.hib_split.specs.Alone.{AreAtEnds, AreOfOne, AreSoFar}
 use Rattle.hib_split.proofs.rest.end_sessions.Given as goal
 
 abbrev pub invariant-loop-number : goal.invariant-loop-number
@@ -14,6 +15,7 @@ invariant-loop-number g l = record {
   over : l.refused ≡ false → AreAtEnds g.N.Name.script l.number (map past l.mine.items);
   none : l.fn.aside.items ≡ [] → l.aside.items ≡ [];
   run : l.refused ≡ false → l.fn.aside.items ≡ [] → AreOfOne (part_lists l.fn.parts) (map past l.fn.mine.items) → AreOfOne (part_lists l.parts) (map past l.mine.items);
+  order : l.refused ≡ false → l.fn.aside.items ≡ [] → is_valid g.N.Name.script ≡ true → AreSoFar (part_lists l.fn.parts) (map past l.fn.mine.items) → AreSoFar (part_lists l.parts) (map past l.mine.items);
   place : length l.mine.items ≡ l.number;
   room : vec_len l.mine + (length l.script.sessions - l.number) ≤ vec_capacity l.mine;
 }

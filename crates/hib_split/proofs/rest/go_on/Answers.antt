@@ -12,6 +12,7 @@ use Rattle.hib_split.specs.Alone.{IsToldBy}
 use Rattle.hib_parts.specs.Run.{part_lists}
 use Rattle.hib_split.specs.Gathered.{AscendFrom}
 use Rattle.hib_split.proofs.Gathered.{ascend_picked, listed}
+use Rattle.hib_split.proofs.OneByOne.{lists_one_by_one, none_so_far}
 use Rattle.hib_split.proofs.Whole.{lists_whole, none_yet, ok_then}
 use Rattle.hib_split.proofs.Moved.{as_many}
 use Rattle.hib_split.proofs.rest.go_on.Given.{Over}
@@ -54,12 +55,21 @@ returns-clause-asked g c = λ f.
     ap (λ (ls : List Kept). of_part_in Part.Store (map past ls)) c.from_vec.ensures ∙ c.add_own_lists-own.ensures.shared Part.Store refl in
     subst (λ (l : Journal). RoseWithin g.N.Name.from.asked (store_ask_count l) (g.K.Keeper.asked c.add_shared-keeper.result)) (sym e) (c.add_shared-keeper.ensures.asked (c.end_sessions-ran_out.ensures.going (ended g c f)))
 
+-- nor when the own entries were added
+added : (g : Over) (c : After-drop-aside g) → c.if-ran_out.result ≡ false → is_err c.add_own_lists-own.result ≡ false
+added g c f = elim c.if-ran_out.branch [
+  | then-ran_out w ↦ absurd (true≢false (sym w.if-ran_out.true ∙ (sym w.result-is ∙ f)))
+  | else-ran_out w ↦ sym w.is_err.ensures.value ∙ (sym w.result-is ∙ f)
+]
+
 pub returns-clause-whole : goal.returns-clause-whole
 returns-clause-whole g c = λ f a x.
-    let well : is_err c.add_own_lists-own.result ≡ false = elim c.if-ran_out.branch [
-      | then-ran_out w ↦ absurd (true≢false (sym w.if-ran_out.true ∙ (sym w.result-is ∙ f)))
-      | else-ran_out w ↦ sym w.is_err.ensures.value ∙ (sym w.result-is ∙ f)
-    ] in
     let old = (part_lists c.args.parts) in
     lists_whole (part_lists c.end_sessions-ran_out.new.parts) c.from_vec.result c.add_own_lists-own.new.lists.items c.from_vec-2.result c.end_sessions-ran_out.new.mine.items c.as_slice.result.now (map past c.add_shared-keeper.new.lists.items)
-    c.from_vec.ensures c.from_vec-2.ensures c.as_slice.ensures.value (c.end_sessions-ran_out.ensures.run (ended g c f) a (none_yet old c.args.mine.items c.requires.mine x)) c.add_shared-keeper.ensures.parts c.add_own_lists-own.ensures.shared (ok_then c.add_own_lists-own.result _ well c.add_own_lists-own.ensures.own)
+    c.from_vec.ensures c.from_vec-2.ensures c.as_slice.ensures.value (c.end_sessions-ran_out.ensures.run (ended g c f) a (none_yet old c.args.mine.items c.requires.mine x)) c.add_shared-keeper.ensures.parts c.add_own_lists-own.ensures.shared (ok_then c.add_own_lists-own.result _ (added g c f) c.add_own_lists-own.ensures.own)
+
+pub returns-clause-order : goal.returns-clause-order
+returns-clause-order g c = λ f a v x.
+    let old = (part_lists c.args.parts) in
+    lists_one_by_one (part_lists c.end_sessions-ran_out.new.parts) c.from_vec.result c.add_own_lists-own.new.lists.items c.end_sessions-ran_out.new.mine.items c.as_slice.result.now (map past c.add_shared-keeper.new.lists.items)
+    c.from_vec.ensures c.as_slice.ensures.value (c.end_sessions-ran_out.ensures.order (ended g c f) a v (none_so_far old c.args.mine.items c.requires.mine x)) c.add_shared-keeper.ensures.parts c.add_own_lists-own.ensures.shared (ok_then c.add_own_lists-own.result _ (added g c f) c.add_own_lists-own.ensures.own)
