@@ -9,10 +9,10 @@ use hib_call::Status;
 use hib_outside::MemKeeper;
 use hib_shell::{call, print_topic, told, words_given};
 use hib_words::{Command, topic_asked};
-use std::io;
 use std::process::ExitCode;
 use std::sync::Wait;
 use std::thread::Threads;
+use std::{io, mem};
 
 fn main(rt: HostRuntime) -> io::Result<ExitCode> {
     let status = match words_given(&rt)? {
@@ -38,7 +38,10 @@ fn serve<R: Threads + Wait + Sync>(rt: &R, host: &HostRuntime, words: &[String])
     match file_asked(&command) {
         None => {
             let keeper = MemKeeper::new(host.alloc(), Seq::new(host.alloc()));
-            call(rt, host, words, &command, keeper).0
+            let (status, keeper) = call(rt, host, words, &command, keeper);
+            // The process ends now, so its rows needn't be let go one by one.
+            mem::forget(keeper);
+            status
         }
         Some(path) => serve_file(rt, host, words, &command, path),
     }
