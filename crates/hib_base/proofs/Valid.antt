@@ -9,7 +9,7 @@ use Rattle.hib_base.specs.Fits.{fits, fits_statement, fits_query}
 use Rattle.hib_base.specs.Queries.{said}
 use Rattle.hib_base.specs.Words.{are_names}
 use Rattle.hib_base.specs.Scripts.{is_row_below, is_declared, is_over, statement_count, lists_known, evicts_cached}
-use Rattle.hib_base.specs.Valid.{max_timeout, max_results, max_entities, max_rows, max_queries, max_sessions, max_statements, max_orders, are_columns, is_entity, is_given, is_nested_in, is_short, is_cut, is_order_in, are_all, rules_of, is_valid}
+use Rattle.hib_base.specs.Valid.{max_timeout, max_results, max_entities, max_rows, max_queries, max_sessions, max_statements, max_orders, have_columns, is_entity, is_given, is_nested_in, is_short, is_cut, is_order_in, are_all, rules_of, is_valid}
 
 -- each of some tests passes
 abbrev Each : List Bool → Type 0
@@ -30,7 +30,7 @@ pub record Rules (s : Script) : Type 0 where
   pub results_low : 1 ≤ s.results
   pub results : s.results ≤ max_results
   pub entities : length s.mapping ≤ max_entities
-  pub columns : list_all (λ e. are_columns (length s.mapping) e) s.mapping ≡ true
+  pub columns : have_columns 0 s.mapping ≡ true
   pub bounded : list_all is_entity s.mapping ≡ true
   pub entity_names : are_names (map (λ e. e.name) s.mapping) ≡ true
   pub rows : length s.rows ≤ max_rows

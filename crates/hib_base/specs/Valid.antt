@@ -1,5 +1,5 @@
 -- The rules that every script keeps.
-use Rattle.std.specs.Prelude.{ℕ, suc, zero, Bool, true, false, ◌&&◌, ◌==◌, nat_le, nat_lt, map, List, [], ◌∷◌, length, Option, Some, None}
+use Rattle.std.specs.Prelude.{ℕ, suc, zero, ◌+◌, Bool, true, false, ◌&&◌, ◌==◌, nat_le, nat_lt, map, List, [], ◌∷◌, length, Option, Some, None}
 use Rattle.std.specs.List.{list_all}
 use Rattle.hib_base.specs.Types.{Key, Row, Strategy, EntityDef, Cond, Select, Order, Script}
 use Rattle.hib_base.specs.declared.scripts.Node.{Node}
@@ -71,11 +71,16 @@ abbrev pub max_steps : ℕ
 max_steps = 1000000
 
 -- ---- entities
--- the columns of an entity, in a mapping of n entities
+-- the columns of an entity; their references lead to the first n entities
 abbrev pub are_columns : ℕ → EntityDef → Bool
 are_columns n e =
     nat_le (length e.columns) max_columns
     && (list_all (λ d. is_type_below n d.kind) e.columns && (are_names (map (λ d. d.name) e.columns) && are_defaults e.columns))
+
+-- those of entities behind n others: a reference leads to its own entity or to one before it
+abbrev pub have_columns : ℕ → List EntityDef → Bool
+have_columns n [] = true
+have_columns n (e ∷ es) = are_columns (n + 1) e && have_columns (n + 1) es
 
 -- nothing is kept of an uncached entity
 abbrev pub is_capacity : Strategy → ℕ → Bool
@@ -141,7 +146,7 @@ rules_of s =
     ∷ nat_le 1 s.results
     ∷ nat_le s.results max_results
     ∷ nat_le (length s.mapping) max_entities
-    ∷ list_all (λ e. are_columns (length s.mapping) e) s.mapping
+    ∷ have_columns 0 s.mapping
     ∷ list_all is_entity s.mapping
     ∷ are_names (map (λ e. e.name) s.mapping)
     ∷ nat_le (length s.rows) max_rows

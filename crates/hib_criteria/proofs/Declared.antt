@@ -21,7 +21,7 @@ use Rattle.hib_lex.specs.Words.{is_the_word}
 use Rattle.hib_lex.specs.declared.lexer.Token.{Token}
 use Rattle.hib_base.specs.Words.{is_reserved}
 use Rattle.hib_mapping.specs.Parts.{is_a_word, is_a_number, word_of, is_within, number_up_to, entity_at, column_at}
-use Rattle.hib_mapping.proofs.Columns.{lt_more}
+use Rattle.hib_base.proofs.Columns.{lt_more}
 use Rattle.hib_mapping.proofs.Places.{placed}
 use Rattle.hib_columns.specs.Columns as columns
 use Rattle.hib_columns.specs.Columns.{columns_in, entity_columns, columns_of, found_at, at_place, plain_column, own, led_to, through_type, through, column_of, path_or_first, is_path}

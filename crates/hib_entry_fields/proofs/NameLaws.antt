@@ -9,6 +9,7 @@ use Rattle.hib_base.specs.Words.{is_letter, is_word_byte, is_word, is_name, is_r
 use Rattle.hib_base.specs.Fits.{columns_in, entity_columns, are_defaults}
 use Rattle.hib_base.specs.Valid.{is_valid, are_columns, max_columns}
 use Rattle.hib_base.specs.Scripts.{is_type_below}
+use Rattle.hib_base.proofs.Columns.{all_columns}
 use Rattle.hib_base.proofs.Lists.{all_at}
 use Rattle.hib_base.proofs.Names.{differ}
 use Rattle.hib_base.proofs.Valid.{rules}
@@ -132,7 +133,7 @@ pub record IsNamed (script : Script) : Type 0 where
 pub valid_names : (script : Script) → is_valid script ≡ true → IsNamed script
 valid_names script h =
     let r = rules script h in
-    record { entities = r.entity_names; queries = r.query_names; sessions = r.session_names; entity_limit = r.entities; query_limit = r.queries; session_limit = r.sessions; columns = r.columns }
+    record { entities = r.entity_names; queries = r.query_names; sessions = r.session_names; entity_limit = r.entities; query_limit = r.queries; session_limit = r.sessions; columns = all_columns script.mapping r.columns }
 
 pub known_entity : (script : Script) (n : ℕ) → IsNamed script → n < length script.mapping → IsEntity script n
 unfolding entity_of

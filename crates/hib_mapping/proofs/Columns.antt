@@ -1,24 +1,25 @@
 -- The references of an entity's columns lead to the entities before it and to itself, and it has no more columns than it may.
-use Rattle.std.proofs.Common.{◌≡◌, ◌≢◌, ◌⊎◌, inl, inr, ℕ, zero, suc, ℤ, pos, ◌==◌, ◌+◌, ◌<◌, ◌≤◌, Bool, true, false, not, cond, ◌&&◌, ◌||◌, nat_lt, nat_le, List, [], ◌∷◌, ◌++◌, length, map, take, Option, Some, None, codes, refl, sym, ◌∙◌, subst, arith, length-append}
+use Rattle.std.proofs.Common.{◌≡◌, ◌≢◌, ◌⊎◌, inl, inr, ℕ, zero, suc, ℤ, pos, ◌==◌, ◌+◌, ◌≤◌, Bool, true, false, not, cond, ◌&&◌, ◌||◌, nat_lt, nat_le, List, [], ◌∷◌, ◌++◌, length, take, Option, Some, None, codes, refl, sym, ◌∙◌, subst, arith, length-append}
 use Rattle.std.specs.Prelude.{unwrap_or, bytes_eq, is_some, option_and_then}
-use Rattle.std.specs.List.{list_all, list_any}
-use Rattle.std.proofs.lemmas.Bool.{and_parts, and_from, ltb-true, lt-ltb, le-leb, leb-true, true≢false, false≢true}
+use Rattle.std.specs.List.{list_any}
+use Rattle.std.proofs.lemmas.Bool.{and_parts, and_from, lt-ltb, le-leb, leb-true, true≢false, false≢true}
 use Rattle.std.proofs.lemmas.Bool.Decides.{nat_tests}
 use Rattle.hib_base.specs.declared.refusals.Kind.{Kind}
 use Rattle.hib_base.specs.declared.scripts.ColumnDef.{ColumnDef}
 use Rattle.hib_base.specs.declared.scripts.ColumnType.{ColumnType}
 use Rattle.hib_base.specs.declared.scripts.EntityDef.{EntityDef}
 use Rattle.hib_base.specs.declared.rows.Cell.{Cell}
-use Rattle.hib_base.specs.Fits.{is_wide, is_of_type, has_default, is_default, are_defaults}
+use Rattle.hib_base.specs.Fits.{is_wide, is_of_type, has_default, is_default}
 use Rattle.hib_base.specs.Scripts.{is_type_below}
 use Rattle.hib_base.specs.Valid as rooms
 use Rattle.hib_base.specs.Valid.{are_columns, is_entity}
 use Rattle.hib_base.specs.declared.scripts.Strategy.{Strategy}
 use Rattle.hib_base.proofs.Gives.{Then}
+use Rattle.hib_base.proofs.Columns.{lt_more, HasColumns, columns_of, columns_from}
 use Rattle.hib_base.proofs.Defaults.{defaults_more}
-use Rattle.hib_base.proofs.Lists.{all_at, all_more, all_weaker, some_none}
+use Rattle.hib_base.proofs.Lists.{all_at, all_more, some_none}
 use Rattle.hib_base.proofs.Names.{named_more}
-use Rattle.hib_base.specs.Words.{is_word, is_reserved, is_name, are_names}
+use Rattle.hib_base.specs.Words.{is_word, is_reserved, is_name}
 use Rattle.hib_lex.proofs.Lexed.{is_lexed, are_lexed}
 use Rattle.hib_lex.specs.Words.{is_the_word}
 use Rattle.hib_lex.specs.declared.lexer.Token.{Token}
@@ -26,56 +27,6 @@ use Rattle.hib_mapping.specs.Cells.{cell_of, is_truth, is_quoted, is_cell_of}
 use Rattle.hib_mapping.specs.Declarations.{is_entity_line, is_versioning, is_capacity, strategy_of, strategy_kind, or_no_columns, entity_kind, is_described, is_column_line, entity_of, type_of, target_of, kind_unless, type_kind, type_in, default_in, type_from, default_unless, default_kind, or_kind, rest_kind, column_kind, column_of, with_column}
 use Rattle.hib_mapping.specs.Parts.{is_a_word, is_a_number, word_of, name_in, number_up_to, small, entity_at, column_at}
 use Rattle.hib_mapping.proofs.Places.{placed, unplaced}
-
--- ---- more entities
-pub lt_more : (e n m : ℕ) → nat_lt e n ≡ true → nat_lt e (n + m) ≡ true
-lt_more e n m h = let l : e < n = ltb-true e n h in lt-ltb e (n + m) (omega arith)
-
-type_more : (n m : ℕ) (k : ColumnType) → is_type_below n k ≡ true → is_type_below (n + m) k ≡ true
-type_more n m (ColumnType.Ref e) h = lt_more e n m h
-type_more n m ColumnType.Int h = refl
-type_more n m ColumnType.Text h = refl
-type_more n m ColumnType.Bool h = refl
-
--- the four rules of columns
-abbrev types_below : ℕ → List ColumnDef → Bool
-types_below n ds = list_all (λ d. is_type_below n d.kind) ds
-
-abbrev are_named : List ColumnDef → Bool
-are_named ds = are_names (map (λ d. d.name) ds)
-
-pub record HasColumns (n : ℕ) (ds : List ColumnDef) : Type 0 where
-  pub few : nat_le (length ds) 16 ≡ true
-  pub below : types_below n ds ≡ true
-  pub named : are_named ds ≡ true
-  pub defaults : are_defaults ds ≡ true
-
-pub columns_of : (n : ℕ) (e : EntityDef) → are_columns n e ≡ true → HasColumns n e.columns
-columns_of n e h =
-    let few = nat_le (length e.columns) 16 in
-    let below = types_below n e.columns in
-    let named = are_named e.columns in
-    let a : (few ≡ true) × ((below && (named && are_defaults e.columns)) ≡ true) = and_parts few (below && (named && are_defaults e.columns)) h in
-    let b : (below ≡ true) × ((named && are_defaults e.columns) ≡ true) = and_parts below (named && are_defaults e.columns) a.1 in
-    let c : (named ≡ true) × (are_defaults e.columns ≡ true) = and_parts named (are_defaults e.columns) b.1 in
-    record { few = a.0; below = b.0; named = c.0; defaults = c.1 }
-
-columns_from : (n : ℕ) (e : EntityDef) → HasColumns n e.columns → are_columns n e ≡ true
-columns_from n e c =
-    let below = types_below n e.columns in
-    let named = are_named e.columns in
-    and_from (nat_le (length e.columns) 16) (below && (named && are_defaults e.columns)) c.few
-    (and_from below (named && are_defaults e.columns) c.below (and_from named (are_defaults e.columns) c.named c.defaults))
-
-pub columns_more : (n m : ℕ) (e : EntityDef) → are_columns n e ≡ true → are_columns (n + m) e ≡ true
-columns_more n m e h =
-    let c : HasColumns n e.columns = columns_of n e h in
-    columns_from (n + m) e (record {
-      few = c.few;
-      below = all_weaker (λ (d : ColumnDef). is_type_below n d.kind) (λ (d : ColumnDef). is_type_below (n + m) d.kind) e.columns (λ d w. type_more n m d.kind w) c.below;
-      named = c.named;
-      defaults = c.defaults;
-    })
 
 -- ---- a new entity has no columns
 pub new_columns : (n : ℕ) (ts : List Token) → Then (entity_of ts) (λ e. are_columns n e ≡ true)

@@ -1,8 +1,9 @@
 -- Entities and their columns, read back from their lines.
-use Rattle.std.proofs.Common.{◌≡◌, ℕ, ◌≤◌, ◌<◌, Bool, true, false, not, cond, ◌&&◌, ◌||◌, nat_le, List, [], ◌∷◌, ◌++◌, length, map, slice_get, codes, bytes_eq, Some, None, Option, Ok, option_and_then, option_map, refl, sym, ap, subst, ◌∙◌, length-append, inl, inr, arith, eqb-true}
+use Rattle.std.proofs.Common.{◌≡◌, ℕ, ◌+◌, ◌≤◌, ◌<◌, Bool, true, false, not, cond, ◌&&◌, ◌||◌, nat_le, List, [], ◌∷◌, ◌++◌, length, map, slice_get, codes, bytes_eq, Some, None, Option, Ok, option_and_then, option_map, refl, sym, ap, subst, ◌∙◌, length-append, inl, inr, arith, eqb-true}
 use Rattle.std.specs.Prelude.{unwrap_or, is_some}
 use Rattle.std.specs.List.{list_all, list_any}
-use Rattle.std.proofs.lemmas.Bool.{and_parts, or_from, true≢false, lt-ltb, lt-leb, leb-true, cases_lt}
+use Rattle.std.proofs.lemmas.Bool.{and_parts, or_from, true≢false, lt-ltb, lt-leb, ltb-true, cases_lt}
+use Rattle.hib_base.specs.Scripts.{is_type_below}
 use Rattle.hib_base.specs.declared.scripts.Strategy.{Strategy}
 use Rattle.hib_base.specs.declared.scripts.ColumnType.{ColumnType}
 use Rattle.hib_base.specs.declared.scripts.ColumnDef.{ColumnDef}
@@ -22,7 +23,6 @@ use Rattle.hib_mapping.specs.Parts.{small, entity_at, column_at, number_up_to}
 use Rattle.hib_script.specs.Lines.{more_columns}
 use Rattle.hib_print.specs.Lines.{natural, strategy_text, versioning_text, type_tokens, cell_token, default_tokens, column_line, entity_line}
 use Rattle.hib_texts.specs.Texts.{entity_name, entity_text}
-use Rattle.hib_reads_back.specs.Readable.{leads_back}
 use Rattle.hib_reads_back.proofs.Cells.{cell_formed, cell_back, default_back}
 use Rattle.hib_reads_back.proofs.Named.{got, got_middle, named_at, name_at, name_free, name_same, names_apart, apart_front, new_name, not_found, none_at}
 
@@ -188,19 +188,19 @@ record Typed (script : Script) (done : List EntityDef) (e : EntityDef) (k : Colu
   right : declarations.type_kind done e (type_tokens script k) ≡ None
   read : declarations.type_from done e (type_tokens script k) ≡ k
 
-typed : (script : Script) (done : List EntityDef) (e : EntityDef) (rest : List EntityDef) (ds : List ColumnDef) (k : ColumnType) → Among script done e rest → leads_back (length done) k ≡ true →
+typed : (script : Script) (done : List EntityDef) (e : EntityDef) (rest : List EntityDef) (ds : List ColumnDef) (k : ColumnType) → Among script done e rest → is_type_below (length done + 1) k ≡ true →
     Typed script done (with_columns e ds) k
 typed script done e rest ds ColumnType.Int a h = record { right = refl; read = refl }
 typed script done e rest ds ColumnType.Text a h = record { right = refl; read = refl }
 typed script done e rest ds ColumnType.Bool a h = record { right = refl; read = refl }
 typed script done e rest ds (ColumnType.Ref n) a h =
-    let there : declarations.target_of done e (Token.Word (entity_text script n)) ≡ Some n = target_back script done e rest n a (leb-true n (length done) h) in
+    let there : declarations.target_of done e (Token.Word (entity_text script n)) ≡ Some n = target_back script done e rest n a (let low : n < length done + 1 = ltb-true n (length done + 1) h in omega (arith, low)) in
     record {
       right = ap (λ o. declarations.kind_unless Kind.RefUnknown o) there;
       read = ap (λ o. ColumnType.Ref (unwrap_or o 0)) there;
     }
 
-pub column_read : (script : Script) (done : List EntityDef) (e : EntityDef) (rest : List EntityDef) (ds : List ColumnDef) (d : ColumnDef) (es : List ColumnDef) → Among script done e rest → leads_back (length done) d.kind ≡ true →
+pub column_read : (script : Script) (done : List EntityDef) (e : EntityDef) (rest : List EntityDef) (ds : List ColumnDef) (d : ColumnDef) (es : List ColumnDef) → Among script done e rest → is_type_below (length done + 1) d.kind ≡ true →
     length (ds ++ d ∷ es) ≤ 16 → are_names (map (λ x. x.name) (ds ++ d ∷ es)) ≡ true → are_defaults (ds ++ d ∷ es) ≡ true →
     more_columns done (with_columns e ds) (column_line script d) ≡ Ok (with_columns e (ds ++ d ∷ []))
 column_read script done e rest ds d es a leads size names defaults =

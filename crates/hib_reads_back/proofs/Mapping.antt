@@ -7,10 +7,11 @@ use Rattle.hib_base.specs.declared.scripts.ColumnDef.{ColumnDef}
 use Rattle.hib_base.specs.declared.scripts.EntityDef.{EntityDef}
 use Rattle.hib_base.specs.declared.scripts.Script.{Script}
 use Rattle.hib_base.specs.declared.refusals.Kind.{Kind}
-use Rattle.hib_base.specs.Valid.{is_capacity, is_entity, are_columns}
+use Rattle.hib_base.specs.Valid.{is_capacity, is_entity, are_columns, have_columns}
 use Rattle.hib_base.specs.Fits.{are_defaults}
 use Rattle.hib_base.specs.Words.{is_reserved, are_names}
-use Rattle.hib_mapping.proofs.Columns.{HasColumns, columns_of}
+use Rattle.hib_base.proofs.Columns.{HasColumns, columns_of}
+use Rattle.hib_base.specs.Scripts.{is_type_below}
 use Rattle.hib_lex.specs.declared.lexer.Token.{Token}
 use Rattle.hib_mapping.specs.Declarations as declarations
 use Rattle.hib_script.specs.Lines as reader
@@ -21,7 +22,6 @@ use Rattle.hib_script.specs.declared.places.Part.{Part}
 use Rattle.hib_script.specs.declared.places.Place.{Place}
 use Rattle.hib_print.specs.Lines as lines
 use Rattle.hib_print.specs.Printed.{head_lines}
-use Rattle.hib_reads_back.specs.Readable.{leads_back, lead_back}
 use Rattle.hib_reads_back.proofs.Named.{name_at, name_free, got_middle}
 use Rattle.hib_reads_back.proofs.Entities.{Among, bare, with_columns, entity_ruled, entity_formed, entity_declared, column_read}
 use Rattle.hib_reads_back.proofs.Parts.{Arrives}
@@ -64,12 +64,12 @@ entities_follow Part.Queries h = absurd (omega (arith, h))
 entities_follow Part.Sessions h = absurd (omega (arith, h))
 entities_follow Part.Schedule h = absurd (omega (arith, h))
 
-columns_go : (s : Script) (done : List EntityDef) (e : EntityDef) (rest : List EntityDef) (ds es : List ColumnDef) (b : Bool) → Among s done e rest → list_all (λ d. leads_back (length done) d.kind) es ≡ true →
+columns_go : (s : Script) (done : List EntityDef) (e : EntityDef) (rest : List EntityDef) (ds es : List ColumnDef) (b : Bool) → Among s done e rest → list_all (λ d. is_type_below (length done + 1) d.kind) es ≡ true →
     length (ds ++ es) ≤ 16 → are_names (map (λ d. d.name) (ds ++ es)) ≡ true → are_defaults (ds ++ es) ≡ true →
     Goes (among s done e ds) (map (λ d. lines.column_line s d) es) b (among s done e (ds ++ es))
 columns_go s done e rest ds [] b a h few names defaults = ap (λ cs. among s done e cs) (sym (append-nil ds))
 columns_go s done e rest ds (d ∷ es) b a h few names defaults =
-    let parts : (leads_back (length done) d.kind ≡ true) × (list_all (λ x. leads_back (length done) x.kind) es ≡ true) = and_parts (leads_back (length done) d.kind) (list_all (λ x. leads_back (length done) x.kind) es) h in
+    let parts : (is_type_below (length done + 1) d.kind ≡ true) × (list_all (λ x. is_type_below (length done + 1) x.kind) es ≡ true) = and_parts (is_type_below (length done + 1) d.kind) (list_all (λ x. is_type_below (length done + 1) x.kind) es) h in
     let together : ds ++ d ∷ es ≡ (ds ++ d ∷ []) ++ es = sym (append_assoc ds (d ∷ []) es) in
     let m : reader.Reader = among s done e (ds ++ d ∷ []) in
     let rest_go : Goes m (map (λ x. lines.column_line s x) es) b (among s done e ((ds ++ d ∷ []) ++ es)) =
@@ -91,7 +91,7 @@ pub record EntityRules (e : EntityDef) (n : ℕ) : Type 0 where
   pub some : 1 ≤ length e.columns
   pub few : length e.columns ≤ 16
   pub names : are_names (map (λ d. d.name) e.columns) ≡ true
-  pub leads : list_all (λ d. leads_back n d.kind) e.columns ≡ true
+  pub leads : list_all (λ d. is_type_below (n + 1) d.kind) e.columns ≡ true
   pub defaults : are_defaults e.columns ≡ true
 
 entity_begun : (r : reader.Reader) (ts : List Token) (w : List ℕ) (k : Option Kind) (e : EntityDef) → declarations.is_entity_line ts ≡ true → k ≡ None → is_reserved w ≡ false → declarations.entity_of ts ≡ Some e →
@@ -119,8 +119,7 @@ pub record AreRuled (s : Script) (done xs : List EntityDef) : Type 0 where
   pub few : length s.mapping ≤ 64
   pub names : are_names (map (λ e. e.name) s.mapping) ≡ true
   pub bounded : list_all is_entity xs ≡ true
-  pub columns : list_all (λ e. are_columns (length s.mapping) e) xs ≡ true
-  pub leads : lead_back (length done) xs ≡ true
+  pub columns : have_columns (length done) xs ≡ true
 
 pub entities_go : (s : Script) (done xs : List EntityDef) (r : reader.Reader) (b : Bool) → AreRuled s done xs → Reached r (early s done) 0 3 → Arrives r (flat_map (λ e. lines.entity_lines s e) xs) b (early s (done ++ xs)) 0 3
 entities_go s done [] r b rules g = record { reader = r; goes = refl; there = subst (λ m. Reached r (early s m) 0 3) (sym (append-nil done)) g }
@@ -128,15 +127,14 @@ entities_go s done (e ∷ xs) r b rules g =
     let together : done ++ e ∷ xs ≡ (done ++ e ∷ []) ++ xs = sym (append_assoc done (e ∷ []) xs) in
     let bounds : (is_entity e ≡ true) × (list_all is_entity xs ≡ true) = and_parts (is_entity e) (list_all is_entity xs) rules.bounded in
     let room : (is_capacity e.strategy e.capacity ≡ true) × (nat_le 1 (length e.columns) ≡ true) = and_parts (is_capacity e.strategy e.capacity) (nat_le 1 (length e.columns)) bounds.0 in
-    let cols : (are_columns (length s.mapping) e ≡ true) × (list_all (λ x. are_columns (length s.mapping) x) xs ≡ true) = and_parts (are_columns (length s.mapping) e) (list_all (λ x. are_columns (length s.mapping) x) xs) rules.columns in
-    let c : HasColumns (length s.mapping) e.columns = columns_of (length s.mapping) e cols.0 in
-    let leading : (list_all (λ d. leads_back (length done) d.kind) e.columns ≡ true) × (lead_back (length done + 1) xs ≡ true) = and_parts (list_all (λ d. leads_back (length done) d.kind) e.columns) (lead_back (length done + 1) xs) rules.leads in
+    let cols : (are_columns (length done + 1) e ≡ true) × (have_columns (length done + 1) xs ≡ true) = and_parts (are_columns (length done + 1) e) (have_columns (length done + 1) xs) rules.columns in
+    let c : HasColumns (length done + 1) e.columns = columns_of (length done + 1) e cols.0 in
     let one : EntityRules e (length done) = record {
       capacity = room.0;
       some = leb-true 1 (length e.columns) room.1;
       few = leb-true (length e.columns) 16 c.few;
       names = c.named;
-      leads = leading.0;
+      leads = c.below;
       defaults = c.defaults;
     } in
     let a : Among s done e xs = record { whole = rules.whole; few = rules.few; names = rules.names } in
@@ -148,8 +146,7 @@ entities_go s done (e ∷ xs) r b rules g =
       few = rules.few;
       names = rules.names;
       bounded = bounds.1;
-      columns = cols.1;
-      leads = subst (λ n. lead_back n xs ≡ true) count leading.1;
+      columns = subst (λ n. have_columns n xs ≡ true) count cols.1;
     } in
     let rest : Arrives m ls b (early s ((done ++ e ∷ []) ++ xs)) 0 3 = entities_go s (done ++ e ∷ []) xs m b on (entities_on s done e e.columns) in
     let all : Arrives m ls b (early s (done ++ e ∷ xs)) 0 3 = subst (λ es. Arrives m ls b (early s es) 0 3) (append_assoc done (e ∷ []) xs) rest in

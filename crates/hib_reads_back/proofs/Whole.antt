@@ -1,5 +1,5 @@
 -- What is printed of a readable script is read back.
-use Rattle.std.proofs.Common.{◌≡◌, ℕ, zero, suc, ◌+◌, ◌≤◌, ◌<◌, Bool, true, false, ◌&&◌, nat_lt, List, [], ◌∷◌, ◌++◌, length, map, flat_map, slice_get, codes, Some, Ok, refl, sym, ap, subst, ◌∙◌, arith}
+use Rattle.std.proofs.Common.{◌≡◌, ℕ, zero, suc, ◌+◌, ◌≤◌, ◌<◌, Bool, true, false, nat_lt, List, [], ◌∷◌, ◌++◌, length, map, flat_map, slice_get, codes, Some, Ok, refl, sym, ap, subst, ◌∙◌, arith}
 use Rattle.std.specs.List.{list_all}
 use Rattle.std.proofs.lemmas.Bool.{and_parts, and_from, leb-true, ltb-true}
 use Rattle.std.proofs.lemmas.List.{length-map}
@@ -18,7 +18,7 @@ use Rattle.hib_base.specs.Scripts.{is_type_below, is_row_below, is_declared, are
 use Rattle.hib_base.specs.Valid.{is_valid, is_given, are_columns, is_nested_in, is_short, is_cut, is_order_in}
 use Rattle.hib_base.specs.Words.{is_name, are_names, are_apart}
 use Rattle.hib_base.proofs.Lists.{all_at}
-use Rattle.hib_mapping.proofs.Columns.{HasColumns, columns_of}
+use Rattle.hib_base.proofs.Columns.{HasColumns, columns_of, all_columns}
 use Rattle.hib_base.proofs.Valid.{Rules, rules}
 use Rattle.hib_lex.specs.declared.lexer.Token.{Token}
 use Rattle.hib_script.specs.Outline.{outline_of, query_names}
@@ -76,8 +76,8 @@ mapped : (s : Script) → Rules s → Mapped s.mapping
 mapped s r = record {
   few = r.entities;
   names = r.entity_names;
-  columns = λ n e h. (columned s.mapping e (all_at (λ x. are_columns (length s.mapping) x) s.mapping n e r.columns h)).few;
-  column_names = λ n e h. (columned s.mapping e (all_at (λ x. are_columns (length s.mapping) x) s.mapping n e r.columns h)).names;
+  columns = λ n e h. (columned s.mapping e (all_at (λ x. are_columns (length s.mapping) x) s.mapping n e (all_columns s.mapping r.columns) h)).few;
+  column_names = λ n e h. (columned s.mapping e (all_at (λ x. are_columns (length s.mapping) x) s.mapping n e (all_columns s.mapping r.columns) h)).names;
 }
 
 asked : (s : Script) → Rules s → (q : Query) (ys zs : List Query) → s.queries ≡ ys ++ q ∷ zs → Asked s q
@@ -213,7 +213,7 @@ script_worded s r =
     (all_joined is_worded_line (((head_lines s ++ es) ++ rs) ++ qs) ds
     (all_joined is_worded_line ((head_lines s ++ es) ++ rs) qs
     (all_joined is_worded_line (head_lines s ++ es) rs
-    (all_joined is_worded_line (head_lines s) es refl (entities_worded s s.mapping w (all_names (λ e. e.name) s.mapping r.entity_names) r.columns))
+    (all_joined is_worded_line (head_lines s) es refl (entities_worded s s.mapping w (all_names (λ e. e.name) s.mapping r.entity_names) (all_columns s.mapping r.columns)))
     (rows_worded s s.rows w r.rows_below r.fit r.given))
     (queries_worded s s.queries w (asked s r) (all_names (λ q. q.name) s.queries r.query_names)))
     (sessions_worded s s.sessions w r.query_names (all_names (λ d. d.name) s.sessions r.session_names) r.statement_fit r.known))
@@ -248,15 +248,15 @@ session_rules s r =
     let few : statement_count s.sessions ≤ 5000 = r.statements in
     record { fit = r.statement_fit; known = r.known; over = r.over; names = r.session_names; few = r.sessions; statements = omega (arith, few) }
 
-entity_rules : (s : Script) → Rules s → readable.lead_back 0 s.mapping ≡ true → AreRuled s [] s.mapping
-entity_rules s r back = record { whole = refl; few = r.entities; names = r.entity_names; bounded = r.bounded; columns = r.columns; leads = back }
+entity_rules : (s : Script) → Rules s → AreRuled s [] s.mapping
+entity_rules s r = record { whole = refl; few = r.entities; names = r.entity_names; bounded = r.bounded; columns = r.columns }
 
 sessioned : (s : Script) → Rules s → Sessioned s
 sessioned s r = record { few = r.sessions; named = r.session_names }
 
-all_read : (s : Script) → Rules s → readable.lead_back 0 s.mapping ≡ true →
+all_read : (s : Script) → Rules s →
     Arrives start (script_lines s) false (stage s s.rows (map said s.queries) s.sessions s.schedule) (statement_count s.sessions) 7
-all_read s r back =
+all_read s r =
     let w : Mapped s.mapping = mapped s r in
     let es : List (List Token) = flat_map (λ e. lines.entity_lines s e) s.mapping in
     let rs : List (List Token) = map (λ x. lines.row_line s x) s.rows in
@@ -271,7 +271,7 @@ all_read s r back =
     let k : ℕ = statement_count s.sessions in
     let r0 : Reader = between (early s []) 0 Part.Results in
     let g0 : Goes start (head_lines s) b0 r0 = head_go s b0 (limits s r.timeout_low r.timeout r.results_low r.results) in
-    let a1 : Arrives r0 es b1 (early s s.mapping) 0 3 = entities_go s [] s.mapping r0 b1 (entity_rules s r back) (reached (early s []) 0 Part.Results 3 (omega arith)) in
+    let a1 : Arrives r0 es b1 (early s s.mapping) 0 3 = entities_go s [] s.mapping r0 b1 (entity_rules s r) (reached (early s []) 0 Part.Results 3 (omega arith)) in
     let a2 : Arrives a1.reader rs b2 (stage s s.rows [] [] []) 0 4 = rows_go s [] s.rows a1.reader b2 w (row_rules s r) (higher 3 4 (omega arith) a1.there) in
     let a3 : Arrives a2.reader qs b3 (stage s s.rows (map said s.queries) [] []) 0 5 = queries_go s s.rows [] s.queries a2.reader b3 w (query_rules s r) (higher 4 5 (omega arith) a2.there) in
     let a4 : Arrives a3.reader ds b4 (stage s s.rows (map said s.queries) s.sessions []) (0 + k) 6 =
@@ -299,13 +299,10 @@ pub printed_back : (s : Script) → is_readable s ≡ true → script_of (printe
 unfolding is_readable printed
 printed_back s h =
     let ls : List (List Token) = script_lines s in
-    let parts : (is_valid s ≡ true) × ((readable.lead_back 0 s.mapping && list_all readable.is_short ls) ≡ true) =
-    and_parts (is_valid s) (readable.lead_back 0 s.mapping && list_all readable.is_short ls) h in
-    let more : (readable.lead_back 0 s.mapping ≡ true) × (list_all readable.is_short ls ≡ true) =
-    and_parts (readable.lead_back 0 s.mapping) (list_all readable.is_short ls) parts.1 in
+    let parts : (is_valid s ≡ true) × (list_all readable.is_short ls ≡ true) = and_parts (is_valid s) (list_all readable.is_short ls) h in
     let r : Rules s = rules s parts.0 in
-    let c : Clear ls = clear ls (script_worded s r) more.1 in
-    let a = all_read s r more.0 in
+    let c : Clear ls = clear ls (script_worded s r) parts.1 in
+    let a = all_read s r in
     let n : ℕ = lexed.counted 0 ls in
     ap (λ x. script_in x) (lexed.lexed ls c.line c.short)
     ∙ (ap (λ x. ended n x) (goes_read start a.reader ls 0 a.goes) ∙ ended_there s a.reader n (statement_count s.sessions) a.there)

@@ -1,23 +1,11 @@
 -- The scripts that are read back from what is printed of them.
-use Rattle.std.specs.Prelude.{ℕ, ◌+◌, ◌^◌, Bool, true, ◌&&◌, nat_lt, nat_le, List, [], ◌∷◌, length, pos, negsuc}
+use Rattle.std.specs.Prelude.{◌^◌, Bool, true, ◌&&◌, nat_lt, nat_le, List, length, pos, negsuc}
 use Rattle.std.specs.List.{list_all}
-use Rattle.hib_base.specs.declared.scripts.ColumnType.{ColumnType}
-use Rattle.hib_base.specs.declared.scripts.EntityDef.{EntityDef}
 use Rattle.hib_base.specs.declared.scripts.Script.{Script}
 use Rattle.hib_base.specs.Valid.{is_valid}
 use Rattle.hib_lex.specs.declared.lexer.Token.{Token}
 use Rattle.hib_print.specs.Printed.{script_lines}
 use Rattle.hib_print.specs.Spelling.{text_of}
-
--- ---- references lead to an entity that was declared before, or to their own
-abbrev pub leads_back : ℕ → ColumnType → Bool
-leads_back n (ColumnType.Ref e) = nat_le e n
-leads_back n _ = true
-
--- of the entities from the n-th on
-abbrev pub lead_back : ℕ → List EntityDef → Bool
-lead_back n [] = true
-lead_back n (e ∷ es) = list_all (λ d. leads_back n d.kind) e.columns && lead_back (n + 1) es
 
 -- ---- lines
 -- numbers are within 64 bits, signed
@@ -32,5 +20,4 @@ is_short ts = nat_le (length (text_of ts)) 4096 && list_all is_wide ts
 
 -- ---- the script
 unfoldable pub is_readable : Script → Bool
-is_readable s =
-    is_valid s && (lead_back 0 s.mapping && list_all is_short (script_lines s))
+is_readable s = is_valid s && list_all is_short (script_lines s)

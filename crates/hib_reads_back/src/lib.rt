@@ -10,7 +10,7 @@ ghost use Rattle.hib_reads_back.specs.Readable.{is_readable};
 ghost use Rattle.hib_script.specs.Outline.{outline_of};
 ghost use Rattle.hib_script.specs.Script.{script_of};
 
-/// A valid script whose references lead back, and whose printed lines aren't too long, is read back from its text.
+/// A valid script whose printed lines aren't too long is read back from its text.
 pub fn printed_is_read()
     ensures { (s : Script) → is_readable s ≡ true → script_of (printed s) ≡ Ok (outline_of s) }
 {}

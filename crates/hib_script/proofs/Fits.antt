@@ -25,7 +25,7 @@ use Rattle.hib_base.proofs.Lists.{all_more, all_weaker, some_none, get_more}
 use Rattle.hib_base.proofs.Names.{apart_by_more}
 use Rattle.hib_criteria.proofs.Depth.{are_shallow}
 use Rattle.hib_criteria.proofs.Sound as sound
-use Rattle.hib_mapping.proofs.Columns.{lt_more}
+use Rattle.hib_base.proofs.Columns.{lt_more}
 use Rattle.hib_script.specs.Lines.{with_open}
 use Rattle.hib_script.specs.declared.places.Place.{Place}
 use Rattle.hib_statements.specs.Rows.{has_key}

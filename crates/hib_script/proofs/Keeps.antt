@@ -12,7 +12,7 @@ use Rattle.hib_base.specs.declared.scripts.Statement.{Statement}
 use Rattle.hib_base.specs.Fits.{fits_entity, fits}
 use Rattle.hib_base.specs.Words.{is_reserved, is_name, has_name, are_names}
 use Rattle.hib_base.specs.Scripts.{is_row_below, strategy_in, is_cached_by, is_over, statement_count, is_known, lists_known, evicts_cached}
-use Rattle.hib_base.specs.Valid.{max_entities, max_rows, max_queries, max_sessions, max_statements, max_orders, are_columns, is_capacity, is_entity}
+use Rattle.hib_base.specs.Valid.{max_entities, max_rows, max_queries, max_sessions, max_statements, max_orders, are_columns, have_columns, is_capacity, is_entity}
 use Rattle.hib_base.proofs.Gives.{Then}
 use Rattle.hib_base.proofs.Lists.{all_more, all_weaker, get_more, get_below}
 use Rattle.hib_base.proofs.Names.{named_more, has_mapped}
@@ -22,7 +22,8 @@ use Rattle.hib_lex.proofs.Lexed.{are_lexed}
 use Rattle.hib_mapping.specs.Parts.{word_of, name_in}
 use Rattle.hib_script.specs.Outline.{query_names}
 use Rattle.hib_criteria.proofs.Declared.{IsLineOf, is_said_below, said_more, are_types_below, are_linked}
-use Rattle.hib_mapping.proofs.Columns.{columns_of, columns_more, lt_more, name_from, second_lexed}
+use Rattle.hib_base.proofs.Columns.{columns_of, all_columns, one_more_columns, lt_more}
+use Rattle.hib_mapping.proofs.Columns.{name_from, second_lexed}
 use Rattle.hib_script.specs.Lines.{with_open}
 use Rattle.hib_script.specs.Lines.{Reader}
 use Rattle.hib_script.specs.declared.places.Place.{Place}
@@ -36,7 +37,7 @@ IsLimit most n = (1 ≤ n) × (n ≤ most)
 -- the entities that are finished, and the one whose columns are read
 pub record HasEntities (m : List EntityDef) (e : Option EntityDef) : Type 0 where
   pub few : length (with_open m e) ≤ max_entities
-  pub closed : list_all (λ d. are_columns (length m) d) m ≡ true
+  pub closed : have_columns 0 m ≡ true
   pub opened : Then e (λ d. are_columns (length m + 1) d ≡ true)
   pub bounded : list_all is_entity m ≡ true
   pub roomy : Then e (λ d. is_capacity d.strategy d.capacity ≡ true)
@@ -101,15 +102,8 @@ pub one_more_length : {A : Type 0} (xs : List A) (x : A) → length (xs ++ x ∷
 one_more_length xs x = length-append xs (x ∷ [])
 
 -- the references of a mapping lead to its own entities
-pub linked : (m : List EntityDef) → list_all (λ d. are_columns (length m) d) m ≡ true → are_linked m ≡ true
-linked m h = all_weaker (λ (d : EntityDef). are_columns (length m) d) (λ (d : EntityDef). are_types_below (length m) d.columns) m (λ d w. (columns_of (length m) d w).below) h
-
-entities_one : (m : List EntityDef) (d : EntityDef) → list_all (λ e. are_columns (length m) e) m ≡ true → are_columns (length m + 1) d ≡ true →
-    list_all (λ e. are_columns (length (m ++ d ∷ [])) e) (m ++ d ∷ []) ≡ true
-entities_one m d h w =
-    subst (λ n. list_all (λ (e : EntityDef). are_columns n e) (m ++ d ∷ []) ≡ true) (sym (one_more_length m d))
-    (all_more (λ (e : EntityDef). are_columns (length m + 1) e) m d
-    (all_weaker (λ (e : EntityDef). are_columns (length m) e) (λ (e : EntityDef). are_columns (length m + 1) e) m (λ e v. columns_more (length m) 1 e v) h) w)
+pub linked : (m : List EntityDef) → have_columns 0 m ≡ true → are_linked m ≡ true
+linked m h = all_weaker (λ (d : EntityDef). are_columns (length m) d) (λ (d : EntityDef). are_types_below (length m) d.columns) m (λ d w. (columns_of (length m) d w).below) (all_columns m h)
 
 -- an entity has a column
 abbrev pub IsFilled : Option EntityDef → Type 0
@@ -119,7 +113,7 @@ pub entities_closed : (m : List EntityDef) (e : Option EntityDef) → HasEntitie
 entities_closed m None k f = record { few = k.few; closed = k.closed; opened = tt; bounded = k.bounded; roomy = tt; names = k.names; named = tt }
 entities_closed m (Some d) k f = record {
   few = k.few;
-  closed = entities_one m d k.closed k.opened;
+  closed = one_more_columns m d k.closed k.opened;
   opened = tt;
   bounded = all_more is_entity m d k.bounded (and_from (is_capacity d.strategy d.capacity) (nat_le 1 (length d.columns)) k.roomy f);
   roomy = tt;
