@@ -7,6 +7,7 @@ ghost use Rattle.hib_journal.specs.Sessions.{Journal};
 ghost use Rattle.hib_journal.specs.Legal.{IsLegal};
 ghost use Rattle.hib_core.specs.Bound.{most_in, outside_count};
 
+use hib_base::Script;
 use hib_law::steps_are_in_order;
 use hib_session::entries_are_few;
 
@@ -20,4 +21,14 @@ pub fn runs_are_short()
 {
     steps_are_in_order();
     entries_are_few();
+}
+
+/// How many entries a run of a script has as a rule. A run may have more or fewer.
+pub fn usual_length(script: &Script) -> usize {
+    let mut count = script.schedule.len();
+    for session in script.sessions.as_slice() {
+        let own = session.statements.len().saturating_mul(4);
+        count = count.saturating_add(own).saturating_add(8);
+    }
+    count
 }

@@ -21,7 +21,7 @@ ghost use Rattle.hib_session.specs.Sessions.{AreSessions};
 ghost use Rattle.hib_core.specs.Factory.{Does, IsOver, IsAsked, IsAskedOnceMore, IsStepRefused, HasGrown};
 ghost use Rattle.hib_core.specs.Calls.{IsCarriedOut};
 
-use crate::bounds::runs_are_short;
+use crate::bounds::{runs_are_short, usual_length};
 use crate::outside::{self, opened};
 use crate::turns::{has_turn, turn};
 use hib_base::{Key, Order, Script, SessionNo};
@@ -92,11 +92,12 @@ impl<K: Keeper, N: Name> Core<K, N> {
             return Err(OpenFault::NoMemory(keeper));
         };
         let engines = Engines::open(alloc, &script, keeper)?;
+        let journal = Journal::open_for(alloc, usual_length(&script));
         Ok(Core {
             script,
             engines,
             sessions,
-            journal: Journal::open(alloc),
+            journal,
             refused: false,
             of: PhantomData,
         })
