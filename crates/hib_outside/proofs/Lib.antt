@@ -4,3 +4,4 @@ pub mod Places
 pub mod Searches
 pub mod Commits
 pub mod Pieces
+pub mod Gaps

@@ -6,3 +6,4 @@ pub mod Hears
 pub mod Places
 pub mod Fronts
 pub mod Lasts
+pub mod Parted

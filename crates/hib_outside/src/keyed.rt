@@ -6,13 +6,13 @@ ghost use Rattle.hib_outside.specs.Places.{place_in};
 
 use hib_base::{Key, Row};
 
-fn is_same(a: &Key, b: &Key) -> bool
+pub(crate) fn is_same(a: &Key, b: &Key) -> bool
     ensures { result ≡ same_key a.now b.now }
 {
     a == b
 }
 
-fn comes_before(a: &Key, b: &Key) -> bool
+pub(crate) fn comes_before(a: &Key, b: &Key) -> bool
     ensures { result ≡ is_before a.now b.now }
 {
     a.entity.0 < b.entity.0 || (a.entity.0 == b.entity.0 && a.id < b.id)

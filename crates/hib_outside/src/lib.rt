@@ -9,6 +9,7 @@ pub mod keyed;
 mod listener;
 mod mem_keeper;
 mod mem_streams;
+mod parted;
 mod shelf;
 mod streams;
 mod writing;

@@ -150,8 +150,7 @@ impl Keeper for MemKeeper {
         let applied = shelf::judge(alloc, self.rows.as_slice(), batch)?;
         if applied == Applied::Done {
             let changes = shelf::copy_changes(alloc, batch)?;
-            self.rows.reserve(changes.len())?;
-            shelf::change_all(&mut self.rows, changes);
+            shelf::change(alloc, &mut self.rows, changes)?;
         }
         Ok(applied)
     }

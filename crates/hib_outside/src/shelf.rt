@@ -1,6 +1,6 @@
 // What is done to rows in order of keys: changes, one by one and in batches, and copies.
 ghost use Rattle.std.specs.Map.{lookup};
-ghost use Rattle.std.specs.Prelude.{◌≡◌, ◌+◌, ◌≤◌, ◌<◌, ℕ, true, length, take, [], cond, Some, None, IfOk, IfSome, OnOk, vec_len, vec_capacity, option_copied};
+ghost use Rattle.std.specs.Prelude.{◌≡◌, ◌+◌, ◌≤◌, ◌<◌, ℕ, true, length, take, [], cond, Some, None, IfOk, IfSome, OnOk, OnErr, vec_len, vec_capacity, option_copied};
 ghost use Rattle.hib_base.specs.Keys.{same_key};
 ghost use Rattle.hib_base.specs.declared.numbers.Key.{Key as KeyOf};
 ghost use Rattle.hib_base.specs.Tables.{in_order, row_at, row_left, same_version, after_change, after_changes, unless_there, with_absent};
@@ -9,8 +9,8 @@ ghost use Rattle.hib_outside.specs.Keeps.{rows_of, is_listed};
 ghost use Rattle.hib_outside.specs.Verdicts.{refused_at, verdict, IsPlace};
 ghost use Rattle.hib_outside.specs.Lasts.{change_at, HasLasts};
 
-use crate::Applied;
-use crate::keyed::{put, row_of, take_out};
+use crate::keyed::{comes_before, put, row_of, take_out};
+use crate::{Applied, parted};
 use hib_base::{Change, EntityDef, EntityNo, Key, Row, Rows, Seq, entity_columns};
 use indexmap::IndexMap;
 use std::alloc::{AllocError, Global};
@@ -227,6 +227,59 @@ pub fn change_all(rows: &mut Vec<(Key, Row)>, changes: Vec<Change>)
     for change in changes {
         change_one(rows, change);
     }
+}
+
+/// Whether changes are many beside so many rows, and their keys rise or fall all along: from one to the next few rows are passed then.
+fn is_sweep(changes: &[Change], rows: usize) -> bool {
+    if changes.len() < rows / 8 {
+        return false;
+    }
+    let mut rises = true;
+    let mut falls = true;
+    for i in 1..changes.len() {
+        let before = changes[i - 1].key();
+        let here = changes[i].key();
+        rises = rises && !comes_before(&here, &before);
+        falls = falls && !comes_before(&before, &here);
+    }
+    rises || falls
+}
+
+/// Does changes one after another, each where the rows were parted for it. There is room for as many rows more, also behind the place.
+#[tactic(auto, using(crate::proofs::Commits::after_changes_push, crate::proofs::Orders::in_order_change))]
+fn sweep(rows: &mut Vec<(Key, Row)>, back: &mut Vec<(Key, Row)>, changes: Vec<Change>)
+    requires ordered { in_order rows.old.items ≡ true }
+    requires empty { back.old.items ≡ [] }
+    requires room { vec_len rows.old + vec_len changes ≤ vec_capacity rows.old }
+    requires back_room { vec_len rows.old + vec_len changes ≤ vec_capacity back.old }
+    ensures { rows.new.items ≡ after_changes changes.items rows.old.items }
+{
+    for change in changes {
+        let key = change.key();
+        parted::set(rows, back, key, into_row(change));
+    }
+    parted::join(rows, back);
+}
+
+/// Does changes one after another. At an error nothing has changed.
+pub fn change(
+    alloc: Global,
+    rows: &mut Vec<(Key, Row)>,
+    changes: Vec<Change>,
+) -> Result<(), AllocError>
+    requires { in_order rows.old.items ≡ true }
+    ensures ok { OnOk result (rows.new.items ≡ after_changes changes.items rows.old.items) }
+    ensures err { OnErr result (rows.new.items ≡ rows.old.items) }
+{
+    rows.reserve(changes.len())?;
+    if is_sweep(changes.as_slice(), rows.len()) {
+        if let Ok(mut back) = Vec::with_capacity(alloc, rows.capacity()) {
+            sweep(rows, &mut back, changes);
+            return Ok(());
+        }
+    }
+    change_all(rows, changes);
+    Ok(())
 }
 
 /// Adds a row, unless its key has one. There is room for one row more.
