@@ -9,5 +9,5 @@ returns-clause-ok c =
     ap (queued c.args.front.now.entries)
     (c.in_ok-insert.ensures.entries
     ∙ insert_entry-new nat_eq c.args.back.now c.args.id (c.args.row, c.args.now)
-      (back_absent c.args.id c.args.front.now.entries c.args.back.now.entries c.len-distinct.ensures.unique c.requires))
+    (back_absent c.args.id c.args.front.now.entries c.args.back.now.entries c.len-distinct.ensures.unique c.requires))
     ∙ queued_more c.args.front.now.entries c.args.back.now.entries (c.args.id, (c.args.row, c.args.now))
