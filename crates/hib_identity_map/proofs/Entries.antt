@@ -1,8 +1,7 @@
 -- Entries of a map that keeps the order of insertion, and the instances that contracts see.
-use Rattle.std.proofs.Common.{◌≡◌, ℕ, Bool, true, false, cond, List, [], ◌∷◌, ◌++◌, Some, None, is_some, position, slice_get, set, refl, sym, ap, ◌∙◌}
+use Rattle.std.proofs.Common.{◌≡◌, ℕ, Bool, true, false, cond, [], ◌∷◌, Some, None, is_some, position, slice_get, refl, sym, ap, ◌∙◌}
 use Rattle.std.specs.Map.{keys_of, values_of, lookup}
-use Rattle.hib_journal.specs.Types.{Key, Cell, Held}
-use Rattle.hib_journal.specs.Held.{with_cells}
+use Rattle.hib_journal.specs.Types.{Key, Held}
 use Rattle.hib_base.specs.Keys.{same_key}
 use Rattle.indexmap.specs.IndexMap.{insert_entry, set_value_at}
 use Rattle.indexmap.proofs.MapLemmas.{Found-position, insert_entry-first}

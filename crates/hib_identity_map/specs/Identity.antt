@@ -1,5 +1,5 @@
 -- The instances of a session: what contracts see of an identity map.
-use Rattle.std.specs.Prelude.{ℕ, Bool, true, false, cond, not, ◌&&◌, List, [], ◌∷◌, ◌++◌, Some, None, Option}
+use Rattle.std.specs.Prelude.{ℕ, Bool, true, false, cond, not, ◌&&◌, List, [], ◌∷◌, ◌++◌, reverse, Some, None, Option}
 use Rattle.std.specs.List.{filter}
 use Rattle.hib_journal.specs.Types.{Key, Cell, Row, State, Held}
 use Rattle.hib_journal.specs.Held.{with_cells}
@@ -16,6 +16,11 @@ pub record MapState : Type 0 where
 
 abbrev pub empty : MapState
 empty = record { held = []; removals = [] }
+
+-- instances that stand from the last to the first, or in order of arrival
+abbrev pub faced : Bool → Pairs → Pairs
+faced true ps = reverse ps
+faced false ps = ps
 
 -- the instance of a key, or none
 abbrev pub look_in : Pairs → Key → Option Held

@@ -1,6 +1,6 @@
 // Instances by key, in order of arrival.
-ghost use Rattle.std.specs.Prelude.{◌≡◌, ◌↔◌, ◌≢◌, ◌<◌, [], None, Some, IsTrue, OnOk, OnErr, length, slice_get, option_copied};
-ghost use Rattle.hib_identity_map.specs.Identity.{empty, look_in, put_in, drop_in, add_in, change_in, written, as_removed, with_sets, remove_last};
+ghost use Rattle.std.specs.Prelude.{◌≡◌, ◌↔◌, ◌≢◌, ◌<◌, [], None, Some, false, IsTrue, OnOk, OnErr, length, slice_get, option_copied};
+ghost use Rattle.hib_identity_map.specs.Identity.{empty, faced, look_in, put_in, drop_in, add_in, change_in, written, as_removed, with_sets, remove_last};
 
 use crate::instance::{mark, set_base, set_cells};
 use hib_base::{Held, Key, Row, Sets};
@@ -9,19 +9,24 @@ use std::alloc::{AllocError, Global};
 use std::marker::Model;
 
 /// The instances of one session, one for each key, in order of arrival; and which keys were removed, in order of their
-/// last removals.
+/// last removals. So that many leave in order of arrival without moving the others, they may stand from the last to the first.
 #[derive(Drop)]
 pub struct IdentityMap {
     entries: IndexMap<Key, Held>,
+    // Whether the last one that arrived stands first.
+    turned: bool,
     removals: IndexSet<Key>,
 }
 
 impl Model for IdentityMap {
-    ghost use Rattle.hib_identity_map.specs.Identity.{MapState};
+    ghost use Rattle.hib_identity_map.specs.Identity.{MapState, faced};
 
     ghost Value = { MapState };
 
-    ghost view = { λ m. record { held = m.entries.entries; removals = m.removals.keys } };
+    ghost view = { λ m. record {
+      held = faced m.turned m.entries.entries;
+      removals = m.removals.keys;
+    } };
 }
 
 impl IdentityMap {
@@ -31,6 +36,7 @@ impl IdentityMap {
     {
         IdentityMap {
             entries: IndexMap::new(alloc),
+            turned: false,
             removals: IndexSet::new(alloc),
         }
     }
@@ -39,7 +45,7 @@ impl IdentityMap {
     pub fn look(&self, key: Key) -> Option<&Held>
         ensures { option_copied result ≡ look_in self.now.held key }
     {
-        look_at(&self.entries, key)
+        look_at(&self.entries, self.turned, key)
     }
 
     /// Adds the instance of a key that has none, after the others. At an error nothing has changed.
@@ -49,6 +55,7 @@ impl IdentityMap {
             ≡ record self.old { held = add_in key held self.old.held }) }
         ensures err { OnErr result (self.new ≡ self.old) }
     {
+        straighten(&mut self.entries, &mut self.turned);
         insert_new(&mut self.entries, key, held)
     }
 
@@ -58,6 +65,7 @@ impl IdentityMap {
             ≡ record self.old { held = add_in key.now held (drop_in key.now self.old.held) }) }
         ensures err { OnErr result (self.new ≡ self.old) }
     {
+        straighten(&mut self.entries, &mut self.turned);
         arrive_at(&mut self.entries, key, held)
     }
 
@@ -66,6 +74,7 @@ impl IdentityMap {
         requires { look_in self.old.held key ≢ None }
         ensures { self.new ≡ record self.old { held = put_in key held self.old.held } }
     {
+        straighten(&mut self.entries, &mut self.turned);
         replace(&mut self.entries, key, held);
     }
 
@@ -73,7 +82,7 @@ impl IdentityMap {
     pub fn drop(&mut self, key: Key)
         ensures { self.new ≡ record self.old { held = drop_in key self.old.held } }
     {
-        remove_key(&mut self.entries, key);
+        leave(&mut self.entries, &mut self.turned, key);
     }
 
     /// All instances leave. The removals stay. It takes no memory.
@@ -81,12 +90,14 @@ impl IdentityMap {
         ensures { self.new ≡ record self.old { held = [] } }
     {
         clear_all(&mut self.entries);
+        self.turned = false;
     }
 
     /// The instance of a key, if there is one, stands for a row that was written. It takes no memory.
     pub fn set_base(&mut self, key: Key, base: Row)
         ensures { self.new ≡ record self.old { held = change_in key (written base) self.old.held } }
     {
+        straighten(&mut self.entries, &mut self.turned);
         base_at(&mut self.entries, key, base);
     }
 
@@ -97,6 +108,7 @@ impl IdentityMap {
             ≡ record self.old { held = change_in key (with_sets sets) self.old.held }) }
         ensures err { OnErr result (self.new ≡ self.old) }
     {
+        straighten(&mut self.entries, &mut self.turned);
         cells_at(alloc, &mut self.entries, key, sets)
     }
 
@@ -104,6 +116,7 @@ impl IdentityMap {
     pub fn mark(&mut self, key: Key)
         ensures { self.new ≡ record self.old { held = change_in key as_removed self.old.held } }
     {
+        straighten(&mut self.entries, &mut self.turned);
         mark_at(&mut self.entries, key);
     }
 
@@ -142,13 +155,36 @@ impl IdentityMap {
         requires { i < length self.now.held }
         ensures { slice_get self.now.held i ≡ Some (result.0, result.1.now) }
     {
-        pair_at(&self.entries, i)
+        pair_at(&self.entries, self.turned, i)
     }
 }
 
-fn look_at(entries: &IndexMap<Key, Held>, key: Key) -> Option<&Held>
-    ensures { option_copied result ≡ look_in entries.now.entries key }
+// The instances stand in order of arrival.
+fn straighten(entries: &mut IndexMap<Key, Held>, turned: &mut bool)
+    ensures entries { entries.new.entries ≡ faced turned.old entries.old.entries }
+    ensures turned { turned.new ≡ false }
 {
+    if !*turned {
+        return;
+    }
+    entries.reverse();
+    *turned = false;
+}
+
+// The instances stand the other way round.
+#[tactic(auto, using(crate::proofs::Faced::faced_turned))]
+fn turn(entries: &mut IndexMap<Key, Held>, turned: &mut bool)
+    ensures { faced turned.new entries.new.entries ≡ faced turned.old entries.old.entries }
+{
+    entries.reverse();
+    *turned = !*turned;
+}
+
+#[tactic(auto, using(crate::proofs::Faced::look_faced))]
+fn look_at(entries: &IndexMap<Key, Held>, turned: bool, key: Key) -> Option<&Held>
+    ensures { option_copied result ≡ look_in (faced turned entries.now.entries) key }
+{
+    let _distinct = entries.len();
     entries.get(&key)
 }
 
@@ -185,11 +221,34 @@ fn replace(entries: &mut IndexMap<Key, Held>, key: Key, held: Held)
     entries[index] = held;
 }
 
+// Whether many more instances stand behind that of a key than before it.
+fn is_early(entries: &IndexMap<Key, Held>, key: &Key) -> bool {
+    let count = entries.len();
+    match entries.get_index_of(key) {
+        Some(index) => count > 16 && index < (count - 16) / 2,
+        None => false,
+    }
+}
+
 // Removes a key; the others keep their order.
-fn remove_key(entries: &mut IndexMap<Key, Held>, key: Key)
-    ensures { entries.new.entries ≡ drop_in key entries.old.entries }
+fn remove_key(entries: &mut IndexMap<Key, Held>, turned: bool, key: Key)
+    ensures { faced turned entries.new.entries ≡ drop_in key (faced turned entries.old.entries) }
 {
+    let _distinct = entries.len();
     entries.shift_remove(&key);
+}
+
+// The instance of a key leaves; if many stand behind it, they are turned round before.
+fn leave(entries: &mut IndexMap<Key, Held>, turned: &mut bool, key: Key)
+    ensures { faced turned.new entries.new.entries
+        ≡ drop_in key (faced turned.old entries.old.entries) }
+{
+    if is_early(entries, &key) {
+        turn(entries, turned);
+        remove_key(entries, *turned, key);
+    } else {
+        remove_key(entries, *turned, key);
+    }
 }
 
 fn clear_all(entries: &mut IndexMap<Key, Held>)
@@ -198,12 +257,23 @@ fn clear_all(entries: &mut IndexMap<Key, Held>)
     entries.clear();
 }
 
-fn pair_at(entries: &IndexMap<Key, Held>, i: usize) -> (Key, &Held)
+fn pair_in(entries: &IndexMap<Key, Held>, i: usize) -> (Key, &Held)
     requires { i < length entries.now.entries }
     ensures { slice_get entries.now.entries i ≡ Some (result.0, result.1.now) }
 {
     let (key, held) = entries.get_index(i).unwrap();
     (*key, held)
+}
+
+#[tactic(auto, using(crate::proofs::Faced::length_faced, crate::proofs::Faced::got_turned))]
+fn pair_at(entries: &IndexMap<Key, Held>, turned: bool, i: usize) -> (Key, &Held)
+    requires { i < length (faced turned entries.now.entries) }
+    ensures { slice_get (faced turned entries.now.entries) i ≡ Some (result.0, result.1.now) }
+{
+    if turned {
+        return pair_in(entries, entries.len() - 1 - i);
+    }
+    pair_in(entries, i)
 }
 
 // Puts a key after the others, in place of where it was.
