@@ -1,3 +1,4 @@
+pub mod Queues
 pub mod Writes
 pub mod Victims
 pub mod Stands

@@ -4,6 +4,7 @@
 #![tactic(auto)]
 
 pub mod laws;
+mod queue;
 mod region;
 mod slots;
 

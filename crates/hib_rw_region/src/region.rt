@@ -8,7 +8,7 @@ ghost use Rattle.hib_room_laws.specs.Answers.{got_reply};
 ghost use Rattle.hib_rw_region.specs.Region.{kept_in, slot_in, stamp_in, room_in};
 ghost use Rattle.hib_rw_region.specs.Steps.{empty, with_slot, without, new_item, barred, after_put, after_insert as inserted, after_lock, after_unlock, after_update as updated, after_evict, after_clear};
 
-use crate::slots;
+use crate::{queue, slots};
 use hib_base::{Evicted, Got, Inserted, Locked, Miss, Put, Row, Tick, Unlocked, Updated};
 use hib_soft_lock::{Slot, Verdict};
 use indexmap::IndexMap;
@@ -20,13 +20,15 @@ use std::marker::Model;
 /// that has as many holders as `now` has ticks takes no more.
 #[derive(Drop)]
 pub struct RwRegion {
-    slots: IndexMap<u64, Slot>,
+    front: IndexMap<u64, Slot>,
+    back: IndexMap<u64, Slot>,
     capacity: u32,
     timeout: u32,
 }
 
 impl Model for RwRegion {
     ghost use Rattle.hib_room_laws.specs.Answers.{got_reply};
+    ghost use Rattle.hib_room_laws.specs.Queued.{queued};
     ghost use Rattle.hib_rw_region.specs.Region.{RegionState};
 
     ghost Value = { RegionState };
@@ -34,7 +36,7 @@ impl Model for RwRegion {
     ghost view = { λ r. record {
       capacity = r.capacity;
       timeout = r.timeout;
-      slots = r.slots.entries;
+      slots = queued r.front.entries r.back.entries;
     } };
 }
 
@@ -45,7 +47,8 @@ impl RwRegion {
         ensures { result ≡ empty capacity timeout }
     {
         RwRegion {
-            slots: IndexMap::new(alloc),
+            front: IndexMap::new(alloc),
+            back: IndexMap::new(alloc),
             capacity,
             timeout,
         }
@@ -55,7 +58,7 @@ impl RwRegion {
     pub fn get(&self, id: u64, time: Tick) -> Got<'_>
         ensures { got_reply result ≡ Regions.got (slot_in self.now id) time }
     {
-        match self.slots.get(&id) {
+        match queue::look(&self.front, &self.back, id) {
             None => Got::Miss(Miss::Absent),
             Some(Slot::Item { row, stamp }) if *stamp < time => Got::Hit(row),
             Some(slot) => Got::Miss(slot.miss()),
@@ -66,7 +69,7 @@ impl RwRegion {
     pub fn stamp(&self, id: u64) -> Option<Tick>
         ensures { result ≡ stamp_in (slot_in self.now id) }
     {
-        match self.slots.get(&id) {
+        match queue::look(&self.front, &self.back, id) {
             Some(Slot::Item { stamp, .. }) => Some(*stamp),
             _ => None,
         }
@@ -76,7 +79,7 @@ impl RwRegion {
     pub fn holders(&self, id: u64) -> u64
         ensures { result ≡ holders_in (slot_in self.now id) }
     {
-        match self.slots.get(&id) {
+        match queue::look(&self.front, &self.back, id) {
             Some(Slot::Lock { holders, .. }) => *holders,
             _ => 0,
         }
@@ -88,10 +91,10 @@ impl RwRegion {
         ensures apart { (id : ℕ) → kept_in self.now id ≡ None
             → option_map_or (λ v. v == id) (option_flatten result) false ≡ false }
     {
-        if self.slots.len() < self.capacity as usize {
+        if self.front.len() + self.back.len() < self.capacity as usize {
             return Some(None);
         }
-        let victim = slots::victim(&self.slots, floor)?;
+        let victim = queue::victim(&self.front, &self.back, floor)?;
         Some(Some(victim))
     }
 
@@ -101,9 +104,9 @@ impl RwRegion {
         ensures ok { OnOk result (self.new ≡ with_slot id slot (without evicted self.old)) }
         ensures err { OnErr result (self.new ≡ self.old) }
     {
-        slots::set(&mut self.slots, id, slot)?;
+        queue::set(&mut self.front, &mut self.back, id, slot)?;
         if let Some(key) = evicted {
-            slots::remove(&mut self.slots, key);
+            queue::remove(&mut self.front, &mut self.back, key);
         }
         Ok(())
     }
@@ -144,7 +147,7 @@ impl RwRegion {
         ensures state { OnOk result (self.new ≡ after_put id row time floor now self.old) }
         ensures err { OnErr result (self.new ≡ self.old) }
     {
-        let Some(slot) = self.slots.get(&id) else {
+        let Some(slot) = queue::look(&self.front, &self.back, id) else {
             return match self.place_item(id, row, floor, now)? {
                 None => Ok(Put::Crowded),
                 Some(evicted) => Ok(Put::Stored {
@@ -155,7 +158,12 @@ impl RwRegion {
         };
         match slot.writable(time, row.version) {
             Verdict::Yes { late } => {
-                slots::set(&mut self.slots, id, Slot::Item { row, stamp: now })?;
+                queue::set(
+                    &mut self.front,
+                    &mut self.back,
+                    id,
+                    Slot::Item { row, stamp: now },
+                )?;
                 Ok(Put::Stored {
                     evicted: None,
                     late,
@@ -189,7 +197,7 @@ impl RwRegion {
             return Err(AllocError);
         }
         let until = Tick(now.0 + self.timeout as u64);
-        if let Some(lock) = slots::lock(&mut self.slots, id, now, self.timeout) {
+        if let Some(lock) = queue::lock(&mut self.front, &mut self.back, id, now, self.timeout) {
             return Ok(Locked {
                 id: lock,
                 until,
@@ -214,7 +222,7 @@ impl RwRegion {
         ensures there { has_entry (slot_in self.old id) ≡ true → IsOk result }
     {
         let until = Tick(now.0 + self.timeout as u64);
-        slots::set(&mut self.slots, id, slots::bar(now, until))
+        queue::set(&mut self.front, &mut self.back, id, slots::bar(now, until))
     }
 
     /// Gives a lock back. If the key has no lock of this number that is held, it gets one without holder that is
@@ -227,9 +235,9 @@ impl RwRegion {
         ensures err { OnErr result (self.new ≡ self.old) }
         ensures there { has_entry (slot_in self.old id) ≡ true → IsOk result }
     {
-        let answer = slots::unlocked(&self.slots, id, lock);
+        let answer = slots::unlocked(queue::look(&self.front, &self.back, id), lock);
         match answer {
-            Unlocked::Released { .. } => slots::release(&mut self.slots, id, now),
+            Unlocked::Released { .. } => queue::release(&mut self.front, &mut self.back, id, now),
             Unlocked::Expired => self.expire(id, now)?,
         }
         Ok(answer)
@@ -251,10 +259,15 @@ impl RwRegion {
         ensures err { OnErr result (self.new ≡ self.old) }
         ensures there { has_entry (slot_in self.old id) ≡ true → IsOk result }
     {
-        let answer = slots::updated(&self.slots, id, lock);
+        let answer = slots::updated(queue::look(&self.front, &self.back, id), lock);
         match answer {
-            Updated::Stored => slots::set(&mut self.slots, id, Slot::Item { row, stamp: now })?,
-            Updated::Shared { .. } => slots::release(&mut self.slots, id, now),
+            Updated::Stored => queue::set(
+                &mut self.front,
+                &mut self.back,
+                id,
+                Slot::Item { row, stamp: now },
+            )?,
+            Updated::Shared { .. } => queue::release(&mut self.front, &mut self.back, id, now),
             Updated::Expired => self.expire(id, now)?,
         }
         Ok(answer)
@@ -274,7 +287,7 @@ impl RwRegion {
         ensures state { OnOk result (self.new ≡ inserted id row floor now self.old) }
         ensures err { OnErr result (self.new ≡ self.old) }
     {
-        if self.slots.get(&id).is_some() {
+        if queue::look(&self.front, &self.back, id).is_some() {
             return Ok(Inserted::Present);
         }
         match self.place_item(id, row, floor, now)? {
@@ -289,13 +302,13 @@ impl RwRegion {
         ensures answer { result ≡ Regions.evict (slot_in self.old id) }
         ensures state { self.new ≡ after_evict id now self.old }
     {
-        slots::evict(&mut self.slots, id, now)
+        queue::evict(&mut self.front, &mut self.back, id, now)
     }
 
     /// Drops all slots. It takes no memory.
     pub fn clear(&mut self)
         ensures { self.new ≡ after_clear self.old }
     {
-        slots::clear(&mut self.slots);
+        queue::clear(&mut self.front, &mut self.back);
     }
 }

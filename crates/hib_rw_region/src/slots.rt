@@ -1,5 +1,5 @@
 // Slots by identifier, in order of insertion.
-ghost use Rattle.std.specs.Prelude.{◌≡◌, ◌≤◌, ◌<◌, ◌^◌, ℕ, None, Some, true, false, [], IsOk, OnOk, OnErr, nat_eq, is_some};
+ghost use Rattle.std.specs.Prelude.{◌≡◌, ◌≤◌, ◌<◌, ◌^◌, ℕ, None, Some, true, false, [], reverse, length, slice_get, IsOk, OnOk, OnErr, nat_eq, is_some, option_copied};
 ghost use Rattle.std.specs.Map.{lookup, remove_entry};
 ghost use Rattle.indexmap.specs.IndexMap.{insert_entry};
 ghost use Rattle.hib_journal.specs.Room.{may_leave as may_go};
@@ -7,9 +7,9 @@ ghost use Rattle.hib_journal.specs.Regions as Regions;
 ghost use Rattle.hib_soft_lock.specs.Shown.{shown};
 ghost use Rattle.hib_soft_lock.specs.Steps.{locked, released, holders_in, is_held};
 ghost use Rattle.hib_rw_region.specs.Region.{shown_in, victim_in};
-ghost use Rattle.hib_rw_region.specs.Steps.{changed, barred, evict_leaves};
+ghost use Rattle.hib_rw_region.specs.Steps.{changed, barred};
 
-use hib_base::{Evicted, Tick, Unlocked, Updated};
+use hib_base::{Tick, Unlocked, Updated};
 use hib_soft_lock::Slot;
 use indexmap::IndexMap;
 use std::alloc::AllocError;
@@ -41,6 +41,29 @@ fn may_leave(slot: &Slot, floor: Tick) -> bool
     }
 }
 
+fn pair_at(slots: &IndexMap<u64, Slot>, at: usize) -> (u64, &Slot)
+    requires { at < length slots.now.entries }
+    ensures { slice_get slots.now.entries at ≡ Some (result.0, result.1.now) }
+{
+    let (id, slot) = slots.get_index(at).unwrap();
+    (*id, slot)
+}
+
+/// The last key in order that may leave, if the oldest open session began at `floor`.
+pub fn last_victim(slots: &IndexMap<u64, Slot>, floor: Tick) -> Option<u64>
+    ensures { result ≡ victim_in floor (reverse slots.now.entries) }
+{
+    let mut at = slots.len();
+    while at > 0 {
+        at -= 1;
+        let (id, slot) = pair_at(slots, at);
+        if may_leave(slot, floor) {
+            return Some(id);
+        }
+    }
+    None
+}
+
 /// The first key in order that may leave, if the oldest open session began at `floor`.
 pub fn victim(slots: &IndexMap<u64, Slot>, floor: Tick) -> Option<u64>
     ensures { result ≡ victim_in floor slots.now.entries }
@@ -63,8 +86,8 @@ pub fn set(slots: &mut IndexMap<u64, Slot>, id: u64, slot: Slot) -> Result<(), A
     Ok(())
 }
 
-// Gives a key that has a slot another one. It takes no memory.
-fn replace(slots: &mut IndexMap<u64, Slot>, id: u64, slot: Slot)
+/// Gives a key that has a slot another one. It takes no memory.
+pub fn replace(slots: &mut IndexMap<u64, Slot>, id: u64, slot: Slot)
     requires { is_some (lookup (nat_eq id) slots.old.entries) ≡ true }
     ensures { slots.new.entries ≡ insert_entry nat_eq slots.old.entries id slot }
 {
@@ -114,11 +137,11 @@ pub fn release(slots: &mut IndexMap<u64, Slot>, id: u64, now: Tick)
     slot.release(now);
 }
 
-/// What a holder that gives its lock back is answered.
-pub fn unlocked(slots: &IndexMap<u64, Slot>, id: u64, lock: Tick) -> Unlocked
-    ensures { result ≡ Regions.unlock (shown_in (lookup (nat_eq id) slots.now.entries)) lock }
+/// What a holder that gives its lock back is answered, by the slot of the key.
+pub fn unlocked(slot: Option<&Slot>, lock: Tick) -> Unlocked
+    ensures { result ≡ Regions.unlock (shown_in (option_copied slot.entry)) lock }
 {
-    match slots.get(&id) {
+    match slot {
         Some(
             Slot::Lock {
                 id: own,
@@ -132,11 +155,11 @@ pub fn unlocked(slots: &IndexMap<u64, Slot>, id: u64, lock: Tick) -> Unlocked
     }
 }
 
-/// What a holder that has committed an update is answered.
-pub fn updated(slots: &IndexMap<u64, Slot>, id: u64, lock: Tick) -> Updated
-    ensures { result ≡ Regions.after_update (shown_in (lookup (nat_eq id) slots.now.entries)) lock }
+/// What a holder that has committed an update is answered, by the slot of the key.
+pub fn updated(slot: Option<&Slot>, lock: Tick) -> Updated
+    ensures { result ≡ Regions.after_update (shown_in (option_copied slot.entry)) lock }
 {
-    match slots.get(&id) {
+    match slot {
         Some(
             Slot::Lock {
                 id: own,
@@ -155,18 +178,4 @@ pub fn updated(slots: &IndexMap<u64, Slot>, id: u64, lock: Tick) -> Updated
         }
         _ => Updated::Expired,
     }
-}
-
-/// Evicts a key that isn't held: a lock without holder stays in its place.
-pub fn evict(slots: &mut IndexMap<u64, Slot>, id: u64, now: Tick) -> Evicted
-    ensures answer { result ≡ Regions.evict (shown_in (lookup (nat_eq id) slots.old.entries)) }
-    ensures slots { slots.new.entries ≡ evict_leaves id now result slots.old.entries }
-{
-    match slots.get(&id) {
-        None => return Evicted::Absent,
-        Some(Slot::Lock { holders, .. }) if *holders > 0 => return Evicted::Held,
-        Some(_) => {}
-    }
-    replace(slots, id, bar(now, now));
-    Evicted::Gone
 }
