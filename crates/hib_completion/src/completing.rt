@@ -1,15 +1,20 @@
 // The acts that complete a transaction.
-ghost use Rattle.std.specs.Prelude.{◌≡◌, ◌∷◌, [], IfOk, option_copied, option_and_then, cond, None};
+ghost use Rattle.std.specs.Prelude.{◌≡◌, ◌≤◌, ◌∷◌, ◌++◌, [], IfOk, OnOk, length, option_copied, option_and_then, cond, take, None};
+ghost use Rattle.std.specs.List.{list_any};
+ghost use Rattle.hib_base.specs.Keys.{same_key};
 ghost use Rattle.hib_journal.specs.Next.{complete_by, complete_insert, complete_update, release_of, keys_of};
-ghost use Rattle.hib_base.specs.Tables.{row_left};
+ghost use Rattle.hib_base.specs.Tables.{key_of, row_left};
 ghost use Rattle.hib_completion.specs.Completed.{acts_of, key_acts, keys_acts, completes};
 ghost use Rattle.hib_completion.specs.Touched.{StandsFor};
 
 use crate::lists::tables;
-use crate::touched::{Touched, change_of, key_at, lock_number};
+use crate::touched::{Touched, change_of, first_of, is_changed, key_at, last_of, lock_number};
 use hib_base::{Act, Acts, Change, Key, Mapping, Mode, Row, Seq, Strategy, Tick, strategy_of};
 use indexmap::IndexMap;
 use std::alloc::{AllocError, Global};
+
+/// Up to so many changes going over them is cheaper than maps of their keys.
+const FEW: usize = 8;
 
 /// The row that may be put back after a key's last change.
 fn put_back(done: bool, last: Option<&Change>) -> Option<&Row>
@@ -167,7 +172,81 @@ fn one_completed(
     Ok(acts)
 }
 
-/// What completes each of the keys of these changes, in order of first change. Maps are made only if there are several.
+/// What completes one of the keys of few changes: its first and its last one are found by going over them.
+fn found_completed(
+    alloc: Global,
+    mapping: &Mapping,
+    changes: &[Change],
+    locks: &IndexMap<Key, Tick>,
+    done: bool,
+    floor: Tick,
+    key: &Key,
+) -> Result<Option<Act>, AllocError>
+    ensures { IfOk result (λ a. acts_of a
+        ≡ key_acts mapping.now changes.now locks.now.entries done floor key.now) }
+{
+    let first = first_of(changes, key);
+    let strategy = strategy_of(mapping.as_slice(), key.entity);
+    let lock = lock_number(locks, key);
+    let row = put_back(done, last_of(changes, key));
+    let act = key_completed(alloc, first, strategy, *key, lock, floor, row)?;
+    Ok(act)
+}
+
+/// Adds an act, if there is one.
+fn add(acts: &mut Acts, act: Option<Act>) -> Result<(), AllocError>
+    ensures { OnOk result (acts.new ≡ acts.old ++ acts_of act) }
+{
+    match act {
+        Some(act) => acts.push(act),
+        None => Ok(()),
+    }
+}
+
+/// What completes the key of the change at a place, unless one before it is of this key.
+fn new_completed(
+    alloc: Global,
+    mapping: &Mapping,
+    changes: &[Change],
+    locks: &IndexMap<Key, Tick>,
+    done: bool,
+    floor: Tick,
+    place: usize,
+    key: &Key,
+) -> Result<Option<Act>, AllocError>
+    requires { place ≤ length changes.now }
+    ensures { IfOk result (λ a. acts_of a
+        ≡ cond (list_any (λ c. same_key (key_of c) key.now) (take place changes.now)) []
+        (key_acts mapping.now changes.now locks.now.entries done floor key.now)) }
+{
+    if is_changed(&changes[..place], key) {
+        return Ok(None);
+    }
+    found_completed(alloc, mapping, changes, locks, done, floor, key)
+}
+
+/// What completes each of the keys of few changes, in order of first change.
+fn few_completed(
+    alloc: Global,
+    mapping: &Mapping,
+    changes: &[Change],
+    locks: &IndexMap<Key, Tick>,
+    done: bool,
+    floor: Tick,
+) -> Result<Acts, AllocError>
+    ensures { IfOk result (λ q. q ≡ keys_acts mapping.now changes.now locks.now.entries done floor
+        (keys_of changes.now)) }
+{
+    let mut acts = Seq::new(alloc);
+    for place in 0..changes.len() {
+        let key = changes[place].key();
+        let act = new_completed(alloc, mapping, changes, locks, done, floor, place, &key)?;
+        add(&mut acts, act)?;
+    }
+    Ok(acts)
+}
+
+/// What completes each of the keys of these changes, in order of first change. Maps are made only if there are many.
 fn keys_completed(
     alloc: Global,
     mapping: &Mapping,
@@ -182,6 +261,7 @@ fn keys_completed(
     match changes {
         [] => Ok(Seq::new(alloc)),
         [change] => one_completed(alloc, mapping, change, locks, done, floor),
+        _ if changes.len() <= FEW => few_completed(alloc, mapping, changes, locks, done, floor),
         _ => {
             let touched = Touched::of(alloc, changes)?;
             all_completed(alloc, mapping, changes, &touched, locks, done, floor)

@@ -1,8 +1,9 @@
 // The places of the first and the last change of each key, each found in one pass.
 ghost use Rattle.std.specs.Prelude.{◌≡◌, ◌<◌, cond, IfOk, OnOk, None, Some, length, option_copied, slice_get};
+ghost use Rattle.std.specs.List.{list_any};
 ghost use Rattle.std.specs.Map.{keys_of as keys_in, lookup};
 ghost use Rattle.hib_base.specs.Keys.{same_key};
-ghost use Rattle.hib_base.specs.Tables.{first_on, last_on};
+ghost use Rattle.hib_base.specs.Tables.{first_on, key_of, last_on};
 ghost use Rattle.hib_base.specs.declared.numbers.Key.{Key as KeyOf};
 ghost use Rattle.hib_journal.specs.Next.{keys_of};
 ghost use Rattle.hib_completion.specs.Completed.{lock_of};
@@ -22,6 +23,56 @@ pub fn change_of<'a>(
         ≡ at_place changes.now (lookup (same_key key.now) places.now.entries) }
 {
     changes.get(*places.get(key)?)
+}
+
+/// Whether one of the changes is of a key.
+pub fn is_changed(changes: &[Change], key: &Key) -> bool
+    ensures { result ≡ list_any (λ c. same_key (key_of c) key.now) changes.now }
+{
+    for change in changes {
+        if change.key() == *key {
+            return true;
+        }
+    }
+    false
+}
+
+/// The first change of a key.
+pub fn first_of<'a>(changes: &'a [Change], key: &Key) -> Option<&'a Change>
+    ensures { option_copied result ≡ first_on key.now changes.now }
+{
+    for change in changes {
+        if change.key() == *key {
+            return Some(change);
+        }
+    }
+    None
+}
+
+/// A later place if it counts, else the one so far.
+fn or_so_far(counts: bool, place: usize, last: Option<usize>) -> Option<usize>
+    ensures { result ≡ cond counts (Some place) last }
+{
+    if counts { Some(place) } else { last }
+}
+
+/// The place of the last change of a key.
+fn last_place(changes: &[Change], key: &Key) -> Option<usize>
+    ensures { at_place changes.now result ≡ last_on key.now changes.now }
+{
+    let mut last = None;
+    for place in 0..changes.len() {
+        let counts = changes[place].key() == *key;
+        last = or_so_far(counts, place, last);
+    }
+    last
+}
+
+/// The last change of a key.
+pub fn last_of<'a>(changes: &'a [Change], key: &Key) -> Option<&'a Change>
+    ensures { option_copied result ≡ last_on key.now changes.now }
+{
+    changes.get(last_place(changes, key)?)
 }
 
 /// A key has its first change at this place, unless it has one before.
