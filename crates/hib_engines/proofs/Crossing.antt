@@ -35,6 +35,7 @@ use Rattle.hib_rw_region.specs.contracts.region.RwRegion as ReadWriteT
 use Rattle.hib_engines.specs.contracts.region.Region as RegionT
 use Rattle.hib_query_eval.specs.contracts.places.Value as ValueT
 use Rattle.hib_query_eval.specs.contracts.places.Place as PlaceT
+use Rattle.hib_query_eval.specs.contracts.columns.Column as ColumnT
 use Rattle.hib_query_eval.specs.contracts.index.Index as IndexT
 use Rattle.hib_query_eval.specs.contracts.own.Laid as LaidT
 use Rattle.hib_query_eval.specs.contracts.own.Own as OwnT
@@ -127,8 +128,11 @@ value_send = search (sendable, crosses) depth 100 fits 100000
 place_send : IsSend PlaceT.the_field.row
 place_send = search (sendable, crosses, value_send) depth 100 fits 100000
 
+column_send : IsSend ColumnT.the_field.row
+column_send = search (sendable, crosses, maps, place_send) depth 100 fits 100000
+
 index_send : IsSend IndexT.the_field.row
-index_send = search (sendable, crosses, maps, place_send, key_send, row_send) depth 100 fits 100000
+index_send = search (sendable, crosses, column_send, key_send, row_send) depth 100 fits 100000
 
 laid_send : IsSend LaidT.the_field.row
 laid_send = search (sendable, crosses, maps, key_send, index_send) depth 100 fits 100000

@@ -10,70 +10,72 @@ use Rattle.hib_outside.proofs.Searches.{first_before, earlier}
 use Rattle.hib_journal.specs.Types.{Key, Row, Cell, Change, Commit}
 use Rattle.hib_journal.specs.Room.{key}
 use Rattle.hib_query_eval.specs.declared.places.Place.{Place}
+use Rattle.std.specs.List.{filter}
+use Rattle.hib_query_eval.specs.Enough.{HasEntity}
 use Rattle.hib_query_eval.specs.Places.{has_place, has_cell, IsIndexOf}
 
-pub no_rows : (ps : List Place) → ps ≡ [] → IsIndexOf ps []
-no_rows ps e = record {
-  cells = λ n c i d. ap (λ xs. has_place xs n c i d) e;
-  fit = λ n c i d h. absurd (true≢false (sym h ∙ ap (λ xs. has_place xs n c i d) e));
+pub no_rows : (e c : ℕ) (ps : List Place) → ps ≡ [] → IsIndexOf e c ps []
+no_rows e c ps n = record {
+  cells = λ i d. ap (λ xs. has_place xs e c i d) n;
+  fit = λ i d h. absurd (true≢false (sym h ∙ ap (λ xs. has_place xs e c i d) n));
 }
 
 own_id : (k : Key) (e i : ℕ) → same_key k (key e i) ≡ true → k.id ≡ i
 own_id k e i h = eqb-true k.id i ((and_parts (k.entity == e) (k.id == i) h).1)
 
--- a key's cells are added, if it had no row
-pub with_cells : (ps qs : List Place) (t u : Tables) (k : Key) (o : Option Row) → IsIndexOf ps t → row_at t k ≡ None → (is_some o ≡ true → k.id < 2 ^ 64)
-    → ((e c i : ℕ) (d : Cell) → has_place qs e c i d ≡ ((same_key k (key e i) && has_cell o c d) || has_place ps e c i d))
-    → ((q : Key) → row_at u q ≡ cond (same_key k q) o (row_at t q)) → IsIndexOf qs u
-with_cells ps qs t u k o x n l f g = record {
-  cells = λ e c i d. at e c i d (tested (same_key k (key e i)));
-  fit = λ e c i d h. fits e c i d (tested (has_place ps e c i d)) (tested (same_key k (key e i))) (sym (f e c i d) ∙ h);
+-- a key's cell in a column is added, if it had no row
+pub with_cells : (e c : ℕ) (ps qs : List Place) (t u : Tables) (k : Key) (o : Option Row) → IsIndexOf e c ps t → row_at t k ≡ None → (is_some o ≡ true → k.id < 2 ^ 64)
+    → ((i : ℕ) (d : Cell) → has_place qs e c i d ≡ ((same_key k (key e i) && has_cell o c d) || has_place ps e c i d))
+    → ((q : Key) → row_at u q ≡ cond (same_key k q) o (row_at t q)) → IsIndexOf e c qs u
+with_cells e c ps qs t u k o x n l f g = record {
+  cells = λ i d. at i d (tested (same_key k (key e i)));
+  fit = λ i d h. fits i d (tested (has_place ps e c i d)) (tested (same_key k (key e i))) (sym (f i d) ∙ h);
 }
   where
     or_false : (b : Bool) → (b || false) ≡ b
     or_false true = refl
     or_false false = refl
 
-    at : (e c i : ℕ) (d : Cell) → Tested (same_key k (key e i)) → has_place qs e c i d ≡ has_cell (row_at u (key e i)) c d
-    at e c i d (inl s) =
+    at : (i : ℕ) (d : Cell) → Tested (same_key k (key e i)) → has_place qs e c i d ≡ has_cell (row_at u (key e i)) c d
+    at i d (inl s) =
         let none : has_place ps e c i d ≡ false =
-        x.cells e c i d ∙ ap (λ j. has_cell (row_at t j) c d) (sym (same_key_eq k (key e i) s)) ∙ ap (λ r. has_cell r c d) n in
-        f e c i d ∙ (λ j. (s j && has_cell o c d) || none j) ∙ or_false (has_cell o c d)
+        x.cells i d ∙ ap (λ j. has_cell (row_at t j) c d) (sym (same_key_eq k (key e i) s)) ∙ ap (λ r. has_cell r c d) n in
+        f i d ∙ (λ j. (s j && has_cell o c d) || none j) ∙ or_false (has_cell o c d)
         ∙ sym (ap (λ r. has_cell r c d) (g (key e i) ∙ ap (λ b. cond b o (row_at t (key e i))) s))
-    at e c i d (inr s) =
-        f e c i d ∙ (λ j. (s j && has_cell o c d) || x.cells e c i d j)
+    at i d (inr s) =
+        f i d ∙ (λ j. (s j && has_cell o c d) || x.cells i d j)
         ∙ sym (ap (λ r. has_cell r c d) (g (key e i) ∙ ap (λ b. cond b o (row_at t (key e i))) s))
 
-    fits : (e c i : ℕ) (d : Cell) → Tested (has_place ps e c i d) → Tested (same_key k (key e i)) → ((same_key k (key e i) && has_cell o c d) || has_place ps e c i d) ≡ true
+    fits : (i : ℕ) (d : Cell) → Tested (has_place ps e c i d) → Tested (same_key k (key e i)) → ((same_key k (key e i) && has_cell o c d) || has_place ps e c i d) ≡ true
         → i < 2 ^ 64
-    fits e c i d (inl p) s h = x.fit e c i d p
-    fits e c i d (inr p) (inl s) h = subst (λ m. m < 2 ^ 64) (own_id k e i s) (l (some o (sym (or_false (has_cell o c d)) ∙ sym (λ j. (s j && has_cell o c d) || p j) ∙ h)))
+    fits i d (inl p) s h = x.fit i d p
+    fits i d (inr p) (inl s) h = subst (λ m. m < 2 ^ 64) (own_id k e i s) (l (some o (sym (or_false (has_cell o c d)) ∙ sym (λ j. (s j && has_cell o c d) || p j) ∙ h)))
       where
         some : (o : Option Row) → has_cell o c d ≡ true → is_some o ≡ true
         some None g = absurd (true≢false (sym g))
         some (Some r) g = refl
-    fits e c i d (inr p) (inr s) h = absurd (true≢false (sym h ∙ (λ j. (s j && has_cell o c d) || p j)))
+    fits i d (inr p) (inr s) h = absurd (true≢false (sym h ∙ (λ j. (s j && has_cell o c d) || p j)))
 
--- a key's cells are dropped
-pub without_cells : (ps qs : List Place) (t u : Tables) (k : Key) → IsIndexOf ps t
-    → ((e c i : ℕ) (d : Cell) → has_place qs e c i d ≡ (not (same_key k (key e i) && has_cell (row_at t k) c d) && has_place ps e c i d))
-    → ((q : Key) → row_at u q ≡ cond (same_key k q) None (row_at t q)) → IsIndexOf qs u
-without_cells ps qs t u k x f g = record {
-  cells = λ e c i d. at e c i d (tested (same_key k (key e i)));
-  fit = λ e c i d h. x.fit e c i d ((and_parts (not (same_key k (key e i) && has_cell (row_at t k) c d)) (has_place ps e c i d) (sym (f e c i d) ∙ h)).1);
+-- a key's cell in a column is dropped
+pub without_cells : (e c : ℕ) (ps qs : List Place) (t u : Tables) (k : Key) → IsIndexOf e c ps t
+    → ((i : ℕ) (d : Cell) → has_place qs e c i d ≡ (not (same_key k (key e i) && has_cell (row_at t k) c d) && has_place ps e c i d))
+    → ((q : Key) → row_at u q ≡ cond (same_key k q) None (row_at t q)) → IsIndexOf e c qs u
+without_cells e c ps qs t u k x f g = record {
+  cells = λ i d. at i d (tested (same_key k (key e i)));
+  fit = λ i d h. x.fit i d ((and_parts (not (same_key k (key e i) && has_cell (row_at t k) c d)) (has_place ps e c i d) (sym (f i d) ∙ h)).1);
 }
   where
     none : (b : Bool) → (not b && b) ≡ false
     none true = refl
     none false = refl
 
-    at : (e c i : ℕ) (d : Cell) → Tested (same_key k (key e i)) → has_place qs e c i d ≡ has_cell (row_at u (key e i)) c d
-    at e c i d (inl s) =
-        let there : has_place ps e c i d ≡ has_cell (row_at t k) c d = x.cells e c i d ∙ ap (λ j. has_cell (row_at t j) c d) (sym (same_key_eq k (key e i) s)) in
-        f e c i d ∙ (λ j. not (s j && has_cell (row_at t k) c d) && there j) ∙ none (has_cell (row_at t k) c d)
+    at : (i : ℕ) (d : Cell) → Tested (same_key k (key e i)) → has_place qs e c i d ≡ has_cell (row_at u (key e i)) c d
+    at i d (inl s) =
+        let there : has_place ps e c i d ≡ has_cell (row_at t k) c d = x.cells i d ∙ ap (λ j. has_cell (row_at t j) c d) (sym (same_key_eq k (key e i) s)) in
+        f i d ∙ (λ j. not (s j && has_cell (row_at t k) c d) && there j) ∙ none (has_cell (row_at t k) c d)
         ∙ sym (ap (λ r. has_cell r c d) (g (key e i) ∙ ap (λ b. cond b None (row_at t (key e i))) s))
-    at e c i d (inr s) =
-        f e c i d ∙ (λ j. not (s j && has_cell (row_at t k) c d) && x.cells e c i d j)
+    at i d (inr s) =
+        f i d ∙ (λ j. not (s j && has_cell (row_at t k) c d) && x.cells i d j)
         ∙ sym (ap (λ r. has_cell r c d) (g (key e i) ∙ ap (λ b. cond b None (row_at t (key e i))) s))
 
 -- the rows without a key's, as a function of keys
@@ -118,21 +120,26 @@ row_at_after c t q = at (tested (same_key (key_of c) q))
     at (inl s) = row_at_change c t q s ∙ sym (ap (λ b. cond b (row_left c) (row_at t q)) s)
     at (inr s) = row_at_other_change c t q s ∙ sym (ap (λ b. cond b (row_left c) (row_at t q)) s)
 
--- after a change
-pub changed : (ps ms qs : List Place) (c : Change) (t u : Tables) → IsIndexOf ps t → (is_some (row_left c) ≡ true → (key_of c).id < 2 ^ 64)
-    → ((e k i : ℕ) (d : Cell) → has_place ms e k i d ≡ (not (same_key (key_of c) (key e i) && has_cell (row_at t (key_of c)) k d) && has_place ps e k i d))
-    → ((e k i : ℕ) (d : Cell) → has_place qs e k i d ≡ ((same_key (key_of c) (key e i) && has_cell (row_left c) k d) || has_place ms e k i d))
-    → u ≡ after_change c t → IsIndexOf qs u
-changed ps ms qs c t u x l f g e =
-    with_cells ms qs (without t (key_of c)) u (key_of c) (row_left c)
-    (without_cells ps ms t (without t (key_of c)) (key_of c) x f (row_at_without t (key_of c)))
-    (row_at_itself (key_of c) t) l g
-    (λ q. ap (λ v. row_at v q) e ∙ row_at_after c t q ∙ at q (tested (same_key (key_of c) q)))
+-- after a change, of which the row that was there and the row that it leaves are given
+pub changed : (e c : ℕ) (ps ms qs : List Place) (x : Change) (t : Tables) (k : Key) (a b : Option Row) → k ≡ key_of x → a ≡ row_at t (key_of x) → b ≡ row_left x
+    → IsIndexOf e c ps t → (is_some b ≡ true → k.id < 2 ^ 64)
+    → ((i : ℕ) (d : Cell) → has_place ms e c i d ≡ (not (same_key k (key e i) && has_cell a c d) && has_place ps e c i d))
+    → ((i : ℕ) (d : Cell) → has_place qs e c i d ≡ ((same_key k (key e i) && has_cell b c d) || has_place ms e c i d))
+    → IsIndexOf e c qs (after_change x t)
+changed e c ps ms qs x t k a b p q r y l f g =
+    with_cells e c ms qs (without t (key_of x)) (after_change x t) (key_of x) (row_left x)
+    (without_cells e c ps ms t (without t (key_of x)) (key_of x) y
+    (λ i d. f i d ∙ (λ z. not (same_key (p z) (key e i) && has_cell (q z) c d) && has_place ps e c i d))
+    (row_at_without t (key_of x)))
+    (row_at_itself (key_of x) t)
+    (λ h. subst (λ j. j.id < 2 ^ 64) p (l (ap is_some r ∙ h)))
+    (λ i d. g i d ∙ (λ z. (same_key (p z) (key e i) && has_cell (r z) c d) || has_place ms e c i d))
+    (λ j. row_at_after x t j ∙ at j (tested (same_key (key_of x) j)))
   where
-    at : (q : Key) → Tested (same_key (key_of c) q)
-        → cond (same_key (key_of c) q) (row_left c) (row_at t q) ≡ cond (same_key (key_of c) q) (row_left c) (row_at (without t (key_of c)) q)
-    at q (inl s) = rw s refl
-    at q (inr s) = rw s (sym (row_at_without t (key_of c) q ∙ ap (λ b. cond b None (row_at t q)) s))
+    at : (j : Key) → Tested (same_key (key_of x) j)
+        → cond (same_key (key_of x) j) (row_left x) (row_at t j) ≡ cond (same_key (key_of x) j) (row_left x) (row_at (without t (key_of x)) j)
+    at j (inl s) = rw s refl
+    at j (inr s) = rw s (sym (row_at_without t (key_of x) j ∙ ap (λ b. cond b None (row_at t j)) s))
 
 -- one row more of rows in order
 row_at_last : (t : Tables) (n : ℕ) (x : Key × Row) (q : Key) → in_order t ≡ true → n < length t → x ≡ get_or t n x
@@ -160,12 +167,12 @@ row_at_last (y ∷ ys) (suc n) x q o l e =
         other (inr w) = w
     at d (inr s) h = rw s h
 
-pub one_row : (ps qs : List Place) (t : Tables) (n : ℕ) (x : Key × Row) → in_order t ≡ true → n < length t → x ≡ get_or t n x → IsIndexOf ps (take n t) → x.0.id < 2 ^ 64
-    → ((e c i : ℕ) (d : Cell) → has_place qs e c i d ≡ ((same_key x.0 (key e i) && has_cell (Some x.1) c d) || has_place ps e c i d))
-    → IsIndexOf qs (take (n + 1) t)
-one_row ps qs t n x o l e p h f =
-    subst (λ m. IsIndexOf qs (take m t)) (sym (add-one n))
-    (with_cells ps qs (take n t) (take (suc n) t) x.0 (Some x.1) p ((row_at_last t n x x.0 o l e).1) (λ y. h) f (λ q. (row_at_last t n x q o l e).0))
+pub one_row : (e c : ℕ) (ps qs : List Place) (t : Tables) (n : ℕ) (x : Key × Row) → in_order t ≡ true → n < length t → x ≡ get_or t n x → IsIndexOf e c ps (take n t) → x.0.id < 2 ^ 64
+    → ((i : ℕ) (d : Cell) → has_place qs e c i d ≡ ((same_key x.0 (key e i) && has_cell (Some x.1) c d) || has_place ps e c i d))
+    → IsIndexOf e c qs (take (n + 1) t)
+one_row e c ps qs t n x o l y p h f =
+    subst (λ m. IsIndexOf e c qs (take m t)) (sym (add-one n))
+    (with_cells e c ps qs (take n t) (take (suc n) t) x.0 (Some x.1) p ((row_at_last t n x x.0 o l y).1) (λ z. h) f (λ q. (row_at_last t n x q o l y).0))
 
 -- steps of the loop over changes
 pub next_changes : (cs : List Change) (i : ℕ) (c : Change) (t u v : Tables) → i < length cs → c ≡ get_or cs i c → after_changes cs t ≡ after_changes (drop i cs) u → v ≡ after_change c u
@@ -183,15 +190,23 @@ next_answer cs i c t u v l e h n a =
     at None h = refl
     at (Some b) h = absurd (true≢false (sym h))
 
--- the index after a change, of a key and rows that are those of the change
-pub changed_by : (ps ms qs : List Place) (c : Change) (t s u : Tables) (j : Key) (a b : Option Row) → j ≡ key_of c → s ≡ t → a ≡ row_at s j → b ≡ row_left c
-    → IsIndexOf ps t → (is_some b ≡ true → j.id < 2 ^ 64)
-    → ((e k i : ℕ) (d : Cell) → has_place ms e k i d ≡ (not (same_key j (key e i) && has_cell a k d) && has_place ps e k i d))
-    → ((e k i : ℕ) (d : Cell) → has_place qs e k i d ≡ ((same_key j (key e i) && has_cell b k d) || has_place ms e k i d))
-    → u ≡ tables_with t j b → IsIndexOf qs u
-changed_by ps ms qs c t s u j a b p m q r x l f g e =
-    let o : a ≡ row_at t (key_of c) = q ∙ (λ y. row_at (m y) (p y)) in
-    changed ps ms qs c t u x (λ h. subst (λ k. k.id < 2 ^ 64) p (l (ap is_some r ∙ h)))
-    (λ e k i d. f e k i d ∙ (λ y. not (same_key (p y) (key e i) && has_cell (o y) k d) && has_place ps e k i d))
-    (λ e k i d. g e k i d ∙ (λ y. (same_key (p y) (key e i) && has_cell (r y) k d) || has_place ms e k i d))
-    (e ∙ (λ y. tables_with t (p y) (r y)))
+-- ---- the places of an entity's rows, and those of all rows
+row_alone : (k : Key) (t : Tables) → row_at (filter (λ a. same_key a.0 k) t) k ≡ row_at t k
+row_alone k [] = refl
+row_alone k (x ∷ xs) = at (tested (same_key x.0 k)) (row_alone k xs)
+  where
+    at : Tested (same_key x.0 k) → row_at (filter (λ a. same_key a.0 k) xs) k ≡ row_at xs k
+        → row_at (cond (same_key x.0 k) (x ∷ filter (λ a. same_key a.0 k) xs) (filter (λ a. same_key a.0 k) xs)) k ≡ row_at (x ∷ xs) k
+    at (inl s) h =
+        ap (λ b. row_at (cond b (x ∷ filter (λ a. same_key a.0 k) xs) (filter (λ a. same_key a.0 k) xs)) k) s ∙ ap (λ o. cond (same_key x.0 k) (Some x.1) o) h
+    at (inr s) h =
+        ap (λ b. row_at (cond b (x ∷ filter (λ a. same_key a.0 k) xs) (filter (λ a. same_key a.0 k) xs)) k) s ∙ h ∙ sym (ap (λ b. cond b (Some x.1) (row_at xs k)) s)
+
+pub of_all : (e c : ℕ) (ps : List Place) (t some : Tables) → HasEntity e t some → IsIndexOf e c ps some → IsIndexOf e c ps t
+of_all e c ps t some h x = record { cells = λ i d. x.cells i d ∙ ap (λ o. has_cell o c d) (there i); fit = x.fit }
+  where
+    there : (i : ℕ) → row_at some (key e i) ≡ row_at t (key e i)
+    there i =
+        sym (row_alone (key e i) some)
+        ∙ ap (λ s. row_at s (key e i)) (h (λ a. same_key a.0 (key e i)) (λ a s. (and_parts (a.0.entity == e) (a.0.id == i) s).0))
+        ∙ row_alone (key e i) t

@@ -1,6 +1,6 @@
 pub mod Walks
 pub mod Merges
-pub mod Columns
+pub mod Indexes
 pub mod Compared
 pub mod Derived
 pub mod Found

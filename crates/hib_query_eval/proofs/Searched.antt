@@ -8,9 +8,9 @@ use Rattle.hib_base.proofs.Tables.{Tested, tested}
 use Rattle.hib_journal.specs.Types.{Row, Change, Cond, Query}
 use Rattle.hib_journal.specs.Query.{holds, mentions}
 use Rattle.hib_journal.specs.Room.{key}
-use Rattle.hib_query_eval.specs.declared.places.Place.{Place}
+use Rattle.hib_query_eval.specs.declared.columns.Column.{Column}
 use Rattle.hib_query_eval.specs.Covers.{Covers, HasLeft, HasMet}
-use Rattle.hib_query_eval.specs.Places.{IsIndexOf, has_id}
+use Rattle.hib_query_eval.specs.Places.{AreIndexes, has_id}
 use Rattle.hib_query_eval.specs.declared.own.Laid.{Laid}
 use Rattle.hib_query_eval.specs.Views.{is_changed, Lays}
 use Rattle.hib_query_eval.proofs.Spans.{gained}
@@ -29,10 +29,10 @@ not_stepped c (d ∷ cs) e n r =
     rw (ne_eqb (key_of d).entity n (λ s. true≢false (sym r ∙ subst (λ m. mentions m c ≡ false) s p.0))) (not_stepped c cs p.1 n r)
 
 -- identifiers among which are those of the rows that meet a query's condition
-pub all_met : {A : Type 0} (items : A → List ℕ) (ps : List Place) (q : Query) (c : Cond) (o : Option A) → q.condition ≡ Some c
-    → IfSome o (λ a. Covers ps q.entity c (items a)) → IfSome o (λ a. (t : Tables) → IsIndexOf ps t → HasMet q t (items a))
-all_met items ps q c None e f = tt
-all_met items ps q c (Some a) e f = λ t x r i at m. f t x r i at (ap (λ o. option_map_or (holds t r) o true) (sym e) ∙ m)
+pub all_met : {A : Type 0} (items : A → List ℕ) (cs : List Column) (q : Query) (c : Cond) (o : Option A) → q.condition ≡ Some c
+    → IfSome o (λ a. Covers cs q.entity c (items a)) → IfSome o (λ a. (t : Tables) → AreIndexes cs t → HasMet q t (items a))
+all_met items cs q c None e f = tt
+all_met items cs q c (Some a) e f = λ t x r i at m. f t x r i at (ap (λ o. option_map_or (holds t r) o true) (sym e) ∙ m)
 
 -- a row meets a query's condition before changes exactly if it does after them, if they touch no table to which the condition steps
 pub meets_after : (q : Query) (cs : List Change) (t : Tables) (r : Row) → option_map_or (λ c. list_any (λ d. mentions (key_of d).entity c) cs) q.condition false ≡ false

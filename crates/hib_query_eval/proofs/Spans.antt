@@ -13,10 +13,11 @@ use Rattle.hib_journal.specs.Types.{Cell, Op, Row, Path, Target, Cond}
 use Rattle.hib_base.specs.Tables.{Tables, row_at}
 use Rattle.hib_journal.specs.Room.{key}
 use Rattle.hib_journal.specs.Query.{is_below_text, is_below_cell, is_below_at, passes, same_cell, row_of_ref, cell_at, cell_by, holds}
+use Rattle.hib_query_eval.specs.declared.columns.Column.{Column}
 use Rattle.hib_query_eval.specs.declared.places.Place.{Place}
 use Rattle.hib_query_eval.specs.declared.places.Value.{Value}
 use Rattle.hib_query_eval.specs.Orders.{kind}
-use Rattle.hib_query_eval.specs.Places.{cell_in, is_place, has_place, has_id, has_cell, IsIndexOf}
+use Rattle.hib_query_eval.specs.Places.{cell_in, is_place, has_place, has_id, has_cell, IsIndexOf, AreIndexes}
 use Rattle.hib_query_eval.specs.Covers.{Covers, Refer}
 use Rattle.hib_query_eval.specs.Spans.{value_cmp, place_cmp, is_within}
 use Rattle.hib_query_eval.proofs.Merges.{int_one_way, text_one_way, bool_int, bool_text}
@@ -392,29 +393,29 @@ behind_texts b (Value.Bool a) l k = absurd (omega arith)
 -- the rows whose cell in a column passes a test
 pub cell_covers : (ps : List Place) (e c : ℕ) (test : Cell → Bool) (ids : List ℕ)
     → ((i : ℕ) (d : Cell) → i < 2 ^ 64 → has_place ps e c i d ≡ true → test d ≡ true → has_id i ids ≡ true)
-    → (t : Tables) → IsIndexOf ps t → (r : Row) (i : ℕ) → row_at t (key e i) ≡ Some r → option_map_or test (slice_get r.cells c) false ≡ true → has_id i ids ≡ true
+    → (t : Tables) → IsIndexOf e c ps t → (r : Row) (i : ℕ) → row_at t (key e i) ≡ Some r → option_map_or test (slice_get r.cells c) false ≡ true → has_id i ids ≡ true
 cell_covers ps e c test ids f t x r i at h = by (slice_get r.cells c) refl h
   where
     by : (o : Option Cell) → slice_get r.cells c ≡ o → option_map_or test o false ≡ true → has_id i ids ≡ true
     by None q g = absurd (true≢false (sym g))
     by (Some d) q g =
-        let there : has_place ps e c i d ≡ true = x.cells e c i d ∙ ap (λ o. has_cell o c d) at ∙ ap (λ x. option_map_or (same_cell d) x false) q ∙ same_cell_refl d in
-        f i d (x.fit e c i d there) there g
+        let there : has_place ps e c i d ≡ true = x.cells i d ∙ ap (λ o. has_cell o c d) at ∙ ap (λ x. option_map_or (same_cell d) x false) q ∙ same_cell_refl d in
+        f i d (x.fit i d there) there g
 
 -- a comparison at a column of the entity itself
 pub no_target_covers : (ps : List Place) (e c : ℕ) (p : Path) (test : Cell → Bool) (ids : List ℕ) → p.target ≡ None → c ≡ p.column
     → ((i : ℕ) (d : Cell) → i < 2 ^ 64 → has_place ps e c i d ≡ true → test d ≡ true → has_id i ids ≡ true)
-    → (t : Tables) → IsIndexOf ps t → (r : Row) (i : ℕ) → row_at t (key e i) ≡ Some r → option_map_or test (cell_at t r p) false ≡ true → has_id i ids ≡ true
+    → (t : Tables) → IsIndexOf e c ps t → (r : Row) (i : ℕ) → row_at t (key e i) ≡ Some r → option_map_or test (cell_at t r p) false ≡ true → has_id i ids ≡ true
 no_target_covers ps e c p test ids n m f t y r i at h =
     cell_covers ps e c test ids f t y r i at (ap (λ k. option_map_or test (slice_get r.cells k) false) m ∙ sym (ap (λ g. option_map_or test (cell_by t r p.column g) false) n) ∙ h)
 
 -- a comparison at a column of the row to which a cell refers
-module _ (ps : List Place) (e c : ℕ) (g : Target) (test : Cell → Bool) (targets ids : List ℕ)
-    (finds : (i : ℕ) (d : Cell) → i < 2 ^ 64 → has_place ps g.entity g.column i d ≡ true → test d ≡ true → has_id i targets ≡ true)
-    (refers : Refer ps e c targets ids) (t : Tables) (x : IsIndexOf ps t) where
+module _ (ps gs : List Place) (e c : ℕ) (g : Target) (test : Cell → Bool) (targets ids : List ℕ)
+    (finds : (i : ℕ) (d : Cell) → i < 2 ^ 64 → has_place gs g.entity g.column i d ≡ true → test d ≡ true → has_id i targets ≡ true)
+    (refers : Refer ps e c targets ids) (t : Tables) (x : IsIndexOf e c ps t) (y : IsIndexOf g.entity g.column gs t) where
   -- a row has the place of its cell
-  placed : (n k i : ℕ) (r : Row) (d : Cell) → row_at t (key n i) ≡ Some r → slice_get r.cells k ≡ Some d → has_place ps n k i d ≡ true
-  placed n k i r d at q = x.cells n k i d ∙ ap (λ o. has_cell o k d) at ∙ ap (λ x. option_map_or (same_cell d) x false) q ∙ same_cell_refl d
+  placed : (xs : List Place) (n k i : ℕ) (r : Row) (d : Cell) → IsIndexOf n k xs t → row_at t (key n i) ≡ Some r → slice_get r.cells k ≡ Some d → has_place xs n k i d ≡ true
+  placed xs n k i r d z at q = z.cells i d ∙ ap (λ o. has_cell o k d) at ∙ ap (λ x. option_map_or (same_cell d) x false) q ∙ same_cell_refl d
 
   referred : (r : Row) (i j : ℕ) → row_at t (key e i) ≡ Some r → slice_get r.cells c ≡ Some (Cell.Int (pos j))
       → (o : Option Row) → row_at t (key g.entity j) ≡ o → option_map_or test (option_and_then (λ x. slice_get x.cells g.column) o) false ≡ true → has_id i ids ≡ true
@@ -424,9 +425,9 @@ module _ (ps : List Place) (e c : ℕ) (g : Target) (test : Cell → Bool) (targ
       by : (o : Option Cell) → slice_get s.cells g.column ≡ o → option_map_or test o false ≡ true → has_id i ids ≡ true
       by None v h = absurd (true≢false (sym h))
       by (Some d) v h =
-          let there : has_place ps g.entity g.column j d ≡ true = placed g.entity g.column j s d b v in
-          let here : has_place ps e c i (Cell.Int (pos j)) ≡ true = placed e c i r (Cell.Int (pos j)) at q in
-          refers i j (x.fit e c i (Cell.Int (pos j)) here) (finds j d (x.fit g.entity g.column j d there) there h) here
+          let there : has_place gs g.entity g.column j d ≡ true = placed gs g.entity g.column j s d y b v in
+          let here : has_place ps e c i (Cell.Int (pos j)) ≡ true = placed ps e c i r (Cell.Int (pos j)) x at q in
+          refers i j (x.fit i (Cell.Int (pos j)) here) (finds j d (y.fit j d there) there h) here
 
   pub step_covers : (p : Path) → p.target ≡ Some g → c ≡ p.column → (r : Row) (i : ℕ) → row_at t (key e i) ≡ Some r → option_map_or test (cell_at t r p) false ≡ true → has_id i ids ≡ true
   step_covers p n m r i at h =
@@ -440,12 +441,12 @@ module _ (ps : List Place) (e c : ℕ) (g : Target) (test : Cell → Bool) (targ
       by (Some (Cell.Text s)) q h = absurd (true≢false (sym h ∙ ap (λ o. option_map_or test (option_and_then (λ x. slice_get x.cells g.column) (row_of_ref t g.entity o)) false) q))
       by (Some (Cell.Bool b)) q h = absurd (true≢false (sym h ∙ ap (λ o. option_map_or test (option_and_then (λ x. slice_get x.cells g.column) (row_of_ref t g.entity o)) false) q))
 
-pub steps_cover : (ps : List Place) (e c k : ℕ) (g : Target) (p : Path) (test : Cell → Bool) (found targets ids : List ℕ) → p.target ≡ Some g → c ≡ p.column → k ≡ g.column → targets ≡ found
-    → ((i : ℕ) (d : Cell) → i < 2 ^ 64 → has_place ps g.entity k i d ≡ true → test d ≡ true → has_id i found ≡ true) → Refer ps e c targets ids
-    → (t : Tables) → IsIndexOf ps t → (r : Row) (i : ℕ) → row_at t (key e i) ≡ Some r → option_map_or test (cell_at t r p) false ≡ true → has_id i ids ≡ true
-steps_cover ps e c k g p test found targets ids n m l s f h t x =
-    step_covers ps e c g test found ids (λ i d b v. f i d b (subst (λ w. has_place ps g.entity w i d ≡ true) (sym l) v))
-    (subst (λ xs. Refer ps e c xs ids) s h) t x p n m
+pub steps_cover : (ps gs : List Place) (e c k : ℕ) (g : Target) (p : Path) (test : Cell → Bool) (found targets ids : List ℕ) → p.target ≡ Some g → c ≡ p.column → k ≡ g.column → targets ≡ found
+    → ((i : ℕ) (d : Cell) → i < 2 ^ 64 → has_place gs g.entity k i d ≡ true → test d ≡ true → has_id i found ≡ true) → Refer ps e c targets ids
+    → (t : Tables) → IsIndexOf e c ps t → IsIndexOf g.entity k gs t → (r : Row) (i : ℕ) → row_at t (key e i) ≡ Some r → option_map_or test (cell_at t r p) false ≡ true → has_id i ids ≡ true
+steps_cover ps gs e c k g p test found targets ids n m l s f h t x y =
+    step_covers ps gs e c g test found ids (λ i d b v. f i d b (subst (λ w. has_place gs g.entity w i d ≡ true) (sym l) v))
+    (subst (λ xs. Refer ps e c xs ids) s h) t x (subst (λ w. IsIndexOf g.entity w gs t) l y) p n m
 
 -- one identifier of a target more
 pub refer_more : (ps : List Place) (e c : ℕ) (targets : List ℕ) (n : ℕ) (d : Cell) (m : ℕ) (old new : List ℕ) → m < length targets → n ≡ get_or targets m n → d ≡ Cell.Int (pos n)
@@ -465,12 +466,12 @@ pub no_refer : (ps : List Place) (e c : ℕ) (ids : List ℕ) → Refer ps e c [
 no_refer ps e c ids i j b h p = absurd (true≢false (sym h))
 
 -- a condition of two of which one holds
-pub or_covers : (ps : List Place) (e : ℕ) (a b : Cond) (p : Option (List ℕ)) (q : Option (List ℕ)) (ids : List ℕ) → IfSome p (Covers ps e a) → IfSome q (Covers ps e b)
-    → MatchOption p ⊥ (λ x. MatchOption q ⊥ (λ y. ids ≡ x ++ y)) → (t : Tables) → IsIndexOf ps t → (r : Row) (i : ℕ) → row_at t (key e i) ≡ Some r
+pub or_covers : (cs : List Column) (e : ℕ) (a b : Cond) (p : Option (List ℕ)) (q : Option (List ℕ)) (ids : List ℕ) → IfSome p (Covers cs e a) → IfSome q (Covers cs e b)
+    → MatchOption p ⊥ (λ x. MatchOption q ⊥ (λ y. ids ≡ x ++ y)) → (t : Tables) → AreIndexes cs t → (r : Row) (i : ℕ) → row_at t (key e i) ≡ Some r
     → (holds t r a || holds t r b) ≡ true → has_id i ids ≡ true
-or_covers ps e a b None q ids f g u t x r i at h = absurd u
-or_covers ps e a b (Some xs) None ids f g u t x r i at h = absurd u
-or_covers ps e a b (Some xs) (Some ys) ids f g u t x r i at h = by (or_cases (holds t r a) (holds t r b) h)
+or_covers cs e a b None q ids f g u t x r i at h = absurd u
+or_covers cs e a b (Some xs) None ids f g u t x r i at h = absurd u
+or_covers cs e a b (Some xs) (Some ys) ids f g u t x r i at h = by (or_cases (holds t r a) (holds t r b) h)
   where
     by : (holds t r a ≡ true) ⊎ (holds t r b ≡ true) → has_id i ids ≡ true
     by (inl v) = still i xs ids ys u (f t x r i at v)

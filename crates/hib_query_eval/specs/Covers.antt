@@ -5,15 +5,16 @@ use Rattle.hib_journal.specs.Types.{Row, Cell, Change, Cond, Query}
 use Rattle.hib_base.specs.Tables.{Tables, row_at}
 use Rattle.hib_journal.specs.Room.{key}
 use Rattle.hib_journal.specs.Query.{holds}
+use Rattle.hib_query_eval.specs.declared.columns.Column.{Column}
 use Rattle.hib_query_eval.specs.declared.own.Laid.{Laid}
 use Rattle.hib_query_eval.specs.declared.places.Place.{Place}
-use Rattle.hib_query_eval.specs.Places.{IsIndexOf, has_id, has_place}
+use Rattle.hib_query_eval.specs.Places.{AreIndexes, has_id, has_place}
 use Rattle.hib_query_eval.specs.Views.{is_changed}
 
--- in all tables of which these are the places
-abbrev pub Covers : List Place → ℕ → Cond → List ℕ → Type 0
-Covers ps entity condition ids =
-    (t : Tables) → IsIndexOf ps t → (r : Row) (id : ℕ) → row_at t (key entity id) ≡ Some r → holds t r condition ≡ true → has_id id ids ≡ true
+-- in all tables of whose columns these are the indexes
+abbrev pub Covers : List Column → ℕ → Cond → List ℕ → Type 0
+Covers cs entity condition ids =
+    (t : Tables) → AreIndexes cs t → (r : Row) (id : ℕ) → row_at t (key entity id) ≡ Some r → holds t r condition ≡ true → has_id id ids ≡ true
 
 -- the rows whose cell in a column refers to a row of one of some identifiers
 abbrev pub Refer : List Place → ℕ → ℕ → List ℕ → List ℕ → Type 0

@@ -6,6 +6,7 @@ use Rattle.hib_journal.specs.Types.{Row, Cell}
 use Rattle.hib_base.specs.Tables.{Tables, row_at}
 use Rattle.hib_journal.specs.Room.{key}
 use Rattle.hib_journal.specs.Query.{same_cell}
+use Rattle.hib_query_eval.specs.declared.columns.Column.{Column}
 use Rattle.hib_query_eval.specs.declared.places.Place.{Place}
 use Rattle.hib_query_eval.specs.declared.places.Value.{Value}
 
@@ -30,10 +31,14 @@ abbrev pub has_cell : Option Row → ℕ → Cell → Bool
 has_cell None column cell = false
 has_cell (Some r) column cell = option_map_or (same_cell cell) (slice_get r.cells column) false
 
--- the places are those of the rows' cells, and no others; identifiers have 64 bits
-pub record IsIndexOf (ps : List Place) (t : Tables) : Type 0 where
-  pub cells : (entity column id : ℕ) (cell : Cell) → has_place ps entity column id cell ≡ has_cell (row_at t (key entity id)) column cell
-  pub fit : (entity column id : ℕ) (cell : Cell) → has_place ps entity column id cell ≡ true → id < 2 ^ 64
+-- the places are those of the cells of an entity's rows in a column, and no others; identifiers have 64 bits
+pub record IsIndexOf (entity column : ℕ) (ps : List Place) (t : Tables) : Type 0 where
+  pub cells : (id : ℕ) (cell : Cell) → has_place ps entity column id cell ≡ has_cell (row_at t (key entity id)) column cell
+  pub fit : (id : ℕ) (cell : Cell) → has_place ps entity column id cell ≡ true → id < 2 ^ 64
+
+-- each column has the places of its cells
+abbrev pub AreIndexes : List Column → Tables → Type 0
+AreIndexes cs t = (n : ℕ) (c : Column) → slice_get cs n ≡ Some c → IsIndexOf c.entity c.column c.places.keys t
 
 abbrev pub has_id : ℕ → List ℕ → Bool
 has_id id ids = list_any (λ n. n == id) ids

@@ -10,6 +10,7 @@ ghost use Rattle.hib_query_eval.specs.Places.{cell_in, has_place, has_id};
 ghost use Rattle.hib_query_eval.specs.Spans.{value_cmp};
 ghost use Rattle.hib_query_eval.specs.Covers.{Covers, Refer};
 
+use crate::columns::{Column, places_in};
 use crate::places::{self, Place, Value};
 use hib_base::{Cell, Cond, EntityNo, Op, Path};
 use std::alloc::{AllocError, Global};
@@ -235,21 +236,27 @@ fn referring(
 /// The identifiers of the rows of which a comparison of the cell at a path holds, and perhaps of others.
 fn compared_at(
     alloc: Global,
-    places: &BTreeSet<Place>,
+    columns: &[Column],
     entity: EntityNo,
     path: &Path,
     op: Op,
     cell: &Cell,
 ) -> Result<Option<Vec<u64>>, AllocError>
     ensures { IfOk result (λ o. IfSome o
-        (λ ids. Covers places.now.keys entity (Cond.Test op path.now cell.now) ids.items)) }
+        (λ ids. Covers columns.now entity (Cond.Test op path.now cell.now) ids.items)) }
 {
     let column = usize::from(path.column);
+    let Some(places) = places_in(columns, entity, column) else {
+        return Ok(None);
+    };
     let Some(target) = path.target else {
         return compared(alloc, places, entity, column, op, cell);
     };
     let of_target = usize::from(target.column);
-    let Some(found) = compared(alloc, places, target.entity, of_target, op, cell)? else {
+    let Some(there) = places_in(columns, target.entity, of_target) else {
+        return Ok(None);
+    };
+    let Some(found) = compared(alloc, there, target.entity, of_target, op, cell)? else {
         return Ok(None);
     };
     referring(alloc, places, entity, column, found.as_slice())
@@ -258,75 +265,84 @@ fn compared_at(
 /// The identifiers of the rows of which the cell at a path is one of some cells, and perhaps of others.
 fn among_at(
     alloc: Global,
-    places: &BTreeSet<Place>,
+    columns: &[Column],
     entity: EntityNo,
     path: &Path,
     cells: &[Cell],
 ) -> Result<Option<Vec<u64>>, AllocError>
     ensures { IfOk result (λ o. IfSome o
-        (λ ids. Covers places.now.keys entity (Cond.Among path.now cells.now) ids.items)) }
+        (λ ids. Covers columns.now entity (Cond.Among path.now cells.now) ids.items)) }
 {
     let column = usize::from(path.column);
+    let Some(places) = places_in(columns, entity, column) else {
+        return Ok(None);
+    };
     let Some(target) = path.target else {
         return Ok(Some(among(alloc, places, entity, column, cells)?));
     };
     let of_target = usize::from(target.column);
-    let found = among(alloc, places, target.entity, of_target, cells)?;
+    let Some(there) = places_in(columns, target.entity, of_target) else {
+        return Ok(None);
+    };
+    let found = among(alloc, there, target.entity, of_target, cells)?;
     referring(alloc, places, entity, column, found.as_slice())
 }
 
-/// The identifiers of the rows of an entity that meet a condition, and perhaps of others, in any order. None if the places
+/// The identifiers of the rows of an entity that meet a condition, and perhaps of others, in any order. None if the columns
 /// don't narrow the condition.
 pub fn candidates(
     alloc: Global,
-    places: &BTreeSet<Place>,
+    columns: &[Column],
     entity: EntityNo,
     condition: &Cond,
     most: usize,
 ) -> Result<Option<Vec<u64>>, AllocError>
     ensures { IfOk result (λ o. IfSome o
-        (λ ids. Covers places.now.keys entity condition.now ids.items)) }
+        (λ ids. Covers columns.now entity condition.now ids.items)) }
 {
     match condition {
         Cond::And(first, second) => {
-            let of_first = candidates(alloc, places, entity, first, most)?;
-            let of_second = candidates(alloc, places, entity, second, most)?;
+            let of_first = candidates(alloc, columns, entity, first, most)?;
+            let of_second = candidates(alloc, columns, entity, second, most)?;
             Ok(shorter(of_first, of_second))
         }
         Cond::Or(first, second) => {
-            let of_first = candidates(alloc, places, entity, first, most)?;
-            let of_second = candidates(alloc, places, entity, second, most)?;
+            let of_first = candidates(alloc, columns, entity, first, most)?;
+            let of_second = candidates(alloc, columns, entity, second, most)?;
             joined(of_first, of_second)
         }
         Cond::Not(_) => Ok(None),
-        Cond::Test { .. } if is_wide(alloc, places, entity, condition, most)? => Ok(None),
-        Cond::Test { op, path, cell } => compared_at(alloc, places, entity, path, *op, cell),
-        Cond::Among { path, cells } => among_at(alloc, places, entity, path, cells.as_slice()),
+        Cond::Test { .. } if is_wide(alloc, columns, entity, condition, most)? => Ok(None),
+        Cond::Test { op, path, cell } => compared_at(alloc, columns, entity, path, *op, cell),
+        Cond::Among { path, cells } => among_at(alloc, columns, entity, path, cells.as_slice()),
     }
 }
 
-/// Whether the places find more rows of an entity for a condition than this, as far as that is quickly told. What is listed doesn't
+/// Whether the columns find more rows of an entity for a condition than this, as far as that is quickly told. What is listed doesn't
 /// depend on it.
 pub fn is_wide(
     alloc: Global,
-    places: &BTreeSet<Place>,
+    columns: &[Column],
     entity: EntityNo,
     condition: &Cond,
     most: usize,
 ) -> Result<bool, AllocError> {
     match condition {
         Cond::And(first, second) => Ok(
-            is_wide(alloc, places, entity, first, most)?
-                && is_wide(alloc, places, entity, second, most)?,
+            is_wide(alloc, columns, entity, first, most)?
+                && is_wide(alloc, columns, entity, second, most)?,
         ),
         Cond::Or(first, second) => Ok(
-            is_wide(alloc, places, entity, first, most)?
-                || is_wide(alloc, places, entity, second, most)?,
+            is_wide(alloc, columns, entity, first, most)?
+                || is_wide(alloc, columns, entity, second, most)?,
         ),
         Cond::Not(_) => Ok(true),
         Cond::Test { op, path, cell } if path.target.is_none() => {
-            let value = places::value_of(alloc, cell)?;
             let column = usize::from(path.column);
+            let Some(places) = places_in(columns, entity, column) else {
+                return Ok(true);
+            };
+            let value = places::value_of(alloc, cell)?;
             Ok(match op {
                 Op::Lt | Op::Le => places::are_more(
                     places,

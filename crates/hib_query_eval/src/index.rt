@@ -4,14 +4,13 @@ ghost use Rattle.hib_base.specs.Tables.{in_order, after_change, after_changes, c
 ghost use Rattle.hib_journal.specs.Query.{gives};
 ghost use Rattle.hib_journal.specs.Types.{Commit};
 ghost use Rattle.hib_query_eval.specs.Met.{met};
-ghost use Rattle.hib_query_eval.specs.Places.{IsIndexOf};
+ghost use Rattle.hib_query_eval.specs.Places.{AreIndexes};
 
+use crate::columns::Column;
 use crate::own::Own;
-use crate::places::Place;
-use crate::{changing, met, overlay};
+use crate::{changing, columns, met, overlay};
 use hib_base::{Change, Cond, EntityNo, Key, Listing, Query, Row, Rows};
 use std::alloc::{AllocError, Global};
-use std::collections::BTreeSet;
 use std::marker::Model;
 
 /// The rows of tables, which are found by their keys and by their cells. Contracts see the rows with their keys, in
@@ -19,7 +18,8 @@ use std::marker::Model;
 #[derive(Drop)]
 pub struct Index {
     rows: Vec<(Key, Row)>,
-    places: BTreeSet<Place>,
+    // The columns of which a query has asked.
+    columns: Vec<Column>,
 }
 
 impl Model for Index {
@@ -29,12 +29,12 @@ impl Model for Index {
 
     ghost use Rattle.std.specs.Prelude.{◌≡◌, true};
     ghost use Rattle.hib_base.specs.Tables.{in_order};
-    ghost use Rattle.hib_query_eval.specs.Places.{IsIndexOf};
+    ghost use Rattle.hib_query_eval.specs.Places.{AreIndexes};
 
     ghost view = { λ i. i.rows.items };
 
     ghost invariant = { λ i. (in_order i.rows.items ≡ true)
-        × IsIndexOf i.places.keys i.rows.items };
+        × AreIndexes i.columns.items i.rows.items };
 }
 
 impl Index {
@@ -43,9 +43,10 @@ impl Index {
         requires { in_order rows ≡ true }
         ensures { IfOk result (λ index. index ≡ rows) }
     {
-        let rows = rows.into_vec();
-        let places = changing::places_of(alloc, rows.as_slice())?;
-        Ok(Index { rows, places })
+        Ok(Index {
+            rows: rows.into_vec(),
+            columns: Vec::new(alloc),
+        })
     }
 
     /// The index of no rows. It takes no memory.
@@ -54,7 +55,7 @@ impl Index {
     {
         Index {
             rows: Vec::new(alloc),
-            places: BTreeSet::new(alloc),
+            columns: Vec::new(alloc),
         }
     }
 
@@ -66,11 +67,28 @@ impl Index {
         self.rows.as_slice()
     }
 
-    /// The places of the rows' cells.
-    pub(crate) fn places(&self) -> &BTreeSet<Place>
-        ensures { IsIndexOf result.now.keys self.now }
+    /// The columns by whose cells rows are found.
+    pub(crate) fn columns(&self) -> &[Column]
+        ensures { AreIndexes result.now self.now }
     {
-        &self.places
+        self.columns.as_slice()
+    }
+
+    /// Makes ready for a query: rows are found from then on by the cells of the columns that its condition asks for. Fails for
+    /// want of memory alone.
+    pub fn ready(&mut self, alloc: Global, query: &Query) -> Result<(), AllocError>
+        ensures { self.new ≡ self.old }
+    {
+        match &query.condition {
+            Some(condition) => columns::add_asked(
+                alloc,
+                &mut self.columns,
+                self.rows.as_slice(),
+                query.entity,
+                condition,
+            ),
+            None => Ok(()),
+        }
     }
 
     /// The index after a change, whether or not it applies. At an error the index is dropped.
@@ -79,10 +97,10 @@ impl Index {
     {
         let Index {
             mut rows,
-            mut places,
+            mut columns,
         } = self;
-        changing::lay_one(alloc, &mut rows, &mut places, change)?;
-        Ok(Index { rows, places })
+        changing::lay_one(alloc, &mut rows, &mut columns, change)?;
+        Ok(Index { rows, columns })
     }
 
     /// The index after changes one after the other; none exactly if they don't apply so. At none and at an error the index
@@ -95,14 +113,14 @@ impl Index {
     {
         let Index {
             mut rows,
-            mut places,
+            mut columns,
         } = self;
         for change in changes {
-            if !changing::change_one(alloc, &mut rows, &mut places, change)? {
+            if !changing::change_one(alloc, &mut rows, &mut columns, change)? {
                 return Ok(None);
             }
         }
-        Ok(Some(Index { rows, places }))
+        Ok(Some(Index { rows, columns }))
     }
 
     /// What a query gives over the rows with a session's own changes laid over them. The rows aren't copied.
@@ -111,7 +129,13 @@ impl Index {
         ensures ordered { in_order self.now ≡ true }
         ensures given { IfOk result (λ l. l ≡ gives query.now (after_changes own.now self.now)) }
     {
-        overlay::gives(alloc, query, self.rows.as_slice(), &self.places, own)
+        overlay::gives(
+            alloc,
+            query,
+            self.rows.as_slice(),
+            self.columns.as_slice(),
+            own,
+        )
     }
 
     /// The rows of an entity that meet a condition, if there is one. Fails for want of memory alone.

@@ -4,6 +4,7 @@
 mod candidates;
 mod cells;
 mod changing;
+mod columns;
 mod conditions;
 mod index;
 mod laws;

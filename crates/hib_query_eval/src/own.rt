@@ -71,10 +71,16 @@ impl Own {
     pub fn lay(&mut self, alloc: Global, query: &Query) -> Result<(), AllocError>
         ensures { self.new ≡ self.old }
     {
-        if self.laid.is_none() && reading::is_touched(query, self.changes.as_slice()) {
+        if !reading::is_touched(query, self.changes.as_slice()) {
+            return Ok(());
+        }
+        if self.laid.is_none() {
             self.laid = Some(all_laid(alloc, self.changes.as_slice())?);
         }
-        Ok(())
+        match &mut self.laid {
+            Some(laid) => laid.left.ready(alloc, query),
+            None => Ok(()),
+        }
     }
 
     /// What the changes leave, if it is known.

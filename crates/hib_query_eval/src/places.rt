@@ -3,12 +3,10 @@ ghost use Rattle.std.specs.Prelude.{◌≡◌, ◌<◌, ◌^◌, ℕ, ◌&&◌, 
 ghost use Rattle.std.specs.List.{filter};
 ghost use Rattle.std.specs.Ordering.{is_gt};
 ghost use Rattle.hib_journal.specs.Types.{Cell as CellSpec};
-ghost use Rattle.hib_base.specs.Keys.{same_key};
-ghost use Rattle.hib_journal.specs.Room.{key as key_at};
-ghost use Rattle.hib_query_eval.specs.Places.{cell_in, is_place, has_place, has_cell};
+ghost use Rattle.hib_query_eval.specs.Places.{cell_in, is_place, has_place};
 ghost use Rattle.hib_query_eval.specs.Spans.{value_cmp, is_within};
 
-use hib_base::{Cell, EntityNo, Key, Row};
+use hib_base::{Cell, EntityNo};
 use std::alloc::{AllocError, Global};
 use std::collections::BTreeSet;
 use std::ops::Bound;
@@ -53,7 +51,7 @@ pub fn value_of(alloc: Global, cell: &Cell) -> Result<Value, AllocError>
 }
 
 /// The place of a cell in a column of the row of an identifier.
-fn place_of(
+pub fn place_of(
     alloc: Global,
     entity: EntityNo,
     id: u64,
@@ -73,7 +71,8 @@ fn place_of(
     })
 }
 
-fn add_place(places: &mut BTreeSet<Place>, place: Place) -> Result<(), AllocError>
+/// Adds a place.
+pub fn add_place(places: &mut BTreeSet<Place>, place: Place) -> Result<(), AllocError>
     ensures { OnOk result ((e c i : ℕ) (d : CellSpec)
         → has_place places.new.keys e c i d
         ≡ (is_place e c i d place || has_place places.old.keys e c i d)) }
@@ -82,52 +81,13 @@ fn add_place(places: &mut BTreeSet<Place>, place: Place) -> Result<(), AllocErro
     Ok(())
 }
 
-fn drop_place(places: &mut BTreeSet<Place>, place: Place)
+/// Drops a place, if it is there.
+pub fn drop_place(places: &mut BTreeSet<Place>, place: Place)
     ensures { (e c i : ℕ) (d : CellSpec)
         → has_place places.new.keys e c i d
         ≡ (not (is_place e c i d place) && has_place places.old.keys e c i d) }
 {
     places.remove(&place);
-}
-
-/// Adds the places of a row's cells.
-pub fn add_cells(
-    alloc: Global,
-    places: &mut BTreeSet<Place>,
-    key: &Key,
-    row: &Row,
-) -> Result<(), AllocError>
-    ensures fit { key.now.id < 2 ^ 64 }
-    ensures added { OnOk result ((e c i : ℕ) (d : CellSpec)
-        → has_place places.new.keys e c i d
-        ≡ ((same_key key.now (key_at e i) && has_cell (Some row.now) c d) || has_place
-        places.old.keys e c i d)) }
-{
-    let id = key.id;
-    for column in 0..row.cells.len() {
-        let place = place_of(alloc, key.entity, id, column, row.cells.at(column))?;
-        add_place(places, place)?;
-    }
-    Ok(())
-}
-
-/// Drops the places of a row's cells.
-pub fn drop_cells(
-    alloc: Global,
-    places: &mut BTreeSet<Place>,
-    key: &Key,
-    row: &Row,
-) -> Result<(), AllocError>
-    ensures { OnOk result ((e c i : ℕ) (d : CellSpec)
-        → has_place places.new.keys e c i d
-        ≡ (not (same_key key.now (key_at e i) && has_cell (Some row.now) c d) && has_place
-        places.old.keys e c i d)) }
-{
-    for column in 0..row.cells.len() {
-        let place = place_of(alloc, key.entity, key.id, column, row.cells.at(column))?;
-        drop_place(places, place);
-    }
-    Ok(())
 }
 
 /// Adds the identifiers of the rows whose cell in a column is at one of two values or between them.

@@ -10,12 +10,12 @@ ghost use Rattle.hib_outside.specs.Places.{place_in};
 ghost use Rattle.hib_query_eval.specs.Covers.{HasLeft, HasMet};
 ghost use Rattle.hib_query_eval.specs.Enough.{first_of, is_listed, IsFirst, place_of, HasEntity};
 ghost use Rattle.hib_query_eval.specs.Found.{row_in, if_met};
-ghost use Rattle.hib_query_eval.specs.Places.{IsIndexOf, has_id};
+ghost use Rattle.hib_query_eval.specs.Places.{AreIndexes, has_id};
 ghost use Rattle.hib_query_eval.specs.Views.{is_changed, comes_first, laid_over, Lays};
 
 use crate::candidates::{candidates, is_wide};
+use crate::columns::Column;
 use crate::own::{self, Laid};
-use crate::places::Place;
 use crate::view::View;
 use crate::{conditions, listing, reading};
 use hib_base::{Change, EntityNo, Key, Query, Row};
@@ -90,14 +90,14 @@ fn rising(mut ids: Vec<u64>) -> Vec<u64>
 fn narrowed(
     alloc: Global,
     query: &Query,
-    places: &BTreeSet<Place>,
+    columns: &[Column],
     most: usize,
 ) -> Result<Option<Vec<u64>>, AllocError>
-    ensures { IfOk result (λ o. IfSome o (λ ids. (t : Tables) → IsIndexOf places.now.keys t
+    ensures { IfOk result (λ o. IfSome o (λ ids. (t : Tables) → AreIndexes columns.now t
         → HasMet query.now t ids.items)) }
 {
     match &query.condition {
-        Some(condition) => candidates(alloc, places, query.entity, condition, most),
+        Some(condition) => candidates(alloc, columns, query.entity, condition, most),
         None => Ok(None),
     }
 }
@@ -117,7 +117,7 @@ fn add_left(
     ensures left { OnOk result (HasLeft query.now changes.now laid.now ids.new.items) }
 {
     if !reading::steps_anywhere(query) {
-        if let Some(left) = narrowed(alloc, query, laid.left.places(), most)? {
+        if let Some(left) = narrowed(alloc, query, laid.left.columns(), most)? {
             ids.extend_from_slice(left.as_slice())?;
             return Ok(());
         }
@@ -130,19 +130,19 @@ fn add_left(
 fn narrowed_over(
     alloc: Global,
     query: &Query,
-    places: &BTreeSet<Place>,
+    columns: &[Column],
     changes: &[Change],
     laid: &Laid,
     most: usize,
 ) -> Result<Option<Vec<u64>>, AllocError>
     requires { Lays changes.now laid.now }
-    ensures { IfOk result (λ o. IfSome o (λ ids. (t : Tables) → IsIndexOf places.now.keys t
+    ensures { IfOk result (λ o. IfSome o (λ ids. (t : Tables) → AreIndexes columns.now t
         → HasMet query.now (after_changes changes.now t) ids.items)) }
 {
     if reading::touches_steps(query, changes) {
         return Ok(None);
     }
-    let Some(mut ids) = narrowed(alloc, query, places, most)? else {
+    let Some(mut ids) = narrowed(alloc, query, columns, most)? else {
         return Ok(None);
     };
     add_left(alloc, &mut ids, query, changes, laid, most)?;
@@ -155,7 +155,7 @@ fn listed_early<'a>(
     alloc: Global,
     query: &Query,
     own: &'a [(Key, Row)],
-    places: &BTreeSet<Place>,
+    columns: &[Column],
     view: &'a View<'_>,
     enough: usize,
 ) -> Result<Option<Vec<&'a (Key, Row)>>, AllocError>
@@ -164,7 +164,7 @@ fn listed_early<'a>(
 {
     if let Some(condition) = &query.condition {
         let many = enough.saturating_mul(2).saturating_add(64);
-        if !is_wide(alloc, places, query.entity, condition, many)? {
+        if !is_wide(alloc, columns, query.entity, condition, many)? {
             return Ok(None);
         }
     }
@@ -226,22 +226,22 @@ pub fn listed<'a>(
     alloc: Global,
     query: &Query,
     rows: &'a [(Key, Row)],
-    places: &BTreeSet<Place>,
+    columns: &[Column],
     view: &'a View<'_>,
     most: Option<usize>,
 ) -> Result<Vec<&'a (Key, Row)>, AllocError>
     requires ordered { in_order rows.now ≡ true }
-    requires indexed { IsIndexOf places.now.keys rows.now }
+    requires indexed { AreIndexes columns.now rows.now }
     requires view { view.now ≡ rows.now }
     ensures { IfOk result (λ v. IsFirst most query.now rows.now (map (λ r. r.now) v.items)) }
 {
     let own = of_entity(rows, query.entity);
     if let Some(enough) = most {
-        if let Some(met) = listed_early(alloc, query, own, places, view, enough)? {
+        if let Some(met) = listed_early(alloc, query, own, columns, view, enough)? {
             return Ok(met);
         }
     }
-    match narrowed(alloc, query, places, own.len() / 8)? {
+    match narrowed(alloc, query, columns, own.len() / 8)? {
         Some(ids) => {
             let ids = rising(ids);
             found(alloc, query, view, ids.as_slice())
@@ -324,21 +324,21 @@ pub fn listed_over<'a>(
     alloc: Global,
     query: &Query,
     rows: &'a [(Key, Row)],
-    places: &BTreeSet<Place>,
+    columns: &[Column],
     changes: &[Change],
     laid: &'a Laid,
     view: &'a View<'_>,
     most: Option<usize>,
 ) -> Result<Vec<&'a (Key, Row)>, AllocError>
     requires ordered { in_order rows.now ≡ true }
-    requires indexed { IsIndexOf places.now.keys rows.now }
+    requires indexed { AreIndexes columns.now rows.now }
     requires laid { Lays changes.now laid.now }
     requires view { view.now ≡ after_changes changes.now rows.now }
     ensures { IfOk result (λ v. IsFirst most query.now view.now (map (λ r. r.now) v.items)) }
 {
     let own = of_entity(rows, query.entity);
     let many = many(own.len(), most);
-    if let Some(ids) = narrowed_over(alloc, query, places, changes, laid, many)? {
+    if let Some(ids) = narrowed_over(alloc, query, columns, changes, laid, many)? {
         let ids = rising(ids);
         return found(alloc, query, view, ids.as_slice());
     }

@@ -211,6 +211,7 @@ impl<K: Keeper> Store<K> {
             return Ok(Listed::List(views::listed(alloc, query, rows, changes)?));
         }
         asking::make_index(alloc, &mut self.keeper, &mut self.index, self.entities)?;
+        views::ready(alloc, &mut self.index, query)?;
         written::lay(alloc, &mut self.written, session, query)?;
         match written::own_of(&self.written, session) {
             Some(own) => views::answered(alloc, &self.index, query, own),

@@ -27,6 +27,16 @@ pub fn listed(
     hib_query_eval::gives(alloc, query, &view)
 }
 
+/// Makes an index ready for a query, if there is one. Fails for want of memory alone.
+pub fn ready(alloc: Global, index: &mut Option<Index>, query: &Query) -> Result<(), AllocError>
+    ensures { index.new ≡ index.old }
+{
+    match index {
+        Some(index) => index.ready(alloc, query),
+        None => Ok(()),
+    }
+}
+
 /// What a query gives over the rows of an index with changes laid over them; a fault if there is no index.
 pub fn answered(
     alloc: Global,

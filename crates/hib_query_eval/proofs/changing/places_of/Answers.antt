@@ -1,7 +1,0 @@
-use Rattle.hib_query_eval.proofs.Indexed.{one_row}
-use Rattle.hib_query_eval.proofs.changing.places_of.Goals as goal
-
-pub loop-row-preserved : goal.loop-row-preserved
-loop-row-preserved c =
-    one_row c.loop-row.places.keys c.add_cells.new.places.keys c.args.rows.now c.loop-row.row-index c.row-item.result c.requires c.loop-row-test.true c.row-item.is
-    c.loop-row.invariant c.add_cells.ensures.fit c.in_ok-add_cells.ensures.added
