@@ -6,6 +6,12 @@ pub trait Gate: Sync {
     /// Called before each step, with the session and the number of its entries so far, or 4294967295 if there
     /// are more. It promises nothing.
     fn pass(&self, session: SessionNo, place: u32);
+
+    /// Whether it has to be passed before each step. A gate that never holds a worker may answer that it hasn't: then a worker that
+    /// keeps a lock for several steps passes it once for all of them. It promises nothing.
+    fn may_hold(&self) -> bool {
+        true
+    }
 }
 
 /// Holds nobody.
@@ -15,4 +21,9 @@ pub struct OpenGate;
 impl Gate for OpenGate {
     /// Returns at once.
     fn pass(&self, _session: SessionNo, _place: u32) {}
+
+    /// It never holds a worker.
+    fn may_hold(&self) -> bool {
+        false
+    }
 }

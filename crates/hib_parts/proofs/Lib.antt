@@ -10,3 +10,4 @@ pub mod Fences
 pub mod Placing
 pub mod OneByOne
 pub mod Run
+pub mod Ready

@@ -236,7 +236,7 @@ impl<K: Keeper, N: Name> Parts<K, N> {
         }
     }
 
-    /// One step of a session: the act that is due in it, if one is, at the tick that is due. If memory runs out no list has an
+    /// One step of a session, which is made ready first: the act that is due in it, if one is, at the tick that is due. If memory runs out no list has an
     /// entry more. The lists of parts and of sessions are those of one journal, if they were before; and if sessions came one after
     /// the other in it, they still do.
     pub fn step(
@@ -257,6 +257,7 @@ impl<K: Keeper, N: Name> Parts<K, N> {
             worker.new) }
         ensures kept { OnErr result (IsKept worker.old worker.new) }
     {
+        worker.ready(alloc, script)?;
         let Some(act) = worker.next(alloc, script)? else {
             return Ok(Stepped::Done);
         };

@@ -8,7 +8,7 @@ use crate::strange::Strange;
 use hib_base::{Part, Script, SessionNo};
 use hib_engines::{Name, Stepped};
 use hib_journal::part_of;
-use hib_outside::Keeper;
+use hib_outside::{Keeper, lock_soon};
 use hib_parts::{
     Parts, RegionPart, RegistryPart, ResultsPart, StampsPart, StorePart, Worker, step_own,
     step_registry, step_results, step_stamps, step_store,
@@ -196,7 +196,7 @@ impl<K: Keeper, N: Name> Bench<K, N> {
         match halt {
             Halt::NoMemory => self.refused.store(true, Ordering::SeqCst),
             Halt::Strange(strange) => {
-                let mut held = self.strange.lock(rt);
+                let mut held = lock_soon(rt, &self.strange);
                 *held = Some(strange);
             }
         }
@@ -204,7 +204,7 @@ impl<K: Keeper, N: Name> Bench<K, N> {
 
     /// Puts a worker at the place of its session, for the caller to go on with.
     pub fn put_aside<R: Wait>(&self, rt: &R, worker: Worker<N>) {
-        let mut held = self.aside.lock(rt);
+        let mut held = lock_soon(rt, &self.aside);
         let aside = &mut *held;
         let place = worker.number().0 as usize;
         // Each session has a place.
@@ -214,7 +214,7 @@ impl<K: Keeper, N: Name> Bench<K, N> {
     }
 
     /// One step of a session: the act that is due in it, if one is, under the lock of the part that it is on. An act of its own is
-    /// made under no lock.
+    /// made under no lock. The session is made ready before the lock is taken.
     pub fn step<R: Wait>(
         &self,
         rt: &R,
@@ -224,6 +224,7 @@ impl<K: Keeper, N: Name> Bench<K, N> {
     ) -> Result<Stepped, Halt>
         requires { script.now ≡ N.script }
     {
+        worker.ready(alloc, script)?;
         let Some(act) = worker.next(alloc, script)? else {
             return Ok(Stepped::Done);
         };
@@ -246,16 +247,16 @@ impl<K: Keeper, N: Name> Bench<K, N> {
     {
         match part {
             Part::Registry => {
-                step_registry(alloc, script, &mut *self.registry.lock(rt), worker)?;
+                step_registry(alloc, script, &mut *lock_soon(rt, &self.registry), worker)?;
             }
             Part::Store => {
-                step_store(alloc, script, &mut *self.store.lock(rt), worker)?;
+                step_store(alloc, script, &mut *lock_soon(rt, &self.store), worker)?;
             }
             Part::Stamps => {
-                step_stamps(alloc, script, &mut *self.stamps.lock(rt), worker)?;
+                step_stamps(alloc, script, &mut *lock_soon(rt, &self.stamps), worker)?;
             }
             Part::Results => {
-                step_results(alloc, script, &mut *self.results.lock(rt), worker)?;
+                step_results(alloc, script, &mut *lock_soon(rt, &self.results), worker)?;
             }
             Part::Region(entity) => {
                 step_under_lock(rt, alloc, script, self.regions.as_slice(), entity, worker)?;

@@ -7,6 +7,7 @@ use crate::halt::Halt;
 use crate::strange::{Strange, compared};
 use hib_base::{EntityNo, Script};
 use hib_engines::Name;
+use hib_outside::lock_soon;
 use hib_parts::{RegionPart, Worker, step_region};
 use std::alloc::Global;
 use std::sync::{Mutex, Wait};
@@ -86,7 +87,7 @@ pub fn step_under_lock<R: Wait, N: Name>(
     let Some(place) = place_of(regions, entity) else {
         return Err(Halt::NoMemory);
     };
-    let mut held = regions[place].region.lock(rt);
+    let mut held = lock_soon(rt, &regions[place].region);
     let region = &mut *held;
     let found = region.entity();
     compared(entity, found)?;

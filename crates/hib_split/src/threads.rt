@@ -65,14 +65,16 @@ fn take_turns<R: Threads + Wait + Sync, K: Keeper, N: Name + Send + Sync, G: Gat
     spread(rt, workers, &work);
 }
 
-/// Starts so many threads that do this work, and waits for their ends. One that can't be started is done without.
+/// Has so many threads do this work, of which this one is the last, and waits for their ends. One that can't be started is done
+/// without.
 fn spread<R: Threads + Wait + Sync, F: Fn() + Sync>(rt: &R, workers: u32, work: &F)
     requires { F.pre work.now }
 {
     thread::scope(thread::scope_env(), rt, |scope| {
-        for _ in 0..workers {
+        for _ in 1..workers {
             let _ = scope.spawn(move || work());
         }
+        work();
     });
 }
 

@@ -11,7 +11,7 @@ use crate::desk::{Desk, Handed};
 use hib_base::{Query, SessionNo};
 use hib_core::Factory;
 use hib_engines::{Name, Stepped};
-use hib_outside::{Gate, Keeper, Listener};
+use hib_outside::{Gate, Keeper, Listener, lock_soon};
 use std::alloc::{AllocError, Global};
 use std::marker::Brand;
 use std::sync::atomic::{AtomicUsize, Ordering};
@@ -27,9 +27,13 @@ pub struct Worked<K: Keeper, N: Name, L: Listener> {
     pub out_of_memory: bool,
 }
 
-/// Runs each session to its end, on so many threads. Each takes the next session that nobody has taken, and makes its steps one
-/// after the other: before a step it passes the gate, and for a step it takes the factory's lock. What they leave undone is done here
-/// once they have ended. Once memory has run out no further step is made.
+/// How many steps of a session a worker makes at most before it gives the factory's lock back, if the gate holds nobody.
+const STEPS: u32 = 64;
+
+/// Runs each session to its end, on so many threads, of which the caller's is one. Each takes the next session that nobody has taken,
+/// and makes its steps one after the other: before a step it passes the gate, and for a step it takes the factory's lock. If the gate
+/// holds nobody, it passes it once and keeps the lock for up to 64 steps. What they leave undone is done here once they have ended.
+/// Once memory has run out no further step is made.
 pub fn work<R: Threads + Wait + Sync, K: Keeper, N: Name + Send + Sync, L: Listener, G: Gate>(
     rt: &R,
     alloc: Global,
@@ -141,14 +145,16 @@ fn take_turns<
     spread(rt, workers, &move || serve(rt, alloc, bench, gate));
 }
 
-/// Starts so many threads that do this work, and waits for their ends. One that can't be started is done without.
+/// Has so many threads do this work, of which this one is the last, and waits for their ends. One that can't be started is done
+/// without.
 fn spread<R: Threads + Wait + Sync, F: Fn() + Sync>(rt: &R, workers: u32, work: &F)
     requires { F.pre work.now }
 {
     thread::scope(thread::scope_env(), rt, |scope| {
-        for _ in 0..workers {
+        for _ in 1..workers {
             let _ = scope.spawn(move || work());
         }
+        work();
     });
 }
 
@@ -169,7 +175,7 @@ fn serve<H: Handed, R: Wait, K: Keeper, N: Name, L: Listener, G: Gate>(
     }
 }
 
-/// Steps a session to its end. The lock is free before each step, and while the gate holds the worker.
+/// Steps a session to its end. The lock is free while the gate holds the worker.
 fn run_session<H: Handed, R: Wait, K: Keeper, N: Name, L: Listener, G: Gate>(
     rt: &R,
     alloc: Global,
@@ -179,14 +185,41 @@ fn run_session<H: Handed, R: Wait, K: Keeper, N: Name, L: Listener, G: Gate>(
 ) -> Result<(), AllocError>
     requires { number < length N.script.sessions }
 {
-    let mut place = bench.desk.lock(rt).place_of(number);
+    let most = if gate.may_hold() { 1 } else { STEPS };
+    let mut place = lock_soon(rt, &bench.desk).place_of(number);
     for _ in rt.forever() {
         gate.pass(number, place);
-        let stepped = bench.desk.lock(rt).step(alloc, number)?;
-        match stepped {
-            Stepped::Did => place = place.saturating_add(1),
-            Stepped::Done => break,
+        let mut held = lock_soon(rt, &bench.desk);
+        match make_steps(alloc, &mut *held, number, most)? {
+            Made::Steps(count) => place = place.saturating_add(count),
+            Made::All => break,
         }
     }
     Ok(())
+}
+
+/// What was made of a session.
+enum Made {
+    /// So many steps, and more may follow.
+    Steps(u32),
+    /// All, to its end.
+    All,
+}
+
+/// Makes so many steps of a session, or fewer to its end.
+fn make_steps<H: Handed, K: Keeper, N: Name, L: Listener>(
+    alloc: Global,
+    desk: &mut Desk<K, N, L, H>,
+    number: SessionNo,
+    most: u32,
+) -> Result<Made, AllocError>
+    requires { number < length N.script.sessions }
+{
+    for _ in 0..most {
+        match desk.step(alloc, number)? {
+            Stepped::Did => {}
+            Stepped::Done => return Ok(Made::All),
+        }
+    }
+    Ok(Made::Steps(most))
 }
