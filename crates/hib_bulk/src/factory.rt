@@ -3,7 +3,7 @@ ghost use Rattle.std.specs.Prelude.{◌≡◌, ◌≢◌, ◌≤◌, ◌+◌, �
 ghost use Rattle.hib_outside.specs.Causes.{Rose};
 ghost use Rattle.hib_store.specs.Stores.{handed_back, is_store_fault};
 ghost use Rattle.hib_engines.specs.Counts.{RoseBy};
-ghost use Rattle.hib_engines.specs.Origin.{told_start};
+ghost use Rattle.hib_engines.specs.Origin.{origin_over};
 ghost use Rattle.hib_playing.specs.Playing.{GoesOn};
 ghost use Rattle.hib_bulk.specs.Types.{BulkEntry};
 ghost use Rattle.hib_bulk_law.specs.Acts.{next};
@@ -77,11 +77,8 @@ impl<K: Keeper, N: Name> BulkFactory<K, N> {
         requires lines { bulks.lines ≡ N.lines }
         requires orders { bulks.orders ≡ N.orders }
         requires set { AreSet N.script N.lines }
-        requires from { record {
-          tables = told_start N.script (K.tables keeper);
-          faults = K.faults keeper;
-          asked = K.asked keeper;
-        } ≡ N.from }
+        requires from { origin_over N.script (K.tables keeper) (K.faults keeper) (K.asked keeper)
+            ≡ N.from }
         ensures empty { IfOk result (λ f. past f.journal ≡ []) }
         ensures back { IfErr result (λ e. K.tables (handed_back e) ≡ K.tables keeper) }
         ensures back_faults { IfErr result (λ e. K.faults keeper ≤ K.faults (handed_back e)) }

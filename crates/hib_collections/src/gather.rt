@@ -5,7 +5,7 @@ ghost use Rattle.hib_outside.specs.Causes.{Rose};
 ghost use Rattle.hib_store.specs.Stores.{handed_back, is_store_fault};
 ghost use Rattle.hib_engines.specs.Counts.{RoseBy, RoseWithin};
 ghost use Rattle.hib_engines.specs.Engines.{IsStill};
-ghost use Rattle.hib_engines.specs.Origin.{told_start};
+ghost use Rattle.hib_engines.specs.Origin.{origin_over};
 ghost use Rattle.hib_listeners.specs.Told.{tells};
 ghost use Rattle.hib_listeners.specs.Heard.{HaveHeard};
 ghost use Rattle.hib_collections_law.specs.declared.entries.GatherEntry.{GatherEntry};
@@ -84,11 +84,8 @@ impl<K: Keeper, N: Name, L: Listener> Gather<K, N, L> {
         requires script { script ≡ N.script }
         requires defs { defs ≡ N.defs }
         requires set { AreSet N.script N.defs }
-        requires from { record {
-          tables = told_start N.script (K.tables keeper);
-          faults = K.faults keeper;
-          asked = K.asked keeper;
-        } ≡ N.from }
+        requires from { origin_over N.script (K.tables keeper) (K.faults keeper) (K.asked keeper)
+            ≡ N.from }
         requires told { tells L.heard L.left listeners.items ≡ N.told }
         ensures empty { IfOk result (λ f. past f.journal ≡ []) }
         ensures going { IfOk result (λ f. f.refused ≡ false) }

@@ -5,7 +5,7 @@ ghost use Rattle.hib_outside.specs.Causes.{Rose};
 ghost use Rattle.hib_store.specs.Stores.{handed_back, is_store_fault};
 ghost use Rattle.hib_engines.specs.Counts.{RoseBy, RoseWithin};
 ghost use Rattle.hib_engines.specs.Engines.{IsStill};
-ghost use Rattle.hib_engines.specs.Origin.{told_start};
+ghost use Rattle.hib_engines.specs.Origin.{origin_over};
 ghost use Rattle.hib_collections_law.specs.Gathered.{plain};
 ghost use Rattle.hib_collections.specs.Kept.{past};
 ghost use Rattle.hib_collections.specs.Run.{AreSet, Does, IsAsked, IsAskedOnceMore, ask_count};
@@ -71,11 +71,8 @@ impl<K: Keeper, N: Name> Core<K, N> {
         requires script { script ≡ N.script }
         requires defs { defs ≡ N.defs }
         requires set { AreSet N.script N.defs }
-        requires from { record {
-          tables = told_start N.script (K.tables keeper);
-          faults = K.faults keeper;
-          asked = K.asked keeper;
-        } ≡ N.from }
+        requires from { origin_over N.script (K.tables keeper) (K.faults keeper) (K.asked keeper)
+            ≡ N.from }
         ensures empty { IfOk result (λ c. past c.journal ≡ []) }
         ensures going { IfOk result (λ c. c.refused ≡ false) }
         ensures back { IfErr result (λ e. K.tables (handed_back e) ≡ K.tables keeper) }

@@ -4,7 +4,7 @@ use Rattle.hib_journal.specs.Types.{Act, Reply, Entry}
 use Rattle.hib_journal.specs.Sessions.{Journal}
 use Rattle.hib_journal.specs.Lists.{entry_at}
 pub use Rattle.hib_engines.specs.Counts.{RoseBy, RoseWithin}
-pub use Rattle.hib_engines.specs.Origin.{Origin, told_start}
+pub use Rattle.hib_engines.specs.Origin.{Origin, told_start, origin_over}
 
 -- the next entry of a session
 abbrev pub entry_of : Journal → ℕ → Act → Reply → Entry

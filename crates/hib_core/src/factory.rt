@@ -13,7 +13,7 @@ ghost use Rattle.hib_law.specs.Hits.{AreListsGiven};
 ghost use Rattle.hib_law.specs.Law.{Obeys};
 ghost use Rattle.hib_engines.specs.Built.{IsSound};
 ghost use Rattle.hib_engines.specs.Engines.{IsStill, IsAskedFor};
-ghost use Rattle.hib_core.specs.Standing.{RoseBy, RoseWithin, told_start};
+ghost use Rattle.hib_core.specs.Standing.{RoseBy, RoseWithin, origin_over};
 ghost use Rattle.hib_outside.specs.Causes.{Rose};
 ghost use Rattle.hib_store.specs.Stores.{handed_back, is_store_fault};
 ghost use Rattle.hib_core.specs.Bound.{most_in, outside_count};
@@ -78,11 +78,8 @@ impl<K: Keeper, N: Name, L: Listener> Factory<K, N, L> {
     ) -> Result<Factory<K, N, L>, OpenRefused<K, L>>
         requires script { script ≡ N.script }
         requires valid { is_valid N.script ≡ true }
-        requires from { record {
-          tables = told_start N.script (K.tables keeper);
-          faults = K.faults keeper;
-          asked = K.asked keeper;
-        } ≡ N.from }
+        requires from { origin_over N.script (K.tables keeper) (K.faults keeper) (K.asked keeper)
+            ≡ N.from }
         requires told { tells L.heard L.left listeners.items ≡ N.told }
         ensures empty { IfOk result (λ f. past f.journal ≡ []) }
         ensures going { IfOk result (λ f. f.refused ≡ false) }

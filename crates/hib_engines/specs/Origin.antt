@@ -15,3 +15,7 @@ pub record Origin : Type 0 where
 -- rows are beside it
 abbrev pub told_start : Script → Option Tables → Option Tables
 told_start script kept = option_map (λ t. start script.mapping t script.rows) kept
+
+-- what a run over a keeper begins with, by what the keeper tells
+abbrev pub origin_over : Script → Option Tables → ℕ → ℕ → Origin
+origin_over script kept faults asked = record { tables = told_start script kept; faults = faults; asked = asked }

@@ -4,7 +4,7 @@ ghost use Rattle.hib_base.specs.Valid.{is_valid};
 ghost use Rattle.hib_journal.specs.Kept.{past};
 ghost use Rattle.hib_outside.specs.Causes.{Rose};
 ghost use Rattle.hib_store.specs.Stores.{handed_back, is_store_fault};
-ghost use Rattle.hib_engines.specs.Origin.{told_start};
+ghost use Rattle.hib_engines.specs.Origin.{origin_over};
 ghost use Rattle.hib_split.specs.Alone.{AreListed};
 ghost use Rattle.hib_joined.specs.Joined.{AreJoinedUnless};
 ghost use Rattle.hib_joined.specs.Run.{CameToOne};
@@ -58,11 +58,8 @@ pub fn run_joined<R: Threads + Wait + Sync, K: Keeper, N: Name + Send + Sync, G:
     requires workers { (1 ≤ workers) × (workers ≤ 64) }
     requires script { script.now ≡ N.script }
     requires valid { is_valid N.script ≡ true }
-    requires from { record {
-      tables = told_start N.script (K.tables keeper);
-      faults = K.faults keeper;
-      asked = K.asked keeper;
-    } ≡ N.from }
+    requires from { origin_over N.script (K.tables keeper) (K.faults keeper) (K.asked keeper)
+            ≡ N.from }
     ensures came { IfOk result (λ r. CameToOne workers N.script N.from r.joined
         (K.tables r.keeper) (K.faults r.keeper) (K.asked r.keeper)) }
     ensures listed { IfOk result (λ r. AreListed N.script N.from.tables (map past r.lists)

@@ -4,7 +4,7 @@
 
 ghost use Rattle.std.specs.Prelude.{◌≡◌, true};
 ghost use Rattle.hib_base.specs.Valid.{is_valid};
-ghost use Rattle.hib_core.specs.Standing.{told_start};
+ghost use Rattle.hib_core.specs.Standing.{origin_over};
 ghost use Rattle.hib_listeners.specs.Told.{tells};
 
 use hib_base::{Commit, Entry, Reply, Script, Seq, SessionNo};
@@ -89,11 +89,8 @@ fn sell_in<N: Name, K: Keeper + Drop, L: Listener>(
 ) -> Result<Option<Sold<L>>, AllocError>
     requires script { script ≡ N.script }
     requires valid { is_valid N.script ≡ true }
-    requires from { record {
-      tables = told_start N.script (K.tables keeper);
-      faults = K.faults keeper;
-      asked = K.asked keeper;
-    } ≡ N.from }
+    requires from { origin_over N.script (K.tables keeper) (K.faults keeper) (K.asked keeper)
+            ≡ N.from }
     requires told { tells L.heard L.left listeners.items ≡ N.told }
 {
     let Ok(mut factory) = Factory::<K, N, L>::open(alloc, script, keeper, listeners) else {

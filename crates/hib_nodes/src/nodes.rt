@@ -5,7 +5,7 @@ ghost use Rattle.hib_journal.specs.Runs.{told_committed, is_fault, fault_count, 
 ghost use Rattle.hib_outside.specs.Causes.{Rose};
 ghost use Rattle.hib_store.specs.Stores.{handed_back, is_store_fault};
 ghost use Rattle.hib_engines.specs.Counts.{RoseBy, RoseWithin};
-ghost use Rattle.hib_engines.specs.Origin.{told_start};
+ghost use Rattle.hib_engines.specs.Origin.{origin_over};
 ghost use Rattle.hib_nodes_law.specs.declared.nodes.NodeEntry.{NodeEntry};
 ghost use Rattle.hib_nodes_law.specs.Apart.{AreOfParts};
 ghost use Rattle.hib_nodes_law.specs.Nodes.{entries};
@@ -83,11 +83,8 @@ impl<K: Keeper, N: Name> Nodes<K, N> {
         requires places { places.nodes ≡ N.places }
         requires orders { places.orders ≡ N.orders }
         requires set { AreSet N.script N.places }
-        requires from { record {
-          tables = told_start N.script (K.tables keeper);
-          faults = K.faults keeper;
-          asked = K.asked keeper;
-        } ≡ N.from }
+        requires from { origin_over N.script (K.tables keeper) (K.faults keeper) (K.asked keeper)
+            ≡ N.from }
         ensures empty { IfOk result (λ f. past f.journal ≡ []) }
         ensures going { IfOk result (λ f. f.refused ≡ false) }
         ensures back { IfErr result (λ e. K.tables (handed_back e) ≡ K.tables keeper) }

@@ -5,7 +5,7 @@ use Rattle.hib_base.specs.Start.{start}
 use Rattle.hib_base.specs.Tables.{Tables}
 use Rattle.hib_journal.specs.Types.{Script, Entry}
 use Rattle.hib_journal.specs.Sessions.{Journal}
-use Rattle.hib_core.specs.Standing.{Origin, told_start}
+use Rattle.hib_core.specs.Standing.{Origin, origin_over}
 use Rattle.hib_order_law.specs.Orders.{is_killing}
 
 -- the committed rows at the start: the script's
@@ -14,7 +14,7 @@ rows_at_start script = start script.mapping [] script.rows
 
 -- a new keeper: it keeps no row, has never failed and was asked for nothing
 abbrev pub new_origin : Script → Origin
-new_origin script = record { tables = told_start script (Some []); faults = 0; asked = 0 }
+new_origin script = origin_over script (Some []) 0 0
 
 -- each entry is of a session, or kills one: none evicts or restarts
 abbrev pub are_steps : Journal → Bool

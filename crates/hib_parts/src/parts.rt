@@ -5,7 +5,7 @@ ghost use Rattle.hib_base.specs.Valid.{is_valid};
 ghost use Rattle.hib_journal.specs.Next.{is_cached};
 ghost use Rattle.hib_outside.specs.Causes.{Rose};
 ghost use Rattle.hib_store.specs.Stores.{handed_back, is_store_fault};
-ghost use Rattle.hib_engines.specs.Origin.{told_start};
+ghost use Rattle.hib_engines.specs.Origin.{origin_over};
 ghost use Rattle.hib_engines.specs.Built.{IsBuilt};
 
 use crate::region::RegionPart;
@@ -66,11 +66,8 @@ impl<K: Keeper, N: Name> Parts<K, N> {
     pub fn open(alloc: Global, script: &Script, keeper: K) -> Result<Parts<K, N>, OpenFault<K>>
         requires script { script.now ≡ N.script }
         requires valid { is_valid N.script ≡ true }
-        requires from { record {
-          tables = told_start N.script (K.tables keeper);
-          faults = K.faults keeper;
-          asked = K.asked keeper;
-        } ≡ N.from }
+        requires from { origin_over N.script (K.tables keeper) (K.faults keeper) (K.asked keeper)
+            ≡ N.from }
         ensures registry { IfOk result (λ p. p.registry ≡ []) }
         ensures store { IfOk result (λ p. p.store.list ≡ []) }
         ensures going { IfOk result (λ p. p.store.refused ≡ false) }

@@ -11,7 +11,7 @@ ghost use Rattle.hib_store.specs.Stores.{handed_back, is_store_fault};
 ghost use Rattle.hib_split_law.specs.Apart.{IsPartLegal, store_ask_count};
 ghost use Rattle.hib_engines.specs.Counts.{RoseBy, RoseWithin};
 ghost use Rattle.hib_engines.specs.Store.{IsCounted, IsStored};
-ghost use Rattle.hib_engines.specs.Origin.{told_start};
+ghost use Rattle.hib_engines.specs.Origin.{origin_over};
 ghost use Rattle.hib_engines.specs.Built.{IsBuilt};
 ghost use Rattle.hib_parts.specs.Listed.{AreOf, IsDueOn, IsEntered, IsLater, IsKept, last_of};
 ghost use Rattle.hib_parts.specs.Stored.{IsStoreEntered};
@@ -92,11 +92,8 @@ impl<K: Keeper, N: Name> StorePart<K, N> {
     pub fn open(alloc: Global, script: &Script, keeper: K) -> Result<StorePart<K, N>, OpenFault<K>>
         requires script { script.now ≡ N.script }
         requires built { IsBuilt N.script }
-        requires from { record {
-          tables = told_start N.script (K.tables keeper);
-          faults = K.faults keeper;
-          asked = K.asked keeper;
-        } ≡ N.from }
+        requires from { origin_over N.script (K.tables keeper) (K.faults keeper) (K.asked keeper)
+            ≡ N.from }
         ensures list { IfOk result (λ p. p.list ≡ []) }
         ensures going { IfOk result (λ p. p.refused ≡ false) }
         ensures back { IfErr result (λ e. K.tables (handed_back e) ≡ K.tables keeper) }

@@ -16,7 +16,7 @@ use Rattle.hib_joined.specs.Run.{AreInOrder}
 use Rattle.hib_listeners.specs.Heard.{HaveHeard}
 use Rattle.hib_listeners.specs.Told.{Told}
 use Rattle.hib_core.specs.Bound.{outside_count}
-use Rattle.hib_core.specs.Standing.{Origin, RoseBy, RoseWithin, told_start}
+use Rattle.hib_core.specs.Standing.{Origin, RoseBy, RoseWithin, told_start, origin_over}
 use Rattle.hib_report.specs.Report.{report, summary}
 use Rattle.hib_json_lines.specs.Line.{json_lines}
 use Rattle.hib_formed.specs.Fitting.{AreFit}
@@ -81,7 +81,7 @@ most_asked true h = ask_count h + 1
 
 -- what a run begins with, over what is lent to it
 abbrev pub origin : Script → Shared → Origin
-origin script old = record { tables = told_start script old.tables; faults = old.faults; asked = old.asked }
+origin script old = origin_over script old.tables old.faults old.asked
 
 -- a run: what the keeper and the listeners tell after it is what its journal says. It begins with the rows that the keeper kept,
 -- with the script's rows; short says whether memory ran out
