@@ -10,6 +10,8 @@ pub mod Laid
 pub mod Views
 pub mod Searched
 pub mod Enough
+pub mod Parted
+pub mod Nearer
 pub mod Lowest
 pub mod Mets
 pub mod Overlays

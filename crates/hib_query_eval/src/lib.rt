@@ -6,6 +6,7 @@ mod cells;
 mod changing;
 mod columns;
 mod conditions;
+mod foremost;
 mod index;
 mod laws;
 mod listing;

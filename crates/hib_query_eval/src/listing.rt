@@ -36,7 +36,7 @@ pub fn enough(query: &Query) -> Option<usize>
 }
 
 /// The place behind the last row that a query's offset and limit leave.
-fn last_place(query: &Query) -> usize
+pub fn last_place(query: &Query) -> usize
     ensures { result ≡ query.now.offset + query.now.limit }
 {
     query.offset as usize + query.limit as usize

@@ -8,7 +8,7 @@ ghost use Rattle.hib_query_eval.specs.Views.{Lays};
 use crate::columns::Column;
 use crate::own::{self, Laid, Own};
 use crate::view::View;
-use crate::{listing, reading, searches};
+use crate::{foremost, listing, reading, searches};
 use hib_base::{Change, Key, Listing, Query, Row};
 use std::alloc::{AllocError, Global};
 
@@ -62,8 +62,28 @@ fn given(
     ensures { IfOk result (λ l. l ≡ gives query.now rows.now) }
 {
     let view = View::of(rows);
+    let own = searches::of_entity(rows, query.entity);
+    match foremost::foremost(alloc, query, own, columns, &view)? {
+        Some(met) => listing::selected(alloc, query, &met),
+        None => given_of_all(alloc, query, rows, columns, &view),
+    }
+}
+
+/// What a query gives over rows as they are, by all rows that it lists, or by so many as are enough.
+fn given_of_all(
+    alloc: Global,
+    query: &Query,
+    rows: &[(Key, Row)],
+    columns: &[Column],
+    view: &View<'_>,
+) -> Result<Listing, AllocError>
+    requires ordered { in_order rows.now ≡ true }
+    requires indexed { AreIndexes columns.now rows.now }
+    requires view { view.now ≡ rows.now }
+    ensures { IfOk result (λ l. l ≡ gives query.now rows.now) }
+{
     let enough = listing::enough(query);
-    let met = searches::listed(alloc, query, rows, columns, &view, enough)?;
+    let met = searches::listed(alloc, query, rows, columns, view, enough)?;
     listing::selected(alloc, query, &met)
 }
 

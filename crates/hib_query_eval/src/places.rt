@@ -9,6 +9,7 @@ ghost use Rattle.hib_query_eval.specs.Spans.{value_cmp, is_within};
 use hib_base::{Cell, EntityNo};
 use std::alloc::{AllocError, Global};
 use std::collections::BTreeSet;
+use std::collections::btree_set::Range;
 use std::ops::Bound;
 
 /// A cell as an index orders it, or a bound of a search.
@@ -123,15 +124,14 @@ pub fn add_between(
     Ok(())
 }
 
-/// Whether more cells than this are in a column at one of two values or between them.
-pub fn are_more(
+/// The places of the cells in a column that are at one of two values or between them, in order.
+pub fn between(
     places: &BTreeSet<Place>,
     entity: EntityNo,
     column: usize,
     from: Value,
     to: Value,
-    most: usize,
-) -> bool
+) -> Range<'_, Place>
     requires { is_gt (value_cmp from to) ≡ false }
 {
     let first = Place {
@@ -146,8 +146,22 @@ pub fn are_more(
         value: to,
         id: u64::MAX,
     };
+    places.range((Bound::Included(first), Bound::Included(last)))
+}
+
+/// Whether more cells than this are in a column at one of two values or between them.
+pub fn are_more(
+    places: &BTreeSet<Place>,
+    entity: EntityNo,
+    column: usize,
+    from: Value,
+    to: Value,
+    most: usize,
+) -> bool
+    requires { is_gt (value_cmp from to) ≡ false }
+{
     let mut left = most;
-    for _place in places.range((Bound::Included(first), Bound::Included(last))) {
+    for _place in between(places, entity, column, from, to) {
         if left == 0 {
             return true;
         }

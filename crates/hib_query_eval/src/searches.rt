@@ -24,7 +24,7 @@ use std::alloc::{AllocError, Global};
 use std::collections::BTreeSet;
 
 /// The row of an identifier, if it meets a query's condition.
-fn met_at<'a>(query: &Query, view: &'a View<'_>, id: u64) -> Option<&'a (Key, Row)>
+pub fn met_at<'a>(query: &Query, view: &'a View<'_>, id: u64) -> Option<&'a (Key, Row)>
     ensures { option_copied result
         ≡ if_met query.now view.now (row_in view.now (key_at query.now.entity id)) }
 {
