@@ -17,7 +17,7 @@ invariant_of-result g c =
     let from = c.requires.from in
     let kept : Rattle.std.specs.Prelude.Option Tables = g.K.Keeper.tables c.args.keeper in (
       q,
-      standing_begins c.law.ensures.obeyed g.N.Name.script g.N.Name.from _ c.requires.valid (ready g.N.Name.script c.requires.valid) c.open-2.ensures.past
+      standing_begins c.law.ensures.obeyed g.N.Name.script g.N.Name.from _ c.requires.valid (ready g.N.Name.script c.requires.valid) c.open_for-journal.ensures.past
           (subst (λ (told : Rattle.std.specs.Prelude.Option Tables). AreStanding g.N.Name.script told [] c.in_ok-engines.engines) (ap (λ (o : Origin). o.tables) from)
           (subst (λ (s : Script). AreStanding s (told_start s kept) [] c.in_ok-engines.engines) q c.in_ok-engines.ensures.standing))
           (subst (λ (s : Script). c.in_ok-engines.engines.store.entities ≡ length s.mapping) q c.in_ok-engines.ensures.entities)
