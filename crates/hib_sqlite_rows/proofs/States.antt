@@ -1,16 +1,18 @@
 -- What a statement leaves of the tables, and of what a rollback goes back to.
-use Rattle.std.proofs.Common.{◌≡◌, ◌⊎◌, inl, inr, ◌≤◌, ◌^◌, ◌+◌, ◌-◌, min, ℕ, Bool, true, false, cond, List, [], length, Some, None, Option, Ok, Err, Result, IsTrue, refl, sym, ◌∙◌, subst, ap, true≢false, arith}
+use Rattle.std.proofs.Common.{◌≡◌, ◌≢◌, ◌⊎◌, inl, inr, ◌≤◌, ◌^◌, ◌+◌, ◌-◌, min, ℕ, Bool, true, false, cond, List, [], length, Some, None, Option, Ok, Err, Result, IsTrue, refl, sym, ◌∙◌, subst, ap, true≢false, arith}
 use Rattle.std.proofs.lemmas.Bool.{cases_Bool}
 use Rattle.sqlite_value.specs.Order.{Row as SqlRow}
 use Rattle.sqlite.specs.Effect.{Database}
 use Rattle.sqlite.specs.Tree.{Trees}
-use Rattle.sqlite.specs.Command.TheVariants.{Begin, Commit, Rollback, CreateTable, Nothing, Release, RollbackTo}
+use Rattle.sqlite_schema.specs.declared.command.Command.{Command}
+use Rattle.sqlite.specs.Command.TheVariants.{Begin, Commit, Rollback, CreateTable, Release, RollbackTo}
+use Rattle.sqlite_schema.specs.declared.schema.Schema.{Schema}
 use Rattle.sqlite_schema.specs.declared.command.Returning.{Returning}
 use Rattle.sqlite.specs.declared.error.Error.{Error}
 use Rattle.sqlite.specs.Listing.{understood}
 use Rattle.sqlite.specs.Clock.{timed}
 use Rattle.sqlite_resolve.specs.declared.compiled.Compiled.{Compiled}
-use Rattle.sqlite.specs.State.{State, Executes, Writes as Wrote, Shows, Shown, ShowsRows, FailsToQuery, FailsToShow, IsUnchanged, IsRolledBack, IsNotRun, IsNoStatement, RunsCommand, Survives, HasCleanDisk, shows_rows}
+use Rattle.sqlite.specs.State.{State, Executes, Writes as Wrote, Shows, Shown, ShowsRows, FailsToQuery, FailsToShow, IsUnchanged, IsRolledBack, IsNotRun, IsNoStatement, IsMisplaced, RunsCommand, Survives, HasCleanDisk, shows_rows}
 use Rattle.sqlite.proofs.Callers.{IsPlain, runs_as, command_of}
 use Rattle.sqlite_tied.specs.Compute.{everything}
 use Rattle.sqlite_resolve.specs.declared.error.CompileError.{CompileError}
@@ -196,37 +198,43 @@ commits old new count keeps h =
 
 -- ---- a rollback is made, or the transaction is undone by a failure
 
-tail_of : Result Compiled CompileError → ℕ
+abbrev pub tail_of : Result Compiled CompileError → ℕ
 tail_of (Ok c) = c.tail
 tail_of (Err e) = 0
 
-count_of : Result Compiled CompileError → ℕ
+abbrev pub count_of : Result Compiled CompileError → ℕ
 count_of (Ok c) = length c.names
 count_of (Err e) = 0
 
 rollback_whole : tail_of (understood kept_schema rollback_text) ≡ length rollback_text
-unfolding understood everything tail_of
+unfolding understood everything
 rollback_whole = refl
 
 rollback_bare : count_of (understood kept_schema rollback_text) ≡ 0
-unfolding understood everything count_of
+unfolding understood everything
 rollback_bare = refl
 
--- the text is one statement, so it is not refused as none
-is_statement : (s : State) (e : Error) → s.now.schema ≡ kept_schema → IsNoStatement s rollback_text [] e → ⊥
-unfolding tail_of count_of
-is_statement s e has (inl h) =
-    let known : understood kept_schema rollback_text ≡ Err h.0 = sym (ap (λ t. understood t rollback_text) has) ∙ h.1 in
-    let bad : Nothing ≡ Rollback = sym (ap command_of known) ∙ rollback_is in cc
-is_statement s e has (inr h) =
-    let known : understood kept_schema rollback_text ≡ Ok h.0 = sym (ap (λ t. understood t rollback_text) has) ∙ h.1 in
-    let whole : h.0.tail ≡ length rollback_text = sym (ap tail_of known) ∙ rollback_whole in
-    let bare : length h.0.names ≡ 0 = sym (ap count_of known) ∙ rollback_bare in
-    let plain = subst IsPlain known rollback_plain in
+-- a text that is one statement without parameters isn't refused as none
+pub is_statement : (sql : List ℕ) (schema : Schema) (s : State) (e : Error) → s.now.schema ≡ schema → IsPlain (understood schema sql) → tail_of (understood schema sql) ≡ length sql → count_of (understood schema sql) ≡ 0
+    → IsNoStatement s sql [] e → ⊥
+is_statement sql schema s e has plain whole bare (inl h) = subst IsPlain (sym (ap (λ t. understood t sql) has) ∙ h.1) plain
+is_statement sql schema s e has plain whole bare (inr h) =
+    let known : understood schema sql ≡ Ok h.0 = sym (ap (λ t. understood t sql) has) ∙ h.1 in
+    let long : h.0.tail ≡ length sql = sym (ap tail_of known) ∙ whole in
+    let none : length h.0.names ≡ 0 = sym (ap count_of known) ∙ bare in
+    let formats = (subst IsPlain known plain).1 in
     elim h.2 [
-      | inl part ↦ part.0 (omega (arith, whole))
-      | inr other ↦ elim other [ inl given ↦ given.0 (sym bare) | inr timed ↦ timed.0 plain.1 ]
+      | inl part ↦ part.0 (omega (arith, long))
+      | inr other ↦ elim other [ inl given ↦ given.0 (sym none) | inr timed ↦ timed.0 formats ]
     ]
+
+-- a command that is none of those that begin or end a transaction has its place everywhere
+pub is_placed : (s : State) (command : Command) (e : Error) → (command ≢ Begin) → (command ≢ Commit) → (command ≢ Rollback) → ((name : List ℕ) → command ≢ Release name) → ((name : List ℕ) → command ≢ RollbackTo name) → IsMisplaced s command e → ⊥
+is_placed s command e b c r l t (inl state) = elim state.1 [
+  | inl begin ↦ b begin.0
+  | inr outside ↦ elim outside.0 [ inl commit ↦ c commit | inr rollback ↦ r rollback ]
+]
+is_placed s command e b c r l t (inr named) = elim named.2 [ inl release ↦ l named.1 release | inr undo ↦ t named.1 undo ]
 
 rolls_back_err : (old new : State) (c : Compiled) (params : SqlRow) (e : Error) → IsTrue old.in_transaction → c.command ≡ Rollback → c.returning ≡ None → RunsCommand old new rollback_text c params (Err e) → IsRolledBack old new
 rolls_back_err old new c params e inside is none (inr failed) = failed.3
@@ -249,7 +257,7 @@ rolls_back_err old new c params e inside is none (inl (inl misplaced, same)) = e
 pub rolls_back : (old new : State) (r : Result ℕ Error) → old.now.schema ≡ kept_schema → IsTrue old.in_transaction → Executes rollback_text [] old new r → IsRolledBack old new
 unfolding Rattle.sqlite.specs.State.ExecutesIn IsNotRun
 rolls_back old new (Ok count) has inside h = (runs_as rollback_text [] old new kept_schema has Rollback rollback_is rollback_plain count h).1
-rolls_back old new (Err e) has inside (inl (inl h)) = absurd (is_statement old e has h.0)
+rolls_back old new (Err e) has inside (inl (inl h)) = absurd (is_statement rollback_text kept_schema old e has rollback_plain rollback_whole rollback_bare h.0)
 rolls_back old new (Err e) has inside (inl (inr failed)) = failed.3
 rolls_back old new (Err e) has inside (inr h) =
     let known : understood kept_schema rollback_text ≡ Ok h.0 = sym (ap (λ t. understood t rollback_text) has) ∙ h.1.is in

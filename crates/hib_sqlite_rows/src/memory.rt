@@ -1,5 +1,7 @@
 // The table over memory, which tells its rows.
-ghost use Rattle.std.specs.Prelude.{◌≡◌, ◌<◌, [], Some, true, IfOk};
+ghost use Rattle.std.specs.Prelude.{◌≡◌, ◌<◌, [], Some, true, IfOk, IfErr};
+ghost use Rattle.sqlite.specs.declared.error.Error.TheVariants.{SqliteFailure};
+ghost use Rattle.sqlite.specs.declared.error.ErrorCode.TheVariants.{OutOfMemory};
 ghost use Rattle.hib_sqlite_rows.specs.Told.{at_rest};
 ghost use Rattle.hib_sqlite_rows.specs.Stored.{told_of};
 
@@ -28,13 +30,16 @@ impl Model for MemoryTable {
 }
 
 impl MemoryTable {
-    /// An empty table. Fails if SQLite does, or for want of memory.
+    /// An empty table. Fails for want of memory alone.
     pub fn open(alloc: Global) -> Result<MemoryTable, Error>
-        ensures { IfOk result (λ t. told_of t ≡ at_rest []) }
+        ensures empty { IfOk result (λ t. told_of t ≡ at_rest []) }
+        ensures err { IfErr result (λ e. e ≡ SqliteFailure OutOfMemory) }
     {
         let mut conn = Connection::open_in_memory(alloc)?;
-        statements::create(&mut conn)?;
-        Ok(MemoryTable { conn })
+        match statements::create(&mut conn) {
+            Ok(_) => Ok(MemoryTable { conn }),
+            Err(error) => Err(error),
+        }
     }
 }
 

@@ -1,5 +1,5 @@
 // The table over any store, which tells nothing.
-ghost use Rattle.std.specs.Prelude.{◌≡◌, ◌<◌, ◌^◌, ℕ, pos, [], ◌∷◌, false, Ok, IfOk, OnOk};
+ghost use Rattle.std.specs.Prelude.{◌≡◌, ◌<◌, ◌^◌, ℕ, pos, [], ◌∷◌, true, false, Ok, IfOk, OnOk, IsErr};
 ghost use Rattle.sqlite.specs.declared.types.Value.TheVariants.{Int};
 ghost use Rattle.sqlite.specs.Held.{state};
 ghost use Rattle.sqlite.specs.State.{HasCleanDisk, Executes, Shown};
@@ -24,8 +24,9 @@ impl<S: Alter + Drop> StoreTable<S> {
     /// The table of a connection that has begun no transaction. It is made if it isn't there.
     /// Fails within a transaction, if SQLite fails, or for want of memory; then the connection is closed.
     pub fn over(mut conn: Connection<S>) -> Result<StoreTable<S>, Error>
-        ensures { IfOk result (λ t. HasCleanDisk (state S.Store t.conn) → (count : ℕ)
+        ensures runs { IfOk result (λ t. HasCleanDisk (state S.Store t.conn) → (count : ℕ)
             × Executes create_text [] (state S.Store conn) (state S.Store t.conn) (Ok count)) }
+        ensures free { (state S.Store conn).in_transaction ≡ true → IsErr result }
     {
         if !conn.is_autocommit() {
             return Err(Error::SqliteFailure(ErrorCode::TransactionState));
