@@ -1,5 +1,5 @@
 // A keeper over a table of rows in SQL.
-ghost use Rattle.std.specs.Prelude.{◌≡◌, ◌+◌, ◌≤◌, length, None, Err, IfOk, IfErr, IfSome};
+ghost use Rattle.std.specs.Prelude.{◌≡◌, ◌≢◌, ◌+◌, ◌≤◌, length, None, Err, IfOk, IfErr, IfSome, IsErr};
 ghost use Rattle.std.specs.Option.{option_map};
 ghost use Rattle.hib_base.specs.Tables.{row_at};
 ghost use Rattle.hib_outside.specs.Keeps.{tables_seeded, tables_after, rows_of};
@@ -42,6 +42,7 @@ impl<T: RowTable> SqlKeeper<T> {
     pub(crate) fn over(table: T) -> SqlKeeper<T>
         requires { IsAtRest (T.told table) }
         ensures table { told_in T.tells T.told result.table ≡ T.told table }
+        ensures there { result.table ≢ None }
         ensures counts { (result.faults ≡ 0) × (result.asked ≡ 0) }
     {
         SqlKeeper {
@@ -54,6 +55,7 @@ impl<T: RowTable> SqlKeeper<T> {
     /// The keeper of a table that couldn't be opened, or the fault if memory ran out.
     pub(crate) fn without(error: Error) -> Result<SqlKeeper<T>, KeepFault>
         ensures table { IfOk result (λ k. k.table ≡ None) }
+        ensures memory { error ≡ SqliteFailure OutOfMemory → IsErr result }
         ensures counts { IfOk result (λ k. (k.faults ≡ 0) × (k.asked ≡ 0)) }
         ensures err { IfErr result (λ e. e ≡ NoMemory) }
     {
