@@ -1,5 +1,5 @@
 // The points of an entry, but for its tick and its reply.
-ghost use Rattle.std.specs.Prelude.{◌≡◌, reverse, IfOk, IfSome, Some, None, cond};
+ghost use Rattle.std.specs.Prelude.{◌≡◌, reverse, IfOk, IfSome, Some, None, if◌then◌else◌};
 ghost use Rattle.hib_base.specs.declared.entries.Act.{Act};
 ghost use Rattle.hib_journal.specs.Sessions.{own, is_open};
 ghost use Rattle.hib_journal.specs.Legal;
@@ -58,7 +58,7 @@ fn session_act(
 
 /// The act from outside that an entry without a session names, if no session does such an act.
 fn outside_act(alloc: Global, act: &Act) -> Result<Option<Act>, AllocError>
-    ensures { IfOk result (λ o. o ≡ cond (Legal.is_outside act.now) (Some act.now) None) }
+    ensures { IfOk result (λ o. o ≡ (if Legal.is_outside act.now then Some act.now else None)) }
 {
     if is_outside(act) {
         return Ok(Some(act.copy(alloc)?));
@@ -89,7 +89,7 @@ pub fn due_act(
 fn comes(script: &Script, registry: &Registry, before: &[Entry], act: &Act) -> bool
     requires { IsRegistry registry.now (reverse before.now) }
     ensures { may_come script.now (reverse before.now) (Some act.now)
-        ≡ cond result (Some act.now) None }
+        ≡ (if result then Some act.now else None) }
 {
     let _ = before;
     match act {

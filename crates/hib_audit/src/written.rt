@@ -1,5 +1,5 @@
 // What a session has written.
-ghost use Rattle.std.specs.Prelude.{◌≡◌, ◌↔◌, IsTrue, [], Some, OnOk, List, cond, true};
+ghost use Rattle.std.specs.Prelude.{◌≡◌, ◌↔◌, IsTrue, [], Some, OnOk, List, if◌then◌else◌, true};
 ghost use Rattle.hib_base.specs.Keys.{same_key};
 ghost use Rattle.hib_base.specs.declared.replies.Reply.{Reply};
 ghost use Rattle.hib_base.specs.declared.replies.Commit.{Commit};
@@ -31,7 +31,7 @@ impl Model for Written {
 /// Adds a key.
 fn add(keys: &mut HashSet<Key>, key: Key) -> Result<(), AllocError>
     ensures { OnOk result ((k : Rattle.hib_journal.specs.Types.Key)
-        → has_key k keys.new.keys ≡ cond (same_key key k) true (has_key k keys.old.keys)) }
+        → has_key k keys.new.keys ≡ (if same_key key k then true else has_key k keys.old.keys)) }
 {
     keys.insert(key)?;
     Ok(())

@@ -1,5 +1,5 @@
 -- Tables, statements and queries that fit a mapping.
-use Rattle.std.specs.Prelude.{ℕ, Bool, true, false, not, cond, ◌&&◌, ◌||◌, ◌==◌, List, [], ◌∷◌, length, map, slice_get, nat_lt, nat_le, Some, None, Option, option_and_then, is_some, ℤ, pos, negsuc}
+use Rattle.std.specs.Prelude.{ℕ, Bool, true, false, not, if◌then◌else◌, ◌&&◌, ◌||◌, ◌==◌, List, [], ◌∷◌, length, map, slice_get, nat_lt, nat_le, Some, None, Option, option_and_then, is_some, ℤ, pos, negsuc}
 use Rattle.std.specs.List.{list_all}
 use Rattle.hib_base.specs.Types.{Key, Cell, Row, ColumnType, ColumnDef, EntityDef, Op, Path, Target, Sort, Select, Statement}
 use Rattle.hib_base.specs.declared.scripts.Node.{Node}
@@ -113,7 +113,7 @@ fits_statement mapping _ = true
 -- ---- queries
 -- of the target's column, after a reference
 abbrev pub type_through : List EntityDef → Target → ColumnType → Option ColumnType
-type_through mapping g (ColumnType.Ref e) = cond (e == g.entity) (type_at (entity_columns mapping e) g.column) None
+type_through mapping g (ColumnType.Ref e) = if e == g.entity then type_at (entity_columns mapping e) g.column else None
 type_through mapping g _ = None
 
 abbrev pub type_led : List EntityDef → Option Target → ColumnType → Option ColumnType

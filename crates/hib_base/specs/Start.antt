@@ -1,5 +1,5 @@
 -- The tables at the start: the rows that were kept get the columns that were added later, and a script's rows stand beside them.
-use Rattle.std.specs.Prelude.{Bool, cond, ◌&&◌, nat_lt, List, [], ◌∷◌, ◌++◌, length, drop, map, Option, Some, None}
+use Rattle.std.specs.Prelude.{Bool, if◌then◌else◌, ◌&&◌, nat_lt, List, [], ◌∷◌, ◌++◌, length, drop, map, Option, Some, None}
 use Rattle.std.specs.List.{list_all}
 use Rattle.hib_base.specs.Types.{Key, Cell, Row, ColumnDef, EntityDef}
 use Rattle.hib_base.specs.Fits.{entity_columns, has_default}
@@ -20,7 +20,7 @@ defaults_of (d ∷ ds) = before_default d.default (defaults_of ds)
 
 -- a row that lacks columns gets their defaults at its end, if each of these columns has one
 abbrev pub widened_cells : List ColumnDef → List Cell → List Cell
-widened_cells ds cs = cond (is_narrow ds cs) (cs ++ defaults_of (drop (length cs) ds)) cs
+widened_cells ds cs = if is_narrow ds cs then cs ++ defaults_of (drop (length cs) ds) else cs
 
 abbrev pub widened_row : List ColumnDef → Row → Row
 widened_row ds r = record r { cells = widened_cells ds r.cells }

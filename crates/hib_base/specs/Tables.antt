@@ -1,5 +1,5 @@
 -- Tables: a finite map from keys to rows, as its entries in order of keys. What a change does to them.
-use Rattle.std.specs.Prelude.{ℕ, Bool, true, false, cond, ◌&&◌, ◌==◌, List, [], ◌∷◌, Some, None, Option}
+use Rattle.std.specs.Prelude.{ℕ, Bool, true, false, if◌then◌else◌, ◌&&◌, ◌==◌, List, [], ◌∷◌, Some, None, Option}
 use Rattle.hib_base.specs.Types.{Key, Row, Change, Commit}
 use Rattle.hib_base.specs.Keys.{same_key, is_before}
 
@@ -9,18 +9,18 @@ Tables = List (Key × Row)
 -- the row of a key, or none
 abbrev pub row_at : Tables → Key → Option Row
 row_at [] k = None
-row_at (e ∷ es) k = cond (same_key e.0 k) (Some e.1) (row_at es k)
+row_at (e ∷ es) k = if same_key e.0 k then Some e.1 else row_at es k
 
 -- the tables in which k has row r
 abbrev pub with_row : Tables → Key → Row → Tables
 with_row [] k r = (k, r) ∷ []
 with_row (e ∷ es) k r =
-    cond (same_key e.0 k) ((k, r) ∷ es) (cond (is_before k e.0) ((k, r) ∷ e ∷ es) (e ∷ with_row es k r))
+    if same_key e.0 k then (k, r) ∷ es else (if is_before k e.0 then (k, r) ∷ e ∷ es else e ∷ with_row es k r)
 
 -- the tables in which k has no row
 abbrev pub without_row : Tables → Key → Tables
 without_row [] k = []
-without_row (e ∷ es) k = cond (same_key e.0 k) (without_row es k) (e ∷ without_row es k)
+without_row (e ∷ es) k = if same_key e.0 k then without_row es k else e ∷ without_row es k
 
 abbrev pub unless_there : Tables → Key → Row → Option Row → Tables
 unless_there kept k r None = with_row kept k r
@@ -66,7 +66,7 @@ version_in (Some r) = r.version
 
 abbrev pub unless_expected : Key → Option ℕ → Option Row → Option Commit
 unless_expected k v None = Some (Commit.Stale k None)
-unless_expected k v (Some r) = cond (same_version v r.version) None (Some (Commit.Stale k r.version))
+unless_expected k v (Some r) = if same_version v r.version then None else Some (Commit.Stale k r.version)
 
 abbrev pub unless_absent : Key → Option Row → Option Commit
 unless_absent k None = None
@@ -94,11 +94,11 @@ or_change None c = c
 -- the last change on k in a list
 abbrev pub last_on : Key → List Change → Option Change
 last_on k [] = None
-last_on k (c ∷ cs) = or_change (last_on k cs) (cond (same_key (key_of c) k) (Some c) None)
+last_on k (c ∷ cs) = or_change (last_on k cs) (if same_key (key_of c) k then Some c else None)
 
 abbrev pub first_on : Key → List Change → Option Change
 first_on k [] = None
-first_on k (c ∷ cs) = cond (same_key (key_of c) k) (Some c) (first_on k cs)
+first_on k (c ∷ cs) = if same_key (key_of c) k then Some c else first_on k cs
 
 abbrev pub is_first : Key → Tables → Bool
 is_first k [] = true

@@ -1,5 +1,5 @@
 -- What a run with bulk lines keeps: its journal is legal, and its parts, sessions and lines stand for it.
-use Rattle.std.specs.Prelude.{◌≡◌, ◌<◌, ◌≤◌, ◌^◌, ◌==◌, ℕ, suc, ◌+◌, Bool, true, false, cond, ◌&&◌, nat_lt, List, [], ◌∷◌, length, slice_get, IfSome, Some, None, Option}
+use Rattle.std.specs.Prelude.{◌≡◌, ◌<◌, ◌≤◌, ◌^◌, ◌==◌, ℕ, suc, ◌+◌, Bool, true, false, if◌then◌else◌, ◌&&◌, nat_lt, List, [], ◌∷◌, length, slice_get, IfSome, Some, None, Option}
 use Rattle.hib_base.specs.Tables.{Tables, in_order}
 use Rattle.hib_base.specs.Valid.{is_valid}
 use Rattle.hib_journal.specs.Types.{Key, Script, Act, Reply, Entry, Outcome, Strategy}
@@ -28,7 +28,7 @@ use Rattle.hib_bulk.specs.Standing.{PartsState, AreStanding, IsStill, IsLate, en
 -- how many replies say that the keeper failed
 abbrev pub fault_count : Bulked → ℕ
 fault_count [] = 0
-fault_count (e ∷ h) = cond (is_fault e.reply) (suc (fault_count h)) (fault_count h)
+fault_count (e ∷ h) = if is_fault e.reply then suc (fault_count h) else fault_count h
 
 -- what a run asks of its script and its lines: the script is valid, its regions are read-write or none, there are 100 lines at most, and
 -- a line reads entities of the mapping alone
@@ -144,7 +144,7 @@ pub record Moves (script : Script) (lines : List BulkDef) (from : Origin) (h new
 
 -- a line is open from its Begin to its End
 abbrev pub is_under_way : Bool → ℕ → Bool
-is_under_way cached m = nat_lt 0 m && nat_lt m (cond cached 5 3)
+is_under_way cached m = nat_lt 0 m && nat_lt m (if cached then 5 else 3)
 
 -- how far a line has come, and whether its change was answered by a fault
 pub record IsLine (script : Script) (h : Bulked) (s : ℕ) (d : BulkDef) (m : ℕ) (b : Bool) : Type 0 where

@@ -1,5 +1,5 @@
 -- What each call answers, and what it leaves of the region.
-use Rattle.std.specs.Prelude.{ℕ, ◌+◌, ◌-◌, cond, nat_le, Option}
+use Rattle.std.specs.Prelude.{ℕ, ◌+◌, ◌-◌, if◌then◌else◌, nat_le, Option}
 use Rattle.hib_journal.specs.Types.{Row, Updated}
 use Rattle.hib_journal.specs.Slot.{is_positive}
 use Rattle.hib_journal.specs.Regions as Regions
@@ -26,39 +26,39 @@ swept id now state = record state { inner = Inner.after_evict id now state.inner
 -- while lines hold the region nothing is read
 abbrev pub got : BulkState → ℕ → ℕ → BulkReply
 got state id time =
-    cond (is_positive state.holders) (BulkReply.Wide state.holders) (BulkReply.Plain (Regions.got (slot_in state.inner id) time))
+    if is_positive state.holders then BulkReply.Wide state.holders else BulkReply.Plain (Regions.got (slot_in state.inner id) time)
 
 -- and a row that is shut out is not taken
 
 abbrev pub put : BulkState → ℕ → Option ℕ → ℕ → ℕ → BulkPut
 put state id version time floor =
-    cond (is_positive state.holders) (BulkPut.Wide state.holders)
-    (cond (nat_le time state.unlock) (BulkPut.WideEarly state.unlock)
-    (BulkPut.Plain (Regions.put (slot_in state.inner id) (room_in state.inner floor) time version)))
+    if is_positive state.holders then BulkPut.Wide state.holders
+    else (if nat_le time state.unlock then BulkPut.WideEarly state.unlock
+    else BulkPut.Plain (Regions.put (slot_in state.inner id) (room_in state.inner floor) time version))
 
 abbrev pub after_put : ℕ → Row → ℕ → ℕ → ℕ → BulkState → BulkState
 after_put id row time floor now state =
-    cond (shuts state time) state (record state { inner = Inner.after_put id row time floor now state.inner })
+    if shuts state time then state else record state { inner = Inner.after_put id row time floor now state.inner }
 
 abbrev pub inserted : BulkState → ℕ → ℕ → ℕ → BulkInserted
 inserted state id time floor =
-    cond (is_positive state.holders) (BulkInserted.Wide state.holders)
-    (cond (nat_le time state.unlock) (BulkInserted.WideEarly state.unlock)
-    (BulkInserted.Plain (Regions.after_insert (slot_in state.inner id) (room_in state.inner floor))))
+    if is_positive state.holders then BulkInserted.Wide state.holders
+    else (if nat_le time state.unlock then BulkInserted.WideEarly state.unlock
+    else BulkInserted.Plain (Regions.after_insert (slot_in state.inner id) (room_in state.inner floor)))
 
 abbrev pub after_insert : ℕ → Row → ℕ → ℕ → ℕ → BulkState → BulkState
 after_insert id row time floor now state =
-    cond (shuts state time) state (record state { inner = Inner.after_insert id row floor now state.inner })
+    if shuts state time then state else record state { inner = Inner.after_insert id row floor now state.inner }
 
 -- a lock that is shut out is given back without its row
 
 abbrev pub updated : BulkState → ℕ → ℕ → Updated
 updated state id lock =
-    cond (shuts state lock) (given_back (Regions.unlock (slot_in state.inner id) lock)) (Regions.after_update (slot_in state.inner id) lock)
+    if shuts state lock then given_back (Regions.unlock (slot_in state.inner id) lock) else Regions.after_update (slot_in state.inner id) lock
 
 abbrev pub after_update : ℕ → ℕ → Row → ℕ → BulkState → BulkState
 after_update id lock row now state = record state {
-  inner = cond (shuts state lock) (Inner.after_unlock id lock now state.inner) (Inner.after_update id lock row now state.inner);
+  inner = if shuts state lock then Inner.after_unlock id lock now state.inner else Inner.after_update id lock row now state.inner;
 }
 
 abbrev pub after_lock : ℕ → Option ℕ → ℕ → ℕ → BulkState → BulkState

@@ -99,7 +99,7 @@ fn evicts<N: Name, K: Keeper + Drop, L: Listener>(
     requires script { script ≡ N.script }
     requires valid { is_valid N.script ≡ true }
     requires from { origin_over N.script (K.tables keeper) (K.faults keeper) (K.asked keeper)
-            ≡ N.from }
+        ≡ N.from }
     requires told { tells L.heard L.left listeners.items ≡ N.told }
 {
     let Ok(mut factory) = Factory::<K, N, L>::open(alloc, script, keeper, listeners) else {

@@ -1,5 +1,5 @@
 -- A run of a schedule with collections: one piece for each order, and then one for each session.
-use Rattle.std.specs.Prelude.{◌≡◌, ◌<◌, ℕ, zero, suc, Bool, false, cond, List, [], ◌∷◌, ◌++◌, length, is_some, reverse, Some, None, Option, option_and_then}
+use Rattle.std.specs.Prelude.{◌≡◌, ◌<◌, ℕ, zero, suc, Bool, false, if◌then◌else◌, List, [], ◌∷◌, ◌++◌, length, is_some, reverse, Some, None, Option, option_and_then}
 use Rattle.std.specs.Option.{option_map_or}
 use Rattle.std.specs.List.{range_with_len}
 use Rattle.hib_journal.specs.Types.{Order, Script}
@@ -17,7 +17,7 @@ has_next script defs g s = is_some (due script defs s g)
 
 abbrev pub play_one : ℕ → Gathered → Gathered → Option Playing
 play_one s past [] = None
-play_one s past (x ∷ rest) = cond (is_by s x) (Some (x ∷ past, rest)) None
+play_one s past (x ∷ rest) = if is_by s x then Some (x ∷ past, rest) else None
 
 -- what plays, after a journal, the entries that come, the oldest first
 abbrev pub Play : Type 0
@@ -31,7 +31,7 @@ played past rest = Some (past, rest)
 abbrev pub play_steps : Script → List Def → ℕ → ℕ → Play
 play_steps script defs s zero past rest = Some (past, rest)
 play_steps script defs s (suc n) past rest =
-    cond (has_next script defs past s) (option_and_then (λ p. play_steps script defs s n p.0 p.1) (play_one s past rest)) (Some (past, rest))
+    if has_next script defs past s then option_and_then (λ p. play_steps script defs s n p.0 p.1) (play_one s past rest) else Some (past, rest)
 
 -- a session, to its end
 abbrev pub play_all : Script → List Def → ℕ → Play

@@ -1,5 +1,5 @@
 -- What a run with collections keeps: its journal is legal, and its engines, regions and sessions stand for it.
-use Rattle.std.specs.Prelude.{◌≡◌, ℕ, ◌+◌, ◌≤◌, ◌<◌, ◌^◌, Bool, true, false, cond, List, [], ◌∷◌, ◌++◌, length, is_some, Some, None, Option, unwrap_or}
+use Rattle.std.specs.Prelude.{◌≡◌, ℕ, ◌+◌, ◌≤◌, ◌<◌, ◌^◌, Bool, true, false, if◌then◌else◌, List, [], ◌∷◌, ◌++◌, length, is_some, Some, None, Option, unwrap_or}
 use Rattle.std.specs.List.{list_all}
 use Rattle.hib_base.specs.Tables.{Tables, in_order}
 use Rattle.hib_base.specs.Valid.{is_valid}
@@ -53,7 +53,7 @@ pub record IsRun (script : Script) (defs : List Def) (from : Origin) (g : Gather
 
 -- the keeper may be asked at an entry: of a session's plan, and not of a Hit
 abbrev pub asks_at : Script → GatherEntry → Gathered → ℕ
-asks_at script (GatherEntry.Plain e) g = cond (asks (changes (unwrap_or e.session 0) (plain script g)) e.act) 1 0
+asks_at script (GatherEntry.Plain e) g = if asks (changes (unwrap_or e.session 0) (plain script g)) e.act then 1 else 0
 asks_at script (GatherEntry.Member m) g = 0
 
 -- the entries at which the keeper may have been asked

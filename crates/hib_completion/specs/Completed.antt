@@ -1,5 +1,5 @@
 -- What completes a transaction, but for its End.
-use Rattle.std.specs.Prelude.{ℕ, Bool, ◌&&◌, ◌==◌, List, [], ◌∷◌, ◌++◌, length, slice_get, Some, None, Option, option_and_then, cond}
+use Rattle.std.specs.Prelude.{ℕ, Bool, ◌&&◌, ◌==◌, List, [], ◌∷◌, ◌++◌, length, slice_get, Some, None, Option, option_and_then, if◌then◌else◌}
 use Rattle.std.specs.List.{filter, flat_map, list_any, range_with_len}
 use Rattle.std.specs.Map.{lookup}
 use Rattle.hib_base.specs.Keys.{same_key}
@@ -22,7 +22,7 @@ tables_by mapping cs = filter (λ n. list_any (λ c. (key_of c).entity == n) cs)
 -- what completes one key, by whether rows may be put back: by its first change, and by the row that its last one left
 abbrev pub key_acts : List EntityDef → List Change → List (Key × ℕ) → Bool → ℕ → Key → List Act
 key_acts mapping cs locks done floor k =
-    complete_by (first_on k cs) (strategy_in (slice_get mapping k.entity)) k (lock_of k locks) floor (cond done (option_and_then row_left (last_on k cs)) None)
+    complete_by (first_on k cs) (strategy_in (slice_get mapping k.entity)) k (lock_of k locks) floor (if done then option_and_then row_left (last_on k cs) else None)
 
 abbrev pub keys_acts : List EntityDef → List Change → List (Key × ℕ) → Bool → ℕ → List Key → List Act
 keys_acts mapping cs locks done floor ks = flat_map (λ k. key_acts mapping cs locks done floor k) ks

@@ -1,5 +1,5 @@
 -- The changes of a transaction by key.
-use Rattle.std.specs.Prelude.{◌≡◌, ℕ, cond, List, [], ◌∷◌, ◌++◌, Some, None, Option, slice_get}
+use Rattle.std.specs.Prelude.{◌≡◌, ℕ, if◌then◌else◌, List, [], ◌∷◌, ◌++◌, Some, None, Option, slice_get}
 use Rattle.std.specs.Map.{keys_of as keys_in, lookup}
 use Rattle.hib_base.specs.Keys.{same_key}
 use Rattle.hib_base.specs.Tables.{first_on, last_on}
@@ -19,7 +19,7 @@ or_place (Some i) b = Some i
 
 -- a key that is not among the keys comes last
 abbrev pub with_key : Key → List Key → List Key
-with_key k ks = cond (is_key_in k ks) ks (ks ++ k ∷ [])
+with_key k ks = if is_key_in k ks then ks else ks ++ k ∷ []
 
 -- what is known of the changed keys is what these changes say
 pub record StandsFor (cs : List Change) (touched : Touched) : Type 0 where

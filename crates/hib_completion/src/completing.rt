@@ -1,5 +1,5 @@
 // The acts that complete a transaction.
-ghost use Rattle.std.specs.Prelude.{◌≡◌, ◌≤◌, ◌∷◌, ◌++◌, [], IfOk, OnOk, length, option_copied, option_and_then, cond, take, None};
+ghost use Rattle.std.specs.Prelude.{◌≡◌, ◌≤◌, ◌∷◌, ◌++◌, [], IfOk, OnOk, length, option_copied, option_and_then, if◌then◌else◌, take, None};
 ghost use Rattle.std.specs.List.{list_any};
 ghost use Rattle.hib_base.specs.Keys.{same_key};
 ghost use Rattle.hib_journal.specs.Next.{complete_by, complete_insert, complete_update, release_of, keys_of};
@@ -19,7 +19,7 @@ const FEW: usize = 8;
 /// The row that may be put back after a key's last change.
 fn put_back(done: bool, last: Option<&Change>) -> Option<&Row>
     ensures { option_copied result
-        ≡ cond done (option_and_then row_left (option_copied last.entry)) None }
+        ≡ (if done then option_and_then row_left (option_copied last.entry) else None) }
 {
     if !done {
         return None;
@@ -216,8 +216,8 @@ fn new_completed(
 ) -> Result<Option<Act>, AllocError>
     requires { place ≤ length changes.now }
     ensures { IfOk result (λ a. acts_of a
-        ≡ cond (list_any (λ c. same_key (key_of c) key.now) (take place changes.now)) []
-        (key_acts mapping.now changes.now locks.now.entries done floor key.now)) }
+        ≡ (if list_any (λ c. same_key (key_of c) key.now) (take place changes.now) then []
+        else key_acts mapping.now changes.now locks.now.entries done floor key.now)) }
 {
     if is_changed(&changes[..place], key) {
         return Ok(None);

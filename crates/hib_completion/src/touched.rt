@@ -1,5 +1,5 @@
 // The places of the first and the last change of each key, each found in one pass.
-ghost use Rattle.std.specs.Prelude.{◌≡◌, ◌<◌, cond, IfOk, OnOk, None, Some, length, option_copied, slice_get};
+ghost use Rattle.std.specs.Prelude.{◌≡◌, ◌<◌, if◌then◌else◌, IfOk, OnOk, None, Some, length, option_copied, slice_get};
 ghost use Rattle.std.specs.List.{list_any};
 ghost use Rattle.std.specs.Map.{keys_of as keys_in, lookup};
 ghost use Rattle.hib_base.specs.Keys.{same_key};
@@ -51,7 +51,7 @@ pub fn first_of<'a>(changes: &'a [Change], key: &Key) -> Option<&'a Change>
 
 /// A later place if it counts, else the one so far.
 fn or_so_far(counts: bool, place: usize, last: Option<usize>) -> Option<usize>
-    ensures { result ≡ cond counts (Some place) last }
+    ensures { result ≡ (if counts then Some place else last) }
 {
     if counts { Some(place) } else { last }
 }
@@ -82,7 +82,7 @@ fn note_first(firsts: &mut IndexMap<Key, usize>, key: Key, place: usize) -> Resu
     ensures each { OnOk result ((k : KeyOf)
         → lookup (same_key k) firsts.new.entries
         ≡ or_place (lookup (same_key k) firsts.old.entries)
-        (cond (same_key key k) (Some place) None)) }
+        (if same_key key k then Some place else None)) }
 {
     if !firsts.contains_key(&key) {
         firsts.insert(key, place)?;
@@ -106,7 +106,7 @@ fn firsts_of(alloc: Global, changes: &[Change]) -> Result<IndexMap<Key, usize>, 
 /// A key has its last change at this place, so far.
 fn note_last(lasts: &mut IndexMap<Key, usize>, key: Key, place: usize) -> Result<(), AllocError>
     ensures { OnOk result ((k : KeyOf) → lookup (same_key k) lasts.new.entries
-        ≡ cond (same_key key k) (Some place) (lookup (same_key k) lasts.old.entries)) }
+        ≡ (if same_key key k then Some place else lookup (same_key k) lasts.old.entries)) }
 {
     lasts.insert(key, place)?;
     Ok(())

@@ -1,6 +1,6 @@
 -- The form of a query line, token by token:
 -- query NAME [cached] from ENTITY [where COND] [order COL [desc] ..] [offset N] [limit N] select ids|count|COL
-use Rattle.std.specs.Prelude.{ℕ, Bool, true, false, cond, not, ◌&&◌, ◌||◌, nat_le, nat_lt, List, [], ◌∷◌, ◌++◌, length, Option, Some, None, is_some, is_none, codes}
+use Rattle.std.specs.Prelude.{ℕ, Bool, true, false, if◌then◌else◌, not, ◌&&◌, ◌||◌, nat_le, nat_lt, List, [], ◌∷◌, ◌++◌, length, Option, Some, None, is_some, is_none, codes}
 use Rattle.hib_base.specs.declared.rows.Cell.{Cell}
 use Rattle.hib_base.specs.declared.scripts.EntityDef.{EntityDef}
 use Rattle.hib_base.specs.declared.scripts.Op.{Op}
@@ -55,20 +55,20 @@ has_pages f = is_some f.offset || is_some f.limit
 
 -- ---- the head of the line
 abbrev pub step_start : Form → List Frame → Token → Option Draft
-step_start f fs t = cond (is_the_word (codes "query") t) (at f fs Place.Name) None
+step_start f fs t = if is_the_word (codes "query") t then at f fs Place.Name else None
 
 abbrev pub step_name : Form → List Frame → Token → Option Draft
-step_name f fs t = cond (is_a_word t) (at (record f { name = word_of t }) fs Place.Named) None
+step_name f fs t = if is_a_word t then at (record f { name = word_of t }) fs Place.Named else None
 
 abbrev pub step_cached : Form → List Frame → Token → Option Draft
-step_cached f fs t = cond (is_the_word (codes "from") t) (at f fs Place.From) None
+step_cached f fs t = if is_the_word (codes "from") t then at f fs Place.From else None
 
 abbrev pub step_named : Form → List Frame → Token → Option Draft
 step_named f fs t =
-    cond (is_the_word (codes "cached") t) (at (record f { cached = true }) fs Place.Cached) (step_cached f fs t)
+    if is_the_word (codes "cached") t then at (record f { cached = true }) fs Place.Cached else step_cached f fs t
 
 abbrev pub step_from : List EntityDef → Form → List Frame → Token → Option Draft
-step_from m f fs t = cond (is_a_word t) (at (chosen f (entity_at m (word_of t))) fs Place.Chosen) None
+step_from m f fs t = if is_a_word t then at (chosen f (entity_at m (word_of t))) fs Place.Chosen else None
 
 -- ---- conditions; frames: what each open parenthesis still awaits, the innermost first
 abbrev pub behind : List Frame → Place
@@ -93,12 +93,12 @@ step_condition f fs _ = None
 
 abbrev pub op_of : Token → Option Op
 op_of t =
-    cond (is_the_word (codes "eq") t) (Some Op.Eq)
-    (cond (is_the_word (codes "ne") t) (Some Op.Ne)
-    (cond (is_the_word (codes "lt") t) (Some Op.Lt)
-    (cond (is_the_word (codes "le") t) (Some Op.Le)
-    (cond (is_the_word (codes "gt") t) (Some Op.Gt)
-    (cond (is_the_word (codes "ge") t) (Some Op.Ge) None)))))
+    if is_the_word (codes "eq") t then Some Op.Eq
+    else (if is_the_word (codes "ne") t then Some Op.Ne
+    else (if is_the_word (codes "lt") t then Some Op.Lt
+    else (if is_the_word (codes "le") t then Some Op.Le
+    else (if is_the_word (codes "gt") t then Some Op.Gt
+    else (if is_the_word (codes "ge") t then Some Op.Ge else None)))))
 
 abbrev pub compared : Form → List Frame → Option Op → Option Draft
 compared f fs None = None
@@ -106,17 +106,17 @@ compared f fs (Some op) = at f fs (Place.Subject (Test.Compare op))
 
 abbrev pub step_operator : Form → List Frame → Token → Option Draft
 step_operator f fs t =
-    cond (is_the_word (codes "and") t) (at (with_node f Node.And) (Frame.Two ∷ fs) Place.Condition)
-    (cond (is_the_word (codes "or") t) (at (with_node f Node.Or) (Frame.Two ∷ fs) Place.Condition)
-    (cond (is_the_word (codes "not") t) (at (with_node f Node.Not) (Frame.One ∷ fs) Place.Condition)
-    (cond (is_the_word (codes "in") t) (at f fs (Place.Subject Test.Among)) (compared f fs (op_of t)))))
+    if is_the_word (codes "and") t then at (with_node f Node.And) (Frame.Two ∷ fs) Place.Condition
+    else (if is_the_word (codes "or") t then at (with_node f Node.Or) (Frame.Two ∷ fs) Place.Condition
+    else (if is_the_word (codes "not") t then at (with_node f Node.Not) (Frame.One ∷ fs) Place.Condition
+    else (if is_the_word (codes "in") t then at f fs (Place.Subject Test.Among) else compared f fs (op_of t))))
 
 abbrev pub subject : Form → List Frame → Test → Option Column → Option Draft
 subject f fs (Test.Compare op) c = at (known f (is_none c)) fs (Place.Operand op c)
 subject f fs Test.Among c = at (known f (is_none c)) fs (Place.Operands c [])
 
 abbrev pub step_subject : List EntityDef → Form → List Frame → Test → Token → Option Draft
-step_subject m f fs test t = cond (is_path t) (subject f fs test (column_of m (columns_of m f.entity) t)) None
+step_subject m f fs test t = if is_path t then subject f fs test (column_of m (columns_of m f.entity) t) else None
 
 abbrev pub operand : Form → List Frame → Op → Option Column → Option Cell → Option Draft
 operand f fs op c None = None
@@ -131,7 +131,7 @@ is_empty (x ∷ xs) = false
 
 -- `in` has one cell or more
 abbrev pub among : Form → List Frame → Option Column → List Cell → Option Draft
-among f fs c xs = cond (is_empty xs) None (at (with_among f c xs) fs (behind fs))
+among f fs c xs = if is_empty xs then None else at (with_among f c xs) fs (behind fs)
 
 abbrev pub with_operand : Form → List Frame → Option Column → List Cell → Cell → Option Draft
 with_operand f fs c xs x =
@@ -147,17 +147,17 @@ step_operands f fs c xs t = one_more f fs c xs (cell_of t)
 
 -- ---- order, offset, limit, select
 abbrev pub unless : Bool → Option Draft → Option Draft
-unless b d = cond b None d
+unless b d = if b then None else d
 
 abbrev pub step_clauses : Form → List Frame → Token → Option Draft
 step_clauses f fs t =
-    cond (is_the_word (codes "order") t) (unless (has_pages f) (at f fs Place.Order))
-    (cond (is_the_word (codes "offset") t) (unless (has_pages f) (at f fs Place.Offset))
-    (cond (is_the_word (codes "limit") t) (unless (is_some f.limit) (at f fs Place.Limit))
-    (cond (is_the_word (codes "select") t) (at f fs Place.Select) None)))
+    if is_the_word (codes "order") t then unless (has_pages f) (at f fs Place.Order)
+    else (if is_the_word (codes "offset") t then unless (has_pages f) (at f fs Place.Offset)
+    else (if is_the_word (codes "limit") t then unless (is_some f.limit) (at f fs Place.Limit)
+    else (if is_the_word (codes "select") t then at f fs Place.Select else None)))
 
 abbrev pub step_chosen : Form → List Frame → Token → Option Draft
-step_chosen f fs t = cond (is_the_word (codes "where") t) (at f fs Place.Condition) (step_clauses f fs t)
+step_chosen f fs t = if is_the_word (codes "where") t then at f fs Place.Condition else step_clauses f fs t
 
 abbrev pub is_clause : Token → Bool
 is_clause t = is_the_word (codes "offset") t || (is_the_word (codes "limit") t || is_the_word (codes "select") t)
@@ -167,25 +167,25 @@ sorted f fs c = at (known f (is_none c)) fs (Place.Sorted (place_or_first c))
 
 -- each word that begins no clause is a column
 abbrev pub step_order : List EntityDef → Form → List Frame → Token → Option Draft
-step_order m f fs t = cond (is_a_word t && not (is_clause t)) (sorted f fs (plain_column (columns_of m f.entity) (word_of t))) None
+step_order m f fs t = if is_a_word t && not (is_clause t) then sorted f fs (plain_column (columns_of m f.entity) (word_of t)) else None
 
 abbrev pub step_sorting : List EntityDef → Form → List Frame → Token → Option Draft
-step_sorting m f fs t = cond (is_clause t) (step_clauses f fs t) (step_order m f fs t)
+step_sorting m f fs t = if is_clause t then step_clauses f fs t else step_order m f fs t
 
 -- a `desc` after a column belongs to it
 abbrev pub step_sorted : List EntityDef → Form → List Frame → ℕ → Token → Option Draft
 step_sorted m f fs c t =
-    cond (is_the_word (codes "desc") t) (at (with_sort f c true) fs Place.Sorting) (step_sorting m (with_sort f c false) fs t)
+    if is_the_word (codes "desc") t then at (with_sort f c true) fs Place.Sorting else step_sorting m (with_sort f c false) fs t
 
 abbrev pub step_offset : Form → List Frame → Token → Option Draft
 step_offset f fs t =
-    cond (is_a_number t)
-    (at (record f { offset = Some (number_up_to 1000000 t); bad_number = f.bad_number || not (is_within 0 1000000 t) }) fs Place.Clauses) None
+    if is_a_number t
+    then at (record f { offset = Some (number_up_to 1000000 t); bad_number = f.bad_number || not (is_within 0 1000000 t) }) fs Place.Clauses else None
 
 abbrev pub step_limit : Form → List Frame → Token → Option Draft
 step_limit f fs t =
-    cond (is_a_number t)
-    (at (record f { limit = Some (number_up_to 200 t); bad_number = f.bad_number || not (is_within 1 200 t) }) fs Place.Clauses) None
+    if is_a_number t
+    then at (record f { limit = Some (number_up_to 200 t); bad_number = f.bad_number || not (is_within 1 200 t) }) fs Place.Clauses else None
 
 abbrev pub select_column : Form → List Frame → Option Found → Option Draft
 select_column f fs c = at (record f { unknown = f.unknown || is_none c; select = Select.Column (place_or_first c) }) fs Place.Over
@@ -196,9 +196,9 @@ is_sorted f = nat_lt 0 (length f.order)
 -- with `count` there is no order, offset or limit
 abbrev pub step_select : List EntityDef → Form → List Frame → Token → Option Draft
 step_select m f fs t =
-    cond (is_the_word (codes "ids") t) (at (record f { select = Select.Ids }) fs Place.Over)
-    (cond (is_the_word (codes "count") t) (unless (has_pages f || is_sorted f) (at (record f { select = Select.Count }) fs Place.Over))
-    (cond (is_a_word t) (select_column f fs (plain_column (columns_of m f.entity) (word_of t))) None))
+    if is_the_word (codes "ids") t then at (record f { select = Select.Ids }) fs Place.Over
+    else (if is_the_word (codes "count") t then unless (has_pages f || is_sorted f) (at (record f { select = Select.Count }) fs Place.Over)
+    else (if is_a_word t then select_column f fs (plain_column (columns_of m f.entity) (word_of t)) else None))
 
 -- ---- the line
 abbrev pub step_at : List EntityDef → Form → List Frame → Place → Token → Option Draft

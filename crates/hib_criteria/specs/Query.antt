@@ -1,5 +1,5 @@
 -- The query that a line is, or the first thing that is wrong with it.
-use Rattle.std.specs.Prelude.{◌≡◌, ℕ, suc, ◌-◌, Bool, true, false, cond, nat_le, ◌==◌, List, [], ◌∷◌, ◌++◌, length, Option, Some, None, unwrap_or, option_and_then, Result, Ok, Err}
+use Rattle.std.specs.Prelude.{◌≡◌, ℕ, suc, ◌-◌, Bool, true, false, if◌then◌else◌, nat_le, ◌==◌, List, [], ◌∷◌, ◌++◌, length, Option, Some, None, unwrap_or, option_and_then, Result, Ok, Err}
 use Rattle.hib_base.specs.declared.refusals.Kind.{Kind}
 use Rattle.hib_base.specs.declared.scripts.Cond.{Cond}
 use Rattle.hib_base.specs.declared.scripts.EntityDef.{EntityDef}
@@ -20,7 +20,7 @@ arity Node.Not = 1
 arity _ = 0
 
 abbrev pub joined : Node → ℕ → Option ℕ
-joined n k = cond (nat_le (arity n) k) (Some (suc (k - arity n))) None
+joined n k = if nat_le (arity n) k then Some (suc (k - arity n)) else None
 
 -- how many conditions some parts come to, from the last one on; none if a part joins more than there are
 abbrev pub count_of : List Node → Option ℕ
@@ -81,18 +81,18 @@ said_by f = record {
 -- the first thing that is wrong with a line of this form
 abbrev pub kind_of : Form → Option Kind
 kind_of f =
-    cond (is_reserved f.name) (Some Kind.Reserved)
-    (cond f.unknown (Some Kind.Unknown)
-    (cond f.bad_number (Some Kind.Number)
-    (cond f.mistyped (Some Kind.CellType)
-    (cond f.deep (Some Kind.Depth) None))))
+    if is_reserved f.name then Some Kind.Reserved
+    else (if f.unknown then Some Kind.Unknown
+    else (if f.bad_number then Some Kind.Number
+    else (if f.mistyped then Some Kind.CellType
+    else (if f.deep then Some Kind.Depth else None))))
 
 abbrev pub unless_kind : Form → Option Kind → Result Said Kind
 unless_kind f (Some k) = Err k
 unless_kind f None = Ok (said_by f)
 
 abbrev pub judged : Form → Result Said Kind
-judged f = cond (are_whole f.nodes) (unless_kind f (kind_of f)) (Err Kind.Words)
+judged f = if are_whole f.nodes then unless_kind f (kind_of f) else Err Kind.Words
 
 abbrev pub read : Option Form → Result Said Kind
 read None = Err Kind.Words

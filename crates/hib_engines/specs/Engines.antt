@@ -1,5 +1,5 @@
 -- The five engines together: what they stand for, and what they owe for an act.
-use Rattle.std.specs.Prelude.{◌≡◌, ℕ, true, false, cond, List, ◌∷◌, length, Some, Option}
+use Rattle.std.specs.Prelude.{◌≡◌, ℕ, true, false, if◌then◌else◌, List, ◌∷◌, length, Some, Option}
 use Rattle.hib_base.specs.Tables.{Tables}
 use Rattle.hib_journal.specs.Types.{Script, Act, Reply}
 use Rattle.hib_journal.specs.Sessions.{Journal, own, was_killed, changes, changes_in}
@@ -63,7 +63,7 @@ pub record IsAnswered (script : Script) (told : Option Tables) (h : Journal) (by
 
 -- the keeper was asked once at most for an act of s, and only if the act asks
 abbrev pub IsAskedFor : Journal → ℕ → Act → EnginesState → EnginesState → Type 0
-IsAskedFor h s a x y = RoseWithin x.store.asked (cond (asks (changes_in (own s h)) a) 1 0) y.store.asked
+IsAskedFor h s a x y = RoseWithin x.store.asked (if asks (changes_in (own s h)) a then 1 else 0) y.store.asked
 
 -- an act of s was refused for want of memory, or its answer is let go. All engines are as before, but for the keeper's counts: it was asked
 -- only if the act asks, and nothing at all has changed if the reply to the act doesn't hang on the committed rows

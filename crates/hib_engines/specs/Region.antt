@@ -1,5 +1,5 @@
 -- The region of an entity, by its strategy: what it answers, what an act leaves of it, and that it stands for a journal.
-use Rattle.std.specs.Prelude.{◌≡◌, ◌⊎◌, ℕ, Bool, true, false, Option, Some, None, is_some, cond}
+use Rattle.std.specs.Prelude.{◌≡◌, ◌⊎◌, ℕ, Bool, true, false, Option, Some, None, is_some, if◌then◌else◌}
 use Rattle.std.specs.Option.{option_map}
 use Rattle.hib_journal.specs.Types.{Key, Row, Strategy, Script, Act, Reply, Put, Locked, Unlocked, Inserted, Updated, Evicted, Miss}
 use Rattle.hib_journal.specs.Sessions.{Journal}
@@ -60,7 +60,7 @@ has_slot (Region.ReadWrite x) id = has_entry (slot_in x id)
 has_slot _ id = true
 
 abbrev pub insert : Region → ℕ → ℕ → Inserted
-insert (Region.ReadOnly x) id floor = cond (is_some (item_in x id)) Inserted.Present (Inserted.Stored (oldest_in x))
+insert (Region.ReadOnly x) id floor = if is_some (item_in x id) then Inserted.Present else Inserted.Stored (oldest_in x)
 insert (Region.ReadWrite x) id floor = Regions.after_insert (slot_in x id) (room_in x floor)
 insert _ id floor = Inserted.Crowded
 
@@ -78,8 +78,8 @@ after_update (Region.ReadWrite x) id lock row now = Region.ReadWrite (Slots.afte
 after_update x id lock row now = x
 
 abbrev pub remove : Region → ℕ → Reply
-remove (Region.ReadOnly x) id = cond (is_some (item_in x id)) Reply.Dropped Reply.Absent
-remove (Region.Nonstrict x) id = cond (is_some (item_in x id)) Reply.Dropped Reply.Absent
+remove (Region.ReadOnly x) id = if is_some (item_in x id) then Reply.Dropped else Reply.Absent
+remove (Region.Nonstrict x) id = if is_some (item_in x id) then Reply.Dropped else Reply.Absent
 remove _ id = Reply.Absent
 
 abbrev pub after_remove : Region → ℕ → Region
@@ -89,8 +89,8 @@ after_remove x id = x
 
 abbrev pub evict : Region → ℕ → Evicted
 evict Region.Uncached id = Evicted.Absent
-evict (Region.ReadOnly x) id = cond (is_some (item_in x id)) Evicted.Gone Evicted.Absent
-evict (Region.Nonstrict x) id = cond (is_some (item_in x id)) Evicted.Gone Evicted.Absent
+evict (Region.ReadOnly x) id = if is_some (item_in x id) then Evicted.Gone else Evicted.Absent
+evict (Region.Nonstrict x) id = if is_some (item_in x id) then Evicted.Gone else Evicted.Absent
 evict (Region.ReadWrite x) id = Regions.evict (slot_in x id)
 
 abbrev pub after_evict : Region → ℕ → ℕ → Region

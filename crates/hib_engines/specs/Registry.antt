@@ -1,5 +1,5 @@
 -- The open sessions, and that they are those of a journal.
-use Rattle.std.specs.Prelude.{◌≡◌, ℕ, ◌≤◌, ◌<◌, Bool, true, false, cond, not, nat_eq, ◌==◌, List, [], ◌∷◌, ◌++◌, map, Some, None, Option, unwrap_or}
+use Rattle.std.specs.Prelude.{◌≡◌, ℕ, ◌≤◌, ◌<◌, Bool, true, false, if◌then◌else◌, not, nat_eq, ◌==◌, List, [], ◌∷◌, ◌++◌, map, Some, None, Option, unwrap_or}
 use Rattle.std.specs.List.{filter, list_any}
 use Rattle.std.specs.Map.{lookup}
 use Rattle.hib_journal.specs.Types.{Part, Act}
@@ -44,7 +44,7 @@ own_after s _ ps = ps
 
 abbrev pub time_of : Opened → ℕ → Option ℕ
 time_of [] s = None
-time_of (p ∷ ps) s = cond (p.0 == s) (Some p.1) (time_of ps s)
+time_of (p ∷ ps) s = if p.0 == s then Some p.1 else time_of ps s
 
 -- each of the times is so
 abbrev pub Each : (ℕ → Type 0) → Opened → Type 0
@@ -61,7 +61,7 @@ abbrev pub holds : ℕ → Opened → Bool
 holds s ps = list_any (λ p. p.0 == s) ps
 
 abbrev pub time_if_open : ℕ → Journal → Option ℕ
-time_if_open s h = cond (is_open s h) (Some (time s h)) None
+time_if_open s h = if is_open s h then Some (time s h) else None
 
 -- the tick of the registry's last entry
 abbrev pub last_of : Journal → ℕ

@@ -1,5 +1,5 @@
 -- A store that stands for a list: its rows are the stored ones, and it defers what the list leaves unsaved.
-use Rattle.std.specs.Prelude.{◌≡◌, ◌≤◌, ◌+◌, ℕ, false, cond, List, ◌∷◌, Some, Option}
+use Rattle.std.specs.Prelude.{◌≡◌, ◌≤◌, ◌+◌, ℕ, false, if◌then◌else◌, List, ◌∷◌, Some, Option}
 use Rattle.std.specs.Option.{option_map}
 use Rattle.hib_base.specs.Tables.{Tables}
 use Rattle.hib_journal.specs.Types.{Change, Script, Act, Reply}
@@ -34,7 +34,7 @@ pub record IsCounted (old new : StoreState) : Type 0 where
 pub record IsLeft (cs : List Change) (a : Act) (old new : StoreState) : Type 0 where
   pub counted : IsCounted old new
   pub entities : new.entities ≡ old.entities
-  pub asked : RoseWithin old.asked (cond (asks cs a) 1 0) new.asked
+  pub asked : RoseWithin old.asked (if asks cs a then 1 else 0) new.asked
   pub same : is_told cs a ≡ false → new ≡ old
 
 -- the reply that a loaded row is

@@ -1,5 +1,5 @@
 // The engine of the store.
-ghost use Rattle.std.specs.Prelude.{◌≡◌, ◌≢◌, ◌≤◌, ◌∷◌, ℕ, [], Option, None, false, true, map, is_some, Ok, IfOk, IfErr, IfSome, OnOk, OnErr, cond};
+ghost use Rattle.std.specs.Prelude.{◌≡◌, ◌≢◌, ◌≤◌, ◌∷◌, ℕ, [], Option, None, false, true, map, is_some, Ok, IfOk, IfErr, IfSome, OnOk, OnErr, if◌then◌else◌};
 ghost use Rattle.std.specs.Option.{option_map};
 ghost use Rattle.hib_base.specs.Start.{start};
 ghost use Rattle.hib_base.specs.Tables.{Tables, in_order, commit_answer};
@@ -104,7 +104,7 @@ impl<K: Keeper> StoreEngine<K> {
             → IsStored told l self.old → IsStoreServed script told l now session
             (Act.Load key) r self.new) }
         ensures asked { IfOk result (λ _. RoseWithin self.old.asked
-            (cond (asks (changes_of self.old session) (Act.Load key)) 1 0) self.new.asked) }
+            (if asks (changes_of self.old session) (Act.Load key) then 1 else 0) self.new.asked) }
         ensures fault { IfOk result (λ r. is_fault r ≡ true
             → Rose self.old.faults self.new.faults) }
         ensures faults { self.old.faults ≤ self.new.faults }
@@ -128,7 +128,7 @@ impl<K: Keeper> StoreEngine<K> {
             → IsStored told l self.old → HasQuery script.now (Act.List query)
             → IsStoreServed script.now told l now session (Act.List query) r self.new) }
         ensures asked { IfOk result (λ _. RoseWithin self.old.asked
-            (cond (asks (changes_of self.old session) (Act.List query)) 1 0) self.new.asked) }
+            (if asks (changes_of self.old session) (Act.List query) then 1 else 0) self.new.asked) }
         ensures fault { IfOk result (λ r. is_fault r ≡ true
             → Rose self.old.faults self.new.faults) }
         ensures faults { self.old.faults ≤ self.new.faults }
@@ -214,7 +214,7 @@ impl<K: Keeper> StoreEngine<K> {
             → HasQuery script.now act.now → IsStoreServed script.now told l now session act.now
             r self.new) }
         ensures asked { IfOk result (λ _. RoseWithin self.old.asked
-            (cond (asks (changes_of self.old session) act.now) 1 0) self.new.asked) }
+            (if asks (changes_of self.old session) act.now then 1 else 0) self.new.asked) }
         ensures fault { IfOk result (λ r. is_fault r ≡ true
             → Rose self.old.faults self.new.faults) }
         ensures faults { self.old.faults ≤ self.new.faults }

@@ -1,6 +1,6 @@
 -- What bytes look like, field by field. Every function here is total: bytes that look like nothing give some value, which is found
 -- out when the value is written again.
-use Rattle.std.specs.Prelude.{ℕ, zero, suc, ◌^◌, Bool, true, false, cond, ◌||◌, ◌==◌, nat_lt, nat_le, List, [], ◌∷◌, length, take, drop, position, codes, bytes_eq, ℤ, pos, neg_ℤ, Option, Some, None, option_map}
+use Rattle.std.specs.Prelude.{ℕ, zero, suc, ◌^◌, Bool, true, false, if◌then◌else◌, ◌||◌, ◌==◌, nat_lt, nat_le, List, [], ◌∷◌, length, take, drop, position, codes, bytes_eq, ℤ, pos, neg_ℤ, Option, Some, None, option_map}
 use Rattle.hib_lex.specs.Tokens.{size_of, is_digit}
 use Rattle.hib_journal.specs.Types.{Key, Cell, Row, Query, ColumnDef, EntityDef, SessionDef, Script}
 use Rattle.hib_base.specs.Fits.{entity_columns}
@@ -13,7 +13,7 @@ is_stop b = (b == 32) || (b == 93)
 
 abbrev pub piece_len : List ℕ → ℕ
 piece_len [] = 0
-piece_len (b ∷ bs) = cond (is_stop b) 0 (suc (piece_len bs))
+piece_len (b ∷ bs) = if is_stop b then 0 else suc (piece_len bs)
 
 unfoldable pub piece : List ℕ → List ℕ
 piece bs = take (piece_len bs) bs
@@ -31,22 +31,22 @@ after bs = behind (drop 1 bs)
 -- ---- numbers
 
 unfoldable pub number_of : List ℕ → ℕ
-number_of p = cond (nat_lt (size_of p) (2 ^ 64)) (size_of p) 0
+number_of p = if nat_lt (size_of p) (2 ^ 64) then size_of p else 0
 
 abbrev pub small : ℕ → ℕ → ℕ
-small limit n = cond (nat_lt n limit) n 0
+small limit n = if nat_lt n limit then n else 0
 
 abbrev pub below_zero : ℕ → ℤ
-below_zero n = cond (nat_le n (2 ^ 63)) (neg_ℤ (pos n)) (pos 0)
+below_zero n = if nat_le n (2 ^ 63) then neg_ℤ (pos n) else pos 0
 
 abbrev pub signed_of : List ℕ → ℤ
 signed_of [] = pos 0
-signed_of (b ∷ bs) = cond (b == 45) (below_zero (number_of bs)) (pos (small (2 ^ 63) (number_of (b ∷ bs))))
+signed_of (b ∷ bs) = if b == 45 then below_zero (number_of bs) else pos (small (2 ^ 63) (number_of (b ∷ bs)))
 
 -- v and a number, or v-
 abbrev pub version_of : List ℕ → Option ℕ
 version_of [] = None
-version_of (b ∷ bs) = cond (bytes_eq bs (codes "-")) None (Some (small (2 ^ 32) (number_of bs)))
+version_of (b ∷ bs) = if bytes_eq bs (codes "-") then None else Some (small (2 ^ 32) (number_of bs))
 
 -- ---- names
 
@@ -89,7 +89,7 @@ names_from script (suc n) (b ∷ bs) = entity_of script (next (b ∷ bs)) ∷ na
 unfoldable pub quoted : Bool → List ℕ → List ℕ × List ℕ
 quoted escaped [] = ([], [])
 quoted true (b ∷ bs) = (b ∷ (quoted false bs).0, (quoted false bs).1)
-quoted false (b ∷ bs) = cond (b == 34) ([], bs) (cond (b == 92) (quoted true bs) (b ∷ (quoted false bs).0, (quoted false bs).1))
+quoted false (b ∷ bs) = if b == 34 then ([], bs) else (if b == 92 then quoted true bs else (b ∷ (quoted false bs).0, (quoted false bs).1))
 
 abbrev pub begins_number : List ℕ → Bool
 begins_number [] = false
@@ -98,9 +98,9 @@ begins_number (b ∷ bs) = (b == 45) || (is_digit b)
 -- a cell that is no text
 unfoldable pub bare_cell : List ℕ → Option Cell
 bare_cell p =
-    cond (bytes_eq p (codes "true")) (Some (Cell.Bool true))
-    (cond (bytes_eq p (codes "false")) (Some (Cell.Bool false))
-    (cond (begins_number p) (Some (Cell.Int (signed_of p))) None))
+    if bytes_eq p (codes "true") then Some (Cell.Bool true)
+    else (if bytes_eq p (codes "false") then Some (Cell.Bool false)
+    else (if begins_number p then Some (Cell.Int (signed_of p)) else None))
 
 abbrev pub bare_at : List ℕ → Option (Cell × List ℕ)
 bare_at bs = option_map (λ c. (c, behind bs)) (bare_cell (piece bs))
@@ -111,7 +111,7 @@ text_at t = Some (Cell.Text t.0, t.1)
 -- a cell and what follows it, or none
 unfoldable pub cell_at : List ℕ → Option (Cell × List ℕ)
 cell_at [] = None
-cell_at (b ∷ bs) = cond (b == 34) (text_at (quoted false bs)) (bare_at (b ∷ bs))
+cell_at (b ∷ bs) = if b == 34 then text_at (quoted false bs) else bare_at (b ∷ bs)
 
 abbrev pub with_cell : (List ℕ → List Cell × List ℕ) → List ℕ → Option (Cell × List ℕ) → List Cell × List ℕ
 with_cell read bs None = ([], bs)

@@ -1,5 +1,5 @@
 -- The act that bytes look like, on the part whose word is given. Every function here is total.
-use Rattle.std.specs.Prelude.{ℕ, cond, List, length, codes, bytes_eq, drop}
+use Rattle.std.specs.Prelude.{ℕ, if◌then◌else◌, List, length, codes, bytes_eq, drop}
 use Rattle.hib_journal.specs.Types.{Change, Act, Script}
 use Rattle.hib_entry_fields.specs.Fields.{piece, behind, next, after, number_of, version_of, query_of, session_of, key_at, after_key, names_from, cells_at, row_at, after_row, sets_from}
 
@@ -15,9 +15,9 @@ marked bs = number_of (next (after (after_key bs)))
 
 abbrev pub registry_act : Script → List ℕ → List ℕ → Act
 registry_act script word bs =
-    cond (bytes_eq word (codes "end")) Act.End
-    (cond (bytes_eq word (codes "kill")) (Act.Kill (session_of script (next bs)))
-    (cond (bytes_eq word (codes "restart")) Act.Restart Act.Begin))
+    if bytes_eq word (codes "end") then Act.End
+    else (if bytes_eq word (codes "kill") then Act.Kill (session_of script (next bs))
+    else (if bytes_eq word (codes "restart") then Act.Restart else Act.Begin))
 
 -- ---- own
 
@@ -29,10 +29,10 @@ set_of script bs = Act.Set (key_at script bs) (sets_from script (key_at script b
 
 abbrev pub own_act : Script → List ℕ → List ℕ → Act
 own_act script word bs =
-    cond (bytes_eq word (codes "find")) (Act.Find (key_at script bs))
-    (cond (bytes_eq word (codes "persist")) (persist_of script bs)
-    (cond (bytes_eq word (codes "set")) (set_of script bs)
-    (cond (bytes_eq word (codes "remove")) (Act.Remove (key_at script bs)) Act.Clear)))
+    if bytes_eq word (codes "find") then Act.Find (key_at script bs)
+    else (if bytes_eq word (codes "persist") then persist_of script bs
+    else (if bytes_eq word (codes "set") then set_of script bs
+    else (if bytes_eq word (codes "remove") then Act.Remove (key_at script bs) else Act.Clear)))
 
 -- ---- store
 
@@ -47,12 +47,12 @@ delete_of script bs = Act.Write (Change.Delete (key_at script bs) (version_of (n
 
 abbrev pub store_act : Script → List ℕ → List ℕ → Act
 store_act script word bs =
-    cond (bytes_eq word (codes "load")) (Act.Load (key_at script bs))
-    (cond (bytes_eq word (codes "list")) (Act.List (query_of script (next bs)))
-    (cond (bytes_eq word (codes "insert")) (insert_of script bs)
-    (cond (bytes_eq word (codes "update")) (update_of script bs)
-    (cond (bytes_eq word (codes "delete")) (delete_of script bs)
-    (cond (bytes_eq word (codes "commit")) Act.Commit Act.Rollback)))))
+    if bytes_eq word (codes "load") then Act.Load (key_at script bs)
+    else (if bytes_eq word (codes "list") then Act.List (query_of script (next bs))
+    else (if bytes_eq word (codes "insert") then insert_of script bs
+    else (if bytes_eq word (codes "update") then update_of script bs
+    else (if bytes_eq word (codes "delete") then delete_of script bs
+    else (if bytes_eq word (codes "commit") then Act.Commit else Act.Rollback)))))
 
 -- ---- stamps and results
 
@@ -61,14 +61,14 @@ check_of script bs = Act.Check (query_of script (next bs)) (number_of (next (aft
 
 abbrev pub stamps_act : Script → List ℕ → List ℕ → Act
 stamps_act script word bs =
-    cond (bytes_eq word (codes "pre")) (Act.Pre (tables_of script bs))
-    (cond (bytes_eq word (codes "stamp")) (Act.Stamp (tables_of script bs)) (check_of script bs))
+    if bytes_eq word (codes "pre") then Act.Pre (tables_of script bs)
+    else (if bytes_eq word (codes "stamp") then Act.Stamp (tables_of script bs) else check_of script bs)
 
 abbrev pub keep_of : Script → List ℕ → Act
 keep_of script bs = Act.Keep (query_of script (next bs)) (number_of (next (after (after bs)))) (cells_at (drop 1 (after (after (after bs))))).0
 
 abbrev pub results_act : Script → List ℕ → List ℕ → Act
-results_act script word bs = cond (bytes_eq word (codes "look")) (Act.Look (query_of script (next bs))) (keep_of script bs)
+results_act script word bs = if bytes_eq word (codes "look") then Act.Look (query_of script (next bs)) else keep_of script bs
 
 -- ---- region
 
@@ -94,23 +94,23 @@ after_update_of script bs = Act.AfterUpdate (key_at script bs) (marked bs) (row_
 
 abbrev pub region_act : Script → List ℕ → List ℕ → Act
 region_act script word bs =
-    cond (bytes_eq word (codes "get")) (get_of script bs)
-    (cond (bytes_eq word (codes "put")) (put_of script bs)
-    (cond (bytes_eq word (codes "lock")) (lock_of script bs)
-    (cond (bytes_eq word (codes "unlock")) (unlock_of script bs)
-    (cond (bytes_eq word (codes "after-insert")) (after_insert_of script bs)
-    (cond (bytes_eq word (codes "after-update")) (after_update_of script bs)
-    (cond (bytes_eq word (codes "remove")) (Act.RegionRemove (key_at script bs)) (Act.Evict (key_at script bs))))))))
+    if bytes_eq word (codes "get") then get_of script bs
+    else (if bytes_eq word (codes "put") then put_of script bs
+    else (if bytes_eq word (codes "lock") then lock_of script bs
+    else (if bytes_eq word (codes "unlock") then unlock_of script bs
+    else (if bytes_eq word (codes "after-insert") then after_insert_of script bs
+    else (if bytes_eq word (codes "after-update") then after_update_of script bs
+    else (if bytes_eq word (codes "remove") then Act.RegionRemove (key_at script bs) else Act.Evict (key_at script bs)))))))
 
 -- ---- any part
 
 abbrev pub act_by : Script → List ℕ → List ℕ → List ℕ → Act
 act_by script part word bs =
-    cond (bytes_eq part (codes "own")) (own_act script word bs)
-    (cond (bytes_eq part (codes "store")) (store_act script word bs)
-    (cond (bytes_eq part (codes "stamps")) (stamps_act script word bs)
-    (cond (bytes_eq part (codes "results")) (results_act script word bs)
-    (cond (bytes_eq part (codes "region")) (region_act script word bs) (registry_act script word bs)))))
+    if bytes_eq part (codes "own") then own_act script word bs
+    else (if bytes_eq part (codes "store") then store_act script word bs
+    else (if bytes_eq part (codes "stamps") then stamps_act script word bs
+    else (if bytes_eq part (codes "results") then results_act script word bs
+    else (if bytes_eq part (codes "region") then region_act script word bs else registry_act script word bs))))
 
 unfoldable pub act_of : Script → List ℕ → List ℕ → Act
 act_of script part bs = act_by script part (piece bs) (behind bs)

@@ -1,5 +1,5 @@
 -- The reply that bytes look like, to a given act. Every function here is total; the first argument is the first word.
-use Rattle.std.specs.Prelude.{ℕ, ◌^◌, Bool, cond, List, codes, bytes_eq, drop, Option, Some, None}
+use Rattle.std.specs.Prelude.{ℕ, ◌^◌, Bool, if◌then◌else◌, List, codes, bytes_eq, drop, Option, Some, None}
 use Rattle.hib_journal.specs.Types.{Act, Reply, Commit, Checked, Miss, Put, Locked, Unlocked, Inserted, Updated, Evicted, Outcome, Script}
 use Rattle.hib_entry_fields.specs.Fields.{piece, behind, next, after, number_of, version_of, entity_of, query_of, key_at, after_key, cells_at, row_at, small}
 
@@ -7,99 +7,99 @@ use Rattle.hib_entry_fields.specs.Fields.{piece, behind, next, after, number_of,
 
 abbrev pub outcome_of : List ℕ → Outcome
 outcome_of word =
-    cond (bytes_eq word (codes "committed")) Outcome.Committed
-    (cond (bytes_eq word (codes "rolled-back")) Outcome.RolledBack
-    (cond (bytes_eq word (codes "stale")) Outcome.Stale
-    (cond (bytes_eq word (codes "duplicate")) Outcome.Duplicate Outcome.Fault)))
+    if bytes_eq word (codes "committed") then Outcome.Committed
+    else (if bytes_eq word (codes "rolled-back") then Outcome.RolledBack
+    else (if bytes_eq word (codes "stale") then Outcome.Stale
+    else (if bytes_eq word (codes "duplicate") then Outcome.Duplicate else Outcome.Fault)))
 
 -- a row, none, or a fault
 abbrev pub read_of : List ℕ → List ℕ → Reply
 read_of word bs =
-    cond (bytes_eq word (codes "row")) (Reply.Row (Some (row_at bs)))
-    (cond (bytes_eq word (codes "none")) (Reply.Row None) Reply.Fault)
+    if bytes_eq word (codes "row") then Reply.Row (Some (row_at bs))
+    else (if bytes_eq word (codes "none") then Reply.Row None else Reply.Fault)
 
 abbrev pub persisted_of : List ℕ → Reply
-persisted_of word = cond (bytes_eq word (codes "new")) Reply.New Reply.Known
+persisted_of word = if bytes_eq word (codes "new") then Reply.New else Reply.Known
 
 abbrev pub changed_of : List ℕ → Reply
-changed_of word = cond (bytes_eq word (codes "set")) Reply.Set (cond (bytes_eq word (codes "unknown")) Reply.Unknown Reply.ReadOnly)
+changed_of word = if bytes_eq word (codes "set") then Reply.Set else (if bytes_eq word (codes "unknown") then Reply.Unknown else Reply.ReadOnly)
 
 abbrev pub removed_of : List ℕ → Reply
-removed_of word = cond (bytes_eq word (codes "removed")) Reply.Removed Reply.Unknown
+removed_of word = if bytes_eq word (codes "removed") then Reply.Removed else Reply.Unknown
 
 -- ---- store
 
 abbrev pub listed_of : List ℕ → List ℕ → Reply
-listed_of word bs = cond (bytes_eq word (codes "list")) (Reply.Listed (cells_at (drop 1 bs)).0) Reply.Fault
+listed_of word bs = if bytes_eq word (codes "list") then Reply.Listed (cells_at (drop 1 bs)).0 else Reply.Fault
 
 abbrev pub found_of : List ℕ → Option ℕ
-found_of word = cond (bytes_eq word (codes "none")) None (version_of word)
+found_of word = if bytes_eq word (codes "none") then None else version_of word
 
 abbrev pub commit_of : Script → List ℕ → List ℕ → Commit
 commit_of script word bs =
-    cond (bytes_eq word (codes "committed")) Commit.Committed
-    (cond (bytes_eq word (codes "stale")) (Commit.Stale (key_at script bs) (found_of (next (after (after_key bs)))))
-    (cond (bytes_eq word (codes "duplicate")) (Commit.Duplicate (key_at script bs)) Commit.Fault))
+    if bytes_eq word (codes "committed") then Commit.Committed
+    else (if bytes_eq word (codes "stale") then Commit.Stale (key_at script bs) (found_of (next (after (after_key bs))))
+    else (if bytes_eq word (codes "duplicate") then Commit.Duplicate (key_at script bs) else Commit.Fault))
 
 -- ---- stamps and results
 
 abbrev pub checked_of : Script → List ℕ → List ℕ → Checked
-checked_of script word bs = cond (bytes_eq word (codes "fresh")) Checked.Fresh (Checked.Stale (entity_of script (next bs)) (number_of (next (after bs))))
+checked_of script word bs = if bytes_eq word (codes "fresh") then Checked.Fresh else Checked.Stale (entity_of script (next bs)) (number_of (next (after bs)))
 
 abbrev pub looked_of : List ℕ → List ℕ → Reply
 looked_of word bs =
-    cond (bytes_eq word (codes "found")) (Reply.Found (number_of (next (after bs))) (cells_at (drop 1 (after (after bs)))).0) Reply.Absent
+    if bytes_eq word (codes "found") then Reply.Found (number_of (next (after bs))) (cells_at (drop 1 (after (after bs)))).0 else Reply.Absent
 
 abbrev pub dropped_of : Script → List ℕ → Option ℕ
-dropped_of script bs = cond (bytes_eq (next bs) (codes "dropped")) (Some (query_of script (next (after bs)))) None
+dropped_of script bs = if bytes_eq (next bs) (codes "dropped") then Some (query_of script (next (after bs))) else None
 
 -- ---- region
 
 abbrev pub miss_of : List ℕ → Miss
 miss_of bs =
-    cond (bytes_eq (next bs) (codes "locked")) (Miss.Locked (number_of (next (after bs))))
-    (cond (bytes_eq (next bs) (codes "released")) (Miss.Released (number_of (next (after bs))))
-    (cond (bytes_eq (next bs) (codes "young")) (Miss.Young (number_of (next (after bs)))) Miss.Absent))
+    if bytes_eq (next bs) (codes "locked") then Miss.Locked (number_of (next (after bs)))
+    else (if bytes_eq (next bs) (codes "released") then Miss.Released (number_of (next (after bs)))
+    else (if bytes_eq (next bs) (codes "young") then Miss.Young (number_of (next (after bs))) else Miss.Absent))
 
 abbrev pub got_of : List ℕ → List ℕ → Reply
-got_of word bs = cond (bytes_eq word (codes "hit")) (Reply.Hit (row_at bs)) (Reply.Miss (miss_of bs))
+got_of word bs = if bytes_eq word (codes "hit") then Reply.Hit (row_at bs) else Reply.Miss (miss_of bs)
 
 -- after the word evicted, if it is there
 abbrev pub evicted_id_of : List ℕ → Option ℕ
-evicted_id_of bs = cond (bytes_eq (next bs) (codes "evicted")) (Some (number_of (next (after bs)))) None
+evicted_id_of bs = if bytes_eq (next bs) (codes "evicted") then Some (number_of (next (after bs))) else None
 
 abbrev pub late_of : List ℕ → Bool
-late_of bs = cond (bytes_eq (next bs) (codes "evicted")) (bytes_eq (next (after (after bs))) (codes "late")) (bytes_eq (next bs) (codes "late"))
+late_of bs = if bytes_eq (next bs) (codes "evicted") then bytes_eq (next (after (after bs))) (codes "late") else bytes_eq (next bs) (codes "late")
 
 abbrev pub put_reply_of : List ℕ → List ℕ → Put
 put_reply_of word bs =
-    cond (bytes_eq word (codes "stored")) (Put.Stored (evicted_id_of bs) (late_of bs))
-    (cond (bytes_eq word (codes "present")) (Put.Present (version_of (next bs)))
-    (cond (bytes_eq word (codes "held")) (Put.Held (number_of (next bs)))
-    (cond (bytes_eq word (codes "early")) (Put.Early (number_of (next bs)))
-    (cond (bytes_eq word (codes "old")) (Put.Old (small (2 ^ 32) (number_of (drop 1 (next bs))))) Put.Crowded))))
+    if bytes_eq word (codes "stored") then Put.Stored (evicted_id_of bs) (late_of bs)
+    else (if bytes_eq word (codes "present") then Put.Present (version_of (next bs))
+    else (if bytes_eq word (codes "held") then Put.Held (number_of (next bs))
+    else (if bytes_eq word (codes "early") then Put.Early (number_of (next bs))
+    else (if bytes_eq word (codes "old") then Put.Old (small (2 ^ 32) (number_of (drop 1 (next bs)))) else Put.Crowded))))
 
 abbrev pub locked_of : List ℕ → Locked
 locked_of bs = record { id = number_of (next bs); until = number_of (next (after (after bs))); evicted = evicted_id_of (after (after (after bs))) }
 
 abbrev pub unlocked_of : List ℕ → List ℕ → Unlocked
-unlocked_of word bs = cond (bytes_eq word (codes "released")) (Unlocked.Released (number_of (next bs))) Unlocked.Expired
+unlocked_of word bs = if bytes_eq word (codes "released") then Unlocked.Released (number_of (next bs)) else Unlocked.Expired
 
 abbrev pub inserted_of : List ℕ → List ℕ → Inserted
 inserted_of word bs =
-    cond (bytes_eq word (codes "stored")) (Inserted.Stored (evicted_id_of bs))
-    (cond (bytes_eq word (codes "present")) Inserted.Present Inserted.Crowded)
+    if bytes_eq word (codes "stored") then Inserted.Stored (evicted_id_of bs)
+    else (if bytes_eq word (codes "present") then Inserted.Present else Inserted.Crowded)
 
 abbrev pub updated_of : List ℕ → List ℕ → Updated
 updated_of word bs =
-    cond (bytes_eq word (codes "stored")) Updated.Stored
-    (cond (bytes_eq word (codes "shared")) (Updated.Shared (number_of (next bs))) Updated.Expired)
+    if bytes_eq word (codes "stored") then Updated.Stored
+    else (if bytes_eq word (codes "shared") then Updated.Shared (number_of (next bs)) else Updated.Expired)
 
 abbrev pub dropped_reply_of : List ℕ → Reply
-dropped_reply_of word = cond (bytes_eq word (codes "dropped")) Reply.Dropped Reply.Absent
+dropped_reply_of word = if bytes_eq word (codes "dropped") then Reply.Dropped else Reply.Absent
 
 abbrev pub evicted_of : List ℕ → Evicted
-evicted_of word = cond (bytes_eq word (codes "evicted")) Evicted.Gone (cond (bytes_eq word (codes "held")) Evicted.Held Evicted.Absent)
+evicted_of word = if bytes_eq word (codes "evicted") then Evicted.Gone else (if bytes_eq word (codes "held") then Evicted.Held else Evicted.Absent)
 
 -- ---- any act
 

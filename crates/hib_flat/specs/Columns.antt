@@ -1,11 +1,11 @@
 -- The names of the columns of all entities, each once.
-use Rattle.std.specs.Prelude.{ℕ, cond, List, [], ◌∷◌, ◌++◌}
+use Rattle.std.specs.Prelude.{ℕ, if◌then◌else◌, List, [], ◌∷◌, ◌++◌}
 use Rattle.hib_base.specs.Words.{has_name}
 use Rattle.hib_journal.specs.Types.{ColumnDef, EntityDef, Script}
 
 -- a name that is not among them comes last
 abbrev pub with_name : List (List ℕ) → List ℕ → List (List ℕ)
-with_name names w = cond (has_name names w) names (names ++ w ∷ [])
+with_name names w = if has_name names w then names else names ++ w ∷ []
 
 abbrev pub with_columns : List (List ℕ) → List ColumnDef → List (List ℕ)
 with_columns names [] = names

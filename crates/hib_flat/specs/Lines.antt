@@ -1,5 +1,5 @@
 -- The JSON line of an entry, whose members are typed, and its line of comma-separated values.
-use Rattle.std.specs.Prelude.{ℕ, cond, ◌==◌, List, [], ◌∷◌, ◌++◌, codes, flat_map, bytes_eq, Option, Some, None}
+use Rattle.std.specs.Prelude.{ℕ, if◌then◌else◌, ◌==◌, List, [], ◌∷◌, ◌++◌, codes, flat_map, bytes_eq, Option, Some, None}
 use Rattle.std.specs.List.{join_by}
 use Rattle.std.specs.Fmt.{decimal, signed_decimal}
 use Rattle.hib_journal.specs.Types.{Cell, Entry, Script}
@@ -47,7 +47,7 @@ flat script es = flat_map (λ e. flat_line script e ++ codes "\n") es
 
 -- a mark in it stands twice
 abbrev pub doubled : ℕ → List ℕ
-doubled b = cond (b == 34) (34 ∷ 34 ∷ []) (b ∷ [])
+doubled b = if b == 34 then 34 ∷ 34 ∷ [] else b ∷ []
 
 abbrev pub csv_quoted : List ℕ → List ℕ
 csv_quoted t = codes "\"" ++ flat_map doubled t ++ codes "\""
@@ -75,7 +75,7 @@ csv_member m = codes "," ++ csv_some m.1
 -- the first cell of this name
 abbrev pub cell_at : List ℕ → List (List ℕ × Cell) → Option Cell
 cell_at name [] = None
-cell_at name (c ∷ cs) = cond (bytes_eq c.0 name) (Some c.1) (cell_at name cs)
+cell_at name (c ∷ cs) = if bytes_eq c.0 name then Some c.1 else cell_at name cs
 
 abbrev pub csv_some_cell : Option Cell → List ℕ
 csv_some_cell None = []

@@ -1,6 +1,6 @@
 -- The entry that an object looks like, by the names of its members, and not by their order but for the cells. What looks like nothing
 -- gives some value.
-use Rattle.std.specs.Prelude.{ℕ, Bool, false, cond, List, [], ◌∷◌, take, drop, map, codes, bytes_eq, Option, Some, None, option_map, option_and_then}
+use Rattle.std.specs.Prelude.{ℕ, Bool, false, if◌then◌else◌, List, [], ◌∷◌, take, drop, map, codes, bytes_eq, Option, Some, None, option_map, option_and_then}
 use Rattle.json.specs.Json as json
 use Rattle.hib_journal.specs.Types.{Key, Cell, Row, Change, Part, Act, Commit, Checked, Miss, Put, Locked, Unlocked, Inserted, Updated, Reply, Entry, Script}
 use Rattle.hib_entry_fields.specs.Fields.{number_of, signed_of, entity_of, query_of, session_of, column_of}
@@ -12,7 +12,7 @@ use Rattle.hib_entry_texts.specs.WellFormed.{part_of}
 -- the first member of a name
 abbrev pub look : List ℕ → json.Members → Option json.Json
 look name json.no_members = None
-look name (json.member k j ms) = cond (bytes_eq k name) (Some j) (look name ms)
+look name (json.member k j ms) = if bytes_eq k name then Some j else look name ms
 
 abbrev pub number_in : Option json.Json → Option ℕ
 number_in (Some (json.number s)) = Some (number_of s)
@@ -89,7 +89,7 @@ is_cell_name name = bytes_eq (take 5 name) (codes "cell_")
 -- each member of a cell, with its column's name
 abbrev pub cells_at : json.Members → List (List ℕ × Cell)
 cells_at json.no_members = []
-cells_at (json.member k j ms) = cond (is_cell_name k) ((drop 5 k, cell_of j) ∷ cells_at ms) (cells_at ms)
+cells_at (json.member k j ms) = if is_cell_name k then (drop 5 k, cell_of j) ∷ cells_at ms else cells_at ms
 
 abbrev pub row_at : json.Members → Row
 row_at ms = record { version = version_at (codes "version") ms; cells = map (λ c. c.1) (cells_at ms) }
@@ -101,52 +101,52 @@ sets_at script entity ms = map (λ c. (column_of script entity c.0, c.1)) (cells
 
 abbrev pub registry_act : Script → json.Members → List ℕ → Act
 registry_act script ms w =
-    cond (bytes_eq w (codes "end")) Act.End
-    (cond (bytes_eq w (codes "kill")) (Act.Kill (session_of script (word_at (codes "killed") ms)))
-    (cond (bytes_eq w (codes "restart")) Act.Restart Act.Begin))
+    if bytes_eq w (codes "end") then Act.End
+    else (if bytes_eq w (codes "kill") then Act.Kill (session_of script (word_at (codes "killed") ms))
+    else (if bytes_eq w (codes "restart") then Act.Restart else Act.Begin))
 
 abbrev pub own_act : Script → json.Members → List ℕ → Act
 own_act script ms w =
-    cond (bytes_eq w (codes "find")) (Act.Find (key_at script ms))
-    (cond (bytes_eq w (codes "persist")) (Act.Persist (key_at script ms) (row_at ms))
-    (cond (bytes_eq w (codes "set")) (Act.Set (key_at script ms) (sets_at script (key_at script ms).entity ms))
-    (cond (bytes_eq w (codes "remove")) (Act.Remove (key_at script ms)) Act.Clear)))
+    if bytes_eq w (codes "find") then Act.Find (key_at script ms)
+    else (if bytes_eq w (codes "persist") then Act.Persist (key_at script ms) (row_at ms)
+    else (if bytes_eq w (codes "set") then Act.Set (key_at script ms) (sets_at script (key_at script ms).entity ms)
+    else (if bytes_eq w (codes "remove") then Act.Remove (key_at script ms) else Act.Clear)))
 
 abbrev pub store_act : Script → json.Members → List ℕ → Act
 store_act script ms w =
-    cond (bytes_eq w (codes "load")) (Act.Load (key_at script ms))
-    (cond (bytes_eq w (codes "list")) (Act.List (query_at script ms))
-    (cond (bytes_eq w (codes "insert")) (Act.Write (Change.Insert (key_at script ms) (row_at ms)))
-    (cond (bytes_eq w (codes "update")) (Act.Write (Change.Update (key_at script ms) (version_at (codes "expected") ms) (row_at ms)))
-    (cond (bytes_eq w (codes "delete")) (Act.Write (Change.Delete (key_at script ms) (version_at (codes "expected") ms)))
-    (cond (bytes_eq w (codes "commit")) Act.Commit Act.Rollback)))))
+    if bytes_eq w (codes "load") then Act.Load (key_at script ms)
+    else (if bytes_eq w (codes "list") then Act.List (query_at script ms)
+    else (if bytes_eq w (codes "insert") then Act.Write (Change.Insert (key_at script ms) (row_at ms))
+    else (if bytes_eq w (codes "update") then Act.Write (Change.Update (key_at script ms) (version_at (codes "expected") ms) (row_at ms))
+    else (if bytes_eq w (codes "delete") then Act.Write (Change.Delete (key_at script ms) (version_at (codes "expected") ms))
+    else (if bytes_eq w (codes "commit") then Act.Commit else Act.Rollback)))))
 
 abbrev pub stamps_act : Script → json.Members → List ℕ → Act
 stamps_act script ms w =
-    cond (bytes_eq w (codes "pre")) (Act.Pre (tables_at script ms))
-    (cond (bytes_eq w (codes "stamp")) (Act.Stamp (tables_at script ms)) (Act.Check (query_at script ms) (number_at (codes "time") ms)))
+    if bytes_eq w (codes "pre") then Act.Pre (tables_at script ms)
+    else (if bytes_eq w (codes "stamp") then Act.Stamp (tables_at script ms) else Act.Check (query_at script ms) (number_at (codes "time") ms))
 
 abbrev pub results_act : Script → json.Members → List ℕ → Act
 results_act script ms w =
-    cond (bytes_eq w (codes "look")) (Act.Look (query_at script ms)) (Act.Keep (query_at script ms) (number_at (codes "time") ms) (list_at ms))
+    if bytes_eq w (codes "look") then Act.Look (query_at script ms) else Act.Keep (query_at script ms) (number_at (codes "time") ms) (list_at ms)
 
 abbrev pub region_act : Script → json.Members → List ℕ → Act
 region_act script ms w =
-    cond (bytes_eq w (codes "get")) (Act.Get (key_at script ms) (number_at (codes "time") ms))
-    (cond (bytes_eq w (codes "put")) (Act.Put (key_at script ms) (row_at ms) (number_at (codes "time") ms) (number_at (codes "floor") ms))
-    (cond (bytes_eq w (codes "lock")) (Act.Lock (key_at script ms) (version_at (codes "version") ms) (number_at (codes "floor") ms))
-    (cond (bytes_eq w (codes "unlock")) (Act.Unlock (key_at script ms) (number_at (codes "lock") ms))
-    (cond (bytes_eq w (codes "after-insert")) (Act.AfterInsert (key_at script ms) (row_at ms) (number_at (codes "floor") ms))
-    (cond (bytes_eq w (codes "after-update")) (Act.AfterUpdate (key_at script ms) (number_at (codes "lock") ms) (row_at ms))
-    (cond (bytes_eq w (codes "remove")) (Act.RegionRemove (key_at script ms)) (Act.Evict (key_at script ms))))))))
+    if bytes_eq w (codes "get") then Act.Get (key_at script ms) (number_at (codes "time") ms)
+    else (if bytes_eq w (codes "put") then Act.Put (key_at script ms) (row_at ms) (number_at (codes "time") ms) (number_at (codes "floor") ms)
+    else (if bytes_eq w (codes "lock") then Act.Lock (key_at script ms) (version_at (codes "version") ms) (number_at (codes "floor") ms)
+    else (if bytes_eq w (codes "unlock") then Act.Unlock (key_at script ms) (number_at (codes "lock") ms)
+    else (if bytes_eq w (codes "after-insert") then Act.AfterInsert (key_at script ms) (row_at ms) (number_at (codes "floor") ms)
+    else (if bytes_eq w (codes "after-update") then Act.AfterUpdate (key_at script ms) (number_at (codes "lock") ms) (row_at ms)
+    else (if bytes_eq w (codes "remove") then Act.RegionRemove (key_at script ms) else Act.Evict (key_at script ms)))))))
 
 abbrev pub act_by : Script → json.Members → List ℕ → List ℕ → Act
 act_by script ms part w =
-    cond (bytes_eq part (codes "own")) (own_act script ms w)
-    (cond (bytes_eq part (codes "store")) (store_act script ms w)
-    (cond (bytes_eq part (codes "stamps")) (stamps_act script ms w)
-    (cond (bytes_eq part (codes "results")) (results_act script ms w)
-    (cond (bytes_eq part (codes "region")) (region_act script ms w) (registry_act script ms w)))))
+    if bytes_eq part (codes "own") then own_act script ms w
+    else (if bytes_eq part (codes "store") then store_act script ms w
+    else (if bytes_eq part (codes "stamps") then stamps_act script ms w
+    else (if bytes_eq part (codes "results") then results_act script ms w
+    else (if bytes_eq part (codes "region") then region_act script ms w else registry_act script ms w))))
 
 abbrev pub act_at : Script → json.Members → Act
 act_at script ms = act_by script ms (word_at (codes "part") ms) (word_at (codes "act") ms)
@@ -154,56 +154,56 @@ act_at script ms = act_by script ms (word_at (codes "part") ms) (word_at (codes 
 -- ---- replies, by the act and the word of the reply
 
 abbrev pub read_of : json.Members → List ℕ → Reply
-read_of ms w = cond (bytes_eq w (codes "row")) (Reply.Row (Some (row_at ms))) (cond (bytes_eq w (codes "none")) (Reply.Row None) Reply.Fault)
+read_of ms w = if bytes_eq w (codes "row") then Reply.Row (Some (row_at ms)) else (if bytes_eq w (codes "none") then Reply.Row None else Reply.Fault)
 
 abbrev pub listed_of : json.Members → List ℕ → Reply
-listed_of ms w = cond (bytes_eq w (codes "list")) (Reply.Listed (list_at ms)) Reply.Fault
+listed_of ms w = if bytes_eq w (codes "list") then Reply.Listed (list_at ms) else Reply.Fault
 
 abbrev pub commit_of : Script → json.Members → List ℕ → Commit
 commit_of script ms w =
-    cond (bytes_eq w (codes "committed")) Commit.Committed
-    (cond (bytes_eq w (codes "stale")) (Commit.Stale (key_at script ms) (version_at (codes "found") ms))
-    (cond (bytes_eq w (codes "duplicate")) (Commit.Duplicate (key_at script ms)) Commit.Fault))
+    if bytes_eq w (codes "committed") then Commit.Committed
+    else (if bytes_eq w (codes "stale") then Commit.Stale (key_at script ms) (version_at (codes "found") ms)
+    else (if bytes_eq w (codes "duplicate") then Commit.Duplicate (key_at script ms) else Commit.Fault))
 
 abbrev pub checked_of : Script → json.Members → List ℕ → Checked
 checked_of script ms w =
-    cond (bytes_eq w (codes "fresh")) Checked.Fresh (Checked.Stale (entity_of script (word_at (codes "table") ms)) (number_at (codes "stamp") ms))
+    if bytes_eq w (codes "fresh") then Checked.Fresh else Checked.Stale (entity_of script (word_at (codes "table") ms)) (number_at (codes "stamp") ms)
 
 abbrev pub looked_of : json.Members → List ℕ → Reply
-looked_of ms w = cond (bytes_eq w (codes "found")) (Reply.Found (number_at (codes "time") ms) (list_at ms)) Reply.Absent
+looked_of ms w = if bytes_eq w (codes "found") then Reply.Found (number_at (codes "time") ms) (list_at ms) else Reply.Absent
 
 abbrev pub miss_of : json.Members → List ℕ → Miss
 miss_of ms w =
-    cond (bytes_eq w (codes "locked")) (Miss.Locked (number_at (codes "holders") ms))
-    (cond (bytes_eq w (codes "released")) (Miss.Released (number_at (codes "released") ms))
-    (cond (bytes_eq w (codes "young")) (Miss.Young (number_at (codes "stored") ms)) Miss.Absent))
+    if bytes_eq w (codes "locked") then Miss.Locked (number_at (codes "holders") ms)
+    else (if bytes_eq w (codes "released") then Miss.Released (number_at (codes "released") ms)
+    else (if bytes_eq w (codes "young") then Miss.Young (number_at (codes "stored") ms) else Miss.Absent))
 
 abbrev pub got_of : json.Members → List ℕ → Reply
-got_of ms w = cond (bytes_eq w (codes "hit")) (Reply.Hit (row_at ms)) (Reply.Miss (miss_of ms (word_at (codes "cause") ms)))
+got_of ms w = if bytes_eq w (codes "hit") then Reply.Hit (row_at ms) else Reply.Miss (miss_of ms (word_at (codes "cause") ms))
 
 abbrev pub put_of : json.Members → List ℕ → Put
 put_of ms w =
-    cond (bytes_eq w (codes "stored")) (Put.Stored (number_in (look (codes "evicted") ms)) (is_true (look (codes "late") ms)))
-    (cond (bytes_eq w (codes "present")) (Put.Present (version_at (codes "found") ms))
-    (cond (bytes_eq w (codes "held")) (Put.Held (number_at (codes "holders") ms))
-    (cond (bytes_eq w (codes "early")) (Put.Early (number_at (codes "released") ms))
-    (cond (bytes_eq w (codes "old")) (Put.Old (number_at (codes "found") ms)) Put.Crowded))))
+    if bytes_eq w (codes "stored") then Put.Stored (number_in (look (codes "evicted") ms)) (is_true (look (codes "late") ms))
+    else (if bytes_eq w (codes "present") then Put.Present (version_at (codes "found") ms)
+    else (if bytes_eq w (codes "held") then Put.Held (number_at (codes "holders") ms)
+    else (if bytes_eq w (codes "early") then Put.Early (number_at (codes "released") ms)
+    else (if bytes_eq w (codes "old") then Put.Old (number_at (codes "found") ms) else Put.Crowded))))
 
 abbrev pub locked_of : json.Members → Locked
 locked_of ms = record { id = number_at (codes "lock") ms; until = number_at (codes "until") ms; evicted = number_in (look (codes "evicted") ms) }
 
 abbrev pub unlocked_of : json.Members → List ℕ → Unlocked
-unlocked_of ms w = cond (bytes_eq w (codes "released")) (Unlocked.Released (number_at (codes "holders") ms)) Unlocked.Expired
+unlocked_of ms w = if bytes_eq w (codes "released") then Unlocked.Released (number_at (codes "holders") ms) else Unlocked.Expired
 
 abbrev pub inserted_of : json.Members → List ℕ → Inserted
 inserted_of ms w =
-    cond (bytes_eq w (codes "stored")) (Inserted.Stored (number_in (look (codes "evicted") ms)))
-    (cond (bytes_eq w (codes "present")) Inserted.Present Inserted.Crowded)
+    if bytes_eq w (codes "stored") then Inserted.Stored (number_in (look (codes "evicted") ms))
+    else (if bytes_eq w (codes "present") then Inserted.Present else Inserted.Crowded)
 
 abbrev pub updated_of : json.Members → List ℕ → Updated
 updated_of ms w =
-    cond (bytes_eq w (codes "stored")) Updated.Stored
-    (cond (bytes_eq w (codes "shared")) (Updated.Shared (number_at (codes "holders") ms)) Updated.Expired)
+    if bytes_eq w (codes "stored") then Updated.Stored
+    else (if bytes_eq w (codes "shared") then Updated.Shared (number_at (codes "holders") ms) else Updated.Expired)
 
 abbrev pub reply_by : Script → json.Members → Act → List ℕ → Reply
 reply_by script ms Act.Begin w = Reply.Began (number_at (codes "floor") ms)

@@ -1,5 +1,5 @@
 -- The instances of a session: what contracts see of an identity map.
-use Rattle.std.specs.Prelude.{ℕ, Bool, true, false, cond, not, ◌&&◌, List, [], ◌∷◌, ◌++◌, reverse, Some, None, Option}
+use Rattle.std.specs.Prelude.{ℕ, Bool, true, false, if◌then◌else◌, not, ◌&&◌, List, [], ◌∷◌, ◌++◌, reverse, Some, None, Option}
 use Rattle.std.specs.List.{filter}
 use Rattle.hib_journal.specs.Types.{Key, Cell, Row, State, Held}
 use Rattle.hib_journal.specs.Held.{with_cells}
@@ -25,7 +25,7 @@ faced false ps = ps
 -- the instance of a key, or none
 abbrev pub look_in : Pairs → Key → Option Held
 look_in [] k = None
-look_in (p ∷ ps) k = cond (same_key k p.0) (Some p.1) (look_in ps k)
+look_in (p ∷ ps) k = if same_key k p.0 then Some p.1 else look_in ps k
 
 -- each key stands once
 abbrev pub is_absent : Option Held → Bool
@@ -39,12 +39,12 @@ are_distinct (p ∷ ps) = is_absent (look_in ps p.0) && are_distinct ps
 -- another instance in the place of that of a key; a new key comes last
 abbrev pub put_in : Key → Held → Pairs → Pairs
 put_in k h [] = (k, h) ∷ []
-put_in k h (p ∷ ps) = cond (same_key k p.0) ((p.0, h) ∷ ps) (p ∷ put_in k h ps)
+put_in k h (p ∷ ps) = if same_key k p.0 then (p.0, h) ∷ ps else p ∷ put_in k h ps
 
 -- a key leaves, and the others keep their order
 abbrev pub drop_in : Key → Pairs → Pairs
 drop_in k [] = []
-drop_in k (p ∷ ps) = cond (same_key k p.0) ps (p ∷ drop_in k ps)
+drop_in k (p ∷ ps) = if same_key k p.0 then ps else p ∷ drop_in k ps
 
 abbrev pub add_in : Key → Held → Pairs → Pairs
 add_in k h ps = ps ++ (k, h) ∷ []
@@ -59,7 +59,7 @@ remove_last k ks = without k ks ++ k ∷ []
 -- the instance of a key changes in its place, if there is one
 abbrev pub change_in : Key → (Held → Held) → Pairs → Pairs
 change_in k f [] = []
-change_in k f (p ∷ ps) = cond (same_key k p.0) ((p.0, f p.1) ∷ ps) (p ∷ change_in k f ps)
+change_in k f (p ∷ ps) = if same_key k p.0 then (p.0, f p.1) ∷ ps else p ∷ change_in k f ps
 
 abbrev pub state_written : State → State
 state_written State.Removed = State.Removed

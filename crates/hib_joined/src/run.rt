@@ -59,7 +59,7 @@ pub fn run_joined<R: Threads + Wait + Sync, K: Keeper, N: Name + Send + Sync, G:
     requires script { script.now ≡ N.script }
     requires valid { is_valid N.script ≡ true }
     requires from { origin_over N.script (K.tables keeper) (K.faults keeper) (K.asked keeper)
-            ≡ N.from }
+        ≡ N.from }
     ensures came { IfOk result (λ r. CameToOne workers N.script N.from r.joined
         (K.tables r.keeper) (K.faults r.keeper) (K.asked r.keeper)) }
     ensures listed { IfOk result (λ r. AreListed N.script N.from.tables (map past r.lists)

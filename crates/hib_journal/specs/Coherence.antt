@@ -1,5 +1,5 @@
 -- What the claims speak of besides the definitions: who holds a lock, who has committed, and what a session has seen.
-use Rattle.std.specs.Prelude.{◌≡◌, ℕ, ◌⊎◌, Bool, true, false, cond, ◌&&◌, ◌==◌, List, [], ◌∷◌, Some, Option, option_and_then, option_to_list, ◌++◌}
+use Rattle.std.specs.Prelude.{◌≡◌, ℕ, ◌⊎◌, Bool, true, false, if◌then◌else◌, ◌&&◌, ◌==◌, List, [], ◌∷◌, Some, Option, option_and_then, option_to_list, ◌++◌}
 use Rattle.std.specs.Option.{option_map_or}
 use Rattle.hib_journal.specs.Types.{Key, Row, Commit, Act, Reply}
 use Rattle.hib_base.specs.Keys.{same_key}
@@ -19,15 +19,15 @@ gives_back k _ = false
 -- without the first s
 abbrev pub remove : ℕ → List ℕ → List ℕ
 remove s [] = []
-remove s (x ∷ xs) = cond (x == s) xs (x ∷ remove s xs)
+remove s (x ∷ xs) = if x == s then xs else x ∷ remove s xs
 
 -- the sessions that have locked k since the restart and have not given the lock back, killed ones included
 abbrev pub holders : Key → Journal → List ℕ
 holders k [] = []
 holders k (e ∷ h) =
-    cond (is_restart e.act) []
-    (cond (takes k e.act) (option_to_list e.session ++ holders k h)
-    (cond (gives_back k e.act) (option_map_or (λ s. remove s (holders k h)) e.session (holders k h)) (holders k h)))
+    if is_restart e.act then []
+    else (if takes k e.act then option_to_list e.session ++ holders k h
+    else (if gives_back k e.act then option_map_or (λ s. remove s (holders k h)) e.session (holders k h) else holders k h))
 
 abbrev pub done_after : Act → Reply → Bool → Bool
 done_after Act.Begin r d = false

@@ -1,5 +1,5 @@
 -- What a session holds of a key, by its own entries alone. They are the newest first, as in a journal.
-use Rattle.std.specs.Prelude.{ℕ, ◌+◌, Bool, true, false, cond, not, ◌&&◌, ◌||◌, ◌==◌, List, [], ◌∷◌, ◌++◌, set, Some, None, Option, unwrap_or, option_map, option_and_then}
+use Rattle.std.specs.Prelude.{ℕ, ◌+◌, Bool, true, false, if◌then◌else◌, not, ◌&&◌, ◌||◌, ◌==◌, List, [], ◌∷◌, ◌++◌, set, Some, None, Option, unwrap_or, option_map, option_and_then}
 use Rattle.std.specs.Option.{option_map_or, option_or}
 use Rattle.std.specs.List.{filter, list_any, filter_map}
 use Rattle.hib_journal.specs.Types.{Key, Row, Cell, Change, Commit, State, Act, Reply, Entry}
@@ -44,16 +44,16 @@ longer e o = option_map (λ s. (s.0, e ∷ s.1)) o
 
 abbrev pub stay_after : Key → Entry → Option Arrival → Option Stay → Option Stay
 stay_after k e None s = longer e s
-stay_after k e (Some a) s = cond (same_key (arrived_key a) k) (Some (a, [])) (longer e s)
+stay_after k e (Some a) s = if same_key (arrived_key a) k then Some (a, []) else longer e s
 
 -- the last arrival of k since the last break, with what came after it
 abbrev pub stay : Key → Journal → Option Stay
 stay k [] = None
-stay k (e ∷ m) = cond (is_break e.act e.reply) None (stay_after k e (arrival e.act e.reply) (stay k m))
+stay k (e ∷ m) = if is_break e.act e.reply then None else stay_after k e (arrival e.act e.reply) (stay k m)
 
 abbrev pub row_written : Key → Act → Option Row
-row_written k (Act.Write (Change.Insert j r)) = cond (same_key j k) (Some r) None
-row_written k (Act.Write (Change.Update j v r)) = cond (same_key j k) (Some r) None
+row_written k (Act.Write (Change.Insert j r)) = if same_key j k then Some r else None
+row_written k (Act.Write (Change.Update j v r)) = if same_key j k then Some r else None
 row_written k _ = None
 
 abbrev pub deletes : Key → Act → Bool
@@ -92,7 +92,7 @@ base_of k (Arrival.Read j r, m) = option_or (last_written k m) (Some r)
 base_of k (Arrival.Made j r, m) = last_written k m
 
 abbrev pub cells_after : Key → Act → Reply → List Cell → List Cell
-cells_after k (Act.Set j ps) Reply.Set cs = cond (same_key j k) (with_cells ps cs) cs
+cells_after k (Act.Set j ps) Reply.Set cs = if same_key j k then with_cells ps cs else cs
 cells_after k _ _ cs = cs
 
 -- the arrival's cells with those of all later sets on top
@@ -122,7 +122,7 @@ instance_of k s = record {
 
 -- what the session holds of k, or none
 unfoldable pub held : Journal → Key → Option Instance
-held m k = option_and_then (λ s. cond (has_left k s) None (Some (instance_of k s))) (stay k m)
+held m k = option_and_then (λ s. if has_left k s then None else Some (instance_of k s)) (stay k m)
 
 abbrev pub without_key : Key → List Key → List Key
 without_key k ks = filter (λ j. not (same_key j k)) ks
@@ -149,7 +149,7 @@ same_cells (x ∷ xs) (y ∷ ys) = same_cell x y && same_cells xs ys
 
 -- the version after one more update
 abbrev pub next_version : Option ℕ → Option ℕ
-next_version version = option_map (λ v. cond (v == 4294967295) v (v + 1)) version
+next_version version = option_map (λ v. if v == 4294967295 then v else v + 1) version
 
 abbrev pub insert_by : State → Key → Row → Option Change
 insert_by State.New k r = Some (Change.Insert k r)
@@ -157,8 +157,8 @@ insert_by _ k r = None
 
 abbrev pub update_by : State → Key → Row → Option Row → Option Change
 update_by State.Managed k r (Some b) =
-    cond (same_cells r.cells b.cells) None
-    (Some (Change.Update k b.version (record { version = next_version b.version; cells = r.cells })))
+    if same_cells r.cells b.cells then None
+    else Some (Change.Update k b.version (record { version = next_version b.version; cells = r.cells }))
 update_by _ k r b = None
 
 abbrev pub delete_by : State → Key → Option Row → Option Change
@@ -179,7 +179,7 @@ is_begin _ = false
 
 abbrev pub since_begin : Journal → Journal
 since_begin [] = []
-since_begin (e ∷ m) = cond (is_begin e.act) [] (e ∷ since_begin m)
+since_begin (e ∷ m) = if is_begin e.act then [] else e ∷ since_begin m
 
 abbrev pub gives_row : Key → Option Arrival → Option Row → Bool
 gives_row k a (Some r) = true

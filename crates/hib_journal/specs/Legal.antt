@@ -1,5 +1,5 @@
 -- Legal journals: each entry is the next act of its session, in its part, with the reply that the parts give.
-use Rattle.std.specs.Prelude.{◌≡◌, ℕ, ◌+◌, ◌⊎◌, Bool, true, false, cond, not, ◌||◌, List, [], ◌∷◌, length, slice_get, IsSome, Some, None, Option, is_some, unwrap_or, option_map, option_and_then}
+use Rattle.std.specs.Prelude.{◌≡◌, ℕ, ◌+◌, ◌⊎◌, Bool, true, false, if◌then◌else◌, not, ◌||◌, List, [], ◌∷◌, length, slice_get, IsSome, Some, None, Option, is_some, unwrap_or, option_map, option_and_then}
 use Rattle.std.specs.Option.{option_map_or}
 use Rattle.hib_journal.specs.Types.{Key, Row, Change, Commit, State, Outcome, Strategy, Script, Part, Act, Reply, Inserted, Evicted, Entry}
 use Rattle.hib_base.specs.Tables.{Tables, row_at, after_changes, commit_answer}
@@ -58,11 +58,11 @@ abbrev pub insert_reply : Strategy → Script → Journal → Key → ℕ → Re
 insert_reply Strategy.ReadWrite script h k f =
     Reply.Inserted (Regions.after_insert (slot script.timeout k h) (room_for script h k f))
 insert_reply _ script h k f =
-    Reply.Inserted (cond (is_some (item (history k h))) Inserted.Present (Inserted.Stored (oldest (capacity script k.entity) k.entity h)))
+    Reply.Inserted (if is_some (item (history k h)) then Inserted.Present else Inserted.Stored (oldest (capacity script k.entity) k.entity h))
 
 abbrev pub evict_reply : Strategy → Script → Journal → Key → Reply
 evict_reply Strategy.ReadWrite script h k = Reply.Evicted (Regions.evict (slot script.timeout k h))
-evict_reply _ script h k = Reply.Evicted (cond (is_some (item (history k h))) Evicted.Gone Evicted.Absent)
+evict_reply _ script h k = Reply.Evicted (if is_some (item (history k h)) then Evicted.Gone else Evicted.Absent)
 
 -- the reply to an act of session s at a tick, over its changes, the committed rows and the journal before it
 abbrev pub reply_by : Script → List Change → Tables → Journal → ℕ → ℕ → Act → Reply
@@ -71,10 +71,10 @@ reply_by script cs rows h s now Act.End = Reply.Ended (outcome (own s h))
 reply_by script cs rows h s now (Act.Kill n) = Reply.Done
 reply_by script cs rows h s now Act.Restart = Reply.Done
 reply_by script cs rows h s now (Act.Find k) = Reply.Row (row_of (held (own s h) k))
-reply_by script cs rows h s now (Act.Persist k r) = cond (is_some (held (own s h) k) || is_in k cs) Reply.Known Reply.New
+reply_by script cs rows h s now (Act.Persist k r) = if is_some (held (own s h) k) || is_in k cs then Reply.Known else Reply.New
 reply_by script cs rows h s now (Act.Set k cells) =
-    cond (is_some (row_of (held (own s h) k))) (set_unless (strategy script k.entity)) Reply.Unknown
-reply_by script cs rows h s now (Act.Remove k) = cond (is_some (row_of (held (own s h) k))) Reply.Removed Reply.Unknown
+    if is_some (row_of (held (own s h) k)) then set_unless (strategy script k.entity) else Reply.Unknown
+reply_by script cs rows h s now (Act.Remove k) = if is_some (row_of (held (own s h) k)) then Reply.Removed else Reply.Unknown
 reply_by script cs rows h s now Act.Clear = Reply.Cleared
 reply_by script cs rows h s now (Act.Load k) = Reply.Row (row_at (after_changes cs rows) k)
 reply_by script cs rows h s now (Act.List q) =
@@ -93,7 +93,7 @@ reply_by script cs rows h s now (Act.Lock k v f) = Reply.Locked (Regions.lock sc
 reply_by script cs rows h s now (Act.Unlock k i) = Reply.Unlocked (Regions.unlock (slot script.timeout k h) i)
 reply_by script cs rows h s now (Act.AfterInsert k r f) = insert_reply (strategy script k.entity) script h k f
 reply_by script cs rows h s now (Act.AfterUpdate k i r) = Reply.Updated (Regions.after_update (slot script.timeout k h) i)
-reply_by script cs rows h s now (Act.RegionRemove k) = cond (is_some (item (history k h))) Reply.Dropped Reply.Absent
+reply_by script cs rows h s now (Act.RegionRemove k) = if is_some (item (history k h)) then Reply.Dropped else Reply.Absent
 reply_by script cs rows h s now (Act.Evict k) = evict_reply (strategy script k.entity) script h k
 
 abbrev pub reply_of : Script → Tables → Journal → ℕ → ℕ → Act → Reply
@@ -101,9 +101,9 @@ reply_of script start h s now a = reply_by script (changes s h) (committed start
 
 -- the fault that may be answered: to a Load of a key that the session has not changed, a List, a Commit of some changes
 abbrev pub fault_of : List Change → Act → Option Reply
-fault_of cs (Act.Load k) = cond (is_in k cs) None (Some Reply.Fault)
+fault_of cs (Act.Load k) = if is_in k cs then None else Some Reply.Fault
 fault_of cs (Act.List q) = Some Reply.Fault
-fault_of cs Act.Commit = cond (is_empty cs) None (Some (Reply.Commit Commit.Fault))
+fault_of cs Act.Commit = if is_empty cs then None else Some (Reply.Commit Commit.Fault)
 fault_of cs _ = None
 
 -- the replies that hang on the committed rows, by the session's changes
@@ -170,16 +170,16 @@ is_outside _ = false
 
 -- the act that is due: of a session its next one, unless it was killed; without a session any outside act
 abbrev pub due_by : Script → Journal → Option ℕ → Act → Option Act
-due_by script h (Some s) a = cond (was_killed s h) None (next script s (own s h))
-due_by script h None a = cond (is_outside a) (Some a) None
+due_by script h (Some s) a = if was_killed s h then None else next script s (own s h)
+due_by script h None a = if is_outside a then Some a else None
 
 abbrev pub due : Script → Journal → Entry → Option Act
 due script h e = due_by script h e.session e.act
 
 -- a kill names an open session, an evict a cached entity
 abbrev pub may_come : Script → Journal → Option Act → Option Act
-may_come script h (Some (Act.Kill n)) = cond (is_open n h) (Some (Act.Kill n)) None
-may_come script h (Some (Act.Evict k)) = cond (is_cached script k.entity) (Some (Act.Evict k)) None
+may_come script h (Some (Act.Kill n)) = if is_open n h then Some (Act.Kill n) else None
+may_come script h (Some (Act.Evict k)) = if is_cached script k.entity then Some (Act.Evict k) else None
 may_come script h a = a
 
 -- the five points of an entry, as the audit names them

@@ -1,5 +1,5 @@
 -- Lists of entries read by one part: the whole journal, or the part's own entries. The entries of other parts are skipped.
-use Rattle.std.specs.Prelude.{◌≡◌, ◌<◌, ◌||◌, ℕ, Bool, true, false, cond, ◌==◌, List, [], ◌∷◌, Some, None, Option, unwrap_or}
+use Rattle.std.specs.Prelude.{◌≡◌, ◌<◌, ◌||◌, ℕ, Bool, true, false, if◌then◌else◌, ◌==◌, List, [], ◌∷◌, Some, None, Option, unwrap_or}
 use Rattle.hib_journal.specs.Types.{Change, Script, Act, Reply, Part, Entry}
 use Rattle.hib_base.specs.Tables.{Tables, after_changes}
 use Rattle.hib_journal.specs.Sessions.{Journal, is_session, deferred_after, committer, same_part, last_tick}
@@ -8,7 +8,7 @@ use Rattle.hib_journal.specs.Legal.{IsReplyBy, reply_by, reply_of, part_of}
 -- the entries of a part
 abbrev pub of_part : Part → Journal → Journal
 of_part p [] = []
-of_part p (e ∷ l) = cond (same_part p e.part) (e ∷ of_part p l) (of_part p l)
+of_part p (e ∷ l) = if same_part p e.part then e ∷ of_part p l else of_part p l
 
 -- an act that ends sessions from outside: each part hears of it
 abbrev pub stops : Act → Bool
@@ -19,7 +19,7 @@ stops _ = false
 -- what a part sees: its entries, and each kill and restart
 abbrev pub seen_by : Part → Journal → Journal
 seen_by p [] = []
-seen_by p (e ∷ l) = cond (same_part p e.part || stops e.act) (e ∷ seen_by p l) (seen_by p l)
+seen_by p (e ∷ l) = if same_part p e.part || stops e.act then e ∷ seen_by p l else seen_by p l
 
 -- a tick is after those of a part's entries
 abbrev pub IsLate : Part → ℕ → Journal → Type 0
@@ -34,9 +34,9 @@ abbrev pub IsReplyOf : Script → Journal → Option ℕ → ℕ → Act → Rep
 IsReplyOf script l by now a r = (start : Tables) → r ≡ reply_of script start l (unwrap_or by 0) now a
 
 abbrev pub unsaved_after : ℕ → Option ℕ → Act → List Change → List Change
-unsaved_after s by (Act.Kill n) cs = cond (n == s) [] cs
+unsaved_after s by (Act.Kill n) cs = if n == s then [] else cs
 unsaved_after s by Act.Restart cs = []
-unsaved_after s by a cs = cond (is_session s by) (deferred_after a cs) cs
+unsaved_after s by a cs = if is_session s by then deferred_after a cs else cs
 
 -- the changes of s that the store defers: written, and since then neither committed nor rolled back nor lost by a kill or a restart
 abbrev pub unsaved : ℕ → Journal → List Change

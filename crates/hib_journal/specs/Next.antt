@@ -1,5 +1,5 @@
 -- The acts of a session: Begin, and then a block for each statement.
-use Rattle.std.specs.Prelude.{ℕ, Bool, true, false, cond, not, ◌&&◌, ◌==◌, List, [], ◌∷◌, ◌++◌, length, slice_get, Some, None, Option, is_some, option_and_then}
+use Rattle.std.specs.Prelude.{ℕ, Bool, true, false, if◌then◌else◌, not, ◌&&◌, ◌==◌, List, [], ◌∷◌, ◌++◌, length, slice_get, Some, None, Option, is_some, option_and_then}
 use Rattle.std.specs.Option.{option_map_or}
 use Rattle.std.specs.List.{filter, flat_map, list_any, range_with_len}
 use Rattle.hib_journal.specs.Types.{Key, Row, Change, Commit, Strategy, Mode, Statement, Script, Act, Reply, Checked}
@@ -22,7 +22,7 @@ abbrev pub capacity : Script → ℕ → ℕ
 capacity script n = option_map_or (λ d. d.capacity) (slice_get script.mapping n) 0
 
 abbrev pub first_version : Script → ℕ → Option ℕ
-first_version script n = cond (option_map_or (λ d. d.versioned) (slice_get script.mapping n) false) (Some 0) None
+first_version script n = if option_map_or (λ d. d.versioned) (slice_get script.mapping n) false then Some 0 else None
 
 abbrev pub is_in : Key → List Change → Bool
 is_in k cs = list_any (λ c. same_key (key_of c) k) cs
@@ -45,7 +45,7 @@ may_put script m k done = is_cached script k.entity && (mode_puts m && not (is_i
 
 abbrev pub put_loaded : Script → Mode → Key → Reply → Block
 put_loaded script m k (Reply.Row (Some r)) done go =
-    cond (may_put script m k done) (one (Act.Put k r (time_in done) (floor_in done)) done go) (go done)
+    if may_put script m k done then one (Act.Put k r (time_in done) (floor_in done)) done go else go done
 put_loaded script m k _ done go = go done
 
 abbrev pub load : Script → Mode → Key → Block
@@ -59,10 +59,10 @@ abbrev pub get : Script → Mode → Key → Block
 get script m k done go = Plan.Do (Act.Get k (time_in done)) (λ e. load_unless_hit script m k e.reply (e ∷ done) go)
 
 abbrev pub find_away : Script → Mode → Key → Block
-find_away script m k done go = cond (may_read script m k done) (get script m k done go) (load script m k done go)
+find_away script m k done go = if may_read script m k done then get script m k done go else load script m k done go
 
 abbrev pub find : Script → Mode → Key → Block
-find script m k done go = cond (is_some (held done k)) (one (Act.Find k) done go) (find_away script m k done go)
+find script m k done go = if is_some (held done k) then one (Act.Find k) done go else find_away script m k done go
 
 -- flush
 
@@ -73,8 +73,8 @@ before_cached _ k v floor = Act.RegionRemove k ∷ []
 
 abbrev pub before_key : Script → Journal → Key → Option ℕ → List Act
 before_key script past k v =
-    cond (is_in k (changes_in past)) []
-    (before_cached (strategy script k.entity) k (cond (is_fresh k past) v None) (floor_in past))
+    if is_in k (changes_in past) then []
+    else before_cached (strategy script k.entity) k (if is_fresh k past then v else None) (floor_in past)
 
 -- what comes before the write of a change: a lock, or the removal of an item
 abbrev pub before_write : Script → Journal → Change → List Act
@@ -105,7 +105,7 @@ is_free script q by_mode done =
 
 abbrev pub keep_listed : Script → Mode → ℕ → Reply → Block
 keep_listed script m q (Reply.Listed l) done go =
-    cond (is_free script q (mode_puts m) done) (one (Act.Keep q (time_in done) l) done go) (go done)
+    if is_free script q (mode_puts m) done then one (Act.Keep q (time_in done) l) done go else go done
 keep_listed script m q _ done go = go done
 
 abbrev pub list_store : Script → Mode → ℕ → Block
@@ -126,10 +126,10 @@ abbrev pub look : Script → Mode → ℕ → Block
 look script m q done go = Plan.Do (Act.Look q) (λ e. check_found script m q e.reply (e ∷ done) go)
 
 abbrev pub answer : Script → Mode → ℕ → Block
-answer script m q done go = cond (is_free script q (mode_reads m) done) (look script m q done go) (list_store script m q done go)
+answer script m q done go = if is_free script q (mode_reads m) done then look script m q done go else list_store script m q done go
 
 abbrev pub flush_for : Script → ℕ → Block
-flush_for script q done go = cond (is_in_tables (tables_of script q) (pending done)) (flush script done go) (go done)
+flush_for script q done go = if is_in_tables (tables_of script q) (pending done) then flush script done go else go done
 
 abbrev pub list : Script → Mode → ℕ → Block
 list script m q done go = flush_for script q done (λ d. answer script m q d go)
@@ -137,7 +137,7 @@ list script m q done go = flush_for script q done (λ d. answer script m q d go)
 -- the end of a transaction
 
 abbrev pub lock_in : Key → Act → Reply → ℕ → ℕ
-lock_in k (Act.Lock j v f) (Reply.Locked l) i = cond (same_key j k) l.id i
+lock_in k (Act.Lock j v f) (Reply.Locked l) i = if same_key j k then l.id else i
 lock_in k _ _ i = i
 
 -- the id that the session's own last lock on k answered
@@ -172,7 +172,7 @@ complete_by (Some c) g k i floor r = complete_update g k i r
 abbrev pub complete : Script → Mode → Journal → Bool → List Change → Key → List Act
 complete script m past done cs k =
     complete_by (first_on k cs) (strategy script k.entity) k (lock_id k past) (floor_in past)
-    (cond (done && mode_puts m) (option_and_then row_left (last_on k cs)) None)
+    (if done && mode_puts m then option_and_then row_left (last_on k cs) else None)
 
 abbrev pub add_key : Key → List Key → List Key
 add_key k ks = k ∷ filter (λ j. not (same_key j k)) ks

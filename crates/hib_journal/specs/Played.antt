@@ -1,5 +1,5 @@
 -- A run of a schedule: one piece for each order, and then one for each session.
-use Rattle.std.specs.Prelude.{ℕ, zero, suc, Bool, false, cond, not, ◌&&◌, ◌==◌, List, [], ◌∷◌, length, is_some, reverse, Some, None, Option, option_and_then}
+use Rattle.std.specs.Prelude.{ℕ, zero, suc, Bool, false, if◌then◌else◌, not, ◌&&◌, ◌==◌, List, [], ◌∷◌, length, is_some, reverse, Some, None, Option, option_and_then}
 use Rattle.std.specs.Option.{option_map_or}
 use Rattle.std.specs.List.{range_with_len}
 use Rattle.hib_journal.specs.Types.{Key, Act, Order, Script, Entry}
@@ -16,13 +16,13 @@ has_next script h s = not (was_killed s h) && is_some (next script s (own s h))
 
 abbrev pub play_one : (Entry → Bool) → Journal → Journal → Option Playing
 play_one p past [] = None
-play_one p past (e ∷ rest) = cond (p e) (Some (e ∷ past, rest)) None
+play_one p past (e ∷ rest) = if p e then Some (e ∷ past, rest) else None
 
 -- the next n entries of s, or fewer if it has no further act
 abbrev pub play_steps : Script → ℕ → ℕ → Journal → Journal → Option Playing
 play_steps script s zero past rest = Some (past, rest)
 play_steps script s (suc n) past rest =
-    cond (has_next script past s) (option_and_then (λ p. play_steps script s n p.0 p.1) (play_one (is_by s) past rest)) (Some (past, rest))
+    if has_next script past s then option_and_then (λ p. play_steps script s n p.0 p.1) (play_one (is_by s) past rest) else Some (past, rest)
 
 abbrev pub is_kill : ℕ → Act → Bool
 is_kill s (Act.Kill n) = n == s
@@ -35,7 +35,7 @@ is_evict k _ = false
 abbrev pub play_order : Script → Order → Journal → Journal → Option Playing
 play_order script (Order.Run s n) past rest = play_steps script s n past rest
 play_order script (Order.Kill s) past rest =
-    cond (is_open s past) (play_one (λ e. is_kill s e.act) past rest) (Some (past, rest))
+    if is_open s past then play_one (λ e. is_kill s e.act) past rest else Some (past, rest)
 play_order script (Order.Evict k) past rest = play_one (λ e. is_evict k e.act) past rest
 play_order script Order.Restart past rest = play_one (λ e. is_restart e.act) past rest
 

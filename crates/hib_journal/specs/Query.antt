@@ -1,5 +1,5 @@
 -- What a query gives over tables.
-use Rattle.std.specs.Prelude.{ℕ, Bool, true, false, cond, not, ◌&&◌, ◌||◌, ◌==◌, nat_lt, List, [], ◌∷◌, length, map, take, drop, pos, int_lt, int_le, slice_get, Some, None, Option, unwrap_or, option_and_then}
+use Rattle.std.specs.Prelude.{ℕ, Bool, true, false, if◌then◌else◌, not, ◌&&◌, ◌||◌, ◌==◌, nat_lt, List, [], ◌∷◌, length, map, take, drop, pos, int_lt, int_le, slice_get, Some, None, Option, unwrap_or, option_and_then}
 use Rattle.std.specs.Option.{option_map_or}
 use Rattle.std.specs.List.{filter, list_any, range_with_len}
 use Rattle.std.specs.Str.{bytes_eq}
@@ -65,11 +65,11 @@ comes_before [] a b = nat_lt a.0.id b.0.id
 comes_before (o ∷ os) a b =
     let up = is_below_at (slice_get a.1.cells o.column) (slice_get b.1.cells o.column) in
     let down = is_below_at (slice_get b.1.cells o.column) (slice_get a.1.cells o.column) in
-    cond (cond o.desc down up) true (cond (cond o.desc up down) false (comes_before os a b))
+    if (if o.desc then down else up) then true else (if (if o.desc then up else down) then false else comes_before os a b)
 
 abbrev pub placed : List Sort → Key × Row → Tables → Tables
 placed os a [] = a ∷ []
-placed os a (b ∷ bs) = cond (comes_before os b a) (b ∷ placed os a bs) (a ∷ b ∷ bs)
+placed os a (b ∷ bs) = if comes_before os b a then b ∷ placed os a bs else a ∷ b ∷ bs
 
 abbrev pub sorted : List Sort → Tables → Tables
 sorted os [] = []

@@ -1,6 +1,6 @@
 -- What is said of a whole run: its ticks, its committed rows, how often its store may have asked the keeper, and how often that failed; and
 -- what was evicted.
-use Rattle.std.specs.Prelude.{◌≡◌, ℕ, ◌+◌, Bool, true, false, not, [], ◌∷◌, List, length, None, Option, unwrap_or, cond}
+use Rattle.std.specs.Prelude.{◌≡◌, ℕ, ◌+◌, Bool, true, false, not, [], ◌∷◌, List, length, None, Option, unwrap_or, if◌then◌else◌}
 use Rattle.std.specs.List.{list_all}
 use Rattle.std.specs.Option.{option_map}
 use Rattle.hib_base.specs.Fits.{is_identifier}
@@ -27,7 +27,7 @@ asks cs _ = false
 -- the entries at which the store may have asked the keeper
 abbrev pub ask_count : Journal → ℕ
 ask_count [] = 0
-ask_count (e ∷ h) = ask_count h + cond (asks (changes (unwrap_or e.session 0) h) e.act) 1 0
+ask_count (e ∷ h) = ask_count h + (if asks (changes (unwrap_or e.session 0) h) e.act then 1 else 0)
 
 -- a reply that says that the keeper failed
 abbrev pub is_fault : Reply → Bool
@@ -38,7 +38,7 @@ is_fault _ = false
 -- the entries with such a reply
 abbrev pub fault_count : Journal → ℕ
 fault_count [] = 0
-fault_count (e ∷ h) = fault_count h + cond (is_fault e.reply) 1 0
+fault_count (e ∷ h) = fault_count h + (if is_fault e.reply then 1 else 0)
 
 -- an eviction from outside names an identifier; no session evicts
 abbrev pub names_identifier : Option ℕ → Act → Bool

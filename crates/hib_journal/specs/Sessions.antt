@@ -1,5 +1,5 @@
 -- Sessions over a journal. A journal is a list of entries, the newest first: what stands behind an entry is the journal before it.
-use Rattle.std.specs.Prelude.{ℕ, ◌≤◌, ◌<◌, ◌^◌, min, Bool, true, false, cond, ◌&&◌, ◌||◌, ◌==◌, List, [], ◌∷◌, ◌++◌, Some, None, Option}
+use Rattle.std.specs.Prelude.{ℕ, ◌≤◌, ◌<◌, ◌^◌, min, Bool, true, false, if◌then◌else◌, ◌&&◌, ◌||◌, ◌==◌, List, [], ◌∷◌, ◌++◌, Some, None, Option}
 use Rattle.std.specs.Option.{option_map_or}
 use Rattle.hib_journal.specs.Types.{Key, Row, Change, Commit, Act, Reply, Part, Entry}
 use Rattle.hib_base.specs.Tables.{Tables, after_changes, row_at}
@@ -21,7 +21,7 @@ is_by s e = is_session s e.session
 -- the entries of s
 abbrev pub own : ℕ → Journal → Journal
 own s [] = []
-own s (e ∷ h) = cond (is_by s e) (e ∷ own s h) (own s h)
+own s (e ∷ h) = if is_by s e then e ∷ own s h else own s h
 
 abbrev pub time_after : Act → ℕ → ℕ → ℕ
 time_after Act.Begin now t = now
@@ -81,8 +81,8 @@ is_begun (e ∷ m) = begun_after e.act (is_begun m)
 -- whether s is open after an act by `by`, if it was or was not before
 abbrev pub open_after : ℕ → Option ℕ → Act → Bool → Bool
 open_after s by Act.Begin o = is_session s by || o
-open_after s by Act.End o = cond (is_session s by) false o
-open_after s by (Act.Kill n) o = cond (n == s) false o
+open_after s by Act.End o = if is_session s by then false else o
+open_after s by (Act.Kill n) o = if n == s then false else o
 open_after s by Act.Restart o = false
 open_after s by _ o = o
 
@@ -108,7 +108,7 @@ is_live whole _ by tick = false
 abbrev pub least_live : Journal → Journal → ℕ → ℕ
 least_live whole [] now = now
 least_live whole (e ∷ h) now =
-    cond (is_live whole e.act e.session e.tick) (min e.tick (least_live whole h now)) (least_live whole h now)
+    if is_live whole e.act e.session e.tick then min e.tick (least_live whole h now) else least_live whole h now
 
 -- the least time among the open sessions and a session that begins now
 abbrev pub floor : Journal → ℕ → ℕ
@@ -121,7 +121,7 @@ is_restart _ = false
 -- the entries since the last Restart
 abbrev pub span : Journal → Journal
 span [] = []
-span (e ∷ h) = cond (is_restart e.act) [] (e ∷ span h)
+span (e ∷ h) = if is_restart e.act then [] else e ∷ span h
 
 -- the session whose commit was answered Committed
 abbrev pub committer : Act → Reply → Option ℕ → Option ℕ
@@ -156,7 +156,7 @@ same_session one by = option_map_or (λ s. is_session s by) one false
 -- the tick of the last entry that passes, or 0
 abbrev pub last_tick : (Entry → Bool) → Journal → ℕ
 last_tick p [] = 0
-last_tick p (e ∷ h) = cond (p e) e.tick (last_tick p h)
+last_tick p (e ∷ h) = if p e then e.tick else last_tick p h
 
 -- ticks are from 1 to 2 ^ 62, never fall, and rise within a part and within a session
 pub record IsTimely (e : Entry) (h : Journal) : Type 0 where

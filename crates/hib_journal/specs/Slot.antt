@@ -1,5 +1,5 @@
 -- A key of a read-write region, by counting entries.
-use Rattle.std.specs.Prelude.{ℕ, zero, suc, ◌+◌, ◌-◌, Bool, true, false, cond, ◌&&◌, ◌==◌, List, [], ◌∷◌, Some, None, Option, option_and_then}
+use Rattle.std.specs.Prelude.{ℕ, zero, suc, ◌+◌, ◌-◌, Bool, true, false, if◌then◌else◌, ◌&&◌, ◌==◌, List, [], ◌∷◌, Some, None, Option, option_and_then}
 use Rattle.std.specs.Option.{option_map_or}
 use Rattle.hib_journal.specs.Types.{Key, Row, Act, Reply, Entry, Put, Unlocked, Inserted, Updated, Evicted}
 use Rattle.hib_base.specs.Keys.{same_key}
@@ -55,8 +55,8 @@ evicted_in _ = None
 
 abbrev pub touch_at : Key → Key → Act → Reply → Option Touch
 touch_at k here a r =
-    cond (same_key here k) (touch_here a r)
-    (cond ((here.entity == k.entity) && option_map_or (λ i. i == k.id) (evicted_in r) false) (Some Leaves) None)
+    if same_key here k then touch_here a r
+    else (if (here.entity == k.entity) && option_map_or (λ i. i == k.id) (evicted_in r) false then Some Leaves else None)
 
 -- what an entry does to k, or none if it leaves k as it is
 abbrev pub touch : Key → Entry → Option Touch
@@ -68,7 +68,7 @@ History = List (Touch × ℕ)
 -- what was done to k since the restart, each with its tick, the newest first
 abbrev pub history : Key → Journal → History
 history k [] = []
-history k (e ∷ h) = cond (is_restart e.act) [] (option_map_or (λ t. (t, e.tick) ∷ history k h) (touch k e) (history k h))
+history k (e ∷ h) = if is_restart e.act then [] else option_map_or (λ t. (t, e.tick) ∷ history k h) (touch k e) (history k h)
 
 -- where a key stands before the locks of its stretch: nothing, a stored row, or a lock without holder
 pub data Base : Type 0 where
@@ -145,7 +145,7 @@ is_positive (suc n) = true
 
 -- when a lock without holder ends
 abbrev pub bar_end : Bool → ℕ → ℕ → ℕ
-bar_end expired timeout since = cond expired (since + timeout) since
+bar_end expired timeout since = if expired then since + timeout else since
 
 -- a lock that was taken n times and once more, by its id and version, whether it is shared, and the unlock time that its base gives it
 abbrev pub lock_of : ℕ → ℕ → History → ℕ → Option ℕ → Bool → ℕ → Slot

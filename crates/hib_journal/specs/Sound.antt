@@ -1,5 +1,5 @@
 -- Which keys the claims speak of, and what they say of queries.
-use Rattle.std.specs.Prelude.{ℕ, Bool, true, false, cond, not, ◌&&◌, ◌||◌, ◌==◌, List, [], ◌∷◌, Some, Option, option_and_then, drop, slice_get}
+use Rattle.std.specs.Prelude.{ℕ, Bool, true, false, if◌then◌else◌, not, ◌&&◌, ◌||◌, ◌==◌, List, [], ◌∷◌, Some, Option, option_and_then, drop, slice_get}
 use Rattle.std.specs.Option.{option_map_or}
 use Rattle.std.specs.List.{list_any, filter, list_all}
 use Rattle.hib_journal.specs.Types.{Key, Change, Act, Entry}
@@ -29,12 +29,12 @@ commits p h e = option_map_or (λ s. list_any p (changes s h)) (committer e.act 
 -- a commit since the restart deleted k
 abbrev pub was_deleted : Key → Journal → Bool
 was_deleted k [] = false
-was_deleted k (e ∷ h) = cond (is_restart e.act) false (commits (deletes_key k) h e || was_deleted k h)
+was_deleted k (e ∷ h) = if is_restart e.act then false else commits (deletes_key k) h e || was_deleted k h
 
 -- a commit inserted k after a commit had deleted it, both since the restart
 abbrev pub was_reused : Key → Journal → Bool
 was_reused k [] = false
-was_reused k (e ∷ h) = cond (is_restart e.act) false ((commits (inserts_key k) h e && was_deleted k h) || was_reused k h)
+was_reused k (e ∷ h) = if is_restart e.act then false else (commits (inserts_key k) h e && was_deleted k h) || was_reused k h
 
 -- the keys of which the claims speak: neither expired nor reused since the restart
 unfoldable pub is_sound : Key → Journal → Bool
@@ -57,7 +57,7 @@ unstamped ts (e ∷ h) =
 -- the journal up to the last entry that passes, with it
 abbrev pub up_to : (Entry → Bool) → Journal → Journal
 up_to p [] = []
-up_to p (e ∷ h) = cond (p e) (e ∷ h) (up_to p h)
+up_to p (e ∷ h) = if p e then e ∷ h else up_to p h
 
 abbrev pub keeps_by : ℕ → Act → Bool
 keeps_by q (Act.Keep p t l) = p == q

@@ -1,5 +1,5 @@
 -- What is claimed of stamps and of results for as long as they stand.
-use Rattle.std.specs.Prelude.{◌≡◌, ℕ, ◌≤◌, ◌<◌, Bool, true, false, cond, ◌==◌, List, [], ◌∷◌, drop, slice_get, Some, None, Option, option_and_then}
+use Rattle.std.specs.Prelude.{◌≡◌, ℕ, ◌≤◌, ◌<◌, Bool, true, false, if◌then◌else◌, ◌==◌, List, [], ◌∷◌, drop, slice_get, Some, None, Option, option_and_then}
 use Rattle.std.specs.List.{list_any}
 use Rattle.hib_base.specs.Tables.{Tables}
 use Rattle.hib_base.specs.Scripts.{is_declared}
@@ -19,7 +19,7 @@ stamps t _ = false
 -- the ticks of the entries since the restart that stamped t
 abbrev pub stamped_at : ℕ → Journal → List ℕ
 stamped_at t [] = []
-stamped_at t (e ∷ h) = cond (is_restart e.act) [] (cond (stamps t e.act) (e.tick ∷ stamped_at t h) (stamped_at t h))
+stamped_at t (e ∷ h) = if is_restart e.act then [] else (if stamps t e.act then e.tick ∷ stamped_at t h else stamped_at t h)
 
 abbrev pub IsAtLeast : ℕ → Option ℕ → Type 0
 IsAtLeast n None = ⊥

@@ -1,5 +1,5 @@
 -- What is claimed of the sessions that have written a change of a read-write key.
-use Rattle.std.specs.Prelude.{◌≡◌, ℕ, Bool, true, false, cond, ◌||◌, [], ◌∷◌, Some}
+use Rattle.std.specs.Prelude.{◌≡◌, ℕ, Bool, true, false, if◌then◌else◌, ◌||◌, [], ◌∷◌, Some}
 use Rattle.hib_journal.specs.Types.{Key, Change}
 use Rattle.hib_base.specs.Tables.{first_on}
 use Rattle.hib_journal.specs.Sessions.{Journal, own, changes, is_open}
@@ -14,7 +14,7 @@ is_insert _ = false
 -- whether one session's entries give the lock of k back since its last Begin
 abbrev pub gave_back : Key → Journal → Bool
 gave_back k [] = false
-gave_back k (e ∷ m) = cond (is_begin e.act) false (gives_back k e.act || gave_back k m)
+gave_back k (e ∷ m) = if is_begin e.act then false else gives_back k e.act || gave_back k m
 
 -- an open session whose first change of k is no insert holds the lock of k until it gives it back
 abbrev pub AreWritersHolders : Key → Journal → Type 0

@@ -1,5 +1,5 @@
 -- The lines of a text, their tokens, and the first bad one.
-use Rattle.std.specs.Prelude.{◌≡◌, ℕ, suc, ◌+◌, List, [], ◌∷◌, ◌++◌, length, cond, ◌==◌, nat_le, Option, Some, None, Result, Ok, Err}
+use Rattle.std.specs.Prelude.{◌≡◌, ℕ, suc, ◌+◌, List, [], ◌∷◌, ◌++◌, length, if◌then◌else◌, ◌==◌, nat_le, Option, Some, None, Result, Ok, Err}
 use Rattle.std.specs.List.{list_all}
 use Rattle.hib_base.specs.Fits.{is_printable}
 use Rattle.hib_base.specs.declared.refusals.Kind.{Kind}
@@ -23,12 +23,12 @@ before_lines b (l ∷ ls) = (b ∷ l) ∷ ls
 -- the lines of a text, without their line ends; the last line end may be missing
 abbrev pub lines_of : List ℕ → List (List ℕ)
 lines_of [] = []
-lines_of (b ∷ bs) = cond (b == line_feed) ([] ∷ lines_of bs) (before_lines b (lines_of bs))
+lines_of (b ∷ bs) = if b == line_feed then [] ∷ lines_of bs else before_lines b (lines_of bs)
 
 -- how many bytes stand before the first line end, or in all
 abbrev pub line_length : List ℕ → ℕ
 line_length [] = 0
-line_length (b ∷ bs) = cond (b == line_feed) 0 (suc (line_length bs))
+line_length (b ∷ bs) = if b == line_feed then 0 else suc (line_length bs)
 
 -- ---- what a line holds
 abbrev pub tokens_or_bad : Option (List Token) → Content
@@ -38,11 +38,11 @@ tokens_or_bad (Some ts) = Content.Tokens ts
 -- a line that is skipped has to be printable and short too
 abbrev pub content_of : List ℕ → Content
 content_of line =
-    cond (list_all is_printable line)
-    (cond (nat_le (length line) 4096)
-    (cond (is_blank line) Content.Nothing (tokens_or_bad (tokens_of line)))
-    (Content.Bad Kind.Long))
-    (Content.Bad Kind.Byte)
+    if list_all is_printable line
+    then (if nat_le (length line) 4096
+    then (if is_blank line then Content.Nothing else tokens_or_bad (tokens_of line))
+    else Content.Bad Kind.Long)
+    else Content.Bad Kind.Byte
 
 -- the line of this number that holds such a thing; none if it is skipped
 abbrev pub line_with : ℕ → Content → Result (Option Line) Refused

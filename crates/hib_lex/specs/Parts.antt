@@ -1,5 +1,5 @@
 -- A part of a line, read at once.
-use Rattle.std.specs.Prelude.{◌≡◌, ℕ, suc, ◌<◌, ◌≤◌, Bool, true, false, cond, not, ◌&&◌, ◌||◌, ◌==◌, nat_le, List, [], ◌∷◌, ◌++◌, length, drop, Option, Some, None}
+use Rattle.std.specs.Prelude.{◌≡◌, ℕ, suc, ◌<◌, ◌≤◌, Bool, true, false, if◌then◌else◌, not, ◌&&◌, ◌||◌, ◌==◌, nat_le, List, [], ◌∷◌, ◌++◌, length, drop, Option, Some, None}
 use Rattle.hib_lex.specs.Tokens.{Place, mark, backslash, is_end, scan_at, tokens_from}
 use Rattle.hib_lex.specs.declared.lexer.Token.{Token}
 
@@ -13,7 +13,7 @@ within ts text bs = tokens_from (scan_at ts (Place.Quoted text)) bs
 
 -- and just behind the mark that closes a quoted text
 abbrev pub behind : List Token → List ℕ → List ℕ → Option (List Token)
-behind ts text bs = cond (nat_le (length text) 200) (tokens_from (scan_at (ts ++ Token.Quoted text ∷ []) Place.Closed) bs) None
+behind ts text bs = if nat_le (length text) 200 then tokens_from (scan_at (ts ++ Token.Quoted text ∷ []) Place.Closed) bs else None
 
 -- the first bytes, so many of them, are read with these tokens more
 pub record IsPart (old new : List Token) (bytes : List ℕ) (size : ℕ) : Type 0 where
@@ -34,12 +34,12 @@ ReadsQuoted bytes (Some r) = (r.1 ≤ length bytes) × ((ts : List Token) → wi
 -- how many bytes stand before the first at which a word, a path or a number ends, or in all
 abbrev pub bare_length : List ℕ → ℕ
 bare_length [] = 0
-bare_length (b ∷ bs) = cond (is_end b) 0 (suc (bare_length bs))
+bare_length (b ∷ bs) = if is_end b then 0 else suc (bare_length bs)
 
 -- how many bytes stand before the first mark or backslash, or in all
 abbrev pub plain_length : List ℕ → ℕ
 plain_length [] = 0
-plain_length (b ∷ bs) = cond ((b == mark) || (b == backslash)) 0 (suc (plain_length bs))
+plain_length (b ∷ bs) = if (b == mark) || (b == backslash) then 0 else suc (plain_length bs)
 
 abbrev pub begins_bare : List ℕ → Bool
 begins_bare [] = false

@@ -1,5 +1,5 @@
 -- The tokens of a line, and which lines say nothing.
-use Rattle.std.specs.Prelude.{ℕ, ◌+◌, ◌-◌, ◌*◌, ◌^◌, Bool, true, false, cond, not, ◌&&◌, ◌||◌, ◌==◌, nat_lt, nat_le, List, [], ◌∷◌, ◌++◌, length, take, drop, position, ℤ, pos, neg_ℤ, Option, Some, None, option_map, option_and_then}
+use Rattle.std.specs.Prelude.{ℕ, ◌+◌, ◌-◌, ◌*◌, ◌^◌, Bool, true, false, if◌then◌else◌, not, ◌&&◌, ◌||◌, ◌==◌, nat_lt, nat_le, List, [], ◌∷◌, ◌++◌, length, take, drop, position, ℤ, pos, neg_ℤ, Option, Some, None, option_map, option_and_then}
 use Rattle.std.specs.List.{list_all}
 use Rattle.hib_base.specs.Fits.{is_printable}
 pub use Rattle.hib_base.specs.Words.{is_letter, is_digit, is_word_byte, is_word}
@@ -41,14 +41,14 @@ is_lexical line = nat_le (length line) 4096 && list_all is_printable line
 -- spaces alone, nothing, or a comment
 abbrev pub is_blank : List ℕ → Bool
 is_blank [] = true
-is_blank (b ∷ bs) = cond (b == space) (is_blank bs) (b == hash)
+is_blank (b ∷ bs) = if b == space then is_blank bs else b == hash
 
 -- ---- words, paths and numbers
 -- two words joined by one dot
 abbrev pub path_at : List ℕ → Option ℕ → Option Token
 path_at bs None = None
 path_at bs (Some i) =
-    cond (is_word (take i bs) && is_word (drop (i + 1) bs)) (Some (Token.Path (take i bs) (drop (i + 1) bs))) None
+    if is_word (take i bs) && is_word (drop (i + 1) bs) then Some (Token.Path (take i bs) (drop (i + 1) bs)) else None
 
 abbrev pub path_of : List ℕ → Option Token
 path_of bs = path_at bs (position (λ b. b == dot) bs)
@@ -72,15 +72,15 @@ size_of ds = size_after 0 ds
 
 abbrev pub natural_of : List ℕ → Option ℤ
 natural_of ds =
-    cond ((is_zero ds || is_positive ds) && nat_lt (size_of ds) (2 ^ 63)) (Some (pos (size_of ds))) None
+    if (is_zero ds || is_positive ds) && nat_lt (size_of ds) (2 ^ 63) then Some (pos (size_of ds)) else None
 
 abbrev pub negative_of : List ℕ → Option ℤ
-negative_of ds = cond (is_positive ds && nat_le (size_of ds) (2 ^ 63)) (Some (neg_ℤ (pos (size_of ds)))) None
+negative_of ds = if is_positive ds && nat_le (size_of ds) (2 ^ 63) then Some (neg_ℤ (pos (size_of ds))) else None
 
 -- `0`, or an optional `-` and digits that don't begin with 0; within i64
 abbrev pub number_of : List ℕ → Option ℤ
 number_of [] = None
-number_of (b ∷ bs) = cond (b == dash) (negative_of bs) (natural_of (b ∷ bs))
+number_of (b ∷ bs) = if b == dash then negative_of bs else natural_of (b ∷ bs)
 
 abbrev pub or_path : List ℕ → Option ℤ → Option Token
 or_path bs None = path_of bs
@@ -88,7 +88,7 @@ or_path bs (Some n) = Some (Token.Number n)
 
 -- what stands between spaces, parentheses and the line's ends, without quotation marks
 abbrev pub bare_of : List ℕ → Option Token
-bare_of bs = cond (is_word bs) (Some (Token.Word bs)) (or_path bs (number_of bs))
+bare_of bs = if is_word bs then Some (Token.Word bs) else or_path bs (number_of bs)
 
 -- ---- the scan of a line, byte by byte
 -- where it stands
@@ -120,29 +120,29 @@ is_end b = (b == space) || ((b == left) || (b == right))
 
 abbrev pub step_between : List Token → ℕ → Option Scan
 step_between ts b =
-    cond (b == space) (scan_at ts Place.Between)
-    (cond (b == left) (scan_at (ts ++ Token.Left ∷ []) Place.Between)
-    (cond (b == right) (scan_at (ts ++ Token.Right ∷ []) Place.Between)
-    (cond (b == mark) (scan_at ts (Place.Quoted [])) (scan_at ts (Place.Bare (b ∷ []))))))
+    if b == space then scan_at ts Place.Between
+    else (if b == left then scan_at (ts ++ Token.Left ∷ []) Place.Between
+    else (if b == right then scan_at (ts ++ Token.Right ∷ []) Place.Between
+    else (if b == mark then scan_at ts (Place.Quoted []) else scan_at ts (Place.Bare (b ∷ [])))))
 
 abbrev pub step_bare : List Token → List ℕ → ℕ → Option Scan
 step_bare ts bs b =
-    cond (is_end b) (option_and_then (λ done. step_between done b) (with_bare ts bs)) (scan_at ts (Place.Bare (bs ++ b ∷ [])))
+    if is_end b then option_and_then (λ done. step_between done b) (with_bare ts bs) else scan_at ts (Place.Bare (bs ++ b ∷ []))
 
 -- a backslash escapes, a mark ends a text of at most 200 bytes
 abbrev pub step_quoted : List Token → List ℕ → ℕ → Option Scan
 step_quoted ts bs b =
-    cond (b == backslash) (scan_at ts (Place.Escaped bs))
-    (cond (b == mark) (cond (nat_le (length bs) 200) (scan_at (ts ++ Token.Quoted bs ∷ []) Place.Closed) None)
-    (scan_at ts (Place.Quoted (bs ++ b ∷ []))))
+    if b == backslash then scan_at ts (Place.Escaped bs)
+    else (if b == mark then (if nat_le (length bs) 200 then scan_at (ts ++ Token.Quoted bs ∷ []) Place.Closed else None)
+    else scan_at ts (Place.Quoted (bs ++ b ∷ [])))
 
 abbrev pub step_escaped : List Token → List ℕ → ℕ → Option Scan
 step_escaped ts bs b =
-    cond ((b == mark) || (b == backslash)) (scan_at ts (Place.Quoted (bs ++ b ∷ []))) None
+    if (b == mark) || (b == backslash) then scan_at ts (Place.Quoted (bs ++ b ∷ [])) else None
 
 -- after a text comes a space, a parenthesis or the end
 abbrev pub step_closed : List Token → ℕ → Option Scan
-step_closed ts b = cond (is_end b) (step_between ts b) None
+step_closed ts b = if is_end b then step_between ts b else None
 
 abbrev pub step_at : List Token → Place → ℕ → Option Scan
 step_at ts Place.Between b = step_between ts b
@@ -175,4 +175,4 @@ start = record { tokens = []; place = Place.Between }
 
 -- the tokens of a line, or none if it breaks a rule
 abbrev pub tokens_of : List ℕ → Option (List Token)
-tokens_of line = cond (is_lexical line) (tokens_from (Some start) line) None
+tokens_of line = if is_lexical line then tokens_from (Some start) line else None

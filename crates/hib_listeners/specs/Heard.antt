@@ -1,5 +1,5 @@
 -- What listeners have heard of a run. It speaks of those that tell.
-use Rattle.std.specs.Prelude.{◌≡◌, ℕ, ◌-◌, ◌==◌, ◌||◌, nat_lt, Bool, true, false, cond, List, [], ◌∷◌, ◌++◌, length, Some, None, Option}
+use Rattle.std.specs.Prelude.{◌≡◌, ℕ, ◌-◌, ◌==◌, ◌||◌, nat_lt, Bool, true, false, if◌then◌else◌, List, [], ◌∷◌, ◌++◌, length, Some, None, Option}
 use Rattle.std.specs.Option.{option_map}
 use Rattle.std.specs.List.{flat_map}
 use Rattle.hib_journal.specs.Types.{Entry}
@@ -23,7 +23,7 @@ stays_for count None = true
 stays_for count (Some left) = count == 0 || nat_lt count left
 
 abbrev pub after_hearing : List Entry → Teller → List Teller
-after_hearing es one = cond (stays_for (length es) one.1) ((one.0 ++ es, option_map (λ n. n - length es) one.1) ∷ []) []
+after_hearing es one = if stays_for (length es) one.1 then (one.0 ++ es, option_map (λ n. n - length es) one.1) ∷ [] else []
 
 -- those that stay when all hear these entries, each with these after what it had heard
 abbrev pub after_entries : List Entry → List Teller → List Teller

@@ -1,5 +1,5 @@
 -- What is counted of a journal, as numbers of its entries.
-use Rattle.std.specs.Prelude.{ℕ, ◌+◌, ◌<◌, Bool, cond, List, [], ◌∷◌, ◌++◌, map, count_by}
+use Rattle.std.specs.Prelude.{ℕ, ◌+◌, ◌<◌, Bool, if◌then◌else◌, List, [], ◌∷◌, ◌++◌, map, count_by}
 use Rattle.std.specs.List.{All}
 use Rattle.hib_journal.specs.Types.{Entry, EntityDef, Script}
 use Rattle.hib_journal.specs.Next.{is_cached_by}
@@ -26,7 +26,7 @@ region_counts n es = record {
 -- one for each cached entity of these, the first of which has number n
 abbrev pub regions_counts : List Entry → ℕ → List EntityDef → List RegionCounts
 regions_counts es n [] = []
-regions_counts es n (d ∷ ds) = cond (is_cached_by d.strategy) (region_counts n es ∷ []) [] ++ regions_counts es (n + 1) ds
+regions_counts es n (d ∷ ds) = (if is_cached_by d.strategy then region_counts n es ∷ [] else []) ++ regions_counts es (n + 1) ds
 
 abbrev pub store_counts : List Entry → StoreCounts
 store_counts es = record {
@@ -55,7 +55,7 @@ counted script es = record {
 -- the counts after one entry more
 
 abbrev pub one_if : Bool → ℕ
-one_if passes = cond passes 1 0
+one_if passes = if passes then 1 else 0
 
 abbrev pub noted_region : Entry → RegionCounts → RegionCounts
 noted_region e c = record {

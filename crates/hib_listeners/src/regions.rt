@@ -1,5 +1,5 @@
 // The counts of the regions, found by their entities.
-ghost use Rattle.std.specs.Prelude.{◌≡◌, ◌+◌, ◌^◌, ◌++◌, cond, [], ◌∷◌, length, map, IfOk, OnOk};
+ghost use Rattle.std.specs.Prelude.{◌≡◌, ◌+◌, ◌^◌, ◌++◌, if◌then◌else◌, [], ◌∷◌, length, map, IfOk, OnOk};
 ghost use Rattle.std.specs.List.{All};
 ghost use Rattle.hib_journal.specs.Slot.{key_in};
 ghost use Rattle.hib_journal.specs.Next.{is_cached_by};
@@ -65,8 +65,8 @@ fn declare(
     requires { IsIndex index.old.items (entities places.old.items) }
     ensures index { OnOk result (IsIndex index.new.items (entities places.new.items)) }
     ensures places { OnOk result (places.new.items
-        ≡ places.old.items ++ cond (is_cached_by def.now.strategy)
-        (region_counts (length index.old.items) [] ∷ []) []) }
+        ≡ places.old.items ++ (if is_cached_by def.now.strategy
+        then region_counts (length index.old.items) [] ∷ [] else [])) }
     ensures len { OnOk result (length index.new.items ≡ length index.old.items + 1) }
 {
     if def.strategy == Strategy::Uncached {

@@ -1,5 +1,5 @@
 -- The sessions of a made script, and its schedule.
-use Rattle.std.specs.Prelude.{ℕ, ◌+◌, ◌*◌, ◌==◌, nat_lt, cond, List, [], ◌∷◌, ◌++◌, codes}
+use Rattle.std.specs.Prelude.{ℕ, ◌+◌, ◌*◌, ◌==◌, nat_lt, if◌then◌else◌, List, [], ◌∷◌, ◌++◌, codes}
 use Rattle.hib_base.specs.declared.numbers.Key.{Key}
 use Rattle.hib_base.specs.declared.rows.Cell.{Cell}
 use Rattle.hib_base.specs.declared.scripts.Statement.{Statement}
@@ -49,12 +49,12 @@ full_set x = draw 12 x (λ b y. draw 2 y (λ full z. at_once (changed (key shelf
 -- what the j-th step of session i does, by the answer of a draw
 abbrev pub step_by : ℕ → ℕ → ℕ → ℕ → Statements
 step_by i j d x =
-    cond (nat_lt d 4) (one_found book 60 x)
-    (cond (d == 4) (one_found customer 30 x)
-    (cond (d == 5) (stock_set x)
-    (cond (d == 6) (credit_set x)
-    (cond (d == 7) (order_placed i j x)
-    (cond (d == 8) (one_listed x) (full_set x))))))
+    if nat_lt d 4 then one_found book 60 x
+    else (if d == 4 then one_found customer 30 x
+    else (if d == 5 then stock_set x
+    else (if d == 6 then credit_set x
+    else (if d == 7 then order_placed i j x
+    else (if d == 8 then one_listed x else full_set x)))))
 
 unfoldable pub step : ℕ → ℕ → ℕ → Statements
 step i j x = draw 10 x (λ d y. step_by i j d y)
@@ -64,7 +64,7 @@ abbrev pub Sessions : Type 0
 Sessions = Drawn SessionDef
 
 abbrev pub ending : ℕ → Statement
-ending d = cond (d == 0) Statement.Rollback Statement.Commit
+ending d = if d == 0 then Statement.Rollback else Statement.Commit
 
 -- session i of these steps, and how it ends
 abbrev pub ended : ℕ → Statements → Sessions

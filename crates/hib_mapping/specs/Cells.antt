@@ -1,5 +1,5 @@
 -- The cells that tokens are, and the types that cells have.
-use Rattle.std.specs.Prelude.{Bool, true, false, cond, ◌||◌, Option, Some, None, codes}
+use Rattle.std.specs.Prelude.{Bool, true, false, if◌then◌else◌, ◌||◌, Option, Some, None, codes}
 use Rattle.hib_base.specs.declared.rows.Cell.{Cell}
 use Rattle.hib_base.specs.declared.scripts.ColumnType.{ColumnType}
 use Rattle.hib_lex.specs.Words.{is_the_word}
@@ -8,8 +8,8 @@ use Rattle.hib_mapping.specs.Parts.{is_a_number}
 
 abbrev pub truth_of : Token → Option Cell
 truth_of t =
-    cond (is_the_word (codes "true") t) (Some (Cell.Bool true))
-    (cond (is_the_word (codes "false") t) (Some (Cell.Bool false)) None)
+    if is_the_word (codes "true") t then Some (Cell.Bool true)
+    else (if is_the_word (codes "false") t then Some (Cell.Bool false) else None)
 
 abbrev pub cell_of : Token → Option Cell
 cell_of (Token.Number n) = Some (Cell.Int n)

@@ -1,5 +1,5 @@
 -- The entity and column lines: their forms, the first thing that is wrong with one, and what it declares.
-use Rattle.std.specs.Prelude.{ℕ, Bool, false, cond, not, ◌&&◌, ◌||◌, nat_le, List, [], ◌∷◌, ◌++◌, length, Option, Some, None, is_some, unwrap_or, option_and_then, codes, bytes_eq}
+use Rattle.std.specs.Prelude.{ℕ, Bool, false, if◌then◌else◌, not, ◌&&◌, ◌||◌, nat_le, List, [], ◌∷◌, ◌++◌, length, Option, Some, None, is_some, unwrap_or, option_and_then, codes, bytes_eq}
 use Rattle.std.specs.List.{list_any}
 use Rattle.hib_base.specs.declared.refusals.Kind.{Kind}
 use Rattle.hib_base.specs.declared.scripts.ColumnDef.{ColumnDef}
@@ -26,10 +26,10 @@ is_entity_line _ = false
 
 abbrev pub strategy_of : Token → Option Strategy
 strategy_of t =
-    cond (is_the_word (codes "none") t) (Some Strategy.Uncached)
-    (cond (is_the_word (codes "read-only") t) (Some Strategy.ReadOnly)
-    (cond (is_the_word (codes "nonstrict") t) (Some Strategy.Nonstrict)
-    (cond (is_the_word (codes "read-write") t) (Some Strategy.ReadWrite) None)))
+    if is_the_word (codes "none") t then Some Strategy.Uncached
+    else (if is_the_word (codes "read-only") t then Some Strategy.ReadOnly
+    else (if is_the_word (codes "nonstrict") t then Some Strategy.Nonstrict
+    else (if is_the_word (codes "read-write") t then Some Strategy.ReadWrite else None)))
 
 -- nothing is kept of an uncached entity
 abbrev pub is_capacity : Strategy → Token → Bool
@@ -38,17 +38,17 @@ is_capacity _ t = is_within 1 100000 t
 
 abbrev pub strategy_kind : Option Strategy → Token → Option Kind
 strategy_kind None capacity = Some Kind.Strategy
-strategy_kind (Some s) capacity = cond (is_capacity s capacity) None (Some Kind.Capacity)
+strategy_kind (Some s) capacity = if is_capacity s capacity then None else Some Kind.Capacity
 
 abbrev pub or_no_columns : Bool → Option Kind → Option Kind
 or_no_columns followed (Some k) = Some k
-or_no_columns followed None = cond followed None (Some Kind.NoColumns)
+or_no_columns followed None = if followed then None else Some Kind.NoColumns
 
 abbrev pub parts_kind : List EntityDef → Bool → Token → Token → Token → Option Kind
 parts_kind m followed name strategy capacity =
-    cond (nat_le 64 (length m)) (Some Kind.ManyEntities)
-    (cond (is_some (entity_at m (word_of name))) (Some Kind.EntityTaken)
-    (or_no_columns followed (strategy_kind (strategy_of strategy) capacity)))
+    if nat_le 64 (length m) then Some Kind.ManyEntities
+    else (if is_some (entity_at m (word_of name)) then Some Kind.EntityTaken
+    else or_no_columns followed (strategy_kind (strategy_of strategy) capacity))
 
 -- what is wrong with an entity line of this form after the entities m, if anything; followed: the next line is a column's
 abbrev pub entity_kind : List EntityDef → Bool → List Token → Option Kind
@@ -103,13 +103,13 @@ default_in _ = None
 
 abbrev pub type_of : Token → Option ColumnType
 type_of t =
-    cond (is_the_word (codes "int") t) (Some ColumnType.Int)
-    (cond (is_the_word (codes "text") t) (Some ColumnType.Text)
-    (cond (is_the_word (codes "bool") t) (Some ColumnType.Bool) None))
+    if is_the_word (codes "int") t then Some ColumnType.Int
+    else (if is_the_word (codes "text") t then Some ColumnType.Text
+    else (if is_the_word (codes "bool") t then Some ColumnType.Bool else None))
 
 -- the entity that a reference of entity e leads to: e itself, or one that was declared before
 abbrev pub target_of : List EntityDef → EntityDef → Token → Option ℕ
-target_of m e t = cond (bytes_eq e.name (word_of t)) (small (length m)) (entity_at m (word_of t))
+target_of m e t = if bytes_eq e.name (word_of t) then small (length m) else entity_at m (word_of t)
 
 abbrev pub kind_unless : {A : Type 0} → Kind → Option A → Option Kind
 kind_unless k None = Some k
@@ -126,7 +126,7 @@ type_from m e (kind ∷ target ∷ []) = ColumnType.Ref (unwrap_or (target_of m 
 type_from m e _ = ColumnType.Int
 
 abbrev pub default_unless : Bool → Option Kind
-default_unless fine = cond fine None (Some Kind.Default)
+default_unless fine = if fine then None else Some Kind.Default
 
 -- a default is a cell of its column's type; a column without one stands after none that has one
 abbrev pub default_kind : List ColumnDef → ColumnType → Option Token → Option Kind
@@ -144,8 +144,8 @@ rest_kind m e ts = or_kind (type_kind m e (type_in ts)) (default_kind e.columns 
 -- what is wrong with a column line of this form after the entities m and the entity e, if anything
 abbrev pub column_kind : List EntityDef → EntityDef → List Token → Option Kind
 column_kind m e (first ∷ name ∷ ts) =
-    cond (nat_le 16 (length e.columns)) (Some Kind.ManyColumns)
-    (cond (is_some (column_at e.columns (word_of name))) (Some Kind.ColumnTaken) (rest_kind m e ts))
+    if nat_le 16 (length e.columns) then Some Kind.ManyColumns
+    else (if is_some (column_at e.columns (word_of name)) then Some Kind.ColumnTaken else rest_kind m e ts)
 column_kind m e _ = None
 
 abbrev pub column_of : List EntityDef → EntityDef → Token → List Token → ColumnDef

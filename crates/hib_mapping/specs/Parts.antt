@@ -1,5 +1,5 @@
 -- What single tokens are, and what names stand for.
-use Rattle.std.specs.Prelude.{ℕ, Bool, true, false, cond, ◌&&◌, nat_le, nat_lt, List, [], ◌∷◌, pos, Option, Some, None, option_and_then, position, bytes_eq}
+use Rattle.std.specs.Prelude.{ℕ, Bool, true, false, if◌then◌else◌, ◌&&◌, nat_le, nat_lt, List, [], ◌∷◌, pos, Option, Some, None, option_and_then, position, bytes_eq}
 pub use Rattle.hib_base.specs.Words.{is_reserved}
 use Rattle.hib_base.specs.declared.scripts.ColumnDef.{ColumnDef}
 use Rattle.hib_base.specs.declared.scripts.EntityDef.{EntityDef}
@@ -31,13 +31,13 @@ is_within low high _ = false
 
 -- the number, if a token is one from 0 to high; else 0
 abbrev pub number_up_to : ℕ → Token → ℕ
-number_up_to high (Token.Number (pos n)) = cond (nat_le n high) n 0
+number_up_to high (Token.Number (pos n)) = if nat_le n high then n else 0
 number_up_to high _ = 0
 
 -- ---- names
 -- places are counted from 0, below 65,536
 abbrev pub small : ℕ → Option ℕ
-small n = cond (nat_lt n 65536) (Some n) None
+small n = if nat_lt n 65536 then Some n else None
 
 -- the entity of a name, by its place
 abbrev pub entity_at : List EntityDef → List ℕ → Option ℕ

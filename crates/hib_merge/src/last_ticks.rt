@@ -1,5 +1,5 @@
 // The last tick of each of some numbers.
-ghost use Rattle.std.specs.Prelude.{◌≡◌, ◌==◌, ℕ, [], cond, OnOk};
+ghost use Rattle.std.specs.Prelude.{◌≡◌, ◌==◌, ℕ, [], if◌then◌else◌, OnOk};
 ghost use Rattle.hib_merge.specs.LastTicks.{tick_in};
 
 use hib_base::Tick;
@@ -41,7 +41,7 @@ impl LastTicks {
     /// Another tick of a number.
     pub fn set(&mut self, number: u32, tick: Tick) -> Result<(), AllocError>
         ensures { OnOk result ((n : ℕ)
-            → tick_in self.new n ≡ cond (n == number) tick (tick_in self.old n)) }
+            → tick_in self.new n ≡ (if n == number then tick else tick_in self.old n)) }
     {
         self.ticks.insert(number, tick)?;
         Ok(())

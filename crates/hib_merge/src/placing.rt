@@ -1,5 +1,5 @@
 // The entries of each session in a list.
-ghost use Rattle.std.specs.Prelude.{◌≡◌, ◌<◌, ◌++◌, ◌∷◌, ◌==◌, ℕ, [], cond, length, IfOk, OnOk};
+ghost use Rattle.std.specs.Prelude.{◌≡◌, ◌<◌, ◌++◌, ◌∷◌, ◌==◌, ℕ, [], if◌then◌else◌, length, IfOk, OnOk};
 ghost use Rattle.hib_journal.specs.Sessions.{own, is_by};
 ghost use Rattle.hib_split_law.specs.Merged.{list_of};
 
@@ -23,8 +23,8 @@ fn empty_lists<'a>(alloc: Global, count: usize) -> Result<Vec<Pointed<'a>>, Allo
 fn place_at<'a>(lists: &mut Vec<Pointed<'a>>, at: usize, entry: &'a Entry) -> Result<(), AllocError>
     ensures all { OnOk result (length lists.new.items ≡ length lists.old.items) }
     ensures placed { OnOk result ((s : ℕ) → s < length lists.old.items
-        → list_of s lists.new.items ≡ list_of s lists.old.items ++ cond (at == s)
-        (entry.now ∷ []) []) }
+        → list_of s lists.new.items ≡ list_of s lists.old.items ++ (if at == s
+        then entry.now ∷ [] else [])) }
 {
     if at >= lists.len() {
         return Ok(());
@@ -36,8 +36,8 @@ fn place_at<'a>(lists: &mut Vec<Pointed<'a>>, at: usize, entry: &'a Entry) -> Re
 fn place<'a>(lists: &mut Vec<Pointed<'a>>, entry: &'a Entry) -> Result<(), AllocError>
     ensures all { OnOk result (length lists.new.items ≡ length lists.old.items) }
     ensures placed { OnOk result ((s : ℕ) → s < length lists.old.items
-        → list_of s lists.new.items ≡ list_of s lists.old.items ++ cond (is_by s entry.now)
-        (entry.now ∷ []) []) }
+        → list_of s lists.new.items ≡ list_of s lists.old.items ++ (if is_by s entry.now
+        then entry.now ∷ [] else [])) }
 {
     match entry.session {
         Some(session) => place_at(lists, session.0 as usize, entry),

@@ -1,5 +1,5 @@
 // The last ticks of the parts and of the sessions, and the first entry whose tick isn't the one that is due.
-ghost use Rattle.std.specs.Prelude.{◌≡◌, ◌∷◌, ◌≤◌, ◌<◌, ◌^◌, [], cond, length, reverse, IfOk, OnOk, MatchOption, Option, ℕ};
+ghost use Rattle.std.specs.Prelude.{◌≡◌, ◌∷◌, ◌≤◌, ◌<◌, ◌^◌, [], if◌then◌else◌, length, reverse, IfOk, OnOk, MatchOption, Option, ℕ};
 ghost use Rattle.hib_base.specs.declared.entries.Part.{Part as AnyPart};
 ghost use Rattle.hib_clock.specs.Due.{due};
 ghost use Rattle.hib_journal.specs.Sessions.{Journal, same_part};
@@ -96,7 +96,7 @@ impl Ticks {
 
     fn note_part(&mut self, part: Part, tick: Tick) -> Result<(), AllocError>
         ensures parts { OnOk result ((p : AnyPart)
-            → part_last self.new p ≡ cond (same_part p part) tick (part_last self.old p)) }
+            → part_last self.new p ≡ (if same_part p part then tick else part_last self.old p)) }
         ensures sessions { self.new.sessions ≡ self.old.sessions }
     {
         match part {
@@ -113,9 +113,9 @@ impl Ticks {
     fn note_session(&mut self, session: Option<SessionNo>, tick: Tick) -> Result<(), AllocError>
         ensures parts { (p : AnyPart) → part_last self.new p ≡ part_last self.old p }
         ensures sessions { OnOk result ((s : Option ℕ)
-            → session_last self.new s ≡ cond
-            (Rattle.hib_journal.specs.Sessions.same_session s session) tick
-            (session_last self.old s)) }
+            → session_last self.new s ≡ (if
+            Rattle.hib_journal.specs.Sessions.same_session s session then tick
+            else session_last self.old s)) }
     {
         match session {
             Some(number) => self.sessions.set(number.0, tick),

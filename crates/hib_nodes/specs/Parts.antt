@@ -1,9 +1,9 @@
 -- The parts with another state of one node.
-use Rattle.std.specs.Prelude.{◌≡◌, ℕ, true, false, cond, ◌==◌}
+use Rattle.std.specs.Prelude.{◌≡◌, ℕ, true, false, if◌then◌else◌, ◌==◌}
 use Rattle.hib_nodes.specs.Standing.{NodeState, PartsState, is_node, node_in}
 
 abbrev pub with_node : ℕ → NodeState → PartsState → PartsState
-with_node n y x = cond (n == 2) (record x { second = y }) (record x { first = y })
+with_node n y x = if n == 2 then record x { second = y } else record x { first = y }
 
 -- what is shared is as before
 pub record AreShared (x y : PartsState) : Type 0 where

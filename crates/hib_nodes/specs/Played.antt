@@ -1,5 +1,5 @@
 -- What is played of a run of two nodes: the orders, then each session to its end, and then what waits for node 1 and for node 2.
-use Rattle.std.specs.Prelude.{◌≡◌, ◌<◌, ℕ, Bool, false, cond, List, ◌∷◌, length, is_some, take, Some, None}
+use Rattle.std.specs.Prelude.{◌≡◌, ◌<◌, ℕ, Bool, false, if◌then◌else◌, List, ◌∷◌, length, is_some, take, Some, None}
 use Rattle.std.specs.List.{range_with_len}
 use Rattle.hib_journal.specs.Types.{Key, Script}
 use Rattle.hib_journal.specs.Sessions.{own, is_session}
@@ -19,7 +19,7 @@ is_by s e = is_session s e.entry.session
 
 -- the two entries of a fence at node n
 abbrev pub play_fence : ℕ → Play NodeEntry
-play_fence n past (d ∷ e ∷ rest) = cond (is_fence n d) (Some (e ∷ d ∷ past, rest)) None
+play_fence n past (d ∷ e ∷ rest) = if is_fence n d then Some (e ∷ d ∷ past, rest) else None
 play_fence n past rest = None
 
 -- the first pair that waits for node n, if one does
@@ -33,7 +33,7 @@ play_queue script n past rest = play_each (λ (k : Key). play_fence n) (queue sc
 -- an order runs a session or delivers to a node; nothing waits for a node that isn't there
 abbrev pub play_order : Script → NodeOrder → Play NodeEntry
 play_order script (NodeOrder.Run s n) past rest = play_steps (has_next script) is_by s n past rest
-play_order script (NodeOrder.Deliver n) past rest = cond (is_node n) (play_deliver script n past rest) (Some (past, rest))
+play_order script (NodeOrder.Deliver n) past rest = if is_node n then play_deliver script n past rest else Some (past, rest)
 
 -- each session to its end
 abbrev pub play_sessions : Script → Play NodeEntry

@@ -1,5 +1,5 @@
 -- The queues of the nodes as they are kept: the keys that ever came into one, and how many of the first are delivered.
-use Rattle.std.specs.Prelude.{◌≡◌, ℕ, true, cond, ◌==◌, List, drop}
+use Rattle.std.specs.Prelude.{◌≡◌, ℕ, true, if◌then◌else◌, ◌==◌, List, drop}
 use Rattle.hib_journal.specs.Types.{Key, Script}
 use Rattle.hib_nodes_law.specs.Types.{Noded}
 use Rattle.hib_nodes_law.specs.Nodes.{pairs, fence_count}
@@ -25,14 +25,14 @@ pub record QueuesState : Type 0 where
   pub second : QueueState
 
 abbrev pub queue_in : QueuesState → ℕ → QueueState
-queue_in q n = cond (n == 2) q.second q.first
+queue_in q n = if n == 2 then q.second else q.first
 
 abbrev pub with_queue : ℕ → QueueState → QueuesState → QueuesState
-with_queue n y q = cond (n == 2) (record q { second = y }) (record q { first = y })
+with_queue n y q = if n == 2 then record q { second = y } else record q { first = y }
 
 -- the node that hears of what node n commits
 abbrev pub other_node : ℕ → ℕ
-other_node n = cond (n == 2) 1 2
+other_node n = if n == 2 then 1 else 2
 
 abbrev pub AreQueues : Script → Noded → QueuesState → Type 0
 AreQueues script h q = (n : ℕ) → is_node n ≡ true → IsQueue script n h (queue_in q n)

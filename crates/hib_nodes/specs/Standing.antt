@@ -1,5 +1,5 @@
 -- The parts of a run of two nodes: what they stand for, and what they owe for an act. Each part stands for its own entries alone.
-use Rattle.std.specs.Prelude.{◌≡◌, ◌<◌, ℕ, Bool, true, false, cond, ◌||◌, ◌==◌, List, [], ◌∷◌, length, Some, Option}
+use Rattle.std.specs.Prelude.{◌≡◌, ◌<◌, ℕ, Bool, true, false, if◌then◌else◌, ◌||◌, ◌==◌, List, [], ◌∷◌, length, Some, Option}
 use Rattle.hib_base.specs.Tables.{Tables}
 use Rattle.hib_journal.specs.Types.{Script, Part, Act, Reply, Entry}
 use Rattle.hib_journal.specs.Sessions.{Journal, own}
@@ -43,7 +43,7 @@ pub record PartsState : Type 0 where
   pub second : NodeState
 
 abbrev pub node_in : PartsState → ℕ → NodeState
-node_in x n = cond (n == 2) x.second x.first
+node_in x n = if n == 2 then x.second else x.first
 
 -- ---- what they stand for
 
@@ -94,7 +94,7 @@ pub record IsAnswered (script : Script) (told : Option Tables) (h : Noded) (n s 
 -- the keeper was asked once at most for an act of s, and only if the act asks
 abbrev pub IsAskedFor : Noded → ℕ → Act → PartsState → PartsState → Type 0
 IsAskedFor h s a x y =
-    RoseWithin x.store.asked (cond (asks (unsaved s (of_part Part.Store (entries h))) a) 1 0) y.store.asked
+    RoseWithin x.store.asked (if asks (unsaved s (of_part Part.Store (entries h))) a then 1 else 0) y.store.asked
 
 -- an act of s was answered, with the session's own reply if it has one; the keeper was asked as the act allows, and it failed if
 -- the reply says so

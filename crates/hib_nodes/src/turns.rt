@@ -1,6 +1,6 @@
 // One turn of a session: the act that is due is answered by the session or by a part, and its entry is added. What it commits comes
 // into the other node's queue in the same step.
-ghost use Rattle.std.specs.Prelude.{◌≡◌, ◌≢◌, ◌≤◌, ◌<◌, ◌+◌, ◌++◌, ◌^◌, [], length, IfOk, IfSome, OnOk, OnErr, Some, None, Ok, true, cond};
+ghost use Rattle.std.specs.Prelude.{◌≡◌, ◌≢◌, ◌≤◌, ◌<◌, ◌+◌, ◌++◌, ◌^◌, [], length, IfOk, IfSome, OnOk, OnErr, Some, None, Ok, true, if◌then◌else◌};
 ghost use Rattle.hib_journal.specs.Sessions.{Journal, own};
 ghost use Rattle.hib_journal.specs.Next.{next};
 ghost use Rattle.hib_session.specs.Session.{Follows, is_ready, number_of};
@@ -95,7 +95,7 @@ fn note_commit(node: u8, reply: &Reply, keys: &[Key], queues: &mut Queues)
     requires { length keys.now ≤ (queue_in queues.old (other_node node)).spare }
     ensures pairs { (queue_in queues.new (other_node node)).pairs
         ≡ (queue_in queues.old (other_node node)).pairs
-        ++ cond (Rattle.hib_nodes.specs.Turns.is_committed reply.now) keys.now [] }
+        ++ (if Rattle.hib_nodes.specs.Turns.is_committed reply.now then keys.now else []) }
     ensures taken { (queue_in queues.new (other_node node)).taken
         ≡ (queue_in queues.old (other_node node)).taken }
     ensures other { queue_in queues.new (other_node (other_node node))

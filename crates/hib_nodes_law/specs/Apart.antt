@@ -1,5 +1,5 @@
 -- When the lists of the parts of two nodes, and those of their sessions, make a legal journal.
-use Rattle.std.specs.Prelude.{◌≡◌, ℕ, ◌+◌, ◌≤◌, ◌^◌, true, false, cond, ◌==◌, [], ◌∷◌, ◌++◌, length, Some, None, Option}
+use Rattle.std.specs.Prelude.{◌≡◌, ℕ, ◌+◌, ◌≤◌, ◌^◌, true, false, if◌then◌else◌, ◌==◌, [], ◌∷◌, ◌++◌, length, Some, None, Option}
 use Rattle.hib_base.specs.Tables.{Tables}
 use Rattle.hib_journal.specs.Types.{Key, Script, Part}
 use Rattle.hib_journal.specs.Sessions.{own, floor}
@@ -34,7 +34,7 @@ pub record AreNodesApart (script : Script) (told : Option Tables) (h : Noded) : 
 -- what one entry more leaves of the queue of node n: what it has committed comes last, if it is of the other node; and the first half
 -- of a fence there takes the first
 pub record IsQueueAfter (script : Script) (n : ℕ) (h : Noded) (e : NodeEntry) : Type 0 where
-  pub more : is_fence n e ≡ false → queue script n (e ∷ h) ≡ queue script n h ++ cond (e.node == n) [] (shared_keys script (committed_changes h e))
+  pub more : is_fence n e ≡ false → queue script n (e ∷ h) ≡ queue script n h ++ (if e.node == n then [] else shared_keys script (committed_changes h e))
   pub less : is_fence n e ≡ true → (k : Key) × (takes k e.entry.act ≡ true) × (queue script n h ≡ k ∷ queue script n (e ∷ h))
 
 -- what the lists of parts tell of the whole: the committed rows and the counts of the store, and the floors of a node

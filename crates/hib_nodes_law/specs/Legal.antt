@@ -1,6 +1,6 @@
 -- Legal journals of two nodes: each entry is the next act of its session at its node, or one of a fence, with the reply that the parts give.
 -- Each node has a registry and regions of its own. The store, the stamps and the results are shared.
-use Rattle.std.specs.Prelude.{◌≡◌, ℕ, ◌+◌, ◌≤◌, ◌^◌, Bool, true, false, cond, ◌==◌, [], ◌∷◌, length, slice_get, Some, None, Option, unwrap_or, option_map}
+use Rattle.std.specs.Prelude.{◌≡◌, ℕ, ◌+◌, ◌≤◌, ◌^◌, Bool, true, false, if◌then◌else◌, ◌==◌, [], ◌∷◌, length, slice_get, Some, None, Option, unwrap_or, option_map}
 use Rattle.hib_base.specs.Tables.{Tables}
 use Rattle.hib_journal.specs.Types.{Script, Part, Act, Reply}
 use Rattle.hib_journal.specs.Sessions.{Journal, own, floor, changes, committed}
@@ -12,7 +12,7 @@ use Rattle.hib_nodes_law.specs.Nodes.{entries, of_node, queue}
 -- the node of a session: one that is not named is at node 1
 abbrev pub node_of : Nodings → ℕ → ℕ
 node_of [] s = 1
-node_of (p ∷ ps) s = cond (p.0 == s) p.1 (node_of ps s)
+node_of (p ∷ ps) s = if p.0 == s then p.1 else node_of ps s
 
 -- the Unlock that the Lock of a fence at node n asks for
 abbrev pub unlock_after : ℕ → Option ℕ → Act → Reply → Option (ℕ × Act)
@@ -31,9 +31,9 @@ first_half script h n now =
 
 -- the act that is due at a node, of a session or of a fence. Nothing comes between the two halves of a fence
 abbrev pub due_of : Script → Nodings → Noded → ℕ → ℕ → Option ℕ → Option (ℕ × Act) → Option Act
-due_of script places h n now (Some s) None = cond (node_of places s == n) (next script s (own s (entries h))) None
+due_of script places h n now (Some s) None = if node_of places s == n then next script s (own s (entries h)) else None
 due_of script places h n now None None = first_half script h n now
-due_of script places h n now None (Some half) = cond (half.0 == n) (Some half.1) None
+due_of script places h n now None (Some half) = if half.0 == n then Some half.1 else None
 due_of script places h n now (Some s) (Some half) = None
 
 -- the parts that each node has for itself
@@ -44,7 +44,7 @@ is_of_node _ = false
 
 -- what a part of node n sees: its registry and its regions the node's entries, every other part all entries
 abbrev pub seen_at : Part → ℕ → Noded → Journal
-seen_at p n h = cond (is_of_node p) (of_node n h) (entries h)
+seen_at p n h = if is_of_node p then of_node n h else entries h
 
 -- the reply that is due, as in a journal of one node, but for what the part sees: so floors and regions are the node's
 abbrev pub IsNodeReply : Script → Option Tables → Noded → NodeEntry → Type 0

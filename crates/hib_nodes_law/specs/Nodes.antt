@@ -1,6 +1,6 @@
 -- Two nodes over one store, by counting the entries of their one list: what waits for a node, what it has not been told of yet, and since
 -- when its items are. The newest entry comes first, as in a journal. Nothing here asks how many nodes there are.
-use Rattle.std.specs.Prelude.{ℕ, ◌+◌, ◌-◌, Bool, true, false, cond, not, ◌&&◌, ◌==◌, nat_le, List, [], ◌∷◌, ◌++◌, length, drop, take, Some, Option, is_some}
+use Rattle.std.specs.Prelude.{ℕ, ◌+◌, ◌-◌, Bool, true, false, if◌then◌else◌, not, ◌&&◌, ◌==◌, nat_le, List, [], ◌∷◌, ◌++◌, length, drop, take, Some, Option, is_some}
 use Rattle.std.specs.Option.{option_map_or}
 use Rattle.std.specs.List.{filter, list_all, list_any}
 use Rattle.hib_base.specs.Keys.{same_key}
@@ -21,7 +21,7 @@ entries (e ∷ h) = e.entry ∷ entries h
 -- the entries of one node: what its registry and its regions see. Slots, room, floors and holders are of this journal
 abbrev pub of_node : ℕ → Noded → Journal
 of_node n [] = []
-of_node n (e ∷ h) = cond (e.node == n) (e.entry ∷ of_node n h) (of_node n h)
+of_node n (e ∷ h) = if e.node == n then e.entry ∷ of_node n h else of_node n h
 
 -- commits, and the keys that they have changed
 
@@ -32,7 +32,7 @@ changes_key k h e = commits (λ c. same_key (key_of c) k) (entries h) e.entry
 -- how many there are
 abbrev pub commit_count : Key → Noded → ℕ
 commit_count k [] = 0
-commit_count k (e ∷ h) = cond (changes_key k h e) 1 0 + commit_count k h
+commit_count k (e ∷ h) = (if changes_key k h e then 1 else 0) + commit_count k h
 
 -- the changes of a Committed entry; of any other none
 abbrev pub committed_changes : Noded → NodeEntry → List Change
@@ -50,7 +50,7 @@ shared_keys script cs = filter (λ k. is_read_write (strategy script k.entity)) 
 -- changed: the entry and the key are a pair, of which the key is all that a fence asks for
 abbrev pub pairs : Script → ℕ → Noded → List Key
 pairs script n [] = []
-pairs script n (e ∷ h) = pairs script n h ++ cond (e.node == n) [] (shared_keys script (committed_changes h e))
+pairs script n (e ∷ h) = pairs script n h ++ (if e.node == n then [] else shared_keys script (committed_changes h e))
 
 -- fences
 
@@ -64,7 +64,7 @@ is_fence n e = (e.node == n) && (not (is_some e.entry.session) && is_lock e.entr
 
 abbrev pub fence_count : ℕ → Noded → ℕ
 fence_count n [] = 0
-fence_count n (e ∷ h) = cond (is_fence n e) 1 0 + fence_count n h
+fence_count n (e ∷ h) = (if is_fence n e then 1 else 0) + fence_count n h
 
 -- the queue of node n, the oldest pair first: each fence has taken the first one, which is delivered by it
 abbrev pub queue : Script → ℕ → Noded → List Key
@@ -75,12 +75,12 @@ queue script n h = drop (fence_count n h) (pairs script n h)
 -- the Committed entries of the other node with a change on k, the newest first
 abbrev pub crossed : ℕ → Key → Noded → Noded
 crossed n k [] = []
-crossed n k (e ∷ h) = cond (not (e.node == n) && changes_key k h e) (e ∷ crossed n k h) (crossed n k h)
+crossed n k (e ∷ h) = if not (e.node == n) && changes_key k h e then e ∷ crossed n k h else crossed n k h
 
 -- how many fences of k node n has done
 abbrev pub fenced : ℕ → Key → Noded → ℕ
 fenced n k [] = 0
-fenced n k (e ∷ h) = cond (is_fence n e && takes k e.entry.act) 1 0 + fenced n k h
+fenced n k (e ∷ h) = (if is_fence n e && takes k e.entry.act then 1 else 0) + fenced n k h
 
 -- those whose pair is not delivered to n. Pairs are delivered in order, so it is all but as many of the oldest as there were fences of k
 abbrev pub behind : ℕ → Key → Noded → Noded
@@ -95,7 +95,7 @@ is_from bs c = list_any (λ b. nat_le b.entry.tick c.entry.tick) bs
 -- the journal up to the newest entry of which p holds, with that entry; empty if there is none
 abbrev pub up_to : (NodeEntry → Bool) → Noded → Noded
 up_to p [] = []
-up_to p (e ∷ h) = cond (p e) (e ∷ h) (up_to p h)
+up_to p (e ∷ h) = if p e then e ∷ h else up_to p h
 
 abbrev pub is_store : Option Touch → Bool
 is_store (Some (Touch.Stores r late)) = true

@@ -1,5 +1,5 @@
 -- On what the instances of a session rest, by its own entries, the newest first.
-use Rattle.std.specs.Prelude.{ℕ, Bool, true, false, cond, not, List, slice_get, Some, None, Option, option_map, option_and_then}
+use Rattle.std.specs.Prelude.{ℕ, Bool, true, false, if◌then◌else◌, not, List, slice_get, Some, None, Option, option_map, option_and_then}
 use Rattle.std.specs.Option.{option_map_or, option_or}
 use Rattle.std.specs.Map.{lookup}
 use Rattle.hib_base.specs.Keys.{same_key}
@@ -21,7 +21,7 @@ is_fresh k (Arrival.Made j r, m) = not (is_inserted k m)
 
 abbrev pub basis_by : Key → Option Stay → Option Basis
 basis_by k None = None
-basis_by k (Some s) = cond (has_left k s) None (Some (record { row = base_of k s; fresh = is_fresh k s }))
+basis_by k (Some s) = if has_left k s then None else Some (record { row = base_of k s; fresh = is_fresh k s })
 
 -- of the instance that a session holds of a key, if it does
 abbrev pub basis_in : Key → Journal → Option Basis
@@ -50,19 +50,19 @@ basis_here (Act.Get j t) (Reply.Hit r) b = Some (record { row = Some r; fresh = 
 basis_here (Act.Load j) (Reply.Row (Some r)) b = Some (record { row = Some r; fresh = false })
 basis_here (Act.Persist j r) Reply.New b = Some (record { row = None; fresh = true })
 basis_here (Act.Write c) r b = option_and_then (basis_written c) b
-basis_here (Act.Remove j) Reply.Removed b = option_and_then (λ x. cond x.fresh None (Some x)) b
+basis_here (Act.Remove j) Reply.Removed b = option_and_then (λ x. if x.fresh then None else Some x) b
 basis_here _ r b = b
 
 -- of any key, after one more entry
 abbrev pub basis_after : Key → Act → Reply → Option Basis → Option Basis
-basis_after k a r b = cond (is_break a r) None (cond (touches k a) (basis_here a r b) b)
+basis_after k a r b = if is_break a r then None else (if touches k a then basis_here a r b else b)
 
 -- the base of a key before its first write since the last Begin, if there is such a write
 abbrev pub rest_in : Key → Journal → Option (Option Row)
 rest_in k mine = option_map (λ m. option_and_then (λ i. i.base) (held m k)) (before_write k mine)
 
 abbrev pub rest_after : Key → Act → Option Basis → Option (Option Row) → Option (Option Row)
-rest_after k a b o = cond (is_begin a) None (option_or o (cond (writes_key k a) (Some (option_and_then (λ x. x.row) b)) None))
+rest_after k a b o = if is_begin a then None else option_or o (if writes_key k a then Some (option_and_then (λ x. x.row) b) else None)
 
 -- what is kept of each key: a row is known by the place, among all entries, of the one that gives it
 

@@ -6,7 +6,7 @@ ghost use Rattle.hib_order_judge.specs.Footings.{basis_after, basis_at, basis_he
 ghost use Rattle.hib_base.specs.Tables.{row_left};
 ghost use Rattle.std.specs.Map.{lookup};
 ghost use Rattle.std.specs.Option.{option_or};
-ghost use Rattle.std.specs.Prelude.{◌≡◌, cond, List, None, Some, OnOk, option_and_then, option_copied, option_map, slice_get};
+ghost use Rattle.std.specs.Prelude.{◌≡◌, if◌then◌else◌, List, None, Some, OnOk, option_and_then, option_copied, option_map, slice_get};
 
 use hib_base::{Act, Change, Commit, Entry, Key, Reply, Row};
 use indexmap::IndexMap;
@@ -98,7 +98,7 @@ fn after_write(place: usize, change: &Change, old: Footing) -> Option<Footing>
 
 /// After it was removed: what is new and not written is forgotten.
 fn after_removal(old: Footing) -> Option<Footing>
-    ensures { result ≡ cond old.fresh None (Some old) }
+    ensures { result ≡ (if old.fresh then None else Some old) }
 {
     if old.fresh { None } else { Some(old) }
 }
@@ -153,7 +153,7 @@ fn set_footing(
 ) -> Result<(), AllocError>
     ensures { OnOk result ((k : Key)
         → lookup (same_key k) footings.new.entries
-        ≡ cond (same_key key.now k) footing (lookup (same_key k) footings.old.entries)) }
+        ≡ (if same_key key.now k then footing else lookup (same_key k) footings.old.entries)) }
 {
     match footing {
         Some(footing) => {
@@ -187,7 +187,7 @@ pub fn note_footing(footings: &mut Footings, place: usize, entry: &Entry) -> Res
 fn write_first(rests: &mut Rests, key: &Key, row: Option<usize>) -> Result<(), AllocError>
     ensures { OnOk result ((k : Key)
         → lookup (same_key k) rests.new.entries
-        ≡ option_or (lookup (same_key k) rests.old.entries) (cond (same_key key.now k) (Some row) None)) }
+        ≡ option_or (lookup (same_key k) rests.old.entries) (if same_key key.now k then Some row else None)) }
 {
     if rests.get(key).is_none() {
         rests.insert(*key, row)?;

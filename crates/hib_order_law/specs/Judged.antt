@@ -1,5 +1,5 @@
 -- What ends badly: judgements of one entry over the journal before it, and of a whole journal.
-use Rattle.std.specs.Prelude.{Bool, true, false, cond, not, ◌&&◌, ◌||◌, List, [], ◌∷◌, length, map, slice_get, Some, None, Option, option_and_then}
+use Rattle.std.specs.Prelude.{Bool, true, false, if◌then◌else◌, not, ◌&&◌, ◌||◌, List, [], ◌∷◌, length, map, slice_get, Some, None, Option, option_and_then}
 use Rattle.std.specs.Option.{option_map_or, option_or}
 use Rattle.std.specs.List.{list_any, range_with_len}
 use Rattle.hib_journal.specs.Types.{Key, Row, Cell, Change, Commit, Checked, Outcome, Script, Act, Reply, Entry}
@@ -46,7 +46,7 @@ writes_key k _ = false
 -- a session's entries before its first write of a key since its last Begin
 abbrev pub before_write : Key → Journal → Option Journal
 before_write k [] = None
-before_write k (e ∷ m) = cond (is_begin e.act) None (option_or (before_write k m) (cond (writes_key k e.act) (Some m) None))
+before_write k (e ∷ m) = if is_begin e.act then None else option_or (before_write k m) (if writes_key k e.act then Some m else None)
 
 -- the row on which a session's change of a key rests
 abbrev pub rests_on : Key → Journal → Option Row

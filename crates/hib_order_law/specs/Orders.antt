@@ -1,6 +1,6 @@
 -- Orders: the steps of a run; the journal that an order makes; its switches, the steps that leave a session which comes again later; and
 -- its kills.
-use Rattle.std.specs.Prelude.{◌≡◌, ℕ, zero, suc, ◌+◌, ◌≤◌, ◌⊎◌, Bool, true, false, cond, not, ◌&&◌, ◌||◌, ◌==◌, List, [], ◌∷◌, length, map, drop, is_some, unwrap_or, Some, None, Option}
+use Rattle.std.specs.Prelude.{◌≡◌, ℕ, zero, suc, ◌+◌, ◌≤◌, ◌⊎◌, Bool, true, false, if◌then◌else◌, not, ◌&&◌, ◌||◌, ◌==◌, List, [], ◌∷◌, length, map, drop, is_some, unwrap_or, Some, None, Option}
 use Rattle.std.specs.List.{list_all, list_any}
 use Rattle.hib_journal.specs.Types.{Script, Act, Entry}
 use Rattle.hib_base.specs.Tables.{Tables}
@@ -51,8 +51,8 @@ steps_in es = map step_of es
 
 -- what a step does after a journal, if it may come: a session's next act, or the kill of an open one
 abbrev pub act_due : Script → Journal → Step → Option Act
-act_due script h (Step.Own s) = cond (was_killed s h) None (next script s (own s h))
-act_due script h (Step.Kill s) = cond (is_open s h) (Some (Act.Kill s)) None
+act_due script h (Step.Own s) = if was_killed s h then None else next script s (own s h)
+act_due script h (Step.Kill s) = if is_open s h then Some (Act.Kill s) else None
 
 abbrev pub is_due : Script → Journal → Step → Bool
 is_due script h t = is_some (act_due script h t)
@@ -93,7 +93,7 @@ leaves s (t ∷ rest) = not (whose t == s) && comes s rest
 -- how many steps of an order leave a session that comes again later; the oldest step first
 abbrev pub switches : List Step → ℕ
 switches [] = 0
-switches (t ∷ rest) = cond (leaves (whose t) rest) 1 0 + switches rest
+switches (t ∷ rest) = (if leaves (whose t) rest then 1 else 0) + switches rest
 
 abbrev pub is_kill_step : Step → Bool
 is_kill_step (Step.Kill s) = true
@@ -102,7 +102,7 @@ is_kill_step (Step.Own s) = false
 -- how many steps of an order kill a session
 abbrev pub kills : List Step → ℕ
 kills [] = 0
-kills (t ∷ rest) = cond (is_kill_step t) 1 0 + kills rest
+kills (t ∷ rest) = (if is_kill_step t then 1 else 0) + kills rest
 
 -- entries, the oldest first, after a journal
 abbrev pub onto : List Entry → Journal → Journal
@@ -131,7 +131,7 @@ abbrev pub cost : List Step → List Step → ℕ
 cost order [] = 0
 cost [] (t ∷ ts) = 0
 cost (s ∷ ss) (t ∷ []) = 0
-cost (s ∷ ss) (t ∷ u ∷ ts) = cond (not (whose u == whose t) && comes (whose t) ss) 1 0 + cost ss (u ∷ ts)
+cost (s ∷ ss) (t ∷ u ∷ ts) = (if not (whose u == whose t) && comes (whose t) ss then 1 else 0) + cost ss (u ∷ ts)
 
 -- a run of sessions in which each is at its end or killed, with so many kills at most; its entries, the oldest first
 pub record IsRun (script : Script) (start : Tables) (most_kills : ℕ) (es : List Entry) : Type 0 where

@@ -1,5 +1,5 @@
 -- A search of runs: which of them were tried, each once, and with which first steps the others begin.
-use Rattle.std.specs.Prelude.{◌≡◌, ◌+◌, ◌<◌, ◌≤◌, ◌⊎◌, ℕ, Bool, true, false, cond, ◌&&◌, List, [], ◌∷◌}
+use Rattle.std.specs.Prelude.{◌≡◌, ◌+◌, ◌<◌, ◌≤◌, ◌⊎◌, ℕ, Bool, true, false, if◌then◌else◌, ◌&&◌, List, [], ◌∷◌}
 use Rattle.std.specs.List.{Contains}
 use Rattle.hib_base.specs.Tables.{Tables}
 use Rattle.hib_journal.specs.Types.{Script, Entry}
@@ -15,7 +15,7 @@ same_order (s ∷ ss) (t ∷ ts) = same_step s t && same_order ss ts
 -- how many of these runs have an order
 abbrev pub times : List Step → List (List Entry) → ℕ
 times order [] = 0
-times order (es ∷ runs) = cond (same_order (steps_in es) order) 1 0 + times order runs
+times order (es ∷ runs) = (if same_order (steps_in es) order then 1 else 0) + times order runs
 
 -- the runs that were tried: each has so many switches at most, no order is that of two of them, and no run with fewer switches than
 -- `done` is left out
@@ -27,11 +27,11 @@ pub record AreTried (script : Script) (start : Tables) (most_kills most done : �
 -- with how many of these first steps an order begins
 abbrev pub begun_by : List Step → List (List Step) → ℕ
 begun_by order [] = 0
-begun_by order (begun ∷ waiting) = cond (begins begun order) 1 0 + begun_by order waiting
+begun_by order (begun ∷ waiting) = (if begins begun order then 1 else 0) + begun_by order waiting
 
 -- the runs, and one more if it has so few switches
 abbrev pub with_run : Bool → List Entry → List (List Entry) → List (List Entry)
-with_run few es runs = cond few (es ∷ runs) runs
+with_run few es runs = if few then es ∷ runs else runs
 
 -- whether something holds
 abbrev pub IsTest : Type 0 → Bool → Type 0

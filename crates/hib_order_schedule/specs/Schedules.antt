@@ -1,5 +1,5 @@
 -- The schedule that plays an order of sessions: its runs and kills, without those that need no order.
-use Rattle.std.specs.Prelude.{ℕ, ◌+◌, Bool, true, false, cond, ◌&&◌, ◌==◌, nat_le, List, [], ◌∷◌, ◌++◌, length, replicate}
+use Rattle.std.specs.Prelude.{ℕ, ◌+◌, Bool, true, false, if◌then◌else◌, ◌&&◌, ◌==◌, nat_le, List, [], ◌∷◌, ◌++◌, length, replicate}
 use Rattle.std.specs.List.{list_all}
 use Rattle.hib_base.specs.Valid.{is_order_in, max_orders}
 use Rattle.hib_journal.specs.Types.{Order, Script}
@@ -8,7 +8,7 @@ use Rattle.hib_order_law.specs.declared.step.Step.{Step}
 
 -- one more step of s before some runs: it lengthens the first of them if that is of s
 abbrev pub joined : ℕ → List Order → List Order
-joined s (Order.Run t n ∷ os) = cond (t == s) (Order.Run t (n + 1) ∷ os) (Order.Run s 1 ∷ Order.Run t n ∷ os)
+joined s (Order.Run t n ∷ os) = if t == s then Order.Run t (n + 1) ∷ os else Order.Run s 1 ∷ Order.Run t n ∷ os
 joined s os = Order.Run s 1 ∷ os
 
 -- the runs and kills of an order: what one session does in a row is one run
@@ -27,7 +27,7 @@ rises (Step.Own s ∷ t ∷ ts) = nat_le s (whose t) && rises (t ∷ ts)
 -- the steps before the longest tail that rises
 abbrev pub before_tail : List Step → List Step
 before_tail [] = []
-before_tail (t ∷ ts) = cond (rises (t ∷ ts)) [] (t ∷ before_tail ts)
+before_tail (t ∷ ts) = if rises (t ∷ ts) then [] else t ∷ before_tail ts
 
 -- the runs and kills that a schedule has to say: a tail that rises brings each session to its end in order of number, which needs
 -- no orders
@@ -59,5 +59,5 @@ may_be_schedule n os = nat_le (length os) max_orders && list_all (λ o. is_run_o
 -- so many of the first steps are own steps of s
 abbrev pub in_row : ℕ → List Step → ℕ
 in_row s [] = 0
-in_row s (Step.Own t ∷ ts) = cond (t == s) (in_row s ts + 1) 0
+in_row s (Step.Own t ∷ ts) = if t == s then in_row s ts + 1 else 0
 in_row s (Step.Kill t ∷ ts) = 0

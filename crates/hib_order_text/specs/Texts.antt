@@ -1,5 +1,5 @@
 -- The text of what a search of orders came to.
-use Rattle.std.specs.Prelude.{ℕ, zero, suc, ◌+◌, Bool, true, false, cond, ◌==◌, List, [], ◌∷◌, ◌++◌, length, codes, flat_map, slice_get, Some, None, Option}
+use Rattle.std.specs.Prelude.{ℕ, zero, suc, ◌+◌, Bool, true, false, if◌then◌else◌, ◌==◌, List, [], ◌∷◌, ◌++◌, length, codes, flat_map, slice_get, Some, None, Option}
 use Rattle.std.specs.Fmt.{decimal}
 use Rattle.hib_journal.specs.Types.{EntityDef, Outcome, Order, SessionDef, Script}
 use Rattle.hib_texts.specs.Texts.{session_text}
@@ -37,7 +37,7 @@ whole_text false level = codes " cut " ++ decimal level ++ codes "\n"
 
 -- the bound of kills, if there may be some
 abbrev pub kills_text : ℕ → List ℕ
-kills_text n = cond (n == 0) [] (codes " kills " ++ decimal n)
+kills_text n = if n == 0 then [] else codes " kills " ++ decimal n
 
 abbrev pub tried_text : ℕ → ℕ → Told → List ℕ
 tried_text most_kills most t =
@@ -115,7 +115,7 @@ findings_text script f =
 -- ---- of which entities no sound key has a stale hit, in any order: the read-write ones
 
 abbrev pub never_text : EntityDef → List ℕ
-never_text e = cond (is_read_write e.strategy) (codes "never-stale " ++ e.name ++ codes "\n") []
+never_text e = if is_read_write e.strategy then codes "never-stale " ++ e.name ++ codes "\n" else []
 
 abbrev pub nevers_text : List EntityDef → List ℕ
 nevers_text es = flat_map (λ e. never_text e) es

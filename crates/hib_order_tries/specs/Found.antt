@@ -1,5 +1,5 @@
 -- What the runs that were tried have come to.
-use Rattle.std.specs.Prelude.{◌≡◌, ◌+◌, ◌<◌, ◌≤◌, ◌==◌, ℕ, Bool, true, false, cond, List, [], ◌∷◌, length, count_by, sum_by, slice_index_or, IfSome, IfNone}
+use Rattle.std.specs.Prelude.{◌≡◌, ◌+◌, ◌<◌, ◌≤◌, ◌==◌, ℕ, Bool, true, false, if◌then◌else◌, List, [], ◌∷◌, length, count_by, sum_by, slice_index_or, IfSome, IfNone}
 use Rattle.std.specs.List.{Contains}
 use Rattle.hib_base.specs.Tables.{Tables}
 use Rattle.hib_journal.specs.Types.{Script, Entry, Outcome}
@@ -37,7 +37,7 @@ AreLevels runs levels = (k : ℕ) → slice_index_or levels k 0 ≡ count_by (λ
 
 -- the runs whose outcomes pass a test, by the endings that are told: the sum of their counts
 abbrev pub ended_so : (List Outcome → Bool) → List Ending → ℕ
-ended_so test endings = sum_by (λ e. cond (test e.outcomes.items) e.count 0) endings
+ended_so test endings = sum_by (λ e. if test e.outcomes.items then e.count else 0) endings
 
 -- no two endings have the same outcomes
 abbrev pub AreApart : List Ending → Type 0
@@ -65,7 +65,7 @@ pub record AreFindings (judged : List Entry → Verdicts) (ended : List Entry �
 -- and else all with fewer switches than a number
 abbrev pub IsTold : Script → Tables → (List Entry → Verdicts) → (List Entry → List Outcome) → ℕ → ℕ → Bool → ℕ → Findings → Type 0
 IsTold script start judged ended most_kills most whole level findings =
-    (runs : List (List Entry)) × AreTried script start most_kills most (cond whole (most + 1) level) runs × AreFindings judged ended runs findings
+    (runs : List (List Entry)) × AreTried script start most_kills most (if whole then most + 1 else level) runs × AreFindings judged ended runs findings
 
 -- nothing was counted more often than orders were tried
 pub record AreCounted (findings : Findings) : Type 0 where

@@ -1,5 +1,5 @@
 -- The other orders that leave one at a place.
-use Rattle.std.specs.Prelude.{◌≡◌, ◌==◌, ◌+◌, ◌++◌, ◌∷◌, ◌<◌, ◌≤◌, ◌⊎◌, ◌&&◌, ◌||◌, ℕ, Bool, false, true, cond, List, [], drop, length, map, slice_get, slice_index_or, take, Option, Some, None}
+use Rattle.std.specs.Prelude.{◌≡◌, ◌==◌, ◌+◌, ◌++◌, ◌∷◌, ◌<◌, ◌≤◌, ◌⊎◌, ◌&&◌, ◌||◌, ℕ, Bool, false, true, if◌then◌else◌, List, [], drop, length, map, slice_get, slice_index_or, take, Option, Some, None}
 use Rattle.std.specs.List.{Contains, list_any}
 use Rattle.std.specs.Option.{option_map_or}
 use Rattle.hib_order_law.specs.Orders.{comes, cost, is_kill_step, kills, same_step, switches, whose}
@@ -17,7 +17,7 @@ turn_of (Step.Kill n) turn = Turn.Closes
 -- whether a session is open after a step of it or of another, if it was or was not before
 abbrev pub open_by : Bool → Turn → Bool → Bool
 open_by by_it Turn.Opens o = by_it || o
-open_by by_it Turn.Closes o = cond by_it false o
+open_by by_it Turn.Closes o = if by_it then false else o
 open_by by_it Turn.GoesOn o = o
 
 abbrev pub open_with : ℕ → Step → Turn → Bool → Bool
@@ -89,7 +89,7 @@ IsAdded level cost begun there beyond new_there new_beyond =
 -- what one more step costs, if this session is left there
 abbrev pub cost_left : Option ℕ → Step → ℕ
 cost_left None t = 0
-cost_left (Some s) t = cond (whose t == s) 0 1
+cost_left (Some s) t = if whose t == s then 0 else 1
 
 -- what the steps before a place cost, and which session a step there leaves, if it is another's
 abbrev pub IsBefore : List Step → ℕ → ℕ → Option ℕ → Type 0

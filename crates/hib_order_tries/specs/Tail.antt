@@ -1,5 +1,5 @@
 -- What is known of the rest of an order.
-use Rattle.std.specs.Prelude.{◌≡◌, ℕ, ◌+◌, ◌≤◌, ◌==◌, Bool, true, cond, not, List, [], ◌∷◌, map, slice_get, Option}
+use Rattle.std.specs.Prelude.{◌≡◌, ℕ, ◌+◌, ◌≤◌, ◌==◌, Bool, true, if◌then◌else◌, not, List, [], ◌∷◌, map, slice_get, Option}
 use Rattle.std.specs.List.{list_all}
 use Rattle.hib_order_law.specs.Orders.{comes, is_kill_step, switches, whose}
 use Rattle.hib_order_law.specs.declared.step.Step.{Step}
@@ -7,7 +7,7 @@ use Rattle.hib_order_law.specs.declared.step.Step.{Step}
 -- how many steps are of a session
 abbrev pub count_of : ℕ → List Step → ℕ
 count_of s [] = 0
-count_of s (t ∷ ts) = cond (whose t == s) 1 0 + count_of s ts
+count_of s (t ∷ ts) = (if whose t == s then 1 else 0) + count_of s ts
 
 -- steps of sessions that stand there once each, and none is a kill
 pub record AreOwn (steps : List Step) : Type 0 where

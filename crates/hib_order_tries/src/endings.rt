@@ -2,7 +2,7 @@
 ghost use Rattle.hib_base.specs.declared.replies.Outcome.{Outcome};
 ghost use Rattle.hib_order_tries.specs.Found.{AreApart, ended_so};
 ghost use Rattle.hib_order_tries.specs.Marks.{mark_of, marks_of};
-ghost use Rattle.std.specs.Prelude.{◌≡◌, ◌+◌, ◌<◌, ◌^◌, ◌-◌, Bool, List, [], IfOk, OnErr, OnOk, cond, length, option_copied, slice_get, true};
+ghost use Rattle.std.specs.Prelude.{◌≡◌, ◌+◌, ◌<◌, ◌^◌, ◌-◌, Bool, List, [], IfOk, OnErr, OnOk, if◌then◌else◌, length, option_copied, slice_get, true};
 
 use hib_base::Outcome;
 use indexmap::IndexMap;
@@ -87,7 +87,7 @@ impl Endings {
     pub fn note(&mut self, alloc: Global, outcomes: Vec<Outcome>) -> Result<(), AllocError>
         requires { ended_so (λ _. true) self.old < 2 ^ 64 - 1 }
         ensures counts { OnOk result ((test : List Outcome → Bool) → ended_so test self.new
-            ≡ ended_so test self.old + cond (test outcomes.items) 1 0) }
+            ≡ ended_so test self.old + (if test outcomes.items then 1 else 0)) }
         ensures apart { OnOk result (AreApart self.old → AreApart self.new) }
         ensures err { OnErr result (self.new ≡ self.old) }
     {

@@ -4,7 +4,7 @@ ghost use Rattle.hib_base.specs.declared.replies.Outcome.{Outcome};
 ghost use Rattle.hib_order_law.specs.Orders.{steps_in, switches};
 ghost use Rattle.hib_order_tries.specs.Found.{AreCounted, AreFindings, IsBelow, IsFound};
 ghost use Rattle.hib_order_tries.specs.Amid.{AreJudged, IsJudged};
-ghost use Rattle.std.specs.Prelude.{◌≡◌, ◌∷◌, ◌<◌, ◌^◌, ◌-◌, ◌+◌, ◌==◌, ℕ, Bool, List, [], IfNone, IfSome, OnOk, cond, slice_index_or, true};
+ghost use Rattle.std.specs.Prelude.{◌≡◌, ◌∷◌, ◌<◌, ◌^◌, ◌-◌, ◌+◌, ◌==◌, ℕ, Bool, List, [], IfNone, IfSome, OnOk, if◌then◌else◌, slice_index_or, true};
 
 use crate::endings::Endings;
 use crate::player::Played;
@@ -102,7 +102,7 @@ pub struct Findings {
 fn count_level(levels: &mut Vec<u64>, switches: usize) -> Result<(), AllocError>
     requires { slice_index_or levels.old.items switches 0 < 2 ^ 64 - 1 }
     ensures { OnOk result ((k : ℕ) → slice_index_or levels.new.items k 0
-        ≡ slice_index_or levels.old.items k 0 + cond (switches == k) 1 0) }
+        ≡ slice_index_or levels.old.items k 0 + (if switches == k then 1 else 0)) }
 {
     for _place in levels.len()..switches {
         levels.push(0)?;

@@ -1,5 +1,5 @@
 -- A region of items: what contracts see of it, and what each call leaves.
-use Rattle.std.specs.Prelude.{ℕ, cond, nat_eq, nat_lt, List, [], ◌∷◌, ◌++◌, length, Some, None, Option, is_some}
+use Rattle.std.specs.Prelude.{ℕ, if◌then◌else◌, nat_eq, nat_lt, List, [], ◌∷◌, ◌++◌, length, Some, None, Option, is_some}
 use Rattle.std.specs.Map.{lookup, remove_entry}
 use Rattle.hib_journal.specs.Types.{Row}
 use Rattle.hib_room_laws.specs.Order.{first_key}
@@ -17,7 +17,7 @@ item_in state id = lookup (nat_eq id) state.items
 
 -- who leaves for a new one: nobody if there is room
 abbrev pub oldest_in : ItemsState → Option ℕ
-oldest_in state = cond (nat_lt (length state.items) state.capacity) None (first_key state.items)
+oldest_in state = if nat_lt (length state.items) state.capacity then None else first_key state.items
 
 abbrev pub without : Option ℕ → List (ℕ × (Row × ℕ)) → List (ℕ × (Row × ℕ))
 without None items = items
@@ -29,7 +29,7 @@ with_new id row now state = record state { items = without (oldest_in state) sta
 
 -- what storing a row leaves: an item that is there stays
 abbrev pub after_put : ℕ → Row → ℕ → ItemsState → ItemsState
-after_put id row now state = cond (is_some (item_in state id)) state (with_new id row now state)
+after_put id row now state = if is_some (item_in state id) then state else with_new id row now state
 
 abbrev pub after_remove : ℕ → ItemsState → ItemsState
 after_remove id state = record state { items = remove_entry (nat_eq id) state.items }

@@ -1,5 +1,5 @@
 -- The laws of a region of items, each in the words of its calls' clauses.
-use Rattle.std.specs.Prelude.{◌≡◌, ◌<◌, ℕ, Bool, true, false, [], ◌∷◌, is_some, cond}
+use Rattle.std.specs.Prelude.{◌≡◌, ◌<◌, ℕ, Bool, true, false, [], ◌∷◌, is_some, if◌then◌else◌}
 use Rattle.hib_base.specs.Tables.{Tables}
 use Rattle.hib_journal.specs.Types.{Key, Row, Strategy, Script, Part, Act, Reply, Entry, Inserted, Evicted}
 use Rattle.hib_journal.specs.Sessions.{Journal, last_tick, same_part}
@@ -38,16 +38,16 @@ Puts g = (script : Script) (start : Tables) (h : Journal) (s now : ℕ) (state :
 abbrev pub Inserts : Strategy → Type 0
 Inserts g = (script : Script) (start : Tables) (h : Journal) (s now : ℕ) (state : ItemsState) (k : Key) (row : Row) (floor : ℕ)
     → strategy script k.entity ≡ g → state.capacity ≡ capacity script k.entity → IsItems state k.entity h
-    → Reply.Inserted (cond (is_some (item_in state k.id)) Inserted.Present (Inserted.Stored (oldest_in state))) ≡ reply_of script start h s now (Act.AfterInsert k row floor)
+    → Reply.Inserted (if is_some (item_in state k.id) then Inserted.Present else Inserted.Stored (oldest_in state)) ≡ reply_of script start h s now (Act.AfterInsert k row floor)
 
 abbrev pub Removes : Type 0
 Removes = (script : Script) (start : Tables) (h : Journal) (s now : ℕ) (state : ItemsState) (k : Key)
-    → IsItems state k.entity h → cond (is_some (item_in state k.id)) Reply.Dropped Reply.Absent ≡ reply_of script start h s now (Act.RegionRemove k)
+    → IsItems state k.entity h → (if is_some (item_in state k.id) then Reply.Dropped else Reply.Absent) ≡ reply_of script start h s now (Act.RegionRemove k)
 
 abbrev pub Evicts : Strategy → Type 0
 Evicts g = (script : Script) (start : Tables) (h : Journal) (s now : ℕ) (state : ItemsState) (k : Key)
     → strategy script k.entity ≡ g → IsItems state k.entity h
-    → Reply.Evicted (cond (is_some (item_in state k.id)) Evicted.Gone Evicted.Absent) ≡ reply_of script start h s now (Act.Evict k)
+    → Reply.Evicted (if is_some (item_in state k.id) then Evicted.Gone else Evicted.Absent) ≡ reply_of script start h s now (Act.Evict k)
 
 -- and after the call the region stands for the journal with that entry
 
@@ -63,16 +63,16 @@ PutGrows = (h : Journal) (e : Entry) (state : ItemsState) (k : Key) (row : Row) 
 
 abbrev pub InsertGrows : Type 0
 InsertGrows = (h : Journal) (e : Entry) (state : ItemsState) (k : Key) (row : Row) (floor : ℕ)
-    → IsNext state k h e (Act.AfterInsert k row floor) (Reply.Inserted (cond (is_some (item_in state k.id)) Inserted.Present (Inserted.Stored (oldest_in state))))
+    → IsNext state k h e (Act.AfterInsert k row floor) (Reply.Inserted (if is_some (item_in state k.id) then Inserted.Present else Inserted.Stored (oldest_in state)))
     → IsItems (after_put k.id row e.tick state) k.entity (e ∷ h)
 
 abbrev pub RemoveGrows : Type 0
 RemoveGrows = (h : Journal) (e : Entry) (state : ItemsState) (k : Key)
-    → IsNext state k h e (Act.RegionRemove k) (cond (is_some (item_in state k.id)) Reply.Dropped Reply.Absent) → IsItems (after_remove k.id state) k.entity (e ∷ h)
+    → IsNext state k h e (Act.RegionRemove k) (if is_some (item_in state k.id) then Reply.Dropped else Reply.Absent) → IsItems (after_remove k.id state) k.entity (e ∷ h)
 
 abbrev pub EvictGrows : Type 0
 EvictGrows = (h : Journal) (e : Entry) (state : ItemsState) (k : Key)
-    → IsNext state k h e (Act.Evict k) (Reply.Evicted (cond (is_some (item_in state k.id)) Evicted.Gone Evicted.Absent)) → IsItems (after_remove k.id state) k.entity (e ∷ h)
+    → IsNext state k h e (Act.Evict k) (Reply.Evicted (if is_some (item_in state k.id) then Evicted.Gone else Evicted.Absent)) → IsItems (after_remove k.id state) k.entity (e ∷ h)
 
 -- an entry elsewhere leaves it standing
 abbrev pub Stays : Type 0

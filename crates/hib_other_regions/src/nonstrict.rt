@@ -1,5 +1,5 @@
 // Regions that may answer a stale row now and then.
-ghost use Rattle.std.specs.Prelude.{◌≡◌, IfOk, OnOk, OnErr, false, is_some, cond};
+ghost use Rattle.std.specs.Prelude.{◌≡◌, IfOk, OnOk, OnErr, false, is_some, if◌then◌else◌};
 ghost use Rattle.hib_journal.specs.Regions.{got_item, put_item};
 ghost use Rattle.hib_journal.specs.Types.{Reply, Evicted};
 ghost use Rattle.hib_other_regions.specs.Items.{empty, item_in, oldest_in, after_put, after_remove, after_clear};
@@ -68,7 +68,7 @@ impl NonstrictRegion {
     /// Removes an identifier, and answers whether it was there. It takes no memory.
     pub fn remove(&mut self, id: u64) -> bool
         ensures answer { removed_reply result
-            ≡ cond (is_some (item_in self.old id)) Reply.Dropped Reply.Absent }
+            ≡ (if is_some (item_in self.old id) then Reply.Dropped else Reply.Absent) }
         ensures state { self.new ≡ after_remove id self.old }
     {
         self.items.remove(id)
@@ -76,7 +76,7 @@ impl NonstrictRegion {
 
     /// Removes an identifier at the wish of somebody outside. It takes no memory.
     pub fn evict(&mut self, id: u64) -> Evicted
-        ensures answer { result ≡ cond (is_some (item_in self.old id)) Evicted.Gone Evicted.Absent }
+        ensures answer { result ≡ (if is_some (item_in self.old id) then Evicted.Gone else Evicted.Absent) }
         ensures state { self.new ≡ after_remove id self.old }
     {
         if self.items.remove(id) {

@@ -1,5 +1,5 @@
 // Regions of rows that never change.
-ghost use Rattle.std.specs.Prelude.{◌≡◌, IfOk, OnOk, OnErr, true, is_some, cond};
+ghost use Rattle.std.specs.Prelude.{◌≡◌, IfOk, OnOk, OnErr, true, is_some, if◌then◌else◌};
 ghost use Rattle.hib_journal.specs.Regions.{got_item, put_item};
 ghost use Rattle.hib_journal.specs.Types.{Inserted, Reply, Evicted};
 ghost use Rattle.hib_other_regions.specs.Items.{empty, item_in, oldest_in, after_put, after_remove, after_clear};
@@ -70,8 +70,8 @@ impl ReadOnlyRegion {
     /// full region. At an error nothing has changed.
     pub fn after_insert(&mut self, id: u64, row: Row, now: Tick) -> Result<Inserted, AllocError>
         ensures answer { IfOk result (λ put. put
-            ≡ cond (is_some (item_in self.old id)) Inserted.Present
-            (Inserted.Stored (oldest_in self.old))) }
+            ≡ (if is_some (item_in self.old id) then Inserted.Present
+            else Inserted.Stored (oldest_in self.old))) }
         ensures state { OnOk result (self.new ≡ after_put id row now self.old) }
         ensures err { OnErr result (self.new ≡ self.old) }
     {
@@ -85,7 +85,7 @@ impl ReadOnlyRegion {
     /// Removes an identifier, and answers whether it was there. It takes no memory.
     pub fn remove(&mut self, id: u64) -> bool
         ensures answer { removed_reply result
-            ≡ cond (is_some (item_in self.old id)) Reply.Dropped Reply.Absent }
+            ≡ (if is_some (item_in self.old id) then Reply.Dropped else Reply.Absent) }
         ensures state { self.new ≡ after_remove id self.old }
     {
         self.items.remove(id)
@@ -93,7 +93,7 @@ impl ReadOnlyRegion {
 
     /// Removes an identifier at the wish of somebody outside. It takes no memory.
     pub fn evict(&mut self, id: u64) -> Evicted
-        ensures answer { result ≡ cond (is_some (item_in self.old id)) Evicted.Gone Evicted.Absent }
+        ensures answer { result ≡ (if is_some (item_in self.old id) then Evicted.Gone else Evicted.Absent) }
         ensures state { self.new ≡ after_remove id self.old }
     {
         if self.items.remove(id) {

@@ -1,5 +1,5 @@
 -- Counts of faults, answers that come only if one rose, and the calls that are to fail.
-use Rattle.std.specs.Prelude.{◌≡◌, ℕ, zero, suc, ◌+◌, ◌-◌, ◌^◌, ◌≤◌, min, Bool, cond, ◌&&◌, List, nat_eq, nat_lt, Result, OnOk, OnErr, IfErr}
+use Rattle.std.specs.Prelude.{◌≡◌, ℕ, zero, suc, ◌+◌, ◌-◌, ◌^◌, ◌≤◌, min, Bool, if◌then◌else◌, ◌&&◌, List, nat_eq, nat_lt, Result, OnOk, OnErr, IfErr}
 use Rattle.std.specs.List.{list_any}
 use Rattle.hib_outside.specs.declared.keeper.KeepFault.{KeepFault}
 use Rattle.hib_outside.specs.declared.keeper.KeepFault.TheVariants.{Failed}
@@ -28,12 +28,12 @@ is_due fail n = is_among (n + 1) fail && nat_lt n 4294967295
 
 -- the number of calls after one more; it stays at 4294967295
 abbrev pub next_call : ℕ → ℕ
-next_call n = cond (nat_lt n 4294967295) (n + 1) n
+next_call n = if nat_lt n 4294967295 then n + 1 else n
 
 -- how many of the first n calls were to fail
 abbrev pub failed_calls : List ℕ → ℕ → ℕ
 failed_calls fail zero = 0
-failed_calls fail (suc n) = failed_calls fail n + cond (is_among (suc n) fail) 1 0
+failed_calls fail (suc n) = failed_calls fail n + (if is_among (suc n) fail then 1 else 0)
 
 -- one more, up to the last value of a u64
 abbrev pub one_more : ℕ → ℕ

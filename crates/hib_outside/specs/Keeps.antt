@@ -1,5 +1,5 @@
 -- What a keeper's tables are after a call, and what it lists.
-use Rattle.std.specs.Prelude.{ℕ, ⊤, Bool, cond, nat_eq, List, [], ◌∷◌, Result, Ok, Err, Option}
+use Rattle.std.specs.Prelude.{ℕ, ⊤, Bool, if◌then◌else◌, nat_eq, List, [], ◌∷◌, Result, Ok, Err, Option}
 use Rattle.std.specs.List.{list_any}
 use Rattle.std.specs.Option.{option_map}
 use Rattle.hib_outside.specs.Types.{Change}
@@ -26,4 +26,4 @@ is_listed entity entities = list_any (λ e. nat_eq e entity) entities
 -- the rows of these entities, in order of keys
 abbrev pub rows_of : List ℕ → Tables → Tables
 rows_of entities [] = []
-rows_of entities (e ∷ es) = cond (is_listed e.0.entity entities) (e ∷ rows_of entities es) (rows_of entities es)
+rows_of entities (e ∷ es) = if is_listed e.0.entity entities then e ∷ rows_of entities es else rows_of entities es

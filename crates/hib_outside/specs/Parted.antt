@@ -1,5 +1,5 @@
 -- Rows in order of keys, parted at a place: those behind it stand apart, the last one first.
-use Rattle.std.specs.Prelude.{Bool, false, cond, [], ◌∷◌, ◌++◌, reverse}
+use Rattle.std.specs.Prelude.{Bool, false, if◌then◌else◌, [], ◌∷◌, ◌++◌, reverse}
 use Rattle.hib_outside.specs.Types.{Key}
 use Rattle.hib_base.specs.Keys.{same_key, is_before}
 use Rattle.hib_base.specs.Tables.{Tables}
@@ -24,4 +24,4 @@ first_same (e ∷ es) k = same_key e.0 k
 -- without the first row, if it is that of a key
 abbrev pub unless_first : Key → Tables → Tables
 unless_first k [] = []
-unless_first k (e ∷ es) = cond (same_key e.0 k) es (e ∷ es)
+unless_first k (e ∷ es) = if same_key e.0 k then es else e ∷ es

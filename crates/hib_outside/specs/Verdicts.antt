@@ -1,12 +1,12 @@
 -- Verdicts: what a keeper answers to a batch of changes.
-use Rattle.std.specs.Prelude.{ℕ, ◌+◌, ◌<◌, true, false, cond, List, [], ◌∷◌, slice_get, Some, None, Option}
+use Rattle.std.specs.Prelude.{ℕ, ◌+◌, ◌<◌, true, false, if◌then◌else◌, List, [], ◌∷◌, slice_get, Some, None, Option}
 use Rattle.hib_outside.specs.Types.{Row, Change, Commit}
 use Rattle.hib_base.specs.Tables.{Tables, row_at, after_change, after_changes, key_of, same_version}
 use Rattle.hib_outside.specs.declared.keeper.Applied.{Applied}
 
 abbrev pub unless_as_expected : ℕ → Option ℕ → Option Row → Option Applied
 unless_as_expected at v None = Some (Applied.Stale at None false)
-unless_as_expected at v (Some r) = cond (same_version v r.version) None (Some (Applied.Stale at r.version true))
+unless_as_expected at v (Some r) = if same_version v r.version then None else Some (Applied.Stale at r.version true)
 
 abbrev pub unless_free : ℕ → Option Row → Option Applied
 unless_free at None = None

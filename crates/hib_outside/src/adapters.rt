@@ -2,7 +2,7 @@
 ghost use Rattle.hib_outside.specs.Causes.{HasCause, one_more};
 ghost use Rattle.std.specs.Io.{ReadsAtMost, WritesAtMost};
 ghost use Rattle.std.specs.Io.KnownBytes.{ReadConsumes, WriteAppends};
-ghost use Rattle.std.specs.Prelude.{◌≡◌, ◌<◌, cond, is_err, length, IfOk};
+ghost use Rattle.std.specs.Prelude.{◌≡◌, ◌<◌, if◌then◌else◌, is_err, length, IfOk};
 ghost use Rattle.std.specs.declared.option.Option.TheVariants.{None};
 
 use crate::{Failed, Sink, Source};
@@ -38,7 +38,7 @@ impl<R: Read> Source for StdSource<R> {
         ensures bytes { ReadConsumes None None result buf.new }
         ensures cause { HasCause self.old.faults self.new.faults result }
         ensures count { self.new.faults
-            ≡ cond (is_err result) (one_more self.old.faults) self.old.faults }
+            ≡ (if is_err result then one_more self.old.faults else self.old.faults) }
     {
         match self.inner.read(buf) {
             Ok(count) => Ok(count),
@@ -81,7 +81,7 @@ impl<W: Write> Sink for StdSink<W> {
         ensures bytes { WriteAppends None None result bytes.now }
         ensures cause { HasCause self.old.faults self.new.faults result }
         ensures count { self.new.faults
-            ≡ cond (is_err result) (one_more self.old.faults) self.old.faults }
+            ≡ (if is_err result then one_more self.old.faults else self.old.faults) }
     {
         match self.inner.write(bytes) {
             Ok(count) if count > 0 || bytes.is_empty() => Ok(count),

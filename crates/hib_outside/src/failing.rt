@@ -1,5 +1,5 @@
 // The calls of an object in memory that are to fail, by their numbers.
-ghost use Rattle.std.specs.Prelude.{◌≡◌, ◌+◌, cond};
+ghost use Rattle.std.specs.Prelude.{◌≡◌, ◌+◌, if◌then◌else◌};
 ghost use Rattle.hib_outside.specs.Causes.{failed_calls, is_due, next_call};
 
 use hib_base::Seq;
@@ -31,7 +31,7 @@ impl Failing {
         ensures calls { self.new.calls ≡ next_call self.old.calls }
         ensures fail { self.new.fail ≡ self.old.fail }
         ensures count { failed_calls self.new.fail self.new.calls
-            ≡ failed_calls self.old.fail self.old.calls + cond result 1 0 }
+            ≡ failed_calls self.old.fail self.old.calls + (if result then 1 else 0) }
     {
         // No number names a call after this one.
         if self.calls == u32::MAX {

@@ -1,5 +1,5 @@
 // A keeper in memory.
-ghost use Rattle.std.specs.Prelude.{◌≡◌, ◌↔◌, ◌+◌, ◌≤◌, ◌<◌, [], cond, true, length, IfOk};
+ghost use Rattle.std.specs.Prelude.{◌≡◌, ◌↔◌, ◌+◌, ◌≤◌, ◌<◌, [], if◌then◌else◌, true, length, IfOk};
 ghost use Rattle.std.specs.declared.option.Option.TheVariants.{Some, None};
 ghost use Rattle.std.specs.declared.result.Result.TheVariants.{Err};
 ghost use Rattle.hib_base.specs.Tables.{row_at, in_order};
@@ -89,8 +89,8 @@ impl Keeper for MemKeeper {
         ensures same { self.new.rows.items ≡ self.old.rows.items }
         ensures asked { (self.old.asked ≤ self.new.asked) × (self.new.asked ≤ self.old.asked + 1) }
         ensures counted { self.new.asked
-            ≡ cond (is_due self.old.failing.fail self.old.failing.calls) self.old.asked
-            (one_more self.old.asked) }
+            ≡ (if is_due self.old.failing.fail self.old.failing.calls then self.old.asked
+            else one_more self.old.asked) }
         ensures cause { FailsByCause (failed_calls self.old.failing.fail self.old.failing.calls)
             (failed_calls self.new.failing.fail self.new.failing.calls) result }
         ensures fails { (result ≡ Err KeepFault.Failed)
@@ -113,8 +113,8 @@ impl Keeper for MemKeeper {
         ensures same { self.new.rows.items ≡ self.old.rows.items }
         ensures asked { (self.old.asked ≤ self.new.asked) × (self.new.asked ≤ self.old.asked + 1) }
         ensures counted { self.new.asked
-            ≡ cond (is_due self.old.failing.fail self.old.failing.calls) self.old.asked
-            (one_more self.old.asked) }
+            ≡ (if is_due self.old.failing.fail self.old.failing.calls then self.old.asked
+            else one_more self.old.asked) }
         ensures cause { FailsByCause (failed_calls self.old.failing.fail self.old.failing.calls)
             (failed_calls self.new.failing.fail self.new.failing.calls) result }
         ensures fails { (result ≡ Err KeepFault.Failed)

@@ -1,5 +1,5 @@
 // A source and a sink in memory, with the numbers of the calls that are to fail.
-ghost use Rattle.std.specs.Prelude.{◌≡◌, ◌↔◌, ◌⊎◌, ◌+◌, ◌≤◌, ◌<◌, [], min, cond, true, is_err, length, drop, IfOk, IsErr, OnErr, vec_len, vec_capacity};
+ghost use Rattle.std.specs.Prelude.{◌≡◌, ◌↔◌, ◌⊎◌, ◌+◌, ◌≤◌, ◌<◌, [], min, if◌then◌else◌, true, is_err, length, drop, IfOk, IsErr, OnErr, vec_len, vec_capacity};
 ghost use Rattle.std.specs.declared.option.Option.TheVariants.{Some};
 ghost use Rattle.std.specs.Io.{ReadsAtMost, WritesAtMost};
 ghost use Rattle.std.specs.Io.KnownBytes.{ReadConsumes, WriteAppends};
@@ -125,7 +125,7 @@ impl Sink for MemSink {
         ensures room { IfOk result (λ n. self.new.room + n ≡ self.old.room) }
         ensures full { OnErr result (self.new.room ≡ self.old.room) }
         ensures failures { self.new.failures
-            ≡ cond (is_err result) (one_more self.old.failures) self.old.failures }
+            ≡ (if is_err result then one_more self.old.failures else self.old.failures) }
         ensures calls { self.new.failing.calls ≡ next_call self.old.failing.calls }
         ensures fail { self.new.failing.fail ≡ self.old.failing.fail }
     {

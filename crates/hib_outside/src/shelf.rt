@@ -1,6 +1,6 @@
 // What is done to rows in order of keys: changes, one by one and in batches, and copies.
 ghost use Rattle.std.specs.Map.{lookup};
-ghost use Rattle.std.specs.Prelude.{◌≡◌, ◌+◌, ◌≤◌, ◌<◌, ℕ, true, length, take, [], cond, Some, None, IfOk, IfSome, OnOk, OnErr, vec_len, vec_capacity, option_copied};
+ghost use Rattle.std.specs.Prelude.{◌≡◌, ◌+◌, ◌≤◌, ◌<◌, ℕ, true, length, take, [], if◌then◌else◌, Some, None, IfOk, IfSome, OnOk, OnErr, vec_len, vec_capacity, option_copied};
 ghost use Rattle.hib_base.specs.Keys.{same_key};
 ghost use Rattle.hib_base.specs.declared.numbers.Key.{Key as KeyOf};
 ghost use Rattle.hib_base.specs.Tables.{in_order, row_at, row_left, same_version, after_change, after_changes, unless_there, with_absent};
@@ -40,7 +40,7 @@ fn last_change<'a>(
 /// A key has its last change at this place, so far.
 fn note_last(lasts: &mut IndexMap<Key, usize>, key: Key, at: usize) -> Result<(), AllocError>
     ensures { OnOk result ((k : KeyOf) → lookup (same_key k) lasts.new.entries
-        ≡ cond (same_key key k) (Some at) (lookup (same_key k) lasts.old.entries)) }
+        ≡ (if same_key key k then Some at else lookup (same_key k) lasts.old.entries)) }
 {
     lasts.insert(key, at)?;
     Ok(())
@@ -84,8 +84,8 @@ fn refused(at: usize, change: &Change, found: Option<&Row>) -> Option<Applied>
 
 /// The answer to a change that expects another version than the row has.
 fn unless_expected(at: usize, expected: Option<u32>, found: Option<u32>) -> Option<Applied>
-    ensures value { result ≡ cond (same_version expected found) None
-        (Some (Applied.Stale at found true)) }
+    ensures value { result ≡ (if same_version expected found then None
+        else Some (Applied.Stale at found true)) }
     ensures place { (n : ℕ) → at < n → IfSome result (λ a. IsPlace a n) }
 {
     match (expected, found) {

@@ -1,5 +1,5 @@
 -- A run on one worker: the lists of parts and those of sessions are those of one journal.
-use Rattle.std.specs.Prelude.{◌≡◌, ◌≤◌, ◌⊎◌, ◌==◌, ℕ, Bool, true, false, not, cond, take, List, [], ◌∷◌, unwrap_or}
+use Rattle.std.specs.Prelude.{◌≡◌, ◌≤◌, ◌⊎◌, ◌==◌, ℕ, Bool, true, false, not, if◌then◌else◌, take, List, [], ◌∷◌, unwrap_or}
 use Rattle.std.specs.List.{list_all}
 use Rattle.hib_clock.specs.Due
 use Rattle.hib_journal.specs.Types.{Part, Entry}
@@ -22,7 +22,7 @@ IsFirst n place regions = list_all (is_other n) (take place regions) ≡ true
 -- the list of an entity's region, the first one if there are more
 abbrev pub list_in : ℕ → List RegionState → Journal
 list_in n [] = []
-list_in n (r ∷ regions) = cond (r.entity == n) r.list (list_in n regions)
+list_in n (r ∷ regions) = if r.entity == n then r.list else list_in n regions
 
 -- the list of a part, if these are those of the shared ones. A session's own acts have none
 abbrev pub list_on : (registry store stamps results : Journal) → List RegionState → Part → Journal
@@ -42,12 +42,12 @@ part_lists parts = list_on parts.registry parts.store.list parts.stamps parts.re
 pub record IsStepOn (p : Part) (old new : Part → Journal) (w v : WorkerState) : Type 0 where
   pub entry : Entry
   pub tick : entry.tick ≡ Due.due (last_of (old p)) (last_of w.list)
-  pub parts : (q : Part) → is_own q ≡ false → new q ≡ cond (same_part q p) (entry ∷ old q) (old q)
+  pub parts : (q : Part) → is_own q ≡ false → new q ≡ (if same_part q p then entry ∷ old q else old q)
   pub mine : v.list ≡ entry ∷ w.list
 
 -- the lists of sessions: this one's, and those of the others
 abbrev pub with_own : WorkerState → (ℕ → Journal) → ℕ → Journal
-with_own w others s = cond (w.number == s) w.list (others s)
+with_own w others s = if w.number == s then w.list else others s
 
 -- the lists of parts and of sessions are those of one journal, in which each entry is a session's, in turn and at the tick that is due
 pub record AreOfRun (lists : Part → Journal) (mine : ℕ → Journal) : Type 0 where

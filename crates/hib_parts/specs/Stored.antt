@@ -1,5 +1,5 @@
 -- What the part of the store keeps.
-use Rattle.std.specs.Prelude.{◌≡◌, ◌<◌, ◌≤◌, ℕ, Bool, true, false, ◌∷◌, Option, unwrap_or, cond}
+use Rattle.std.specs.Prelude.{◌≡◌, ◌<◌, ◌≤◌, ℕ, Bool, true, false, ◌∷◌, Option, unwrap_or, if◌then◌else◌}
 use Rattle.hib_base.specs.Tables.{Tables}
 use Rattle.hib_journal.specs.Types.{Script, Part, Entry}
 use Rattle.hib_journal.specs.Sessions.{Journal}
@@ -38,6 +38,6 @@ pub record IsStoreEntered (script : Script) (told : Option Tables) (now : ℕ) (
   pub less : v.left < w.left
   pub reply : IsStoreReply script told l entry
   pub stands : IsStored told k y
-  pub asked : RoseWithin x.asked (cond (asks (unsaved (unwrap_or entry.session 0) l) entry.act) 1 0) y.asked
+  pub asked : RoseWithin x.asked (if asks (unsaved (unwrap_or entry.session 0) l) entry.act then 1 else 0) y.asked
   pub faults : x.faults ≤ y.faults
   pub fault : is_fault entry.reply ≡ true → Rose x.faults y.faults

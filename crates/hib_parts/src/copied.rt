@@ -1,5 +1,5 @@
 // Replies in two copies.
-ghost use Rattle.std.specs.Prelude.{◌≡◌, cond, true, IfOk, IsOk, Some, None};
+ghost use Rattle.std.specs.Prelude.{◌≡◌, if◌then◌else◌, true, IfOk, IsOk, Some, None};
 ghost use Rattle.hib_parts.specs.Copied.{is_small};
 
 use hib_base::Reply;
@@ -7,7 +7,7 @@ use std::alloc::{AllocError, Global};
 
 /// An equal reply, if the reply owns no memory.
 fn small_copy(reply: &Reply) -> Option<Reply>
-    ensures { result ≡ cond (is_small reply.now) (Some reply.now) None }
+    ensures { result ≡ (if is_small reply.now then Some reply.now else None) }
 {
     match reply {
         Reply::Began { floor } => Some(Reply::Began { floor: *floor }),

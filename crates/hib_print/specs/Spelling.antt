@@ -1,5 +1,5 @@
 -- The text of tokens: a space stands between two of them, but none after an opening parenthesis and none before a closing one.
-use Rattle.std.specs.Prelude.{ℕ, Bool, true, false, cond, List, [], ◌∷◌, ◌++◌, codes, flat_map}
+use Rattle.std.specs.Prelude.{ℕ, Bool, true, false, if◌then◌else◌, List, [], ◌∷◌, ◌++◌, codes, flat_map}
 use Rattle.std.specs.Fmt.{signed_decimal}
 use Rattle.hib_lex.specs.declared.lexer.Token.{Token}
 use Rattle.hib_texts.specs.Texts.{quoted}
@@ -15,7 +15,7 @@ token_text Token.Right = codes ")"
 -- glued: the token before, if any, is an opening parenthesis
 abbrev pub gap : Bool → Token → List ℕ
 gap glued Token.Right = []
-gap glued _ = cond glued [] (codes " ")
+gap glued _ = if glued then [] else codes " "
 
 abbrev pub is_left : Token → Bool
 is_left Token.Left = true

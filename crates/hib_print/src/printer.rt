@@ -1,5 +1,5 @@
 // Tokens, appended to a text with a space if one stands between them.
-ghost use Rattle.std.specs.Prelude.{◌≡◌, ◌+◌, ◌++◌, [], ◌∷◌, OnOk, cond, true, false, codes, Some};
+ghost use Rattle.std.specs.Prelude.{◌≡◌, ◌+◌, ◌++◌, [], ◌∷◌, OnOk, if◌then◌else◌, true, false, codes, Some};
 ghost use Rattle.hib_lex.specs.declared.lexer.Token.{Token};
 ghost use Rattle.hib_print.specs.Lines.{natural, cell_token, cell_tokens, key_tokens};
 ghost use Rattle.hib_print.specs.Steps.{Adds, AddsLines};
@@ -33,7 +33,7 @@ impl Printer {
     // The space before a token that isn't a closing parenthesis.
     fn space(&mut self) -> Result<(), AllocError>
         ensures text { OnOk result (self.new.text.items
-            ≡ self.old.text.items ++ cond self.old.glued [] (codes " ")) }
+            ≡ self.old.text.items ++ (if self.old.glued then [] else codes " ")) }
         ensures glued { OnOk result (self.new.glued ≡ false) }
     {
         if !self.glued {

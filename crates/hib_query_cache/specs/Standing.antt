@@ -1,5 +1,5 @@
 -- Results that stand for a journal: each query has the result that the journal tells.
-use Rattle.std.specs.Prelude.{◌≡◌, ℕ, ◌+◌, ◌<◌, ◌≤◌, ◌⊎◌, Bool, false, cond, ◌||◌, nat_eq, List, [], ◌∷◌, length, Some, None, Option}
+use Rattle.std.specs.Prelude.{◌≡◌, ℕ, ◌+◌, ◌<◌, ◌≤◌, ◌⊎◌, Bool, false, if◌then◌else◌, ◌||◌, nat_eq, List, [], ◌∷◌, length, Some, None, Option}
 use Rattle.std.specs.Option.{option_map_or}
 use Rattle.hib_journal.specs.Types.{Act, Reply}
 use Rattle.hib_journal.specs.Sessions.{Journal}
@@ -10,12 +10,12 @@ use Rattle.hib_query_cache.specs.Ranked.{Kept, Ranked, result_of, used, with_res
 -- how many results are before that of q
 abbrev pub place : ℕ → List Kept → ℕ
 place q [] = 0
-place q (e ∷ es) = cond (nat_eq q e.0) 0 (1 + place q es)
+place q (e ∷ es) = if nat_eq q e.0 then 0 else 1 + place q es
 
 -- whether the result of p is before that of q
 abbrev pub is_ahead : ℕ → ℕ → List Kept → Bool
 is_ahead p q [] = false
-is_ahead p q (e ∷ es) = cond (nat_eq q e.0) false (nat_eq p e.0 || is_ahead p q es)
+is_ahead p q (e ∷ es) = if nat_eq q e.0 then false else nat_eq p e.0 || is_ahead p q es
 
 abbrev pub AreDistinct : List Kept → Type 0
 AreDistinct [] = Unit {0}

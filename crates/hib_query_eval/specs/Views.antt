@@ -1,5 +1,5 @@
 -- Changes laid over rows: which keys they change, and what they leave there.
-use Rattle.std.specs.Prelude.{◌≡◌, Bool, true, false, cond, List, [], ◌∷◌, Some, None, Option}
+use Rattle.std.specs.Prelude.{◌≡◌, Bool, true, false, if◌then◌else◌, List, [], ◌∷◌, Some, None, Option}
 use Rattle.std.specs.List.{list_any}
 use Rattle.hib_journal.specs.Types.{Key, Change}
 use Rattle.hib_base.specs.Keys.{same_key, is_before}
@@ -22,9 +22,9 @@ comes_first (a ∷ rows) (b ∷ bs) = is_before b.0 a.0
 -- the rows whose keys are none of these, and others, in order of keys
 abbrev pub laid_over : List Key → Tables → Tables → Tables
 laid_over ks [] left = left
-laid_over ks (a ∷ rows) [] = cond (has_key ks a.0) (laid_over ks rows []) (a ∷ laid_over ks rows [])
+laid_over ks (a ∷ rows) [] = if has_key ks a.0 then laid_over ks rows [] else a ∷ laid_over ks rows []
 laid_over ks (a ∷ rows) (b ∷ left) =
-    cond (is_before b.0 a.0) (b ∷ laid_over ks (a ∷ rows) left) (cond (has_key ks a.0) (laid_over ks rows (b ∷ left)) (a ∷ laid_over ks rows (b ∷ left)))
+    if is_before b.0 a.0 then b ∷ laid_over ks (a ∷ rows) left else (if has_key ks a.0 then laid_over ks rows (b ∷ left) else a ∷ laid_over ks rows (b ∷ left))
 
 -- the keys are those that are changed, and the rows are what the changes leave of none
 pub record Lays (changes : List Change) (laid : Laid) : Type 0 where

@@ -1,5 +1,5 @@
 -- The read-write keys that a journal names and of which the claims on the cache do not speak.
-use Rattle.std.specs.Prelude.{ℕ, Bool, true, false, cond, not, ◌&&◌, List, [], ◌∷◌, ◌++◌, length, codes, flat_map, Some, None, Option}
+use Rattle.std.specs.Prelude.{ℕ, Bool, true, false, if◌then◌else◌, not, ◌&&◌, List, [], ◌∷◌, ◌++◌, length, codes, flat_map, Some, None, Option}
 use Rattle.std.specs.List.{filter}
 use Rattle.std.specs.Fmt.{decimal}
 use Rattle.hib_base.specs.Keys.{same_key, is_before}
@@ -23,11 +23,11 @@ is_read_write _ = false
 -- sorted keys with one more, which stands there once
 abbrev pub with_key : Key → List Key → List Key
 with_key k [] = k ∷ []
-with_key k (j ∷ js) = cond (same_key j k) (j ∷ js) (cond (is_before k j) (k ∷ j ∷ js) (j ∷ with_key k js))
+with_key k (j ∷ js) = if same_key j k then j ∷ js else (if is_before k j then k ∷ j ∷ js else j ∷ with_key k js)
 
 abbrev pub with_named : Script → Option Key → List Key → List Key
 with_named script None ks = ks
-with_named script (Some k) ks = cond (is_read_write (strategy script k.entity)) (with_key k ks) ks
+with_named script (Some k) ks = if is_read_write (strategy script k.entity) then with_key k ks else ks
 
 -- the read-write keys that a journal's acts name, in order of entity and identifier, each once
 abbrev pub keys_in : Script → Journal → List Key
@@ -37,7 +37,7 @@ keys_in script (e ∷ h) = with_named script (named e.act) (keys_in script h)
 -- sorted keys with a read-write one that is not sound
 abbrev pub with_unsound : Script → Journal → Option Key → List Key → List Key
 with_unsound script past None ks = ks
-with_unsound script past (Some k) ks = cond (is_read_write (strategy script k.entity) && not (is_sound k past)) (with_key k ks) ks
+with_unsound script past (Some k) ks = if is_read_write (strategy script k.entity) && not (is_sound k past) then with_key k ks else ks
 
 abbrev pub unsound : Script → Journal → List Key
 unsound script past = filter (λ k. not (is_sound k past)) (keys_in script past)

@@ -1,5 +1,5 @@
 // What became of the sessions, found in one pass over the entries.
-ghost use Rattle.std.specs.Prelude.{◌≡◌, ◌||◌, ◌<◌, ℕ, cond, true, length, slice_get, IfOk, Some, reverse};
+ghost use Rattle.std.specs.Prelude.{◌≡◌, ◌||◌, ◌<◌, ℕ, if◌then◌else◌, true, length, slice_get, IfOk, Some, reverse};
 ghost use Rattle.std.specs.Option.{option_map};
 ghost use Rattle.hib_journal.specs.Sessions.{is_by};
 ghost use Rattle.hib_journal.specs.Legal.{outcome_after};
@@ -87,8 +87,8 @@ impl Fate {
 fn note_own(fates: &mut Vec<Fate>, restart: usize, place: usize, entry: &Entry)
     ensures all { length fates.new.items ≡ length fates.old.items }
     ensures each { (s : ℕ) → slice_get fates.new.items s
-        ≡ option_map (λ f. cond (is_by s entry.now)
-        (own_noted restart place entry.now.act entry.now.reply f) f)
+        ≡ option_map (λ f. if is_by s entry.now
+        then own_noted restart place entry.now.act entry.now.reply f else f)
         (slice_get fates.old.items s) }
 {
     let Some(session) = entry.session else {
@@ -104,7 +104,7 @@ fn note_own(fates: &mut Vec<Fate>, restart: usize, place: usize, entry: &Entry)
 fn note_kill(fates: &mut Vec<Fate>, act: &Act)
     ensures all { length fates.new.items ≡ length fates.old.items }
     ensures each { (s : ℕ) → slice_get fates.new.items s
-        ≡ option_map (λ f. cond (kills s act.now) (kill_noted f) f) (slice_get fates.old.items s) }
+        ≡ option_map (λ f. if kills s act.now then kill_noted f else f) (slice_get fates.old.items s) }
 {
     let Act::Kill { session } = act else {
         return;

@@ -1,6 +1,6 @@
 // What is known of keys after the entries that were noted, since the last restart. Each entry is noted once.
 
-ghost use Rattle.std.specs.Prelude.{◌≡◌, ◌∷◌, [], ℕ, cond, ◌&&◌, ◌==◌, OnOk, Some, true, false};
+ghost use Rattle.std.specs.Prelude.{◌≡◌, ◌∷◌, [], ℕ, if◌then◌else◌, ◌&&◌, ◌==◌, OnOk, Some, true, false};
 ghost use Rattle.hib_base.specs.Keys.{same_key};
 ghost use Rattle.hib_journal.specs.Types.{Key};
 ghost use Rattle.hib_journal.specs.Sessions.{Journal, is_by, is_restart, committer};
@@ -100,7 +100,7 @@ fn course_of(courses: &Courses, key: Key) -> Course
 fn set_course(courses: &mut Courses, key: Key, course: Course) -> Result<(), AllocError>
     ensures { OnOk result ((k : Key)
         → course_at courses.new.entries k
-        ≡ cond (same_key key k) course (course_at courses.old.entries k)) }
+        ≡ (if same_key key k then course else course_at courses.old.entries k)) }
 {
     courses.insert(key, course)?;
     Ok(())
@@ -162,8 +162,8 @@ fn upset_key(entry: &Entry) -> Option<Key>
 fn note_answer(courses: &mut Courses, entry: &Entry) -> Result<(), AllocError>
     ensures { OnOk result ((k : Key)
         → course_at courses.new.entries k
-        ≡ cond (is_restart entry.now.act) fresh
-        (calm_if (leaves_calm (touch k entry.now)) (course_at courses.old.entries k))) }
+        ≡ (if is_restart entry.now.act then fresh
+        else calm_if (leaves_calm (touch k entry.now)) (course_at courses.old.entries k))) }
 {
     if matches!(entry.act, Act::Restart) {
         courses.clear();
@@ -237,7 +237,7 @@ fn note_commit(courses: &mut Courses, written: &Writers, entry: &Entry) -> Resul
 fn take_written(alloc: Global, written: &mut Writers, session: SessionNo) -> Written
     ensures taken { result ≡ written_at written.old.entries session }
     ensures rest { (s : ℕ) → written_at written.new.entries s
-        ≡ cond (session == s) nothing_written (written_at written.old.entries s) }
+        ≡ (if session == s then nothing_written else written_at written.old.entries s) }
 {
     match written.swap_remove(&session.0) {
         Some(own) => own,
@@ -254,8 +254,8 @@ fn note_change(
 ) -> Result<(), AllocError>
     ensures { OnOk result ((s : ℕ)
         → written_at written.new.entries s
-        ≡ cond (session == s) (change_noted change.now (written_at written.old.entries s))
-        (written_at written.old.entries s)) }
+        ≡ (if session == s then change_noted change.now (written_at written.old.entries s)
+        else written_at written.old.entries s)) }
 {
     let mut own = take_written(alloc, written, session);
     own.note(change)?;
@@ -272,8 +272,8 @@ fn note_act(
 ) -> Result<(), AllocError>
     ensures { OnOk result ((s : ℕ)
         → written_at written.new.entries s
-        ≡ cond (session == s) (act_noted act.now (written_at written.old.entries s))
-        (written_at written.old.entries s)) }
+        ≡ (if session == s then act_noted act.now (written_at written.old.entries s)
+        else written_at written.old.entries s)) }
 {
     match act {
         Act::Begin => {
@@ -289,8 +289,8 @@ fn note_act(
 fn note_written(alloc: Global, written: &mut Writers, entry: &Entry) -> Result<(), AllocError>
     ensures { OnOk result ((s : ℕ)
         → written_at written.new.entries s
-        ≡ cond (is_by s entry.now) (act_noted entry.now.act (written_at written.old.entries s))
-        (written_at written.old.entries s)) }
+        ≡ (if is_by s entry.now then act_noted entry.now.act (written_at written.old.entries s)
+        else written_at written.old.entries s)) }
 {
     match entry.session {
         Some(session) => note_act(alloc, written, session, &entry.act),

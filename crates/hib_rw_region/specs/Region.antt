@@ -1,5 +1,5 @@
 -- A read-write region as contracts see it.
-use Rattle.std.specs.Prelude.{ℕ, nat_eq, nat_lt, List, length, Some, None, Option, option_map, cond}
+use Rattle.std.specs.Prelude.{ℕ, nat_eq, nat_lt, List, length, Some, None, Option, option_map, if◌then◌else◌}
 use Rattle.std.specs.Map.{lookup}
 use Rattle.std.specs.List.{filter}
 use Rattle.hib_journal.specs.Slot.{Slot}
@@ -41,4 +41,4 @@ victim_in floor slots = first_key (filter (λ p. may_leave floor (shown p.1)) sl
 
 -- the room for a new key
 abbrev pub room_in : RegionState → ℕ → Option (Option ℕ)
-room_in state floor = cond (nat_lt (length state.slots) state.capacity) (Some None) (option_map (λ i. Some i) (victim_in floor state.slots))
+room_in state floor = if nat_lt (length state.slots) state.capacity then Some None else option_map (λ i. Some i) (victim_in floor state.slots)

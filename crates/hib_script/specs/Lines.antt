@@ -1,5 +1,5 @@
 -- What one line adds to a script that was read so far, or the first thing that is wrong with it.
-use Rattle.std.specs.Prelude.{◌≡◌, ℕ, ◌+◌, Bool, true, false, cond, not, ◌&&◌, nat_lt, List, [], ◌∷◌, ◌++◌, length, Option, Some, None, codes, bytes_eq, Result, Ok, Err}
+use Rattle.std.specs.Prelude.{◌≡◌, ℕ, ◌+◌, Bool, true, false, if◌then◌else◌, not, ◌&&◌, nat_lt, List, [], ◌∷◌, ◌++◌, length, Option, Some, None, codes, bytes_eq, Result, Ok, Err}
 use Rattle.std.specs.List.{list_any}
 use Rattle.hib_base.specs.Scripts.{are_over}
 use Rattle.hib_base.specs.Valid.{max_timeout, max_results, max_rows, max_queries, max_sessions, max_statements, max_orders}
@@ -57,13 +57,13 @@ is_header (first ∷ version ∷ []) = is_the_word (codes "hib") first && is_wit
 is_header _ = false
 
 abbrev pub header_line : Reader → List Token → After
-header_line r ts = cond (is_header ts) (Ok (behind Part.Header r)) (Err Kind.Header)
+header_line r ts = if is_header ts then Ok (behind Part.Header r) else Err Kind.Header
 
 -- ---- timeout N, results N
 -- a number from 1 on
 abbrev pub number_within : ℕ → Token → Result ℕ Kind
 number_within most n =
-    cond (is_a_number n) (cond (is_within 1 most n) (Ok (number_up_to most n)) (Err Kind.Number)) (Err Kind.Words)
+    if is_a_number n then (if is_within 1 most n then Ok (number_up_to most n) else Err Kind.Number) else Err Kind.Words
 
 abbrev pub number_line : ℕ → List Token → Result ℕ Kind
 number_line most (first ∷ n ∷ []) = number_within most n
@@ -87,7 +87,7 @@ results_line r ts = with_results r (number_line max_results ts)
 -- a declared name may not be reserved
 abbrev pub or_reserved : List ℕ → Option Kind → Option Kind
 or_reserved w (Some k) = Some k
-or_reserved w None = cond (is_reserved w) (Some Kind.Reserved) None
+or_reserved w None = if is_reserved w then Some Kind.Reserved else None
 
 abbrev pub new_entity : Reader → List Token → Option Kind → After
 new_entity r ts (Some k) = Err k
@@ -96,7 +96,7 @@ new_entity r ts None = Ok (behind Part.Entities (record r { entity = entity_of t
 -- followed: the next line is a column's
 abbrev pub entity_line : Reader → Bool → List Token → After
 entity_line r followed ts =
-    cond (is_entity_line ts) (new_entity r ts (or_reserved (name_in ts) (entity_kind r.outline.mapping followed ts))) (Err Kind.Words)
+    if is_entity_line ts then new_entity r ts (or_reserved (name_in ts) (entity_kind r.outline.mapping followed ts)) else Err Kind.Words
 
 abbrev pub columns_unless : List EntityDef → EntityDef → List Token → Option Kind → Result EntityDef Kind
 columns_unless m e ts (Some k) = Err k
@@ -105,7 +105,7 @@ columns_unless m e ts None = Ok (with_column m e ts)
 -- the entity with the column of a line
 abbrev pub more_columns : List EntityDef → EntityDef → List Token → Result EntityDef Kind
 more_columns m e ts =
-    cond (is_column_line ts) (columns_unless m e ts (or_reserved (name_in ts) (column_kind m e ts))) (Err Kind.Words)
+    if is_column_line ts then columns_unless m e ts (or_reserved (name_in ts) (column_kind m e ts)) else Err Kind.Words
 
 abbrev pub with_columns : Reader → Result EntityDef Kind → After
 with_columns r (Err k) = Err k
@@ -129,8 +129,8 @@ closed r = record r { outline = record r.outline { mapping = with_open r.outline
 abbrev pub with_row : Reader → Result (Key × Row) Kind → After
 with_row r (Err k) = Err k
 with_row r (Ok x) =
-    cond (nat_lt (length r.outline.rows) max_rows)
-    (Ok (behind Part.Rows (record r { outline = record r.outline { rows = r.outline.rows ++ x ∷ [] } }))) (Err Kind.Many)
+    if nat_lt (length r.outline.rows) max_rows
+    then Ok (behind Part.Rows (record r { outline = record r.outline { rows = r.outline.rows ++ x ∷ [] } })) else Err Kind.Many
 
 abbrev pub row_line : Reader → List Token → After
 row_line r ts = with_row r (row_of r.outline.mapping r.outline.rows ts)
@@ -143,14 +143,14 @@ is_of_form _ = false
 
 -- a name that is there already is found after the form and before all else
 abbrev pub or_taken : Bool → Kind → Kind
-or_taken taken k = cond (taken && not (is_of_form k)) Kind.Taken k
+or_taken taken k = if taken && not (is_of_form k) then Kind.Taken else k
 
 abbrev pub with_query : Reader → Bool → Result Said Kind → After
 with_query r taken (Err k) = Err (or_taken taken k)
 with_query r taken (Ok q) =
-    cond taken (Err Kind.Taken)
-    (cond (nat_lt (length r.outline.queries) max_queries)
-    (Ok (behind Part.Queries (record r { outline = record r.outline { queries = r.outline.queries ++ q ∷ [] } }))) (Err Kind.Many))
+    if taken then Err Kind.Taken
+    else (if nat_lt (length r.outline.queries) max_queries
+    then Ok (behind Part.Queries (record r { outline = record r.outline { queries = r.outline.queries ++ q ∷ [] } })) else Err Kind.Many)
 
 abbrev pub is_taken : Reader → List Token → Bool
 is_taken r ts = has_name (query_names r.outline.queries) (name_in ts)
@@ -167,12 +167,12 @@ begun r w = Ok (record r { place = Place.Session (record { name = w; statements 
 
 abbrev pub new_session : Reader → List ℕ → After
 new_session r w =
-    cond (is_reserved w) (Err Kind.Reserved)
-    (cond (has_session r.outline.sessions w) (Err Kind.Taken)
-    (cond (nat_lt (length r.outline.sessions) max_sessions) (begun r w) (Err Kind.Many)))
+    if is_reserved w then Err Kind.Reserved
+    else (if has_session r.outline.sessions w then Err Kind.Taken
+    else (if nat_lt (length r.outline.sessions) max_sessions then begun r w else Err Kind.Many))
 
 abbrev pub session_line : Reader → List Token → After
-session_line r (first ∷ name ∷ []) = cond (is_a_word name) (new_session r (word_of name)) (Err Kind.Words)
+session_line r (first ∷ name ∷ []) = if is_a_word name then new_session r (word_of name) else Err Kind.Words
 session_line r _ = Err Kind.Words
 
 abbrev pub one_more : Reader → SessionDef → Statement → Reader
@@ -183,7 +183,7 @@ one_more r s t =
 abbrev pub with_statement : Reader → SessionDef → Result Statement Kind → After
 with_statement r s (Err k) = Err k
 with_statement r s (Ok t) =
-    cond (nat_lt r.statements max_statements) (Ok (one_more r s t)) (Err Kind.Many)
+    if nat_lt r.statements max_statements then Ok (one_more r s t) else Err Kind.Many
 
 abbrev pub with_session : Reader → SessionDef → Reader
 with_session r s = behind Part.Sessions (record r { outline = record r.outline { sessions = r.outline.sessions ++ s ∷ [] } })
@@ -191,30 +191,30 @@ with_session r s = behind Part.Sessions (record r { outline = record r.outline {
 -- a session ends after a commit or a rollback alone
 abbrev pub end_line : Reader → SessionDef → List Token → After
 end_line r s ts =
-    cond (is_alone ts) (cond (are_over s.statements) (Ok (with_session r s)) (Err Kind.Last)) (Err Kind.Words)
+    if is_alone ts then (if are_over s.statements then Ok (with_session r s) else Err Kind.Last) else Err Kind.Words
 
 abbrev pub statement_line : Reader → SessionDef → List Token → After
 statement_line r s ts = with_statement r s (statement_of r.outline.mapping (query_names r.outline.queries) ts)
 
 abbrev pub in_session : Reader → SessionDef → List Token → After
-in_session r s ts = cond (begins (codes "end") ts) (end_line r s ts) (statement_line r s ts)
+in_session r s ts = if begins (codes "end") ts then end_line r s ts else statement_line r s ts
 
 -- ---- schedule, its orders, end
 abbrev pub schedule_line : Reader → List Token → After
-schedule_line r ts = cond (is_alone ts) (Ok (record r { place = Place.Schedule })) (Err Kind.Words)
+schedule_line r ts = if is_alone ts then Ok (record r { place = Place.Schedule }) else Err Kind.Words
 
 abbrev pub with_order : Reader → Result Order Kind → After
 with_order r (Err k) = Err k
 with_order r (Ok o) =
-    cond (nat_lt (length r.outline.schedule) max_orders)
-    (Ok (record r { outline = record r.outline { schedule = r.outline.schedule ++ o ∷ [] } })) (Err Kind.Many)
+    if nat_lt (length r.outline.schedule) max_orders
+    then Ok (record r { outline = record r.outline { schedule = r.outline.schedule ++ o ∷ [] } }) else Err Kind.Many
 
 abbrev pub schedule_end : Reader → List Token → After
-schedule_end r ts = cond (is_alone ts) (Ok (behind Part.Schedule r)) (Err Kind.Words)
+schedule_end r ts = if is_alone ts then Ok (behind Part.Schedule r) else Err Kind.Words
 
 abbrev pub in_schedule : Reader → List Token → After
 in_schedule r ts =
-    cond (begins (codes "end") ts) (schedule_end r ts) (with_order r (order_of r.outline.mapping r.outline.sessions ts))
+    if begins (codes "end") ts then schedule_end r ts else with_order r (order_of r.outline.mapping r.outline.sessions ts)
 
 -- ---- a line after the line of a part
 abbrev pub part_line : Reader → Part → Bool → List Token → After
@@ -229,11 +229,11 @@ part_line r Part.Header followed ts = Err Kind.Line
 
 abbrev pub next_part : Reader → Part → Option Part → Bool → List Token → After
 next_part r last None followed ts = Err Kind.Line
-next_part r last (Some p) followed ts = cond (may_follow last p) (part_line (closed r) p followed ts) (Err Kind.Line)
+next_part r last (Some p) followed ts = if may_follow last p then part_line (closed r) p followed ts else Err Kind.Line
 
 abbrev pub behind_part : Reader → Part → Bool → List Token → After
 behind_part r last followed ts =
-    cond (begins (codes "column") ts) (column_line r r.entity ts) (next_part r last (part_of ts) followed ts)
+    if begins (codes "column") ts then column_line r r.entity ts else next_part r last (part_of ts) followed ts
 
 abbrev pub line_at : Reader → Place → Bool → List Token → After
 line_at r Place.Start followed ts = header_line r ts

@@ -1,5 +1,5 @@
 -- The parts of a script, and which may follow which.
-use Rattle.std.specs.Prelude.{ℕ, Bool, true, false, cond, ◌&&◌, ◌||◌, ◌==◌, nat_lt, List, Option, Some, None, codes}
+use Rattle.std.specs.Prelude.{ℕ, Bool, true, false, if◌then◌else◌, ◌&&◌, ◌||◌, ◌==◌, nat_lt, List, Option, Some, None, codes}
 use Rattle.hib_lex.specs.Words.{begins}
 use Rattle.hib_lex.specs.declared.lexer.Token.{Token}
 use Rattle.hib_script.specs.declared.places.Part.{Part}
@@ -28,10 +28,10 @@ may_follow last next = nat_lt (rank last) (rank next) || (repeats next && (rank 
 -- the part that a line's first word begins
 abbrev pub part_of : List Token → Option Part
 part_of ts =
-    cond (begins (codes "timeout") ts) (Some Part.Timeout)
-    (cond (begins (codes "results") ts) (Some Part.Results)
-    (cond (begins (codes "entity") ts) (Some Part.Entities)
-    (cond (begins (codes "row") ts) (Some Part.Rows)
-    (cond (begins (codes "query") ts) (Some Part.Queries)
-    (cond (begins (codes "session") ts) (Some Part.Sessions)
-    (cond (begins (codes "schedule") ts) (Some Part.Schedule) None))))))
+    if begins (codes "timeout") ts then Some Part.Timeout
+    else (if begins (codes "results") ts then Some Part.Results
+    else (if begins (codes "entity") ts then Some Part.Entities
+    else (if begins (codes "row") ts then Some Part.Rows
+    else (if begins (codes "query") ts then Some Part.Queries
+    else (if begins (codes "session") ts then Some Part.Sessions
+    else (if begins (codes "schedule") ts then Some Part.Schedule else None))))))

@@ -4,7 +4,7 @@ ghost use Rattle.hib_base.specs.declared.refusals.Kind.{Kind};
 ghost use Rattle.hib_mapping.specs.Parts.{is_a_word, word_of};
 ghost use Rattle.hib_script.specs.Drafts.{reader_of};
 ghost use Rattle.hib_script.specs.Lines as lines;
-ghost use Rattle.std.specs.Prelude.{◌≡◌, IfErr, OnOk, Ok, Err, cond};
+ghost use Rattle.std.specs.Prelude.{◌≡◌, IfErr, OnOk, Ok, Err, if◌then◌else◌};
 
 use crate::drafts::{Draft, at, behind, has_room};
 use crate::errors::LineError;
@@ -39,12 +39,12 @@ pub fn session_line(alloc: Global, draft: &mut Draft, tokens: &[Token]) -> Resul
 }
 
 fn named_session(alloc: Global, draft: &mut Draft, name: &Token) -> Result<(), LineError>
-    ensures step { OnOk result (cond (is_a_word name.now)
-        (lines.new_session (reader_of draft.old) (word_of name.now)) (Err Kind.Words)
+    ensures step { OnOk result ((if is_a_word name.now
+        then lines.new_session (reader_of draft.old) (word_of name.now) else Err Kind.Words)
         ≡ Ok (reader_of draft.new)) }
     ensures fault { IfErr result (lines.IsFault
-        (cond (is_a_word name.now) (lines.new_session (reader_of draft.old) (word_of name.now))
-        (Err Kind.Words))) }
+        (if is_a_word name.now then lines.new_session (reader_of draft.old) (word_of name.now)
+        else Err Kind.Words)) }
 {
     if is_word(name) {
         new_session(alloc, draft, name)

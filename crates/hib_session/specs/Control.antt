@@ -1,5 +1,5 @@
 -- What is left of a session's plan, by the state of a machine.
-use Rattle.std.specs.Prelude.{◌≡◌, ℕ, ◌+◌, ◌*◌, ◌^◌, not, length, Bool, true, false, cond, List, [], ◌∷◌, drop, slice_get, Some, None, Option}
+use Rattle.std.specs.Prelude.{◌≡◌, ℕ, ◌+◌, ◌*◌, ◌^◌, not, length, Bool, true, false, if◌then◌else◌, List, [], ◌∷◌, drop, slice_get, Some, None, Option}
 use Rattle.std.specs.Option.{option_map_or}
 use Rattle.hib_journal.specs.Types.{Mode, Statement, Script, Act}
 use Rattle.hib_journal.specs.Sessions.{Journal, time_in}
@@ -91,7 +91,7 @@ weight script c = (6 * length (untaken script c) + one_if c.begins + rank c.stag
 
 -- a list is answered from the results, or by the store
 abbrev pub decided : Script → Mode → Journal → Stage → Stage
-decided script m done (Stage.Answering q) = cond (is_free script q (mode_reads m) done) (Stage.Looking q) (Stage.Listing q)
+decided script m done (Stage.Answering q) = if is_free script q (mode_reads m) done then Stage.Looking q else Stage.Listing q
 decided script m done stage = stage
 
 -- the act that is due

@@ -1,5 +1,5 @@
 -- What a session remembers of its own entries.
-use Rattle.std.specs.Prelude.{◌≡◌, ℕ, Bool, true, false, cond, not, List, [], ◌∷◌, ◌++◌, Some, None, Option}
+use Rattle.std.specs.Prelude.{◌≡◌, ℕ, Bool, true, false, if◌then◌else◌, not, List, [], ◌∷◌, ◌++◌, Some, None, Option}
 use Rattle.std.specs.List.{flat_map}
 use Rattle.std.specs.Option.{is_some}
 use Rattle.std.specs.Map.{lookup}
@@ -175,7 +175,7 @@ pub record Recalls (memory : Remembered) (mine : Journal) : Type 0 where
 -- what comes before a write, by the memory
 abbrev pub before_key_in : Script → Remembered → Key → Option ℕ → List Act
 before_key_in script x k v =
-    cond (is_in k x.changes) [] (before_cached (strategy script k.entity) k (cond (is_key_in k x.fresh) v None) x.floor)
+    if is_in k x.changes then [] else before_cached (strategy script k.entity) k (if is_key_in k x.fresh then v else None) x.floor
 
 abbrev pub before_in : Script → Remembered → Change → List Act
 before_in script x (Change.Insert k r) = []

@@ -1,5 +1,5 @@
 -- What a session stands for, and what it answers itself.
-use Rattle.std.specs.Prelude.{◌≡◌, ℕ, Bool, false, cond, not, ◌||◌, ◌&&◌, Some, None, Option, is_some}
+use Rattle.std.specs.Prelude.{◌≡◌, ℕ, Bool, false, if◌then◌else◌, not, ◌||◌, ◌&&◌, Some, None, Option, is_some}
 use Rattle.hib_journal.specs.Types.{Script, Act, Reply, Entry}
 use Rattle.hib_journal.specs.Sessions.{Journal, changes_in}
 use Rattle.hib_journal.specs.Held.{held}
@@ -21,7 +21,7 @@ is_killed s = s.killed
 
 -- how much of it is left: a number that falls with each entry, and is 0 after a kill
 abbrev pub left_in : Script → Session → ℕ
-left_in script s = cond s.killed 0 (weight script s.control)
+left_in script s = if s.killed then 0 else weight script s.control
 
 -- it has come so far by these entries, the newest first, each of which was due in its turn, and it was not killed
 pub record Follows (script : Script) (s : Session) (mine : Journal) : Type 0 where
@@ -40,9 +40,9 @@ is_ready script s = (is_settled script s.control && (not (needs_room s.control.q
 abbrev pub own_reply : Script → Journal → Act → Option Reply
 own_reply script mine Act.End = Some (Reply.Ended (outcome mine))
 own_reply script mine (Act.Find k) = Some (Reply.Row (row_of (held mine k)))
-own_reply script mine (Act.Persist k r) = Some (cond (is_some (held mine k) || is_in k (changes_in mine)) Reply.Known Reply.New)
-own_reply script mine (Act.Set k cells) = Some (cond (is_some (row_of (held mine k))) (set_unless (strategy script k.entity)) Reply.Unknown)
-own_reply script mine (Act.Remove k) = Some (cond (is_some (row_of (held mine k))) Reply.Removed Reply.Unknown)
+own_reply script mine (Act.Persist k r) = Some (if is_some (held mine k) || is_in k (changes_in mine) then Reply.Known else Reply.New)
+own_reply script mine (Act.Set k cells) = Some (if is_some (row_of (held mine k)) then set_unless (strategy script k.entity) else Reply.Unknown)
+own_reply script mine (Act.Remove k) = Some (if is_some (row_of (held mine k)) then Reply.Removed else Reply.Unknown)
 own_reply script mine Act.Clear = Some Reply.Cleared
 own_reply script mine _ = None
 

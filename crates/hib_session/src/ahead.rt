@@ -1,5 +1,5 @@
 // What is made ready before the act that is due is done: the acts that complete a transaction, however it ends.
-ghost use Rattle.std.specs.Prelude.{◌≡◌, filter, map, cond};
+ghost use Rattle.std.specs.Prelude.{◌≡◌, filter, map, if◌then◌else◌};
 ghost use Rattle.hib_session.specs.Ahead.{refused_act, is_kept, refused_of};
 
 use hib_base::{Act, Acts, Seq};
@@ -46,7 +46,7 @@ fn retain_kept(acts: &mut Vec<Act>)
 impl Ending {
     /// The acts after an end. It takes no memory.
     pub fn pick(self, committed: bool) -> Acts
-        ensures { result ≡ cond committed self.acts (refused_of self.acts) }
+        ensures { result ≡ (if committed then self.acts else refused_of self.acts) }
     {
         if committed {
             return self.acts;

@@ -1,5 +1,5 @@
 // What a session remembers of its own entries: its transaction's time, floor and changes, its locks and its instances.
-ghost use Rattle.std.specs.Prelude.{◌≡◌, ◌||◌, ◌∷◌, [], ◌++◌, IfOk, IfSome, IsOk, OnOk, true, not, Some, None, MatchOption, is_some, cond};
+ghost use Rattle.std.specs.Prelude.{◌≡◌, ◌||◌, ◌∷◌, [], ◌++◌, IfOk, IfSome, IsOk, OnOk, true, not, Some, None, MatchOption, is_some, if◌then◌else◌};
 ghost use Rattle.hib_journal.specs.Sessions.{Journal};
 ghost use Rattle.hib_journal.specs.Held.{pending};
 ghost use Rattle.hib_base.specs.declared.entries.Act.{Act};
@@ -220,7 +220,7 @@ impl Memory {
 
     /// The version that a lock on a key is to have: that of its base, if the base is fresh.
     fn lock_version(&self, key: &Key, version: Option<u32>) -> Option<u32>
-        ensures { result ≡ cond (is_key_in key.now self.now.fresh) version None }
+        ensures { result ≡ (if is_key_in key.now self.now.fresh then version else None) }
     {
         if is_among(&self.fresh, *key) {
             version

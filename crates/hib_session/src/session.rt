@@ -1,5 +1,5 @@
 // A session of a script.
-ghost use Rattle.std.specs.Prelude.{◌≡◌, ◌∷◌, ◌<◌, ◌≤◌, ◌||◌, cond, [], true, false, None, IfOk, IsOk, IfSome, OnOk, OnErr, Some, is_some, option_and_then};
+ghost use Rattle.std.specs.Prelude.{◌≡◌, ◌∷◌, ◌<◌, ◌≤◌, ◌||◌, if◌then◌else◌, [], true, false, None, IfOk, IsOk, IfSome, OnOk, OnErr, Some, is_some, option_and_then};
 ghost use Rattle.std.specs.Option.{option_copied};
 ghost use Rattle.hib_base.specs.declared.replies.Reply.{Reply};
 ghost use Rattle.hib_base.specs.declared.scripts.Script.{Script};
@@ -60,7 +60,7 @@ fn is_shown(held: &Held) -> bool
 
 /// The answer to a persist, by whether the key is known.
 fn persist_reply(known: bool) -> Reply
-    ensures { result ≡ cond known Reply.Known Reply.New }
+    ensures { result ≡ (if known then Reply.Known else Reply.New) }
 {
     if known { Reply::Known } else { Reply::New }
 }
@@ -238,8 +238,8 @@ impl Session {
     /// The answer to a persist.
     fn persisted(&self, key: Key) -> Reply
         ensures { (mine : Journal) → Knows self.now.memory mine
-            → result ≡ cond (is_some (held mine key) || is_in key (changes_in mine)) Reply.Known
-            Reply.New }
+            → result ≡ (if is_some (held mine key) || is_in key (changes_in mine) then Reply.Known
+            else Reply.New) }
     {
         persist_reply(self.memory.knows(key))
     }
@@ -258,8 +258,8 @@ impl Session {
     /// The answer to a set.
     fn set(&self, script: &Script, key: Key) -> Reply
         ensures { (mine : Journal) → Knows self.now.memory mine
-            → result ≡ cond (is_some (Rattle.hib_journal.specs.Legal.row_of (held mine key)))
-            (set_unless (strategy script.now key.entity)) Reply.Unknown }
+            → result ≡ (if is_some (Rattle.hib_journal.specs.Legal.row_of (held mine key))
+            then set_unless (strategy script.now key.entity) else Reply.Unknown) }
     {
         let entity = key.entity;
         if self.shows(key) {
@@ -272,8 +272,8 @@ impl Session {
     /// The answer to a remove.
     fn removed(&self, key: Key) -> Reply
         ensures { (mine : Journal) → Knows self.now.memory mine
-            → result ≡ cond (is_some (Rattle.hib_journal.specs.Legal.row_of (held mine key)))
-            Reply.Removed Reply.Unknown }
+            → result ≡ (if is_some (Rattle.hib_journal.specs.Legal.row_of (held mine key))
+            then Reply.Removed else Reply.Unknown) }
     {
         if self.shows(key) {
             Reply::Removed

@@ -1,5 +1,5 @@
 // The top call over the host's streams.
-ghost use Rattle.std.specs.Prelude.{◌≡◌, ◌≢◌, ◌↔◌, cond, false, length, IfOk, None};
+ghost use Rattle.std.specs.Prelude.{◌≡◌, ◌≢◌, ◌↔◌, if◌then◌else◌, false, length, IfOk, None};
 ghost use Rattle.std.specs.Option.{option_map_or};
 ghost use Rattle.hib_outside.specs.Causes.{Rose};
 ghost use Rattle.hib_top.specs.Words.{asked_in};
@@ -27,7 +27,7 @@ pub fn listeners_asked(
     command: &Option<Command>,
 ) -> Result<Vec<ErrorTrace>, AllocError>
     ensures { IfOk result (λ v. length v.items
-        ≡ cond (option_map_or (λ c. is_traced (asked_of c)) command.now false) 1 0) }
+        ≡ (if option_map_or (λ c. is_traced (asked_of c)) command.now false then 1 else 0)) }
 {
     let mut listeners = Vec::new(host.alloc());
     if let Some(command) = command {

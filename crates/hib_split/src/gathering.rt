@@ -1,5 +1,5 @@
 // The lists of parts put together, in the order of parts.
-ghost use Rattle.std.specs.Prelude.{◌≡◌, ◌≤◌, ◌+◌, ◌==◌, ◌∷◌, ◌++◌, ℕ, [], cond, map, reverse, false, vec_len, vec_capacity, IfOk, OnOk};
+ghost use Rattle.std.specs.Prelude.{◌≡◌, ◌≤◌, ◌+◌, ◌==◌, ◌∷◌, ◌++◌, ℕ, [], if◌then◌else◌, map, reverse, false, vec_len, vec_capacity, IfOk, OnOk};
 ghost use Rattle.hib_base.specs.declared.entries.Part.{Part};
 ghost use Rattle.hib_journal.specs.Kept.{past};
 ghost use Rattle.hib_journal.specs.Lists.{of_part};
@@ -122,8 +122,8 @@ fn is_number(number: usize, session: SessionNo) -> bool
 fn add_own(alloc: Global, own: &mut Journal, number: usize, entry: &Entry) -> Result<(), AllocError>
     ensures { OnOk result
         (past own.new
-        ≡ cond (same_part (Part.Own number) entry.now.part) (entry.now ∷ past own.old)
-        (past own.old)) }
+        ≡ (if same_part (Part.Own number) entry.now.part then entry.now ∷ past own.old
+        else past own.old)) }
 {
     match entry.part {
         Part::Own(session) if is_number(number, session) => own.push(entry.copy(alloc)?),

@@ -1,5 +1,5 @@
 -- When the list of a part, and that of a session, is legal by itself.
-use Rattle.std.specs.Prelude.{◌≡◌, ◌≤◌, ◌<◌, ◌+◌, ◌^◌, ℕ, Bool, true, false, [], ◌∷◌, Some, Option, unwrap_or, cond}
+use Rattle.std.specs.Prelude.{◌≡◌, ◌≤◌, ◌<◌, ◌+◌, ◌^◌, ℕ, Bool, true, false, [], ◌∷◌, Some, Option, unwrap_or, if◌then◌else◌}
 use Rattle.hib_base.specs.Tables.{Tables}
 use Rattle.hib_journal.specs.Types.{Act, Part, Entry, Script}
 use Rattle.hib_journal.specs.Sessions.{Journal, own, committed, last_tick}
@@ -68,7 +68,7 @@ pub record IsLegalApart (script : Script) (told : Option Tables) (h : Journal) :
 -- the entries of the store's list at which it may have asked the keeper
 abbrev pub store_ask_count : Journal → ℕ
 store_ask_count [] = 0
-store_ask_count (e ∷ l) = store_ask_count l + cond (asks (unsaved (unwrap_or e.session 0) l) e.act) 1 0
+store_ask_count (e ∷ l) = store_ask_count l + (if asks (unsaved (unwrap_or e.session 0) l) e.act then 1 else 0)
 
 -- the committed rows and the counts of a journal are those of the store's list
 pub record IsStoreAlone (h l : Journal) : Type 0 where

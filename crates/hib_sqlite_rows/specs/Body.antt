@@ -1,5 +1,5 @@
 -- The body of a row: the bytes of its cells. A byte with the number of cells, and then each cell.
-use Rattle.std.specs.Prelude.{◌≡◌, ◌≤◌, ℕ, zero, suc, true, false, cond, ◌==◌, nat_le, List, [], ◌∷◌, ◌++◌, length, take, drop, Some, None, Option, option_map, FitsSigned, All, ⊤}
+use Rattle.std.specs.Prelude.{◌≡◌, ◌≤◌, ℕ, zero, suc, true, false, if◌then◌else◌, ◌==◌, nat_le, List, [], ◌∷◌, ◌++◌, length, take, drop, Some, None, Option, option_map, FitsSigned, All, ⊤}
 use Rattle.std.specs.Int.{w64, to_be_bytes, from_be_bytes, cast_signed, cast_unsigned}
 use Rattle.hib_sqlite_rows.specs.Types.{Cell}
 use Rattle.hib_base.specs.declared.rows.Cell.TheVariants.{Int, Text, Bool as Truth}
@@ -8,7 +8,7 @@ use Rattle.hib_base.specs.declared.rows.Cell.TheVariants.{Int, Text, Bool as Tru
 abbrev pub packed_cell : Cell → List ℕ
 packed_cell (Int n) = 1 ∷ to_be_bytes w64 (cast_unsigned w64 n)
 packed_cell (Text t) = 2 ∷ length t ∷ t
-packed_cell (Truth b) = 3 ∷ cond b 1 0 ∷ []
+packed_cell (Truth b) = 3 ∷ (if b then 1 else 0) ∷ []
 
 abbrev pub packed_cells : List Cell → List ℕ
 packed_cells [] = []
@@ -37,20 +37,20 @@ abbrev pub IsBody : List ℕ → Type 0
 IsBody bytes = (cells : List Cell) × IsBodyOf cells bytes
 
 abbrev pub taken_number : List ℕ → Option (Cell × List ℕ)
-taken_number rest = cond (nat_le 8 (length rest)) (Some (Int (cast_signed w64 (from_be_bytes w64 (take 8 rest))), drop 8 rest)) None
+taken_number rest = if nat_le 8 (length rest) then Some (Int (cast_signed w64 (from_be_bytes w64 (take 8 rest))), drop 8 rest) else None
 
 abbrev pub taken_text : List ℕ → Option (Cell × List ℕ)
 taken_text [] = None
-taken_text (n ∷ rest) = cond (nat_le n (length rest)) (Some (Text (take n rest), drop n rest)) None
+taken_text (n ∷ rest) = if nat_le n (length rest) then Some (Text (take n rest), drop n rest) else None
 
 abbrev pub taken_truth : List ℕ → Option (Cell × List ℕ)
 taken_truth [] = None
-taken_truth (b ∷ rest) = cond (b == 0) (Some (Truth false, rest)) (cond (b == 1) (Some (Truth true, rest)) None)
+taken_truth (b ∷ rest) = if b == 0 then Some (Truth false, rest) else (if b == 1 then Some (Truth true, rest) else None)
 
 -- the first cell, and the bytes after it
 abbrev pub taken : List ℕ → Option (Cell × List ℕ)
 taken [] = None
-taken (tag ∷ rest) = cond (tag == 1) (taken_number rest) (cond (tag == 2) (taken_text rest) (cond (tag == 3) (taken_truth rest) None))
+taken (tag ∷ rest) = if tag == 1 then taken_number rest else (if tag == 2 then taken_text rest else (if tag == 3 then taken_truth rest else None))
 
 abbrev pub with_more : Option (Cell × List ℕ) → (List ℕ → Option (List Cell)) → Option (List Cell)
 with_more None more = None

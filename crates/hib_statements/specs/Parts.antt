@@ -1,5 +1,5 @@
 -- Keys, cells and pairs of columns and cells, from tokens.
-use Rattle.std.specs.Prelude.{ℕ, Bool, true, false, cond, not, ◌&&◌, ◌||◌, nat_le, nat_lt, List, [], ◌∷◌, ◌++◌, length, pos, Option, Some, None, is_none, option_map, Result, Ok, Err}
+use Rattle.std.specs.Prelude.{ℕ, Bool, true, false, if◌then◌else◌, not, ◌&&◌, ◌||◌, nat_le, nat_lt, List, [], ◌∷◌, ◌++◌, length, pos, Option, Some, None, is_none, option_map, Result, Ok, Err}
 pub use Rattle.hib_base.specs.Words.{has_name}
 use Rattle.hib_base.specs.declared.numbers.Key.{Key}
 use Rattle.hib_base.specs.declared.refusals.Kind.{Kind}
@@ -26,7 +26,7 @@ size_in _ = 0
 -- identifiers begin at 1
 abbrev pub key_in : Option ℕ → ℕ → Result Key Kind
 key_in None n = Err Kind.Unknown
-key_in (Some e) n = cond (nat_le 1 n) (Ok (record { entity = e; id = n })) (Err Kind.Number)
+key_in (Some e) n = if nat_le 1 n then Ok (record { entity = e; id = n }) else Err Kind.Number
 
 -- the key of a name and a number, or what is wrong with it
 abbrev pub key_of : List EntityDef → Token → Token → Result Key Kind
@@ -59,7 +59,7 @@ new_column p w c =
     at (record p { names = p.names ++ w ∷ []; taken = p.taken || has_name p.names w; unknown = p.unknown || is_none c }) (Awaited.Value c)
 
 abbrev pub with_column : List ColumnDef → Pairs → Token → Option Draft
-with_column ds p t = cond (is_a_word t) (new_column p (word_of t) (plain_column ds (word_of t))) None
+with_column ds p t = if is_a_word t then new_column p (word_of t) (plain_column ds (word_of t)) else None
 
 abbrev pub is_found : Option Found → Cell → Bool
 is_found None x = true
@@ -85,7 +85,7 @@ is_name _ = false
 
 -- one pair or more
 abbrev pub ended : Draft → Option Pairs
-ended d = cond (nat_lt 0 (length d.pairs.sets) && is_name d.awaited) (Some d.pairs) None
+ended d = if nat_lt 0 (length d.pairs.sets) && is_name d.awaited then Some d.pairs else None
 
 abbrev pub pairs_from : List ColumnDef → Option Draft → List Token → Option Pairs
 pairs_from ds None ts = None

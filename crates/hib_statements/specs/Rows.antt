@@ -1,6 +1,6 @@
 -- The row that a line gives, or the first thing that is wrong with it:
 -- row ENTITY ID vN CELL .. of a versioned entity, row ENTITY ID CELL .. of a plain one
-use Rattle.std.specs.Prelude.{ℕ, Bool, true, false, cond, ◌||◌, ◌==◌, nat_le, List, [], ◌∷◌, length, slice_get, Option, Some, None, Result, Ok, Err, ◌≡◌}
+use Rattle.std.specs.Prelude.{ℕ, Bool, true, false, if◌then◌else◌, ◌||◌, ◌==◌, nat_le, List, [], ◌∷◌, length, slice_get, Option, Some, None, Result, Ok, Err, ◌≡◌}
 use Rattle.std.specs.List.{list_any}
 use Rattle.hib_base.specs.Keys.{same_key}
 use Rattle.hib_base.specs.declared.numbers.Key.{Key}
@@ -20,17 +20,17 @@ use Rattle.hib_statements.specs.declared.rows.Told.{Told}
 -- ---- vN: the letter v and digits that don't begin with 0, or 0
 -- what is above the greatest version, however wide, counts as the next number
 abbrev pub capped : ℕ → ℕ
-capped n = cond (nat_le n 1000000) n 1000001
+capped n = if nat_le n 1000000 then n else 1000001
 
 abbrev pub is_natural : List ℕ → Bool
 is_natural ds = is_zero ds || is_positive ds
 
 abbrev pub size_named : List ℕ → Option ℕ
-size_named ds = cond (is_natural ds) (Some (capped (size_of ds))) None
+size_named ds = if is_natural ds then Some (capped (size_of ds)) else None
 
 abbrev pub version_word : List ℕ → Option ℕ
 version_word [] = None
-version_word (b ∷ bs) = cond (b == 118) (size_named bs) None
+version_word (b ∷ bs) = if b == 118 then size_named bs else None
 
 abbrev pub version_of : Token → Option ℕ
 version_of (Token.Word w) = version_word w
@@ -85,14 +85,14 @@ is_small_version (Some v) = nat_le v 1000000
 
 abbrev pub fitted_row : List ColumnDef → Key → Told → Result (Key × Row) Kind
 fitted_row ds k x =
-    cond (is_small_version x.version)
-    (cond (length ds == length x.cells)
-    (cond (are_typed ds x.cells) (Ok (k, record { version = x.version; cells = x.cells })) (Err Kind.CellType)) (Err Kind.Cells))
-    (Err Kind.Number)
+    if is_small_version x.version
+    then (if length ds == length x.cells
+    then (if are_typed ds x.cells then Ok (k, record { version = x.version; cells = x.cells }) else Err Kind.CellType) else Err Kind.Cells)
+    else Err Kind.Number
 
 abbrev pub row_from : List ColumnDef → List (Key × Row) → Result Key Kind → Told → Result (Key × Row) Kind
 row_from ds rows (Err k) x = Err k
-row_from ds rows (Ok key) x = cond (has_key rows key) (Err Kind.Taken) (fitted_row ds key x)
+row_from ds rows (Ok key) x = if has_key rows key then Err Kind.Taken else fitted_row ds key x
 
 abbrev pub row_told : List ColumnDef → List (Key × Row) → Result Key Kind → Option Told → Result (Key × Row) Kind
 row_told ds rows key None = Err Kind.Words
@@ -103,7 +103,7 @@ row_at_entity m rows e key ts = row_told (columns_of m e) rows key (told_in (ver
 
 abbrev pub row_parts : List EntityDef → List (Key × Row) → Token → Token → List Token → Result (Key × Row) Kind
 row_parts m rows name id ts =
-    cond (is_key name id) (row_at_entity m rows (entity_at m (word_of name)) (key_of m name id) ts) (Err Kind.Words)
+    if is_key name id then row_at_entity m rows (entity_at m (word_of name)) (key_of m name id) ts else Err Kind.Words
 
 -- the key and row of a line after these rows, or the first thing that is wrong with it
 abbrev pub row_of : List EntityDef → List (Key × Row) → List Token → Result (Key × Row) Kind

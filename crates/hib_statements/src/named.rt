@@ -1,7 +1,7 @@
 // The sessions that a script declares.
 ghost use Rattle.hib_statements.specs.Places.{or_place, place_of};
 ghost use Rattle.std.specs.List.{list_any};
-ghost use Rattle.std.specs.Prelude.{◌≡◌, ◌<◌, ◌∷◌, [], ◌++◌, OnOk, OnErr, bytes_eq, length, position, ℕ, List, cond, Some, None};
+ghost use Rattle.std.specs.Prelude.{◌≡◌, ◌<◌, ◌∷◌, [], ◌++◌, OnOk, OnErr, bytes_eq, length, position, ℕ, List, if◌then◌else◌, Some, None};
 ghost use Rattle.indexmap.specs.IndexMap.{insert_entry, spare};
 
 use hib_base::{Seq, SessionDef, Sessions};
@@ -43,7 +43,7 @@ fn note(places: &mut IndexMap<Vec<u8>, usize>, name: Vec<u8>, place: usize)
     requires { 0 < spare places.old }
     ensures { (w : List ℕ) → place_of w places.new.entries
         ≡ or_place (place_of w places.old.entries)
-        (cond (bytes_eq name.items w) (Some place) None) }
+        (if bytes_eq name.items w then Some place else None) }
 {
     if !places.contains_key(name.as_slice()) {
         put(places, name, place);

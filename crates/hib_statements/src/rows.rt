@@ -3,7 +3,7 @@ ghost use Rattle.hib_lex.specs.Tokens as digits_of;
 ghost use Rattle.hib_mapping.specs.Parts.{entity_at, word_of};
 ghost use Rattle.hib_statements.specs.Rows as told_rows;
 ghost use Rattle.std.specs.List.{list_all};
-ghost use Rattle.std.specs.Prelude.{◌≡◌, IfOk, IfErr, None, cond};
+ghost use Rattle.std.specs.Prelude.{◌≡◌, IfOk, IfErr, None, if◌then◌else◌};
 
 use crate::errors::StatementError;
 use crate::given::Given;
@@ -179,7 +179,7 @@ fn version_word(word: &[u8]) -> Option<u32>
 }
 
 fn version_digits(is_version: bool, digits: &[u8]) -> Option<u32>
-    ensures { result ≡ cond is_version (told_rows.size_named digits.now) None }
+    ensures { result ≡ (if is_version then told_rows.size_named digits.now else None) }
 {
     if is_version && is_natural(digits) {
         Some(size(digits))

@@ -1,5 +1,5 @@
 // The changes that sessions have written, by session.
-ghost use Rattle.std.specs.Prelude.{◌≡◌, ◌<◌, ◌++◌, ◌∷◌, ◌==◌, cond, ℕ, [], IfOk, OnOk, OnErr, option_copied};
+ghost use Rattle.std.specs.Prelude.{◌≡◌, ◌<◌, ◌++◌, ◌∷◌, ◌==◌, if◌then◌else◌, ℕ, [], IfOk, OnOk, OnErr, option_copied};
 ghost use Rattle.hib_base.specs.Keys.{same_key};
 ghost use Rattle.hib_base.specs.Tables.{last_on, row_left};
 ghost use Rattle.hib_store.specs.Stores.{changes_in, or_none};
@@ -54,8 +54,8 @@ fn add_first(
     requires { changes_in written.old.entries session ≡ [] }
     ensures ok { OnOk result ((s : ℕ)
         → changes_in written.new.entries s
-        ≡ cond (session == s) (changes_in written.old.entries s ++ change ∷ [])
-        (changes_in written.old.entries s)) }
+        ≡ (if session == s then changes_in written.old.entries s ++ change ∷ []
+        else changes_in written.old.entries s)) }
     ensures err { OnErr result (written.new.entries ≡ written.old.entries) }
 {
     let mut changes = Own::new(alloc);
@@ -73,8 +73,8 @@ pub fn add_change(
 ) -> Result<(), AllocError>
     ensures ok { OnOk result ((s : ℕ)
         → changes_in written.new.entries s
-        ≡ cond (session == s) (changes_in written.old.entries s ++ change ∷ [])
-        (changes_in written.old.entries s)) }
+        ≡ (if session == s then changes_in written.old.entries s ++ change ∷ []
+        else changes_in written.old.entries s)) }
     ensures err { OnErr result (written.new.entries ≡ written.old.entries) }
 {
     let Some(index) = written.get_index_of(&session) else {
@@ -86,7 +86,7 @@ pub fn add_change(
 /// Drops the changes of a session. It takes no memory.
 pub fn drop_session(written: &mut Written, session: SessionNo)
     ensures { (s : ℕ) → changes_in written.new.entries s
-        ≡ cond (session == s) [] (changes_in written.old.entries s) }
+        ≡ (if session == s then [] else changes_in written.old.entries s) }
 {
     written.swap_remove(&session);
 }

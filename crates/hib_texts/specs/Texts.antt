@@ -1,5 +1,5 @@
 -- The texts of cells, rows, names and keys, as bytes.
-use Rattle.std.specs.Prelude.{ℕ, ◌==◌, ◌||◌, Bool, true, false, cond, List, [], ◌∷◌, ◌++◌, slice_get, codes, flat_map, Some, None, Option}
+use Rattle.std.specs.Prelude.{ℕ, ◌==◌, ◌||◌, Bool, true, false, if◌then◌else◌, List, [], ◌∷◌, ◌++◌, slice_get, codes, flat_map, Some, None, Option}
 use Rattle.std.specs.List.{join_by}
 use Rattle.std.specs.Fmt.{decimal, signed_decimal}
 use Rattle.hib_base.specs.declared.numbers.Key.{Key}
@@ -15,7 +15,7 @@ use Rattle.hib_base.specs.declared.scripts.Script.{Script}
 
 -- a byte of a text, with a backslash before a quote and before a backslash
 abbrev pub escaped : ℕ → List ℕ
-escaped b = cond ((b == 34) || (b == 92)) (92 ∷ b ∷ []) (b ∷ [])
+escaped b = if (b == 34) || (b == 92) then 92 ∷ b ∷ [] else b ∷ []
 
 abbrev pub bool_text : Bool → List ℕ
 bool_text true = codes "true"

@@ -1,5 +1,5 @@
 -- The orders of a script's sessions, tried and told.
-use Rattle.std.specs.Prelude.{◌≡◌, ◌⊎◌, ◌≤◌, ◌^◌, ◌-◌, ◌||◌, ◌==◌, ℕ, Bool, true, false, cond, List, [], is_some, IfSome, Some, None, Option, Ok, Err}
+use Rattle.std.specs.Prelude.{◌≡◌, ◌⊎◌, ◌≤◌, ◌^◌, ◌-◌, ◌||◌, ◌==◌, ℕ, Bool, true, false, if◌then◌else◌, List, [], is_some, IfSome, Some, None, Option, Ok, Err}
 use Rattle.std.specs.Option.{option_map_or}
 use Rattle.hib_journal.specs.Types.{Key, Strategy, Script, Entry}
 use Rattle.hib_journal.specs.Next.{strategy}
@@ -32,7 +32,7 @@ use Rattle.hib_toolbox.specs.Reporting.{IsToldSo}
 -- the finding of a number, 1 to 5
 abbrev pub finding_numbered : ℕ → Finding
 finding_numbered n =
-    cond (n == 1) Finding.StaleHit (cond (n == 2) Finding.OldList (cond (n == 3) Finding.LostUpdate (cond (n == 4) Finding.UnsoundKey Finding.RefusedCommit)))
+    if n == 1 then Finding.StaleHit else (if n == 2 then Finding.OldList else (if n == 3 then Finding.LostUpdate else (if n == 4 then Finding.UnsoundKey else Finding.RefusedCommit)))
 
 -- the most orders that are tried
 abbrev pub limit_of : Option ℕ → ℕ
@@ -93,7 +93,7 @@ is_any f = is_there f Finding.StaleHit || is_there f Finding.OldList || is_there
 
 -- it is said if all was done
 abbrev pub IsSaid : Status → Option Explored → Said → Type 0
-IsSaid Status.Done (Some run) said = said ≡ cond (is_any run.told.findings) Said.Found Said.Nothing
+IsSaid Status.Done (Some run) said = said ≡ (if is_any run.told.findings then Said.Found else Said.Nothing)
 IsSaid _ _ said = said ≡ Said.Nothing
 
 -- ---- the command
@@ -121,10 +121,10 @@ pub record Shows (switches kills : ℕ) (at_most : Option ℕ) (finding : Findin
 
 -- nothing is written if it wasn't found
 abbrev pub shown_text : Finding → Explored → List ℕ
-shown_text finding run = cond (is_there run.told.findings finding) (printed run.script) []
+shown_text finding run = if is_there run.told.findings finding then printed run.script else []
 
 abbrev pub IsSaidOf : Finding → Status → Option Explored → Said → Type 0
-IsSaidOf finding Status.Done (Some run) said = said ≡ cond (is_there run.told.findings finding) Said.Nothing Said.Missing
+IsSaidOf finding Status.Done (Some run) said = said ≡ (if is_there run.told.findings finding then Said.Nothing else Said.Missing)
 IsSaidOf finding _ _ said = said ≡ Said.Nothing
 
 abbrev pub showing : ℕ → ℕ → Option ℕ → Finding → Command Script Explored
