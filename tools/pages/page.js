@@ -99,7 +99,7 @@ function start(runs, names) {
     const comparison = runs.length > 1 ? drawComparison(runs, names) : '';
     element('words').innerHTML = comparison + drawWords(run, shown.story, shown.only, shown.areAllTold) + drawHidden();
     element('head').innerHTML = head.html;
-    element('head').style.cssText = `height:${head.height}px;width:${pixels(layout.width)}px`;
+    element('head').style.cssText = `height:${head.height}px;width:${pixels(layout.width)}px;--slack:${-head.height % ROW + ROW}px`;
     picture.style.cssText = `height:${layout.height + 8}px;width:${pixels(layout.width)}px`;
     picture.innerHTML = drawPicture();
     element('top').innerHTML = drawTop();

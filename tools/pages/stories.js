@@ -23,12 +23,13 @@ function changesBetween(run, key, from, to) {
 }
 
 function tellChanges(steps, run, { script, entry }, { first, last, told }, old, fresh) {
-  const key = code(entry.key), all = run.commits.get(entry.key) || [], what = entry.part === 'members' ? 'What was listed' : `The row with ${old}`;
+  const key = code(entry.key), all = run.commits.get(entry.key) || [];
+  const aged = entry.part === 'members' ? 'What was listed' : `The row with ${old}`;
   for (const change of told) {
     const where = atNode(run.entries[change.at].node);
     const before = all[all.indexOf(change) - 1], anew = change.row && before && !before.row ? `inserts ${key} anew and ` : '';
     const what = change.row ? `${anew}commits ${change === last ? fresh : code(named(script, entry.key, change.row))}` : `deletes ${key} and commits`;
-    steps.add(change.at, `${code(change.by)}${where} ${what}.${change === first ? ` ${what} is old from here on.` : ''}`);
+    steps.add(change.at, `${code(change.by)}${where} ${what}.${change === first ? ` ${aged} is old from here on.` : ''}`);
   }
 }
 

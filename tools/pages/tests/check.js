@@ -81,6 +81,10 @@ function checkStory(file, run, story) {
   if (!loads || !commits || !has(read.keptAt) || last !== story.at) fail(file, `a part of the story is missing: ${story.head}`);
   const isOdd = !story.why || story.why === page.IMPOSSIBLE || places.some((at, k) => k && at <= places[k - 1]);
   if (isOdd) fail(file, `the story is odd: ${story.head} ${story.why} ${places}`);
+  const aged = story.steps.filter(({ text }) => text.includes('old from here on'));
+  if (!run.stale.has(story.at) || aged.some(({ text }) => !/\. (What was listed|The row with \S+( \S+)?.*|The list .*) is old from here on\.$|may be old from here on\.$/.test(text))) {
+    fail(file, `the story doesn't say what is old: ${aged.map(({ text }) => text).join(' ')}`);
+  }
   checkText(file, 'a story', story.head + story.why + story.steps.map(({ text }) => text).join());
 }
 
