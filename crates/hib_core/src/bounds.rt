@@ -5,19 +5,19 @@ ghost use Rattle.hib_base.specs.Valid.{is_valid};
 ghost use Rattle.hib_journal.specs.Types.{Script};
 ghost use Rattle.hib_journal.specs.Sessions.{Journal};
 ghost use Rattle.hib_journal.specs.Legal.{IsLegal};
-ghost use Rattle.hib_core.specs.Bound.{most_in, outside_count};
+ghost use Rattle.hib_core.specs.Bound.{max_entries, most_in, outside_count};
 
 use hib_base::Script;
 use hib_law::steps_are_in_order;
 use hib_session::entries_are_few;
 
-/// A legal journal has few entries beside the kills, evictions and restarts. So a run of a script within the limits has at most
-/// 150,000 entries, if no more of these came than its schedule has orders.
+/// A legal journal has few entries beside the kills, evictions and restarts. So a run of a script within the limits is short, if no more
+/// of these came than its schedule has orders.
 pub fn runs_are_short()
     ensures short { (script : Script) (told : Option Tables) (h : Journal) → IsLegal script told h
         → length h ≤ most_in script.sessions + outside_count h }
     ensures few { (script : Script) (told : Option Tables) (h : Journal) → is_valid script ≡ true
-        → IsLegal script told h → outside_count h ≤ length script.schedule → length h ≤ 150000 }
+        → IsLegal script told h → outside_count h ≤ length script.schedule → length h ≤ max_entries }
 {
     steps_are_in_order();
     entries_are_few();

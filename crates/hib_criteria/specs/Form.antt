@@ -16,6 +16,7 @@ use Rattle.hib_criteria.specs.declared.forms.Draft.{Draft}
 use Rattle.hib_criteria.specs.declared.forms.Form.{Form}
 use Rattle.hib_criteria.specs.declared.forms.Frame.{Frame}
 use Rattle.hib_base.specs.declared.scripts.Node.{Node}
+use Rattle.hib_base.specs.Valid.{max_cells, max_depth, max_limit, max_offset}
 use Rattle.hib_criteria.specs.declared.forms.Place.{Place}
 use Rattle.hib_criteria.specs.declared.forms.Test.{Test}
 
@@ -29,9 +30,9 @@ known f missing = record f { unknown = f.unknown || missing }
 abbrev pub chosen : Form → Option ℕ → Form
 chosen f e = record f { entity = e; unknown = f.unknown || is_none e }
 
--- the outermost condition has depth 1, and 16 is the greatest
+-- the outermost condition has depth 1
 abbrev pub deeper : Form → List Frame → Form
-deeper f fs = record f { deep = f.deep || nat_le 16 (length fs) }
+deeper f fs = record f { deep = f.deep || nat_le max_depth (length fs) }
 
 abbrev pub with_node : Form → Node → Form
 with_node f n = record f { nodes = f.nodes ++ n ∷ [] }
@@ -45,7 +46,7 @@ with_test f op c x =
 
 abbrev pub with_among : Form → Option Column → List Cell → Form
 with_among f c xs =
-    record f { nodes = f.nodes ++ Node.Among (path_or_first c) xs ∷ []; deep = f.deep || nat_lt 64 (length xs) }
+    record f { nodes = f.nodes ++ Node.Among (path_or_first c) xs ∷ []; deep = f.deep || nat_lt max_cells (length xs) }
 
 abbrev pub with_sort : Form → ℕ → Bool → Form
 with_sort f c desc = record f { order = f.order ++ record { column = c; desc = desc } ∷ [] }
@@ -180,12 +181,12 @@ step_sorted m f fs c t =
 abbrev pub step_offset : Form → List Frame → Token → Option Draft
 step_offset f fs t =
     if is_a_number t
-    then at (record f { offset = Some (number_up_to 1000000 t); bad_number = f.bad_number || not (is_within 0 1000000 t) }) fs Place.Clauses else None
+    then at (record f { offset = Some (number_up_to max_offset t); bad_number = f.bad_number || not (is_within 0 max_offset t) }) fs Place.Clauses else None
 
 abbrev pub step_limit : Form → List Frame → Token → Option Draft
 step_limit f fs t =
     if is_a_number t
-    then at (record f { limit = Some (number_up_to 200 t); bad_number = f.bad_number || not (is_within 1 200 t) }) fs Place.Clauses else None
+    then at (record f { limit = Some (number_up_to max_limit t); bad_number = f.bad_number || not (is_within 1 max_limit t) }) fs Place.Clauses else None
 
 abbrev pub select_column : Form → List Frame → Option Found → Option Draft
 select_column f fs c = at (record f { unknown = f.unknown || is_none c; select = Select.Column (place_or_first c) }) fs Place.Over

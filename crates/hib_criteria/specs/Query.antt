@@ -4,6 +4,7 @@ use Rattle.hib_base.specs.declared.refusals.Kind.{Kind}
 use Rattle.hib_base.specs.declared.scripts.Cond.{Cond}
 use Rattle.hib_base.specs.declared.scripts.EntityDef.{EntityDef}
 use Rattle.hib_base.specs.declared.scripts.Node.{Node}
+use Rattle.hib_base.specs.Valid.{default_limit}
 pub use Rattle.hib_base.specs.Queries.{parts_of, parts_in, Said, said}
 use Rattle.hib_lex.specs.declared.lexer.Token.{Token}
 use Rattle.hib_mapping.specs.Parts.{is_reserved}
@@ -74,7 +75,7 @@ said_by f = record {
   parts = f.nodes;
   order = f.order;
   offset = unwrap_or f.offset 0;
-  limit = unwrap_or f.limit 200;
+  limit = unwrap_or f.limit default_limit;
   select = f.select;
 }
 

@@ -4,7 +4,7 @@ use Rattle.std.specs.List.{list_all}
 use Rattle.hib_base.specs.Fits.{is_printable}
 use Rattle.hib_base.specs.declared.refusals.Kind.{Kind}
 use Rattle.hib_base.specs.declared.refusals.Refused.{Refused}
-use Rattle.hib_lex.specs.Tokens.{is_blank, tokens_of}
+use Rattle.hib_lex.specs.Tokens.{is_blank, max_line, tokens_of}
 use Rattle.hib_lex.specs.declared.lexer.Token.{Token}
 use Rattle.hib_lex.specs.declared.lines.Content.{Content}
 use Rattle.hib_lex.specs.declared.lines.Line.{Line}

@@ -1,6 +1,6 @@
 -- A part of a line, read at once.
 use Rattle.std.specs.Prelude.{◌≡◌, ℕ, suc, ◌<◌, ◌≤◌, Bool, true, false, if◌then◌else◌, not, ◌&&◌, ◌||◌, ◌==◌, nat_le, List, [], ◌∷◌, ◌++◌, length, drop, Option, Some, None}
-use Rattle.hib_lex.specs.Tokens.{Place, mark, backslash, is_end, scan_at, tokens_from}
+use Rattle.hib_lex.specs.Tokens.{Place, backslash, is_end, mark, max_text, scan_at, tokens_from}
 use Rattle.hib_lex.specs.declared.lexer.Token.{Token}
 
 -- the tokens of a line from the bytes that are left, where the scan stands between tokens
@@ -13,7 +13,7 @@ within ts text bs = tokens_from (scan_at ts (Place.Quoted text)) bs
 
 -- and just behind the mark that closes a quoted text
 abbrev pub behind : List Token → List ℕ → List ℕ → Option (List Token)
-behind ts text bs = if nat_le (length text) 200 then tokens_from (scan_at (ts ++ Token.Quoted text ∷ []) Place.Closed) bs else None
+behind ts text bs = if nat_le (length text) max_text then tokens_from (scan_at (ts ++ Token.Quoted text ∷ []) Place.Closed) bs else None
 
 -- the first bytes, so many of them, are read with these tokens more
 pub record IsPart (old new : List Token) (bytes : List ℕ) (size : ℕ) : Type 0 where

@@ -34,9 +34,17 @@ abbrev pub backslash : ℕ
 backslash = 92
 
 -- ---- lines
+-- the most bytes of one
+abbrev pub max_line : ℕ
+max_line = 4096
+
+-- the most bytes of a text
+abbrev pub max_text : ℕ
+max_text = 200
+
 -- what every line has to be, a skipped one too
 abbrev pub is_lexical : List ℕ → Bool
-is_lexical line = nat_le (length line) 4096 && list_all is_printable line
+is_lexical line = nat_le (length line) max_line && list_all is_printable line
 
 -- spaces alone, nothing, or a comment
 abbrev pub is_blank : List ℕ → Bool
@@ -129,11 +137,11 @@ abbrev pub step_bare : List Token → List ℕ → ℕ → Option Scan
 step_bare ts bs b =
     if is_end b then option_and_then (λ done. step_between done b) (with_bare ts bs) else scan_at ts (Place.Bare (bs ++ b ∷ []))
 
--- a backslash escapes, a mark ends a text of at most 200 bytes
+-- a backslash escapes, a mark ends a text
 abbrev pub step_quoted : List Token → List ℕ → ℕ → Option Scan
 step_quoted ts bs b =
     if b == backslash then scan_at ts (Place.Escaped bs)
-    else (if b == mark then (if nat_le (length bs) 200 then scan_at (ts ++ Token.Quoted bs ∷ []) Place.Closed else None)
+    else (if b == mark then (if nat_le (length bs) max_text then scan_at (ts ++ Token.Quoted bs ∷ []) Place.Closed else None)
     else scan_at ts (Place.Quoted (bs ++ b ∷ [])))
 
 abbrev pub step_escaped : List Token → List ℕ → ℕ → Option Scan

@@ -7,6 +7,7 @@ use Rattle.hib_base.specs.declared.scripts.ColumnType.{ColumnType}
 use Rattle.hib_base.specs.declared.scripts.EntityDef.{EntityDef}
 use Rattle.hib_base.specs.declared.scripts.Strategy.{Strategy}
 use Rattle.hib_base.specs.Fits.{has_default}
+use Rattle.hib_base.specs.Valid.{max_capacity, max_columns, max_entities}
 use Rattle.hib_lex.specs.Words.{is_the_word}
 use Rattle.hib_lex.specs.declared.lexer.Token.{Token}
 use Rattle.hib_mapping.specs.Cells.{cell_of, is_a_cell, is_cell_of}
@@ -34,7 +35,7 @@ strategy_of t =
 -- nothing is kept of an uncached entity
 abbrev pub is_capacity : Strategy → Token → Bool
 is_capacity Strategy.Uncached t = is_within 0 0 t
-is_capacity _ t = is_within 1 100000 t
+is_capacity _ t = is_within 1 max_capacity t
 
 abbrev pub strategy_kind : Option Strategy → Token → Option Kind
 strategy_kind None capacity = Some Kind.Strategy
@@ -46,7 +47,7 @@ or_no_columns followed None = if followed then None else Some Kind.NoColumns
 
 abbrev pub parts_kind : List EntityDef → Bool → Token → Token → Token → Option Kind
 parts_kind m followed name strategy capacity =
-    if nat_le 64 (length m) then Some Kind.ManyEntities
+    if nat_le max_entities (length m) then Some Kind.ManyEntities
     else (if is_some (entity_at m (word_of name)) then Some Kind.EntityTaken
     else or_no_columns followed (strategy_kind (strategy_of strategy) capacity))
 
@@ -62,7 +63,7 @@ entity_of (first ∷ name ∷ strategy ∷ versioning ∷ capacity ∷ []) =
       name = word_of name;
       strategy = unwrap_or (strategy_of strategy) Strategy.Uncached;
       versioned = is_versioned versioning;
-      capacity = number_up_to 100000 capacity;
+      capacity = number_up_to max_capacity capacity;
       columns = [];
     })
 entity_of _ = None
@@ -144,7 +145,7 @@ rest_kind m e ts = or_kind (type_kind m e (type_in ts)) (default_kind e.columns 
 -- what is wrong with a column line of this form after the entities m and the entity e, if anything
 abbrev pub column_kind : List EntityDef → EntityDef → List Token → Option Kind
 column_kind m e (first ∷ name ∷ ts) =
-    if nat_le 16 (length e.columns) then Some Kind.ManyColumns
+    if nat_le max_columns (length e.columns) then Some Kind.ManyColumns
     else (if is_some (column_at e.columns (word_of name)) then Some Kind.ColumnTaken else rest_kind m e ts)
 column_kind m e _ = None
 

@@ -6,6 +6,7 @@ use Rattle.hib_base.specs.declared.scripts.EntityDef.{EntityDef}
 use Rattle.hib_base.specs.declared.scripts.Order.{Order}
 use Rattle.hib_base.specs.declared.scripts.SessionDef.{SessionDef}
 use Rattle.hib_base.specs.Scripts.{is_cached_in}
+use Rattle.hib_base.specs.Valid.{max_steps}
 use Rattle.hib_lex.specs.Words.{begins}
 use Rattle.hib_lex.specs.declared.lexer.Token.{Token}
 use Rattle.hib_mapping.specs.Parts.{is_a_word, is_a_number, word_of, is_within, number_up_to, entity_at}
@@ -22,7 +23,7 @@ session_at ss w = option_and_then small32 (position (λ s. bytes_eq s.name w) ss
 -- ---- run SESSION N, of 1 to 1,000,000 steps
 abbrev pub run_from : Option ℕ → Token → Result Order Kind
 run_from None steps = Err Kind.Unknown
-run_from (Some s) steps = if is_within 1 1000000 steps then Ok (Order.Run s (number_up_to 1000000 steps)) else Err Kind.Number
+run_from (Some s) steps = if is_within 1 max_steps steps then Ok (Order.Run s (number_up_to max_steps steps)) else Err Kind.Number
 
 abbrev pub run_of : List SessionDef → List Token → Result Order Kind
 run_of ss (first ∷ name ∷ steps ∷ []) =

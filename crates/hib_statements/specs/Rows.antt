@@ -9,6 +9,7 @@ use Rattle.hib_base.specs.declared.rows.Cell.{Cell}
 use Rattle.hib_base.specs.declared.rows.Row.{Row}
 use Rattle.hib_base.specs.declared.scripts.ColumnDef.{ColumnDef}
 use Rattle.hib_base.specs.declared.scripts.EntityDef.{EntityDef}
+use Rattle.hib_base.specs.Valid.{max_version}
 use Rattle.hib_lex.specs.Tokens.{is_zero, is_positive, size_of}
 use Rattle.hib_lex.specs.declared.lexer.Token.{Token}
 use Rattle.hib_mapping.specs.Parts.{word_of, entity_at}
@@ -20,7 +21,7 @@ use Rattle.hib_statements.specs.declared.rows.Told.{Told}
 -- ---- vN: the letter v and digits that don't begin with 0, or 0
 -- what is above the greatest version, however wide, counts as the next number
 abbrev pub capped : ℕ → ℕ
-capped n = if nat_le n 1000000 then n else 1000001
+capped n = if nat_le n max_version then n else 1000001
 
 abbrev pub is_natural : List ℕ → Bool
 is_natural ds = is_zero ds || is_positive ds
@@ -81,7 +82,7 @@ has_key rows k = list_any (λ e. same_key e.0 k) rows
 -- at most 1,000,000
 abbrev pub is_small_version : Option ℕ → Bool
 is_small_version None = true
-is_small_version (Some v) = nat_le v 1000000
+is_small_version (Some v) = nat_le v max_version
 
 abbrev pub fitted_row : List ColumnDef → Key → Told → Result (Key × Row) Kind
 fitted_row ds k x =
