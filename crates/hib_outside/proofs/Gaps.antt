@@ -1,9 +1,8 @@
 -- Rows that are parted at a place: what is there, and what a change there leaves.
-use Rattle.std.proofs.Common.{◌≡◌, inl, inr, ℕ, zero, suc, ◌+◌, ◌-◌, ◌<◌, ◌≤◌, Bool, true, false, cond, not, [], ◌∷◌, ◌++◌, length, reverse, get_or, Ok, Err, Result, Some, None, Option, refl, sym, ap, ◌∙◌, subst, arith, append_assoc}
-use Rattle.std.proofs.lemmas.Bool.{both_ways}
-use Rattle.std.proofs.lemmas.List.{reverse-append, length-reverse, get_or-reverse, append-nil}
+use Rattle.std.proofs.Common.{◌≡◌, inl, inr, ℕ, suc, ◌-◌, ◌<◌, ◌≤◌, Bool, true, false, not, [], ◌∷◌, ◌++◌, length, reverse, get_or, Ok, Err, Result, refl, sym, ap, ◌∙◌, subst, arith, append_assoc}
+use Rattle.std.proofs.lemmas.List.{reverse-append, length-reverse, get_or-reverse}
 use Rattle.hib_base.specs.Keys.{same_key, is_before}
-use Rattle.hib_base.specs.Tables.{Tables, with_row, without_row, tables_with, is_first, in_order}
+use Rattle.hib_base.specs.Tables.{Tables, with_row, without_row, is_first, in_order}
 use Rattle.hib_base.proofs.Tables.{same_key_eq, Tested, tested}
 use Rattle.hib_outside.specs.Types.{Key, Row}
 use Rattle.hib_outside.specs.Places.{one_further, place_in}

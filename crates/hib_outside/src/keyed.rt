@@ -1,5 +1,5 @@
 //! Rows in order of keys: where a key's row stands, and how it is put there or taken out.
-ghost use Rattle.std.specs.Prelude.{◌≡◌, ◌+◌, ◌≤◌, ◌<◌, true, length, Err, MatchResult, vec_len, vec_capacity, option_copied};
+ghost use Rattle.std.specs.Prelude.{◌≡◌, ◌+◌, ◌≤◌, ◌<◌, true, length, Ok, Err, MatchResult, vec_len, vec_capacity, option_copied};
 ghost use Rattle.hib_base.specs.Keys.{same_key, is_before};
 ghost use Rattle.hib_base.specs.Tables.{in_order, row_at, with_row, without_row};
 ghost use Rattle.hib_outside.specs.Places.{place_in};
@@ -27,7 +27,44 @@ fn belongs_last(rows: &[(Key, Row)], key: &Key) -> bool
     count > 0 && comes_before(&rows[count - 1].0, key)
 }
 
-/// The place of a key's row, or else the place where it belongs. A search by halves, unless the key belongs behind all rows.
+/// Whether a key comes before the first row's, and so belongs before all rows.
+fn belongs_first(rows: &[(Key, Row)], key: &Key) -> bool
+    ensures { result ≡ true → place_in rows.now key.now ≡ Err 0 }
+{
+    !rows.is_empty() && comes_before(key, &rows[0].0)
+}
+
+/// Where a key's row stands if the identifiers of its entity follow one another without a gap. What is found doesn't
+/// depend on it.
+fn likely_place(rows: &[(Key, Row)], key: &Key) -> usize {
+    let mut from = 0;
+    let mut to = rows.len();
+    while from < to {
+        let middle = from + (to - from) / 2;
+        let here = &rows[middle].0;
+        if here.entity == key.entity {
+            return (middle as u64).wrapping_add(key.id.wrapping_sub(here.id)) as usize;
+        }
+        if here.entity.0 < key.entity.0 {
+            from = middle + 1;
+        } else {
+            to = middle;
+        }
+    }
+    rows.len()
+}
+
+/// Whether the row at a place, if there is one, is that of a key.
+fn stands_at(rows: &[(Key, Row)], key: &Key, at: usize) -> bool
+    requires { in_order rows.now ≡ true }
+    ensures place { result ≡ true → place_in rows.now key.now ≡ Ok at }
+    ensures within { result ≡ true → at < length rows.now }
+{
+    at < rows.len() && is_same(&rows[at].0, key)
+}
+
+/// The place of a key's row, or else the place where it belongs. A search by halves, unless the key belongs before or
+/// behind all rows, or the identifiers of its entity follow one another.
 pub fn find(rows: &[(Key, Row)], key: &Key) -> Result<usize, usize>
     requires { in_order rows.now ≡ true }
     ensures place { result ≡ place_in rows.now key.now }
@@ -35,6 +72,13 @@ pub fn find(rows: &[(Key, Row)], key: &Key) -> Result<usize, usize>
 {
     if belongs_last(rows, key) {
         return Err(rows.len());
+    }
+    if belongs_first(rows, key) {
+        return Err(0);
+    }
+    let likely = likely_place(rows, key);
+    if stands_at(rows, key, likely) {
+        return Ok(likely);
     }
     let mut low = 0;
     let mut high = rows.len();

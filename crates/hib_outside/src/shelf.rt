@@ -15,16 +15,6 @@ use hib_base::{Change, EntityDef, EntityNo, Key, Row, Rows, Seq, entity_columns}
 use indexmap::IndexMap;
 use std::alloc::{AllocError, Global};
 
-/// The row that a change leaves.
-fn row_left_by(change: &Change) -> Option<&Row>
-    ensures { option_copied result ≡ row_left change.now }
-{
-    match change {
-        Change::Insert { row, .. } | Change::Update { row, .. } => Some(row),
-        Change::Delete { .. } => None,
-    }
-}
-
 /// The change at the place that a key has, if it has one.
 fn last_change<'a>(
     batch: &'a [Change],
@@ -58,7 +48,7 @@ fn row_after<'a>(
         → option_copied result ≡ row_at (after_changes (take n batch.now) rows.now) key.now }
 {
     match last_change(batch, lasts, key) {
-        Some(change) => row_left_by(change),
+        Some(change) => change.row_left(),
         None => row_of(rows, key),
     }
 }

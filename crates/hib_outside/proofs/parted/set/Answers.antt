@@ -1,4 +1,4 @@
-use Rattle.std.proofs.Common.{◌≡◌, sym, ap, ◌∙◌}
+use Rattle.std.proofs.Common.{sym, ap, ◌∙◌}
 use Rattle.hib_base.specs.Tables.{Tables, tables_with}
 use Rattle.hib_outside.specs.Parted.{joined}
 use Rattle.hib_outside.proofs.Gaps.{row_set, row_taken}

@@ -6,7 +6,7 @@ use Rattle.hib_outside.proofs.shelf.row_after.Goals as goal
 
 pub returns-in-Some : goal.returns-in-Some
 returns-in-Some c = λ n h.
-    c.row_left_by.ensures
+    c.row_left.ensures
     ∙ ap (λ o. left_by o (row_at c.args.rows.now c.args.key.now)) (sym (ap option_copied c.in-Some.is) ∙ c.last_change.ensures)
     ∙ row_after_last c.args.batch.now n c.args.rows.now c.args.key.now c.args.lasts.now.entries h
 
