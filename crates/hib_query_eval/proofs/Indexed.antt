@@ -3,7 +3,7 @@ use Rattle.std.proofs.Common.{◌≡◌, ℕ, zero, suc, ◌+◌, ◌^◌, ◌<�
 use Rattle.std.proofs.lemmas.Bool.{true≢false, and_parts, eqb-true}
 use Rattle.std.proofs.lemmas.List.{drop_more}
 use Rattle.hib_base.specs.Keys.{same_key, is_before}
-use Rattle.hib_base.specs.Tables.{Tables, row_at, is_first, in_order, key_of, row_left, tables_with, after_change, after_changes, refusal, or_answer, commit_answer}
+use Rattle.hib_base.specs.Tables.{Tables, row_at, is_first, in_order, key_of, row_left, after_change, after_changes, refusal, or_answer, commit_answer}
 use Rattle.hib_base.proofs.Tables.{Tested, tested, same_key_eq, same_key_refl, row_at_change, row_at_other_change}
 use Rattle.hib_outside.proofs.Orders.{rest_in_order}
 use Rattle.hib_outside.proofs.Searches.{first_before, earlier}

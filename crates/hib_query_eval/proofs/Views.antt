@@ -9,13 +9,13 @@ use Rattle.std.proofs.lemmas.Bool.{true≢false}
 use Rattle.std.proofs.lemmas.List.{take_more, take_all}
 use Rattle.std.proofs.lemmas.List.Folds.{list_any-append}
 use Rattle.hib_base.specs.Keys.{same_key}
-use Rattle.hib_base.specs.Tables.{Tables, row_at, key_of, after_change, after_changes, last_on, or_change}
+use Rattle.hib_base.specs.Tables.{Tables, row_at, row_left, key_of, after_change, after_changes, last_on, or_change}
 use Rattle.hib_outside.proofs.Commits.{after_changes_push}
-use Rattle.hib_base.proofs.Tables.{Tested, tested, same_key_eq, left_by, row_at_changes}
+use Rattle.hib_base.proofs.Tables.{Tested, tested, same_key_eq, left_by, row_at_changes, row_at_change, row_at_other_change}
 use Rattle.hib_journal.specs.Types.{Key, Row, Change}
 use Rattle.hib_query_eval.specs.Found.{row_in}
 use Rattle.hib_query_eval.specs.declared.own.Laid.{Laid}
-use Rattle.hib_query_eval.specs.Views.{has_key, is_changed, Lays}
+use Rattle.hib_query_eval.specs.Views.{has_key, has_changed, is_changed, Lays}
 
 -- the derived order of keys
 abbrev pub key_cmp : Key → Key → Ordering
@@ -48,25 +48,53 @@ key_added ks new k f q =
     at true = refl
     at false = refl
 
--- one change more
-pub key_changed : (ks new : List Key) (cs : List Change) (c : Change) (k : Key) → k ≡ key_of c
-    → ((q : Key) → has_key new q ≡ has_key (k ∷ ks) q) → ((q : Key) → has_key ks q ≡ is_changed q cs)
-    → (q : Key) → has_key new q ≡ is_changed q (cs ++ c ∷ [])
-key_changed ks new cs c k f g h q =
-    g q ∙ (λ j. same_key (f j) q || h q j) ∙ swap (same_key (key_of c) q) (is_changed q cs) ∙ sym (list_any-append (λ d. same_key (key_of d) q) cs (c ∷ []))
-  where
-    swap : (a b : Bool) → (a || b) ≡ (b || (a || false))
-    swap true true = refl
-    swap true false = refl
-    swap false true = refl
-    swap false false = refl
+or_true : (b : Bool) → (b || true) ≡ true
+or_true true = refl
+or_true false = refl
 
-pub lays_more : (cs : List Change) (c : Change) (k : Key) (old new : Laid) → k ≡ key_of c
-    → ((q : Key) → has_key new.changed.keys q ≡ has_key (k ∷ old.changed.keys) q) → new.left ≡ after_change c old.left → Lays cs old → Lays (cs ++ c ∷ []) new
-lays_more cs c k old new f g e x = record {
-  keys = key_changed old.changed.keys new.changed.keys cs c k f g x.keys;
-  left = e ∙ ap (after_change c) x.left ∙ sym (after_changes_push cs c []);
-}
+or_false : (b : Bool) → (b || false) ≡ b
+or_false true = refl
+or_false false = refl
+
+-- one change more
+module _ (cs : List Change) (c : Change) (old new : Laid)
+    (gone : (q : Key) → has_key new.gone.keys q ≡ cond (is_some (row_left c)) (has_key old.gone.keys q) (has_key (key_of c ∷ old.gone.keys) q))
+    (left : new.left ≡ after_change c old.left) (x : Lays cs old) where
+  row_here : (q : Key) → same_key (key_of c) q ≡ true → row_at new.left q ≡ row_left c
+  row_here q s = ap (λ t. row_at t q) left ∙ row_at_change c old.left q s
+
+  row_elsewhere : (q : Key) → same_key (key_of c) q ≡ false → row_at new.left q ≡ row_at old.left q
+  row_elsewhere q s = ap (λ t. row_at t q) left ∙ row_at_other_change c old.left q s
+
+  changed_more : (q : Key) (b : Bool) → same_key (key_of c) q ≡ b → is_changed q (cs ++ c ∷ []) ≡ (is_changed q cs || (b || false))
+  changed_more q b s =
+      list_any-append (λ d. same_key (key_of d) q) cs (c ∷ []) ∙ ap (λ v. is_changed q cs || (v || false)) s
+
+  gone_elsewhere : (q : Key) → same_key (key_of c) q ≡ false → has_key new.gone.keys q ≡ has_key old.gone.keys q
+  gone_elsewhere q s = gone q ∙ ap (λ v. cond (is_some (row_left c)) (has_key old.gone.keys q) (v || has_key old.gone.keys q)) s ∙ alike (is_some (row_left c))
+    where
+      alike : (b : Bool) → cond b (has_key old.gone.keys q) (has_key old.gone.keys q) ≡ has_key old.gone.keys q
+      alike true = refl
+      alike false = refl
+
+  keys_more : (q : Key) → Tested (same_key (key_of c) q) → Tested (is_some (row_left c)) → has_changed new q ≡ is_changed q (cs ++ c ∷ [])
+  keys_more q (inl s) (inl r) =
+      ap (λ b. b || has_key new.gone.keys q) (ap is_some (row_here q s) ∙ r)
+      ∙ sym (changed_more q true s ∙ or_true (is_changed q cs))
+  keys_more q (inl s) (inr r) =
+      ap (λ b. b || has_key new.gone.keys q) (ap is_some (row_here q s) ∙ r)
+      ∙ gone q ∙ ap (λ b. cond b (has_key old.gone.keys q) (has_key (key_of c ∷ old.gone.keys) q)) r
+      ∙ ap (λ b. b || has_key old.gone.keys q) s
+      ∙ sym (changed_more q true s ∙ or_true (is_changed q cs))
+  keys_more q (inr s) r =
+      (λ i. is_some (row_elsewhere q s i) || gone_elsewhere q s i)
+      ∙ x.keys q ∙ sym (changed_more q false s ∙ or_false (is_changed q cs))
+
+  pub lays_more : Lays (cs ++ c ∷ []) new
+  lays_more = record {
+    keys = λ q. keys_more q (tested (same_key (key_of c) q)) (tested (is_some (row_left c)));
+    left = left ∙ ap (after_change c) x.left ∙ sym (after_changes_push cs c []);
+  }
 
 pub lays_next : (cs : List Change) (i : ℕ) (c : Change) (new : Laid) → i < length cs → c ≡ get_or cs i c → Lays (take i cs ++ c ∷ []) new → Lays (take (i + 1) cs) new
 lays_next cs i c new l e x = subst (λ ds. Lays ds new) (sym (take_more cs i c l ∙ ap (λ d. take i cs ++ d ∷ []) (sym e))) x
@@ -117,8 +145,8 @@ entry_same t u k h = row_in_at t k ∙ ap (with_key k) h ∙ sym (row_in_at u k)
 
 -- the rows among which a key's row stands
 module _ (rows : Tables) (cs : List Change) (laid : Laid) (x : Lays cs laid) where
-  pub row_left_there : (k : Key) → has_key laid.changed.keys k ≡ true → row_at laid.left k ≡ row_at (after_changes cs rows) k
+  pub row_left_there : (k : Key) → has_changed laid k ≡ true → row_at laid.left k ≡ row_at (after_changes cs rows) k
   row_left_there k h = ap (λ t. row_at t k) x.left ∙ row_changed k cs rows (sym (x.keys k) ∙ h)
 
-  pub row_kept_there : (k : Key) → has_key laid.changed.keys k ≡ false → row_at rows k ≡ row_at (after_changes cs rows) k
+  pub row_kept_there : (k : Key) → has_changed laid k ≡ false → row_at rows k ≡ row_at (after_changes cs rows) k
   row_kept_there k h = row_unchanged k cs rows (sym (x.keys k) ∙ h)

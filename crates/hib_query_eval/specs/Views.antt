@@ -1,9 +1,9 @@
 -- Changes laid over rows: which keys they change, and what they leave there.
-use Rattle.std.specs.Prelude.{◌≡◌, Bool, true, false, if◌then◌else◌, List, [], ◌∷◌, Some, None, Option}
+use Rattle.std.specs.Prelude.{◌≡◌, Bool, true, false, if◌then◌else◌, ◌||◌, List, [], ◌∷◌, Some, None, Option, is_some}
 use Rattle.std.specs.List.{list_any}
 use Rattle.hib_journal.specs.Types.{Key, Change}
 use Rattle.hib_base.specs.Keys.{same_key, is_before}
-use Rattle.hib_base.specs.Tables.{Tables, in_order, key_of, after_changes}
+use Rattle.hib_base.specs.Tables.{Tables, in_order, row_at, key_of, after_changes}
 use Rattle.hib_query_eval.specs.declared.own.Laid.{Laid}
 
 abbrev pub has_key : List Key → Key → Bool
@@ -19,16 +19,20 @@ comes_first rows [] = false
 comes_first [] (b ∷ bs) = true
 comes_first (a ∷ rows) (b ∷ bs) = is_before b.0 a.0
 
--- the rows whose keys are none of these, and others, in order of keys
-abbrev pub laid_over : List Key → Tables → Tables → Tables
-laid_over ks [] left = left
-laid_over ks (a ∷ rows) [] = if has_key ks a.0 then laid_over ks rows [] else a ∷ laid_over ks rows []
-laid_over ks (a ∷ rows) (b ∷ left) =
-    if is_before b.0 a.0 then b ∷ laid_over ks (a ∷ rows) left else (if has_key ks a.0 then laid_over ks rows (b ∷ left) else a ∷ laid_over ks rows (b ∷ left))
+-- the rows of whose keys something doesn't hold, and others, in order of keys
+abbrev pub laid_over : (Key → Bool) → Tables → Tables → Tables
+laid_over has [] left = left
+laid_over has (a ∷ rows) [] = if has a.0 then laid_over has rows [] else a ∷ laid_over has rows []
+laid_over has (a ∷ rows) (b ∷ left) =
+    if is_before b.0 a.0 then b ∷ laid_over has (a ∷ rows) left else (if has a.0 then laid_over has rows (b ∷ left) else a ∷ laid_over has rows (b ∷ left))
+
+-- whether a key has a row that is left, or is one of those that were deleted
+abbrev pub has_changed : Laid → Key → Bool
+has_changed laid k = is_some (row_at laid.left k) || has_key laid.gone.keys k
 
 -- the keys are those that are changed, and the rows are what the changes leave of none
 pub record Lays (changes : List Change) (laid : Laid) : Type 0 where
-  pub keys : (k : Key) → has_key laid.changed.keys k ≡ is_changed k changes
+  pub keys : (k : Key) → has_changed laid k ≡ is_changed k changes
   pub left : laid.left ≡ after_changes changes []
 
 -- nothing is laid if there are no changes

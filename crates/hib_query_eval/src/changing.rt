@@ -93,5 +93,5 @@ pub fn lay_one(
     let key = change.key();
     let found = keyed::row_of(rows.as_slice(), &key);
     columns::lay_over_all(alloc, columns, change, found)?;
-    set_row(alloc, rows, &key, columns::row_left(change))
+    set_row(alloc, rows, &key, change.row_left())
 }

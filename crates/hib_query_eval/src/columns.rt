@@ -2,7 +2,7 @@
 ghost use Rattle.std.specs.Prelude.{◌≡◌, ◌<◌, ◌^◌, ℕ, ◌&&◌, ◌||◌, not, true, false, IfOk, IfSome, OnOk, option_copied};
 ghost use Rattle.std.specs.Option.{option_map_or};
 ghost use Rattle.hib_base.specs.Keys.{same_key};
-ghost use Rattle.hib_base.specs.Tables.{Tables, in_order, row_at, row_left, key_of, after_change};
+ghost use Rattle.hib_base.specs.Tables.{Tables, in_order, row_at, key_of, after_change};
 ghost use Rattle.hib_journal.specs.Types.{Cell as CellSpec};
 ghost use Rattle.hib_journal.specs.Room.{key as key_at};
 ghost use Rattle.hib_journal.specs.Query.{same_cell};
@@ -126,18 +126,8 @@ fn lay_over(
 {
     let key = change.key();
     drop_cell(alloc, &mut one.places, one.entity, one.column, &key, found)?;
-    let left = row_left(change);
+    let left = change.row_left();
     add_cell(alloc, &mut one.places, one.entity, one.column, &key, left)
-}
-
-/// The row that a change leaves.
-pub fn row_left(change: &Change) -> Option<&Row>
-    ensures { option_copied result ≡ row_left change.now }
-{
-    match change {
-        Change::Insert { row, .. } | Change::Update { row, .. } => Some(row),
-        Change::Delete { .. } => None,
-    }
 }
 
 /// Lays a change over the places of columns' cells. The row that is there before the change is given.

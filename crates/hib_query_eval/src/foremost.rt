@@ -14,6 +14,7 @@ use crate::{listing, orders, searches};
 use hib_base::{Cell, Cond, Key, Op, Query, Row, Select, Sort};
 use std::alloc::{AllocError, Global};
 use std::collections::BTreeSet;
+use std::collections::btree_set::Range;
 
 /// The first column of a query's order. None if it has no order, or counts rows.
 fn first_sort(query: &Query) -> Option<&Sort>
@@ -120,55 +121,54 @@ fn start(alloc: Global, query: &Query, sort: &Sort) -> Result<Option<Value>, All
     }
 }
 
-/// The row at which a walk down a column has come to so many rows that a query lists. None if it doesn't come there in
-/// so many steps. If that is sure, the query lists each row from the first one on that it lists.
-fn reached_down<'a>(
-    query: &Query,
-    sort: &Sort,
-    places: &BTreeSet<Place>,
-    view: &'a View<'_>,
-    to: Value,
+/// How far a walk along a column goes: to so many rows that a query lists, in so many steps. If that is sure, the query
+/// lists each row from the first one on that it lists.
+#[derive(Clone, Copy)]
+struct Reach {
     most: usize,
     steps: usize,
     is_sure: bool,
-) -> Option<&'a (Key, Row)> {
-    let column = usize::from(sort.column);
-    let mut found = places::between(places, query.entity, column, Value::Least, to);
-    let mut left = most;
-    for _step in 0..steps {
-        let place = found.next_back()?;
-        if is_sure && left > 1 && left < most {
-            left -= 1;
-        } else if let Some(row) = searches::met_at(query, view, place.id) {
-            if left <= 1 {
-                return Some(row);
-            }
-            left -= 1;
-        }
-    }
-    None
 }
 
-/// The row at which a walk up a column has come to so many rows that a query lists. None if it doesn't come there in so
-/// many steps. If that is sure, the query lists each row from the first one on that it lists.
-fn reached_up<'a>(
+/// The places of a column from where a walk along its order begins, up to the column's end.
+fn ahead<'a>(
     query: &Query,
     sort: &Sort,
-    places: &BTreeSet<Place>,
-    view: &'a View<'_>,
-    from: Value,
-    most: usize,
-    steps: usize,
-    is_sure: bool,
-) -> Option<&'a (Key, Row)> {
+    places: &'a BTreeSet<Place>,
+    start: Option<Value>,
+) -> Range<'a, Place> {
     let column = usize::from(sort.column);
-    let mut found = places::between(places, query.entity, column, from, Value::Greatest);
-    let mut left = most;
-    for _step in 0..steps {
-        let place = found.next()?;
-        if is_sure && left > 1 && left < most {
+    if sort.desc {
+        let to = start.unwrap_or(Value::Greatest);
+        return places::between(places, query.entity, column, Value::Least, to);
+    }
+    let from = start.unwrap_or(Value::Least);
+    places::between(places, query.entity, column, from, Value::Greatest)
+}
+
+/// The next identifier of a walk, which goes down from the last place or up from the first one.
+fn next_id(found: &mut Range<'_, Place>, is_down: bool) -> Option<u64> {
+    if is_down {
+        return Some(found.next_back()?.id);
+    }
+    Some(found.next()?.id)
+}
+
+/// The row at which a walk along a column ends. None if it doesn't come so far.
+fn reached<'a>(
+    query: &Query,
+    view: &'a View<'_>,
+    found: Range<'_, Place>,
+    is_down: bool,
+    reach: &Reach,
+) -> Option<&'a (Key, Row)> {
+    let mut found = found;
+    let mut left = reach.most;
+    for _step in 0..reach.steps {
+        let id = next_id(&mut found, is_down)?;
+        if reach.is_sure && left > 1 && left < reach.most {
             left -= 1;
-        } else if let Some(row) = searches::met_at(query, view, place.id) {
+        } else if let Some(row) = searches::met_at(query, view, id) {
             if left <= 1 {
                 return Some(row);
             }
@@ -198,12 +198,13 @@ fn likely_last<'a>(
         Some(_) => false,
         None => true,
     };
-    if sort.desc {
-        let to = start.unwrap_or(Value::Greatest);
-        return Ok(reached_down(query, sort, places, view, to, most, steps, is_sure));
-    }
-    let from = start.unwrap_or(Value::Least);
-    Ok(reached_up(query, sort, places, view, from, most, steps, is_sure))
+    let found = ahead(query, sort, places, start);
+    let reach = Reach {
+        most,
+        steps,
+        is_sure,
+    };
+    Ok(reached(query, view, found, sort.desc, &reach))
 }
 
 /// Whether the places tell that no more rows than a number meet a query's condition.

@@ -1,19 +1,22 @@
 // A session's own changes, and what they leave.
-ghost use Rattle.std.specs.Prelude.{◌≡◌, ◌∷◌, ◌++◌, List, [], IfOk, IfSome, OnOk, OnErr, option_copied};
+ghost use Rattle.std.specs.Prelude.{◌≡◌, ◌∷◌, ◌++◌, List, [], true, if◌then◌else◌, is_some, IfOk, IfSome, OnOk, OnErr, option_copied};
+ghost use Rattle.hib_base.specs.Tables.{in_order, row_at, row_left, key_of};
 ghost use Rattle.hib_journal.specs.Types.{Change as ChangeSpec, Key as KeySpec};
-ghost use Rattle.hib_query_eval.specs.Views.{has_key, Lays};
+ghost use Rattle.hib_query_eval.specs.Views.{has_key, has_changed, Lays};
 
 use crate::index::Index;
 use crate::reading;
-use hib_base::{Change, Key, Query};
+use hib_base::{Change, Key, Query, Row};
+use hib_outside::keyed;
 use std::alloc::{AllocError, Global};
 use std::collections::BTreeSet;
 use std::marker::Model;
 
-/// The keys that changes change, and the index of the rows that they leave of none.
+/// What changes leave of no rows: the index of the rows, and the keys that were deleted. Each key that they change is
+/// one of these, or has a row here.
 #[derive(Drop)]
 pub struct Laid {
-    pub changed: BTreeSet<Key>,
+    pub gone: BTreeSet<Key>,
     pub left: Index,
 }
 
@@ -107,10 +110,10 @@ fn one_more(alloc: Global, laid: Laid, change: &Change) -> Result<Laid, AllocErr
     ensures { IfOk result (λ l. (cs : List ChangeSpec) → Lays cs laid
         → Lays (cs ++ change.now ∷ []) l) }
 {
-    let Laid { mut changed, left } = laid;
-    add_key(&mut changed, change.key())?;
+    let Laid { mut gone, left } = laid;
+    note_gone(&mut gone, change)?;
     let left = left.with_change(alloc, change)?;
-    Ok(Laid { changed, left })
+    Ok(Laid { gone, left })
 }
 
 /// What changes leave.
@@ -118,7 +121,7 @@ pub fn all_laid(alloc: Global, changes: &[Change]) -> Result<Laid, AllocError>
     ensures { IfOk result (Lays changes.now) }
 {
     let mut laid = Laid {
-        changed: BTreeSet::new(alloc),
+        gone: BTreeSet::new(alloc),
         left: Index::empty(alloc),
     };
     for change in changes {
@@ -127,12 +130,41 @@ pub fn all_laid(alloc: Global, changes: &[Change]) -> Result<Laid, AllocError>
     Ok(laid)
 }
 
+/// Whether a key is one of those that changes change.
+#[inline]
+pub fn is_changed(laid: &Laid, key: &Key) -> bool
+    ensures { result ≡ has_changed laid.now key.now }
+{
+    has_row(laid.left.as_slice(), key) || is_in(&laid.gone, key)
+}
+
+/// Whether a key has a row.
+#[inline]
+fn has_row(rows: &[(Key, Row)], key: &Key) -> bool
+    requires { in_order rows.now ≡ true }
+    ensures { result ≡ is_some (row_at rows.now key.now) }
+{
+    keyed::row_of(rows, key).is_some()
+}
+
 /// Whether a key is one of some.
 #[inline]
-pub fn is_in(keys: &BTreeSet<Key>, key: &Key) -> bool
+fn is_in(keys: &BTreeSet<Key>, key: &Key) -> bool
     ensures { result ≡ has_key keys.now.keys key.now }
 {
     keys.contains(key)
+}
+
+/// Adds the key of a change that leaves no row.
+fn note_gone(keys: &mut BTreeSet<Key>, change: &Change) -> Result<(), AllocError>
+    ensures { OnOk result ((k : KeySpec) → has_key keys.new.keys k
+        ≡ (if is_some (row_left change.now) then has_key keys.old.keys k
+        else has_key (key_of change.now ∷ keys.old.keys) k)) }
+{
+    match change {
+        Change::Insert { .. } | Change::Update { .. } => Ok(()),
+        Change::Delete { key, .. } => add_key(keys, *key),
+    }
 }
 
 fn add_key(keys: &mut BTreeSet<Key>, key: Key) -> Result<(), AllocError>

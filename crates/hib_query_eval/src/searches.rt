@@ -11,7 +11,7 @@ ghost use Rattle.hib_query_eval.specs.Covers.{HasLeft, HasMet};
 ghost use Rattle.hib_query_eval.specs.Enough.{first_of, is_listed, IsFirst, place_of, HasEntity};
 ghost use Rattle.hib_query_eval.specs.Found.{row_in, if_met};
 ghost use Rattle.hib_query_eval.specs.Places.{AreIndexes, has_id};
-ghost use Rattle.hib_query_eval.specs.Views.{is_changed, comes_first, laid_over, Lays};
+ghost use Rattle.hib_query_eval.specs.Views.{is_changed, has_changed, comes_first, laid_over, Lays};
 
 use crate::candidates::{candidates, is_wide};
 use crate::columns::Column;
@@ -21,7 +21,6 @@ use crate::{conditions, listing, reading};
 use hib_base::{Change, EntityNo, Key, Query, Row};
 use hib_outside::keyed;
 use std::alloc::{AllocError, Global};
-use std::collections::BTreeSet;
 
 /// The row of an identifier, if it meets a query's condition.
 pub fn met_at<'a>(query: &Query, view: &'a View<'_>, id: u64) -> Option<&'a (Key, Row)>
@@ -278,12 +277,12 @@ fn walked<'a>(
     query: &Query,
     rows: &'a [(Key, Row)],
     left: &'a [(Key, Row)],
-    changed: &BTreeSet<Key>,
+    laid: &Laid,
     view: &'a View<'_>,
     most: Option<usize>,
 ) -> Result<Vec<&'a (Key, Row)>, AllocError>
     ensures { IfOk result (λ v. map (λ r. r.now) v.items ≡ first_of most
-        (filter (is_listed query.now view.now) (laid_over changed.now.keys rows.now left.now))) }
+        (filter (is_listed query.now view.now) (laid_over (has_changed laid.now) rows.now left.now))) }
 {
     let mut met = Vec::new(alloc);
     let mut at = 0;
@@ -300,7 +299,7 @@ fn walked<'a>(
             behind += 1;
         } else {
             let row = &rows[at];
-            if listing::is_listed(query, view, row) && !own::is_in(changed, &row.0) {
+            if listing::is_listed(query, view, row) && !own::is_changed(laid, &row.0) {
                 met.push(row)?;
             }
             at += 1;
@@ -343,5 +342,5 @@ pub fn listed_over<'a>(
         return found(alloc, query, view, ids.as_slice());
     }
     let left = of_entity(laid.left.as_slice(), query.entity);
-    walked(alloc, query, own, left, &laid.changed, view, most)
+    walked(alloc, query, own, left, laid, view, most)
 }

@@ -65,7 +65,7 @@ impl<'a> View<'a> {
         ensures entry { row_in result.now key.now ≡ row_in self.now key.now }
     {
         match self.laid {
-            Some(laid) if own::is_in(&laid.changed, key) => laid.left.as_slice(),
+            Some(laid) if own::is_changed(laid, key) => laid.left.as_slice(),
             _ => self.rows,
         }
     }

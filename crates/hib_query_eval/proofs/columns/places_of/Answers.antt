@@ -1,4 +1,4 @@
-use Rattle.hib_query_eval.proofs.Indexed.{no_rows, one_row}
+use Rattle.hib_query_eval.proofs.Indexed.{one_row}
 use Rattle.hib_query_eval.proofs.columns.places_of.Goals as goal
 
 pub loop-row-preserved : goal.loop-row-preserved

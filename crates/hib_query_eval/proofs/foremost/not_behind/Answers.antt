@@ -1,4 +1,4 @@
-use Rattle.std.proofs.Common.{◌≡◌, ◌∙◌, not, ◌&&◌, None, Bool, ap, sym, refl}
+use Rattle.std.proofs.Common.{◌∙◌, not, ◌&&◌, None, Bool, ap, sym, refl}
 use Rattle.hib_journal.specs.Types.{Key, Row}
 use Rattle.hib_query_eval.specs.Enough.{is_listed}
 use Rattle.hib_query_eval.specs.Orders.{is_behind, is_alike}
