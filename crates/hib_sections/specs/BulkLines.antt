@@ -89,10 +89,6 @@ abbrev pub changing_in : Bool → List EntityDef → Option ℕ → List Token �
 changing_in true m e ts = set_in m e ts
 changing_in false m e ts = delete_in ts
 
--- ---- the lines of a section, at most
-abbrev pub max_bulks : ℕ
-max_bulks = 100
-
 -- ---- a line of this name, after so many others
 abbrev pub has_name : List ℕ → List SessionDef → Bool
 has_name w named = list_any (λ s. bytes_eq s.name w) named
@@ -101,7 +97,7 @@ abbrev pub with_parts : List EntityDef → ℕ → List ℕ → ℕ → BulkChan
 with_parts m count name e change (Err k) = Err k
 with_parts m count name e change (Ok ns) =
     if not (list_all (is_within (length m)) ns) then Err Kind.Unknown
-    else if nat_le max_bulks count then Err Kind.Many
+    else if nat_le 100 count then Err Kind.Many
     else Ok (record { name = name; entity = e; parts = ns; change = change })
 
 abbrev pub of_entity : List EntityDef → ℕ → List ℕ → ℕ → Changing → Result (List Node) Kind → Result BulkSaid Kind

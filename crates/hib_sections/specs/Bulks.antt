@@ -8,7 +8,6 @@ use Rattle.hib_base.specs.Scripts.{strategy_in, is_cached_in}
 use Rattle.hib_base.specs.declared.scripts.Order.{Order}
 use Rattle.hib_base.specs.declared.scripts.SessionDef.{SessionDef}
 use Rattle.hib_base.specs.declared.scripts.Strategy.{Strategy}
-use Rattle.hib_base.specs.Valid.{max_orders}
 use Rattle.hib_journal.specs.Query.{mentions}
 use Rattle.hib_bulk_law.specs.declared.bulks.BulkDef.{BulkDef}
 use Rattle.hib_lex.specs.Words.{begins}
@@ -17,7 +16,7 @@ use Rattle.hib_lex.specs.declared.lines.Line.{Line}
 use Rattle.hib_lex.specs.declared.lines.Lines.{Lines}
 use Rattle.hib_statements.specs.Orders.{order_of}
 use Rattle.hib_sections.specs.Before.{fault_before}
-use Rattle.hib_sections.specs.BulkLines.{BulkSaid, bulk_of, max_bulks, said_of}
+use Rattle.hib_sections.specs.BulkLines.{BulkSaid, bulk_of, said_of}
 use Rattle.hib_sections.specs.Sections.{actor, alone, at_line, names, unless_before}
 use Rattle.hib_sections.specs.declared.bulks.Place.{Place}
 use Rattle.hib_sections.specs.declared.bulks.Reading.{Reading}
@@ -53,7 +52,7 @@ after_lines m r ts =
 -- ---- a line of the schedule: it runs sessions and bulk lines alone
 abbrev pub with_order : Read → Result Order Kind → Result Read Kind
 with_order r (Err k) = Err k
-with_order r (Ok o) = if nat_le max_orders (length r.orders) then Err Kind.Many else Ok (record r { orders = r.orders ++ o ∷ [] })
+with_order r (Ok o) = if nat_le 20000 (length r.orders) then Err Kind.Many else Ok (record r { orders = r.orders ++ o ∷ [] })
 
 abbrev pub in_schedule : List EntityDef → Read → List Token → Result Read Kind
 in_schedule m r ts =
@@ -90,8 +89,8 @@ abbrev pub bulks_of : List EntityDef → List SessionDef → List Line → Lines
 bulks_of m sessions before behind = unless_before (fault_before m before) (ended behind.count (reading m (Ok (start sessions)) behind.lines))
 
 -- ---- what holds of lines that were read
--- there are few, each reads entities of the mapping alone, and what is cached is cached under soft locks
+-- there are at most 100, each reads entities of the mapping alone, and what is cached is cached under soft locks
 pub record AreFit (m : List EntityDef) (ds : List BulkDef) : Type 0 where
-  pub few : length ds ≤ max_bulks
+  pub few : length ds ≤ 100
   pub below : (i : ℕ) (d : BulkDef) → slice_get ds i ≡ Some d → (n : ℕ) → ((d.entity == n) || option_map_or (mentions n) d.condition false) ≡ true → n < length m
   pub strategies : (n : ℕ) → is_cached_in m n ≡ true → strategy_in (slice_get m n) ≡ Strategy.ReadWrite

@@ -6,7 +6,6 @@ use Rattle.hib_base.specs.declared.refusals.Kind.{Kind}
 use Rattle.hib_base.specs.declared.refusals.Refused.{Refused}
 use Rattle.hib_base.specs.declared.scripts.ColumnType.{ColumnType}
 use Rattle.hib_base.specs.declared.scripts.EntityDef.{EntityDef}
-use Rattle.hib_base.specs.Valid.{max_capacity}
 use Rattle.hib_lex.specs.Words.{begins}
 use Rattle.hib_lex.specs.declared.lexer.Token.{Token}
 use Rattle.hib_lex.specs.declared.lines.Line.{Line}
@@ -36,17 +35,13 @@ place_by c _ = None
 abbrev pub reference : List EntityDef → Option ℕ → List ℕ → Option ℕ
 reference m e w = option_and_then (λ f. place_by f.place f.kind) (plain_column (columns_of m e) w)
 
--- of one section
-abbrev pub max_collections : ℕ
-max_collections = 64
-
 abbrev pub at_column : List EntityDef → List Def → Token → ℕ → ℕ → Result Place Kind
 at_column m ds capacity e c =
     if has_column e c ds then Err Kind.Taken
-    else if not (is_within 1 max_capacity capacity) then Err Kind.Number
+    else if not (is_within 1 100000 capacity) then Err Kind.Number
     else if not (is_versioned m e) then Err Kind.Plain
-    else if nat_le max_collections (length ds) then Err Kind.Many
-    else Ok (record { entity = e; column = c; capacity = number_up_to max_capacity capacity })
+    else if nat_le 64 (length ds) then Err Kind.Many
+    else Ok (record { entity = e; column = c; capacity = number_up_to 100000 capacity })
 
 abbrev pub if_known : List EntityDef → List Def → Token → Option ℕ → Option ℕ → Result Place Kind
 if_known m ds capacity (Some e) (Some c) = at_column m ds capacity e c
@@ -117,7 +112,7 @@ abbrev pub IsWhere : {A : Type 0} → Result A Refused → SectionError → Type
 IsWhere r SectionError.NoMemory = Unit {0}
 IsWhere r (SectionError.Refused x) = r ≡ Err x
 
--- there are few, each of an entity whose rows have versions
+-- there are at most 64, each of an entity whose rows have versions
 pub record AreFit (m : List EntityDef) (ds : List Def) : Type 0 where
-  pub few : length ds ≤ max_collections
+  pub few : length ds ≤ 64
   pub versioned : list_all (λ d. is_versioned m d.entity) ds ≡ true

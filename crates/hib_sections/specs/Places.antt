@@ -8,7 +8,6 @@ use Rattle.hib_base.specs.declared.scripts.EntityDef.{EntityDef}
 use Rattle.hib_base.specs.declared.scripts.Order.{Order}
 use Rattle.hib_base.specs.declared.scripts.SessionDef.{SessionDef}
 use Rattle.hib_base.specs.declared.scripts.Strategy.{Strategy}
-use Rattle.hib_base.specs.Valid.{max_orders}
 use Rattle.hib_lex.specs.Words.{begins}
 use Rattle.hib_lex.specs.declared.lexer.Token.{Token}
 use Rattle.hib_lex.specs.declared.lines.Line.{Line}
@@ -83,7 +82,7 @@ deliver_of _ = Err Kind.Words
 
 abbrev pub with_order : Read → Result NodeOrder Kind → Result Read Kind
 with_order r (Err k) = Err k
-with_order r (Ok o) = if nat_le max_orders (length r.orders) then Err Kind.Many else Ok (record r { orders = r.orders ++ o ∷ [] })
+with_order r (Ok o) = if nat_le 20000 (length r.orders) then Err Kind.Many else Ok (record r { orders = r.orders ++ o ∷ [] })
 
 abbrev pub in_schedule : List EntityDef → List SessionDef → Read → List Token → Result Read Kind
 in_schedule m ss r ts =
@@ -136,5 +135,5 @@ pub record AreFit (m : List EntityDef) (ss : List SessionDef) (ps : Nodings) (os
   pub sessions : list_all (λ p. nat_lt p.0 (length ss)) ps ≡ true
   pub once : are_once ps ≡ true
   pub orders : list_all (is_given (length ss)) os ≡ true
-  pub few : length os ≤ max_orders
+  pub few : length os ≤ 20000
   pub strategies : (n : ℕ) → is_cached_in m n ≡ true → strategy_in (slice_get m n) ≡ Strategy.ReadWrite
