@@ -4,4 +4,5 @@ pub mod Members
 pub mod Kept
 pub mod Ticking
 pub mod Taking
+pub mod Passing
 pub mod Verdicts

@@ -1,5 +1,5 @@
 -- An entry is judged, and taken.
-use Rattle.std.specs.Prelude.{unwrap_or, option_map}
+use Rattle.std.specs.Prelude.{◌≤◌, ◌^◌, slice_get, unwrap_or, option_map}
 use Rattle.std.proofs.Common.{◌≡◌, ℕ, ◌<◌, ◌==◌, Bool, true, false, cond, List, ◌∷◌, length, IsSome, Some, None, Option, refl, sym, ap, ◌∙◌, subst, arith, inl, inr}
 use Rattle.std.proofs.lemmas.Bool.{true≢false}
 use Rattle.hib_base.specs.Tables.{Tables}
@@ -11,11 +11,14 @@ use Rattle.hib_journal.specs.Legal.{IsReply, IsStep, due_by, may_come, part_of, 
 use Rattle.hib_journal.specs.Lists.{entry_at, IsLate}
 use Rattle.hib_journal.specs.Runs.{is_fault}
 use Rattle.hib_outside.specs.Causes.{Rose}
-use Rattle.hib_session.specs.Session.{IsTaken, own_reply}
+use Rattle.hib_session.specs.declared.session.Session.{Session}
+use Rattle.hib_session.specs.Session.{Follows, IsTaken, number_of, own_reply}
 use Rattle.hib_engines.specs.Region.{is_regional, acts_on}
+use Rattle.hib_engines.specs.Served.{AreWithin}
 use Rattle.hib_session.specs.Sessions.{AreSessions}
 use Rattle.hib_engines.specs.Engines.{EnginesState, AreStanding, IsReady, IsAnswered}
-use Rattle.hib_audit.specs.Standing.{AreWritten, noted, IsJudged, IsComing, IsPartOf, IsSessionOf, AuditorState, Knows}
+use Rattle.hib_audit.specs.Breaks.{start_rows}
+use Rattle.hib_audit.specs.Standing.{AreWritten, HasWritten, WrittenState, noted, IsJudged, IsComing, IsDueOf, IsNext, IsPartOf, IsSessionOf, AuditorState, Knows}
 use Rattle.hib_engines.proofs.Allowed.{is_due}
 use Rattle.hib_session.proofs.OwnReplies.{own_is}
 use Rattle.hib_session.proofs.Killed.{none_killed}
@@ -91,6 +94,31 @@ session_within script h s e c p = due_within script h s e.act e.act (due_at scri
 
 pub inside_of : (script : Script) (h : Journal) (s : ℕ) (e : Entry) → IsComing script h e → e.session ≡ Some s → is_outside e.act ≡ false
 inside_of script h s e c p = (allowed_at script h e s c p).inside
+
+-- its session, and what that has written, stand at its place
+pub place_in : (script : Script) (h : Journal) (s : ℕ) (e : Entry) (x : AuditorState) → IsNext script h e x → e.session ≡ Some s → s < length x.sessions
+place_in script h s e x n p = subst (λ m. s < m) (sym n.known.sessions.all) (session_within script h s e n.coming p)
+
+pub written_in : (script : Script) (h : Journal) (s : ℕ) (e : Entry) (x : AuditorState) → IsNext script h e x → e.session ≡ Some s → s < length x.written
+written_in script h s e x n p = subst (λ m. s < m) (sym n.known.written.all) (session_within script h s e n.coming p)
+
+pub due_here : (script : Script) (h : Journal) (s : ℕ) (e : Entry) (x : AuditorState) (y : Session) (w : WrittenState) → IsNext script h e x → e.session ≡ Some s →
+    slice_get x.sessions s ≡ Some y → slice_get x.written s ≡ Some w → IsDueOf script h e y w x.engines
+due_here script h s e x y w n p q r = record {
+  ready = subst (λ m. IsReady script (Some (start_rows script)) h m e.tick e.act x.engines) (sym here) ready;
+  follows = subst (λ m. Follows script y (own m h)) (sym here) (n.known.sessions.follow s y q ready.live);
+  written = subst (λ m. HasWritten (changes m h) w) (sym here) (n.known.written.each s w r);
+}
+  where
+    ready : IsReady script (Some (start_rows script)) h s e.tick e.act x.engines
+    ready = ready_of script (start_rows script) h s e x n.known n.coming p
+
+    here : number_of y ≡ s
+    here = n.known.sessions.numbers s y q
+
+-- the tables that its act names are there
+pub tables_in : (script : Script) (h : Journal) (s : ℕ) (e : Entry) (x : AuditorState) → IsNext script h e x → e.session ≡ Some s → AreWithin (length x.engines.stamps) e.act
+tables_in script h s e x n p = subst (λ m. AreWithin m e.act) (sym n.known.engines.stamps.tables) (ready_of script (start_rows script) h s e x n.known n.coming p).due.known
 
 -- the session takes its entry
 own_or : (script : Script) (start : Tables) (h : Journal) (s now : ℕ) (a : Act) (r q : Reply) → IsReply script (Some start) h (entry_at now (Some s) a r) → own_reply script (own s h) a ≡ Some q → r ≡ q

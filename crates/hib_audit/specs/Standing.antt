@@ -10,11 +10,12 @@ use Rattle.hib_journal.specs.Legal.{IsLegal, IsReply, is_outside, due, may_come,
 use Rattle.hib_journal.specs.Lists.{entry_at}
 use Rattle.hib_journal.specs.Due.{IsAllowed}
 use Rattle.hib_session.specs.declared.session.Session.{Session}
+use Rattle.hib_session.specs.Session.{Follows, number_of}
 use Rattle.hib_session.specs.Sessions.{AreSessions}
 use Rattle.hib_engines.specs.Built.{IsBuilt}
-use Rattle.hib_engines.specs.Engines.{EnginesState, AreStanding, IsAnswered}
+use Rattle.hib_engines.specs.Engines.{EnginesState, AreStanding, IsAnswered, IsReady}
 use Rattle.hib_audit.specs.declared.points.AuditKind.{AuditKind}
-use Rattle.hib_audit.specs.Breaks.{Breaks}
+use Rattle.hib_audit.specs.Breaks.{Breaks, start_rows}
 
 -- ---- the ticks
 
@@ -145,6 +146,17 @@ abbrev pub IsJudged : Bool → Script → Tables → Journal → Option ℕ → 
 IsJudged true script start h by now a r y = IsAnswered script (Some start) h by now a r y
 IsJudged false script start h by now a r y = y.store.faults ≡ 0 → ¬ IsReply script (Some start) h (entry_at now by a r)
 
+-- the act of an entry is due in session y, which has written w, over entries that the engines stand for
+pub record IsDueOf (script : Script) (h : Journal) (e : Entry) (y : Session) (w : WrittenState) (x : EnginesState) : Type 0 where
+  pub ready : IsReady script (Some (start_rows script)) h (number_of y) e.tick e.act x
+  pub follows : Follows script y (own (number_of y) h)
+  pub written : HasWritten (changes (number_of y) h) w
+
+-- its reply was judged, over whatever entries that may be
+abbrev pub Judges : Bool → Script → Entry → Session → WrittenState → EnginesState → EnginesState → Type 0
+Judges b script e y w x z =
+    (h : Journal) → IsDueOf script h e y w x → IsJudged b script (start_rows script) h (Some (number_of y)) e.tick e.act e.reply z
+
 -- ---- all that is kept
 
 pub record AuditorState : Type 0 where
@@ -172,3 +184,25 @@ IsTakenOr false script start h e x = x.engines.store.faults ≡ 0 → ¬ IsReply
 abbrev pub IsPassed : Script → Tables → Journal → Entry → Option AuditKind → AuditorState → Type 0
 IsPassed script start h e None x = Knows script start (e ∷ h) x
 IsPassed script start h e (Some kind) x = x.engines.store.faults ≡ 0 → Breaks script start h e kind
+
+-- ---- the same of whatever entries are kept
+
+-- all that is kept stands for some entries
+abbrev pub IsKept : Script → AuditorState → Type 0
+IsKept script x = (h : Journal) × Knows script (start_rows script) h x
+
+-- an entry comes after entries that all that is kept stands for
+pub record IsNext (script : Script) (h : Journal) (e : Entry) (x : AuditorState) : Type 0 where
+  pub known : Knows script (start_rows script) h x
+  pub coming : IsComing script h e
+
+abbrev pub Comes : Script → Entry → AuditorState → Type 0
+Comes script e x = (h : Journal) × IsNext script h e x
+
+-- the entry was taken, or its reply may not be, after whatever entries it comes
+abbrev pub Takes : Bool → Script → Entry → AuditorState → AuditorState → Type 0
+Takes b script e x y = (h : Journal) → IsNext script h e x → IsTakenOr b script (start_rows script) h e y
+
+-- the entry was taken, or it breaks this point, over whatever entries are kept
+abbrev pub Passes : Option AuditKind → Script → Entry → AuditorState → AuditorState → Type 0
+Passes o script e x y = (h : Journal) → Knows script (start_rows script) h x → IsPassed script (start_rows script) h e o y

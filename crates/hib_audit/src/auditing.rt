@@ -27,7 +27,7 @@ fn first_bad(
         → IsVerdict script.now (start_rows script.now) (reverse entries.now) a) }
 {
     for at in 0..entries.len() {
-        if let Some(kind) = auditor.pass(alloc, script, &entries[..at], &entries[at])? {
+        if let Some(kind) = auditor.pass(alloc, script, &entries[at])? {
             let entry = at as u32 + 1;
             return Ok(Audit::Illegal { entry, kind });
         }

@@ -1,13 +1,12 @@
 // What is kept of the entries so far, and one entry more.
-ghost use Rattle.std.specs.Prelude.{◌≡◌, ◌↔◌, ◌≤◌, ◌<◌, ◌^◌, [], IsTrue, length, reverse, true, IfOk, Some, None};
+ghost use Rattle.std.specs.Prelude.{◌≡◌, ◌↔◌, ◌≤◌, ◌<◌, ◌^◌, [], IsTrue, length, true, IfOk, Some, None};
+ghost use Rattle.hib_base.specs.Valid.{is_valid};
 ghost use Rattle.hib_base.specs.declared.entries.Act.{Act};
 ghost use Rattle.hib_base.specs.declared.replies.Reply.{Reply};
-ghost use Rattle.hib_journal.specs.Sessions.{own, changes};
-ghost use Rattle.hib_base.specs.Valid.{is_valid};
-ghost use Rattle.hib_session.specs.Session.{Follows, number_of};
-ghost use Rattle.hib_engines.specs.Engines.{IsReady};
+ghost use Rattle.hib_base.specs.declared.scripts.Script.{Script as Said};
+ghost use Rattle.hib_engines.specs.Served.{AreWithin};
 ghost use Rattle.hib_audit.specs.Breaks.{start_rows};
-ghost use Rattle.hib_audit.specs.Standing.{HasWritten, IsComing, IsJudged, Knows, IsTakenOr, IsPassed};
+ghost use Rattle.hib_audit.specs.Standing.{Comes, IsKept, Judges, Knows, Passes, Takes};
 
 use crate::keeper::Unfailing;
 use crate::points::{AuditKind, difference, due_act};
@@ -50,22 +49,15 @@ fn answers(
     engines: &mut Engines<Unfailing>,
     session: &Session,
     written: &Written,
-    before: &[Entry],
     entry: &Entry,
 ) -> Result<bool, AllocError>
     requires late { entry.now.tick ≤ 2 ^ 62 }
+    requires tables { AreWithin (length engines.old.stamps) entry.now.act }
+    requires entities { length engines.old.stamps ≡ length script.now.mapping }
     requires mapping { length script.now.mapping < 2 ^ 16 }
-    requires ready { IsReady script.now (Some (start_rows script.now)) (reverse before.now)
-        (number_of session.now) entry.now.tick entry.now.act engines.old }
-    requires follows { Follows script.now session.now
-        (own (number_of session.now) (reverse before.now)) }
-    requires written { HasWritten (changes (number_of session.now) (reverse before.now))
-        written.now }
-    ensures { IfOk result (λ b. IsJudged b script.now (start_rows script.now) (reverse before.now)
-        (Some (number_of session.now)) entry.now.tick entry.now.act entry.now.reply
+    ensures { IfOk result (λ b. Judges b script.now entry.now session.now written.now engines.old
         engines.new) }
 {
-    let _ = before;
     if written.may_fail(&entry.act, &entry.reply) {
         engines.fail(session.number(), &entry.act);
         return Ok(true);
@@ -114,45 +106,30 @@ impl Auditor {
         alloc: Global,
         script: &Script,
         number: SessionNo,
-        before: &[Entry],
         entry: &Entry,
     ) -> Result<bool, AllocError>
-        requires known { Knows script.now (start_rows script.now) (reverse before.now) self.old }
-        requires coming { IsComing script.now (reverse before.now) entry.now }
+        requires coming { Comes script.now entry.now self.old }
         requires by { entry.now.session ≡ Some number }
-        ensures { IfOk result (λ b. IsTakenOr b script.now (start_rows script.now)
-            (reverse before.now) entry.now self.new) }
+        ensures { IfOk result (λ b. Takes b script.now entry.now self.old self.new) }
     {
         let at = number.0 as usize;
         let session = &self.sessions[at];
         let written = &self.written[at];
-        let engines = &mut self.engines;
-        if !answers(alloc, script, engines, session, written, before, entry)? {
+        if !answers(alloc, script, &mut self.engines, session, written, entry)? {
             return Ok(false);
         }
-        advance(alloc, script, &mut self.sessions, number, before, entry)?;
-        note_written(alloc, script, &mut self.written, number, before, entry)?;
+        advance(alloc, script, &mut self.sessions, number, entry)?;
+        note_written(alloc, &mut self.written, number, entry)?;
         self.ticks.note(entry);
         Ok(true)
     }
 
     /// Takes the entry of a kill, which may come, if its reply may be.
-    fn take_kill(
-        &mut self,
-        script: &Script,
-        session: SessionNo,
-        before: &[Entry],
-        entry: &Entry,
-    ) -> bool
-        requires known { Knows script.now (start_rows script.now) (reverse before.now) self.old }
-        requires coming { IsComing script.now (reverse before.now) entry.now }
+    fn take_kill(&mut self, session: SessionNo, entry: &Entry) -> bool
         requires by { entry.now.session ≡ None }
         requires act { entry.now.act ≡ Act.Kill session }
-        ensures { IsTakenOr result script.now (start_rows script.now)
-            (reverse before.now) entry.now self.new }
+        ensures { (script : Said) → Takes result script entry.now self.old self.new }
     {
-        let _ = script;
-        let _ = before;
         if !is_done(&entry.reply) {
             return false;
         }
@@ -163,16 +140,11 @@ impl Auditor {
     }
 
     /// Takes the entry of a restart, if its reply may be.
-    fn take_restart(&mut self, script: &Script, before: &[Entry], entry: &Entry) -> bool
-        requires known { Knows script.now (start_rows script.now) (reverse before.now) self.old }
-        requires coming { IsComing script.now (reverse before.now) entry.now }
+    fn take_restart(&mut self, entry: &Entry) -> bool
         requires by { entry.now.session ≡ None }
         requires act { entry.now.act ≡ Act.Restart }
-        ensures { IsTakenOr result script.now (start_rows script.now)
-            (reverse before.now) entry.now self.new }
+        ensures { (script : Said) → Takes result script entry.now self.old self.new }
     {
-        let _ = script;
-        let _ = before;
         if !is_done(&entry.reply) {
             return false;
         }
@@ -183,23 +155,12 @@ impl Auditor {
     }
 
     /// Takes the entry of an eviction, which may come, if its reply may be.
-    fn take_evict(
-        &mut self,
-        alloc: Global,
-        script: &Script,
-        key: Key,
-        before: &[Entry],
-        entry: &Entry,
-    ) -> Result<bool, AllocError>
-        requires known { Knows script.now (start_rows script.now) (reverse before.now) self.old }
-        requires coming { IsComing script.now (reverse before.now) entry.now }
+    fn take_evict(&mut self, alloc: Global, key: Key, entry: &Entry) -> Result<bool, AllocError>
+        requires late { entry.now.tick ≤ 2 ^ 62 }
         requires by { entry.now.session ≡ None }
         requires act { entry.now.act ≡ Act.Evict key }
-        ensures { IfOk result (λ b. IsTakenOr b script.now (start_rows script.now)
-            (reverse before.now) entry.now self.new) }
+        ensures { IfOk result (λ b. (script : Said) → Takes b script entry.now self.old self.new) }
     {
-        let _ = script;
-        let _ = before;
         let reply = self.engines.evict(alloc, key, entry.tick)?;
         if !is_same_reply(&reply, &entry.reply) {
             return Ok(false);
@@ -209,25 +170,17 @@ impl Auditor {
     }
 
     /// Takes an entry, whose act is due, if its reply may be.
-    fn take(
-        &mut self,
-        alloc: Global,
-        script: &Script,
-        before: &[Entry],
-        entry: &Entry,
-    ) -> Result<bool, AllocError>
-        requires known { Knows script.now (start_rows script.now) (reverse before.now) self.old }
-        requires coming { IsComing script.now (reverse before.now) entry.now }
-        ensures { IfOk result (λ b. IsTakenOr b script.now (start_rows script.now)
-            (reverse before.now) entry.now self.new) }
+    fn take(&mut self, alloc: Global, script: &Script, entry: &Entry) -> Result<bool, AllocError>
+        requires { Comes script.now entry.now self.old }
+        ensures { IfOk result (λ b. Takes b script.now entry.now self.old self.new) }
     {
         if let Some(number) = entry.session {
-            return self.take_session(alloc, script, number, before, entry);
+            return self.take_session(alloc, script, number, entry);
         }
         match &entry.act {
-            Act::Kill { session } => Ok(self.take_kill(script, *session, before, entry)),
-            Act::Restart => Ok(self.take_restart(script, before, entry)),
-            Act::Evict { key } => self.take_evict(alloc, script, *key, before, entry),
+            Act::Kill { session } => Ok(self.take_kill(*session, entry)),
+            Act::Restart => Ok(self.take_restart(entry)),
+            Act::Evict { key } => self.take_evict(alloc, *key, entry),
             // No other act comes from outside.
             _ => unreachable!(),
         }
@@ -238,25 +191,22 @@ impl Auditor {
         &mut self,
         alloc: Global,
         script: &Script,
-        before: &[Entry],
         entry: &Entry,
     ) -> Result<Option<AuditKind>, AllocError>
-        requires { Knows script.now (start_rows script.now) (reverse before.now) self.old }
-        ensures { IfOk result (λ o. IsPassed script.now (start_rows script.now)
-            (reverse before.now) entry.now o self.new) }
+        requires { IsKept script.now self.old }
+        ensures { IfOk result (λ o. Passes o script.now entry.now self.old self.new) }
     {
         if !self.ticks.is_after(entry) {
             return Ok(Some(AuditKind::Tick));
         }
-        let Some(due) = due_act(alloc, script, self.sessions.as_slice(), before, entry)? else {
+        let Some(due) = due_act(alloc, script, self.sessions.as_slice(), entry)? else {
             return Ok(Some(AuditKind::Session));
         };
-        let registry = self.engines.registry();
-        let difference = difference(script, registry, &due, before, entry);
+        let difference = difference(script, self.engines.registry(), &due, entry);
         if difference.is_some() {
             return Ok(difference);
         }
-        if self.take(alloc, script, before, entry)? {
+        if self.take(alloc, script, entry)? {
             return Ok(None);
         }
         Ok(Some(AuditKind::Reply))

@@ -1,7 +1,7 @@
 // The points of an entry, but for its tick and its reply.
-ghost use Rattle.std.specs.Prelude.{◌≡◌, reverse, IfOk, IfSome, Some, None, if◌then◌else◌};
+ghost use Rattle.std.specs.Prelude.{◌≡◌, IfOk, IfSome, Some, None, if◌then◌else◌};
 ghost use Rattle.hib_base.specs.declared.entries.Act.{Act};
-ghost use Rattle.hib_journal.specs.Sessions.{own, is_open};
+ghost use Rattle.hib_journal.specs.Sessions.{Journal, own, is_open};
 ghost use Rattle.hib_journal.specs.Legal;
 ghost use Rattle.hib_journal.specs.Legal.{due_by, may_come};
 ghost use Rattle.hib_journal.specs.Due.{IsAllowed};
@@ -37,16 +37,13 @@ fn session_act(
     alloc: Global,
     script: &Script,
     sessions: &[Session],
-    before: &[Entry],
     number: SessionNo,
 ) -> Result<Option<Act>, AllocError>
-    requires { AreSessions script.now (reverse before.now) sessions.now }
-    ensures due { IfOk result (λ o. (a : Act)
-        → o ≡ due_by script.now (reverse before.now) (Some number) a) }
-    ensures allowed { IfOk result (λ o. IfSome o
-        (IsAllowed script.now number (own number (reverse before.now)))) }
+    ensures due { IfOk result (λ o. (h : Journal) → AreSessions script.now h sessions.now
+        → (a : Act) → o ≡ due_by script.now h (Some number) a) }
+    ensures allowed { IfOk result (λ o. (h : Journal) → AreSessions script.now h sessions.now
+        → IfSome o (IsAllowed script.now number (own number h))) }
 {
-    let _ = before;
     match sessions.get(number.0 as usize) {
         Some(session) => {
             let act = session.next_act(alloc, script)?;
@@ -71,27 +68,24 @@ pub fn due_act(
     alloc: Global,
     script: &Script,
     sessions: &[Session],
-    before: &[Entry],
     entry: &Entry,
 ) -> Result<Option<Act>, AllocError>
-    requires { AreSessions script.now (reverse before.now) sessions.now }
-    ensures due { IfOk result (λ o. o ≡ Legal.due script.now (reverse before.now) entry.now) }
-    ensures allowed { IfOk result (λ o. IfSome o
-        (IsAllowedFor script.now (reverse before.now) entry.now.session)) }
+    ensures due { IfOk result (λ o. (h : Journal) → AreSessions script.now h sessions.now
+        → o ≡ Legal.due script.now h entry.now) }
+    ensures allowed { IfOk result (λ o. (h : Journal) → AreSessions script.now h sessions.now
+        → IfSome o (IsAllowedFor script.now h entry.now.session)) }
 {
     match entry.session {
-        Some(number) => session_act(alloc, script, sessions, before, number),
+        Some(number) => session_act(alloc, script, sessions, number),
         None => outside_act(alloc, &entry.act),
     }
 }
 
 /// Whether an act may come: a kill is of an open session, and an eviction of a cached entity.
-fn comes(script: &Script, registry: &Registry, before: &[Entry], act: &Act) -> bool
-    requires { IsRegistry registry.now (reverse before.now) }
-    ensures { may_come script.now (reverse before.now) (Some act.now)
-        ≡ (if result then Some act.now else None) }
+fn comes(script: &Script, registry: &Registry, act: &Act) -> bool
+    ensures { (h : Journal) → IsRegistry registry.now h
+        → may_come script.now h (Some act.now) ≡ (if result then Some act.now else None) }
 {
-    let _ = before;
     match act {
         Act::Kill { session } => registry.is_open(*session),
         Act::Evict { key } => is_cached(script.mapping.as_slice(), key.entity),
@@ -104,17 +98,16 @@ pub fn difference(
     script: &Script,
     registry: &Registry,
     due: &Act,
-    before: &[Entry],
     entry: &Entry,
 ) -> Option<AuditKind>
-    requires { IsRegistry registry.now (reverse before.now) }
-    ensures { Differs script.now (reverse before.now) due.now entry.now result }
+    ensures { (h : Journal) → IsRegistry registry.now h
+        → Differs script.now h due.now entry.now result }
 {
     let number = entry.session.unwrap_or(SessionNo(0));
     if part_of(due, number) != entry.part {
         return Some(AuditKind::Part);
     }
-    if !comes(script, registry, before, due) || !is_same_act(due, &entry.act) {
+    if !comes(script, registry, due) || !is_same_act(due, &entry.act) {
         return Some(AuditKind::Act);
     }
     None

@@ -1,6 +1,7 @@
 // The sessions of an audit, and what each has written.
-ghost use Rattle.std.specs.Prelude.{◌≡◌, ◌∷◌, ◌<◌, [], length, reverse, IfOk, OnOk, Some, false};
-ghost use Rattle.hib_journal.specs.Sessions.{own, was_killed};
+ghost use Rattle.std.specs.Prelude.{◌≡◌, ◌∷◌, ◌<◌, [], length, IfOk, OnOk, Some, false};
+ghost use Rattle.hib_base.specs.declared.scripts.Script.{Script as Said};
+ghost use Rattle.hib_journal.specs.Sessions.{Journal, own, was_killed};
 ghost use Rattle.hib_journal.specs.Legal.{is_outside};
 ghost use Rattle.hib_session.specs.Session.{IsTaken};
 ghost use Rattle.hib_session.specs.Sessions.{AreSessions};
@@ -22,44 +23,35 @@ pub fn open_written(alloc: Global, script: &Script) -> Result<Vec<Written>, Allo
     Ok(written)
 }
 
-/// The session of an entry takes it. Its act was due, and its reply may be.
+/// The session of an entry takes it.
 pub fn advance(
     alloc: Global,
     script: &Script,
     sessions: &mut Vec<Session>,
     number: SessionNo,
-    before: &[Entry],
     entry: &Entry,
 ) -> Result<(), AllocError>
-    requires sessions { AreSessions script.now (reverse before.now) sessions.old.items }
     requires there { number < length sessions.old.items }
-    requires live { was_killed number (reverse before.now) ≡ false }
     requires inside { is_outside entry.now.act ≡ false }
     requires by { entry.now.session ≡ Some number }
-    requires taken { IsTaken script.now number (own number (reverse before.now)) entry.now }
-    ensures { OnOk result (AreSessions script.now
-        (entry.now ∷ reverse before.now) sessions.new.items) }
+    ensures { OnOk result ((h : Journal) → AreSessions script.now h sessions.old.items
+        → was_killed number h ≡ false → IsTaken script.now number (own number h) entry.now
+        → AreSessions script.now (entry.now ∷ h) sessions.new.items) }
 {
-    let _ = before;
     sessions[number.0 as usize].advance(alloc, script, entry)
 }
 
 /// What the session of an entry has written, with the entry.
 pub fn note_written(
     alloc: Global,
-    script: &Script,
     written: &mut Vec<Written>,
     number: SessionNo,
-    before: &[Entry],
     entry: &Entry,
 ) -> Result<(), AllocError>
-    requires written { AreWritten script.now (reverse before.now) written.old.items }
     requires there { number < length written.old.items }
     requires by { entry.now.session ≡ Some number }
-    ensures { OnOk result (AreWritten script.now
-        (entry.now ∷ reverse before.now) written.new.items) }
+    ensures { OnOk result ((script : Said) (h : Journal) → AreWritten script h written.old.items
+        → AreWritten script (entry.now ∷ h) written.new.items) }
 {
-    let _ = script;
-    let _ = before;
     written[number.0 as usize].note(alloc, &entry.act)
 }

@@ -1,6 +1,7 @@
 -- What a factory with bulk lines keeps: its journal is legal, and its parts, sessions and lines stand for it.
 use Rattle.std.specs.Prelude.{List}
 use Rattle.hib_journal.specs.Types.{Script}
+use Rattle.hib_playing.specs.Playing.{GoesOn}
 use Rattle.hib_session.specs.declared.session.Session.{Session}
 use Rattle.hib_engines.specs.Origin.{Origin}
 use Rattle.hib_bulk.specs.Types.{BulkDef}
@@ -20,3 +21,7 @@ pub record IsStanding (script : Script) (lines : List BulkDef) (from : Origin) (
   pub run : IsRun script lines from (past f.journal) f.parts
   pub sessions : AreSessions script (past f.journal) f.sessions
   pub progress : AreLines script lines (past f.journal) f.progress
+
+-- the journal has gone on, or is still the same
+abbrev pub HasGoneOn : FactoryState → FactoryState → Type 0
+HasGoneOn old new = GoesOn (past old.journal) (past new.journal)

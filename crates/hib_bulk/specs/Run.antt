@@ -15,6 +15,7 @@ use Rattle.hib_engines.specs.Built.{IsBuilt}
 use Rattle.hib_engines.specs.Counts.{RoseBy}
 use Rattle.hib_engines.specs.Due.{IsDue}
 use Rattle.hib_engines.specs.Origin.{Origin}
+use Rattle.hib_bulk_law.specs.Types.{max_lines}
 use Rattle.hib_bulk.specs.Types.{BulkDef, BulkAct, BulkReply, BulkEntry}
 use Rattle.hib_bulk_law.specs.Plain.{Bulked, plain, plain_reply}
 use Rattle.hib_bulk_law.specs.Wide.{is_old}
@@ -30,11 +31,11 @@ abbrev pub fault_count : Bulked → ℕ
 fault_count [] = 0
 fault_count (e ∷ h) = if is_fault e.reply then suc (fault_count h) else fault_count h
 
--- what a run asks of its script and its lines: the script is valid, its regions are read-write or none, there are 100 lines at most, and
--- a line reads entities of the mapping alone
+-- what a run asks of its script and its lines: the script is valid, its regions are read-write or none, the lines aren't more
+-- than the limit, and a line reads entities of the mapping alone
 pub record AreSet (script : Script) (lines : List BulkDef) : Type 0 where
   pub valid : is_valid script ≡ true
-  pub few : length lines ≤ 100
+  pub few : length lines ≤ max_lines
   pub strategies : (n : ℕ) → is_cached script n ≡ true → strategy script n ≡ Strategy.ReadWrite
   pub below : (i : ℕ) (d : BulkDef) → slice_get lines i ≡ Some d → MeetsBelow (length script.mapping) d.entity d.condition
 

@@ -4,7 +4,7 @@ ghost use Rattle.hib_outside.specs.Causes.{Rose};
 ghost use Rattle.hib_store.specs.Stores.{handed_back, is_store_fault};
 ghost use Rattle.hib_engines.specs.Counts.{RoseBy};
 ghost use Rattle.hib_engines.specs.Origin.{origin_over};
-ghost use Rattle.hib_playing.specs.Playing.{GoesOn};
+ghost use Rattle.hib_bulk.specs.Factory.{HasGoneOn};
 ghost use Rattle.hib_bulk.specs.Types.{BulkEntry};
 ghost use Rattle.hib_bulk_law.specs.Acts.{next};
 ghost use Rattle.hib_bulk_law.specs.Legal.{IsLegal};
@@ -147,7 +147,7 @@ impl<K: Keeper, N: Name> BulkFactory<K, N> {
         ensures fault { (e : BulkEntry) → past self.new.journal ≡ e ∷ past self.old.journal
             → is_fault e.reply ≡ true
             → Rose self.old.parts.store.faults self.new.parts.store.faults }
-        ensures stands { GoesOn (past self.old.journal) (past self.new.journal) }
+        ensures stands { HasGoneOn self.old self.new }
         ensures law { Obeys N.script N.lines N.from.tables (past self.new.journal) }
     {
         let stepped = self.turn(alloc, number);

@@ -1,7 +1,8 @@
 // A run with bulk lines plays its orders, and then its sessions and lines run to their ends.
 ghost use Rattle.std.specs.Prelude.{◌≡◌, ◌<◌, ◌==◌, ℕ, [], OnOk, OnErr, true, false};
 ghost use Rattle.hib_base.specs.declared.scripts.Order.{Order as Said};
-ghost use Rattle.hib_playing.specs.Playing.{GoesOn, Leads, play_all, play_each, play_steps, played};
+ghost use Rattle.hib_playing.specs.Playing.{Leads, play_all, play_each, play_steps, played};
+ghost use Rattle.hib_bulk.specs.Factory.{HasGoneOn};
 ghost use Rattle.hib_bulk.specs.Kept.{past};
 ghost use Rattle.hib_bulk.specs.Run.{Obeys};
 ghost use Rattle.hib_bulk.specs.Played.{AreOver, has_next, is_by, is_played, number_count, play_numbers, play_order, play_script};
@@ -20,7 +21,7 @@ impl<K: Keeper, N: Name> BulkFactory<K, N> {
         ensures played { OnOk result (Leads
             (play_steps (has_next N.script N.lines) is_by number steps) played
             (past self.old.journal) (past self.new.journal)) }
-        ensures stands { OnErr result (GoesOn (past self.old.journal) (past self.new.journal)) }
+        ensures stands { OnErr result (HasGoneOn self.old self.new) }
     {
         if number.0 as usize >= self.numbers() {
             return Ok(());
@@ -45,7 +46,7 @@ impl<K: Keeper, N: Name> BulkFactory<K, N> {
             → has_next N.script N.lines (past self.new.journal) s
             ≡ has_next N.script N.lines (past self.old.journal) s) }
         ensures law { Obeys N.script N.lines N.from.tables (past self.new.journal) }
-        ensures stands { OnErr result (GoesOn (past self.old.journal) (past self.new.journal)) }
+        ensures stands { OnErr result (HasGoneOn self.old self.new) }
     {
         'steps: loop {
             match self.step(alloc, number)? {
@@ -60,7 +61,7 @@ impl<K: Keeper, N: Name> BulkFactory<K, N> {
         ensures played { OnOk result (Leads (play_numbers N.script N.lines) played
             (past self.old.journal) (past self.new.journal)) }
         ensures over { OnOk result (AreOver N.script N.lines (past self.new.journal)) }
-        ensures stands { OnErr result (GoesOn (past self.old.journal) (past self.new.journal)) }
+        ensures stands { OnErr result (HasGoneOn self.old self.new) }
     {
         for number in 0..self.numbers() {
             self.run_session(alloc, SessionNo(number as u32))?;
@@ -72,7 +73,7 @@ impl<K: Keeper, N: Name> BulkFactory<K, N> {
     fn obey(&mut self, alloc: Global, order: Order) -> Result<(), AllocError>
         ensures played { OnOk result (Leads (play_order N.script N.lines order) played
             (past self.old.journal) (past self.new.journal)) }
-        ensures stands { OnErr result (GoesOn (past self.old.journal) (past self.new.journal)) }
+        ensures stands { OnErr result (HasGoneOn self.old self.new) }
     {
         let Order::Run { session, steps } = order else {
             return Ok(());
@@ -84,7 +85,7 @@ impl<K: Keeper, N: Name> BulkFactory<K, N> {
     fn follow_orders(&mut self, alloc: Global) -> Result<(), AllocError>
         ensures played { OnOk result (Leads (play_each (play_order N.script N.lines) N.orders)
             played (past self.old.journal) (past self.new.journal)) }
-        ensures stands { OnErr result (GoesOn (past self.old.journal) (past self.new.journal)) }
+        ensures stands { OnErr result (HasGoneOn self.old self.new) }
     {
         for at in 0..self.orders() {
             let order = self.order(at);
@@ -98,7 +99,7 @@ impl<K: Keeper, N: Name> BulkFactory<K, N> {
         ensures leads { OnOk result (Leads (play_script N.script N.lines N.orders) played
             (past self.old.journal) (past self.new.journal)) }
         ensures over { OnOk result (AreOver N.script N.lines (past self.new.journal)) }
-        ensures stands { OnErr result (GoesOn (past self.old.journal) (past self.new.journal)) }
+        ensures stands { OnErr result (HasGoneOn self.old self.new) }
     {
         self.follow_orders(alloc)?;
         self.finish(alloc)
@@ -113,7 +114,7 @@ impl<K: Keeper, N: Name> BulkFactory<K, N> {
             (past self.old.journal) (past self.new.journal)) }
         ensures over { OnOk result (AreOver N.script N.lines (past self.new.journal)) }
         ensures law { Obeys N.script N.lines N.from.tables (past self.new.journal) }
-        ensures stands { OnErr result (GoesOn (past self.old.journal) (past self.new.journal)) }
+        ensures stands { OnErr result (HasGoneOn self.old self.new) }
     {
         let ran = self.run_all(alloc);
         self.lawful();

@@ -16,6 +16,9 @@ use Rattle.hib_collections_law.specs.declared.entries.Def.{Def}
 use Rattle.hib_collections_law.specs.declared.entries.GatherEntry.{GatherEntry}
 use Rattle.hib_collections_law.specs.Types.{Gathered}
 use Rattle.hib_collections_law.specs.Gathered.{is_by, mine, plain}
+use Rattle.hib_engines.specs.Origin.{Origin}
+use Rattle.hib_collections.specs.Kept.{past}
+use Rattle.hib_collections.specs.Gather.{GatherState, HasStopped}
 use Rattle.hib_collections.specs.Played.{Play, Playing, GoesOn, Leads, has_next, is_played, play_all, play_order, play_orders, play_script, play_sessions, play_steps, played}
 use Rattle.hib_collections.proofs.Entries.{own_other, mine_other}
 use Rattle.hib_collections.proofs.Turned.{by_other}
@@ -41,6 +44,11 @@ goes_then old mid new a b = (b.0 ++ a.0, b.1 ∙ (ap (λ m. b.0 ++ m) a.1 ∙ sy
 
 pub goes_same : (old new : Gathered) → new ≡ old → GoesOn old new
 goes_same old new e = ([], e)
+
+-- a run that stopped, after what was played before
+pub stopped_after : (script : Script) (from : Origin) (old mid new : GatherState) → GoesOn (past old.journal) (past mid.journal) → mid.refused ≡ old.refused → HasStopped script from mid new →
+    HasStopped script from old new
+stopped_after script from old mid new f p s = record { stands = goes_then (past old.journal) (past mid.journal) (past new.journal) f s.stands; asked = λ e. s.asked (p ∙ e); refused = s.refused }
 
 module _ (script : Script) (defs : List Def) where
   -- one step of a session

@@ -3,13 +3,15 @@ use Rattle.std.specs.Prelude.{◌≡◌, ℕ, Bool, true, false, List, [], ◌�
 use Rattle.hib_journal.specs.Types.{Script, Entry}
 use Rattle.hib_journal.specs.Sessions.{Journal}
 use Rattle.hib_engines.specs.Engines.{EnginesState}
+use Rattle.hib_engines.specs.Origin.{Origin}
 use Rattle.hib_listeners.specs.Told.{Told, AreTold}
 use Rattle.hib_collections_law.specs.declared.entries.Def.{Def}
 use Rattle.hib_collections_law.specs.declared.entries.GatherEntry.{GatherEntry}
 use Rattle.hib_collections_law.specs.Types.{Gathered}
 use Rattle.hib_collections_law.specs.Gathered.{is_by, plain}
-use Rattle.hib_collections.specs.Kept.{Kept}
-use Rattle.hib_collections.specs.Played.{has_next}
+use Rattle.hib_collections.specs.Kept.{Kept, past}
+use Rattle.hib_collections.specs.Played.{has_next, GoesOn}
+use Rattle.hib_collections.specs.Run.{IsAskedOnceMore}
 
 -- beside the steps what its listeners tell, and whether one had no memory for the newest entry that they hear of
 pub record GatherState : Type 0 where
@@ -43,3 +45,10 @@ Hears old new whole told now = ((e : Entry) → new ≡ e ∷ old → AreTold e 
 abbrev pub AreHeard : Journal → Bool → List Told → List Told → Type 0
 AreHeard [] whole told now = (now ≡ told) × (whole ≡ true)
 AreHeard (e ∷ h) whole told now = AreTold e whole told now
+
+-- a run stopped, since memory ran out: the entries so far stand, the run says so, and the keeper was asked once more at most than they say,
+-- unless memory had run out before
+pub record HasStopped (script : Script) (from : Origin) (old new : GatherState) : Type 0 where
+  pub stands : GoesOn (past old.journal) (past new.journal)
+  pub asked : old.refused ≡ false → IsAskedOnceMore script from (past new.journal) new.engines
+  pub refused : new.refused ≡ true

@@ -19,7 +19,7 @@ use Rattle.hib_engines.specs.Engines.{EnginesState, AreStanding, IsStill}
 use Rattle.hib_collections_law.specs.declared.entries.Def.{Def}
 use Rattle.hib_collections_law.specs.declared.entries.GatherEntry.{GatherEntry}
 use Rattle.hib_collections_law.specs.declared.entries.MemberAct.{MemberAct}
-use Rattle.hib_collections_law.specs.Types.{Gathered}
+use Rattle.hib_collections_law.specs.Types.{Gathered, max_collections}
 use Rattle.hib_collections_law.specs.Law.{is_versioned}
 use Rattle.hib_collections_law.specs.Gathered.{IsGathered, due, due_in, is_by, plain, region_act, region_script, regions}
 use Rattle.hib_collections.specs.Collected.{AreCollected}
@@ -30,11 +30,11 @@ use Rattle.hib_collections.specs.declared.turns.Turned.{Turned}
 
 -- ---- what it stands for
 
--- what a run asks of its script and its collections: the script is valid, there are 64 collections at most, and each is of an entity whose
--- rows have versions
+-- what a run asks of its script and its collections: the script is valid, the collections aren't more than the limit, and each is
+-- of an entity whose rows have versions
 pub record AreSet (script : Script) (defs : List Def) : Type 0 where
   pub valid : is_valid script ≡ true
-  pub few : length defs ≤ 64
+  pub few : length defs ≤ max_collections
   pub versioned : list_all (λ d. is_versioned script d.entity) defs ≡ true
 
 -- the journal is legal, no session of it was killed, rows that are told at the start are in order, the engines and the regions stand for it, and the keeper has failed as often as it says

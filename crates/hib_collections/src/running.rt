@@ -2,6 +2,7 @@
 ghost use Rattle.std.specs.Prelude.{◌≡◌, ◌<◌, ◌==◌, ℕ, [], length, OnOk, OnErr, true, false};
 ghost use Rattle.std.specs.List.{range_with_len};
 ghost use Rattle.hib_base.specs.declared.scripts.Order.{Order};
+ghost use Rattle.hib_collections.specs.Gather.{HasStopped};
 ghost use Rattle.hib_collections.specs.Kept.{past};
 ghost use Rattle.hib_collections.specs.Obeyed.{Obeys};
 ghost use Rattle.hib_collections.specs.Run.{IsAskedOnceMore};
@@ -22,10 +23,7 @@ impl<K: Keeper, N: Name, L: Listener> Gather<K, N, L> {
             (past self.old.journal) (past self.new.journal)) }
         ensures law { Obeys N.script N.defs N.from.tables (past self.new.journal) }
         ensures going { OnOk result (self.new.refused ≡ self.old.refused) }
-        ensures stands { OnErr result (GoesOn (past self.old.journal) (past self.new.journal)) }
-        ensures asked { OnErr result (self.old.refused ≡ false
-            → IsAskedOnceMore N.script N.from (past self.new.journal) self.new.engines) }
-        ensures refused { OnErr result (self.new.refused ≡ true) }
+        ensures stopped { OnErr result (HasStopped N.script N.from self.old self.new) }
     {
         if number.0 as usize >= self.sessions() {
             self.lawful();
@@ -53,10 +51,7 @@ impl<K: Keeper, N: Name, L: Listener> Gather<K, N, L> {
             ≡ has_next N.script N.defs (past self.old.journal) s) }
         ensures law { Obeys N.script N.defs N.from.tables (past self.new.journal) }
         ensures going { OnOk result (self.new.refused ≡ self.old.refused) }
-        ensures stands { OnErr result (GoesOn (past self.old.journal) (past self.new.journal)) }
-        ensures asked { OnErr result (self.old.refused ≡ false
-            → IsAskedOnceMore N.script N.from (past self.new.journal) self.new.engines) }
-        ensures refused { OnErr result (self.new.refused ≡ true) }
+        ensures stopped { OnErr result (HasStopped N.script N.from self.old self.new) }
     {
         'steps: loop {
             self.short();
@@ -75,10 +70,7 @@ impl<K: Keeper, N: Name, L: Listener> Gather<K, N, L> {
         ensures over { OnOk result (AreOver N.script N.defs (past self.new.journal)) }
         ensures law { Obeys N.script N.defs N.from.tables (past self.new.journal) }
         ensures going { OnOk result (self.new.refused ≡ self.old.refused) }
-        ensures stands { OnErr result (GoesOn (past self.old.journal) (past self.new.journal)) }
-        ensures asked { OnErr result (self.old.refused ≡ false
-            → IsAskedOnceMore N.script N.from (past self.new.journal) self.new.engines) }
-        ensures refused { OnErr result (self.new.refused ≡ true) }
+        ensures stopped { OnErr result (HasStopped N.script N.from self.old self.new) }
     {
         for number in 0..self.sessions() {
             self.run_session(alloc, SessionNo(number as u32))?;
@@ -93,10 +85,7 @@ impl<K: Keeper, N: Name, L: Listener> Gather<K, N, L> {
             (past self.old.journal) (past self.new.journal)) }
         ensures law { Obeys N.script N.defs N.from.tables (past self.new.journal) }
         ensures going { OnOk result (self.new.refused ≡ self.old.refused) }
-        ensures stands { OnErr result (GoesOn (past self.old.journal) (past self.new.journal)) }
-        ensures asked { OnErr result (self.old.refused ≡ false
-            → IsAskedOnceMore N.script N.from (past self.new.journal) self.new.engines) }
-        ensures refused { OnErr result (self.new.refused ≡ true) }
+        ensures stopped { OnErr result (HasStopped N.script N.from self.old self.new) }
     {
         let Order::Run { session, steps } = order else {
             self.lawful();
@@ -111,10 +100,7 @@ impl<K: Keeper, N: Name, L: Listener> Gather<K, N, L> {
             (past self.old.journal) (past self.new.journal)) }
         ensures law { OnErr result (Obeys N.script N.defs N.from.tables (past self.new.journal)) }
         ensures going { OnOk result (self.new.refused ≡ self.old.refused) }
-        ensures stands { OnErr result (GoesOn (past self.old.journal) (past self.new.journal)) }
-        ensures asked { OnErr result (self.old.refused ≡ false
-            → IsAskedOnceMore N.script N.from (past self.new.journal) self.new.engines) }
-        ensures refused { OnErr result (self.new.refused ≡ true) }
+        ensures stopped { OnErr result (HasStopped N.script N.from self.old self.new) }
     {
         for at in 0..self.orders() {
             let order = self.order(at);

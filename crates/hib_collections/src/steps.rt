@@ -140,13 +140,7 @@ impl<K: Keeper, N: Name> Core<K, N> {
         ensures done { result ≡ Ok Stepped.Done
             → has_next N.script N.defs (past self.now.journal) number ≡ false }
     {
-        if has_turn::<N>(
-            alloc,
-            &self.script,
-            number,
-            self.gatherers.as_slice(),
-            &self.shared.journal,
-        )? {
+        if has_turn::<N>(alloc, &self.script, number, self.gatherers.as_slice())? {
             Err(AllocError)
         } else {
             Ok(Stepped::Done)

@@ -3,7 +3,7 @@ ghost use Rattle.std.specs.Prelude.{◌≡◌, ◌∷◌, ◌+◌, ◌<◌, ◌�
 ghost use Rattle.hib_base.specs.declared.scripts.Order.{Order};
 ghost use Rattle.hib_journal.specs.Kept.{past};
 ghost use Rattle.hib_journal.specs.Next.{is_cached};
-ghost use Rattle.hib_journal.specs.Sessions.{is_open};
+ghost use Rattle.hib_journal.specs.Sessions.{Journal as Past, is_open};
 ghost use Rattle.hib_journal.specs.Played.{play_order};
 ghost use Rattle.hib_core.specs.Standing.{outside_entry};
 ghost use Rattle.hib_core.specs.Bound.{outside_count};
@@ -39,15 +39,9 @@ fn tell(journal: &mut Journal, tick: Tick, act: Act, reply: Reply)
 }
 
 /// Whether a session is open.
-pub fn opened<K: Keeper, N: Name>(
-    number: SessionNo,
-    engines: &Engines<K>,
-    journal: &Journal,
-) -> bool
-    requires run { IsRun N.script N.from (past journal.now) engines.now }
-    ensures { result ≡ is_open number (past journal.now) }
+pub fn opened<K: Keeper, N: Name>(number: SessionNo, engines: &Engines<K>) -> bool
+    ensures { (h : Past) → IsRun N.script N.from h engines.now → result ≡ is_open number h }
 {
-    let _ = journal;
     engines.registry().is_open(number)
 }
 

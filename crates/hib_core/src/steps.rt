@@ -212,13 +212,7 @@ impl<K: Keeper, N: Name> Core<K, N> {
         ensures sessions { AreSessions N.script (past self.now.journal) self.now.sessions }
     {
         lists_are_given();
-        if has_turn::<N>(
-            alloc,
-            &self.script,
-            number,
-            self.sessions.as_slice(),
-            &self.journal,
-        )? {
+        if has_turn::<N>(alloc, &self.script, number, self.sessions.as_slice())? {
             Err(AllocError)
         } else {
             Ok(Stepped::Done)
@@ -243,7 +237,7 @@ impl<K: Keeper, N: Name> Core<K, N> {
     pub fn is_open(&self, number: SessionNo) -> bool
         ensures { result ≡ is_open number (past self.now.journal) }
     {
-        opened::<K, N>(number, &self.engines, &self.journal)
+        opened::<K, N>(number, &self.engines)
     }
 
     /// The journal obeys the law, and each list from the cache is what its query gave at the moment of the hit.

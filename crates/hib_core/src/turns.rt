@@ -65,16 +65,15 @@ pub fn has_turn<N: Name>(
     script: &Script,
     number: SessionNo,
     sessions: &[Session],
-    journal: &Journal,
 ) -> Result<bool, AllocError>
     requires script { script.now ≡ N.script }
-    requires known { number < length N.script.sessions }
     requires queries { HasQueries N.script }
-    requires sessions { AreSessions N.script (past journal.now) sessions.now }
-    ensures due { IfOk result (λ b. b ≡ has_next N.script (past journal.now) number) }
-    ensures killed { was_killed number (past journal.now) ≡ true → result ≡ Ok false }
+    requires there { number < length sessions.now }
+    ensures due { (h : Past) → AreSessions N.script h sessions.now
+        → IfOk result (λ b. b ≡ has_next N.script h number) }
+    ensures killed { (h : Past) → AreSessions N.script h sessions.now
+        → was_killed number h ≡ true → result ≡ Ok false }
 {
-    let _ = journal;
     is_due(alloc, script, &sessions[number.0 as usize])
 }
 

@@ -11,14 +11,16 @@ use Rattle.hib_journal.specs.Sessions.{Journal, own, is_session}
 use Rattle.hib_journal.specs.Next.{next, blocks}
 use Rattle.hib_journal.specs.Plan.{Plan, left_of, first_act}
 use Rattle.hib_engines.specs.Fenced.{fence_lock, fence_unlock}
-use Rattle.hib_playing.specs.Playing.{Leads, Playing, play_each, played}
-use Rattle.hib_playing.proofs.Playing.{all_played, leads_none, leads_on}
+use Rattle.hib_engines.specs.Origin.{Origin}
+use Rattle.hib_playing.specs.Playing.{GoesOn, Leads, Playing, play_each, played}
+use Rattle.hib_playing.proofs.Playing.{all_played, goes_same, goes_then, leads_none, leads_on}
 use Rattle.hib_nodes_law.specs.declared.nodes.NodeEntry.{NodeEntry}
 use Rattle.hib_nodes_law.specs.declared.nodes.NodeOrder.{NodeOrder}
 use Rattle.hib_nodes_law.specs.Types.{Noded, Nodings}
 use Rattle.hib_nodes_law.specs.Nodes.{entries, fence_count, pairs, queue}
 use Rattle.hib_nodes.specs.Standing.{entry_on, is_node}
-use Rattle.hib_nodes.specs.Run.{HasDelivered, HasStepped, IsDelivered, IsOver}
+use Rattle.hib_nodes.specs.Kept.{past}
+use Rattle.hib_nodes.specs.Run.{HasDelivered, HasStepped, HasStopped, IsAskedOnceMore, IsDelivered, IsOver, NodesState}
 use Rattle.hib_nodes.specs.Played.{has_next, is_by, is_played, play_deliver, play_fence, play_order, play_queue, play_script}
 use Rattle.hib_nodes.proofs.Queues.{fence_counts, fence_pairs, this_or_other}
 use Rattle.hib_nodes.proofs.Stepped.{own_rests}
@@ -146,3 +148,14 @@ pub delivers_by : (script : Script) (n : ℕ) (b : Bool) (r : Result Bool AllocE
     Leads (play_deliver script n) played h new
 delivers_by script n true r h new e f g = deliver_leads script n h new (f e)
 delivers_by script n false r h new e f g = none_delivers script n h new (g e)
+
+-- ---- a run that stopped
+
+-- after what was played before
+pub stopped_after : (from : Origin) (old mid new : NodesState) → GoesOn (past old.journal) (past mid.journal) → mid.refused ≡ old.refused → HasStopped from mid new → HasStopped from old new
+stopped_after from old mid new f p s = record { stands = goes_then (past old.journal) (past mid.journal) (past new.journal) f s.stands; asked = λ e. s.asked (p ∙ e); refused = s.refused }
+
+-- at a step that added nothing
+pub stopped_at : (from : Origin) (mid new : NodesState) → past new.journal ≡ past mid.journal → (mid.refused ≡ false → IsAskedOnceMore from (past new.journal) new.parts) → new.refused ≡ true →
+    HasStopped from mid new
+stopped_at from mid new e a r = record { stands = goes_same (past mid.journal) (past new.journal) e; asked = a; refused = r }

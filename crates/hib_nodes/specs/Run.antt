@@ -1,5 +1,5 @@
 -- What a run of two nodes keeps: its journal is legal by its parts, and its parts, queues and sessions stand for it.
-use Rattle.std.specs.Prelude.{◌≡◌, ◌+◌, ℕ, Bool, true, [], ◌∷◌, length, Some, None, Option}
+use Rattle.std.specs.Prelude.{◌≡◌, ◌+◌, ℕ, Bool, true, false, [], ◌∷◌, length, Some, None, Option}
 use Rattle.std.specs.List.{list_all}
 use Rattle.hib_base.specs.Tables.{Tables}
 use Rattle.hib_base.specs.Valid.{is_valid}
@@ -20,6 +20,8 @@ use Rattle.hib_nodes_law.specs.Nodes.{entries, queue}
 use Rattle.hib_nodes_law.specs.Legal.{node_of, second_half, AreNodesLegal}
 use Rattle.hib_nodes_law.specs.Apart.{AreInTurn, AreNodesApart}
 use Rattle.hib_nodes_law.specs.Law.{NodesCohere}
+use Rattle.hib_playing.specs.Playing.{GoesOn}
+use Rattle.hib_nodes.specs.Kept.{past}
 use Rattle.hib_nodes.specs.Standing.{PartsState, AreStanding, entry_on, is_node}
 
 -- what a run asks of its script and its places: the script is valid, and each place is a node
@@ -97,3 +99,10 @@ pub record NodesState : Type 0 where
   pub journal : Rattle.hib_nodes.specs.Kept.Kept
   pub parts : PartsState
   pub refused : Bool
+
+-- a run stopped, since memory ran out: the entries so far stand, the run says so, and the keeper was asked once more at most than they say,
+-- unless memory had run out before
+pub record HasStopped (from : Origin) (old new : NodesState) : Type 0 where
+  pub stands : GoesOn (past old.journal) (past new.journal)
+  pub asked : old.refused ≡ false → IsAskedOnceMore from (past new.journal) new.parts
+  pub refused : new.refused ≡ true

@@ -4,7 +4,7 @@ ghost use Rattle.hib_playing.specs.Playing.{GoesOn, Leads, play_all, play_each, 
 ghost use Rattle.hib_nodes_law.specs.Nodes.{queue};
 ghost use Rattle.hib_nodes.specs.Kept.{past};
 ghost use Rattle.hib_nodes.specs.Played.{AreOver, has_next, is_by, is_played, play_order, play_queue, play_script, play_sessions};
-ghost use Rattle.hib_nodes.specs.Run.{IsAskedOnceMore, Obeys};
+ghost use Rattle.hib_nodes.specs.Run.{HasStopped, IsAskedOnceMore, Obeys};
 ghost use Rattle.hib_nodes.specs.Standing.{is_node};
 
 use crate::names::Name;
@@ -22,10 +22,7 @@ impl<K: Keeper, N: Name> Nodes<K, N> {
         ensures played { OnOk result (Leads (play_steps (has_next N.script) is_by number steps) played
             (past self.old.journal) (past self.new.journal)) }
         ensures going { OnOk result (self.new.refused ≡ self.old.refused) }
-        ensures stands { OnErr result (GoesOn (past self.old.journal) (past self.new.journal)) }
-        ensures asked { OnErr result (self.old.refused ≡ false
-            → IsAskedOnceMore N.from (past self.new.journal) self.new.parts) }
-        ensures refused { OnErr result (self.new.refused ≡ true) }
+        ensures stopped { OnErr result (HasStopped N.from self.old self.new) }
     {
         if number.0 as usize >= self.sessions() {
             return Ok(());
@@ -49,10 +46,7 @@ impl<K: Keeper, N: Name> Nodes<K, N> {
             → has_next N.script (past self.new.journal) s
             ≡ has_next N.script (past self.old.journal) s) }
         ensures going { OnOk result (self.new.refused ≡ self.old.refused) }
-        ensures stands { OnErr result (GoesOn (past self.old.journal) (past self.new.journal)) }
-        ensures asked { OnErr result (self.old.refused ≡ false
-            → IsAskedOnceMore N.from (past self.new.journal) self.new.parts) }
-        ensures refused { OnErr result (self.new.refused ≡ true) }
+        ensures stopped { OnErr result (HasStopped N.from self.old self.new) }
     {
         'steps: loop {
             match self.step(alloc, number)? {
@@ -68,10 +62,7 @@ impl<K: Keeper, N: Name> Nodes<K, N> {
             (past self.old.journal) (past self.new.journal)) }
         ensures over { OnOk result (AreOver N.script (past self.new.journal)) }
         ensures going { OnOk result (self.new.refused ≡ self.old.refused) }
-        ensures stands { OnErr result (GoesOn (past self.old.journal) (past self.new.journal)) }
-        ensures asked { OnErr result (self.old.refused ≡ false
-            → IsAskedOnceMore N.from (past self.new.journal) self.new.parts) }
-        ensures refused { OnErr result (self.new.refused ≡ true) }
+        ensures stopped { OnErr result (HasStopped N.from self.old self.new) }
     {
         for number in 0..self.sessions() {
             self.run_session(alloc, SessionNo(number as u32))?;
@@ -91,10 +82,7 @@ impl<K: Keeper, N: Name> Nodes<K, N> {
         ensures stay { OnOk result ((s : ℕ) → has_next N.script (past self.new.journal) s
             ≡ has_next N.script (past self.old.journal) s) }
         ensures going { OnOk result (self.new.refused ≡ self.old.refused) }
-        ensures stands { OnErr result (GoesOn (past self.old.journal) (past self.new.journal)) }
-        ensures asked { OnErr result (self.old.refused ≡ false
-            → IsAskedOnceMore N.from (past self.new.journal) self.new.parts) }
-        ensures refused { OnErr result (self.new.refused ≡ true) }
+        ensures stopped { OnErr result (HasStopped N.from self.old self.new) }
     {
         'pairs: loop {
             if !self.deliver(node)? {
@@ -109,10 +97,7 @@ impl<K: Keeper, N: Name> Nodes<K, N> {
         ensures played { OnOk result (Leads (play_order N.script order) played
             (past self.old.journal) (past self.new.journal)) }
         ensures going { OnOk result (self.new.refused ≡ self.old.refused) }
-        ensures stands { OnErr result (GoesOn (past self.old.journal) (past self.new.journal)) }
-        ensures asked { OnErr result (self.old.refused ≡ false
-            → IsAskedOnceMore N.from (past self.new.journal) self.new.parts) }
-        ensures refused { OnErr result (self.new.refused ≡ true) }
+        ensures stopped { OnErr result (HasStopped N.from self.old self.new) }
     {
         match order {
             NodeOrder::Run { session, steps } => self.run_steps(alloc, session, steps),
@@ -130,10 +115,7 @@ impl<K: Keeper, N: Name> Nodes<K, N> {
         ensures played { OnOk result (Leads (play_each (play_order N.script) N.orders) played
             (past self.old.journal) (past self.new.journal)) }
         ensures going { OnOk result (self.new.refused ≡ self.old.refused) }
-        ensures stands { OnErr result (GoesOn (past self.old.journal) (past self.new.journal)) }
-        ensures asked { OnErr result (self.old.refused ≡ false
-            → IsAskedOnceMore N.from (past self.new.journal) self.new.parts) }
-        ensures refused { OnErr result (self.new.refused ≡ true) }
+        ensures stopped { OnErr result (HasStopped N.from self.old self.new) }
     {
         for at in 0..self.orders() {
             let order = self.order(at);
@@ -151,10 +133,7 @@ impl<K: Keeper, N: Name> Nodes<K, N> {
         ensures stay { OnOk result ((s : ℕ) → has_next N.script (past self.new.journal) s
             ≡ has_next N.script (past self.old.journal) s) }
         ensures going { OnOk result (self.new.refused ≡ self.old.refused) }
-        ensures stands { OnErr result (GoesOn (past self.old.journal) (past self.new.journal)) }
-        ensures asked { OnErr result (self.old.refused ≡ false
-            → IsAskedOnceMore N.from (past self.new.journal) self.new.parts) }
-        ensures refused { OnErr result (self.new.refused ≡ true) }
+        ensures stopped { OnErr result (HasStopped N.from self.old self.new) }
     {
         self.deliver_all(1)?;
         self.deliver_all(2)
@@ -168,10 +147,7 @@ impl<K: Keeper, N: Name> Nodes<K, N> {
         ensures empty { OnOk result ((n : ℕ) → is_node n ≡ true
             → queue N.script n (past self.new.journal) ≡ []) }
         ensures going { OnOk result (self.new.refused ≡ self.old.refused) }
-        ensures stands { OnErr result (GoesOn (past self.old.journal) (past self.new.journal)) }
-        ensures asked { OnErr result (self.old.refused ≡ false
-            → IsAskedOnceMore N.from (past self.new.journal) self.new.parts) }
-        ensures refused { OnErr result (self.new.refused ≡ true) }
+        ensures stopped { OnErr result (HasStopped N.from self.old self.new) }
     {
         self.follow_orders(alloc)?;
         self.finish(alloc)?;

@@ -1,15 +1,24 @@
 -- A run on one worker: the lists of parts and those of sessions are those of one journal.
-use Rattle.std.specs.Prelude.{◌≡◌, ◌≤◌, ◌⊎◌, ◌==◌, ℕ, Bool, true, false, not, if◌then◌else◌, take, List, [], ◌∷◌, unwrap_or}
-use Rattle.std.specs.List.{list_all}
+use Rattle.std.specs.Prelude.{◌≡◌, ◌≤◌, ◌⊎◌, ◌==◌, ℕ, Bool, true, false, not, if◌then◌else◌, take, List, [], ◌∷◌, length, map, unwrap_or}
+use Rattle.std.specs.List.{filter, list_all, range_with_len}
 use Rattle.hib_clock.specs.Due
-use Rattle.hib_journal.specs.Types.{Part, Entry}
+use Rattle.hib_journal.specs.Types.{Part, Script, Entry}
 use Rattle.hib_journal.specs.Sessions.{Journal, own, same_part}
+use Rattle.hib_journal.specs.Next.{is_cached}
 use Rattle.hib_journal.specs.Lists.{of_part}
 use Rattle.hib_journal.specs.Runs.{IsNumbered}
 use Rattle.hib_split_law.specs.Apart.{is_own, HaveSessions}
 use Rattle.hib_split_law.specs.Merged.{IsInTurn, AreDue}
 use Rattle.hib_parts.specs.declared.parts.Parts.{Parts}
 use Rattle.hib_parts.specs.Listed.{RegionState, WorkerState, last_of}
+
+-- the entities of regions
+abbrev pub entities_of : List RegionState → List ℕ
+entities_of regions = map (λ r. r.entity) regions
+
+-- the cached entities of a script, in order
+abbrev pub cached_entities : Script → List ℕ
+cached_entities script = filter (λ n. is_cached script n) (range_with_len 0 (length script.mapping))
 
 -- another entity's region
 abbrev pub is_other : ℕ → RegionState → Bool

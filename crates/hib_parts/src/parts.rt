@@ -1,12 +1,13 @@
 // The parts of a factory, each by itself.
-ghost use Rattle.std.specs.Prelude.{◌≡◌, ◌≤◌, [], length, map, true, false, IfOk, IfErr};
-ghost use Rattle.std.specs.List.{All, filter, range_with_len};
+ghost use Rattle.std.specs.Prelude.{◌≡◌, ◌≤◌, [], true, false, IfOk, IfErr};
+ghost use Rattle.std.specs.List.{All};
 ghost use Rattle.hib_base.specs.Valid.{is_valid};
-ghost use Rattle.hib_journal.specs.Next.{is_cached};
+ghost use Rattle.hib_base.specs.declared.scripts.Script.{Script as Said};
 ghost use Rattle.hib_outside.specs.Causes.{Rose};
 ghost use Rattle.hib_store.specs.Stores.{handed_back, is_store_fault};
 ghost use Rattle.hib_engines.specs.Origin.{origin_over};
 ghost use Rattle.hib_engines.specs.Built.{IsBuilt};
+ghost use Rattle.hib_parts.specs.Run.{cached_entities, entities_of};
 
 use crate::region::RegionPart;
 use crate::registry::RegistryPart;
@@ -34,20 +35,16 @@ pub struct Parts<K: Keeper, N: Name> {
 }
 
 /// A valid script is one that parts take. It does nothing.
-fn built(script: &Script)
-    requires { is_valid script.now ≡ true }
-    ensures { IsBuilt script.now }
-{
-    let _ = script;
-}
+fn built()
+    ensures { (script : Said) → is_valid script ≡ true → IsBuilt script }
+{}
 
 /// The regions of the cached entities, in order, which hold nothing.
 fn open_regions<N: Name>(alloc: Global, script: &Script) -> Result<Vec<RegionPart<N>>, AllocError>
     requires script { script.now ≡ N.script }
     requires built { IsBuilt N.script }
     ensures entities { IfOk result
-        (λ v. map (λ r. r.entity) v.items
-        ≡ filter (λ n. is_cached script.now n) (range_with_len 0 (length script.now.mapping))) }
+        (λ v. entities_of v.items ≡ cached_entities script.now) }
     ensures empty { IfOk result (λ v. All (λ r. r.list ≡ []) v.items) }
 {
     let mut regions = Vec::new(alloc);
@@ -74,8 +71,7 @@ impl<K: Keeper, N: Name> Parts<K, N> {
         ensures stamps { IfOk result (λ p. p.stamps ≡ []) }
         ensures results { IfOk result (λ p. p.results ≡ []) }
         ensures entities { IfOk result
-            (λ p. map (λ r. r.entity) p.regions.items
-            ≡ filter (λ n. is_cached N.script n) (range_with_len 0 (length N.script.mapping))) }
+            (λ p. entities_of p.regions.items ≡ cached_entities N.script) }
         ensures regions { IfOk result (λ p. All (λ r. r.list ≡ []) p.regions.items) }
         ensures back { IfErr result (λ e. K.tables (handed_back e) ≡ K.tables keeper) }
         ensures back_faults { IfErr result (λ e. K.faults keeper ≤ K.faults (handed_back e)) }
@@ -83,7 +79,7 @@ impl<K: Keeper, N: Name> Parts<K, N> {
         ensures fault { IfErr result (λ e. is_store_fault e ≡ true
             → Rose (K.faults keeper) (K.faults (handed_back e))) }
     {
-        built(script);
+        built();
         let Ok(regions) = open_regions::<N>(alloc, script) else {
             return Err(OpenFault::NoMemory(keeper));
         };

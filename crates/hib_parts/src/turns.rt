@@ -1,5 +1,5 @@
 // The steps of one session after the other, with no thread and no lock.
-ghost use Rattle.std.specs.Prelude.{◌≡◌, ◌<◌, ◌≤◌, ◌^◌, None, Ok, Some, IfOk, IfSome, OnOk, OnErr, [], ◌∷◌, true, length, map, slice_get};
+ghost use Rattle.std.specs.Prelude.{◌≡◌, ◌<◌, ◌≤◌, ◌^◌, None, Ok, Some, IfOk, IfSome, OnOk, OnErr, [], ◌∷◌, true, length, slice_get};
 ghost use Rattle.hib_base.specs.declared.entries.Entry.{Entry};
 ghost use Rattle.hib_base.specs.declared.entries.Part.{Part};
 ghost use Rattle.hib_journal.specs.Next.{next};
@@ -7,7 +7,7 @@ ghost use Rattle.hib_journal.specs.Runs.{is_fault};
 ghost use Rattle.hib_outside.specs.Causes.{Rose};
 ghost use Rattle.hib_clock.specs.Due.{due};
 ghost use Rattle.hib_parts.specs.Listed.{IsDueOn, IsEnteredDue, IsKept, IsOwnEntered, RegionState, last_of};
-ghost use Rattle.hib_parts.specs.Run.{GoesOn, IsFirst, IsStepOn, list_on, part_lists};
+ghost use Rattle.hib_parts.specs.Run.{GoesOn, IsFirst, IsStepOn, entities_of, list_on, part_lists};
 
 use crate::parts::Parts;
 use crate::region::RegionPart;
@@ -188,8 +188,7 @@ fn step_regions<N: Name>(
 ) -> Result<(), AllocError>
     requires script { script.now ≡ N.script }
     requires due { IsDueOn N.script (Part.Region entity) worker.old }
-    ensures entities { map (λ r. r.entity) regions.new.items
-        ≡ map (λ r. r.entity) regions.old.items }
+    ensures entities { entities_of regions.new.items ≡ entities_of regions.old.items }
     ensures entered { OnOk result (IsStepOn (Part.Region entity)
         (list_on [] [] [] [] regions.old.items) (list_on [] [] [] [] regions.new.items) worker.old
         worker.new) }
@@ -216,8 +215,7 @@ impl<K: Keeper, N: Name> Parts<K, N> {
         requires script { script.now ≡ N.script }
         requires due { IsDueOn N.script part worker.old }
         ensures going { OnOk result (self.new.store.refused ≡ self.old.store.refused) }
-        ensures entities { map (λ r. r.entity) self.new.regions.items
-            ≡ map (λ r. r.entity) self.old.regions.items }
+        ensures entities { entities_of self.new.regions.items ≡ entities_of self.old.regions.items }
         ensures entered { OnOk result (IsStepOn part (part_lists self.old) (part_lists self.new)
             worker.old worker.new) }
         ensures number { worker.new.number ≡ worker.old.number }
@@ -236,9 +234,9 @@ impl<K: Keeper, N: Name> Parts<K, N> {
         }
     }
 
-    /// One step of a session, which is made ready first: the act that is due in it, if one is, at the tick that is due. If memory runs out no list has an
-    /// entry more. The lists of parts and of sessions are those of one journal, if they were before; and if sessions came one after
-    /// the other in it, they still do.
+    /// One step of a session, which is made ready first: the act that is due in it, if one is, at the tick that is due. If memory
+    /// runs out no list has an entry more. The lists of parts and of sessions are those of one journal, if they were before; and if
+    /// sessions came one after the other in it, they still do.
     pub fn step(
         &mut self,
         alloc: Global,
@@ -247,8 +245,7 @@ impl<K: Keeper, N: Name> Parts<K, N> {
     ) -> Result<Stepped, AllocError>
         requires script { script.now ≡ N.script }
         ensures going { OnOk result (self.new.store.refused ≡ self.old.store.refused) }
-        ensures entities { map (λ r. r.entity) self.new.regions.items
-            ≡ map (λ r. r.entity) self.old.regions.items }
+        ensures entities { entities_of self.new.regions.items ≡ entities_of self.old.regions.items }
         ensures number { worker.new.number ≡ worker.old.number }
         ensures did { result ≡ Ok Stepped.Did → worker.new.left < worker.old.left }
         ensures done { result ≡ Ok Stepped.Done
@@ -277,8 +274,7 @@ impl<K: Keeper, N: Name> Parts<K, N> {
     ) -> Result<(), AllocError>
         requires script { script.now ≡ N.script }
         ensures going { OnOk result (self.new.store.refused ≡ self.old.store.refused) }
-        ensures entities { map (λ r. r.entity) self.new.regions.items
-            ≡ map (λ r. r.entity) self.old.regions.items }
+        ensures entities { entities_of self.new.regions.items ≡ entities_of self.old.regions.items }
         ensures number { worker.new.number ≡ worker.old.number }
         ensures run { OnOk result (GoesOn (part_lists self.old) worker.old (part_lists self.new)
             worker.new) }

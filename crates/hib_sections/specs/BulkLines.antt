@@ -17,6 +17,7 @@ use Rattle.hib_statements.specs.Parts.{pairs_of}
 use Rattle.hib_statements.specs.declared.parts.Pairs.{Pairs}
 use Rattle.hib_bulk_law.specs.declared.bulks.BulkChange.{BulkChange}
 use Rattle.hib_bulk_law.specs.declared.bulks.BulkDef.{BulkDef}
+use Rattle.hib_bulk_law.specs.Types.{max_lines}
 use Rattle.hib_sections.specs.declared.bulk_lines.Behind.{Behind}
 use Rattle.hib_sections.specs.declared.bulk_lines.Changing.{Changing}
 
@@ -97,7 +98,7 @@ abbrev pub with_parts : List EntityDef → ℕ → List ℕ → ℕ → BulkChan
 with_parts m count name e change (Err k) = Err k
 with_parts m count name e change (Ok ns) =
     if not (list_all (is_within (length m)) ns) then Err Kind.Unknown
-    else if nat_le 100 count then Err Kind.Many
+    else if nat_le max_lines count then Err Kind.Many
     else Ok (record { name = name; entity = e; parts = ns; change = change })
 
 abbrev pub of_entity : List EntityDef → ℕ → List ℕ → ℕ → Changing → Result (List Node) Kind → Result BulkSaid Kind

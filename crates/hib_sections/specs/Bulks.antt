@@ -9,7 +9,9 @@ use Rattle.hib_base.specs.declared.scripts.Order.{Order}
 use Rattle.hib_base.specs.declared.scripts.SessionDef.{SessionDef}
 use Rattle.hib_base.specs.declared.scripts.Strategy.{Strategy}
 use Rattle.hib_journal.specs.Query.{mentions}
+use Rattle.hib_base.specs.Valid.{max_orders}
 use Rattle.hib_bulk_law.specs.declared.bulks.BulkDef.{BulkDef}
+use Rattle.hib_bulk_law.specs.Types.{max_lines}
 use Rattle.hib_lex.specs.Words.{begins}
 use Rattle.hib_lex.specs.declared.lexer.Token.{Token}
 use Rattle.hib_lex.specs.declared.lines.Line.{Line}
@@ -52,7 +54,7 @@ after_lines m r ts =
 -- ---- a line of the schedule: it runs sessions and bulk lines alone
 abbrev pub with_order : Read → Result Order Kind → Result Read Kind
 with_order r (Err k) = Err k
-with_order r (Ok o) = if nat_le 20000 (length r.orders) then Err Kind.Many else Ok (record r { orders = r.orders ++ o ∷ [] })
+with_order r (Ok o) = if nat_le max_orders (length r.orders) then Err Kind.Many else Ok (record r { orders = r.orders ++ o ∷ [] })
 
 abbrev pub in_schedule : List EntityDef → Read → List Token → Result Read Kind
 in_schedule m r ts =
@@ -89,8 +91,8 @@ abbrev pub bulks_of : List EntityDef → List SessionDef → List Line → Lines
 bulks_of m sessions before behind = unless_before (fault_before m before) (ended behind.count (reading m (Ok (start sessions)) behind.lines))
 
 -- ---- what holds of lines that were read
--- there are at most 100, each reads entities of the mapping alone, and what is cached is cached under soft locks
+-- they aren't more than the limit, each reads entities of the mapping alone, and what is cached is cached under soft locks
 pub record AreFit (m : List EntityDef) (ds : List BulkDef) : Type 0 where
-  pub few : length ds ≤ 100
+  pub few : length ds ≤ max_lines
   pub below : (i : ℕ) (d : BulkDef) → slice_get ds i ≡ Some d → (n : ℕ) → ((d.entity == n) || option_map_or (mentions n) d.condition false) ≡ true → n < length m
   pub strategies : (n : ℕ) → is_cached_in m n ≡ true → strategy_in (slice_get m n) ≡ Strategy.ReadWrite

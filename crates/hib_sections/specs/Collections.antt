@@ -11,7 +11,9 @@ use Rattle.hib_lex.specs.declared.lexer.Token.{Token}
 use Rattle.hib_lex.specs.declared.lines.Line.{Line}
 use Rattle.hib_mapping.specs.Parts.{is_a_word, is_a_number, word_of, is_within, number_up_to, entity_at, is_reserved}
 use Rattle.hib_columns.specs.Columns.{columns_of, plain_column}
+use Rattle.hib_base.specs.Valid.{max_capacity}
 use Rattle.hib_collections_law.specs.declared.entries.Def.{Def}
+use Rattle.hib_collections_law.specs.Types.{max_collections}
 use Rattle.hib_sections.specs.Schedules.{other_order}
 use Rattle.hib_sections.specs.declared.collections.Place.{Place}
 use Rattle.hib_sections.specs.declared.errors.LineError.{LineError}
@@ -38,10 +40,10 @@ reference m e w = option_and_then (λ f. place_by f.place f.kind) (plain_column 
 abbrev pub at_column : List EntityDef → List Def → Token → ℕ → ℕ → Result Place Kind
 at_column m ds capacity e c =
     if has_column e c ds then Err Kind.Taken
-    else if not (is_within 1 100000 capacity) then Err Kind.Number
+    else if not (is_within 1 max_capacity capacity) then Err Kind.Number
     else if not (is_versioned m e) then Err Kind.Plain
-    else if nat_le 64 (length ds) then Err Kind.Many
-    else Ok (record { entity = e; column = c; capacity = number_up_to 100000 capacity })
+    else if nat_le max_collections (length ds) then Err Kind.Many
+    else Ok (record { entity = e; column = c; capacity = number_up_to max_capacity capacity })
 
 abbrev pub if_known : List EntityDef → List Def → Token → Option ℕ → Option ℕ → Result Place Kind
 if_known m ds capacity (Some e) (Some c) = at_column m ds capacity e c
@@ -112,7 +114,7 @@ abbrev pub IsWhere : {A : Type 0} → Result A Refused → SectionError → Type
 IsWhere r SectionError.NoMemory = Unit {0}
 IsWhere r (SectionError.Refused x) = r ≡ Err x
 
--- there are at most 64, each of an entity whose rows have versions
+-- they aren't more than the limit, each of an entity whose rows have versions
 pub record AreFit (m : List EntityDef) (ds : List Def) : Type 0 where
-  pub few : length ds ≤ 64
+  pub few : length ds ≤ max_collections
   pub versioned : list_all (λ d. is_versioned m d.entity) ds ≡ true

@@ -2,6 +2,7 @@
 use Rattle.std.specs.Prelude.{◌≡◌, ◌≤◌, ◌==◌, ◌&&◌, ◌||◌, ℕ, Bool, true, if◌then◌else◌, nat_le, nat_lt, List, [], ◌∷◌, ◌++◌, length, codes, slice_get, Option, Some, None, Result, Ok, Err}
 use Rattle.std.specs.List.{list_all}
 use Rattle.hib_base.specs.Scripts.{strategy_in, is_cached_in}
+use Rattle.hib_base.specs.Valid.{max_orders}
 use Rattle.hib_base.specs.declared.refusals.Kind.{Kind}
 use Rattle.hib_base.specs.declared.refusals.Refused.{Refused}
 use Rattle.hib_base.specs.declared.scripts.EntityDef.{EntityDef}
@@ -82,7 +83,7 @@ deliver_of _ = Err Kind.Words
 
 abbrev pub with_order : Read → Result NodeOrder Kind → Result Read Kind
 with_order r (Err k) = Err k
-with_order r (Ok o) = if nat_le 20000 (length r.orders) then Err Kind.Many else Ok (record r { orders = r.orders ++ o ∷ [] })
+with_order r (Ok o) = if nat_le max_orders (length r.orders) then Err Kind.Many else Ok (record r { orders = r.orders ++ o ∷ [] })
 
 abbrev pub in_schedule : List EntityDef → List SessionDef → Read → List Token → Result Read Kind
 in_schedule m ss r ts =
@@ -129,11 +130,11 @@ abbrev pub is_given : ℕ → NodeOrder → Bool
 is_given count (NodeOrder.Run s n) = nat_lt s count
 is_given count (NodeOrder.Deliver n) = is_node n
 
--- sessions of the script are at nodes, each named once; there are at most 20,000 orders, and what is cached is cached under soft locks
+-- sessions of the script are at nodes, each named once; the orders aren't more than the limit, and what is cached is cached under soft locks
 pub record AreFit (m : List EntityDef) (ss : List SessionDef) (ps : Nodings) (os : List NodeOrder) : Type 0 where
   pub nodes : list_all (λ p. is_node p.1) ps ≡ true
   pub sessions : list_all (λ p. nat_lt p.0 (length ss)) ps ≡ true
   pub once : are_once ps ≡ true
   pub orders : list_all (is_given (length ss)) os ≡ true
-  pub few : length os ≤ 20000
+  pub few : length os ≤ max_orders
   pub strategies : (n : ℕ) → is_cached_in m n ≡ true → strategy_in (slice_get m n) ≡ Strategy.ReadWrite

@@ -5,10 +5,10 @@ use Rattle.hib_base.specs.Tables.{Tables}
 use Rattle.hib_journal.specs.Types.{Script, Part}
 use Rattle.hib_journal.specs.Sessions.{Journal}
 use Rattle.hib_journal.specs.Next.{next}
-use Rattle.hib_journal.specs.Lists.{stored}
+use Rattle.hib_journal.specs.Lists.{of_part, stored}
 use Rattle.hib_journal.specs.Runs.{fault_count}
 use Rattle.hib_engines.specs.Counts.{RoseBy}
-use Rattle.hib_split_law.specs.Merged.{list_of, ArePartsLegal, AreOwnLegal, IsMerged, Agrees, AreDue}
+use Rattle.hib_split_law.specs.Merged.{list_of, of_part_in, ArePartsLegal, AreOwnLegal, IsMerged, Agrees, AreDue}
 use Rattle.hib_merge.specs.Merging.{AreRising, IsInOne}
 use Rattle.hib_engines.specs.Origin.{Origin}
 use Rattle.hib_parts.specs.Run.{AreOfRun, AreOfRunOneByOne, IsOneByOne}
@@ -23,6 +23,10 @@ pub record AreListed (script : Script) (told : Option Tables) (lists mine : List
 -- the first n sessions are at their ends
 abbrev pub AreAtEnds : Script → ℕ → List Journal → Type 0
 AreAtEnds script n mine = (s : ℕ) → s < n → next script s (list_of s mine) ≡ None
+
+-- a session's own acts are on its list as on that of its own part
+abbrev pub AreOwnListed : List Journal → List Journal → Type 0
+AreOwnListed lists mine = (s : ℕ) → of_part_in (Part.Own s) lists ≡ of_part (Part.Own s) (list_of s mine)
 
 -- what a keeper tells is what the store's list leaves, and it has failed as often as the list says
 pub record IsToldBy (from : Origin) (l : Journal) (tables : Option Tables) (failed : ℕ) : Type 0 where

@@ -1,15 +1,14 @@
 // A run in which the caller makes the steps of one session after the other, with no thread and no lock.
-ghost use Rattle.std.specs.Prelude.{◌≡◌, ◌≤◌, ◌+◌, ℕ, [], length, map, true, false, None, vec_len, vec_capacity, IfOk};
-ghost use Rattle.std.specs.List.{All, filter, range_with_len};
+ghost use Rattle.std.specs.Prelude.{◌≡◌, ◌≤◌, ◌+◌, [], length, map, true, false, None, vec_len, vec_capacity, IfOk};
+ghost use Rattle.std.specs.List.{All};
 ghost use Rattle.hib_base.specs.Valid.{is_valid};
 ghost use Rattle.hib_base.specs.declared.entries.Part.{Part};
 ghost use Rattle.hib_journal.specs.Kept.{past};
-ghost use Rattle.hib_journal.specs.Lists.{of_part};
-ghost use Rattle.hib_journal.specs.Next.{is_cached};
 ghost use Rattle.hib_engines.specs.Counts.{RoseWithin};
 ghost use Rattle.hib_split_law.specs.Apart.{store_ask_count};
-ghost use Rattle.hib_split_law.specs.Merged.{list_of, of_part_in};
-ghost use Rattle.hib_split.specs.Alone.{AreAtEnds, AreListed, AreOneByOne, AreWhole, IsToldBy};
+ghost use Rattle.hib_split_law.specs.Merged.{of_part_in};
+ghost use Rattle.hib_parts.specs.Run.{cached_entities, entities_of};
+ghost use Rattle.hib_split.specs.Alone.{AreAtEnds, AreListed, AreOneByOne, AreOwnListed, AreWhole, IsToldBy};
 
 use crate::gathering::room_for;
 use crate::rest::{Split, go_on};
@@ -71,8 +70,7 @@ pub fn without_room<K: Keeper, N: Name>(alloc: Global, parts: Parts<K, N>) -> Sp
 pub fn run_alone<K: Keeper, N: Name>(alloc: Global, parts: Parts<K, N>, script: &Script) -> Split<K>
     requires script { script.now ≡ N.script }
     requires store { parts.store.list ≡ [] }
-    requires entities { map (λ r. r.entity) parts.regions.items
-        ≡ filter (λ n. is_cached N.script n) (range_with_len 0 (length N.script.mapping)) }
+    requires entities { entities_of parts.regions.items ≡ cached_entities N.script }
     ensures listed { AreListed N.script N.from.tables (map past result.lists)
         (map past result.mine) }
     ensures over { result.out_of_memory ≡ false
@@ -82,9 +80,8 @@ pub fn run_alone<K: Keeper, N: Name>(alloc: Global, parts: Parts<K, N>, script: 
     ensures asked { result.out_of_memory ≡ false
         → RoseWithin N.from.asked (store_ask_count (of_part_in Part.Store (map past result.lists)))
         (K.asked result.keeper) }
-    ensures own { result.out_of_memory ≡ false → (s : ℕ)
-        → of_part_in (Part.Own s) (map past result.lists)
-        ≡ of_part (Part.Own s) (list_of s (map past result.mine)) }
+    ensures own { result.out_of_memory ≡ false
+        → AreOwnListed (map past result.lists) (map past result.mine) }
     ensures whole { result.out_of_memory ≡ false → parts.registry ≡ [] → parts.stamps ≡ []
         → parts.results ≡ [] → All (λ r. r.list ≡ []) parts.regions.items
         → AreWhole (map past result.lists) (map past result.mine) }

@@ -1,6 +1,7 @@
 // What workers share: each part behind a lock of its own.
 ghost use Rattle.std.specs.Prelude.{◌≡◌, ◌<◌, ◌≤◌, ◌+◌, ◌^◌, [], map, vec_len, vec_capacity, IfNone, IfOk, IsOk};
 ghost use Rattle.hib_parts.specs.Listed.{IsDueOn};
+ghost use Rattle.hib_parts.specs.Run.{entities_of};
 
 use crate::halt::Halt;
 use crate::locks::{LockedRegion, lock_regions, step_under_lock, unlock_regions};
@@ -112,7 +113,7 @@ impl<K: Keeper, N: Name> Bench<K, N> {
         requires empty { locks.items ≡ [] }
         requires room { vec_len locks + vec_len parts.regions ≤ vec_capacity locks }
         ensures entities { map (λ l. l.entity) result.regions.items
-            ≡ map (λ r. r.entity) parts.regions.items }
+            ≡ entities_of parts.regions.items }
         ensures len { vec_len result.regions ≡ vec_len locks + vec_len parts.regions }
     {
         parts.registry.built();
@@ -144,7 +145,7 @@ impl<K: Keeper, N: Name> Bench<K, N> {
         requires empty { room.items ≡ [] }
         requires room { vec_len room + vec_len self.regions ≤ vec_capacity room }
         ensures entities { IfNone result.strange
-            (map (λ r. r.entity) result.parts.regions.items
+            (entities_of result.parts.regions.items
             ≡ map (λ l. l.entity) self.regions.items) }
         ensures len { IfNone result.strange
             (vec_len result.parts.regions ≡ vec_len room + vec_len self.regions) }

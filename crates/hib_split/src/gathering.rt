@@ -10,7 +10,7 @@ ghost use Rattle.hib_split_law.specs.Merged.{AreOwnLegal, list_of, of_part_in};
 ghost use Rattle.hib_split.specs.Alone.{IsToldBy};
 ghost use Rattle.hib_split.specs.Gathered.{AscendFrom, IsGathered};
 ghost use Rattle.hib_parts.specs.Listed.{AreOf};
-ghost use Rattle.hib_parts.specs.Run.{list_on, part_lists};
+ghost use Rattle.hib_parts.specs.Run.{entities_of, list_on, part_lists};
 
 use hib_base::{Entry, Part, SessionNo};
 use hib_engines::Name;
@@ -62,7 +62,7 @@ fn add_four<N: Name>(
 /// Adds the lists of regions, of which the last comes first. There is room for them.
 fn add_regions<N: Name>(lists: &mut Vec<Journal>, regions: Vec<RegionPart<N>>)
     requires room { vec_len lists.old + vec_len regions ≤ vec_capacity lists.old }
-    requires ascend { AscendFrom 0 (map (λ r. r.entity) (reverse regions.items)) }
+    requires ascend { AscendFrom 0 (entities_of (reverse regions.items)) }
     requires gathered { IsGathered N.script N.from.tables (Part.Region 0)
         (map past lists.old.items) }
     ensures gathered { IsGathered N.script N.from.tables (Part.Own 0) (map past lists.new.items) }
@@ -80,7 +80,7 @@ fn add_regions<N: Name>(lists: &mut Vec<Journal>, regions: Vec<RegionPart<N>>)
 pub fn add_shared<K: Keeper, N: Name>(lists: &mut Vec<Journal>, parts: Parts<K, N>) -> K
     requires empty { lists.old.items ≡ [] }
     requires room { vec_len lists.old + (vec_len parts.regions + 4) ≤ vec_capacity lists.old }
-    requires ascend { AscendFrom 0 (map (λ r. r.entity) parts.regions.items) }
+    requires ascend { AscendFrom 0 (entities_of parts.regions.items) }
     ensures gathered { IsGathered N.script N.from.tables (Part.Own 0) (map past lists.new.items) }
     ensures told { IsToldBy N.from (of_part_in Part.Store (map past lists.new.items))
         (K.tables result) (K.faults result) }

@@ -2,6 +2,7 @@
 ghost use Rattle.std.specs.Prelude.{◌≡◌, ◌<◌, ◌≤◌, ◌+◌, [], length, map, vec_len, vec_capacity, IfSome, OnOk};
 ghost use Rattle.hib_base.specs.declared.entries.Part.{Part};
 ghost use Rattle.hib_parts.specs.Listed.{IsDueOn};
+ghost use Rattle.hib_parts.specs.Run.{entities_of};
 
 use crate::halt::Halt;
 use crate::strange::{Strange, compared};
@@ -24,7 +25,7 @@ pub struct LockedRegion<N: Name> {
 pub fn lock_regions<N: Name>(regions: Vec<RegionPart<N>>, locks: &mut Vec<LockedRegion<N>>)
     requires empty { locks.old.items ≡ [] }
     requires room { vec_len locks.old + vec_len regions ≤ vec_capacity locks.old }
-    ensures entities { map (λ l. l.entity) locks.new.items ≡ map (λ r. r.entity) regions.items }
+    ensures entities { map (λ l. l.entity) locks.new.items ≡ entities_of regions.items }
     ensures len { vec_len locks.new ≡ vec_len locks.old + vec_len regions }
 {
     let mut rest = regions;
@@ -45,7 +46,7 @@ pub fn unlock_regions<N: Name>(
     requires empty { regions.old.items ≡ [] }
     requires room { vec_len regions.old + vec_len locks ≤ vec_capacity regions.old }
     ensures entities { OnOk result
-        (map (λ r. r.entity) regions.new.items ≡ map (λ l. l.entity) locks.items) }
+        (entities_of regions.new.items ≡ map (λ l. l.entity) locks.items) }
     ensures len { OnOk result (vec_len regions.new ≡ vec_len regions.old + vec_len locks) }
 {
     let mut rest = locks;

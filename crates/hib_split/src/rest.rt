@@ -1,16 +1,14 @@
 // What comes of a run: the caller steps the sessions to their ends from where workers left them, and puts the lists together.
-ghost use Rattle.std.specs.Prelude.{◌≡◌, ◌≢◌, ◌<◌, ◌≤◌, ◌+◌, ℕ, [], length, map, true, false, None, vec_len, vec_capacity, IfSome, IsSome};
-ghost use Rattle.std.specs.List.{filter, range_with_len};
+ghost use Rattle.std.specs.Prelude.{◌≡◌, ◌≢◌, ◌<◌, ◌≤◌, ◌+◌, [], length, map, true, false, None, vec_len, vec_capacity, IfSome, IsSome};
 ghost use Rattle.hib_base.specs.Valid.{is_valid};
 ghost use Rattle.hib_base.specs.declared.entries.Part.{Part};
 ghost use Rattle.hib_journal.specs.Kept.{past};
-ghost use Rattle.hib_journal.specs.Lists.{of_part};
-ghost use Rattle.hib_journal.specs.Next.{is_cached, next};
+ghost use Rattle.hib_journal.specs.Next.{next};
 ghost use Rattle.hib_engines.specs.Counts.{RoseBy, RoseWithin};
 ghost use Rattle.hib_split_law.specs.Apart.{store_ask_count};
-ghost use Rattle.hib_split_law.specs.Merged.{AreOwnLegal, list_of, of_part_in};
-ghost use Rattle.hib_parts.specs.Run.{GoesOn, part_lists};
-ghost use Rattle.hib_split.specs.Alone.{AreAtEnds, AreListed, AreOfOne, AreOneByOne, AreSoFar, AreWhole, IsToldBy};
+ghost use Rattle.hib_split_law.specs.Merged.{AreOwnLegal, of_part_in};
+ghost use Rattle.hib_parts.specs.Run.{GoesOn, cached_entities, entities_of, part_lists};
+ghost use Rattle.hib_split.specs.Alone.{AreAtEnds, AreListed, AreOfOne, AreOneByOne, AreOwnListed, AreSoFar, AreWhole, IsToldBy};
 
 use crate::gathering::{add_own_lists, add_shared};
 use crate::strange::Strange;
@@ -68,8 +66,7 @@ fn step_to_end<K: Keeper, N: Name>(
     requires script { script.now ≡ N.script }
     requires going { before ≡ false → parts.old.store.refused ≡ false }
     ensures going { result ≡ false → parts.new.store.refused ≡ false }
-    ensures entities { map (λ r. r.entity) parts.new.regions.items
-        ≡ map (λ r. r.entity) parts.old.regions.items }
+    ensures entities { entities_of parts.new.regions.items ≡ entities_of parts.old.regions.items }
     ensures number { worker.new.number ≡ worker.old.number }
     ensures over { result ≡ false → next N.script worker.new.number worker.new.list ≡ None }
     ensures before { result ≡ false → before ≡ false }
@@ -103,8 +100,7 @@ fn end_session<K: Keeper, N: Name>(
     requires legal { AreOwnLegal N.script (map past mine.old.items) }
     requires over { before ≡ false → AreAtEnds N.script number (map past mine.old.items) }
     ensures going { result ≡ false → parts.new.store.refused ≡ false }
-    ensures entities { map (λ r. r.entity) parts.new.regions.items
-        ≡ map (λ r. r.entity) parts.old.regions.items }
+    ensures entities { entities_of parts.new.regions.items ≡ entities_of parts.old.regions.items }
     ensures legal { AreOwnLegal N.script (map past mine.new.items) }
     ensures over { result ≡ false → AreAtEnds N.script (number + 1) (map past mine.new.items) }
     ensures place { length mine.new.items ≡ number + 1 }
@@ -140,8 +136,7 @@ fn end_sessions<K: Keeper, N: Name>(
     requires room { vec_len mine.old + length script.now.sessions ≤ vec_capacity mine.old }
     requires going { before ≡ false → parts.old.store.refused ≡ false }
     ensures going { result ≡ false → parts.new.store.refused ≡ false }
-    ensures entities { map (λ r. r.entity) parts.new.regions.items
-        ≡ map (λ r. r.entity) parts.old.regions.items }
+    ensures entities { entities_of parts.new.regions.items ≡ entities_of parts.old.regions.items }
     ensures legal { AreOwnLegal N.script (map past mine.new.items) }
     ensures over { result ≡ false
         → AreAtEnds N.script (length N.script.sessions) (map past mine.new.items) }
@@ -180,8 +175,7 @@ pub fn go_on<K: Keeper, N: Name>(
     mine: Vec<Journal>,
 ) -> Split<K>
     requires script { script.now ≡ N.script }
-    requires entities { map (λ r. r.entity) parts.regions.items
-        ≡ filter (λ n. is_cached N.script n) (range_with_len 0 (length N.script.mapping)) }
+    requires entities { entities_of parts.regions.items ≡ cached_entities N.script }
     requires lists { lists.items ≡ [] }
     requires room { vec_len lists + (vec_len parts.regions + 4) ≤ vec_capacity lists }
     requires mine { mine.items ≡ [] }
@@ -195,9 +189,8 @@ pub fn go_on<K: Keeper, N: Name>(
     ensures asked { result.out_of_memory ≡ false
         → RoseWithin N.from.asked (store_ask_count (of_part_in Part.Store (map past result.lists)))
         (K.asked result.keeper) }
-    ensures own { result.out_of_memory ≡ false → (s : ℕ)
-        → of_part_in (Part.Own s) (map past result.lists)
-        ≡ of_part (Part.Own s) (list_of s (map past result.mine)) }
+    ensures own { result.out_of_memory ≡ false
+        → AreOwnListed (map past result.lists) (map past result.mine) }
     ensures whole { result.out_of_memory ≡ false → aside.items ≡ []
         → AreOfOne (part_lists parts) [] → AreWhole (map past result.lists) (map past result.mine) }
     ensures order { result.out_of_memory ≡ false → aside.items ≡ [] → is_valid N.script ≡ true
@@ -231,8 +224,7 @@ pub fn stop<K: Keeper, N: Name>(
 ) -> Split<K>
     ensures listed { AreListed N.script N.from.tables (map past result.lists)
         (map past result.mine) }
-    ensures own { (s : ℕ) → of_part_in (Part.Own s) (map past result.lists)
-        ≡ of_part (Part.Own s) (list_of s (map past result.mine)) }
+    ensures own { AreOwnListed (map past result.lists) (map past result.mine) }
     ensures failed { RoseBy N.from.faults 0 (K.faults result.keeper) }
     ensures strange { IfSome result.strange (λ p. p.0 ≢ p.1) }
     ensures stopped { IsSome result.strange }

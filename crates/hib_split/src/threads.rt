@@ -1,6 +1,7 @@
 // Workers: threads that step sessions over parts behind locks, each a session at a time.
-ghost use Rattle.std.specs.Prelude.{◌≡◌, ◌≤◌, ◌+◌, [], map, vec_len, vec_capacity, IfNone};
+ghost use Rattle.std.specs.Prelude.{◌≡◌, ◌≤◌, ◌+◌, [], vec_len, vec_capacity, IfNone};
 ghost use denote.Param.Send.{IsSync};
+ghost use Rattle.hib_parts.specs.Run.{entities_of};
 
 use crate::bench::{Bench, Left, Room};
 use crate::halt::Halt;
@@ -29,7 +30,7 @@ pub fn on_threads<R: Threads + Wait + Sync, K: Keeper, N: Name + Send + Sync, G:
     requires regions { (room.regions.items ≡ []) × (vec_len room.regions ≡ 0) }
     requires room { vec_len parts.regions ≤ vec_capacity room.regions }
     ensures entities { IfNone result.strange
-        (map (λ r. r.entity) result.parts.regions.items ≡ map (λ r. r.entity) parts.regions.items) }
+        (entities_of result.parts.regions.items ≡ entities_of parts.regions.items) }
     ensures len { IfNone result.strange (vec_len result.parts.regions ≡ vec_len parts.regions) }
 {
     let Room {

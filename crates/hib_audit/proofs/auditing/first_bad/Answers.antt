@@ -13,4 +13,4 @@ returns-in-Some c = λ z.
     let e = c.index-entries-at.result in
     let below : at < length xs = omega arith in
     breaks_at script (start_rows script) xs at (at + 1) e c.in-Some.kind below c.index-entries-at.is refl c.loop-at.invariant.legal
-    (subst (λ (o : Option AuditKind). IsPassed script (start_rows script) (reverse (take at xs)) e o c.pass.new.self) c.in-Some.is c.in_ok-kind.ensures z)
+    (subst (λ (o : Option AuditKind). IsPassed script (start_rows script) (reverse (take at xs)) e o c.pass.new.self) c.in-Some.is (c.in_ok-kind.ensures (reverse (take at xs)) c.loop-at.invariant) z)

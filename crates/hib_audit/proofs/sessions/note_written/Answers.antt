@@ -1,9 +1,8 @@
-use Rattle.std.specs.Prelude.{reverse}
 use Rattle.hib_engines.proofs.Outcomes.{map_on}
 use Rattle.hib_audit.proofs.Kept.{written_taken}
 use Rattle.hib_audit.proofs.sessions.note_written.Goals as goal
 
 pub returns : goal.returns
-returns c = map_on c.note.result _ _ c.note.ensures (λ f.
-    written_taken c.args.script.now (reverse c.args.before.now) c.number.inside.0 c.args.number c.args.entry.now c.args.written.now.items c.index_mut.result.now c.note.new.self c.number.view_is
-    c.index_mut.ensures.value c.requires.by c.requires.written c.requires.there f)
+returns c = map_on c.note.result _ _ c.note.ensures (λ f script h w.
+    written_taken script h c.number.inside.0 c.args.number c.args.entry.now c.args.written.now.items c.index_mut.result.now c.note.new.self c.number.view_is
+    c.index_mut.ensures.value c.requires.by w c.requires.there f)

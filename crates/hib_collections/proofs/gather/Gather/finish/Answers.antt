@@ -3,7 +3,7 @@ use Rattle.std.specs.List.{range_with_len}
 use Rattle.hib_engines.proofs.Outcomes.{err_all}
 use Rattle.hib_collections.specs.Kept.{past}
 use Rattle.hib_collections.specs.Played.{Play, play_sessions}
-use Rattle.hib_collections.proofs.Playing.{goes_by, goes_then, over_more, sessions_done, sessions_more}
+use Rattle.hib_collections.proofs.Playing.{goes_by, over_more, sessions_done, sessions_more, stopped_after}
 use Rattle.hib_collections.proofs.gather.Gather.finish.Goals as goal
 
 pub loop-number-preserved : goal.loop-number-preserved
@@ -26,13 +26,10 @@ returns-clause-played g c =
     sessions_done script g.N.Name.defs c.loop-number.number (length script.sessions) all (past c.args.self.now.journal) (past c.loop-number.self.journal)
     (subst (λ (m : ℕ). m ≤ c.loop-number.number) c.sessions-number-end.ensures.count c.loop-number-test.false) c.loop-number.invariant.played
 
-pub returns-in_err-run_session-clause-stands : goal.returns-in_err-run_session-clause-stands
-returns-in_err-run_session-clause-stands g c =
+pub returns-in_err-run_session-clause-stopped : goal.returns-in_err-run_session-clause-stopped
+returns-in_err-run_session-clause-stopped g c =
     let script = g.N.Name.script in
     let all : Play = play_sessions script g.N.Name.defs (range_with_len 0 (length script.sessions)) in
     let left : Play = play_sessions script g.N.Name.defs (range_with_len c.loop-number.number (length script.sessions - c.loop-number.number)) in
-    err_all c.from_residual.result _ (goes_then (past c.args.self.now.journal) (past c.loop-number.self.journal) (past c.run_session.new.self.journal)
-    (goes_by all left (past c.args.self.now.journal) (past c.loop-number.self.journal) c.loop-number.invariant.played) c.in_err-run_session.ensures.stands)
-
-pub returns-in_err-run_session-clause-asked : goal.returns-in_err-run_session-clause-asked
-returns-in_err-run_session-clause-asked g c = err_all c.from_residual.result _ (λ p. c.in_err-run_session.ensures.asked (c.loop-number.invariant.going ∙ p))
+    err_all c.from_residual.result _ (stopped_after script g.N.Name.from c.args.self.now c.loop-number.self c.run_session.new.self
+    (goes_by all left (past c.args.self.now.journal) (past c.loop-number.self.journal) c.loop-number.invariant.played) c.loop-number.invariant.going c.in_err-run_session.ensures.stopped)

@@ -2,7 +2,7 @@ use Rattle.std.proofs.Common.{length, Ok, ap, arith, ◌∙◌}
 use Rattle.hib_engines.proofs.Outcomes.{err_all}
 use Rattle.hib_collections.specs.Kept.{past}
 use Rattle.hib_collections.specs.Played.{play_all}
-use Rattle.hib_collections.proofs.Playing.{all_more, all_over, goes_by, goes_then, stay_more}
+use Rattle.hib_collections.proofs.Playing.{all_more, all_over, goes_by, stay_more, stopped_after}
 use Rattle.hib_collections.proofs.gather.Gather.run_session.Goals as goal
 
 pub steps-preserved : goal.steps-preserved
@@ -28,10 +28,9 @@ returns-in-Done-clause-played g c =
     let over = c.step.ensures.done (c.in_ok-step.was ∙ ap (λ z. Ok z) c.in-Done.is) in
     all_over g.N.Name.script g.N.Name.defs c.args.number (past c.args.self.now.journal) (past c.steps.self.journal) (past c.step.new.self.journal) c.steps.invariant.played over.same over.over
 
-pub returns-in_err-step-clause-stands : goal.returns-in_err-step-clause-stands
-returns-in_err-step-clause-stands g c = err_all c.from_residual.result _ (goes_then (past c.args.self.now.journal) (past c.steps.self.journal) (past c.step.new.self.journal)
-    (goes_by (play_all g.N.Name.script g.N.Name.defs c.args.number) (play_all g.N.Name.script g.N.Name.defs c.args.number) (past c.args.self.now.journal) (past c.steps.self.journal) c.steps.invariant.played)
-    c.in_err-step.ensures.stands)
-
-pub returns-in_err-step-clause-asked : goal.returns-in_err-step-clause-asked
-returns-in_err-step-clause-asked g c = err_all c.from_residual.result _ (λ p. c.in_err-step.ensures.asked (c.steps.invariant.going ∙ p))
+pub returns-in_err-step-clause-stopped : goal.returns-in_err-step-clause-stopped
+returns-in_err-step-clause-stopped g c =
+    let all = play_all g.N.Name.script g.N.Name.defs c.args.number in
+    let failed = c.in_err-step.ensures in
+    err_all c.from_residual.result _ (stopped_after g.N.Name.script g.N.Name.from c.args.self.now c.steps.self c.step.new.self
+    (goes_by all all (past c.args.self.now.journal) (past c.steps.self.journal) c.steps.invariant.played) c.steps.invariant.going (record { stands = failed.stands; asked = failed.asked; refused = failed.refused }))

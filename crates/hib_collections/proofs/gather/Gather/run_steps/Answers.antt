@@ -2,7 +2,7 @@ use Rattle.std.proofs.Common.{◌≤◌, ℕ, ◌+◌, length, Ok, ap, subst, �
 use Rattle.hib_engines.proofs.Outcomes.{err_all}
 use Rattle.hib_collections.specs.Kept.{past}
 use Rattle.hib_collections.specs.Played.{play_steps}
-use Rattle.hib_collections.proofs.Playing.{goes_by, goes_then, steps_done, steps_more, steps_over, unknown_leads}
+use Rattle.hib_collections.proofs.Playing.{goes_by, steps_done, steps_more, steps_over, stopped_after, unknown_leads}
 use Rattle.hib_collections.proofs.gather.Gather.run_steps.Goals as goal
 
 pub returns-in-Done-clause-played : goal.returns-in-Done-clause-played
@@ -31,10 +31,10 @@ returns-then-number-sessions-clause-played g c =
     (c.sessions.ensures.unknown c.args.number
     (subst (λ (m : ℕ). length g.N.Name.script.sessions ≤ m) c.number.view_is (subst (λ (m : ℕ). m ≤ c.number.inside.0) c.sessions.ensures.count c.if-number-sessions.true)))
 
-pub returns-in_err-step-clause-stands : goal.returns-in_err-step-clause-stands
-returns-in_err-step-clause-stands g c = err_all c.from_residual.result _ (goes_then (past c.args.self.now.journal) (past c.loop-step.self.journal) (past c.step.new.self.journal)
-    (goes_by (play_steps g.N.Name.script g.N.Name.defs c.args.number (c.loop-step.step + 0)) (play_steps g.N.Name.script g.N.Name.defs c.args.number 0) (past c.args.self.now.journal) (past c.loop-step.self.journal)
-    (c.loop-step.invariant.played 0)) c.in_err-step.ensures.stands)
-
-pub returns-in_err-step-clause-asked : goal.returns-in_err-step-clause-asked
-returns-in_err-step-clause-asked g c = err_all c.from_residual.result _ (λ p. c.in_err-step.ensures.asked (c.loop-step.invariant.going ∙ p))
+pub returns-in_err-step-clause-stopped : goal.returns-in_err-step-clause-stopped
+returns-in_err-step-clause-stopped g c =
+    let steps = λ (n : ℕ). play_steps g.N.Name.script g.N.Name.defs c.args.number n in
+    let failed = c.in_err-step.ensures in
+    err_all c.from_residual.result _ (stopped_after g.N.Name.script g.N.Name.from c.args.self.now c.loop-step.self c.step.new.self
+    (goes_by (steps (c.loop-step.step + 0)) (steps 0) (past c.args.self.now.journal) (past c.loop-step.self.journal) (c.loop-step.invariant.played 0)) c.loop-step.invariant.going
+    (record { stands = failed.stands; asked = failed.asked; refused = failed.refused }))

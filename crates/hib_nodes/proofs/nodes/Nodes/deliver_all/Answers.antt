@@ -1,6 +1,9 @@
 use Rattle.std.proofs.Common.{Ok, ap, ◌∙◌}
 use Rattle.hib_nodes.specs.Kept.{past}
-use Rattle.hib_nodes.proofs.Playing.{fence_stays, queue_more, queue_rests}
+use Rattle.hib_engines.proofs.Outcomes.{err_all}
+use Rattle.hib_playing.proofs.Playing.{goes_by}
+use Rattle.hib_nodes.specs.Played.{play_queue}
+use Rattle.hib_nodes.proofs.Playing.{fence_stays, queue_more, queue_rests, stopped_after, stopped_at}
 use Rattle.hib_nodes.proofs.nodes.Nodes.deliver_all.Goals as goal
 
 pub pairs-preserved : goal.pairs-preserved
@@ -16,3 +19,13 @@ pairs-preserved g c =
       stay = λ s. fence_stays script n mid new did s ∙ c.pairs.invariant.stay s;
       going = c.in_ok-deliver.ensures.going ∙ c.pairs.invariant.going;
     }
+
+pub returns-in_err-deliver-clause-stopped : goal.returns-in_err-deliver-clause-stopped
+returns-in_err-deliver-clause-stopped g c =
+    let old = c.args.self.now in
+    let mid = c.pairs.self in
+    let new = c.deliver.new.self in
+    let failed = c.in_err-deliver.ensures in
+    let all = play_queue g.N.Name.script c.args.node in
+    err_all c.from_residual.result _ (stopped_after g.N.Name.from old mid new (goes_by all all (past old.journal) (past mid.journal) c.pairs.invariant.played) c.pairs.invariant.going
+    (stopped_at g.N.Name.from mid new failed.same failed.asked failed.refused))

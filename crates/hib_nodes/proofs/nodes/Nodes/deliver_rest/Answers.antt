@@ -1,10 +1,10 @@
 use Rattle.std.proofs.Common.{◌∙◌}
 use Rattle.hib_engines.proofs.Outcomes.{map_err, map_on}
 use Rattle.hib_playing.specs.Playing.{played}
-use Rattle.hib_playing.proofs.Playing.{goes_by, goes_then, then_leads}
+use Rattle.hib_playing.proofs.Playing.{goes_by, then_leads}
 use Rattle.hib_nodes.specs.Kept.{past}
 use Rattle.hib_nodes.specs.Played.{play_queue}
-use Rattle.hib_nodes.proofs.Playing.{both_empty, both_on}
+use Rattle.hib_nodes.proofs.Playing.{both_empty, both_on, stopped_after}
 use Rattle.hib_nodes.proofs.nodes.Nodes.deliver_rest.Goals as goal
 
 pub returns-clause-played : goal.returns-clause-played
@@ -22,10 +22,9 @@ returns-clause-stay g c = map_on c.deliver_all-2.result _ _ c.deliver_all-2.ensu
 pub returns-clause-going : goal.returns-clause-going
 returns-clause-going g c = map_on c.deliver_all-2.result _ _ c.deliver_all-2.ensures.going (λ p. p ∙ c.in_ok-deliver_all.ensures.going)
 
-pub returns-clause-stands : goal.returns-clause-stands
-returns-clause-stands g c = map_err c.deliver_all-2.result _ _ c.deliver_all-2.ensures.stands (λ p.
-    goes_then (past c.args.self.now.journal) (past c.deliver_all.new.self.journal) (past c.deliver_all-2.new.self.journal)
-    (goes_by (play_queue g.N.Name.script 1) played (past c.args.self.now.journal) (past c.deliver_all.new.self.journal) c.in_ok-deliver_all.ensures.played) p)
-
-pub returns-clause-asked : goal.returns-clause-asked
-returns-clause-asked g c = map_err c.deliver_all-2.result _ _ c.deliver_all-2.ensures.asked (λ p e. p (c.in_ok-deliver_all.ensures.going ∙ e))
+pub returns-clause-stopped : goal.returns-clause-stopped
+returns-clause-stopped g c = map_err c.deliver_all-2.result _ _ c.deliver_all-2.ensures.stopped (λ p.
+    let old = c.args.self.now in
+    let mid = c.deliver_all.new.self in
+    stopped_after g.N.Name.from old mid c.deliver_all-2.new.self
+    (goes_by (play_queue g.N.Name.script 1) played (past old.journal) (past mid.journal) c.in_ok-deliver_all.ensures.played) c.in_ok-deliver_all.ensures.going p)

@@ -1,9 +1,10 @@
 use Rattle.std.proofs.Common.{◌≤◌, ℕ, drop, subst, ◌∙◌}
 use Rattle.hib_engines.proofs.Outcomes.{err_all}
 use Rattle.hib_playing.specs.Playing.{play_each}
-use Rattle.hib_playing.proofs.Playing.{each_done, each_more, goes_by, goes_then}
+use Rattle.hib_playing.proofs.Playing.{each_done, each_more, goes_by}
 use Rattle.hib_nodes.specs.Kept.{past}
 use Rattle.hib_nodes.specs.Played.{play_order}
+use Rattle.hib_nodes.proofs.Playing.{stopped_after}
 use Rattle.hib_nodes.proofs.nodes.Nodes.follow_orders.Goals as goal
 
 pub loop-at-preserved : goal.loop-at-preserved
@@ -21,13 +22,10 @@ returns-clause-played g c =
     each_done f g.N.Name.orders c.loop-at.at (play_each f g.N.Name.orders) (past c.args.self.now.journal) (past c.loop-at.self.journal)
     (subst (λ (m : ℕ). m ≤ c.loop-at.at) c.orders-at-end.ensures.count c.loop-at-test.false) c.loop-at.invariant.played
 
-pub returns-in_err-obey-clause-stands : goal.returns-in_err-obey-clause-stands
-returns-in_err-obey-clause-stands g c =
+pub returns-in_err-obey-clause-stopped : goal.returns-in_err-obey-clause-stopped
+returns-in_err-obey-clause-stopped g c =
     let f = play_order g.N.Name.script in
-    let old = past c.args.self.now.journal in
-    let mid = past c.loop-at.self.journal in
-    err_all c.from_residual.result _ (goes_then old mid (past c.obey.new.self.journal)
-    (goes_by (play_each f g.N.Name.orders) (play_each f (drop c.loop-at.at g.N.Name.orders)) old mid c.loop-at.invariant.played) c.in_err-obey.ensures.stands)
-
-pub returns-in_err-obey-clause-asked : goal.returns-in_err-obey-clause-asked
-returns-in_err-obey-clause-asked g c = err_all c.from_residual.result _ (λ p. c.in_err-obey.ensures.asked (c.loop-at.invariant.going ∙ p))
+    let old = c.args.self.now in
+    let mid = c.loop-at.self in
+    err_all c.from_residual.result _ (stopped_after g.N.Name.from old mid c.obey.new.self
+    (goes_by (play_each f g.N.Name.orders) (play_each f (drop c.loop-at.at g.N.Name.orders)) (past old.journal) (past mid.journal) c.loop-at.invariant.played) c.loop-at.invariant.going c.in_err-obey.ensures.stopped)

@@ -1,10 +1,10 @@
 use Rattle.std.proofs.Common.{length, Ok, ap, arith, ◌∙◌}
 use Rattle.hib_engines.proofs.Outcomes.{err_all}
 use Rattle.hib_playing.specs.Playing.{play_all}
-use Rattle.hib_playing.proofs.Playing.{all_more, all_over, goes_by, goes_same, goes_then}
+use Rattle.hib_playing.proofs.Playing.{all_more, all_over, goes_by}
 use Rattle.hib_nodes.specs.Kept.{past}
 use Rattle.hib_nodes.specs.Played.{has_next, is_by}
-use Rattle.hib_nodes.proofs.Playing.{added_by, due_in, not_due, stay_more}
+use Rattle.hib_nodes.proofs.Playing.{added_by, due_in, not_due, stay_more, stopped_after, stopped_at}
 use Rattle.hib_nodes.proofs.nodes.Nodes.run_session.Goals as goal
 
 pub steps-preserved : goal.steps-preserved
@@ -45,13 +45,12 @@ returns-in-Done-clause-stay g c = λ s q.
     let done = c.step.ensures.done (c.in_ok-step.was ∙ ap (λ z. Ok z) c.in-Done.is) in
     ap (λ h. has_next g.N.Name.script h s) done.same ∙ c.steps.invariant.stay s q
 
-pub returns-in_err-step-clause-stands : goal.returns-in_err-step-clause-stands
-returns-in_err-step-clause-stands g c =
+pub returns-in_err-step-clause-stopped : goal.returns-in_err-step-clause-stopped
+returns-in_err-step-clause-stopped g c =
     let all = play_all (has_next g.N.Name.script) is_by c.args.number in
-    let old = past c.args.self.now.journal in
-    let mid = past c.steps.self.journal in
-    let new = past c.step.new.self.journal in
-    err_all c.from_residual.result _ (goes_then old mid new (goes_by all all old mid c.steps.invariant.played) (goes_same mid new c.in_err-step.ensures.same))
-
-pub returns-in_err-step-clause-asked : goal.returns-in_err-step-clause-asked
-returns-in_err-step-clause-asked g c = err_all c.from_residual.result _ (λ p. c.in_err-step.ensures.asked (c.steps.invariant.going ∙ p))
+    let old = c.args.self.now in
+    let mid = c.steps.self in
+    let new = c.step.new.self in
+    let failed = c.in_err-step.ensures in
+    err_all c.from_residual.result _ (stopped_after g.N.Name.from old mid new (goes_by all all (past old.journal) (past mid.journal) c.steps.invariant.played) c.steps.invariant.going
+    (stopped_at g.N.Name.from mid new failed.same failed.asked failed.refused))

@@ -1,10 +1,10 @@
 use Rattle.std.proofs.Common.{◌≤◌, ℕ, ◌+◌, length, Ok, ap, subst, ◌∙◌}
 use Rattle.hib_engines.proofs.Outcomes.{err_all}
 use Rattle.hib_playing.specs.Playing.{play_steps}
-use Rattle.hib_playing.proofs.Playing.{goes_by, goes_same, goes_then, none_leads, steps_done, steps_more, steps_over}
+use Rattle.hib_playing.proofs.Playing.{goes_by, none_leads, steps_done, steps_more, steps_over}
 use Rattle.hib_nodes.specs.Kept.{past}
 use Rattle.hib_nodes.specs.Played.{has_next, is_by}
-use Rattle.hib_nodes.proofs.Playing.{added_by, due_in, not_due}
+use Rattle.hib_nodes.proofs.Playing.{added_by, due_in, not_due, stopped_after, stopped_at}
 use Rattle.hib_nodes.proofs.nodes.Nodes.run_steps.Goals as goal
 
 pub returns-in-Done-clause-played : goal.returns-in-Done-clause-played
@@ -42,14 +42,13 @@ returns-then-number-sessions-clause-played g c =
     (c.sessions.ensures.unknown c.args.number
     (subst (λ (m : ℕ). length g.N.Name.script.sessions ≤ m) c.number.view_is (subst (λ (m : ℕ). m ≤ c.number.inside.0) c.sessions.ensures.count c.if-number-sessions.true)))
 
-pub returns-in_err-step-clause-stands : goal.returns-in_err-step-clause-stands
-returns-in_err-step-clause-stands g c =
+pub returns-in_err-step-clause-stopped : goal.returns-in_err-step-clause-stopped
+returns-in_err-step-clause-stopped g c =
     let due = has_next g.N.Name.script in
-    let old = past c.args.self.now.journal in
-    let mid = past c.loop-step.self.journal in
-    let new = past c.step.new.self.journal in
-    err_all c.from_residual.result _ (goes_then old mid new
-    (goes_by (play_steps due is_by c.args.number (c.loop-step.step + 0)) (play_steps due is_by c.args.number 0) old mid (c.loop-step.invariant.played 0)) (goes_same mid new c.in_err-step.ensures.same))
-
-pub returns-in_err-step-clause-asked : goal.returns-in_err-step-clause-asked
-returns-in_err-step-clause-asked g c = err_all c.from_residual.result _ (λ p. c.in_err-step.ensures.asked (c.loop-step.invariant.going ∙ p))
+    let old = c.args.self.now in
+    let mid = c.loop-step.self in
+    let new = c.step.new.self in
+    let failed = c.in_err-step.ensures in
+    err_all c.from_residual.result _ (stopped_after g.N.Name.from old mid new
+    (goes_by (play_steps due is_by c.args.number (c.loop-step.step + 0)) (play_steps due is_by c.args.number 0) (past old.journal) (past mid.journal) (c.loop-step.invariant.played 0)) c.loop-step.invariant.going
+    (stopped_at g.N.Name.from mid new failed.same failed.asked failed.refused))
