@@ -140,7 +140,13 @@ impl<K: Keeper, N: Name> Core<K, N> {
         ensures done { result ≡ Ok Stepped.Done
             → has_next N.script N.defs (past self.now.journal) number ≡ false }
     {
-        if has_turn::<N>(alloc, &self.script, number, self.gatherers.as_slice())? {
+        if has_turn::<N>(
+            alloc,
+            &self.script,
+            number,
+            self.gatherers.as_slice(),
+            &self.shared.journal,
+        )? {
             Err(AllocError)
         } else {
             Ok(Stepped::Done)

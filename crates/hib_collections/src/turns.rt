@@ -6,7 +6,6 @@ ghost use Rattle.hib_journal.specs.Next.{next};
 ghost use Rattle.hib_session.specs.Session.{Follows, is_ready, number_of};
 ghost use Rattle.hib_engines.specs.Due.{IsDue, HasQueries};
 ghost use Rattle.hib_engines.specs.Engines.{IsStill};
-ghost use Rattle.hib_collections_law.specs.Types.{Gathered as Past};
 ghost use Rattle.hib_collections_law.specs.Gathered.{Due, due};
 ghost use Rattle.hib_collections.specs.Kept.{past};
 ghost use Rattle.hib_collections.specs.Gatherers.{AreGatherers, IsGatherer};
@@ -191,13 +190,15 @@ pub fn has_turn<N: Name>(
     script: &Script,
     number: SessionNo,
     gatherers: &[Gatherer],
+    journal: &Gathered,
 ) -> Result<bool, AllocError>
     requires script { script.now ≡ N.script }
     requires queries { HasQueries N.script }
-    requires there { number < length gatherers.now }
-    ensures { IfOk result (λ b. (g : Past) → AreGatherers N.script g gatherers.now
-        → b ≡ is_some (due N.script N.defs number g)) }
+    requires known { number < length N.script.sessions }
+    requires sessions { AreGatherers N.script (past journal.now) gatherers.now }
+    ensures { IfOk result (λ b. b ≡ is_some (due N.script N.defs number (past journal.now))) }
 {
+    let _ = journal;
     let gatherer = &gatherers[number.0 as usize];
     if gatherer.notes.has_listed() {
         return Ok(true);
