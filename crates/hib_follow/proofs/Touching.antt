@@ -10,7 +10,7 @@ use Rattle.hib_journal.specs.Slot.{Touch, Slot, touch_here, touch_at, evicted_in
 use Rattle.hib_follow.specs.Steps.{after}
 use Rattle.hib_follow.specs.Shelves.{kept_slot}
 use Rattle.hib_follow.specs.Touched.{leaving, is_key}
-use Rattle.hib_follow.specs.declared.shelf.Kept.{Kept}
+use Rattle.hib_follow.specs.declared.kept.Kept.{Kept}
 
 -- of any region, a key that leaves has nothing, and one that is not touched what it had
 left_of : (g : Strategy) (timeout now : ℕ) (s : Slot) → after g timeout now (Some Touch.Leaves) s ≡ Slot.Vacant

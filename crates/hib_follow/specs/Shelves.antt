@@ -8,7 +8,7 @@ use Rattle.hib_journal.specs.Sessions.{Journal}
 use Rattle.hib_journal.specs.Slot.{Slot}
 use Rattle.hib_follow.specs.Cached.{cached}
 use Rattle.hib_follow.specs.Newest.{last_touch}
-use Rattle.hib_follow.specs.declared.shelf.Kept.{Kept}
+use Rattle.hib_follow.specs.declared.kept.Kept.{Kept}
 use Rattle.hib_follow.specs.declared.shelf.Shelved.{Shelved}
 
 abbrev pub Shelves : Type 0

@@ -3,12 +3,14 @@
 
 mod desk;
 mod desks;
+mod kept;
 mod known;
 mod marks;
 mod shelf;
 
 pub use desk::Desk;
 pub use desks::Desks;
+pub use kept::{Kept, key_in, leaving, row_from, tick_from, touched};
 pub use known::Known;
 pub use marks::{Keeps, Stamped, Stamps};
-pub use shelf::{Kept, Shelf, Shelved, key_in, leaving, row_from, tick_from, touched};
+pub use shelf::{Shelf, Shelved};

@@ -1,3 +1,3 @@
-pub mod Pieces
+pub mod Rowed
 pub mod Told
 pub mod Prefixes

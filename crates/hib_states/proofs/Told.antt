@@ -12,7 +12,7 @@ use Rattle.hib_base.specs.Tables.{Tables, key_of, row_left, row_at, last_on, aft
 use Rattle.hib_base.specs.Keys.{same_key}
 use Rattle.hib_base.proofs.Tables.{Tested, tested, same_key_refl, row_at_changes, left_by}
 use Rattle.hib_journal.specs.Types.{Key, Cell, Change, Commit, Checked, Put, Inserted, Script, Act, Reply, Entry}
-use Rattle.hib_journal.specs.Sessions.{Journal, is_by, own, time, floor_in, changes, changes_in, changes_after, committer, committed, is_open}
+use Rattle.hib_journal.specs.Sessions.{Journal, is_by, own, time, time_in, floor_in, changes, changes_in, changes_after, committer, committed, is_open}
 use Rattle.hib_journal.specs.Legal.{IsLegal, IsStep, reply_of, fault_of}
 use Rattle.hib_journal.specs.Results.{Result, result, dropped, stays, others, others_after}
 use Rattle.hib_journal.proofs.Sessions.{own_self}
@@ -190,11 +190,11 @@ committed_is start es h e ds a = by (committer e.act e.reply e.session) refl
 
 find_passes : (P : ℕ → Bool) (xs : List ℕ) (p : ℕ) → find P xs ≡ Some p → P p ≡ true
 find_passes P [] p e = absurd (no_session p e)
-find_passes P (x ∷ xs) p e = by (tested (P x))
+find_passes P (x ∷ xs) p e = by (tested (P x)) (find_passes P xs p)
   where
-    by : Tested (P x) → P p ≡ true
-    by (inl t) = let f : ◌≡◌ {A = Option ℕ} (Some x) (Some p) = rw t at e in subst (λ (n : ℕ). P n ≡ true) (some_is x p f) t
-    by (inr n) = find_passes P xs p (rw n at e)
+    by : Tested (P x) → (find P xs ≡ Some p → P p ≡ true) → P p ≡ true
+    by (inl t) later = let f : ◌≡◌ {A = Option ℕ} (Some x) (Some p) = rw t at e in subst (λ (n : ℕ). P n ≡ true) (some_is x p f) t
+    by (inr n) later = later (rw n at e)
 
 -- what is kept now
 kept_is : (script : Script) (q t : ℕ) (l : List Cell) (e : Entry) (h : Journal) → e.act ≡ Act.Keep q t l → kept_now script t l ≡ result script.results q (e ∷ h)
@@ -214,12 +214,13 @@ left_is script n q p t l e h a d = rw a (rw gone refl)
     gone : nat_lt (length (others_after p (Some q) (others p h))) script.results ≡ false
     gone = not_true (stays script.results q p h) both.1
 
-kept_in : Reply → Option ℕ
+abbrev kept_in : Reply → Option ℕ
 kept_in (Reply.Kept o) = o
 kept_in _ = None
 
 kept_answer : (script : Script) (start : Tables) (h : Journal) (e : Entry) (q t : ℕ) (l : List Cell) (o : Option ℕ) → IsLegal script (Some start) (e ∷ h) →
     e.act ≡ Act.Keep q t l → e.reply ≡ Reply.Kept o → dropped script.results (length script.queries) q h ≡ o
+unfolding dropped
 kept_answer script start h e q t l o g a r = by g.1.reply
   where
     by : (e.reply ≡ reply_of script start h (unwrap_or e.session 0) e.tick e.act) ⊎ (fault_of (changes (unwrap_or e.session 0) h) e.act ≡ Some e.reply) →

@@ -12,6 +12,10 @@ use Rattle.hib_flat.specs.Words.{change_word}
 use Rattle.hib_flat.specs.Lines.{member_text, cell_member}
 use Rattle.hib_states.specs.Facts.{Fact}
 
+-- its text; it stays folded where lines are put together
+unfoldable pub member : Member → List ℕ
+member m = member_text m
+
 abbrev pub said : List ℕ → List ℕ → Member
 said name w = (name, Some (word w))
 
@@ -73,7 +77,7 @@ fact_cells script _ = []
 
 unfoldable pub fact_line : Script → ℕ → Fact → List ℕ
 fact_line script n f =
-    codes "{\"entry\":" ++ decimal n ++ flat_map member_text (fact_members script f) ++ flat_map cell_member (fact_cells script f) ++ codes "}\n"
+    codes "{\"entry\":" ++ decimal n ++ flat_map member (fact_members script f) ++ flat_map cell_member (fact_cells script f) ++ codes "}\n"
 
 abbrev pub fact_text : Script → ℕ → List Fact → List ℕ
 fact_text script n fs = flat_map (fact_line script n) fs

@@ -4,9 +4,11 @@ ghost use Rattle.hib_follow.specs.Shelves.{kept_slot};
 ghost use Rattle.hib_states.specs.Facts.{Fact};
 ghost use Rattle.hib_states.specs.Texts.{fact_line};
 
-use crate::pieces::{kept_row, put_count, put_head, put_key, put_row, put_said, put_slot};
+use crate::pieces::{
+    kept_row, put_cells, put_count, put_flag, put_head, put_key, put_row, put_said, put_slot,
+};
 use hib_base::{Change, EntityNo, Entry, Key, Listing, QueryNo, Row, Script, SessionNo, Tick};
-use hib_flat::{Form, change_expected, change_word, put_bool_member, put_list_member, put_row_of};
+use hib_flat::{change_expected, change_word, put_row_of};
 use hib_follow::Kept;
 use hib_texts::{entity_name, query_name, session_name};
 use std::alloc::{AllocError, Global};
@@ -91,7 +93,7 @@ pub fn put_kept(
     put_said(out, b"query", query_name(script, query))?;
     put_said(out, b"holds", b"list")?;
     put_count(alloc, out, b"time", Some(time.0))?;
-    put_list_member(alloc, out, Form::Json, b"list", Some(list))?;
+    put_cells(alloc, out, b"list", list)?;
     out.extend_from_slice(b"}\n")
 }
 
@@ -129,7 +131,7 @@ pub fn put_open(
 {
     put_head(alloc, out, number, b"session")?;
     put_said(out, b"session", session_name(script, session))?;
-    put_bool_member(out, Form::Json, b"open", Some(true))?;
+    put_flag(out, b"open", true)?;
     put_count(alloc, out, b"time", Some(time.0))?;
     put_count(alloc, out, b"floor", Some(floor.0))?;
     out.extend_from_slice(b"}\n")
@@ -149,7 +151,7 @@ pub fn put_closed(
 {
     put_head(alloc, out, number, b"session")?;
     put_said(out, b"session", session_name(script, session))?;
-    put_bool_member(out, Form::Json, b"open", Some(false))?;
+    put_flag(out, b"open", false)?;
     out.extend_from_slice(b"}\n")
 }
 

@@ -4,7 +4,8 @@ ghost use Rattle.hib_base.specs.Tables.{Tables};
 ghost use Rattle.hib_follow.specs.Known.{Knows};
 ghost use Rattle.hib_journal.specs.Kept.{past};
 ghost use Rattle.hib_journal.specs.Legal.{IsLegal};
-ghost use Rattle.hib_journal.specs.Sessions.{Journal};
+ghost use Rattle.hib_journal.specs.Types.{Entry};
+ghost use Rattle.std.specs.Prelude.{List};
 ghost use Rattle.hib_states.specs.States.{entry_text, states_text};
 
 use crate::causes::put_cause;
@@ -25,10 +26,10 @@ fn put_entry<'a>(
     entry: &'a Entry,
 ) -> Result<(), AllocError>
     requires { slice_get entries.now place ≡ Some entry.now }
-    ensures text { OnOk result ((start : Tables) (h : Journal) → length h ≡ place
+    ensures text { OnOk result ((start : Tables) (h : List Entry) → length h ≡ place
         → IsLegal script.now (Some start) (entry.now ∷ h) → Knows script.now entries.now h known.old
         → out.new.items ≡ out.old.items ++ entry_text script.now start h entry.now) }
-    ensures known { OnOk result ((start : Tables) (h : Journal) → length h ≡ place
+    ensures known { OnOk result ((start : Tables) (h : List Entry) → length h ≡ place
         → IsLegal script.now (Some start) (entry.now ∷ h) → Knows script.now entries.now h known.old
         → Knows script.now entries.now (entry.now ∷ h) known.new) }
 {
