@@ -8,7 +8,9 @@ ghost use Rattle.hib_completion.specs.Completed.{acts_of, key_acts, keys_acts, c
 ghost use Rattle.hib_completion.specs.Touched.{StandsFor};
 
 use crate::lists::tables;
-use crate::touched::{Touched, change_of, first_of, is_changed, key_at, last_of, lock_number};
+use crate::touched::{
+    Touched, change_of, first_of, is_changed, key_at, keys_rise, last_of, lock_number,
+};
 use hib_base::{Act, Acts, Change, Key, Mapping, Mode, Row, Seq, Strategy, Tick, strategy_of};
 use indexmap::IndexMap;
 use std::alloc::{AllocError, Global};
@@ -225,6 +227,44 @@ fn new_completed(
     found_completed(alloc, mapping, changes, locks, done, floor, key)
 }
 
+/// What completes the key of the change at a place, of changes whose keys rise.
+fn risen_completed(
+    alloc: Global,
+    mapping: &Mapping,
+    changes: &[Change],
+    locks: &IndexMap<Key, Tick>,
+    done: bool,
+    floor: Tick,
+    place: usize,
+) -> Result<Option<Act>, AllocError>
+{
+    let change = &changes[place];
+    let key = change.key();
+    let strategy = strategy_of(mapping.as_slice(), key.entity);
+    let lock = lock_number(locks, &key);
+    let row = put_back(done, Some(change));
+    let act = key_completed(alloc, Some(change), strategy, key, lock, floor, row)?;
+    Ok(act)
+}
+
+/// What completes each of the keys of changes whose keys rise.
+fn all_risen_completed(
+    alloc: Global,
+    mapping: &Mapping,
+    changes: &[Change],
+    locks: &IndexMap<Key, Tick>,
+    done: bool,
+    floor: Tick,
+) -> Result<Acts, AllocError>
+{
+    let mut acts = Seq::new(alloc);
+    for place in 0..changes.len() {
+        let act = risen_completed(alloc, mapping, changes, locks, done, floor, place)?;
+        add(&mut acts, act)?;
+    }
+    Ok(acts)
+}
+
 /// What completes each of the keys of few changes, in order of first change.
 fn few_completed(
     alloc: Global,
@@ -262,6 +302,7 @@ fn keys_completed(
         [] => Ok(Seq::new(alloc)),
         [change] => one_completed(alloc, mapping, change, locks, done, floor),
         _ if changes.len() <= FEW => few_completed(alloc, mapping, changes, locks, done, floor),
+        _ if keys_rise(changes) => all_risen_completed(alloc, mapping, changes, locks, done, floor),
         _ => {
             let touched = Touched::of(alloc, changes)?;
             all_completed(alloc, mapping, changes, &touched, locks, done, floor)

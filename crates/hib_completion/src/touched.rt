@@ -2,7 +2,7 @@
 ghost use Rattle.std.specs.Prelude.{◌≡◌, ◌<◌, if◌then◌else◌, IfOk, OnOk, None, Some, length, option_copied, slice_get};
 ghost use Rattle.std.specs.List.{list_any};
 ghost use Rattle.std.specs.Map.{keys_of as keys_in, lookup};
-ghost use Rattle.hib_base.specs.Keys.{same_key};
+ghost use Rattle.hib_base.specs.Keys.{same_key, is_before};
 ghost use Rattle.hib_base.specs.Tables.{first_on, key_of, last_on};
 ghost use Rattle.hib_base.specs.declared.numbers.Key.{Key as KeyOf};
 ghost use Rattle.hib_journal.specs.Next.{keys_of};
@@ -23,6 +23,25 @@ pub fn change_of<'a>(
         ≡ at_place changes.now (lookup (same_key key.now) places.now.entries) }
 {
     changes.get(*places.get(key)?)
+}
+
+/// Whether a key comes before another.
+fn comes_before(a: &Key, b: &Key) -> bool
+    ensures { result ≡ is_before a.now b.now }
+{
+    a.entity.0 < b.entity.0 || (a.entity.0 == b.entity.0 && a.id < b.id)
+}
+
+/// Whether the keys of changes rise all along.
+pub fn keys_rise(changes: &[Change]) -> bool {
+    let mut from = changes.len().saturating_sub(1);
+    while from > 0 {
+        if !comes_before(&changes[from - 1].key(), &changes[from].key()) {
+            return false;
+        }
+        from -= 1;
+    }
+    true
 }
 
 /// Whether one of the changes is of a key.
