@@ -5,7 +5,6 @@ use Rattle.hib_input.specs.declared.with_journal.WithJournal.{WithJournal}
 use Rattle.hib_report.specs.Report.{report}
 use Rattle.hib_call.specs.declared.status.Status.{Status}
 use Rattle.hib_call.specs.Command.{Command}
-use Rattle.hib_call.specs.Limits.{max_journal}
 use Rattle.hib_call.specs.Ends.{IsWritten}
 
 -- a text was told whole, or the sink failed, or memory ran out
@@ -18,7 +17,7 @@ IsToldSo _ = ⊥
 -- ---- the command
 abbrev pub reporting : Command WithJournal WithJournal
 reporting = record {
-  limit = max_journal;
+  limit = 67108864;
   reads = λ text input. IsInput text input.script input.journal.list;
   refuses = IsBadInput;
   has_form = IsWholeInput;
