@@ -22,7 +22,7 @@ returns-in_ok-deliver-in-Deliver-clause-played g c =
     subst (λ (o : NodeOrder). Leads (play_order script o) played old new) (sym c.in-Deliver.is)
     (order_delivers script n old new i (delivers_by script n c.in_ok-deliver-in-Deliver.field-0 c.deliver.result old new c.in_ok-deliver-in-Deliver.was c.deliver.ensures.delivered c.deliver.ensures.none))
 
-pub returns-in_err-deliver-clause-stopped : goal.returns-in_err-deliver-clause-stopped
-returns-in_err-deliver-clause-stopped g c =
-    let failed = c.in_err-deliver.ensures in
+pub returns-in_err-deliver-in-Deliver-clause-stopped : goal.returns-in_err-deliver-in-Deliver-clause-stopped
+returns-in_err-deliver-in-Deliver-clause-stopped g c =
+    let failed = c.in_err-deliver-in-Deliver.ensures in
     err_all c.from_residual.result _ (stopped_at g.N.Name.from c.args.self.now c.deliver.new.self failed.same failed.asked failed.refused)
