@@ -9,4 +9,3 @@ pub mod Obeyed
 pub mod Gather
 pub mod Text
 pub mod Counted
-pub mod Shared
