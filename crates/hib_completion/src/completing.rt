@@ -13,7 +13,7 @@ use hib_base::{Act, Acts, Change, Key, Mapping, Mode, Row, Seq, Strategy, Tick, 
 use indexmap::IndexMap;
 use std::alloc::{AllocError, Global};
 
-/// Up to so many changes going over them is cheaper than maps of their keys.
+/// For how many changes at most going over them is cheaper than maps of their keys.
 const FEW: usize = 8;
 
 /// The row that may be put back after a key's last change.

@@ -121,8 +121,8 @@ fn start(alloc: Global, query: &Query, sort: &Sort) -> Result<Option<Value>, All
     }
 }
 
-/// How far a walk along a column goes: to so many rows that a query lists, in so many steps. If that is sure, the query
-/// lists each row from the first one on that it lists.
+/// How far a walk along a column goes: to a number of rows that a query lists, in at most a number of steps. If it is sure, the
+/// query lists each row from the first one on that it lists.
 #[derive(Clone, Copy)]
 struct Reach {
     most: usize,
@@ -220,7 +220,7 @@ fn are_few(
     }
 }
 
-/// Rows among which are those that come first in a query's order, so many as are asked for, of those that it lists of
+/// Rows among which are those that come first in a query's order, as many as are asked for, of those that it lists of
 /// some rows. None if the order of all is as quick.
 pub fn foremost<'a>(
     alloc: Global,

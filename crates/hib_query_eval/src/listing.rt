@@ -42,7 +42,7 @@ pub fn last_place(query: &Query) -> usize
     query.offset as usize + query.limit as usize
 }
 
-/// Whether so many rows are enough.
+/// Whether a number of rows is enough.
 pub fn is_enough(count: usize, most: Option<usize>) -> bool
     ensures { result ≡ is_enough count most }
 {
@@ -123,7 +123,7 @@ pub fn is_listed<'a>(query: &Query, view: &'a View<'_>, row: &'a (Key, Row)) -> 
     row.0.entity == query.entity && conditions::meets(view, &row.1, &query.condition)
 }
 
-/// So many rows from a place on.
+/// The rows from `offset` on, `limit` at most.
 fn cut<'a, 'b>(rows: &'a [&'b (Key, Row)], offset: u32, limit: u32) -> &'a [&'b (Key, Row)]
     ensures { result.now ≡ take limit (drop offset rows.now) }
 {

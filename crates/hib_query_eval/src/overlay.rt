@@ -69,7 +69,7 @@ fn given(
     }
 }
 
-/// What a query gives over rows as they are, by all rows that it lists, or by so many as are enough.
+/// What a query gives over rows as they are, by all rows that it lists, or by as many as are enough.
 fn given_of_all(
     alloc: Global,
     query: &Query,

@@ -148,8 +148,8 @@ fn narrowed_over(
     Ok(Some(ids))
 }
 
-/// The rows that are enough, where so many are listed among the first rows. None else, and where the places tell that few rows meet
-/// the condition.
+/// As many rows as are enough, if the first rows have them. None if they don't, or if the places tell that few rows meet the
+/// condition.
 fn listed_early<'a>(
     alloc: Global,
     query: &Query,
