@@ -21,7 +21,7 @@ pub fn gives(alloc: Global, query: &Query, rows: &Rows) -> Result<Listing, Alloc
 {
     let view = View::of(rows.as_slice());
     let met = listed(alloc, query, rows.as_slice(), &view, enough(query))?;
-    selected(alloc, query, &met)
+    selected(alloc, query, met)
 }
 
 /// How many of the rows that a query lists are enough for what it gives, since they stand in its order already. None if all are
@@ -53,9 +53,9 @@ pub fn is_enough(count: usize, most: Option<usize>) -> bool
 }
 
 /// What a query selects of the rows that meet its condition.
-pub fn selected(alloc: Global, query: &Query, met: &Vec<&(Key, Row)>) -> Result<Listing, AllocError>
+pub fn selected(alloc: Global, query: &Query, met: Vec<&(Key, Row)>) -> Result<Listing, AllocError>
     ensures { IfOk result (λ l. l ≡ selected query.now
-        (map (λ r. r.now) met.now.items) query.now.select) }
+        (map (λ r. r.now) met.items) query.now.select) }
 {
     match query.select {
         Select::Count => count(alloc, met.len()),
@@ -78,18 +78,13 @@ pub fn selected(alloc: Global, query: &Query, met: &Vec<&(Key, Row)>) -> Result<
 fn placed<'a>(
     alloc: Global,
     query: &Query,
-    met: &Vec<&'a (Key, Row)>,
+    met: Vec<&'a (Key, Row)>,
 ) -> Result<Vec<&'a (Key, Row)>, AllocError>
     ensures { IfOk result (λ v. map (λ r. r.now) v.items
         ≡ take (query.now.offset + query.now.limit)
-        (sorted query.now.order (map (λ r. r.now) met.now.items))) }
+        (sorted query.now.order (map (λ r. r.now) met.items))) }
 {
-    orders::first_sorted(
-        alloc,
-        query.order.as_slice(),
-        met.as_slice(),
-        last_place(query),
-    )
+    orders::first_sorted(alloc, query.order.as_slice(), met, last_place(query))
 }
 
 /// The rows that a query lists of a view, of some of its rows. Where a number is enough, no more than that.
