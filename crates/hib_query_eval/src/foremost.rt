@@ -137,13 +137,12 @@ fn ahead<'a>(
     places: &'a BTreeSet<Place>,
     start: Option<Value>,
 ) -> Range<'a, Place> {
-    let column = usize::from(sort.column);
     if sort.desc {
         let to = start.unwrap_or(Value::Greatest);
-        return places::between(places, query.entity, column, Value::Least, to);
+        return places::between(places, Value::Least, to);
     }
     let from = start.unwrap_or(Value::Least);
-    places::between(places, query.entity, column, from, Value::Greatest)
+    places::between(places, from, Value::Greatest)
 }
 
 /// The next identifier of a walk, which goes down from the last place or up from the first one.

@@ -55,7 +55,7 @@ pub fn is_enough(count: usize, most: Option<usize>) -> bool
 /// What a query selects of the rows that meet its condition.
 pub fn selected(alloc: Global, query: &Query, met: Vec<&(Key, Row)>) -> Result<Listing, AllocError>
     ensures { IfOk result (λ l. l ≡ selected query.now
-        (map (λ r. r.now) met.items) query.now.select) }
+        (map (λ r. r.now) met.entry.items) query.now.select) }
 {
     match query.select {
         Select::Count => count(alloc, met.len()),
@@ -82,7 +82,7 @@ fn placed<'a>(
 ) -> Result<Vec<&'a (Key, Row)>, AllocError>
     ensures { IfOk result (λ v. map (λ r. r.now) v.items
         ≡ take (query.now.offset + query.now.limit)
-        (sorted query.now.order (map (λ r. r.now) met.items))) }
+        (sorted query.now.order (map (λ r. r.now) met.entry.items))) }
 {
     orders::first_sorted(alloc, query.order.as_slice(), met, last_place(query))
 }
