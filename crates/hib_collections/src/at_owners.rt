@@ -16,7 +16,8 @@ ghost use Rattle.hib_collections_law.specs.Gathered.{Due, IsGathered, due, plain
 ghost use Rattle.hib_collections.specs.Collected.{AreCollected};
 ghost use Rattle.hib_collections.specs.Kept.{past};
 ghost use Rattle.hib_collections.specs.Gatherers.{IsGatherer};
-ghost use Rattle.hib_collections.specs.Run.{IsAnsweredAt, IsRun, IsTurn, Leaves, Serves, list_of_hit};
+ghost use Rattle.hib_collections.specs.Run.{IsAnsweredAt, IsTurn, list_of_hit};
+ghost use Rattle.hib_collections.specs.Shared.{HasLeft, HasServed, IsShared};
 
 use crate::members::Gatherer;
 use crate::names::Name;
@@ -103,8 +104,7 @@ fn serve_miss<K: Keeper, N: Name>(
     tick: Tick,
     reply: Reply,
 ) -> Turned
-    requires run { IsRun N.script N.defs N.from (past shared.old.journal) shared.old.engines
-        shared.old.regions.items }
+    requires run { IsShared N.script N.defs N.from shared.old }
     requires member { IsGatherer N.script (past shared.old.journal)
         (number_of gatherer.old.session) gatherer.old }
     requires tick { tick ≡ length (past shared.old.journal) + 1 }
@@ -119,9 +119,7 @@ fn serve_miss<K: Keeper, N: Name>(
         shared.old.regions.items }
     requires miss { list_of_hit reply ≡ None }
     requires calm { is_fault reply ≡ false }
-    ensures { Serves N.script N.defs N.from (number_of gatherer.old.session)
-        (past shared.old.journal) (past shared.new.journal) shared.old.engines shared.new.engines
-        shared.new.regions.items gatherer.new result }
+    ensures { HasServed N.script N.defs N.from shared.old shared.new gatherer.old gatherer.new result }
 {
     let number = gatherer.session.number();
     let act = MemberAct::Get {
@@ -145,8 +143,7 @@ fn serve_hit<K: Keeper, N: Name>(
     reply: Reply,
 ) -> Result<Turned, AllocError>
     requires script { script.now ≡ N.script }
-    requires run { IsRun N.script N.defs N.from (past shared.old.journal) shared.old.engines
-        shared.old.regions.items }
+    requires run { IsShared N.script N.defs N.from shared.old }
     requires turn { IsTurn N.script (past shared.old.journal) gatherer.old entry.act }
     requires few { length (past shared.old.journal) + 1 < 2 ^ 62 }
     requires room { 0 < shared.old.journal.spare }
@@ -161,12 +158,9 @@ fn serve_hit<K: Keeper, N: Name>(
         (length (past shared.old.journal) + 1) (Some (number_of gatherer.old.session)) entry.act
         (Reply.Listed l)) }
     requires is_hit { is_some (list_of_hit reply) ≡ true }
-    ensures ok { IfOk result (Serves N.script N.defs N.from (number_of gatherer.old.session)
-        (past shared.old.journal) (past shared.new.journal) shared.old.engines shared.new.engines
-        shared.new.regions.items gatherer.new) }
-    ensures err { OnErr result (Leaves N.script (past shared.old.journal) (past shared.new.journal)
-        shared.old.engines shared.new.engines shared.old.regions.items shared.new.regions.items
-        gatherer.old gatherer.new) }
+    ensures ok { IfOk result (HasServed N.script N.defs N.from shared.old shared.new gatherer.old
+        gatherer.new) }
+    ensures err { OnErr result (HasLeft N.script shared.old shared.new gatherer.old gatherer.new) }
 {
     lists_leave();
     let act = MemberAct::Get {
@@ -192,8 +186,7 @@ pub fn serve_get<K: Keeper, N: Name>(
     tick: Tick,
 ) -> Result<Turned, AllocError>
     requires script { script.now ≡ N.script }
-    requires run { IsRun N.script N.defs N.from (past shared.old.journal) shared.old.engines
-        shared.old.regions.items }
+    requires run { IsShared N.script N.defs N.from shared.old }
     requires tick { tick ≡ length (past shared.old.journal) + 1 }
     requires few { length (past shared.old.journal) + 1 < 2 ^ 62 }
     requires room { 0 < shared.old.journal.spare }
@@ -201,12 +194,9 @@ pub fn serve_get<K: Keeper, N: Name>(
     requires due { due N.script N.defs (number_of gatherer.old.session) (past shared.old.journal)
         ≡ Some (Due.Member place (MemberAct.Get (time_in (own (number_of gatherer.old.session)
         (plain N.script (past shared.old.journal)))))) }
-    ensures ok { IfOk result (Serves N.script N.defs N.from (number_of gatherer.old.session)
-        (past shared.old.journal) (past shared.new.journal) shared.old.engines shared.new.engines
-        shared.new.regions.items gatherer.new) }
-    ensures err { OnErr result (Leaves N.script (past shared.old.journal) (past shared.new.journal)
-        shared.old.engines shared.new.engines shared.old.regions.items shared.new.regions.items
-        gatherer.old gatherer.new) }
+    ensures ok { IfOk result (HasServed N.script N.defs N.from shared.old shared.new gatherer.old
+        gatherer.new) }
+    ensures err { OnErr result (HasLeft N.script shared.old shared.new gatherer.old gatherer.new) }
 {
     let number = gatherer.session.number();
     let get = Act::Get {
@@ -239,20 +229,16 @@ pub fn serve_put<K: Keeper, N: Name>(
     cells: Listing,
     tick: Tick,
 ) -> Result<Turned, AllocError>
-    requires run { IsRun N.script N.defs N.from (past shared.old.journal) shared.old.engines
-        shared.old.regions.items }
+    requires run { IsShared N.script N.defs N.from shared.old }
     requires tick { tick ≡ length (past shared.old.journal) + 1 }
     requires few { length (past shared.old.journal) + 1 < 2 ^ 62 }
     requires room { 0 < shared.old.journal.spare }
     requires member { IsGatherer N.script (past shared.old.journal)
         (number_of gatherer.old.session) gatherer.old }
     requires listed { gatherer.old.notes.listed ≡ Some (place, cells) }
-    ensures ok { IfOk result (Serves N.script N.defs N.from (number_of gatherer.old.session)
-        (past shared.old.journal) (past shared.new.journal) shared.old.engines shared.new.engines
-        shared.new.regions.items gatherer.new) }
-    ensures err { OnErr result (Leaves N.script (past shared.old.journal) (past shared.new.journal)
-        shared.old.engines shared.new.engines shared.old.regions.items shared.new.regions.items
-        gatherer.old gatherer.new) }
+    ensures ok { IfOk result (HasServed N.script N.defs N.from shared.old shared.new gatherer.old
+        gatherer.new) }
+    ensures err { OnErr result (HasLeft N.script shared.old shared.new gatherer.old gatherer.new) }
 {
     let number = gatherer.session.number();
     let time = gatherer.session.time();
@@ -282,8 +268,7 @@ pub fn serve_lock<K: Keeper, N: Name>(
     place: Place,
     tick: Tick,
 ) -> Result<Turned, AllocError>
-    requires run { IsRun N.script N.defs N.from (past shared.old.journal) shared.old.engines
-        shared.old.regions.items }
+    requires run { IsShared N.script N.defs N.from shared.old }
     requires tick { tick ≡ length (past shared.old.journal) + 1 }
     requires few { length (past shared.old.journal) + 1 < 2 ^ 62 }
     requires room { 0 < shared.old.journal.spare }
@@ -293,12 +278,9 @@ pub fn serve_lock<K: Keeper, N: Name>(
     requires due { due N.script N.defs (number_of gatherer.old.session) (past shared.old.journal)
         ≡ Some (Due.Member place (MemberAct.Lock (floor_in (own (number_of gatherer.old.session)
         (plain N.script (past shared.old.journal)))))) }
-    ensures ok { IfOk result (Serves N.script N.defs N.from (number_of gatherer.old.session)
-        (past shared.old.journal) (past shared.new.journal) shared.old.engines shared.new.engines
-        shared.new.regions.items gatherer.new) }
-    ensures err { OnErr result (Leaves N.script (past shared.old.journal) (past shared.new.journal)
-        shared.old.engines shared.new.engines shared.old.regions.items shared.new.regions.items
-        gatherer.old gatherer.new) }
+    ensures ok { IfOk result (HasServed N.script N.defs N.from shared.old shared.new gatherer.old
+        gatherer.new) }
+    ensures err { OnErr result (HasLeft N.script shared.old shared.new gatherer.old gatherer.new) }
 {
     let number = gatherer.session.number();
     let floor = gatherer.session.floor();
@@ -323,8 +305,7 @@ pub fn serve_unlock<K: Keeper, N: Name>(
     lock: Tick,
     tick: Tick,
 ) -> Result<Turned, AllocError>
-    requires run { IsRun N.script N.defs N.from (past shared.old.journal) shared.old.engines
-        shared.old.regions.items }
+    requires run { IsShared N.script N.defs N.from shared.old }
     requires tick { tick ≡ length (past shared.old.journal) + 1 }
     requires few { length (past shared.old.journal) + 1 < 2 ^ 62 }
     requires room { 0 < shared.old.journal.spare }
@@ -332,12 +313,9 @@ pub fn serve_unlock<K: Keeper, N: Name>(
         (number_of gatherer.old.session) gatherer.old }
     requires due { due N.script N.defs (number_of gatherer.old.session) (past shared.old.journal)
         ≡ Some (Due.Member place (MemberAct.Unlock lock)) }
-    ensures ok { IfOk result (Serves N.script N.defs N.from (number_of gatherer.old.session)
-        (past shared.old.journal) (past shared.new.journal) shared.old.engines shared.new.engines
-        shared.new.regions.items gatherer.new) }
-    ensures err { OnErr result (Leaves N.script (past shared.old.journal) (past shared.new.journal)
-        shared.old.engines shared.new.engines shared.old.regions.items shared.new.regions.items
-        gatherer.old gatherer.new) }
+    ensures ok { IfOk result (HasServed N.script N.defs N.from shared.old shared.new gatherer.old
+        gatherer.new) }
+    ensures err { OnErr result (HasLeft N.script shared.old shared.new gatherer.old gatherer.new) }
 {
     let number = gatherer.session.number();
     let unlock = Act::Unlock {

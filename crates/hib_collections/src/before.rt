@@ -5,7 +5,7 @@ ghost use Rattle.hib_base.specs.declared.scripts.Script.{Script as Said};
 ghost use Rattle.hib_journal.specs.Sessions.{Journal};
 ghost use Rattle.hib_journal.specs.Next.{is_in_tables};
 ghost use Rattle.hib_session.specs.Session.{Follows};
-ghost use Rattle.hib_collections_law.specs.Types.{Gathered};
+ghost use Rattle.hib_collections_law.specs.Types.{Gathered, max_collections};
 ghost use Rattle.hib_collections_law.specs.Gathered as Law;
 ghost use Rattle.hib_collections_law.specs.Gathered.{due_end, due_for, due_list, due_write, is_changed, locks_in, missed};
 ghost use Rattle.hib_collections.specs.Notes.{AreNoted};
@@ -44,7 +44,7 @@ fn is_touched(entity: EntityNo, changes: &[Change]) -> bool
 
 /// The collection and the owner of a query of the script.
 fn asked_by(script: &Script, defs: &Defs, query: QueryNo) -> Option<Place>
-    requires few { length defs.now ≤ 64 }
+    requires few { length defs.now ≤ max_collections }
     ensures { result ≡ Law.asked_by script.now defs.now query }
 {
     match script.queries.as_slice().get(usize::from(query.0)) {
@@ -72,7 +72,7 @@ fn before_list(
     notes: &Notes,
     query: QueryNo,
 ) -> Before
-    requires few { length defs.now ≤ 64 }
+    requires few { length defs.now ≤ max_collections }
     ensures { (told : Said) (mine : Journal) (own : Gathered) → Follows told session.now mine
         → AreNoted notes.now own
         → due_list defs.now (Law.asked_by script.now defs.now query)
@@ -95,7 +95,7 @@ fn before_list(
 
 /// What comes before a write: each owner whose members it may change is locked.
 fn before_write(defs: &Defs, session: &Session, notes: &Notes, change: &Change) -> Before
-    requires few { length defs.now ≤ 64 }
+    requires few { length defs.now ≤ max_collections }
     ensures { (script : Said) (mine : Journal) (own : Gathered) → Follows script session.now mine
         → AreNoted notes.now own → IsKnown mine (Act.Write change.now)
         → due_write (Law.to_lock defs.now change.now mine (locks_in own)) change.now mine
@@ -127,7 +127,7 @@ pub fn comes_before(
     notes: &Notes,
     act: &Act,
 ) -> Before
-    requires few { length defs.now ≤ 64 }
+    requires few { length defs.now ≤ max_collections }
     ensures { (mine : Journal) (own : Gathered) → Follows script.now session.now mine
         → AreNoted notes.now own → IsKnown mine act.now
         → due_for script.now defs.now act.now mine own ≡ due_by result act.now mine }

@@ -5,6 +5,7 @@ ghost use Rattle.hib_base.specs.declared.rows.Cell.{Cell};
 ghost use Rattle.hib_journal.specs.Query.{same_cell};
 ghost use Rattle.hib_collections_law.specs.Members as Members;
 ghost use Rattle.hib_collections_law.specs.Gathered as Gathered;
+ghost use Rattle.hib_collections_law.specs.Types.{max_collections};
 ghost use Rattle.hib_collections_law.specs.Gathered.{is_locked, owners_from};
 
 use crate::locks::Locks;
@@ -144,7 +145,7 @@ fn free_in(
 
 /// The first owner that is to be locked before a change is written, by the row that was there; there is none if all are locked.
 pub fn to_lock(defs: &Defs, change: &Change, old: Option<&Row>, locks: &Locks) -> Option<Place>
-    requires few { length defs.now ≤ 64 }
+    requires few { length defs.now ≤ max_collections }
     ensures { result ≡ find (λ p. not (is_locked locks.now.held p))
         (owners_from 0 defs.now (option_copied old.entry) change.now) }
 {
@@ -217,7 +218,7 @@ fn owner_asked(def: &Def, query: &Query) -> Option<u64>
 
 /// The collection and the owner that a query is of, if it is of one.
 pub fn asked(defs: &Defs, query: &Query) -> Option<Place>
-    requires few { length defs.now ≤ 64 }
+    requires few { length defs.now ≤ max_collections }
     ensures { result ≡ Members.asked defs.now query.now }
 {
     for (at, def) in defs.as_slice().iter().enumerate() {

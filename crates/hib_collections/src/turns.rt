@@ -9,7 +9,8 @@ ghost use Rattle.hib_engines.specs.Engines.{IsStill};
 ghost use Rattle.hib_collections_law.specs.Gathered.{Due, due};
 ghost use Rattle.hib_collections.specs.Kept.{past};
 ghost use Rattle.hib_collections.specs.Gatherers.{AreGatherers, IsGatherer};
-ghost use Rattle.hib_collections.specs.Run.{Does, IsKept, IsRun, IsTurn, Leaves, Serves, Turns, is_done};
+ghost use Rattle.hib_collections.specs.Run.{Does, IsKept, IsTurn, is_done};
+ghost use Rattle.hib_collections.specs.Shared.{HasLeft, HasServed, HasTurned, IsShared};
 
 use crate::at_owners::{serve_get, serve_lock, serve_put, serve_unlock};
 use crate::before::{Before, comes_before};
@@ -91,8 +92,7 @@ fn serve_plain<K: Keeper, N: Name>(
     tick: Tick,
 ) -> Result<Turned, AllocError>
     requires script { script.now ≡ N.script }
-    requires run { IsRun N.script N.defs N.from (past shared.old.journal) shared.old.engines
-        shared.old.regions.items }
+    requires run { IsShared N.script N.defs N.from shared.old }
     requires tick { tick ≡ length (past shared.old.journal) + 1 }
     requires few { length (past shared.old.journal) + 1 < 2 ^ 62 }
     requires room { 0 < shared.old.journal.spare }
@@ -100,12 +100,9 @@ fn serve_plain<K: Keeper, N: Name>(
     requires ready { is_ready script.now gatherer.old.session ≡ true }
     requires due { due N.script N.defs (number_of gatherer.old.session) (past shared.old.journal)
         ≡ Some (Due.Plain act) }
-    ensures ok { IfOk result (Serves N.script N.defs N.from (number_of gatherer.old.session)
-        (past shared.old.journal) (past shared.new.journal) shared.old.engines shared.new.engines
-        shared.new.regions.items gatherer.new) }
-    ensures err { OnErr result (Leaves N.script (past shared.old.journal) (past shared.new.journal)
-        shared.old.engines shared.new.engines shared.old.regions.items shared.new.regions.items
-        gatherer.old gatherer.new) }
+    ensures ok { IfOk result (HasServed N.script N.defs N.from shared.old shared.new gatherer.old
+        gatherer.new) }
+    ensures err { OnErr result (HasLeft N.script shared.old shared.new gatherer.old gatherer.new) }
 {
     let reply = shared
         .engines
@@ -138,8 +135,7 @@ fn serve<K: Keeper, N: Name>(
 ) -> Result<Turned, AllocError>
     requires script { script.now ≡ N.script }
     requires defs { defs.now ≡ N.defs }
-    requires run { IsRun N.script N.defs N.from (past shared.old.journal) shared.old.engines
-        shared.old.regions.items }
+    requires run { IsShared N.script N.defs N.from shared.old }
     requires tick { tick ≡ length (past shared.old.journal) + 1 }
     requires few { length (past shared.old.journal) + 1 < 2 ^ 62 }
     requires room { 0 < shared.old.journal.spare }
@@ -147,12 +143,9 @@ fn serve<K: Keeper, N: Name>(
     requires turn { IsTurn N.script (past shared.old.journal) gatherer.old act }
     requires ready { is_ready script.now gatherer.old.session ≡ true }
     requires unlisted { gatherer.old.notes.listed ≡ None }
-    ensures ok { IfOk result (Serves N.script N.defs N.from (number_of gatherer.old.session)
-        (past shared.old.journal) (past shared.new.journal) shared.old.engines shared.new.engines
-        shared.new.regions.items gatherer.new) }
-    ensures err { OnErr result (Leaves N.script (past shared.old.journal) (past shared.new.journal)
-        shared.old.engines shared.new.engines shared.old.regions.items shared.new.regions.items
-        gatherer.old gatherer.new) }
+    ensures ok { IfOk result (HasServed N.script N.defs N.from shared.old shared.new gatherer.old
+        gatherer.new) }
+    ensures err { OnErr result (HasLeft N.script shared.old shared.new gatherer.old gatherer.new) }
 {
     match comes_before(script, defs, &gatherer.session, &gatherer.notes, &act) {
         Before::Nothing => serve_plain::<K, N>(alloc, script, gatherer, shared, act, tick),
@@ -174,16 +167,12 @@ fn take_turn<K: Keeper, N: Name>(
 ) -> Result<Turned, AllocError>
     requires script { script.now ≡ N.script }
     requires defs { defs.now ≡ N.defs }
-    requires run { IsRun N.script N.defs N.from (past shared.old.journal) shared.old.engines
-        shared.old.regions.items }
+    requires run { IsShared N.script N.defs N.from shared.old }
     requires member { IsGatherer N.script (past shared.old.journal)
         (number_of gatherer.old.session) gatherer.old }
-    ensures ok { IfOk result (Turns N.script N.defs N.from (number_of gatherer.old.session)
-        (past shared.old.journal) (past shared.new.journal) shared.old.engines shared.new.engines
-        shared.old.regions.items shared.new.regions.items gatherer.old gatherer.new) }
-    ensures err { OnErr result (Leaves N.script (past shared.old.journal) (past shared.new.journal)
-        shared.old.engines shared.new.engines shared.old.regions.items shared.new.regions.items
-        gatherer.old gatherer.new) }
+    ensures ok { IfOk result (HasTurned N.script N.defs N.from shared.old shared.new gatherer.old
+        gatherer.new) }
+    ensures err { OnErr result (HasLeft N.script shared.old shared.new gatherer.old gatherer.new) }
 {
     let tick = prepare(alloc, script, gatherer, &mut shared.journal)?;
     if let Some((place, list)) = gatherer.notes.copy_of_listed(alloc)? {
@@ -230,11 +219,9 @@ pub fn turn<K: Keeper, N: Name>(
     requires script { script.now ≡ N.script }
     requires defs { defs.now ≡ N.defs }
     requires known { number < length N.script.sessions }
-    requires run { IsRun N.script N.defs N.from (past shared.old.journal) shared.old.engines
-        shared.old.regions.items }
+    requires run { IsShared N.script N.defs N.from shared.old }
     requires sessions { AreGatherers N.script (past shared.old.journal) gatherers.old.items }
-    ensures run { IsRun N.script N.defs N.from (past shared.new.journal) shared.new.engines
-        shared.new.regions.items }
+    ensures run { IsShared N.script N.defs N.from shared.new }
     ensures sessions { AreGatherers N.script (past shared.new.journal) gatherers.new.items }
     ensures ok { IfOk result (Does N.script N.defs number (past shared.old.journal)
         (past shared.new.journal) shared.old.engines shared.new.engines) }
