@@ -5,7 +5,7 @@ ghost use Rattle.hib_journal.specs.Kept.{past};
 ghost use Rattle.hib_outside.specs.Causes.{Rose};
 ghost use Rattle.hib_store.specs.Stores.{handed_back, is_store_fault};
 ghost use Rattle.hib_engines.specs.Origin.{origin_over};
-ghost use Rattle.hib_split.specs.Alone.{AreListed};
+ghost use Rattle.hib_split.specs.Alone.{AreListed, max_workers};
 ghost use Rattle.hib_joined.specs.Joined.{AreJoinedUnless};
 ghost use Rattle.hib_joined.specs.Run.{CameToOne};
 
@@ -55,7 +55,7 @@ pub fn run_joined<R: Threads + Wait + Sync, K: Keeper, N: Name + Send + Sync, G:
     workers: u32,
     gate: &G,
 ) -> Result<JoinedRun<K>, OpenFault<K>>
-    requires workers { (1 ≤ workers) × (workers ≤ 64) }
+    requires workers { (1 ≤ workers) × (workers ≤ max_workers) }
     requires script { script.now ≡ N.script }
     requires valid { is_valid N.script ≡ true }
     requires from { origin_over N.script (K.tables keeper) (K.faults keeper) (K.asked keeper)

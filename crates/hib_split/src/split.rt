@@ -8,7 +8,7 @@ ghost use Rattle.hib_engines.specs.Counts.{RoseBy, RoseWithin};
 ghost use Rattle.hib_split_law.specs.Apart.{store_ask_count};
 ghost use Rattle.hib_split_law.specs.Merged.{of_part_in};
 ghost use Rattle.hib_parts.specs.Run.{cached_entities, entities_of};
-ghost use Rattle.hib_split.specs.Alone.{AreAtEnds, AreListed, AreOneByOne, AreOwnListed, AreWhole, IsToldBy};
+ghost use Rattle.hib_split.specs.Alone.{AreAtEnds, AreListed, AreOneByOne, AreOwnListed, AreWhole, IsToldBy, max_workers};
 
 use crate::alone::{rooms, run_alone, without_room};
 use crate::bench::{Left, room_for_threads};
@@ -41,7 +41,7 @@ pub fn work_split<R: Threads + Wait + Sync, K: Keeper, N: Name + Send + Sync, G:
     workers: u32,
     gate: &G,
 ) -> Split<K>
-    requires workers { (1 ≤ workers) × (workers ≤ 64) }
+    requires workers { (1 ≤ workers) × (workers ≤ max_workers) }
     requires script { script.now ≡ N.script }
     requires store { parts.store.list ≡ [] }
     requires entities { entities_of parts.regions.items ≡ cached_entities N.script }

@@ -10,6 +10,9 @@ use crate::forms::{Verb, verb_named};
 use crate::parse::{Found, parse};
 use std::alloc::{AllocError, Global};
 
+/// The most workers.
+const MOST_WORKERS: u32 = 64;
+
 /// What the words of a command line ask for.
 #[derive(Drop)]
 pub enum Command {
@@ -171,7 +174,7 @@ fn work(alloc: Global, found: &Found<'_>) -> Result<Option<Command>, AllocError>
     let Some(text) = found.workers else {
         return Ok(None);
     };
-    let Some(workers) = number_between(text, 1, 64) else {
+    let Some(workers) = number_between(text, 1, MOST_WORKERS) else {
         return Ok(None);
     };
     let Some(options) = options_from(alloc, found)? else {

@@ -5,7 +5,7 @@ ghost use Rattle.hib_journal.specs.Kept.{past};
 ghost use Rattle.hib_session.specs.Bound.{outside_count};
 ghost use Rattle.hib_law.specs.Hits.{AreListsGiven};
 ghost use Rattle.hib_session.specs.Sessions.{AreOver};
-ghost use Rattle.hib_workers.specs.Worked.{IsWorked};
+ghost use Rattle.hib_workers.specs.Worked.{IsWorked, max_workers};
 
 use crate::desk::{Desk, Handed};
 use hib_base::{Query, SessionNo};
@@ -41,7 +41,7 @@ pub fn work<R: Threads + Wait + Sync, K: Keeper, N: Name + Send + Sync, L: Liste
     workers: u32,
     gate: &G,
 ) -> Worked<K, N, L>
-    requires workers { (1 ≤ workers) × (workers ≤ 64) }
+    requires workers { (1 ≤ workers) × (workers ≤ max_workers) }
     requires inside { outside_count (past factory.journal) ≡ 0 }
     ensures worked { IsWorked N.script N.from factory result.factory }
     ensures given { IfSome N.from.tables
