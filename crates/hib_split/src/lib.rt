@@ -3,9 +3,9 @@
 #![tactic(auto)]
 
 mod alone;
-mod bench;
 mod gathering;
 mod halt;
+mod locked_parts;
 mod locks;
 mod rest;
 mod split;

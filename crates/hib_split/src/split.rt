@@ -11,7 +11,7 @@ ghost use Rattle.hib_parts.specs.Run.{cached_entities, entities_of};
 ghost use Rattle.hib_split.specs.Alone.{AreAtEnds, AreListed, AreOneByOne, AreOwnListed, AreWhole, IsToldBy, max_workers};
 
 use crate::alone::{rooms, run_alone, without_room};
-use crate::bench::{Left, room_for_threads};
+use crate::locked_parts::{Left, room_for_threads};
 use crate::rest::{Split, go_on, stop};
 use crate::threads::on_threads;
 use hib_base::Script;

@@ -20,7 +20,7 @@ use std::sync::{Mutex, Wait};
 
 /// What workers share: each part behind a lock of its own, the number of the next session that nobody has taken, and what they
 /// leave.
-pub struct Bench<K: Keeper, N: Name> {
+pub struct LockedParts<K: Keeper, N: Name> {
     registry: Mutex<RegistryPart<N>>,
     store: Mutex<StorePart<K, N>>,
     stamps: Mutex<StampsPart<N>>,
@@ -101,14 +101,14 @@ fn first_strange(unlocked: Result<(), Strange>, found: Option<Strange>) -> Optio
     }
 }
 
-impl<K: Keeper, N: Name> Bench<K, N> {
+impl<K: Keeper, N: Name> LockedParts<K, N> {
     /// Each part behind a lock of its own. There is room for the locks of regions.
     pub fn open(
         parts: Parts<K, N>,
         script: &Script,
         locks: Vec<LockedRegion<N>>,
         aside: Vec<Option<Worker<N>>>,
-    ) -> Bench<K, N>
+    ) -> LockedParts<K, N>
         requires script { script.now ≡ N.script }
         requires empty { locks.items ≡ [] }
         requires room { vec_len locks + vec_len parts.regions ≤ vec_capacity locks }
@@ -126,7 +126,7 @@ impl<K: Keeper, N: Name> Bench<K, N> {
         } = parts;
         let mut locks = locks;
         lock_regions(regions, &mut locks);
-        Bench {
+        LockedParts {
             registry: Mutex::new(registry),
             store: Mutex::new(store),
             stamps: Mutex::new(stamps),
@@ -150,7 +150,7 @@ impl<K: Keeper, N: Name> Bench<K, N> {
         ensures len { IfNone result.strange
             (vec_len result.parts.regions ≡ vec_len room + vec_len self.regions) }
     {
-        let Bench {
+        let LockedParts {
             registry,
             store,
             stamps,
