@@ -2,7 +2,7 @@ use Rattle.std.proofs.Common.{◌∙◌, ap, sym}
 use Rattle.hib_journal.specs.Sessions.{changes_after}
 use Rattle.hib_order_judge.proofs.Footed.{basis_more, rest_more}
 use Rattle.hib_order_judge.specs.Footings.{basis_after, basis_in, rest_after, rest_at}
-use Rattle.hib_order_judge.proofs.desk.Desk.note.Goals as goal
+use Rattle.hib_order_judge.proofs.dossier.Dossier.note.Goals as goal
 
 pub returns : goal.returns
 returns c = λ es mine at d. record {

@@ -3,9 +3,9 @@ use Rattle.std.proofs.Common.{◌≡◌, Bool, true, sym, ◌∙◌, subst}
 use Rattle.hib_base.specs.Tables.{key_of}
 use Rattle.hib_journal.specs.Types.{Change}
 use Rattle.hib_order_judge.proofs.Kept.{any_at}
-use Rattle.hib_order_judge.specs.Desks.{changes_at, is_lost_row}
+use Rattle.hib_order_judge.specs.Dossiers.{changes_at, is_lost_row}
 use Rattle.hib_order_judge.specs.Footings.{rest_at}
-use Rattle.hib_order_judge.proofs.desk.Desk.has_lost_row.Goals as goal
+use Rattle.hib_order_judge.proofs.dossier.Dossier.has_lost_row.Goals as goal
 
 pub returns-then-is_lost_row : goal.returns-then-is_lost_row
 returns-then-is_lost_row c =

@@ -1,7 +1,7 @@
 use Rattle.std.proofs.Common.{rules}
 use Rattle.std.proofs.lemmas.Result.{on_ok_weaker}
 use Rattle.hib_order_judge.proofs.Noted.{noted_at}
-use Rattle.hib_order_judge.proofs.desks.Desks.note.Goals as goal
+use Rattle.hib_order_judge.proofs.dossiers.Dossiers.note.Goals as goal
 
 pub returns : goal.returns
 returns c =

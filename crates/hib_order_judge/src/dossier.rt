@@ -2,7 +2,7 @@
 ghost use Rattle.hib_base.specs.Tables.{in_order};
 ghost use Rattle.hib_journal.specs.Sessions.{Journal, changes_after};
 ghost use Rattle.hib_journal.specs.Types.{Entry};
-ghost use Rattle.hib_order_judge.specs.Desks.{IsDesk, changes_at, has_lost_row, is_lost_row};
+ghost use Rattle.hib_order_judge.specs.Dossiers.{IsDossier, changes_at, has_lost_row, is_lost_row};
 ghost use Rattle.hib_order_judge.specs.Footings.{rest_at};
 ghost use Rattle.hib_order_law.specs.Judged.{found_in};
 ghost use Rattle.std.specs.Prelude.{◌≡◌, ◌∷◌, [], List, Some, OnOk, slice_get, true};
@@ -16,7 +16,7 @@ use std::alloc::{AllocError, Global};
 
 /// What is known of a session after its own entries. They lend it, or it names their places.
 #[derive(Drop)]
-pub struct Desk<'a> {
+pub struct Dossier<'a> {
     /// The changes that it has written since its last Begin.
     pub written: Vec<&'a Change>,
     /// The list that its last entry has found, or none.
@@ -69,12 +69,12 @@ fn is_lost_row(entries: &[Entry], rows: &Rows, key: Key, rests: &Rests) -> bool
     }
 }
 
-impl<'a> Desk<'a> {
+impl<'a> Dossier<'a> {
     /// What is known of a session that has done nothing.
-    pub fn new(alloc: Global) -> Desk<'a>
-        ensures { (es : List Entry) → IsDesk es [] result }
+    pub fn new(alloc: Global) -> Dossier<'a>
+        ensures { (es : List Entry) → IsDossier es [] result }
     {
-        Desk {
+        Dossier {
             written: Vec::new(alloc),
             found: &[],
             footings: IndexMap::new(alloc),
@@ -85,8 +85,8 @@ impl<'a> Desk<'a> {
     /// Takes the session's next entry, which stands at a place among all entries.
     pub fn note(&mut self, place: usize, entry: &'a Entry) -> Result<(), AllocError>
         ensures { OnOk result ((es : List Entry) (mine : Journal)
-            → slice_get es place ≡ Some entry.now → IsDesk es mine self.old
-            → IsDesk es (entry.now ∷ mine) self.new) }
+            → slice_get es place ≡ Some entry.now → IsDossier es mine self.old
+            → IsDossier es (entry.now ∷ mine) self.new) }
     {
         note_rest(&mut self.rests, &self.footings, &entry.act)?;
         note_footing(&mut self.footings, place, entry)?;

@@ -1,9 +1,9 @@
 use Rattle.std.specs.List.{list_any}
 use Rattle.std.proofs.Common.{◌≡◌, false, take}
 use Rattle.hib_base.specs.Tables.{key_of}
-use Rattle.hib_order_judge.specs.Desks.{changes_at, is_lost_row}
+use Rattle.hib_order_judge.specs.Dossiers.{changes_at, is_lost_row}
 use Rattle.hib_order_judge.specs.Footings.{rest_at}
-use Rattle.hib_order_judge.proofs.desk.Desk.has_lost_row.Given as goal
+use Rattle.hib_order_judge.proofs.dossier.Dossier.has_lost_row.Given as goal
 
 abbrev pub invariant-loop-change : goal.invariant-loop-change
 invariant-loop-change l =
