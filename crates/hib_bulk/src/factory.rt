@@ -16,10 +16,10 @@ ghost use Rattle.hib_bulk.specs.Steps.{Adds, HasTurned};
 ghost use Rattle.hib_bulk.specs.Played.{has_next, number_count};
 
 use crate::journal::Bulked;
-use crate::lines::Progress;
+use crate::lines::LineProgress;
 use crate::names::Name;
 use crate::opening::open_lines;
-use crate::parts::Parts;
+use crate::parts::BulkParts;
 use crate::steps::{step_line, step_session};
 use hib_base::{Order, Script, SessionNo};
 use hib_bulk_law::{BulkDefs, Bulks, loads_are_views, rows_cohere, steps_are_in_order};
@@ -35,9 +35,9 @@ use std::marker::{Model, PhantomData};
 pub struct BulkFactory<K: Keeper, N: Name> {
     script: Script,
     bulks: Bulks,
-    parts: Parts<K>,
+    parts: BulkParts<K>,
     sessions: Vec<Session>,
-    progress: Vec<Progress>,
+    progress: Vec<LineProgress>,
     journal: Bulked,
     of: PhantomData<N>,
 }
@@ -92,7 +92,7 @@ impl<K: Keeper, N: Name> BulkFactory<K, N> {
         let Ok(progress) = open_lines(alloc, bulks.lines.as_slice()) else {
             return Err(OpenFault::NoMemory(keeper));
         };
-        let parts = Parts::open(alloc, &script, keeper)?;
+        let parts = BulkParts::open(alloc, &script, keeper)?;
         Ok(BulkFactory {
             script,
             bulks,
@@ -241,7 +241,7 @@ impl<K: Keeper, N: Name> BulkFactory<K, N> {
             journal,
             of: _,
         } = self;
-        let Parts {
+        let BulkParts {
             store,
             registry: _,
             stamps: _,

@@ -18,5 +18,5 @@ mod turns;
 pub use factory::BulkFactory;
 pub use journal::Bulked;
 pub use names::Name;
-pub use region::Region;
+pub use region::EntityRegion;
 pub use texts::text;

@@ -18,7 +18,7 @@ ghost use Rattle.hib_bulk.specs.Run.{IsRun, IsLine, IsLineTurn, LineMoves, outco
 
 use crate::journal::Bulked;
 use crate::names::Name;
-use crate::parts::Parts;
+use crate::parts::BulkParts;
 use crate::storing::change_rows;
 use crate::turns::reserve_tick;
 use hib_base::{Act, EntityNo, Outcome, Part, Reply, Script, SessionNo, Strategy, Tick};
@@ -30,7 +30,7 @@ use std::alloc::{AllocError, Global};
 
 /// How far a line has come.
 #[derive(Clone, Copy, Debug)]
-pub struct Progress {
+pub struct LineProgress {
     /// How many of its acts are done.
     pub steps: u8,
     /// Whether its change was answered by a fault.
@@ -98,7 +98,7 @@ fn outcome(failed: bool) -> Outcome
     }
 }
 
-impl<K: Keeper> Parts<K> {
+impl<K: Keeper> BulkParts<K> {
     /// A line locks the region of an entity. It takes no memory.
     fn lock_all(&mut self, entity: EntityNo) -> BulkReply
         requires { held_by (region_of self.old.regions entity) < 2 ^ 62 }
@@ -296,8 +296,8 @@ pub fn line_turn<K: Keeper, N: Name>(
     script: &Script,
     line: &BulkDef,
     number: SessionNo,
-    progress: &mut Progress,
-    parts: &mut Parts<K>,
+    progress: &mut LineProgress,
+    parts: &mut BulkParts<K>,
     journal: &mut Bulked,
 ) -> Result<Stepped, AllocError>
     requires script { script.now ≡ N.script }

@@ -17,7 +17,7 @@ ghost use Rattle.hib_bulk.specs.Changed.{is_fault};
 ghost use Rattle.hib_bulk.specs.Regions.{region_of, has_old_in, swept, IsAtRegion};
 ghost use Rattle.hib_bulk.specs.Standing.{AreStanding, IsStill, IsReady, IsAnswered, IsTold};
 
-use crate::region::Region;
+use crate::region::EntityRegion;
 use hib_base::{Act, EntityNo, Key, Part, Reply, Script, SessionNo, Tick};
 use hib_bulk_law::BulkReply;
 use hib_bulk_region::laws as wide;
@@ -29,7 +29,7 @@ use std::alloc::{AllocError, Global};
 use std::marker::Model;
 
 /// The store, the open sessions and lines, the stamps of tables, the regions that lines may lock, and the results of queries.
-pub struct Parts<K: Keeper> {
+pub struct BulkParts<K: Keeper> {
     /// The committed rows, and what each session has written and not committed.
     pub store: StoreEngine<K>,
     /// The open sessions and lines with the ticks at which they began.
@@ -37,15 +37,15 @@ pub struct Parts<K: Keeper> {
     /// For each table the tick of its last change, or one ahead while a commit is under way.
     pub stamps: StampsEngine,
     /// For each entity of the script its region, in order.
-    pub regions: Vec<Region>,
+    pub regions: Vec<EntityRegion>,
     /// The results of queries that are kept.
     pub results: ResultsEngine,
 }
 
-impl<K: Keeper> Model for Parts<K> {
-    ghost use Rattle.hib_bulk.specs.Standing.{PartsState};
+impl<K: Keeper> Model for BulkParts<K> {
+    ghost use Rattle.hib_bulk.specs.Standing.{BulkPartsState};
 
-    ghost Value = { PartsState };
+    ghost Value = { BulkPartsState };
 
     ghost view = { λ p. record {
       store = p.store;
@@ -56,7 +56,7 @@ impl<K: Keeper> Model for Parts<K> {
     } };
 }
 
-impl<K: Keeper> Parts<K> {
+impl<K: Keeper> BulkParts<K> {
     /// Whether a key has an old item.
     fn old(&self, key: Key) -> bool
         ensures { result ≡ has_old_in (region_of self.now.regions key.entity) key.id }

@@ -112,21 +112,23 @@ fn act_on(
 
 /// The region of an entity.
 #[derive(Drop)]
-pub enum Region {
+pub enum EntityRegion {
     /// An entity that isn't cached has none.
     Uncached,
     /// The region of a read-write entity.
     ReadWrite(BulkRegion),
 }
 
-impl Region {
+impl EntityRegion {
     /// The empty region of a strategy, which nobody holds. There is one for read-write alone.
-    pub fn open(alloc: Global, strategy: Strategy, capacity: u32, timeout: u32) -> Region
+    pub fn open(alloc: Global, strategy: Strategy, capacity: u32, timeout: u32) -> EntityRegion
         ensures { result ≡ opened strategy capacity timeout }
     {
         match strategy {
-            Strategy::ReadWrite => Region::ReadWrite(BulkRegion::open(alloc, capacity, timeout)),
-            _ => Region::Uncached,
+            Strategy::ReadWrite => EntityRegion::ReadWrite(BulkRegion::open(
+                alloc, capacity, timeout,
+            )),
+            _ => EntityRegion::Uncached,
         }
     }
 
@@ -135,8 +137,8 @@ impl Region {
         ensures { result ≡ has_old_in self.now id }
     {
         match self {
-            Region::Uncached => false,
-            Region::ReadWrite(region) => region.old(id),
+            EntityRegion::Uncached => false,
+            EntityRegion::ReadWrite(region) => region.old(id),
         }
     }
 
@@ -146,8 +148,8 @@ impl Region {
         ensures { self.new ≡ swept self.old id now }
     {
         match self {
-            Region::Uncached => {}
-            Region::ReadWrite(region) => region.sweep(id, now),
+            EntityRegion::Uncached => {}
+            EntityRegion::ReadWrite(region) => region.sweep(id, now),
         }
     }
 
@@ -158,8 +160,8 @@ impl Region {
         ensures state { self.new ≡ locked_all self.old }
     {
         match self {
-            Region::Uncached => 0,
-            Region::ReadWrite(region) => region.lock_all(),
+            EntityRegion::Uncached => 0,
+            EntityRegion::ReadWrite(region) => region.lock_all(),
         }
     }
 
@@ -170,8 +172,8 @@ impl Region {
         ensures state { self.new ≡ unlocked_all now self.old }
     {
         match self {
-            Region::Uncached => 0,
-            Region::ReadWrite(region) => region.unlock_all(now),
+            EntityRegion::Uncached => 0,
+            EntityRegion::ReadWrite(region) => region.unlock_all(now),
         }
     }
 
@@ -192,8 +194,8 @@ impl Region {
         ensures err { OnErr result (self.new ≡ self.old) }
     {
         match self {
-            Region::Uncached => Ok(BulkReply::Plain(Reply::Done)),
-            Region::ReadWrite(region) => act_on(alloc, region, act, begun, now),
+            EntityRegion::Uncached => Ok(BulkReply::Plain(Reply::Done)),
+            EntityRegion::ReadWrite(region) => act_on(alloc, region, act, begun, now),
         }
     }
 }

@@ -15,7 +15,7 @@ ghost use Rattle.hib_bulk.specs.Run.{IsRun, IsTurn, IsSwept, whole_of, bulk_of, 
 
 use crate::journal::Bulked;
 use crate::names::Name;
-use crate::parts::Parts;
+use crate::parts::BulkParts;
 use hib_base::{
     Act, Entry, Evicted, Inserted, Key, Miss, Part, Put, Reply, Script, SessionNo, Tick,
 };
@@ -99,7 +99,7 @@ fn answered<K: Keeper, N: Name>(
     script: &Script,
     session: &Session,
     act: &Act,
-    parts: &mut Parts<K>,
+    parts: &mut BulkParts<K>,
     journal: &mut Bulked,
 ) -> Result<(Tick, BulkReply), AllocError>
     requires script { script.now ≡ N.script }
@@ -173,7 +173,7 @@ fn serve<K: Keeper, N: Name>(
     script: &Script,
     session: &mut Session,
     act: Act,
-    parts: &mut Parts<K>,
+    parts: &mut BulkParts<K>,
     journal: &mut Bulked,
 ) -> Result<(), AllocError>
     requires script { script.now ≡ N.script }
@@ -222,7 +222,7 @@ fn sweep_entry(key: &Key, session: SessionNo, tick: Tick) -> BulkEntry
 fn sweep<K: Keeper, N: Name>(
     key: Key,
     session: SessionNo,
-    parts: &mut Parts<K>,
+    parts: &mut BulkParts<K>,
     journal: &mut Bulked,
 ) -> Result<(), AllocError>
     requires run { IsRun N.script N.lines N.from (past journal.old) parts.old }
@@ -249,7 +249,7 @@ pub fn take_turn<K: Keeper, N: Name>(
     alloc: Global,
     script: &Script,
     session: &mut Session,
-    parts: &mut Parts<K>,
+    parts: &mut BulkParts<K>,
     journal: &mut Bulked,
 ) -> Result<Stepped, AllocError>
     requires script { script.now ≡ N.script }

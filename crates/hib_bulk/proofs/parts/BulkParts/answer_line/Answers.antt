@@ -4,7 +4,7 @@ use Rattle.hib_bulk.specs.Standing.{IsAnswered}
 use Rattle.hib_bulk.specs.Run.{IsLineTurn}
 use Rattle.hib_engines.proofs.Outcomes.{map_ok}
 use Rattle.hib_bulk.proofs.Lined.{bulk_same, no_sweep}
-use Rattle.hib_bulk.proofs.parts.Parts.answer_line.Goals as goal
+use Rattle.hib_bulk.proofs.parts.BulkParts.answer_line.Goals as goal
 
 pub returns-in-Plain-clause-answered : goal.returns-in-Plain-clause-answered
 returns-in-Plain-clause-answered g c = map_ok c.own_line.result _ _ c.own_line.ensures.answered (λ r p script lines told h m e w.

@@ -5,7 +5,7 @@ use Rattle.hib_base.specs.Tables.{Tables}
 use Rattle.hib_update_stamps.specs.Stamped.{unstamped}
 use Rattle.hib_engines.specs.Origin.{told_start}
 use Rattle.hib_bulk.proofs.Begun.{parts_begin}
-use Rattle.hib_bulk.proofs.parts.Parts.open.Goals as goal
+use Rattle.hib_bulk.proofs.parts.BulkParts.open.Goals as goal
 
 pub returns-clause-standing : goal.returns-clause-standing
 returns-clause-standing g c lines b =

@@ -9,7 +9,7 @@ use Rattle.hib_engines.specs.Registry.{own_after}
 use Rattle.hib_bulk.specs.Types.{BulkAct, BulkReply}
 use Rattle.hib_bulk.specs.Standing.{IsReady, IsAnswered}
 use Rattle.hib_bulk.proofs.Answered.{own_answered, of_other}
-use Rattle.hib_bulk.proofs.parts.Parts.answer.Goals as goal
+use Rattle.hib_bulk.proofs.parts.BulkParts.answer.Goals as goal
 
 pub returns-in-Some-clause-answered : goal.returns-in-Some-clause-answered
 returns-in-Some-clause-answered g c = λ lines told h f k.

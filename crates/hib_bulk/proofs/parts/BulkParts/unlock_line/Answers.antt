@@ -3,7 +3,7 @@ use Rattle.hib_bulk.specs.Types.{BulkAct}
 use Rattle.hib_bulk.specs.Regions.{region_of, unlocked_all}
 use Rattle.hib_bulk.specs.Standing.{IsAnswered}
 use Rattle.hib_bulk.proofs.Lined.{line_unlocks}
-use Rattle.hib_bulk.proofs.parts.Parts.unlock_line.Goals as goal
+use Rattle.hib_bulk.proofs.parts.BulkParts.unlock_line.Goals as goal
 
 pub returns-clause-answered : goal.returns-clause-answered
 returns-clause-answered g c script lines told h d m b e w =

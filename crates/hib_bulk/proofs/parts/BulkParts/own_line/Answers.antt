@@ -5,7 +5,7 @@ use Rattle.hib_bulk.specs.Standing.{IsAnswered}
 use Rattle.hib_bulk.specs.Run.{IsLineTurn}
 use Rattle.hib_engines.proofs.Outcomes.{map_ok}
 use Rattle.hib_bulk.proofs.Lined.{own_else}
-use Rattle.hib_bulk.proofs.parts.Parts.own_line.Goals as goal
+use Rattle.hib_bulk.proofs.parts.BulkParts.own_line.Goals as goal
 
 pub returns-in-Begin-clause-answered : goal.returns-in-Begin-clause-answered
 returns-in-Begin-clause-answered g c = map_ok c.begin_line.result _ _ c.begin_line.ensures.answered (λ r p script lines told h d m e w.
