@@ -19,7 +19,7 @@ use crate::journal::Noded;
 use crate::names::Name;
 use crate::opening::open_shared;
 use crate::placing::nodes_of;
-use crate::shared::Shared;
+use crate::shared::NodesShared;
 use crate::turns::turn;
 use hib_base::{Script, SessionNo};
 use hib_engines::Stepped;
@@ -40,7 +40,7 @@ pub struct Nodes<K: Keeper, N: Name> {
     /// The node of each session.
     nodes: Vec<u8>,
     sessions: Vec<Session>,
-    shared: Shared<K>,
+    shared: NodesShared<K>,
     /// Whether memory ran out in a call.
     refused: bool,
     of: PhantomData<N>,
@@ -306,7 +306,7 @@ impl<K: Keeper, N: Name> Nodes<K, N> {
             refused: _,
             of: _,
         } = self;
-        let Shared {
+        let NodesShared {
             parts,
             queues: _,
             journal,

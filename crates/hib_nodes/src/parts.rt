@@ -31,7 +31,7 @@ use std::alloc::{AllocError, Global};
 use std::marker::Model;
 
 /// The store, the stamps of tables and the results of queries, which both nodes share, and what each node has for itself.
-pub struct Parts<K: Keeper> {
+pub struct NodesParts<K: Keeper> {
     /// The committed rows, and what each session has written and not committed.
     pub store: StoreEngine<K>,
     /// For each table the tick of its last change, or one ahead while a commit is under way.
@@ -44,10 +44,10 @@ pub struct Parts<K: Keeper> {
     pub second: Node,
 }
 
-impl<K: Keeper> Model for Parts<K> {
-    ghost use Rattle.hib_nodes.specs.Standing.{PartsState};
+impl<K: Keeper> Model for NodesParts<K> {
+    ghost use Rattle.hib_nodes.specs.Standing.{NodesPartsState};
 
-    ghost Value = { PartsState };
+    ghost Value = { NodesPartsState };
 
     ghost view = { λ p. record {
       store = p.store;
@@ -58,7 +58,7 @@ impl<K: Keeper> Model for Parts<K> {
     } };
 }
 
-impl<K: Keeper> Parts<K> {
+impl<K: Keeper> NodesParts<K> {
     /// What an act of a session's own does to the parts: End closes the session at its node.
     fn note_own(&mut self, node: u8, session: SessionNo, act: &Act)
         ensures { self.new ≡ with_node node (record (node_in self.old node)

@@ -16,7 +16,7 @@ use crate::journal::Noded;
 use crate::keys::shared_keys;
 use crate::names::Name;
 use crate::queue::{Queues, other_node};
-use crate::shared::Shared;
+use crate::shared::NodesShared;
 use hib_base::{Act, Commit, Entry, Key, Reply, Script, SessionNo, Tick};
 use hib_engines::Stepped;
 use hib_journal::part_of;
@@ -112,7 +112,7 @@ fn serve<K: Keeper, N: Name>(
     script: &Script,
     node: u8,
     session: &mut Session,
-    shared: &mut Shared<K>,
+    shared: &mut NodesShared<K>,
     act: Act,
     tick: Tick,
 ) -> Result<(), AllocError>
@@ -153,7 +153,7 @@ fn take_turn<K: Keeper, N: Name>(
     script: &Script,
     node: u8,
     session: &mut Session,
-    shared: &mut Shared<K>,
+    shared: &mut NodesShared<K>,
 ) -> Result<Stepped, AllocError>
     requires script { script.now ≡ N.script }
     requires node { node ≡ node_of N.places (number_of session.old) }
@@ -185,7 +185,7 @@ pub fn turn<K: Keeper, N: Name>(
     node: u8,
     number: SessionNo,
     sessions: &mut Vec<Session>,
-    shared: &mut Shared<K>,
+    shared: &mut NodesShared<K>,
 ) -> Result<Stepped, AllocError>
     requires script { script.now ≡ N.script }
     requires node { node ≡ node_of N.places number }

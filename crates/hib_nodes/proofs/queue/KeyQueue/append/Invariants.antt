@@ -1,6 +1,6 @@
 use Rattle.std.proofs.Common.{◌≡◌, ◌≤◌, ◌+◌, ◌-◌, ◌++◌, length, take}
 use Rattle.std.specs.Vec.{vec_len, vec_capacity}
-use Rattle.hib_nodes.proofs.queue.Queue.append.Given as goal
+use Rattle.hib_nodes.proofs.queue.KeyQueue.append.Given as goal
 
 -- the keys so far are added, and there is room for the rest
 abbrev pub invariant-loop-key : goal.invariant-loop-key

@@ -7,7 +7,7 @@ use Rattle.hib_engines.proofs.Outcomes.{three_ok}
 use Rattle.hib_nodes.specs.Parts.{with_node}
 use Rattle.hib_nodes.specs.Standing.{IsReady, IsAnswered, IsAskedFor, node_in}
 use Rattle.hib_nodes.proofs.OwnAnswers.{own_told, part_told}
-use Rattle.hib_nodes.proofs.parts.Parts.answer.Goals as goal
+use Rattle.hib_nodes.proofs.parts.NodesParts.answer.Goals as goal
 
 pub returns-in-Some-clause-answered : goal.returns-in-Some-clause-answered
 returns-in-Some-clause-answered g c = λ told h f k.

@@ -5,7 +5,7 @@ use Rattle.hib_base.specs.Tables.{Tables}
 use Rattle.hib_update_stamps.specs.Stamped.{unstamped}
 use Rattle.hib_engines.specs.Origin.{told_start}
 use Rattle.hib_nodes.proofs.Begun.{node_begins, parts_begin}
-use Rattle.hib_nodes.proofs.parts.Parts.open.Goals as goal
+use Rattle.hib_nodes.proofs.parts.NodesParts.open.Goals as goal
 
 pub returns-clause-standing : goal.returns-clause-standing
 returns-clause-standing g c =

@@ -5,9 +5,9 @@ use Rattle.hib_journal.specs.Lists.{of_part}
 use Rattle.hib_store.specs.Stores.{StoreState}
 use Rattle.hib_nodes_law.specs.Nodes.{entries}
 use Rattle.hib_engines.proofs.Outcomes.{map_ok, both_ok}
-use Rattle.hib_nodes.specs.Standing.{PartsState, IsReady}
+use Rattle.hib_nodes.specs.Standing.{NodesPartsState, IsReady}
 use Rattle.hib_nodes.proofs.Answered.{registry_answered, store_answered, stamps_answered, results_answered, region_answered}
-use Rattle.hib_nodes.proofs.parts.Parts.serve.Goals as goal
+use Rattle.hib_nodes.proofs.parts.NodesParts.serve.Goals as goal
 
 pub returns-in-Registry-clause-answered : goal.returns-in-Registry-clause-answered
 returns-in-Registry-clause-answered g c = map_ok c.begin.result _ _ c.begin.ensures.served (λ r p told h w o.
@@ -17,8 +17,8 @@ returns-in-Registry-clause-answered g c = map_ok c.begin.result _ _ c.begin.ensu
 pub returns-in-Store-clause-answered : goal.returns-in-Store-clause-answered
 returns-in-Store-clause-answered g c = map_ok c.serve.result _ _ c.serve.ensures.answered (λ r p told h w o.
     let script = c.args.script.now in
-    let x : PartsState = record { store = c.self.inside.store; stamps = c.self.inside.stamps; results = c.self.inside.results; first = c.self.inside.first; second = c.self.inside.second } in
-    let y : PartsState = record { store = c.serve.new.self; stamps = c.self.inside.stamps; results = c.self.inside.results; first = c.self.inside.first; second = c.self.inside.second } in
+    let x : NodesPartsState = record { store = c.self.inside.store; stamps = c.self.inside.stamps; results = c.self.inside.results; first = c.self.inside.first; second = c.self.inside.second } in
+    let y : NodesPartsState = record { store = c.serve.new.self; stamps = c.self.inside.stamps; results = c.self.inside.results; first = c.self.inside.first; second = c.self.inside.second } in
     let k : IsReady script told h c.args.node c.args.session c.args.now c.args.act.now x = subst (λ v. IsReady script told h c.args.node c.args.session c.args.now c.args.act.now v) (sym c.self.view_is) w in
     let q = sym c.part_of.ensures ∙ c.in-Store.is in
     store_answered script told h c.args.node c.args.session c.args.now c.args.act.now r x y k q
@@ -27,8 +27,8 @@ returns-in-Store-clause-answered g c = map_ok c.serve.result _ _ c.serve.ensures
 pub returns-in-Stamps-clause-answered : goal.returns-in-Stamps-clause-answered
 returns-in-Stamps-clause-answered g c = map_ok c.serve-in-Stamps.result _ _ c.serve-in-Stamps.ensures.answered (λ r p told h w o.
     let script = c.args.script.now in
-    let x : PartsState = record { store = c.self-in-Stamps.inside.store; stamps = c.self-in-Stamps.inside.stamps; results = c.self-in-Stamps.inside.results; first = c.self-in-Stamps.inside.first; second = c.self-in-Stamps.inside.second } in
-    let y : PartsState = record { store = c.self-in-Stamps.inside.store; stamps = c.serve-in-Stamps.new.self; results = c.self-in-Stamps.inside.results; first = c.self-in-Stamps.inside.first; second = c.self-in-Stamps.inside.second } in
+    let x : NodesPartsState = record { store = c.self-in-Stamps.inside.store; stamps = c.self-in-Stamps.inside.stamps; results = c.self-in-Stamps.inside.results; first = c.self-in-Stamps.inside.first; second = c.self-in-Stamps.inside.second } in
+    let y : NodesPartsState = record { store = c.self-in-Stamps.inside.store; stamps = c.serve-in-Stamps.new.self; results = c.self-in-Stamps.inside.results; first = c.self-in-Stamps.inside.first; second = c.self-in-Stamps.inside.second } in
     let k : IsReady script told h c.args.node c.args.session c.args.now c.args.act.now x = subst (λ v. IsReady script told h c.args.node c.args.session c.args.now c.args.act.now v) (sym c.self-in-Stamps.view_is) w in
     stamps_answered script told h c.args.node c.args.session c.args.now c.args.act.now r x y k (sym c.part_of.ensures ∙ c.in-Stamps.is)
     (p (of_part Part.Stamps (entries h)) (Some c.args.session)) refl refl (λ m. refl))
@@ -36,8 +36,8 @@ returns-in-Stamps-clause-answered g c = map_ok c.serve-in-Stamps.result _ _ c.se
 pub returns-in-Results-clause-answered : goal.returns-in-Results-clause-answered
 returns-in-Results-clause-answered g c = map_ok c.serve-in-Results.result _ _ c.serve-in-Results.ensures.answered (λ r p told h w o.
     let script = c.args.script.now in
-    let x : PartsState = record { store = c.self-in-Results.inside.store; stamps = c.self-in-Results.inside.stamps; results = c.self-in-Results.inside.results; first = c.self-in-Results.inside.first; second = c.self-in-Results.inside.second } in
-    let y : PartsState = record { store = c.self-in-Results.inside.store; stamps = c.self-in-Results.inside.stamps; results = c.serve-in-Results.new.self; first = c.self-in-Results.inside.first; second = c.self-in-Results.inside.second } in
+    let x : NodesPartsState = record { store = c.self-in-Results.inside.store; stamps = c.self-in-Results.inside.stamps; results = c.self-in-Results.inside.results; first = c.self-in-Results.inside.first; second = c.self-in-Results.inside.second } in
+    let y : NodesPartsState = record { store = c.self-in-Results.inside.store; stamps = c.self-in-Results.inside.stamps; results = c.serve-in-Results.new.self; first = c.self-in-Results.inside.first; second = c.self-in-Results.inside.second } in
     let k : IsReady script told h c.args.node c.args.session c.args.now c.args.act.now x = subst (λ v. IsReady script told h c.args.node c.args.session c.args.now c.args.act.now v) (sym c.self-in-Results.view_is) w in
     results_answered script told h c.args.node c.args.session c.args.now c.args.act.now r x y k (sym c.part_of.ensures ∙ c.in-Results.is)
     (p script (of_part Part.Results (entries h)) (Some c.args.session) c.args.now) refl refl (λ m. refl))
