@@ -21,8 +21,8 @@ ghost use Rattle.hib_collections.specs.Shared.{HasLeft, HasServed, IsShared};
 
 use crate::members::Gatherer;
 use crate::names::Name;
-use crate::places::Place;
-use crate::shared::Shared;
+use crate::places::OwnerPlace;
+use crate::shared::GatherShared;
 use crate::turns::Turned;
 use hib_base::{Act, Entry, Listing, Reply, Row, Script, SessionNo, Tick, copy_cells};
 use hib_collections_law::{GatherEntry, MemberAct, MemberEntry};
@@ -36,7 +36,7 @@ use std::alloc::{AllocError, Global};
 fn answer_at(
     alloc: Global,
     regions: &mut Vec<Region>,
-    place: Place,
+    place: OwnerPlace,
     act: &Act,
     tick: Tick,
 ) -> Result<Reply, AllocError>
@@ -73,7 +73,7 @@ fn members_in(alloc: Global, reply: &Reply) -> Result<Option<Listing>, AllocErro
 fn member_entry(
     tick: Tick,
     session: SessionNo,
-    place: Place,
+    place: OwnerPlace,
     act: MemberAct,
     reply: Reply,
 ) -> MemberEntry
@@ -99,8 +99,8 @@ fn member_entry(
 /// The members of an owner were refused at this tick. It takes no memory.
 fn serve_miss<K: Keeper, N: Name>(
     gatherer: &mut Gatherer,
-    shared: &mut Shared<K>,
-    place: Place,
+    shared: &mut GatherShared<K>,
+    place: OwnerPlace,
     tick: Tick,
     reply: Reply,
 ) -> Turned
@@ -137,8 +137,8 @@ fn serve_hit<K: Keeper, N: Name>(
     alloc: Global,
     script: &Script,
     gatherer: &mut Gatherer,
-    shared: &mut Shared<K>,
-    place: Place,
+    shared: &mut GatherShared<K>,
+    place: OwnerPlace,
     entry: Entry,
     reply: Reply,
 ) -> Result<Turned, AllocError>
@@ -180,9 +180,9 @@ pub fn serve_get<K: Keeper, N: Name>(
     alloc: Global,
     script: &Script,
     gatherer: &mut Gatherer,
-    shared: &mut Shared<K>,
+    shared: &mut GatherShared<K>,
     act: Act,
-    place: Place,
+    place: OwnerPlace,
     tick: Tick,
 ) -> Result<Turned, AllocError>
     requires script { script.now ≡ N.script }
@@ -224,8 +224,8 @@ pub fn serve_get<K: Keeper, N: Name>(
 pub fn serve_put<K: Keeper, N: Name>(
     alloc: Global,
     gatherer: &mut Gatherer,
-    shared: &mut Shared<K>,
-    place: Place,
+    shared: &mut GatherShared<K>,
+    place: OwnerPlace,
     cells: Listing,
     tick: Tick,
 ) -> Result<Turned, AllocError>
@@ -264,8 +264,8 @@ pub fn serve_put<K: Keeper, N: Name>(
 pub fn serve_lock<K: Keeper, N: Name>(
     alloc: Global,
     gatherer: &mut Gatherer,
-    shared: &mut Shared<K>,
-    place: Place,
+    shared: &mut GatherShared<K>,
+    place: OwnerPlace,
     tick: Tick,
 ) -> Result<Turned, AllocError>
     requires run { IsShared N.script N.defs N.from shared.old }
@@ -300,8 +300,8 @@ pub fn serve_lock<K: Keeper, N: Name>(
 pub fn serve_unlock<K: Keeper, N: Name>(
     alloc: Global,
     gatherer: &mut Gatherer,
-    shared: &mut Shared<K>,
-    place: Place,
+    shared: &mut GatherShared<K>,
+    place: OwnerPlace,
     lock: Tick,
     tick: Tick,
 ) -> Result<Turned, AllocError>

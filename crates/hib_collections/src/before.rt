@@ -13,7 +13,7 @@ ghost use Rattle.hib_collections.specs.Before.{IsKnown, due_by};
 
 use crate::notes::Notes;
 use crate::owners::{asked, to_lock};
-use crate::places::Place;
+use crate::places::OwnerPlace;
 use hib_base::{Act, Change, EntityNo, QueryNo, Script, Tick};
 use hib_collections_law::Defs;
 use hib_session::Session;
@@ -23,11 +23,11 @@ pub enum Before {
     /// Nothing: the act itself is next.
     Nothing,
     /// The collection of a list is asked for its members.
-    Get(Place),
+    Get(OwnerPlace),
     /// The owner of a row that is to be written is locked.
-    Lock(Place),
+    Lock(OwnerPlace),
     /// A lock is given back.
-    Unlock(Place, Tick),
+    Unlock(OwnerPlace, Tick),
 }
 
 /// Whether one of the changes is of an entity.
@@ -43,7 +43,7 @@ fn is_touched(entity: EntityNo, changes: &[Change]) -> bool
 }
 
 /// The collection and the owner of a query of the script.
-fn asked_by(script: &Script, defs: &Defs, query: QueryNo) -> Option<Place>
+fn asked_by(script: &Script, defs: &Defs, query: QueryNo) -> Option<OwnerPlace>
     requires few { length defs.now ≤ max_collections }
     ensures { result ≡ Law.asked_by script.now defs.now query }
 {
@@ -54,7 +54,7 @@ fn asked_by(script: &Script, defs: &Defs, query: QueryNo) -> Option<Place>
 }
 
 /// Whether the session has changed the entity of a collection.
-fn has_changed(defs: &Defs, session: &Session, place: Place) -> bool
+fn has_changed(defs: &Defs, session: &Session, place: OwnerPlace) -> bool
     ensures { (script : Said) (mine : Journal) → Follows script session.now mine
         → result ≡ is_changed defs.now mine place.0 }
 {

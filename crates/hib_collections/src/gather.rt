@@ -18,7 +18,7 @@ ghost use Rattle.hib_collections.specs.Played.{GoesOn, has_next};
 
 use crate::gathered::Gathered;
 use crate::names::Name;
-use crate::steps::Core;
+use crate::steps::GatherCore;
 use crate::telling::tell;
 use hib_base::{Order, Script, SessionNo};
 use hib_collections_law::Defs;
@@ -43,7 +43,7 @@ pub struct GatherRefused<K, L> {
 /// that it stands for, in the step that adds it. After a listener had no memory for an entry, which stands, no call adds one more:
 /// it answers want of memory and changes nothing.
 pub struct Gather<K: Keeper, N: Name, L: Listener> {
-    core: Core<K, N>,
+    core: GatherCore<K, N>,
     listeners: Listeners<L>,
     /// Whether a listener had no memory for the newest entry that is told.
     deaf: bool,
@@ -98,7 +98,7 @@ impl<K: Keeper, N: Name, L: Listener> Gather<K, N, L> {
         ensures listeners { IfErr result (λ e. e.listeners ≡ listeners) }
     {
         nothing_was_told();
-        match Core::open(alloc, script, defs, keeper) {
+        match GatherCore::open(alloc, script, defs, keeper) {
             Ok(core) => Ok(Gather {
                 core,
                 listeners: Listeners::open(listeners),

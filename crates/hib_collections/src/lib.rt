@@ -27,4 +27,4 @@ pub use gathered::Gathered;
 pub use hib_collections_law::{Def, Defs, GatherEntry, MemberAct, MemberEntry};
 pub use lines::text;
 pub use names::Name;
-pub use steps::Core;
+pub use steps::GatherCore;

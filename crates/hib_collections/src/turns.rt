@@ -17,7 +17,7 @@ use crate::before::{Before, comes_before};
 use crate::gathered::Gathered;
 use crate::members::Gatherer;
 use crate::names::Name;
-use crate::shared::Shared;
+use crate::shared::GatherShared;
 use hib_base::{Act, Entry, Script, SessionNo, Tick};
 use hib_collections_law::{Defs, GatherEntry};
 use hib_journal::part_of;
@@ -87,7 +87,7 @@ fn serve_plain<K: Keeper, N: Name>(
     alloc: Global,
     script: &Script,
     gatherer: &mut Gatherer,
-    shared: &mut Shared<K>,
+    shared: &mut GatherShared<K>,
     act: Act,
     tick: Tick,
 ) -> Result<Turned, AllocError>
@@ -129,7 +129,7 @@ fn serve<K: Keeper, N: Name>(
     script: &Script,
     defs: &Defs,
     gatherer: &mut Gatherer,
-    shared: &mut Shared<K>,
+    shared: &mut GatherShared<K>,
     act: Act,
     tick: Tick,
 ) -> Result<Turned, AllocError>
@@ -163,7 +163,7 @@ fn take_turn<K: Keeper, N: Name>(
     script: &Script,
     defs: &Defs,
     gatherer: &mut Gatherer,
-    shared: &mut Shared<K>,
+    shared: &mut GatherShared<K>,
 ) -> Result<Turned, AllocError>
     requires script { script.now ≡ N.script }
     requires defs { defs.now ≡ N.defs }
@@ -214,7 +214,7 @@ pub fn turn<K: Keeper, N: Name>(
     defs: &Defs,
     number: SessionNo,
     gatherers: &mut Vec<Gatherer>,
-    shared: &mut Shared<K>,
+    shared: &mut GatherShared<K>,
 ) -> Result<Turned, AllocError>
     requires script { script.now ≡ N.script }
     requires defs { defs.now ≡ N.defs }

@@ -9,7 +9,7 @@ use Rattle.hib_collections.specs.Collected.{AreCollected}
 use Rattle.hib_collections.specs.Gatherers.{AreGatherers}
 use Rattle.hib_collections.proofs.Begun.{asked_begins, run_begins, start_ordered}
 use Rattle.hib_collections.specs.Kept.{past}
-use Rattle.hib_collections.proofs.steps.Core.open.Goals as goal
+use Rattle.hib_collections.proofs.steps.GatherCore.open.Goals as goal
 
 pub open_all-requires : goal.open_all-requires
 open_all-requires g c = record { few = subst (λ (s : Script). length s.sessions < 2 ^ 32) (sym c.requires.script) (ready g.N.Name.script c.requires.set.valid).sessions }
