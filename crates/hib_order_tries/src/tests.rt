@@ -4,7 +4,7 @@ ghost use Rattle.hib_order_tries.specs.Found.{AreCounted};
 ghost use Rattle.std.specs.Prelude.{◌≡◌, ◌+◌, ◌≤◌, IfOk, OnOk, length};
 
 use crate::player::{Played, Player};
-use crate::trying::{Progress, Told, search};
+use crate::trying::{Searching, Told, search};
 use hib_base::Outcome;
 use hib_order_law::{Step, Turn, Verdicts};
 use std::alloc::{AllocError, Global};
@@ -119,7 +119,7 @@ fn searched_killing(
     most: usize,
     limit: u64,
 ) -> Result<Told, AllocError> {
-    let mut progress = Progress::new(alloc)?;
+    let mut progress = Searching::new(alloc)?;
     for played in 0..1000 {
         let Some(begun) = progress.waiting.next(alloc, most) else {
             return Ok(progress.told(true, played));

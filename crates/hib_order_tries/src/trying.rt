@@ -12,7 +12,7 @@ ghost use Rattle.std.specs.Prelude.{◌≡◌, ◌∷◌, ◌++◌, ◌⊎◌, �
 use crate::beside::switches;
 use crate::found::Findings;
 use crate::player::{Played, Player};
-use crate::waiting::Waiting;
+use crate::waiting::Untried;
 use std::alloc::{AllocError, Global};
 
 /// What a search came to.
@@ -30,16 +30,16 @@ pub struct Told {
 
 /// A search between two plays.
 #[derive(Drop)]
-pub struct Progress {
+pub struct Searching {
     /// What waits to be played.
-    pub waiting: Waiting,
+    pub waiting: Untried,
     /// What was found.
     pub findings: Findings,
 }
 
-impl Progress {
+impl Searching {
     /// Nothing was played.
-    pub fn new(alloc: Global) -> Result<Progress, AllocError>
+    pub fn new(alloc: Global) -> Result<Searching, AllocError>
         ensures tried { IfOk result (λ s. s.findings.tried ≡ 0) }
         ensures counts { IfOk result (λ s. AreCounted s.findings) }
         ensures level { IfOk result (λ s. s.waiting.level ≡ 0) }
@@ -49,8 +49,8 @@ impl Progress {
             → IsAmid script start judged ended most_kills most s.waiting.level
             (map (λ v. v.items) s.waiting.now.items) s.waiting.beyond s.findings) }
     {
-        let waiting = Waiting::new(alloc)?;
-        Ok(Progress {
+        let waiting = Untried::new(alloc)?;
+        Ok(Searching {
             waiting,
             findings: Findings::none(alloc),
         })
@@ -131,7 +131,7 @@ pub fn search<P: Player>(
     ensures whole { IfOk result (λ t.
         (t.whole ≡ true) ⊎ (t.findings.tried ≡ limit) ⊎ (t.played ≡ 2 ^ 64 - 1)) }
 {
-    let mut progress = Progress::new(alloc)?;
+    let mut progress = Searching::new(alloc)?;
     for played in 0..u64::MAX {
         let Some(begun) = progress.waiting.next(alloc, most) else {
             return Ok(progress.told(true, played));

@@ -14,7 +14,7 @@ use std::alloc::{AllocError, Global};
 
 /// The first steps that wait to be tried.
 #[derive(Drop)]
-pub struct Waiting {
+pub struct Untried {
     /// How many switches they may cost.
     pub level: usize,
     /// The first steps.
@@ -23,16 +23,16 @@ pub struct Waiting {
     pub beyond: bool,
 }
 
-impl Waiting {
+impl Untried {
     /// The beginning of all orders, which has no step.
-    pub fn new(alloc: Global) -> Result<Waiting, AllocError>
+    pub fn new(alloc: Global) -> Result<Untried, AllocError>
         ensures level { IfOk result (λ w. w.level ≡ 0) }
         ensures now { IfOk result (λ w. map (λ v. v.items) w.now.items ≡ [] ∷ []) }
         ensures beyond { IfOk result (λ w. w.beyond ≡ false) }
     {
         let mut now = Vec::new(alloc);
         now.push(Vec::new(alloc))?;
-        Ok(Waiting {
+        Ok(Untried {
             level: 0,
             now,
             beyond: false,

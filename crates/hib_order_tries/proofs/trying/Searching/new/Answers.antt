@@ -1,6 +1,6 @@
 use Rattle.std.proofs.Common.{map}
 use Rattle.hib_order_tries.proofs.Turning.{begun_amid}
-use Rattle.hib_order_tries.proofs.trying.Progress.new.Goals as goal
+use Rattle.hib_order_tries.proofs.trying.Searching.new.Goals as goal
 
 pub returns-clause-amid : goal.returns-clause-amid
 returns-clause-amid c = λ script start judged ended most_kills most.

@@ -2,8 +2,8 @@ use Rattle.std.proofs.Common.{◌≡◌, ◌++◌, ◌+◌, ◌≤◌, ◌⊎◌
 use Rattle.hib_base.specs.declared.entries.Entry.{Entry}
 use Rattle.hib_order_law.specs.Search.{IsSearch}
 use Rattle.hib_order_tries.proofs.Waits.{none_taken, none_left, empty_ends, empty_rises}
-use Rattle.hib_order_tries.proofs.waiting.Waiting.next.Goals as goal
-use Rattle.hib_order_tries.proofs.waiting.Waiting.next.Goals.{then-not-self-via-then-not-self, then-not-self-via-else-not-self+then-self-most}
+use Rattle.hib_order_tries.proofs.waiting.Untried.next.Goals as goal
+use Rattle.hib_order_tries.proofs.waiting.Untried.next.Goals.{then-not-self-via-then-not-self, then-not-self-via-else-not-self+then-self-most}
 
 pub returns-then-not-self-clause-none : goal.returns-then-not-self-clause-none
 returns-then-not-self-clause-none c =

@@ -7,7 +7,7 @@ use Rattle.hib_order_law.specs.declared.step.Turn.{Turn}
 use Rattle.hib_order_tries.specs.Amid.{IsAmid}
 use Rattle.hib_order_tries.specs.Left.{IsTurned}
 use Rattle.hib_order_tries.proofs.Turning.{turned}
-use Rattle.hib_order_tries.proofs.trying.Progress.take.Goals as goal
+use Rattle.hib_order_tries.proofs.trying.Searching.take.Goals as goal
 
 test_true : {P : Type 0} → P → IsTest P true
 test_true p = (λ _. p, λ q. absurd (false≢true (sym q)))
