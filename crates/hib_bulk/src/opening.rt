@@ -48,7 +48,8 @@ pub fn open_lines(alloc: Global, lines: &[BulkDef]) -> Result<Vec<LineProgress>,
 }
 
 impl<K: Keeper> BulkParts<K> {
-    /// Opens the parts of a run in which nothing has happened. At an error the keeper is handed back, with the rows that it had.
+    /// Opens the parts of a run in which nothing has happened. At an error the keeper is handed back, with the rows
+    /// that it had.
     pub fn open(alloc: Global, script: &Script, keeper: K) -> Result<BulkParts<K>, OpenFault<K>>
         requires entities { length script.now.mapping < 2 ^ 16 }
         requires results { 0 < script.now.results }

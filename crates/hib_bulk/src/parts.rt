@@ -1,5 +1,6 @@
 // The parts of a run with bulk lines, and what they answer.
-ghost use Rattle.std.specs.Prelude.{◌≡◌, ◌≤◌, ◌<◌, ◌^◌, ◌∷◌, ◌+◌, [], ℕ, List, length, true, false, IfOk, IfSome, OnOk, OnErr, Option, Some, None};
+ghost use Rattle.std.specs.Prelude.{◌≡◌, ◌≤◌, ◌<◌, ◌^◌, ◌∷◌, ◌+◌, [], ℕ, List, length, true, false, IfOk, IfSome, OnOk};
+ghost use Rattle.std.specs.Prelude.{OnErr, Option, Some, None};
 ghost use Rattle.hib_base.specs.Tables.{Tables};
 ghost use Rattle.hib_base.specs.declared.numbers.Key.{Key as KeySpec};
 ghost use Rattle.hib_journal.specs.Types.{Script as Said};
@@ -28,7 +29,8 @@ use hib_session::Session;
 use std::alloc::{AllocError, Global};
 use std::marker::Model;
 
-/// The store, the open sessions and lines, the stamps of tables, the regions that lines may lock, and the results of queries.
+/// The store, the open sessions and lines, the stamps of tables, the regions that lines may lock, and the results of
+/// queries.
 pub struct BulkParts<K: Keeper> {
     /// The committed rows, and what each session has written and not committed.
     pub store: StoreEngine<K>,
@@ -107,8 +109,8 @@ impl<K: Keeper> BulkParts<K> {
         }
     }
 
-    /// The answer of the region of an entity to an act of a session. An item that the act would meet isn't old. At an error
-    /// nothing has changed.
+    /// The answer of the region of an entity to an act of a session. An item that the act would meet isn't old. At an
+    /// error nothing has changed.
     fn serve_region(
         &mut self,
         alloc: Global,
@@ -146,8 +148,9 @@ impl<K: Keeper> BulkParts<K> {
         Ok(BulkReply::Plain(Reply::Done))
     }
 
-    /// The answer of a part to an act of a session that is neither the session's own nor a region's. A fault is answered only if the
-    /// keeper failed in this call. At an error the parts are as before, but for the keeper's counts.
+    /// The answer of a part to an act of a session that is neither the session's own nor a region's. A fault is
+    /// answered only if the keeper failed in this call. At an error the parts are as before, but for the keeper's
+    /// counts.
     fn serve(
         &mut self,
         alloc: Global,
@@ -185,9 +188,9 @@ impl<K: Keeper> BulkParts<K> {
         }
     }
 
-    /// The answer to an act that is due in a session, at this tick: the session's own, or that of a part. A fault is answered only
-    /// if the keeper failed in this call. At an error the parts are as before, but for the keeper's counts, and so they are if the
-    /// act brings something to the session.
+    /// The answer to an act that is due in a session, at this tick: the session's own, or that of a part. A fault is
+    /// answered only if the keeper failed in this call. At an error the parts are as before, but for the keeper's
+    /// counts, and so they are if the act brings something to the session.
     pub fn answer(
         &mut self,
         alloc: Global,

@@ -7,7 +7,8 @@ ghost use Rattle.hib_bulk_region.specs.Region.{has_old};
 ghost use Rattle.hib_bulk_region.specs.Answers.{put_reply as put_answer, inserted_reply as inserted_answer};
 ghost use Rattle.hib_bulk_region.specs.Steps.{got};
 ghost use Rattle.hib_bulk.specs.Types.{BulkReply as Replied};
-ghost use Rattle.hib_bulk.specs.Regions.{opened, has_old_in, swept, held_by, locked_all, unlocked_all, answer_by, state_after, answer_in, region_after};
+ghost use Rattle.hib_bulk.specs.Regions.{opened, has_old_in, swept, held_by, locked_all, unlocked_all, answer_by};
+ghost use Rattle.hib_bulk.specs.Regions.{state_after, answer_in, region_after};
 
 use hib_base::{Act, Got, Reply, Row, Strategy, Tick};
 use hib_bulk_law::BulkReply;
@@ -56,8 +57,8 @@ fn inserted_reply(inserted: BulkInserted) -> BulkReply
     }
 }
 
-/// What an act of a session that began at `begun` comes to, at this tick. An item that the act would meet isn't old. An act that
-/// isn't a region's is answered Done, and changes nothing. At an error nothing has changed.
+/// What an act of a session that began at `begun` comes to, at this tick. An item that the act would meet isn't old. An
+/// act that isn't a region's is answered Done, and changes nothing. At an error nothing has changed.
 fn act_on(
     alloc: Global,
     region: &mut BulkRegion,
@@ -177,8 +178,8 @@ impl EntityRegion {
         }
     }
 
-    /// Answers an act of a session that began at `begun`, at this tick. An item that the act would meet isn't old. At an error
-    /// nothing has changed.
+    /// Answers an act of a session that began at `begun`, at this tick. An item that the act would meet isn't old. At
+    /// an error nothing has changed.
     pub fn serve(
         &mut self,
         alloc: Global,

@@ -18,8 +18,8 @@ use hib_outside::Keeper;
 use hib_session::Session;
 use std::alloc::{AllocError, Global};
 
-/// One act of the session of this number, or the sweep that is due before it. If memory runs out nothing has changed, but for the
-/// keeper's counts.
+/// One act of the session of this number, or the sweep that is due before it. If memory runs out nothing has changed,
+/// but for the keeper's counts.
 pub fn step_session<K: Keeper, N: Name>(
     alloc: Global,
     script: &Script,

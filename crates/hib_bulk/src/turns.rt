@@ -1,5 +1,6 @@
 // One turn of a session: the act that is due is answered by the session or by a part, and its entry is added.
-ghost use Rattle.std.specs.Prelude.{ℕ, ◌≡◌, ◌≢◌, ◌∷◌, ◌<◌, ◌≤◌, ◌^◌, ◌+◌, length, IfOk, OnOk, OnErr, IfSome, IsOk, Ok, None, Some, Option, List, false, true};
+ghost use Rattle.std.specs.Prelude.{ℕ, ◌≡◌, ◌≢◌, ◌∷◌, ◌<◌, ◌≤◌, ◌^◌, ◌+◌, length, IfOk, OnOk, OnErr, IfSome, IsOk, Ok};
+ghost use Rattle.std.specs.Prelude.{None, Some, Option, List, false, true};
 ghost use Rattle.hib_journal.specs.Sessions.{Journal as Plain, own};
 ghost use Rattle.hib_journal.specs.Next.{next as next_plain};
 ghost use Rattle.hib_session.specs.Memory.{brings};
@@ -92,8 +93,8 @@ fn due_act(alloc: Global, script: &Script, session: &Session) -> Result<Option<A
     Ok(act)
 }
 
-/// The tick and the reply of the act that is due, which the session or a part has answered. The journal has room for its entry.
-/// If memory runs out nothing has changed, but for the keeper's counts.
+/// The tick and the reply of the act that is due, which the session or a part has answered. The journal has room for
+/// its entry. If memory runs out nothing has changed, but for the keeper's counts.
 fn answered<K: Keeper, N: Name>(
     alloc: Global,
     script: &Script,
@@ -120,8 +121,8 @@ fn answered<K: Keeper, N: Name>(
     Ok((tick, reply))
 }
 
-/// The session takes the entry of its act, and then the journal, which has room for it: both, or if memory runs out neither.
-/// Of a session that is ready it runs out only if the act brings something to it.
+/// The session takes the entry of its act, and then the journal, which has room for it: both, or if memory runs out
+/// neither. Of a session that is ready it runs out only if the act brings something to it.
 fn enter(
     alloc: Global,
     script: &Script,
@@ -167,7 +168,8 @@ fn enter(
     Ok(())
 }
 
-/// The act that is due is answered, taken by its session, and its entry added: all of it, or if memory runs out nothing.
+/// The act that is due is answered, taken by its session, and its entry added: all of it, or if memory runs out
+/// nothing.
 fn serve<K: Keeper, N: Name>(
     alloc: Global,
     script: &Script,
@@ -244,7 +246,8 @@ fn sweep<K: Keeper, N: Name>(
     Ok(())
 }
 
-/// One act of a session, if one is due: first all is made ready, and only then is what is old swept away, or the act answered.
+/// One act of a session, if one is due: first all is made ready, and only then is what is old swept away, or the act
+/// answered.
 pub fn take_turn<K: Keeper, N: Name>(
     alloc: Global,
     script: &Script,

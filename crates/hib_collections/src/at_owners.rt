@@ -1,5 +1,7 @@
-// What a session does at an owner of a collection, by the region of the collection: it asks for members, offers them, locks and unlocks.
-ghost use Rattle.std.specs.Prelude.{◌≡◌, ◌+◌, ◌<◌, ◌≤◌, ◌^◌, ℕ, List, Option, length, IfOk, IfSome, OnOk, OnErr, Some, None, true, false, is_some};
+// What a session does at an owner of a collection, by the region of the collection: it asks for members, offers them,
+// locks and unlocks.
+ghost use Rattle.std.specs.Prelude.{◌≡◌, ◌+◌, ◌<◌, ◌≤◌, ◌^◌, ℕ, List, Option, length, IfOk, IfSome, OnOk, OnErr, Some};
+ghost use Rattle.std.specs.Prelude.{None, true, false, is_some};
 ghost use Rattle.hib_base.specs.Tables.{Tables};
 ghost use Rattle.hib_base.specs.declared.entries.Act.{Act};
 ghost use Rattle.hib_base.specs.declared.scripts.Script.{Script as Said};
@@ -31,8 +33,8 @@ use hib_journal::part_of;
 use hib_outside::Keeper;
 use std::alloc::{AllocError, Global};
 
-/// An act at an owner is answered by the region of its collection, at this tick. A read leaves the regions as they are, and so does
-/// want of memory.
+/// An act at an owner is answered by the region of its collection, at this tick. A read leaves the regions as they are,
+/// and so does want of memory.
 fn answer_at(
     alloc: Global,
     regions: &mut Vec<Region>,
@@ -131,8 +133,8 @@ fn serve_miss<K: Keeper, N: Name>(
     Turned::Did
 }
 
-/// The members of an owner were answered at this tick: the session takes them as the list that is due. If memory runs out nothing
-/// has changed.
+/// The members of an owner were answered at this tick: the session takes them as the list that is due. If memory runs
+/// out nothing has changed.
 fn serve_hit<K: Keeper, N: Name>(
     alloc: Global,
     script: &Script,
@@ -174,8 +176,8 @@ fn serve_hit<K: Keeper, N: Name>(
     Ok(Turned::Hit(entry))
 }
 
-/// A collection is asked for the members of an owner, before a list of them. A hit takes the place of the list. If memory runs out
-/// nothing has changed.
+/// A collection is asked for the members of an owner, before a list of them. A hit takes the place of the list. If
+/// memory runs out nothing has changed.
 pub fn serve_get<K: Keeper, N: Name>(
     alloc: Global,
     script: &Script,
@@ -220,7 +222,8 @@ pub fn serve_get<K: Keeper, N: Name>(
     }
 }
 
-/// Members that were listed after a miss are offered to the region of their collection. If memory runs out nothing has changed.
+/// Members that were listed after a miss are offered to the region of their collection. If memory runs out nothing has
+/// changed.
 pub fn serve_put<K: Keeper, N: Name>(
     alloc: Global,
     gatherer: &mut Gatherer,

@@ -7,7 +7,8 @@ ghost use Rattle.hib_journal.specs.Next.{is_in_tables};
 ghost use Rattle.hib_session.specs.Session.{Follows};
 ghost use Rattle.hib_collections_law.specs.Types.{Gathered, max_collections};
 ghost use Rattle.hib_collections_law.specs.Gathered as Law;
-ghost use Rattle.hib_collections_law.specs.Gathered.{due_end, due_for, due_list, due_write, is_changed, locks_in, missed};
+ghost use Rattle.hib_collections_law.specs.Gathered.{due_end, due_for, due_list, due_write, is_changed, locks_in};
+ghost use Rattle.hib_collections_law.specs.Gathered.{missed};
 ghost use Rattle.hib_collections.specs.Notes.{AreNoted};
 ghost use Rattle.hib_collections.specs.Before.{IsKnown, due_by};
 
@@ -64,7 +65,8 @@ fn has_changed(defs: &Defs, session: &Session, place: OwnerPlace) -> bool
     }
 }
 
-/// What comes before a list: the collection that it is of is asked, unless it has just refused, or the session has changed its entity.
+/// What comes before a list: the collection that it is of is asked, unless it has just refused, or the session has
+/// changed its entity.
 fn before_list(
     script: &Script,
     defs: &Defs,

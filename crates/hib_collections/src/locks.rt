@@ -8,9 +8,9 @@ use indexmap::IndexSet;
 use std::alloc::{AllocError, Global};
 use std::marker::Model;
 
-/// The locks that a session has taken in its transaction and not given back, with their numbers, in the order in which they were
-/// taken. Whether an owner is locked is asked of a set, however many are, until the first lock is given back: that is at the
-/// transaction's end.
+/// The locks that a session has taken in its transaction and not given back, with their numbers, in the order in which
+/// they were taken. Whether an owner is locked is asked of a set, however many are, until the first lock is given back:
+/// that is at the transaction's end.
 #[derive(Drop)]
 pub struct Locks {
     /// All that were taken.

@@ -1,5 +1,6 @@
 // What is noted of a session beside what it remembers itself.
-ghost use Rattle.std.specs.Prelude.{◌≡◌, [], drop, Some, None, IfOk, OnOk, OnErr, IfSome, IsSome, if◌then◌else◌, true, is_some};
+ghost use Rattle.std.specs.Prelude.{◌≡◌, [], drop, Some, None, IfOk, OnOk, OnErr, IfSome, IsSome, if◌then◌else◌, true};
+ghost use Rattle.std.specs.Prelude.{is_some};
 ghost use Rattle.hib_session.specs.Memory.{brings};
 ghost use Rattle.hib_collections_law.specs.Gathered.{is_miss, unless_begun};
 ghost use Rattle.hib_collections.specs.Notes.{listed_from, locks_with};
@@ -10,8 +11,8 @@ use hib_base::{Act, Listing, Reply, Tick, copy_cells};
 use std::alloc::{AllocError, Global};
 use std::marker::Model;
 
-/// What is noted of a session's last entries: the locks that it holds on owners of collections, the owner whose members it was
-/// refused, if it got nothing since, and the list that it was answered then.
+/// What is noted of a session's last entries: the locks that it holds on owners of collections, the owner whose members
+/// it was refused, if it got nothing since, and the list that it was answered then.
 #[derive(Drop)]
 pub struct Notes {
     locks: Locks,

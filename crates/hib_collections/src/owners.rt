@@ -1,5 +1,6 @@
 // The collection and the owner that a query is of, and the owners whose members a change may change.
-ghost use Rattle.std.specs.Prelude.{◌≡◌, ◌≤◌, ◌++◌, ◌==◌, [], if◌then◌else◌, Some, None, find, not, map, length, option_copied, option_to_list};
+ghost use Rattle.std.specs.Prelude.{◌≡◌, ◌≤◌, ◌++◌, ◌==◌, [], if◌then◌else◌, Some, None, find, not, map, length};
+ghost use Rattle.std.specs.Prelude.{option_copied, option_to_list};
 ghost use Rattle.hib_base.specs.Tables.{key_of};
 ghost use Rattle.hib_base.specs.declared.rows.Cell.{Cell};
 ghost use Rattle.hib_journal.specs.Query.{same_cell};
@@ -147,7 +148,8 @@ fn free_in(
     }
 }
 
-/// The first owner that is to be locked before a change is written, by the row that was there; there is none if all are locked.
+/// The first owner that is to be locked before a change is written, by the row that was there; there is none if all are
+/// locked.
 pub fn to_lock(defs: &Defs, change: &Change, old: Option<&Row>, locks: &Locks) -> Option<OwnerPlace>
     requires few { length defs.now ≤ max_collections }
     ensures { result ≡ find (λ p. not (is_locked locks.now.held p))

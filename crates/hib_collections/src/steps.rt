@@ -1,5 +1,6 @@
 // The steps of a run with collections, each of which adds one entry to its journal, whoever hears of it.
-ghost use Rattle.std.specs.Prelude.{◌≡◌, ◌≢◌, ◌≤◌, ◌<◌, ◌^◌, ℕ, [], length, slice_get, Some, OnOk, OnErr, IfOk, IfErr, Ok, false, true};
+ghost use Rattle.std.specs.Prelude.{◌≡◌, ◌≢◌, ◌≤◌, ◌<◌, ◌^◌, ℕ, [], length, slice_get, Some, OnOk, OnErr, IfOk, IfErr};
+ghost use Rattle.std.specs.Prelude.{Ok, false, true};
 ghost use Rattle.hib_journal.specs.Runs.{told_committed, fault_count};
 ghost use Rattle.hib_outside.specs.Causes.{Rose};
 ghost use Rattle.hib_store.specs.Stores.{handed_back, is_store_fault};
@@ -25,8 +26,8 @@ use hib_store::OpenFault;
 use std::alloc::{AllocError, Global};
 use std::marker::{Model, PhantomData};
 
-/// Sessions over engines and over the regions of collections, with the journal of their steps, which tells nobody of them. The
-/// journal is legal for the name's script and collections, from the name's rows.
+/// Sessions over engines and over the regions of collections, with the journal of their steps, which tells nobody of
+/// them. The journal is legal for the name's script and collections, from the name's rows.
 pub struct GatherCore<K: Keeper, N: Name> {
     script: Script,
     defs: Defs,
@@ -59,9 +60,9 @@ impl<K: Keeper, N: Name> Model for GatherCore<K, N> {
 }
 
 impl<K: Keeper, N: Name> GatherCore<K, N> {
-    /// Opens the core of the run of this name, in which no session has begun. The rows that the keeper keeps are widened to the script's
-    /// mapping, and each of the script's rows whose key has none is added. At an error the keeper is handed back, with the rows
-    /// that it had.
+    /// Opens the core of the run of this name, in which no session has begun. The rows that the keeper keeps are
+    /// widened to the script's mapping, and each of the script's rows whose key has none is added. At an error the
+    /// keeper is handed back, with the rows that it had.
     pub fn open(
         alloc: Global,
         script: Script,
@@ -102,8 +103,8 @@ impl<K: Keeper, N: Name> GatherCore<K, N> {
         })
     }
 
-    /// One step of a session: what is due in it, if anything is. If memory runs out no entry is added and nothing has changed, but the
-    /// answer of `refused` and the keeper's counts; so a later call may succeed.
+    /// One step of a session: what is due in it, if anything is. If memory runs out no entry is added and nothing has
+    /// changed, but the answer of `refused` and the keeper's counts; so a later call may succeed.
     pub fn step(&mut self, alloc: Global, number: SessionNo) -> Result<Turned, AllocError>
         requires known { number < length N.script.sessions }
         ensures does { IfOk result (Does N.script N.defs number (past self.old.journal)

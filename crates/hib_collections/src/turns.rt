@@ -1,5 +1,6 @@
 // One turn of a session: an act of its plan is answered, or one at a collection's region that comes before or after it.
-ghost use Rattle.std.specs.Prelude.{◌≡◌, ◌+◌, ◌<◌, ◌^◌, Option, length, IfOk, IfSome, OnOk, OnErr, Some, None, true, false, is_some};
+ghost use Rattle.std.specs.Prelude.{◌≡◌, ◌+◌, ◌<◌, ◌^◌, Option, length, IfOk, IfSome, OnOk, OnErr, Some, None, true};
+ghost use Rattle.std.specs.Prelude.{false, is_some};
 ghost use Rattle.hib_base.specs.declared.entries.Act.{Act};
 ghost use Rattle.hib_journal.specs.Sessions.{Journal};
 ghost use Rattle.hib_journal.specs.Next.{next};
@@ -60,8 +61,8 @@ fn due_act(alloc: Global, script: &Script, session: &Session) -> Result<Option<A
     Ok(act)
 }
 
-/// Makes a session and the journal ready for one more entry, and gives its tick: one more than there are entries. At an error all is
-/// as before but for the room.
+/// Makes a session and the journal ready for one more entry, and gives its tick: one more than there are entries. At an
+/// error all is as before but for the room.
 fn prepare(
     alloc: Global,
     script: &Script,
@@ -82,7 +83,8 @@ fn prepare(
     Ok(Tick(journal.len() as u64 + 1))
 }
 
-/// The act of the plan is answered, taken by its session, and its entry added: all of it, or if memory runs out nothing.
+/// The act of the plan is answered, taken by its session, and its entry added: all of it, or if memory runs out
+/// nothing.
 fn serve_plain<K: Keeper, N: Name>(
     alloc: Global,
     script: &Script,
@@ -207,7 +209,8 @@ pub fn has_turn<N: Name>(
     Ok(act.is_some())
 }
 
-/// One act of the session of this number, if one is due. If memory runs out nothing has changed, but for the keeper's counts.
+/// One act of the session of this number, if one is due. If memory runs out nothing has changed, but for the keeper's
+/// counts.
 pub fn turn<K: Keeper, N: Name>(
     alloc: Global,
     script: &Script,

@@ -12,8 +12,8 @@ use hib_nodes_law::{NodeEntry, apart_is_legal, parts_tell};
 use hib_outside::Keeper;
 use std::alloc::AllocError;
 
-/// The first pair that waits for a node is delivered, by a fence of its key, whose two entries are added; false if none waits. If
-/// memory runs out nothing has changed.
+/// The first pair that waits for a node is delivered, by a fence of its key, whose two entries are added; false if none
+/// waits. If memory runs out nothing has changed.
 pub fn deliver<K: Keeper, N: Name>(
     node: u8,
     shared: &mut NodesShared<K>,

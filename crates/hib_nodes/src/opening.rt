@@ -20,7 +20,8 @@ use hib_store::OpenFault;
 use std::alloc::Global;
 
 impl<K: Keeper> NodesParts<K> {
-    /// The parts of a run in which nothing has happened. At an error the keeper is handed back, with the rows that it had.
+    /// The parts of a run in which nothing has happened. At an error the keeper is handed back, with the rows that it
+    /// had.
     fn open(alloc: Global, script: &Script, keeper: K) -> Result<NodesParts<K>, OpenFault<K>>
         requires built { IsBuilt script.now }
         ensures standing { IfOk result (λ p. AreStanding script.now
@@ -75,7 +76,8 @@ impl<K: Keeper> NodesParts<K> {
     }
 }
 
-/// What the sessions of a run share in which nothing has happened. At an error the keeper is handed back, with the rows that it had.
+/// What the sessions of a run share in which nothing has happened. At an error the keeper is handed back, with the rows
+/// that it had.
 pub fn open_shared<K: Keeper>(
     alloc: Global,
     script: &Script,

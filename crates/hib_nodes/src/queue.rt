@@ -57,7 +57,7 @@ impl KeyQueue {
         self.taken += 1;
     }
 
-    /// Makes room for so many more. At an error it is as before.
+    /// Makes room for `count` more keys. At an error it is as before.
     pub fn reserve(&mut self, count: usize) -> Result<(), AllocError>
         ensures pairs { self.new.pairs ≡ self.old.pairs }
         ensures taken { self.new.taken ≡ self.old.taken }
@@ -140,7 +140,7 @@ impl Queues {
         }
     }
 
-    /// Makes room for so many more that wait for a node. At an error all is as before.
+    /// Makes room for `count` more keys that wait for a node. At an error all is as before.
     pub fn reserve(&mut self, node: u8, count: usize) -> Result<(), AllocError>
         ensures same { AreWaiting self.old self.new }
         ensures room { OnOk result (count ≤ (queue_in self.new node).spare) }

@@ -49,8 +49,8 @@ fn either(a: bool, b: bool) -> bool
     a || b
 }
 
-/// Takes the next entry, one of these, before which these rows are committed and this is known of the sessions. Of keys nothing is
-/// judged.
+/// Takes the next entry, one of these, before which these rows are committed and this is known of the sessions. Of keys
+/// nothing is judged.
 fn note(
     judged: &mut Verdicts,
     alloc: Global,
@@ -120,8 +120,8 @@ fn is_none(keys: &BTreeSet<Key>) -> bool
     keys.is_empty()
 }
 
-/// Judges a run, of which these are the committed rows at the start and the entries, the oldest first. Want of memory alone is an
-/// error.
+/// Judges a run, of which these are the committed rows at the start and the entries, the oldest first. Want of memory
+/// alone is an error.
 pub fn judge(
     alloc: Global,
     script: &Script,

@@ -7,7 +7,8 @@ ghost use Rattle.hib_order_law.specs.declared.step.Step.{Step};
 ghost use Rattle.hib_order_law.specs.declared.verdicts.Verdicts.{Verdicts};
 ghost use Rattle.hib_order_tries.specs.Amid.{IsAmid};
 ghost use Rattle.hib_order_tries.specs.Found.{AreCounted, IsPlayed, IsTold};
-ghost use Rattle.std.specs.Prelude.{◌≡◌, ◌∷◌, ◌++◌, ◌⊎◌, ◌<◌, ◌≤◌, ◌^◌, ◌-◌, ℕ, List, [], IfOk, OnOk, false, length, map, true};
+ghost use Rattle.std.specs.Prelude.{◌≡◌, ◌∷◌, ◌++◌, ◌⊎◌, ◌<◌, ◌≤◌, ◌^◌, ◌-◌, ℕ, List, [], IfOk, OnOk, false, length};
+ghost use Rattle.std.specs.Prelude.{map, true};
 
 use crate::beside::switches;
 use crate::found::Findings;
@@ -56,7 +57,7 @@ impl Searching {
         })
     }
 
-    /// Takes a run that was played and begins with first steps that waited, so many; as many kills may come as the bound says. False if
+    /// Takes a run that was played, whose first `from` steps waited; as many kills may come as the bound says. False if
     /// it is one more than may be tried: then nothing has changed.
     pub fn take(
         &mut self,
@@ -114,9 +115,10 @@ impl Searching {
     }
 }
 
-/// Tries the orders within a number of switches and a number of kills, those with the fewest switches first, each once, and so many of
-/// them at most: `limit`. All are tried unless there are more than that, or 2^64 - 1 runs were played. What is kept grows with the script
-/// and with the endings that are told, and not with the orders. An error is want of memory, and then nothing is told.
+/// Tries the orders within a number of switches and a number of kills, those with the fewest switches first, each once,
+/// and `limit` of them at most. All are tried unless there are more than that, or 2^64 - 1 runs were played. What is
+/// kept grows with the script and with the endings that are told, and not with the orders. An error is want of memory,
+/// and then nothing is told.
 pub fn search<P: Player>(
     alloc: Global,
     player: &mut P,

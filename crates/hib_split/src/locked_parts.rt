@@ -18,8 +18,8 @@ use std::alloc::{AllocError, Global};
 use std::sync::atomic::{AtomicBool, AtomicUsize, Ordering};
 use std::sync::{Mutex, Wait};
 
-/// What workers share: each part behind a lock of its own, the number of the next session that nobody has taken, and what they
-/// leave.
+/// What workers share: each part behind a lock of its own, the number of the next session that nobody has taken, and
+/// what they leave.
 pub struct LockedParts<K: Keeper, N: Name> {
     registry: Mutex<RegistryPart<N>>,
     store: Mutex<StorePart<K, N>>,
@@ -42,7 +42,8 @@ pub struct Left<K: Keeper, N: Name> {
     pub parts: Parts<K, N>,
     /// The workers, each at the place of its session.
     pub aside: Vec<Option<Worker<N>>>,
-    /// The entity that was asked for and the one that was found, if a lock gave another region. Then regions may be missing.
+    /// The entity that was asked for and the one that was found, if a lock gave another region. Then regions may be
+    /// missing.
     pub strange: Option<Strange>,
     /// Whether memory ran out in a worker.
     pub refused: bool,
@@ -70,7 +71,7 @@ fn places_for<N: Name>(
     Ok(places)
 }
 
-/// Room for a run on threads over so many regions, with so many sessions.
+/// Room for a run on threads over this number of regions, with this number of sessions.
 pub fn room_for_threads<N: Name>(
     alloc: Global,
     regions: usize,
@@ -214,8 +215,8 @@ impl<K: Keeper, N: Name> LockedParts<K, N> {
         }
     }
 
-    /// One step of a session: the act that is due in it, if one is, under the lock of the part that it is on. An act of its own is
-    /// made under no lock. The session is made ready before the lock is taken.
+    /// One step of a session: the act that is due in it, if one is, under the lock of the part that it is on. An act of
+    /// its own is made under no lock. The session is made ready before the lock is taken.
     pub fn step<R: Wait>(
         &self,
         rt: &R,

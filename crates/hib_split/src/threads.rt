@@ -66,8 +66,8 @@ fn take_turns<R: Threads + Wait + Sync, K: Keeper, N: Name + Send + Sync, G: Gat
     spread(rt, workers, &work);
 }
 
-/// Has so many threads do this work, of which this one is the last, and waits for their ends. One that can't be started is done
-/// without.
+/// Has `workers` threads do this work, of which this one is the last, and waits for their ends. One that can't be
+/// started is done without.
 fn spread<R: Threads + Wait + Sync, F: Fn() + Sync>(rt: &R, workers: u32, work: &F)
     requires { F.pre work.now }
 {
@@ -103,8 +103,8 @@ fn serve<R: Wait, K: Keeper, N: Name, G: Gate>(
     }
 }
 
-/// Steps a session to its end. No lock is held before a step, nor while the gate holds the worker. Once memory has run out in another
-/// worker, no further step is made.
+/// Steps a session to its end. No lock is held before a step, nor while the gate holds the worker. Once memory has run
+/// out in another worker, no further step is made.
 fn run_session<R: Wait, K: Keeper, N: Name, G: Gate>(
     rt: &R,
     alloc: Global,

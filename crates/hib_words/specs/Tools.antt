@@ -26,8 +26,8 @@ abbrev pub number_if_any : ℕ → ℕ → Option Text → Option (Option ℕ)
 number_if_any low high None = Some None
 number_if_any low high (Some text) = option_map Some (number_between low high text)
 
--- the orders with so many switches at most, 2 if it isn't said, and so many kills, none if it isn't said; no more orders than this; and which
--- finding is shown
+-- the most switches of an order, 2 if it isn't said, and the most kills, 0 if it isn't said; no more orders than this; and which finding is
+-- shown
 abbrev pub orders_asked : Option (Option ℕ) → Option (Option ℕ) → Option (Option ℕ) → Option (Option ℕ) → Option Tool
 orders_asked (Some switches) (Some kills) (Some at_most) (Some show) = Some (variant.Orders (unwrap_or switches 2) (unwrap_or kills 0) at_most show)
 orders_asked _ _ _ _ = None

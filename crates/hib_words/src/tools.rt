@@ -113,8 +113,8 @@ fn tool_from(verb: Verb, found: &Found<'_>) -> Option<Tool>
     }
 }
 
-/// What these words ask of the tools, without the program's own name before them; none exactly if they have no form. The only
-/// error is want of memory.
+/// What these words ask of the tools, without the program's own name before them; none exactly if they have no form.
+/// The only error is want of memory.
 pub fn read_tool(alloc: Global, words: &[String]) -> Result<Option<Tool>, AllocError>
     ensures { IfOk result (λ r. r ≡ tool_command (map string_bytes words.now)) }
 {

@@ -2,7 +2,8 @@
 ghost use Rattle.std.specs.Prelude.{option_map, ◌≡◌, IfOk, map, string_bytes};
 ghost use Rattle.std.specs.Char.{is_ascii_digit};
 ghost use Rattle.std.specs.List.{list_all};
-ghost use Rattle.hib_words.specs.Commands.{asked, asked_of, command, in_range, is_numeral, is_value, number_between, settings_in, settings_of};
+ghost use Rattle.hib_words.specs.Commands.{asked, asked_of, command, in_range, is_numeral, is_value, number_between};
+ghost use Rattle.hib_words.specs.Commands.{settings_in, settings_of};
 ghost use Rattle.hib_words.specs.Matched.{chosen_of};
 ghost use Rattle.hib_words.specs.Topics.{file_of, is_traced};
 
