@@ -162,12 +162,16 @@ abbrev pub settings_in : Chosen → Option Settings
 settings_in chosen = if option_map_or is_value chosen.file true
     then Some (record { journal = chosen.journal; trace = chosen.trace; file = chosen.file }) else None
 
+-- the most workers that words ask for
+abbrev pub max_workers : ℕ
+max_workers = 64
+
 -- what a verb asks of the program with these options; none if a number is missing or out of its range, a value is none, or the verb is
 -- one of its tools
 abbrev pub asked : Verb → Chosen → Option Asked
 asked Play chosen = option_map play (settings_in chosen)
 asked Work chosen = option_and_then (λ n. option_map (work n chosen.split) (settings_in chosen))
-    (option_and_then (number_between 1 64) chosen.workers)
+    (option_and_then (number_between 1 max_workers) chosen.workers)
 asked Make chosen = option_map (λ n. make n chosen.text) (option_and_then (number_between 0 4294967295) chosen.seed)
 asked Audit chosen = Some audit
 asked Collect chosen = Some collect

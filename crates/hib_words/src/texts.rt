@@ -282,8 +282,8 @@ fn help_of<'a>(
     Ok(text)
 }
 
-/// The text of `--help`: clap's own for the commands and options, and then what a user has to know besides. The only error is want
-/// of memory.
+/// The text of `--help`: clap's own for the commands and options, and then what a user has to know besides. The only
+/// error is want of memory.
 pub fn help(alloc: Global) -> Result<String, AllocError> {
     let program = program(alloc, "hib", ABOUT, "hib <COMMAND> [OPTIONS]")?;
     help_of(alloc, program, &VERBS, AFTER_HELP)
