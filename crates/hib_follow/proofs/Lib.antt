@@ -1,0 +1,5 @@
+pub mod Touching
+pub mod Noted
+pub mod Written
+pub mod Marked
+pub mod Stepping

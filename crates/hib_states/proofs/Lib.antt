@@ -1,0 +1,3 @@
+pub mod Rowed
+pub mod Told
+pub mod Prefixes

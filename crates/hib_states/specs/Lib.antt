@@ -1,0 +1,4 @@
+pub mod Facts
+pub mod Texts
+pub mod States
+pub mod Here
