@@ -5,4 +5,6 @@ pub mod Shelves
 pub mod Touched
 pub mod Marks
 pub mod Desks
+pub mod Deleted
+pub mod Holders
 pub mod Known

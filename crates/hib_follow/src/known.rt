@@ -6,7 +6,9 @@ ghost use Rattle.hib_journal.specs.Sessions.{Journal};
 ghost use Rattle.hib_journal.specs.Types.{Entry, Script};
 ghost use Rattle.hib_follow.specs.Known.{Knows};
 
+use crate::deleted::Deleted;
 use crate::desks::Desks;
+use crate::holders::Holders;
 use crate::marks::{Keeps, Stamps};
 use crate::shelf::Shelf;
 use hib_base::{Entry, Script};
@@ -23,6 +25,10 @@ pub struct Known<'a> {
     pub keeps: Keeps,
     /// Of sessions.
     pub desks: Desks<'a>,
+    /// Of deleted keys.
+    pub deleted: Deleted,
+    /// Of those who hold locks.
+    pub holders: Holders,
 }
 
 impl<'a> Known<'a> {
@@ -35,6 +41,8 @@ impl<'a> Known<'a> {
             stamps: Stamps::new(alloc),
             keeps: Keeps::new(alloc),
             desks: Desks::new(alloc),
+            deleted: Deleted::new(alloc),
+            holders: Holders::new(alloc),
         }
     }
 
@@ -56,6 +64,8 @@ impl<'a> Known<'a> {
         self.shelf.note(entries, script, place, entry)?;
         self.stamps.note(script, number, entry)?;
         self.keeps.note(number, entry)?;
+        self.deleted.note(number, &self.desks, entry)?;
+        self.holders.note(alloc, entry)?;
         self.desks.note(alloc, place, entry)?;
         Ok(())
     }

@@ -1,3 +1,4 @@
 pub mod Rowed
+pub mod Named
 pub mod Told
 pub mod Prefixes

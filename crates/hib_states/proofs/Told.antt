@@ -16,7 +16,10 @@ use Rattle.hib_journal.specs.Sessions.{Journal, is_by, own, time, time_in, floor
 use Rattle.hib_journal.specs.Legal.{IsLegal, IsStep, reply_of, fault_of}
 use Rattle.hib_journal.specs.Results.{Result, result, dropped, stays, others, others_after}
 use Rattle.hib_journal.proofs.Sessions.{own_self}
+use Rattle.hib_journal.specs.Coherence.{holders}
 use Rattle.hib_follow.specs.Cached.{cached}
+use Rattle.hib_follow.specs.Deleted.{last_deleted, changes_of, committed_at}
+use Rattle.hib_follow.specs.Holders.{line_at, locked_in}
 use Rattle.hib_follow.specs.Desks.{change_in, changes_at, last_at, IsDesk, IsKnown, AreDesks}
 use Rattle.hib_follow.specs.Known.{Knows}
 use Rattle.hib_follow.specs.Marks.{Stamps, value_at}
@@ -27,15 +30,19 @@ use Rattle.hib_journal.specs.Slot.{key_in, touch_here, evicted_in}
 use Rattle.hib_follow.specs.declared.desk.Desk.{Desk}
 use Rattle.hib_follow.specs.declared.known.Known.{Known}
 use Rattle.hib_states.specs.Facts.{Fact}
-use Rattle.hib_states.specs.States.{committed_facts, cached_facts, stamped_facts, kept_facts, session_facts, session_fact, sessions_in, queries_in, written_facts, facts_after, entry_text, restart_facts, cause_in, key_cause, put_cause, insert_cause, check_cause}
+use Rattle.hib_states.specs.States.{committed_facts, cached_facts, stamped_facts, kept_facts, session_facts, session_fact, sessions_in, queries_in, written_facts, facts_after, entry_text, restart_facts, expired_facts, is_guarded, reused_by, reused_facts, unsound_facts, holders_facts, cause_in, key_cause, put_cause, insert_cause, check_cause}
 use Rattle.hib_states.specs.Texts.{fact_line, fact_text}
-use Rattle.hib_states.specs.Here.{committed_of, committed_here, cached_here, stamped_here, kept_now, kept_here, time_at, floor_at, session_here, written_here, facts_here, key_here, put_here, insert_here, check_here, cause_here}
+use Rattle.hib_states.specs.Here.{committed_of, committed_here, cached_here, stamped_here, kept_now, kept_here, time_at, floor_at, session_here, written_here, facts_here, holders_here, reused_here, unsound_here, key_here, put_here, insert_here, check_here, cause_here}
 
 -- ---- lists
 
 pub told_map : {A : Type 0} (f : Fact → List ℕ) (g : A → Fact) (xs : List A) → flat_map f (map g xs) ≡ flat_map (λ x. f (g x)) xs
 told_map f g [] = refl
 told_map f g (x ∷ xs) = ap (λ (l : List ℕ). f (g x) ++ l) (told_map f g xs)
+
+pub told_flat : {A : Type 0} (f : Fact → List ℕ) (g : A → List Fact) (xs : List A) → flat_map f (flat_map g xs) ≡ flat_map (λ x. flat_map f (g x)) xs
+told_flat f g [] = refl
+told_flat f g (x ∷ xs) = flat_map-append f (g x) (flat_map g xs) ∙ ap (λ (l : List ℕ). flat_map f (g x) ++ l) (told_flat f g xs)
 
 drop_front : {A : Type 0} (xs ys : List A) → drop (length xs) (xs ++ ys) ≡ ys
 drop_front [] ys = refl
@@ -248,7 +255,7 @@ pub here_is : (script : Script) (start : Tables) (es : List Entry) (h : Journal)
 here_is script start es h e x g k = λ i.
     restart_facts e.act ++ (session_is es h e x.desks.all.items k.desks i ++ (written_is h e i ++ (committed_is start es h e x.desks.all.items k.desks i
     ++ (map (λ j. Fact.Cached j (k.shelf.slots j i)) (touched_keys e) ++ (map (λ t. Fact.Stamped t (k.stamps.values t i)) (tables_in e.act)
-    ++ queries_are script start h e g i)))))
+    ++ (queries_are script start h e g i ++ map (λ j. Fact.Holders j (k.holders j i)) (option_to_list (locked_in e.act)))))))
 
 pub cause_is : (script : Script) (es : List Entry) (h : Journal) (x : Known) (a : Act) (r : Reply) → Knows script es h x → cause_here es x a r ≡ cause_in script h a r
 cause_is script es h x a r k = by a r
@@ -276,19 +283,61 @@ cause_is script es h x a r k = by a r
     by (Act.Look q) Reply.Absent = λ i. Fact.QueryCause q (k.keeps q i) ∷ []
     by _ _ = refl
 
--- the lines of an entry, in two steps
-pub entry_put : (script : Script) (start : Tables) (es : List Entry) (h : Journal) (e : Entry) (n : ℕ) (x y : Known) (o0 o1 o2 : List ℕ) → length h ≡ n →
+-- ---- keys that aren't sound any more
+
+deleted_at : (script : Script) (h : Journal) (m : List (Key × ℕ)) (c : Change) → ((k : Key) → lookup (same_key k) m ≡ last_deleted k h) →
+    reused_here script m c ≡ reused_by script h c
+deleted_at script h m (Change.Insert k r) a = ap (λ (o : Option ℕ). cond (is_guarded script k) (option_to_list (option_map (λ n. Fact.Unsound k (Some n)) o)) []) (a k)
+deleted_at script h m (Change.Update k v r) a = refl
+deleted_at script h m (Change.Delete k v) a = refl
+
+deleted_all : (script : Script) (h : Journal) (m : List (Key × ℕ)) (cs : List Change) → ((k : Key) → lookup (same_key k) m ≡ last_deleted k h) →
+    flat_map (reused_here script m) cs ≡ flat_map (reused_by script h) cs
+deleted_all script h m [] a = refl
+deleted_all script h m (c ∷ cs) a = λ i. deleted_at script h m c a i ++ deleted_all script h m cs a i
+
+changes_known : (es : List Entry) (m : Journal) (o : Option Desk) → IsKnown es m o → changes_of o ≡ changes_in m
+changes_known es m None k = sym (ap changes_in k)
+changes_known es m (Some d) k = k.written
+
+reused_is : (script : Script) (es : List Entry) (h : Journal) (e : Entry) (x : Known) → Knows script es h x →
+    flat_map (reused_here script x.deleted.numbers.entries) (committed_at x.desks.all.items (committer e.act e.reply e.session)) ≡ reused_facts script h e
+reused_is script es h e x k = by (committer e.act e.reply e.session)
+  where
+    by : (o : Option ℕ) → flat_map (reused_here script x.deleted.numbers.entries) (committed_at x.desks.all.items o)
+        ≡ option_map_or (λ s. flat_map (reused_by script h) (changes s h)) o []
+    by None = refl
+    by (Some s) =
+        ap (flat_map (reused_here script x.deleted.numbers.entries)) (changes_known es (own s h) (slice_get x.desks.all.items s) (k.desks s))
+        ∙ deleted_all script h x.deleted.numbers.entries (changes s h) k.deleted
+
+pub unsound_is : (script : Script) (es : List Entry) (h : Journal) (e : Entry) (x : Known) → Knows script es h x → unsound_here script x e ≡ unsound_facts script h e
+unsound_is script es h e x k = ap (λ (fs : List Fact). expired_facts script e ++ fs) (reused_is script es h e x k)
+
+three : (f : Fact → List ℕ) (a b c : List Fact) (o : List ℕ) → ((o ++ flat_map f a) ++ flat_map f b) ++ flat_map f c ≡ o ++ flat_map f (a ++ (b ++ c))
+three f a b c o = simp (flat_map-append, append_assoc)
+
+-- the lines of an entry, in three steps
+pub entry_put : (script : Script) (start : Tables) (es : List Entry) (h : Journal) (e : Entry) (n : ℕ) (x y : Known) (o0 o1 o2 o3 : List ℕ) → length h ≡ n →
     IsLegal script (Some start) (e ∷ h) → Knows script es h x → Knows script es (e ∷ h) y →
-    o1 ≡ o0 ++ fact_text script (n + 1) (cause_here es x e.act e.reply) → o2 ≡ o1 ++ fact_text script (n + 1) (facts_here script es y e) →
-    o2 ≡ o0 ++ entry_text script start h e
-entry_put script start es h e n x y o0 o1 o2 p l k m a b =
-    b ∙ ap (λ (o : List ℕ). o ++ flat_map line (facts_here script es y e)) a
-    ∙ append_assoc o0 (flat_map line (cause_here es x e.act e.reply)) (flat_map line (facts_here script es y e))
-    ∙ ap (λ (t : List ℕ). o0 ++ t) (sym (flat_map-append line (cause_here es x e.act e.reply) (facts_here script es y e)))
-    ∙ (λ i. o0 ++ flat_map (fact_line script (q i + 1)) (cause_is script es h x e.act e.reply k i ++ here_is script start es h e y l m i))
+    o1 ≡ o0 ++ fact_text script (n + 1) (cause_here es x e.act e.reply) → o2 ≡ o1 ++ fact_text script (n + 1) (unsound_here script x e) →
+    o3 ≡ o2 ++ fact_text script (n + 1) (facts_here script es y e) → o3 ≡ o0 ++ entry_text script start h e
+entry_put script start es h e n x y o0 o1 o2 o3 p l k m a b c =
+    c ∙ ap (λ (o : List ℕ). o ++ flat_map line later) (b ∙ ap (λ (o : List ℕ). o ++ flat_map line upset) a)
+    ∙ three line why upset later o0
+    ∙ (λ i. o0 ++ flat_map (fact_line script (q i + 1)) (cause_is script es h x e.act e.reply k i ++ (unsound_is script es h e x k i ++ here_is script start es h e y l m i)))
   where
     line : Fact → List ℕ
     line = fact_line script (n + 1)
+
+    why : List Fact
+    why = cause_here es x e.act e.reply
+
+    upset : List Fact
+    upset = unsound_here script x e
+
+    later : List Fact
+    later = facts_here script es y e
 
     q : n ≡ length h
     q = sym p
@@ -314,22 +363,37 @@ committed_put script n es ds by s d o0 o1 p q o =
     here : committed_here es ds by ≡ committed_of es d
     here = ap (committed_here es ds) p ∙ ap (λ (o : Option Desk). option_map_or (committed_of es) o []) q
 
-pub regrouped : (f : Fact → List ℕ) (a b c d e g k : List Fact) (o : List ℕ) →
-    ((((((o ++ flat_map f a) ++ flat_map f b) ++ flat_map f c) ++ flat_map f d) ++ flat_map f e) ++ flat_map f g) ++ flat_map f k ≡ o ++ flat_map f (a ++ (b ++ (c ++ (d ++ (e ++ (g ++ k))))))
-regrouped f a b c d e g k o = simp (flat_map-append, append_assoc)
+pub regrouped : (f : Fact → List ℕ) (a b c d e g k t : List Fact) (o : List ℕ) →
+    (((((((o ++ flat_map f a) ++ flat_map f b) ++ flat_map f c) ++ flat_map f d) ++ flat_map f e) ++ flat_map f g) ++ flat_map f k) ++ flat_map f t
+    ≡ o ++ flat_map f (a ++ (b ++ (c ++ (d ++ (e ++ (g ++ (k ++ t)))))))
+regrouped f a b c d e g k t o = simp (flat_map-append, append_assoc)
 
-pub changed_put : (script : Script) (n : ℕ) (a b c d e g k : List Fact) (o0 o1 o2 o3 o4 o5 o6 o7 : List ℕ) → o1 ≡ o0 ++ fact_text script n a → o2 ≡ o1 ++ fact_text script n b →
+pub changed_put : (script : Script) (n : ℕ) (a b c d e g k t : List Fact) (o0 o1 o2 o3 o4 o5 o6 o7 o8 : List ℕ) → o1 ≡ o0 ++ fact_text script n a → o2 ≡ o1 ++ fact_text script n b →
     o3 ≡ o2 ++ fact_text script n c → o4 ≡ o3 ++ fact_text script n d → o5 ≡ o4 ++ fact_text script n e → o6 ≡ o5 ++ fact_text script n g → o7 ≡ o6 ++ fact_text script n k →
-    o7 ≡ o0 ++ fact_text script n (a ++ (b ++ (c ++ (d ++ (e ++ (g ++ k))))))
-changed_put script n a b c d e g k o0 o1 o2 o3 o4 o5 o6 o7 p1 p2 p3 p4 p5 p6 p7 =
-    p7
+    o8 ≡ o7 ++ fact_text script n t → o8 ≡ o0 ++ fact_text script n (a ++ (b ++ (c ++ (d ++ (e ++ (g ++ (k ++ t)))))))
+changed_put script n a b c d e g k t o0 o1 o2 o3 o4 o5 o6 o7 o8 p1 p2 p3 p4 p5 p6 p7 p8 =
+    p8
+    ∙ ap (λ (o : List ℕ). o ++ fact_text script n t) (p7
     ∙ ap (λ (o : List ℕ). o ++ fact_text script n k) (p6
     ∙ ap (λ (o : List ℕ). o ++ fact_text script n g) (p5
     ∙ ap (λ (o : List ℕ). o ++ fact_text script n e) (p4
     ∙ ap (λ (o : List ℕ). o ++ fact_text script n d) (p3
     ∙ ap (λ (o : List ℕ). o ++ fact_text script n c) (p2
-    ∙ ap (λ (o : List ℕ). o ++ fact_text script n b) p1)))))
-    ∙ regrouped (fact_line script n) a b c d e g k o0
+    ∙ ap (λ (o : List ℕ). o ++ fact_text script n b) p1))))))
+    ∙ regrouped (fact_line script n) a b c d e g k t o0
+
+-- of the session that commits
+pub reused_put : (script : Script) (n : ℕ) (m : List (Key × ℕ)) (ds : List Desk) (by : Option ℕ) (s : ℕ) (d : Desk) (o0 o1 : List ℕ) → by ≡ Some s → slice_get ds s ≡ Some d →
+    o1 ≡ o0 ++ flat_map (λ (c : Bor Change). fact_text script n (reused_here script m c.now)) d.written.items →
+    o1 ≡ o0 ++ fact_text script n (flat_map (reused_here script m) (committed_at ds by))
+reused_put script n m ds by s d o0 o1 p q o =
+    o ∙ ap (λ (t : List ℕ). o0 ++ t) (sym (told_flat (fact_line script n) (reused_here script m) (changes_at d.written.items) ∙ now_map d.written.items))
+    ∙ ap (λ (cs : List Change). o0 ++ fact_text script n (flat_map (reused_here script m) cs)) (sym (ap (committed_at ds) p ∙ ap changes_of q))
+  where
+    now_map : (xs : List (Bor Change)) →
+        flat_map (λ c. fact_text script n (reused_here script m c)) (changes_at xs) ≡ flat_map (λ (c : Bor Change). fact_text script n (reused_here script m c.now)) xs
+    now_map [] = refl
+    now_map (x ∷ xs) = ap (λ (l : List ℕ). fact_text script n (reused_here script m x.now) ++ l) (now_map xs)
 
 pub stamped_put : (script : Script) (n : ℕ) (m : Stamps) (ts : List ℕ) (o0 o1 : List ℕ) → o1 ≡ o0 ++ flat_map (λ t. fact_line script n (Fact.Stamped t (value_at m t))) ts →
     o1 ≡ o0 ++ fact_text script n (stamped_here m ts)

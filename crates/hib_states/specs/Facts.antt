@@ -17,7 +17,11 @@ pub data Fact : Type 0 where
   Session : ℕ → Bool → ℕ → ℕ → Fact
   -- a change that a session has written and not committed yet
   Written : ℕ → Change → Fact
-  -- nothing is cached, stamped or kept, and no session is open
+  -- the sessions that have locked a key and not given the lock back, from the last one on
+  Holders : Key → List ℕ → Fact
+  -- the claims on the cache don't speak of a key from here on: a lock on it had run out, or it is inserted again after this entry had deleted it
+  Unsound : Key → Option ℕ → Fact
+  -- nothing is cached, stamped or kept, no session is open, no lock is held, and each key is sound
   Restarted : Fact
   -- why an entry was refused: what the key, the table or the query had, and since which entry
   KeyCause : Key → Slot → Option ℕ → Fact

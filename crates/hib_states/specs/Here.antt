@@ -1,11 +1,15 @@
 -- The facts of an entry, by what is known before and after it.
-use Rattle.std.specs.Prelude.{ℕ, true, false, if◌then◌else◌, nat_eq, nat_lt, List, [], ◌∷◌, ◌++◌, map, slice_get, Some, None, Option, option_and_then, option_to_list}
+use Rattle.std.specs.Prelude.{ℕ, true, false, if◌then◌else◌, nat_eq, nat_lt, List, [], ◌∷◌, ◌++◌, map, flat_map, slice_get, Some, None, Option, option_map, option_and_then, option_to_list}
 use Rattle.std.specs.Map.{lookup}
 use Rattle.std.specs.Option.{option_map_or}
+use Rattle.hib_base.specs.Keys.{same_key}
 use Rattle.hib_base.specs.Tables.{key_of, row_left}
-use Rattle.hib_journal.specs.Types.{Key, Cell, Checked, Put, Inserted, Act, Reply, Entry, Script}
+use Rattle.hib_journal.specs.Types.{Key, Cell, Change, Checked, Put, Inserted, Act, Reply, Entry, Script}
 use Rattle.hib_journal.specs.Results.{Result}
 use Rattle.hib_journal.specs.Sessions.{committer}
+use Rattle.hib_follow.specs.Deleted.{committed_at}
+use Rattle.hib_follow.specs.Holders.{line_at, locked_in}
+use Rattle.hib_follow.specs.declared.holders.Line.{Line}
 use Rattle.hib_follow.specs.Desks.{change_in, changes_at, last_at}
 use Rattle.hib_follow.specs.Marks.{Stamps, value_at, stamped_since}
 use Rattle.hib_follow.specs.Newest.{tables_in}
@@ -14,7 +18,7 @@ use Rattle.hib_follow.specs.Touched.{touched_keys}
 use Rattle.hib_follow.specs.declared.desk.Desk.{Desk}
 use Rattle.hib_follow.specs.declared.known.Known.{Known}
 use Rattle.hib_states.specs.Facts.{Fact}
-use Rattle.hib_states.specs.States.{restart_facts}
+use Rattle.hib_states.specs.States.{expired_facts, is_guarded, restart_facts}
 
 -- ---- after an entry
 
@@ -56,12 +60,15 @@ abbrev pub written_here : Act → Option ℕ → List Fact
 written_here (Act.Write c) (Some s) = Fact.Written s c ∷ []
 written_here _ _ = []
 
+abbrev pub holders_here : List (Key × Line) → Act → List Fact
+holders_here m a = map (λ k. Fact.Holders k (line_at m k)) (option_to_list (locked_in a))
+
 abbrev pub facts_here : Script → List Entry → Known → Entry → List Fact
 facts_here script es x e =
     restart_facts e.act ++ (session_here x.desks.all.items e.act e.session ++ (written_here e.act e.session
     ++ (committed_here es x.desks.all.items (committer e.act e.reply e.session)
     ++ (cached_here es x.shelf.shelves.entries (touched_keys e) ++ (stamped_here x.stamps.stamps.entries (tables_in e.act)
-    ++ kept_here script e.act e.reply)))))
+    ++ (kept_here script e.act e.reply ++ holders_here x.holders.lines.entries e.act))))))
 
 -- ---- before it
 
@@ -87,3 +94,12 @@ cause_here es x (Act.AfterInsert k r f) (Reply.Inserted i) = insert_here es x k 
 cause_here es x (Act.Check q t) (Reply.Check c) = check_here x c
 cause_here es x (Act.Look q) Reply.Absent = Fact.QueryCause q (lookup (nat_eq q) x.keeps.keeps.entries) ∷ []
 cause_here es x _ _ = []
+
+abbrev pub reused_here : Script → List (Key × ℕ) → Change → List Fact
+reused_here script m (Change.Insert k r) = if is_guarded script k then option_to_list (option_map (λ n. Fact.Unsound k (Some n)) (lookup (same_key k) m)) else []
+reused_here script m _ = []
+
+abbrev pub unsound_here : Script → Known → Entry → List Fact
+unsound_here script x e =
+    expired_facts script e
+    ++ flat_map (reused_here script x.deleted.numbers.entries) (committed_at x.desks.all.items (committer e.act e.reply e.session))

@@ -1,13 +1,19 @@
 -- The state after each entry, by what may differ from the state before it; and why an entry was refused. All is by the definitions.
-use Rattle.std.specs.Prelude.{ℕ, ◌+◌, List, [], ◌∷◌, ◌++◌, length, map, drop, Some, None, Option, option_to_list}
+use Rattle.std.specs.Prelude.{ℕ, ◌+◌, Bool, if◌then◌else◌, not, ◌&&◌, List, [], ◌∷◌, ◌++◌, length, map, flat_map, drop, Some, None, Option, option_map, option_to_list}
+use Rattle.std.specs.List.{filter}
 use Rattle.std.specs.Option.{option_map_or}
 use Rattle.hib_base.specs.Tables.{Tables, key_of, row_at}
-use Rattle.hib_journal.specs.Types.{Key, Act, Reply, Entry, Script, Put, Inserted, Checked}
+use Rattle.hib_journal.specs.Types.{Key, Change, Act, Reply, Entry, Script, Put, Inserted, Checked}
 use Rattle.hib_journal.specs.Sessions.{Journal, own, time, floor_in, changes, committer, committed, is_open}
-use Rattle.hib_journal.specs.Slot.{key_in}
+use Rattle.hib_journal.specs.Slot.{key_in, touch_here}
+use Rattle.hib_journal.specs.Next.{strategy}
+use Rattle.hib_journal.specs.Coherence.{holders}
+use Rattle.hib_report.specs.Unsound.{is_read_write, leaves_calm}
 use Rattle.hib_journal.specs.Stamps.{stamp}
 use Rattle.hib_journal.specs.Results.{result}
 use Rattle.hib_follow.specs.Cached.{cached}
+use Rattle.hib_follow.specs.Deleted.{last_deleted}
+use Rattle.hib_follow.specs.Holders.{locked_in}
 use Rattle.hib_follow.specs.Newest.{tables_in, last_touch, last_stamp, last_keep}
 use Rattle.hib_follow.specs.Touched.{touched_keys}
 use Rattle.hib_states.specs.Facts.{Fact}
@@ -61,6 +67,31 @@ abbrev pub restart_facts : Act → List Fact
 restart_facts Act.Restart = Fact.Restarted ∷ []
 restart_facts _ = []
 
+-- who holds the key whose lock the entry takes or gives back
+abbrev pub holders_facts : Journal → Entry → List Fact
+holders_facts h e = map (λ k. Fact.Holders k (holders k (e ∷ h))) (option_to_list (locked_in e.act))
+
+-- ---- the read-write keys that aren't sound from the entry on, over the journal before it
+
+abbrev pub is_guarded : Script → Key → Bool
+is_guarded script k = is_read_write (strategy script k.entity)
+
+-- the key that the entry names, if a lock on it had run out
+abbrev pub expired_facts : Script → Entry → List Fact
+expired_facts script e =
+    map (λ k. Fact.Unsound k None) (filter (λ k. is_guarded script k && not (leaves_calm (touch_here e.act e.reply))) (option_to_list (key_in e.act)))
+
+-- the keys that a commit inserts after one had deleted them
+abbrev pub reused_by : Script → Journal → Change → List Fact
+reused_by script h (Change.Insert k r) = if is_guarded script k then option_to_list (option_map (λ n. Fact.Unsound k (Some n)) (last_deleted k h)) else []
+reused_by script h _ = []
+
+abbrev pub reused_facts : Script → Journal → Entry → List Fact
+reused_facts script h e = option_map_or (λ s. flat_map (reused_by script h) (changes s h)) (committer e.act e.reply e.session) []
+
+abbrev pub unsound_facts : Script → Journal → Entry → List Fact
+unsound_facts script h e = expired_facts script e ++ reused_facts script h e
+
 -- ---- why the entry was refused, over the journal before it
 
 abbrev pub key_cause : Script → Journal → Key → List Fact
@@ -97,10 +128,10 @@ cause_in script h _ _ = []
 abbrev pub facts_after : Script → Tables → Journal → Entry → List Fact
 facts_after script start h e =
     restart_facts e.act ++ (session_facts h e ++ (written_facts h e ++ (committed_facts start h e
-    ++ (cached_facts script h e ++ (stamped_facts script h e ++ kept_facts script h e)))))
+    ++ (cached_facts script h e ++ (stamped_facts script h e ++ (kept_facts script h e ++ holders_facts h e))))))
 
 abbrev pub facts : Script → Tables → Journal → Entry → List Fact
-facts script start h e = cause_in script h e.act e.reply ++ facts_after script start h e
+facts script start h e = cause_in script h e.act e.reply ++ (unsound_facts script h e ++ facts_after script start h e)
 
 -- a line for each, with the entry's number in the journal
 abbrev pub entry_text : Script → Tables → Journal → Entry → List ℕ

@@ -1,12 +1,12 @@
 -- The line of a fact: a JSON object whose members have the names and the types of a journal's flat objects.
-use Rattle.std.specs.Prelude.{ℕ, Bool, true, false, List, [], ◌∷◌, ◌++◌, codes, flat_map, Some, None, Option, option_map}
+use Rattle.std.specs.Prelude.{ℕ, Bool, true, false, List, [], ◌∷◌, ◌++◌, codes, map, flat_map, Some, None, Option, option_map}
 use Rattle.std.specs.Fmt.{decimal}
 use Rattle.hib_base.specs.Tables.{key_of, row_left}
 use Rattle.hib_journal.specs.Types.{Key, Row, Cell, Change, Script}
 use Rattle.hib_journal.specs.Slot.{LockState, Slot}
 use Rattle.hib_journal.specs.Results.{Result}
 use Rattle.hib_texts.specs.Texts.{entity_text, query_text, session_text}
-use Rattle.hib_flat.specs.Members.{Member, number, word, boolean, list, numbered, row_cells}
+use Rattle.hib_flat.specs.Members.{Member, number, word, words, boolean, list, numbered, row_cells}
 use Rattle.hib_flat.specs.Parts.{change_expected}
 use Rattle.hib_flat.specs.Words.{change_word}
 use Rattle.hib_flat.specs.Lines.{member_text, cell_member}
@@ -62,6 +62,9 @@ fact_members script (Fact.Session s on time floor) =
 fact_members script (Fact.Written s c) =
     said (codes "tells") (codes "change") ∷ said (codes "session") (session_text script s) ∷ said (codes "change") (change_word c) ∷
     (key_members script (key_of c) ++ ((codes "expected", numbered (change_expected c)) ∷ row_members (row_left c)))
+fact_members script (Fact.Holders k ss) =
+    said (codes "tells") (codes "holders") ∷ (key_members script k ++ ((codes "sessions", Some (words (map (session_text script) ss))) ∷ []))
+fact_members script (Fact.Unsound k deleted) = said (codes "tells") (codes "unsound") ∷ (key_members script k ++ ((codes "deleted", numbered deleted) ∷ []))
 fact_members script Fact.Restarted = said (codes "tells") (codes "restart") ∷ []
 fact_members script (Fact.KeyCause k s since) = said (codes "tells") (codes "cause") ∷ since_member since ∷ (key_members script k ++ slot_members s)
 fact_members script (Fact.TableCause t v since) =

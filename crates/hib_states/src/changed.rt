@@ -5,22 +5,21 @@ ghost use Rattle.hib_base.specs.Tables.{key_of, row_left};
 ghost use Rattle.hib_journal.specs.Sessions.{committer};
 ghost use Rattle.hib_journal.specs.Types.{Change, Script};
 ghost use Rattle.hib_follow.specs.Desks.{last_at};
+ghost use Rattle.hib_follow.specs.Holders.{line_at, locked_in};
 ghost use Rattle.hib_follow.specs.Marks.{value_at};
 ghost use Rattle.hib_follow.specs.Newest.{tables_in};
 ghost use Rattle.hib_follow.specs.Touched.{touched_keys};
 ghost use Rattle.hib_states.specs.Facts.{Fact};
-ghost use Rattle.hib_states.specs.Here.{cached_here, committed_here, facts_here, floor_at, kept_here, kept_now, session_here, stamped_here, time_at, written_here};
+ghost use Rattle.hib_states.specs.Here.{cached_here, committed_here, facts_here, floor_at, holders_here, kept_here, kept_now, session_here, stamped_here, time_at, written_here};
 ghost use Rattle.hib_states.specs.States.{restart_facts};
 ghost use Rattle.hib_states.specs.Texts.{fact_line, fact_text};
 
 use crate::lines::{
-    put_cached, put_closed, put_committed, put_dropped, put_kept, put_open, put_restarted,
-    put_stamped, put_written,
+    put_cached, put_closed, put_committed, put_dropped, put_holders, put_kept, put_open,
+    put_restarted, put_stamped, put_written,
 };
-use hib_base::{
-    Act, Commit, EntityNo, Entry, Key, Listing, QueryNo, Reply, Script, SessionNo, Tick,
-};
-use hib_follow::{Desk, Desks, Known, Shelf, Stamps, key_in, leaving, touched};
+use hib_base::{Act, EntityNo, Entry, Key, Listing, QueryNo, Reply, Script, SessionNo, Tick};
+use hib_follow::{Desk, Desks, Holders, Known, Shelf, Stamps, committer, key_in, leaving, touched};
 use std::alloc::{AllocError, Global};
 
 // ---- committed rows
@@ -51,19 +50,6 @@ fn put_changes(
         )?;
     }
     Ok(())
-}
-
-/// The session whose commit is answered committed, if the entry is one.
-fn committer(entry: &Entry) -> Option<SessionNo>
-    ensures { result ≡ committer entry.now.act entry.now.reply entry.now.session }
-{
-    match &entry.act {
-        Act::Commit => match &entry.reply {
-            Reply::Commit(Commit::Committed) => entry.session,
-            _ => None,
-        },
-        _ => None,
-    }
 }
 
 /// The row of each key that a commit has changed.
@@ -323,6 +309,38 @@ fn put_change(
     }
 }
 
+// ---- locks
+
+/// The key whose lock an act takes or gives back.
+fn locked_in(act: &Act) -> Option<Key>
+    ensures { result ≡ locked_in act.now }
+{
+    match act {
+        Act::Lock { key, .. } | Act::Unlock { key, .. } | Act::AfterUpdate { key, .. } => Some(
+            *key,
+        ),
+        _ => None,
+    }
+}
+
+/// Those who hold the key whose lock an act takes or gives back.
+fn put_holding(
+    alloc: Global,
+    out: &mut Vec<u8>,
+    script: &Script,
+    number: u64,
+    holders: &Holders,
+    act: &Act,
+) -> Result<(), AllocError>
+    ensures { OnOk result (out.new.items ≡ out.old.items
+        ++ fact_text script.now number (holders_here holders.now.lines.entries act.now)) }
+{
+    match locked_in(act) {
+        None => Ok(()),
+        Some(key) => put_holders(alloc, out, script, number, &key, holders.of(&key)),
+    }
+}
+
 /// A restart, if an act is one.
 fn put_restart(alloc: Global, out: &mut Vec<u8>, number: u64, act: &Act) -> Result<(), AllocError>
     ensures { OnOk result ((script : Script) → out.new.items
@@ -354,5 +372,6 @@ pub fn put_changed(
     put_touched(alloc, out, script, number, entries, &known.shelf, entry)?;
     put_stamping(alloc, out, script, number, &known.stamps, &entry.act)?;
     put_keeping(alloc, out, script, number, entry)?;
+    put_holding(alloc, out, script, number, &known.holders, &entry.act)?;
     Ok(())
 }

@@ -6,5 +6,6 @@ mod changed;
 mod lines;
 mod pieces;
 mod telling;
+mod unsound;
 
 pub use telling::tell;

@@ -5,7 +5,8 @@ ghost use Rattle.hib_states.specs.Facts.{Fact};
 ghost use Rattle.hib_states.specs.Texts.{fact_line};
 
 use crate::pieces::{
-    kept_row, put_cells, put_count, put_flag, put_head, put_key, put_row, put_said, put_slot,
+    kept_row, put_cells, put_count, put_flag, put_head, put_key, put_row, put_said, put_sessions,
+    put_slot,
 };
 use hib_base::{Change, EntityNo, Entry, Key, Listing, QueryNo, Row, Script, SessionNo, Tick};
 use hib_flat::{change_expected, change_word, put_row_of};
@@ -177,6 +178,44 @@ pub fn put_written(
     put_row(alloc, out, change.row_left())?;
     let own = Some(key);
     put_row_of(alloc, out, script, own, change.row_left())?;
+    out.extend_from_slice(b"}\n")
+}
+
+/// Those who hold a key.
+#[tactic(auto, unfolding(crate::specs::Texts::fact_line))]
+pub fn put_holders(
+    alloc: Global,
+    out: &mut Vec<u8>,
+    script: &Script,
+    number: u64,
+    key: &Key,
+    sessions: &[SessionNo],
+) -> Result<(), AllocError>
+    ensures { OnOk result (out.new.items
+        ≡ out.old.items ++ fact_line script.now number (Fact.Holders key.now sessions.now)) }
+{
+    put_head(alloc, out, number, b"holders")?;
+    put_key(alloc, out, script, key)?;
+    put_sessions(out, script, sessions)?;
+    out.extend_from_slice(b"}\n")
+}
+
+/// A key of which the claims don't speak any more.
+#[tactic(auto, unfolding(crate::specs::Texts::fact_line))]
+pub fn put_unsound(
+    alloc: Global,
+    out: &mut Vec<u8>,
+    script: &Script,
+    number: u64,
+    key: &Key,
+    deleted: Option<u64>,
+) -> Result<(), AllocError>
+    ensures { OnOk result (out.new.items
+        ≡ out.old.items ++ fact_line script.now number (Fact.Unsound key.now deleted)) }
+{
+    put_head(alloc, out, number, b"unsound")?;
+    put_key(alloc, out, script, key)?;
+    put_count(alloc, out, b"deleted", deleted)?;
     out.extend_from_slice(b"}\n")
 }
 

@@ -1,15 +1,18 @@
 // Members of a line, in groups.
-ghost use Rattle.std.specs.Prelude.{◌≡◌, ◌++◌, OnOk, Some, option_copied, codes, flat_map};
+ghost use Rattle.std.specs.Prelude.{◌≡◌, ◌++◌, OnOk, Some, option_copied, codes, map, flat_map};
+ghost use Rattle.std.specs.List.{join_by};
 ghost use Rattle.std.specs.Fmt.{decimal};
-ghost use Rattle.hib_flat.specs.Members.{boolean, list, numbered};
+ghost use Rattle.hib_flat.specs.Lines.{in_quotes};
+ghost use Rattle.hib_flat.specs.Members.{boolean, list, numbered, words};
+ghost use Rattle.hib_texts.specs.Texts.{session_text};
 ghost use Rattle.hib_journal.specs.Slot.{Slot};
 ghost use Rattle.hib_follow.specs.Shelves.{kept_slot};
 ghost use Rattle.hib_states.specs.Texts.{key_members, member, row_members, said, slot_members, slot_row};
 
-use hib_base::{Entry, Key, Listing, Row, Script, Tick};
+use hib_base::{Entry, Key, Listing, Row, Script, SessionNo, Tick};
 use hib_flat::{Form, put_bool_member, put_list_member, put_number_member, put_word_member};
 use hib_follow::{Kept, row_from, tick_from};
-use hib_texts::{entity_name, put_labelled};
+use hib_texts::{entity_name, put_labelled, session_name};
 use std::alloc::{AllocError, Global};
 
 /// A word.
@@ -189,4 +192,61 @@ pub fn put_slot(
             alloc, out, *id, *version, *timeout, *holders, *shared, *unlock,
         ),
     }
+}
+
+// Each name after a comma.
+fn put_more_sessions(
+    out: &mut Vec<u8>,
+    script: &Script,
+    sessions: &[SessionNo],
+) -> Result<(), AllocError>
+    ensures { OnOk result (out.new.items ≡ out.old.items
+        ++ flat_map (λ s. codes "," ++ in_quotes (session_text script.now s)) sessions.now) }
+{
+    for session in sessions {
+        out.push(b',')?;
+        put_quoted(out, session_name(script, *session))?;
+    }
+    Ok(())
+}
+
+fn put_quoted(out: &mut Vec<u8>, name: &[u8]) -> Result<(), AllocError>
+    ensures { OnOk result (out.new.items ≡ out.old.items ++ in_quotes name.now) }
+{
+    out.extend_from_slice(b"\"")?;
+    out.extend_from_slice(name)?;
+    out.extend_from_slice(b"\"")
+}
+
+fn put_joined_sessions(
+    out: &mut Vec<u8>,
+    script: &Script,
+    sessions: &[SessionNo],
+) -> Result<(), AllocError>
+    ensures { OnOk result (out.new.items ≡ out.old.items
+        ++ join_by in_quotes (codes ",") (map (session_text script.now) sessions.now)) }
+{
+    match sessions.split_first() {
+        None => Ok(()),
+        Some((first, rest)) => {
+            put_quoted(out, session_name(script, *first))?;
+            put_more_sessions(out, script, rest)?;
+            Ok(())
+        }
+    }
+}
+
+/// The names of sessions.
+#[tactic(auto, unfolding(crate::specs::Texts::member))]
+pub fn put_sessions(
+    out: &mut Vec<u8>,
+    script: &Script,
+    sessions: &[SessionNo],
+) -> Result<(), AllocError>
+    ensures { OnOk result (out.new.items ≡ out.old.items
+        ++ member (codes "sessions", Some (words (map (session_text script.now) sessions.now)))) }
+{
+    out.extend_from_slice(b",\"sessions\":[")?;
+    put_joined_sessions(out, script, sessions)?;
+    out.extend_from_slice(b"]")
 }

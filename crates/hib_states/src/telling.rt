@@ -10,6 +10,7 @@ ghost use Rattle.hib_states.specs.States.{entry_text, states_text};
 
 use crate::causes::put_cause;
 use crate::changed::put_changed;
+use crate::unsound::put_unsound_keys;
 use hib_base::{Entry, Script};
 use hib_follow::Known;
 use hib_journal::Journal;
@@ -35,6 +36,7 @@ fn put_entry<'a>(
 {
     let number = place as u64 + 1;
     put_cause(alloc, out, script, number, entries, known, entry)?;
+    put_unsound_keys(alloc, out, script, number, known, entry)?;
     known.note(alloc, script, entries, place, entry)?;
     put_changed(alloc, out, script, number, entries, known, entry)?;
     Ok(())

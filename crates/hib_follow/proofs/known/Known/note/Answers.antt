@@ -1,4 +1,6 @@
 use Rattle.std.proofs.Common.{ap, ◌+◌}
+use Rattle.hib_follow.proofs.Buried.{deleted_more}
+use Rattle.hib_follow.proofs.Lined.{holders_more}
 use Rattle.hib_follow.proofs.Stepping.{shelves_more, stamps_more, keeps_more}
 use Rattle.hib_follow.proofs.known.Known.note.Goals as goal
 
@@ -10,5 +12,8 @@ returns c = λ start h p l k. record {
       c.in_ok-note-2.ensures.values c.in_ok-note-2.ensures.since k.stamps;
   keeps = keeps_more c.args.entry.now h (c.args.place + 1) c.args.self.now.keeps.keeps.entries c.note-3.new.self.keeps.entries (ap (λ i. i + 1) p)
       c.in_ok-note-3.ensures k.keeps;
-  desks = c.in_ok-note-4.ensures c.args.entries.now h c.requires k.desks;
+  desks = c.in_ok-note-6.ensures c.args.entries.now h c.requires k.desks;
+  deleted = deleted_more c.args.entries.now c.args.entry.now h (c.args.place + 1) c.args.self.now.desks.all.items c.args.self.now.deleted.numbers.entries
+      c.note-4.new.self.numbers.entries (ap (λ i. i + 1) p) k.desks c.in_ok-note-4.ensures k.deleted;
+  holders = holders_more c.args.entry.now h c.args.self.now.holders.lines.entries c.note-5.new.self.lines.entries c.in_ok-note-5.ensures k.holders;
 }
