@@ -1,15 +1,18 @@
 -- What an entry does to each key, by what it does to the key that it names and to the one that leaves for it.
+use Rattle.std.specs.Prelude.{option_to_list}
+use Rattle.std.specs.List.{list_any}
 use Rattle.std.specs.Option.{option_map_or}
-use Rattle.std.proofs.Common.{◌≡◌, ℕ, ◌==◌, Bool, true, false, cond, ◌&&◌, List, Some, None, Option, is_some, refl, sym, ap, ◌∙◌, subst, inl, inr}
-use Rattle.std.proofs.Math.Bool.{and-false}
+use Rattle.std.proofs.Common.{◌≡◌, ℕ, ◌==◌, Bool, true, false, cond, ◌&&◌, ◌||◌, List, ◌++◌, Some, None, Option, is_some, refl, sym, ap, ◌∙◌, subst, inl, inr}
+use Rattle.std.proofs.Math.Bool.{and-false, or-false}
 use Rattle.std.proofs.lemmas.Bool.{eqb-true, and_parts, true≢false, false≢true}
+use Rattle.std.proofs.lemmas.List.Folds.{list_any-append}
 use Rattle.hib_base.specs.Keys.{same_key}
 use Rattle.hib_base.proofs.Tables.{Tested, tested, same_key_eq}
 use Rattle.hib_journal.specs.Types.{Key, Act, Reply, Entry, Strategy}
-use Rattle.hib_journal.specs.Slot.{Touch, Slot, touch_here, touch_at, evicted_in}
+use Rattle.hib_journal.specs.Slot.{Touch, Slot, key_in, touch, touch_here, touch_at, evicted_in}
 use Rattle.hib_follow.specs.Steps.{after}
 use Rattle.hib_follow.specs.Shelves.{kept_slot}
-use Rattle.hib_follow.specs.Touched.{leaving, is_key}
+use Rattle.hib_follow.specs.Touched.{leaving, is_key, touched_by, touched_keys}
 use Rattle.hib_follow.specs.declared.kept.Kept.{Kept}
 
 -- of any region, a key that leaves has nothing, and one that is not touched what it had
@@ -94,3 +97,40 @@ untouched g timeout now (Some t) s e = absurd (true≢false e)
 pub kept_if : (es : List Entry) (b : Bool) (old new : Kept) → new ≡ cond b Kept.Nothing old → kept_slot es new ≡ cond b Slot.Vacant (kept_slot es old)
 kept_if es true old new e = ap (kept_slot es) e
 kept_if es false old new e = ap (kept_slot es) e
+
+-- the keys that an entry touches are those to which it does something
+
+any_of : (k : Key) (o : Option Key) → list_any (λ j. same_key j k) (option_to_list o) ≡ is_key k o
+any_of k None = refl
+any_of k (Some j) = or-false (same_key j k)
+
+key_if : (b : Bool) (k here : Key) → is_key k (cond b (Some here) None) ≡ (b && same_key here k)
+key_if true k here = refl
+key_if false k here = refl
+
+and_true : (b : Bool) → (b && true) ≡ b
+and_true true = refl
+and_true false = refl
+
+leaves_some : (b : Bool) → is_some (cond b (Some Touch.Leaves) None) ≡ b
+leaves_some true = refl
+leaves_some false = refl
+
+touched_here : (k here : Key) (a : Act) (r : Reply) → list_any (λ j. same_key j k) (touched_by a r here) ≡ is_some (touch_at k here a r)
+touched_here k here a r =
+    list_any-append (λ j. same_key j k) (option_to_list (cond (is_some (touch_here a r)) (Some here) None)) (option_to_list (leaving here (evicted_in r)))
+    ∙ (λ i. (any_of k (cond (is_some (touch_here a r)) (Some here) None) ∙ key_if (is_some (touch_here a r)) k here) i || any_of k (leaving here (evicted_in r)) i)
+    ∙ by (tested (same_key here k))
+  where
+    by : Tested (same_key here k) → ((is_some (touch_here a r) && same_key here k) || is_key k (leaving here (evicted_in r))) ≡ is_some (touch_at k here a r)
+    by (inl p) = rw (p, leaves_other k here (evicted_in r) p, and_true (is_some (touch_here a r)), or-false (is_some (touch_here a r))) refl
+    by (inr p) =
+        rw (p, leaves_if k here (evicted_in r) p, and-false (is_some (touch_here a r)))
+        (sym (leaves_some ((here.entity == k.entity) && option_map_or (λ j. j == k.id) (evicted_in r) false)))
+
+pub touched_any : (k : Key) (e : Entry) → list_any (λ j. same_key j k) (touched_keys e) ≡ is_some (touch k e)
+touched_any k e = by (key_in e.act) refl
+  where
+    by : (o : Option Key) → key_in e.act ≡ o → list_any (λ j. same_key j k) (touched_keys e) ≡ is_some (touch k e)
+    by None p = rw p refl
+    by (Some here) p = rw p (touched_here k here e.act e.reply)

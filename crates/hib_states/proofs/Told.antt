@@ -99,7 +99,7 @@ none_written : (a : Act) → written_here a None ≡ []
 none_written (Act.Write c) = refl
 none_written _ = refl
 
-written_is : (h : Journal) (e : Entry) → written_here e.act e.session ≡ written_facts h e
+pub written_is : (h : Journal) (e : Entry) → written_here e.act e.session ≡ written_facts h e
 written_is h e = by e.session refl
   where
     by : (o : Option ℕ) → e.session ≡ o → written_here e.act e.session ≡ written_facts h e
@@ -255,7 +255,7 @@ pub here_is : (script : Script) (start : Tables) (es : List Entry) (h : Journal)
 here_is script start es h e x g k = λ i.
     restart_facts e.act ++ (session_is es h e x.desks.all.items k.desks i ++ (written_is h e i ++ (committed_is start es h e x.desks.all.items k.desks i
     ++ (map (λ j. Fact.Cached j (k.shelf.slots j i)) (touched_keys e) ++ (map (λ t. Fact.Stamped t (k.stamps.values t i)) (tables_in e.act)
-    ++ (queries_are script start h e g i ++ map (λ j. Fact.Holders j (k.holders j i)) (option_to_list (locked_in e.act)))))))
+    ++ (queries_are script start h e g i ++ map (λ j. Fact.Holders j (k.holders j i)) (option_to_list (locked_in e.act))))))))
 
 pub cause_is : (script : Script) (es : List Entry) (h : Journal) (x : Known) (a : Act) (r : Reply) → Knows script es h x → cause_here es x a r ≡ cause_in script h a r
 cause_is script es h x a r k = by a r

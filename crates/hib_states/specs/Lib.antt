@@ -2,3 +2,4 @@ pub mod Facts
 pub mod Texts
 pub mod States
 pub mod Here
+pub mod Last

@@ -3,9 +3,11 @@
 
 mod causes;
 mod changed;
+mod laws;
 mod lines;
 mod pieces;
 mod telling;
 mod unsound;
 
+pub use laws::states_are_whole;
 pub use telling::tell;
