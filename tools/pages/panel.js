@@ -104,7 +104,7 @@ function walkTo(run, at) {
 
 // The tables of the state after an entry: as they are told, or else as this page works them out.
 function tablesAfter(run, place, at, shown) {
-  return run.told ? toldTables(run, toldAt(run, place), shown) : tablesOf(run, walkTo(run, place), at, shown);
+  return run.told ? toldTables(run, toldAt(run, place), at, shown) : tablesOf(run, walkTo(run, place), at, shown);
 }
 
 function drawState(run, at, shown) {

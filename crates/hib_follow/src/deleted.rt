@@ -52,7 +52,7 @@ fn note_changes(numbers: &mut Numbers, since: u64, desk: &Desk<'_>) -> Result<()
         ≡ (if list_any (deletes_key k) (changes_at desk.now.written.items) then Some since else lookup (same_key k) numbers.old.entries)) }
 {
     for change in desk.written.as_slice() {
-        note_change(numbers, since, change)?;
+        note_change(numbers, since, *change)?;
     }
     Ok(())
 }

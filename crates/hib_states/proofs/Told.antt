@@ -30,7 +30,7 @@ use Rattle.hib_journal.specs.Slot.{key_in, touch_here, evicted_in}
 use Rattle.hib_follow.specs.declared.desk.Desk.{Desk}
 use Rattle.hib_follow.specs.declared.known.Known.{Known}
 use Rattle.hib_states.specs.Facts.{Fact}
-use Rattle.hib_states.specs.States.{committed_facts, cached_facts, stamped_facts, kept_facts, session_facts, session_fact, sessions_in, queries_in, written_facts, facts_after, entry_text, restart_facts, expired_facts, is_guarded, reused_by, reused_facts, unsound_facts, holders_facts, cause_in, key_cause, put_cause, insert_cause, check_cause}
+use Rattle.hib_states.specs.States.{committed_facts, cached_facts, stamped_facts, kept_facts, session_facts, session_fact, sessions_in, queries_in, written_facts, facts_after, entry_text, restart_facts, expired_facts, is_guarded, reused_by, reused_facts, unsound_facts, holders_facts, copied_by, copied_facts, copied_in, emptied_by, cause_in, key_cause, put_cause, insert_cause, check_cause}
 use Rattle.hib_states.specs.Texts.{fact_line, fact_text}
 use Rattle.hib_states.specs.Here.{committed_of, committed_here, cached_here, stamped_here, kept_now, kept_here, time_at, floor_at, session_here, written_here, facts_here, holders_here, reused_here, unsound_here, key_here, put_here, insert_here, check_here, cause_here}
 
@@ -314,18 +314,20 @@ reused_is script es h e x k = by (committer e.act e.reply e.session)
 pub unsound_is : (script : Script) (es : List Entry) (h : Journal) (e : Entry) (x : Known) → Knows script es h x → unsound_here script x e ≡ unsound_facts script h e
 unsound_is script es h e x k = ap (λ (fs : List Fact). expired_facts script e ++ fs) (reused_is script es h e x k)
 
-three : (f : Fact → List ℕ) (a b c : List Fact) (o : List ℕ) → ((o ++ flat_map f a) ++ flat_map f b) ++ flat_map f c ≡ o ++ flat_map f (a ++ (b ++ c))
-three f a b c o = simp (flat_map-append, append_assoc)
+four : (f : Fact → List ℕ) (a b c d : List Fact) (o : List ℕ) →
+    (((o ++ flat_map f a) ++ flat_map f b) ++ flat_map f c) ++ flat_map f d ≡ o ++ flat_map f (a ++ (b ++ (c ++ d)))
+four f a b c d o = simp (flat_map-append, append_assoc)
 
--- the lines of an entry, in three steps
-pub entry_put : (script : Script) (start : Tables) (es : List Entry) (h : Journal) (e : Entry) (n : ℕ) (x y : Known) (o0 o1 o2 o3 : List ℕ) → length h ≡ n →
+-- the lines of an entry, in four steps
+pub entry_put : (script : Script) (start : Tables) (es : List Entry) (h : Journal) (e : Entry) (n : ℕ) (x y : Known) (o0 o1 o2 o3 o4 : List ℕ) → length h ≡ n →
     IsLegal script (Some start) (e ∷ h) → Knows script es h x → Knows script es (e ∷ h) y →
     o1 ≡ o0 ++ fact_text script (n + 1) (cause_here es x e.act e.reply) → o2 ≡ o1 ++ fact_text script (n + 1) (unsound_here script x e) →
-    o3 ≡ o2 ++ fact_text script (n + 1) (facts_here script es y e) → o3 ≡ o0 ++ entry_text script start h e
-entry_put script start es h e n x y o0 o1 o2 o3 p l k m a b c =
-    c ∙ ap (λ (o : List ℕ). o ++ flat_map line later) (b ∙ ap (λ (o : List ℕ). o ++ flat_map line upset) a)
-    ∙ three line why upset later o0
-    ∙ (λ i. o0 ++ flat_map (fact_line script (q i + 1)) (cause_is script es h x e.act e.reply k i ++ (unsound_is script es h e x k i ++ here_is script start es h e y l m i)))
+    o3 ≡ o2 ++ fact_text script (n + 1) (facts_here script es y e) → o4 ≡ o3 ++ fact_text script (n + 1) (copied_facts h e) → o4 ≡ o0 ++ entry_text script start h e
+entry_put script start es h e n x y o0 o1 o2 o3 o4 p l k m a b c d =
+    d ∙ ap (λ (o : List ℕ). o ++ flat_map line (copied_facts h e)) (c ∙ ap (λ (o : List ℕ). o ++ flat_map line later) (b ∙ ap (λ (o : List ℕ). o ++ flat_map line upset) a))
+    ∙ four line why upset later (copied_facts h e) o0
+    ∙ (λ i. o0 ++ flat_map (fact_line script (q i + 1))
+    (cause_is script es h x e.act e.reply k i ++ (unsound_is script es h e x k i ++ (here_is script start es h e y l m i ++ copied_facts h e))))
   where
     line : Fact → List ℕ
     line = fact_line script (n + 1)
@@ -341,6 +343,16 @@ entry_put script start es h e n x y o0 o1 o2 o3 p l k m a b c =
 
     q : n ≡ length h
     q = sym p
+
+-- what a session holds, in two steps
+pub copies_put : (script : Script) (n : ℕ) (h : Journal) (e : Entry) (s : ℕ) (o0 o1 o2 : List ℕ) → e.session ≡ Some s →
+    o1 ≡ o0 ++ fact_text script n (copied_by (e ∷ h) s (copied_in e.act e.reply)) → o2 ≡ o1 ++ fact_text script n (emptied_by e.act e.reply s) →
+    o2 ≡ o0 ++ fact_text script n (copied_facts h e)
+copies_put script n h e s o0 o1 o2 p a b =
+    b ∙ ap (λ (o : List ℕ). o ++ fact_text script n (emptied_by e.act e.reply s)) a
+    ∙ append_assoc o0 (fact_text script n (copied_by (e ∷ h) s (copied_in e.act e.reply))) (fact_text script n (emptied_by e.act e.reply s))
+    ∙ ap (λ (t : List ℕ). o0 ++ t) (sym (flat_map-append (fact_line script n) (copied_by (e ∷ h) s (copied_in e.act e.reply)) (emptied_by e.act e.reply s)))
+    ∙ ap (λ (o : Option ℕ). o0 ++ fact_text script n (option_map_or (λ t. copied_by (e ∷ h) t (copied_in e.act e.reply) ++ emptied_by e.act e.reply t) o [])) (sym p)
 
 -- ---- what is put
 

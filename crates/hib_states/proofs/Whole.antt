@@ -10,7 +10,7 @@ use Rattle.hib_base.specs.Tables.{Tables, key_of, last_on, row_at, after_changes
 use Rattle.hib_base.proofs.Tables.{Tested, tested, same_key_eq, row_at_changes, left_by}
 use Rattle.hib_journal.specs.Types.{Key, Row, Change, Act, Reply, Entry, Script, Strategy, Put, Inserted, Checked}
 use Rattle.hib_journal.specs.Coherence.{holders, takes, gives_back}
-use Rattle.hib_journal.specs.Held.{is_begin}
+use Rattle.hib_journal.specs.Held.{is_begin, is_break}
 use Rattle.hib_journal.specs.Next.{strategy}
 use Rattle.hib_journal.specs.Sessions.{Journal, is_by, is_session, is_restart, own, time, floor_in, floor_after, changes, changes_in, changes_after, committer, committed, is_open}
 use Rattle.hib_journal.specs.Slot.{Touch, Slot, history, key_in, slot_from, touch, touch_here, touch_at, evicted_in}
@@ -29,7 +29,7 @@ use Rattle.hib_follow.proofs.Touching.{touched_any}
 use Rattle.hib_states.specs.Facts.{Fact}
 use Rattle.hib_states.specs.Here.{written_here}
 use Rattle.hib_states.specs.Last.{State, state_of, taken, all_taken, all_facts, IsToldWhole}
-use Rattle.hib_states.specs.States.{cause_in, expired_facts, reused_by, reused_facts, restart_facts, session_fact, session_facts, sessions_in, written_facts, committed_by, committed_facts, cached_facts, stamped_facts, kept_facts, holders_facts, queries_in, facts, is_guarded}
+use Rattle.hib_states.specs.States.{cause_in, expired_facts, reused_by, reused_facts, restart_facts, session_fact, session_facts, sessions_in, written_facts, committed_by, committed_facts, cached_facts, stamped_facts, kept_facts, holders_facts, copied_by, copied_facts, copied_in, emptied_by, queries_in, facts, is_guarded}
 use Rattle.hib_states.proofs.Told.{written_is}
 
 -- ---- choices
@@ -232,6 +232,23 @@ holders_all v [] s = refl
 holders_all v (k ∷ ks) s =
     holders_all v ks (taken (Fact.Holders k (v k)) s)
     ∙ ap (λ (f : Key → List ℕ). record s { holders = f }) (λ i j. key_again v k j (list_any (λ m. same_key m j) ks) (s.holders j) i)
+
+-- what isn't of this state
+copies_all : (h : Journal) (e : Entry) (s : State) → all_taken (copied_facts h e) s ≡ s
+copies_all h e s = by e.session
+  where
+    one : (n : ℕ) (o : Option Key) → all_taken (copied_by (e ∷ h) n o) s ≡ s
+    one n None = refl
+    one n (Some k) = refl
+
+    empty : (n : ℕ) (b : Bool) → all_taken (cond b (Fact.Emptied n ∷ []) []) s ≡ s
+    empty n true = refl
+    empty n false = refl
+
+    by : (o : Option ℕ) → all_taken (option_map_or (λ n. copied_by (e ∷ h) n (copied_in e.act e.reply) ++ emptied_by e.act e.reply n) o []) s ≡ s
+    by None = refl
+    by (Some n) =
+        then (copied_by (e ∷ h) n (copied_in e.act e.reply)) (emptied_by e.act e.reply n) s s s (one n (copied_in e.act e.reply)) (empty n (is_break e.act e.reply))
 
 -- ---- what isn't told stays
 
@@ -549,13 +566,14 @@ entry_taken : (script : Script) (start : Tables) (h : Journal) (e : Entry) → a
 entry_taken script start h e =
     then _ _ _ _ _ (causes script h e.act e.reply (state_of script start h))
     (then _ _ _ _ _ (then _ _ _ _ _ (expired_all (filter (λ k. is_guarded script k && not (leaves_calm (touch_here e.act e.reply))) (option_to_list (key_in e.act))) _) (reused_at script h e _))
-    (then _ _ _ _ _ (restarted e.act _)
+    (then _ _ _ _ _ (then _ _ _ _ _ (restarted e.act _)
     (then _ _ _ _ _ (sessions_all (e ∷ h) (sessions_in e.act e.session) _)
     (then _ _ _ _ _ (ap (λ (fs : List Fact). all_taken fs _) (sym (written_is h e)) ∙ written_at e.act e.session _)
     (then _ _ _ _ _ (rows_at start h e _)
     (then _ _ _ _ _ (slots_all (λ k. cached script k (e ∷ h)) (touched_keys e) _)
     (then _ _ _ _ _ (stamps_all (λ t. stamp script.timeout t (e ∷ h)) (tables_in e.act) _)
-    (then _ _ _ _ _ (results_all script h e _) (holders_all (λ k. holders k (e ∷ h)) (option_to_list (locked_in e.act)) _)))))))))
+    (then _ _ _ _ _ (results_all script h e _) (holders_all (λ k. holders k (e ∷ h)) (option_to_list (locked_in e.act)) _))))))))
+    (copies_all h e _)))
     ∙ (λ i. record {
       rows = λ j. rows_next start h e j i;
       slots = λ j. slots_next script h e j i;

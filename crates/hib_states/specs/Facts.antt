@@ -17,6 +17,10 @@ pub data Fact : Type 0 where
   Session : ℕ → Bool → ℕ → ℕ → Fact
   -- a change that a session has written and not committed yet
   Written : ℕ → Change → Fact
+  -- the row that a find would give a session of its own copy of a key
+  Copied : ℕ → Key → Option Row → Fact
+  -- a session has lost its copies
+  Emptied : ℕ → Fact
   -- the sessions that have locked a key and not given the lock back, from the last one on
   Holders : Key → List ℕ → Fact
   -- the claims on the cache don't speak of a key from here on: a lock on it had run out, or it is inserted again after this entry had deleted it

@@ -3,11 +3,13 @@ use Rattle.std.specs.Prelude.{ℕ, ◌+◌, Bool, if◌then◌else◌, not, ◌&
 use Rattle.std.specs.List.{filter}
 use Rattle.std.specs.Option.{option_map_or}
 use Rattle.hib_base.specs.Tables.{Tables, key_of, row_at}
-use Rattle.hib_journal.specs.Types.{Key, Change, Act, Reply, Entry, Script, Put, Inserted, Checked}
+use Rattle.hib_journal.specs.Types.{Key, Row, Change, Act, Reply, Entry, Script, Put, Inserted, Checked}
 use Rattle.hib_journal.specs.Sessions.{Journal, own, time, floor_in, changes, committer, committed, is_open}
 use Rattle.hib_journal.specs.Slot.{key_in, touch_here}
 use Rattle.hib_journal.specs.Next.{strategy}
 use Rattle.hib_journal.specs.Coherence.{holders}
+use Rattle.hib_journal.specs.Held.{held, is_break}
+use Rattle.hib_journal.specs.Legal.{row_of}
 use Rattle.hib_report.specs.Unsound.{is_read_write, leaves_calm}
 use Rattle.hib_journal.specs.Stamps.{stamp}
 use Rattle.hib_journal.specs.Results.{result}
@@ -71,6 +73,26 @@ restart_facts _ = []
 abbrev pub holders_facts : Journal → Entry → List Fact
 holders_facts h e = map (λ k. Fact.Holders k (holders k (e ∷ h))) (option_to_list (locked_in e.act))
 
+-- the key of which a session has another copy by its act
+abbrev pub copied_in : Act → Reply → Option Key
+copied_in (Act.Get k t) (Reply.Hit r) = Some k
+copied_in (Act.Load k) (Reply.Row (Some r)) = Some k
+copied_in (Act.Persist k r) Reply.New = Some k
+copied_in (Act.Set k cells) Reply.Set = Some k
+copied_in (Act.Remove k) Reply.Removed = Some k
+copied_in (Act.Write c) r = Some (key_of c)
+copied_in _ r = None
+
+-- what a session has of it
+abbrev pub copied_by : Journal → ℕ → Option Key → List Fact
+copied_by h s o = map (λ k. Fact.Copied s k (row_of (held (own s h) k))) (option_to_list o)
+
+abbrev pub emptied_by : Act → Reply → ℕ → List Fact
+emptied_by a r s = if is_break a r then Fact.Emptied s ∷ [] else []
+
+abbrev pub copied_facts : Journal → Entry → List Fact
+copied_facts h e = option_map_or (λ s. copied_by (e ∷ h) s (copied_in e.act e.reply) ++ emptied_by e.act e.reply s) e.session []
+
 -- ---- the read-write keys that aren't sound from the entry on, over the journal before it
 
 abbrev pub is_guarded : Script → Key → Bool
@@ -131,7 +153,7 @@ facts_after script start h e =
     ++ (cached_facts script h e ++ (stamped_facts script h e ++ (kept_facts script h e ++ holders_facts h e))))))
 
 abbrev pub facts : Script → Tables → Journal → Entry → List Fact
-facts script start h e = cause_in script h e.act e.reply ++ (unsound_facts script h e ++ facts_after script start h e)
+facts script start h e = cause_in script h e.act e.reply ++ (unsound_facts script h e ++ (facts_after script start h e ++ copied_facts h e))
 
 -- a line for each, with the entry's number in the journal
 abbrev pub entry_text : Script → Tables → Journal → Entry → List ℕ

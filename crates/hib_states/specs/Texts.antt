@@ -62,6 +62,9 @@ fact_members script (Fact.Session s on time floor) =
 fact_members script (Fact.Written s c) =
     said (codes "tells") (codes "change") ∷ said (codes "session") (session_text script s) ∷ said (codes "change") (change_word c) ∷
     (key_members script (key_of c) ++ ((codes "expected", numbered (change_expected c)) ∷ row_members (row_left c)))
+fact_members script (Fact.Copied s k r) =
+    said (codes "tells") (codes "copy") ∷ said (codes "session") (session_text script s) ∷ (key_members script k ++ row_members r)
+fact_members script (Fact.Emptied s) = said (codes "tells") (codes "emptied") ∷ said (codes "session") (session_text script s) ∷ []
 fact_members script (Fact.Holders k ss) =
     said (codes "tells") (codes "holders") ∷ (key_members script k ++ ((codes "sessions", Some (words (map (session_text script) ss))) ∷ []))
 fact_members script (Fact.Unsound k deleted) = said (codes "tells") (codes "unsound") ∷ (key_members script k ++ ((codes "deleted", numbered deleted) ∷ []))
@@ -75,6 +78,7 @@ abbrev pub fact_cells : Script → Fact → List (List ℕ × Cell)
 fact_cells script (Fact.Committed k r) = row_cells script (Some k) r
 fact_cells script (Fact.Cached k s) = row_cells script (Some k) (slot_row s)
 fact_cells script (Fact.Written s c) = row_cells script (Some (key_of c)) (row_left c)
+fact_cells script (Fact.Copied s k r) = row_cells script (Some k) r
 fact_cells script (Fact.KeyCause k s since) = row_cells script (Some k) (slot_row s)
 fact_cells script _ = []
 

@@ -3,9 +3,11 @@
 
 mod causes;
 mod changed;
+mod copies;
 mod laws;
 mod lines;
 mod pieces;
+mod seats;
 mod telling;
 mod unsound;
 

@@ -181,6 +181,46 @@ pub fn put_written(
     out.extend_from_slice(b"}\n")
 }
 
+/// A session's own copy of a key.
+#[tactic(auto, unfolding(crate::specs::Texts::fact_line))]
+pub fn put_copy(
+    alloc: Global,
+    out: &mut Vec<u8>,
+    script: &Script,
+    number: u64,
+    session: SessionNo,
+    key: &Key,
+    row: Option<&Row>,
+) -> Result<(), AllocError>
+    ensures { OnOk result (out.new.items
+        ≡ out.old.items ++ fact_line script.now number (Fact.Copied session key.now (option_copied row.entry))) }
+{
+    put_head(alloc, out, number, b"copy")?;
+    put_said(out, b"session", session_name(script, session))?;
+    put_key(alloc, out, script, key)?;
+    put_row(alloc, out, row)?;
+    let own = Some(*key);
+    put_row_of(alloc, out, script, own, row)?;
+    out.extend_from_slice(b"}\n")
+}
+
+/// A session has lost its copies.
+#[tactic(auto, unfolding(crate::specs::Texts::fact_line))]
+pub fn put_emptied(
+    alloc: Global,
+    out: &mut Vec<u8>,
+    script: &Script,
+    number: u64,
+    session: SessionNo,
+) -> Result<(), AllocError>
+    ensures { OnOk result (out.new.items
+        ≡ out.old.items ++ fact_line script.now number (Fact.Emptied session)) }
+{
+    put_head(alloc, out, number, b"emptied")?;
+    put_said(out, b"session", session_name(script, session))?;
+    out.extend_from_slice(b"}\n")
+}
+
 /// Those who hold a key.
 #[tactic(auto, unfolding(crate::specs::Texts::fact_line))]
 pub fn put_holders(

@@ -98,7 +98,7 @@ fn put_all_reused(
         fact_text script.now number (reused_here script.now deleted.now.numbers.entries c.now)) desk.now.written.items) }
 {
     for change in desk.written.as_slice() {
-        put_reused(alloc, out, script, number, deleted, change)?;
+        put_reused(alloc, out, script, number, deleted, *change)?;
     }
     Ok(())
 }

@@ -2,8 +2,8 @@
 //
 //   node tools/pages/tests/told.js TOOLS FOLDER ..        TOOLS is the program; each FOLDER has scripts NAME.hib, each with NAME.report
 //
-// After each entry: the committed rows, what each key has in its cache, the stamps, the kept results, and of each open session its time, its
-// floor and its written changes. An entry has a cause exactly if its reply refuses, and nothing that is drawn of a told state has a hole in it.
+// After each entry: the committed rows, what each key has in its cache, who holds the lock of each sound key, which keys are unsound since
+// when, the stamps, the kept results, and of each open session its time, its floor, its written changes and its copies. An entry has a cause exactly if its reply refuses, and nothing that is drawn of a told state has a hole in it.
 'use strict';
 const fs = require('fs'), path = require('path'), vm = require('vm'), { spawnSync } = require('child_process');
 
@@ -30,14 +30,22 @@ const toldSlot = fact => fact.holds === 'item' ? `item ${page.rowText(fact.row)}
 const sorted = pairs => JSON.stringify([...pairs].sort());
 const from = (things, text) => sorted([...things].map(([name, thing]) => [name, text(thing)]));
 
+const unsoundText = ({ at, deletedAt }) => `since ${at}${deletedAt === undefined ? '' : ', deleted at ' + deletedAt}`;
+const namesOf = holders => holders.map(({ by }) => by).sort().join(' ');
+
 function ownParts(state) {
-  const open = page.openSessions(state).map(session => [session.name, session]);
+  const open = page.openSessions(state).map(session => [session.name, session]), { unsound } = state.nodes[0];
+  const slots = state.nodes.flatMap(({ regions }) => [...regions.values()].flatMap(region => [...region]));
+  const held = slots.filter(([key, slot]) => slot.kind === 'lock' && slot.holders.length && !unsound.has(key));
   return {
     rows: from(state.committed, ({ row }) => page.rowText(row)),
-    caches: from(state.nodes.flatMap(({ regions }) => [...regions.values()].flatMap(region => [...region])), slotText),
+    caches: from(slots, slotText),
+    holders: from(held, ({ holders }) => namesOf(holders)),
+    unsound: from(unsound, unsoundText),
     stamps: from(state.stamps, ({ value }) => String(value)),
     results: from(state.kept, ({ time, list }) => `${time} ${list}`),
     sessions: from(open, ({ time, floor, outcome, written }) => `${time} ${floor} ${outcome || written.map(({ kind, key }) => `${kind} ${key}`)}`),
+    copies: from(open, ({ copies }) => from([...copies].filter(([, { kind }]) => kind !== 'removed'), ({ row }) => page.rowText(row))),
   };
 }
 
@@ -47,9 +55,12 @@ function toldParts(state, own) {
   return {
     rows: from(state.rows, ({ row }) => page.rowText(row)),
     caches: from(state.caches, toldSlot),
+    holders: from([...state.holders].filter(([key, holders]) => holders.length && !state.unsound.has(key)), namesOf),
+    unsound: from(state.unsound, ({ at, deleted }) => unsoundText({ at, deletedAt: deleted ? Number(deleted) - 1 : undefined })),
     stamps: from(state.stamps, ({ stamp }) => stamp),
     results: from(state.results, ({ time, list }) => `${time} ${list}`),
     sessions: from(state.sessions, fact => `${fact.time} ${fact.floor} ${changesOf(fact)}`),
+    copies: from([...state.sessions.keys()].map(name => [name, state.copies.get(name) || new Map()]), copies => from(copies, ({ row }) => page.rowText(row))),
   };
 }
 

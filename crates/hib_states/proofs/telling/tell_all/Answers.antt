@@ -6,6 +6,7 @@ use Rattle.hib_follow.specs.Known.{Knows}
 use Rattle.hib_journal.specs.Legal.{IsLegal}
 use Rattle.hib_journal.specs.Sessions.{Journal}
 use Rattle.hib_journal.specs.Types.{Entry}
+use Rattle.hib_states.specs.Seats.{AreSeats}
 use Rattle.hib_states.specs.States.{entry_text, states_text}
 use Rattle.hib_states.proofs.Prefixes.{next_is, count_is, legal_up_to}
 use Rattle.hib_states.proofs.telling.tell_all.Goals as goal
@@ -22,8 +23,11 @@ loop-place-preserved c =
       known = λ start l. subst (λ (g : Journal). Knows c.args.script.now es g c.put_entry.new.known) (sym next)
           (c.in_ok-put_entry.ensures.known start h (count_is es i low)
           (subst (λ (g : Journal). IsLegal c.args.script.now (Some start) g) next (legal_up_to c.args.script.now (Some start) es (i + 1) l)) (c.loop-place.invariant.known start l));
+      seats = λ start l. subst (λ (g : Journal). AreSeats c.args.script.now g c.put_entry.new.seats.sessions.items) (sym next)
+          (c.in_ok-put_entry.ensures.seats start h
+          (subst (λ (g : Journal). IsLegal c.args.script.now (Some start) g) next (legal_up_to c.args.script.now (Some start) es (i + 1) l)) (c.loop-place.invariant.seats start l));
       text = λ start l. c.in_ok-put_entry.ensures.text start h (count_is es i low)
           (subst (λ (g : Journal). IsLegal c.args.script.now (Some start) g) next (legal_up_to c.args.script.now (Some start) es (i + 1) l)) (c.loop-place.invariant.known start l)
-          ∙ ap (λ t. t ++ entry_text c.args.script.now start h e) (c.loop-place.invariant.text start l)
+          (c.loop-place.invariant.seats start l) ∙ ap (λ t. t ++ entry_text c.args.script.now start h e) (c.loop-place.invariant.text start l)
           ∙ ap (states_text c.args.script.now start) (sym next);
     }
