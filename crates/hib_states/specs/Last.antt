@@ -4,6 +4,8 @@ use Rattle.hib_base.specs.Keys.{same_key}
 use Rattle.hib_base.specs.Tables.{Tables, row_at}
 use Rattle.hib_journal.specs.Types.{Key, Row, Change, Script}
 use Rattle.hib_journal.specs.Coherence.{holders}
+use Rattle.hib_journal.specs.Held.{held}
+use Rattle.hib_journal.specs.Legal.{row_of}
 use Rattle.hib_journal.specs.Sessions.{Journal, own, time, floor_in, changes, committed, is_open}
 use Rattle.hib_journal.specs.Slot.{Slot}
 use Rattle.hib_journal.specs.Sound.{is_sound}
@@ -13,7 +15,7 @@ use Rattle.hib_states.specs.Facts.{Fact}
 use Rattle.hib_states.specs.States.{facts, is_guarded}
 
 -- the committed row of each key, and what its region has; the stamp of each table; of each session whether it is open, its time, its floor and
--- what it has written; who holds each key, and whether the claims speak of it
+-- what it has written, and the rows that finds would give it of its own copies; who holds each key, and whether the claims speak of it
 pub record State : Type 0 where
   pub rows : Key → Option Row
   pub slots : Key → Slot
@@ -22,6 +24,7 @@ pub record State : Type 0 where
   pub times : ℕ → ℕ
   pub floors : ℕ → ℕ
   pub changes : ℕ → List Change
+  pub copies : ℕ → Key → Option Row
   pub holders : Key → List ℕ
   pub sound : Key → Bool
 
@@ -35,6 +38,7 @@ state_of script start h = record {
   times = λ s. time s h;
   floors = λ s. floor_in (own s h);
   changes = λ s. changes s h;
+  copies = λ s k. row_of (held (own s h) k);
   holders = λ k. holders k h;
   sound = λ k. if is_guarded script k then is_sound k h else true;
 }
@@ -58,6 +62,8 @@ taken (Fact.Session n on time floor) s = record s {
   changes = λ m. if on && (n == m) then [] else s.changes m;
 }
 taken (Fact.Written n c) s = record s { changes = set n (s.changes n ++ c ∷ []) s.changes }
+taken (Fact.Copied n k r) s = record s { copies = λ m j. if same_key k j && (n == m) then r else s.copies m j }
+taken (Fact.Emptied n) s = record s { copies = λ m j. if n == m then None else s.copies m j }
 taken (Fact.Holders k ss) s = record s { holders = key_set k ss s.holders }
 taken (Fact.Unsound k deleted) s = record s { sound = key_set k false s.sound }
 taken Fact.Restarted s = record s { slots = λ k. Slot.Vacant; stamps = λ t. None; opened = λ n. false; holders = λ k. []; sound = λ k. true }
