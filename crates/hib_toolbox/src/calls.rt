@@ -1,5 +1,5 @@
 // The call of each word.
-ghost use Rattle.std.specs.Prelude.{◌≡◌, ℕ, None, Some, true};
+ghost use Rattle.std.specs.Prelude.{◌≡◌, ◌≤◌, ℕ, None, Some, length, true};
 ghost use Rattle.hib_base.specs.Valid.{is_valid};
 ghost use Rattle.hib_call.specs.Outside.{outside, shared_by};
 ghost use Rattle.hib_toolbox.specs.Call.{DoesTool};
@@ -15,6 +15,7 @@ use crate::report::{Report, as_read};
 use crate::rows::{Rows, list_rows};
 use crate::show::{Show, explore_for};
 use crate::spans::Trace;
+use crate::states::{Stating, state_journal};
 use hib_call::{Called, Lent, Status, call};
 use hib_order_stage::Watcher;
 use hib_order_text::Finding;
@@ -156,6 +157,35 @@ pub fn write_spans<S: Source, W: Sink, K: Keeper, L: Listener>(
     let called = call(alloc, &Trace { jaeger }, source, out, lent, |input, lent| {
         as_read(input, lent)
     });
+    ended(called)
+}
+
+/// Writes the states of a journal.
+pub fn write_states<S: Source, W: Sink, K: Keeper, L: Listener>(
+    alloc: Global,
+    source: &mut S,
+    out: &mut W,
+    lent: Lent<K, L>,
+) -> Ended<K, L>
+    ensures { DoesTool Tool.States
+        (outside (S.left source.old) (S.faults source.old) (W.taken out.old) (W.faults out.old)
+        (shared_by K.tables K.faults K.asked L.heard L.left lent.keeper lent.listeners.items))
+        (outside (S.left source.new) (S.faults source.new) (W.taken out.new) (W.faults out.new)
+        (shared_by K.tables K.faults K.asked L.heard L.left result.lent.keeper
+        result.lent.listeners.items))
+        result.status result.said }
+{
+    let called = call(
+        alloc,
+        &Stating,
+        source,
+        out,
+        lent,
+        |input, lent|
+            requires valid { is_valid input.script ≡ true }
+            requires few { length input.journal.list ≤ 67108864 }
+        { state_journal(alloc, input, lent) },
+    );
     ended(called)
 }
 

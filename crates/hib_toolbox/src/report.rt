@@ -1,5 +1,6 @@
 // The report of a journal that comes after its script.
-ghost use Rattle.std.specs.Prelude.{◌≡◌, ◌≤◌, IfErr, IfOk, length};
+ghost use Rattle.std.specs.Prelude.{◌≡◌, ◌≤◌, IfErr, IfOk, length, true};
+ghost use Rattle.hib_base.specs.Valid.{is_valid};
 ghost use Rattle.hib_call.specs.Ends.{Comes, IsWhere};
 ghost use Rattle.hib_call.specs.Outside.{shared_by};
 ghost use Rattle.hib_input.specs.WithJournal.{IsBadInput, IsInput, IsWholeInput};
@@ -18,6 +19,8 @@ pub const LIMIT: usize = 67_108_864;
 pub fn read_input(alloc: Global, text: &[u8]) -> Result<WithJournal, InputFault>
     requires { length text.now ≤ 67108864 }
     ensures input { IfOk result (λ input. IsInput text.now input.script input.journal.list) }
+    ensures valid { IfOk result (λ input. is_valid input.script ≡ true) }
+    ensures few { IfOk result (λ input. length input.journal.list ≤ 67108864) }
     ensures refused { IfErr result (IsWhere (IsBadInput text.now)) }
     ensures whole { IsWholeInput text.now → IfErr result (λ fault. fault ≡ InputFault.NoMemory) }
 {
