@@ -4,6 +4,7 @@ use Rattle.std.specs.Io.KnownBytes.{IsAtEnd}
 use Rattle.hib_outside.specs.Causes.{Rose}
 use Rattle.hib_call.specs.declared.status.Status.{Status}
 use Rattle.hib_call.specs.Command.{Command}
+use Rattle.hib_call.specs.Limits.{max_piece}
 use Rattle.hib_call.specs.Ends.{IsAfterRun, IsEarly}
 use Rattle.hib_call.specs.Outside.{Outside}
 use Rattle.hib_call.specs.Streams.{ReadsFew}
@@ -62,7 +63,7 @@ pub record IsCalled {I R : Type 0} (c : Command I R) (old new : Outside) (answer
   pub store : answer ≡ Status.StoreFault → Rose old.shared.faults new.shared.faults
   -- and an input is called too long only if it is
   pub long : answer ≡ Status.TooLong → IfSome old.left (λ bytes. c.limit < length bytes)
-  -- at most one piece of 4,096 bytes beyond the limit is read
-  pub few : ReadsFew (c.limit + 4096) old.left new.left
+  -- at most one piece beyond the limit is read
+  pub few : ReadsFew (c.limit + max_piece) old.left new.left
   -- the input is run if source and sink don't fail, unless memory runs out
   pub complete : HasInput c old.left → (Rose old.read_faults new.read_faults → ⊥) → (Rose old.write_faults new.write_faults → ⊥) → IsAfterRun answer ⊎ IsEarly answer

@@ -3,6 +3,7 @@ ghost use Rattle.std.specs.Prelude.{◌≡◌, ◌<◌, ◌+◌, length, Err, If
 ghost use Rattle.hib_outside.specs.Causes.{Rose};
 ghost use Rattle.hib_call.specs.Called.{HasInput, HasNone, HasRead, IsCalled};
 ghost use Rattle.hib_call.specs.Ends.{Comes};
+ghost use Rattle.hib_call.specs.Limits.{max_piece};
 ghost use Rattle.hib_call.specs.Outside.{outside, shared_by};
 ghost use Rattle.hib_call.specs.Streams.{ReadsFew};
 
@@ -35,7 +36,7 @@ fn input_of<T: Task, S: Source>(alloc: Global, task: &T, source: &mut S) -> Resu
         → Rose (S.faults source.old) (S.faults source.new) }
     ensures long { result ≡ Err Status.TooLong
         → IfSome (S.left source.old) (λ bytes. (T.command task.now).limit < length bytes) }
-    ensures taken { ReadsFew ((T.command task.now).limit + 4096) (S.left source.old)
+    ensures taken { ReadsFew ((T.command task.now).limit + max_piece) (S.left source.old)
         (S.left source.new) }
     ensures whole { HasInput (T.command task.now) (S.left source.old)
         → (Rose (S.faults source.old) (S.faults source.new) → ⊥)

@@ -14,4 +14,4 @@ pub use calling::{Called, call};
 pub use lent::Lent;
 pub use status::{Status, put_illegal, status_line};
 pub use streams::NothingLeft;
-pub use tasks::{InputFault, Outcome, Ran, Task, tell_text};
+pub use tasks::{InputFault, JOURNAL_BYTES, Outcome, Ran, SCRIPT_BYTES, Task, tell_text};

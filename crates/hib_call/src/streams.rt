@@ -2,6 +2,7 @@
 ghost use Rattle.std.specs.Prelude.{◌≡◌, ◌+◌, ◌<◌, ◌≤◌, length, IfOk, OnOk, IfSome};
 ghost use Rattle.std.specs.Io.KnownBytes.{IsAtEnd};
 ghost use Rattle.hib_outside.specs.Causes.{Rose};
+ghost use Rattle.hib_call.specs.Limits.{max_journal, max_piece};
 ghost use Rattle.hib_call.specs.Streams.{ReadsFew};
 
 use hib_outside::{Failed, Source};
@@ -42,8 +43,8 @@ impl From<Failed> for ReadStop {
     }
 }
 
-/// The most bytes that are read at all.
-const MOST: usize = 67_108_864;
+/// The most bytes that are read at once.
+const PIECE: usize = 4_096;
 
 /// A source that has nothing left, for a command whose input doesn't come from one.
 #[derive(Clone, Copy)]
@@ -67,12 +68,12 @@ impl Source for NothingLeft {
 /// Errors: `TooLong` if there is more than the limit; `Failed` if the source failed; `NoMemory` if there is none left.
 #[tactic(auto, using(crate::proofs::Taken::reads_more, crate::proofs::Taken::reads_still))]
 pub fn read_all<S: Source>(alloc: Global, source: &mut S, limit: usize) -> Result<Vec<u8>, ReadStop>
-    requires { limit ≤ MOST }
+    requires { limit ≤ max_journal }
     ensures bytes { IfOk result (λ v. IfSome (S.left source.old) (λ bytes. bytes ≡ v.items)) }
     ensures few { IfOk result (λ v. length v.items ≤ limit) }
     ensures long { result ≡ Err ReadStop.TooLong
         → IfSome (S.left source.old) (λ bytes. limit < length bytes) }
-    ensures taken { ReadsFew (limit + 4096) (S.left source.old) (S.left source.new) }
+    ensures taken { ReadsFew (limit + max_piece) (S.left source.old) (S.left source.new) }
     ensures end { IfOk result (λ _. IsAtEnd (S.left source.new)) }
     ensures calm { OnOk result (S.faults source.new ≡ S.faults source.old) }
     ensures later { S.faults source.old ≤ S.faults source.new }
@@ -80,7 +81,7 @@ pub fn read_all<S: Source>(alloc: Global, source: &mut S, limit: usize) -> Resul
         → Rose (S.faults source.old) (S.faults source.new) }
 {
     let mut text = Vec::new(alloc);
-    let mut piece = [0u8; 4096];
+    let mut piece = [0u8; PIECE];
     for turn in 0..limit + 1 {
         let n = source.read(&mut piece)?;
         if n == 0 {

@@ -2,6 +2,7 @@
 ghost use Rattle.std.specs.Prelude.{◌≡◌, ◌⊎◌, ◌≤◌, ℕ, length, IfOk, IfErr};
 ghost use Rattle.hib_outside.specs.Causes.{Rose};
 ghost use Rattle.hib_call.specs.Command.{Command};
+ghost use Rattle.hib_call.specs.Limits.{max_journal};
 ghost use Rattle.hib_call.specs.Ends.{IsAfterRun, IsWhere, IsWritten};
 
 use crate::lent::Lent;
@@ -9,6 +10,12 @@ use crate::status::Status;
 use hib_base::Refused;
 use hib_outside::{Sink, write_all};
 use std::alloc::Global;
+
+/// The most bytes that a script has, with the section after it.
+pub const SCRIPT_BYTES: usize = 1_048_576;
+
+/// The most bytes that a script has with a journal after it.
+pub const JOURNAL_BYTES: usize = 67_108_864;
 
 /// Why a text isn't read as an input.
 #[derive(Clone, Copy, Debug, PartialEq, Eq)]
@@ -54,7 +61,7 @@ pub trait Task {
     /// The most bytes of its input.
     fn limit(&self) -> usize
         ensures limit { result ≡ (command self.now).limit }
-        ensures few { result ≤ 67108864 };
+        ensures few { result ≤ max_journal };
 
     /// The input that a text is.
     ///

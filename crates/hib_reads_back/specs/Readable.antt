@@ -3,6 +3,7 @@ use Rattle.std.specs.Prelude.{◌^◌, Bool, true, ◌&&◌, nat_lt, nat_le, Lis
 use Rattle.std.specs.List.{list_all}
 use Rattle.hib_base.specs.declared.scripts.Script.{Script}
 use Rattle.hib_base.specs.Valid.{is_valid}
+use Rattle.hib_lex.specs.Tokens.{max_line}
 use Rattle.hib_lex.specs.declared.lexer.Token.{Token}
 use Rattle.hib_print.specs.Printed.{script_lines}
 use Rattle.hib_print.specs.Spelling.{text_of}
@@ -14,9 +15,9 @@ is_wide (Token.Number (pos n)) = nat_lt n (2 ^ 63)
 is_wide (Token.Number (negsuc n)) = nat_lt n (2 ^ 63)
 is_wide _ = true
 
--- and a line has at most 4,096 bytes
+-- and a line isn't longer than the reader takes
 abbrev pub is_short : List Token → Bool
-is_short ts = nat_le (length (text_of ts)) 4096 && list_all is_wide ts
+is_short ts = nat_le (length (text_of ts)) max_line && list_all is_wide ts
 
 -- ---- the script
 unfoldable pub is_readable : Script → Bool

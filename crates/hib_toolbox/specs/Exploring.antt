@@ -23,6 +23,7 @@ use Rattle.hib_script.specs.Outline.{Outline, outline_of}
 use Rattle.hib_script.specs.Script.{script_of}
 use Rattle.hib_call.specs.declared.status.Status.{Status}
 use Rattle.hib_call.specs.Command.{Command}
+use Rattle.hib_call.specs.Limits.{max_script}
 use Rattle.hib_call.specs.Ends.{IsWritten}
 use Rattle.hib_call.specs.Outside.{Shared}
 use Rattle.hib_toolbox.specs.declared.ended.Said.{Said}
@@ -99,7 +100,7 @@ IsSaid _ _ said = said ≡ Said.Nothing
 -- ---- the command
 abbrev pub exploring : ℕ → ℕ → Option ℕ → Command Script Explored
 exploring switches kills at_most = record {
-  limit = 1048576;
+  limit = max_script;
   reads = λ text script. script_of text ≡ Ok (outline_of script);
   refuses = λ text refused. script_of text ≡ Err refused;
   has_form = λ text. (said : Outline) × (script_of text ≡ Ok said);

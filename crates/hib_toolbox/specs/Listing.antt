@@ -8,6 +8,7 @@ use Rattle.hib_script.specs.Outline.{Outline, outline_of}
 use Rattle.hib_script.specs.Script.{script_of}
 use Rattle.hib_call.specs.declared.status.Status.{Status}
 use Rattle.hib_call.specs.Command.{Command}
+use Rattle.hib_call.specs.Limits.{max_script}
 use Rattle.hib_call.specs.Ends.{IsWritten}
 use Rattle.hib_call.specs.Outside.{Shared}
 use Rattle.hib_toolbox.specs.Reporting.{IsToldSo}
@@ -32,7 +33,7 @@ StopsListing old new _ _ = ⊥
 -- ---- the command
 abbrev pub listing : Command Script Script
 listing = record {
-  limit = 1048576;
+  limit = max_script;
   reads = λ text script. script_of text ≡ Ok (outline_of script);
   refuses = λ text refused. script_of text ≡ Err refused;
   has_form = λ text. (said : Outline) × (script_of text ≡ Ok said);

@@ -5,6 +5,7 @@ use Rattle.hib_input.specs.declared.with_journal.WithJournal.{WithJournal}
 use Rattle.hib_report.specs.Report.{report}
 use Rattle.hib_call.specs.declared.status.Status.{Status}
 use Rattle.hib_call.specs.Command.{Command}
+use Rattle.hib_call.specs.Limits.{max_journal}
 use Rattle.hib_call.specs.Ends.{IsWritten}
 
 -- a text was told whole, or the sink failed, or memory ran out
@@ -17,7 +18,7 @@ IsToldSo _ = ⊥
 -- ---- the command
 abbrev pub reporting : Command WithJournal WithJournal
 reporting = record {
-  limit = 67108864;
+  limit = max_journal;
   reads = λ text input. IsInput text input.script input.journal.list;
   refuses = IsBadInput;
   has_form = IsWholeInput;

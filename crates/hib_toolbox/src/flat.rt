@@ -5,8 +5,8 @@ ghost use Rattle.hib_flat.specs.Lines.{flat, flat_csv};
 ghost use Rattle.hib_outside.specs.Causes.{Rose};
 ghost use Rattle.hib_toolbox.specs.Reporting.{IsToldSo};
 
-use crate::report::{LIMIT, read_input};
-use hib_call::{InputFault, Status, Task};
+use crate::report::read_input;
+use hib_call::{InputFault, JOURNAL_BYTES, Status, Task};
 use hib_input::WithJournal;
 use hib_outside::Sink;
 use hib_report::WriteStop;
@@ -61,7 +61,7 @@ impl Task for Flat {
     ghost is_sound = { λ _. ⊤ };
 
     fn limit(&self) -> usize {
-        LIMIT
+        JOURNAL_BYTES
     }
 
     fn read(&self, alloc: Global, text: &[u8]) -> Result<WithJournal, InputFault> {

@@ -2,13 +2,14 @@
 ghost use Rattle.std.specs.Prelude.{◌≡◌, ◌≤◌, Err, IfErr, IfOk, Ok, length, true};
 ghost use Rattle.hib_base.specs.Valid.{is_valid};
 ghost use Rattle.hib_call.specs.Ends.{Comes, IsWhere};
+ghost use Rattle.hib_call.specs.Limits.{max_script};
 ghost use Rattle.hib_call.specs.Outside.{Shared, shared_by};
 ghost use Rattle.hib_script.specs.Outline.{Outline, outline_of};
 ghost use Rattle.hib_script.specs.Script.{script_of};
 ghost use Rattle.hib_toolbox.specs.Exploring.{exploring, is_any, is_there, limit_of};
 
 use hib_base::Script;
-use hib_call::{InputFault, Lent, Outcome, Ran, Status, Task, tell_text};
+use hib_call::{InputFault, Lent, Outcome, Ran, SCRIPT_BYTES, Status, Task, tell_text};
 use hib_law::rows_cohere;
 use hib_order_schedule::{schedules_play_orders, shown_runs_come_again};
 use hib_order_stage::{Searched, Watcher, search_orders};
@@ -119,7 +120,7 @@ pub fn explore<K: Keeper, L: Listener, W: Watcher + Drop>(
 
 /// Reads a script.
 pub fn read_script(alloc: Global, text: &[u8]) -> Result<Script, InputFault>
-    requires { length text.now ≤ 1048576 }
+    requires { length text.now ≤ max_script }
     ensures script { IfOk result (λ script. script_of text.now ≡ Ok (outline_of script)) }
     ensures valid { IfOk result (λ script. is_valid script ≡ true) }
     ensures refused { IfErr result (IsWhere (λ refused. script_of text.now ≡ Err refused)) }
@@ -147,7 +148,7 @@ impl Task for Orders {
     ghost is_sound = { λ script. is_valid script ≡ true };
 
     fn limit(&self) -> usize {
-        1_048_576
+        SCRIPT_BYTES
     }
 
     fn read(&self, alloc: Global, text: &[u8]) -> Result<Script, InputFault> {

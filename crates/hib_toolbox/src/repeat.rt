@@ -6,9 +6,9 @@ ghost use Rattle.hib_order_law.specs.Orders.{steps_in};
 ghost use Rattle.hib_order_schedule.specs.Schedules.{runs_of};
 ghost use Rattle.hib_toolbox.specs.Repeating.{IsScheduled, is_foreign, repeating};
 
-use crate::report::{LIMIT, read_input};
+use crate::report::read_input;
 use hib_base::{Act, Entry, Order, Script, Seq};
-use hib_call::{InputFault, Lent, Outcome, Ran, Status, Task, tell_text};
+use hib_call::{InputFault, JOURNAL_BYTES, Lent, Outcome, Ran, Status, Task, tell_text};
 use hib_input::WithJournal;
 use hib_order_plays::order_of;
 use hib_order_schedule::{
@@ -134,7 +134,7 @@ impl Task for Repeat {
     ghost is_sound = { λ _. ⊤ };
 
     fn limit(&self) -> usize {
-        LIMIT
+        JOURNAL_BYTES
     }
 
     fn read(&self, alloc: Global, text: &[u8]) -> Result<WithJournal, InputFault> {

@@ -2,22 +2,20 @@
 ghost use Rattle.std.specs.Prelude.{◌≡◌, ◌≤◌, IfErr, IfOk, length, true};
 ghost use Rattle.hib_base.specs.Valid.{is_valid};
 ghost use Rattle.hib_call.specs.Ends.{Comes, IsWhere};
+ghost use Rattle.hib_call.specs.Limits.{max_journal};
 ghost use Rattle.hib_call.specs.Outside.{shared_by};
 ghost use Rattle.hib_input.specs.WithJournal.{IsBadInput, IsInput, IsWholeInput};
 ghost use Rattle.hib_toolbox.specs.Reporting.{reporting};
 
-use hib_call::{InputFault, Lent, Outcome, Ran, Status, Task};
+use hib_call::{InputFault, JOURNAL_BYTES, Lent, Outcome, Ran, Status, Task};
 use hib_input::{WithJournal, read_with_journal};
 use hib_outside::{Keeper, Listener, Sink};
 use hib_report::WriteStop;
 use std::alloc::Global;
 
-/// The most bytes that a script has with its journal after it.
-pub const LIMIT: usize = 67_108_864;
-
 /// Reads a script, the line `journal` and a journal as JSON lines.
 pub fn read_input(alloc: Global, text: &[u8]) -> Result<WithJournal, InputFault>
-    requires { length text.now ≤ 67108864 }
+    requires { length text.now ≤ max_journal }
     ensures input { IfOk result (λ input. IsInput text.now input.script input.journal.list) }
     ensures valid { IfOk result (λ input. is_valid input.script ≡ true) }
     ensures few { IfOk result (λ input. length input.journal.list ≤ 67108864) }
@@ -65,7 +63,7 @@ impl Task for Report {
     ghost is_sound = { λ _. ⊤ };
 
     fn limit(&self) -> usize {
-        LIMIT
+        JOURNAL_BYTES
     }
 
     fn read(&self, alloc: Global, text: &[u8]) -> Result<WithJournal, InputFault> {

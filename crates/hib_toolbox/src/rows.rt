@@ -9,7 +9,7 @@ ghost use Rattle.hib_toolbox.specs.Listing.{listing};
 
 use crate::orders::read_script;
 use hib_base::{EntityNo, Rows as AllRows, Script};
-use hib_call::{InputFault, Lent, Outcome, Ran, Status, Task, tell_text};
+use hib_call::{InputFault, Lent, Outcome, Ran, SCRIPT_BYTES, Status, Task, tell_text};
 use hib_outside::{KeepFault, Keeper, Listener, Sink};
 use std::alloc::{AllocError, Global};
 
@@ -90,7 +90,7 @@ impl Task for Rows {
     ghost is_sound = { λ _. ⊤ };
 
     fn limit(&self) -> usize {
-        1_048_576
+        SCRIPT_BYTES
     }
 
     fn read(&self, alloc: Global, text: &[u8]) -> Result<Script, InputFault> {

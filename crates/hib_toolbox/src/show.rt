@@ -9,7 +9,7 @@ ghost use Rattle.hib_toolbox.specs.Exploring.{exploring, finding_numbered, scrip
 
 use crate::orders::{Explored, Orders, is_there, read_script, tried};
 use hib_base::{Script, Seq};
-use hib_call::{InputFault, Lent, Outcome, Ran, Status, Task, tell_text};
+use hib_call::{InputFault, Lent, Outcome, Ran, SCRIPT_BYTES, Status, Task, tell_text};
 use hib_order_schedule::{schedule_of, with_schedule};
 use hib_order_stage::Watcher;
 use hib_order_text::{Finding, found_of};
@@ -106,7 +106,7 @@ impl Task for Show {
     ghost is_sound = { λ script. is_valid script ≡ true };
 
     fn limit(&self) -> usize {
-        1_048_576
+        SCRIPT_BYTES
     }
 
     fn read(&self, alloc: Global, text: &[u8]) -> Result<Script, InputFault> {

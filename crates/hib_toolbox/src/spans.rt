@@ -1,6 +1,6 @@
 // A journal as a trace.
-use crate::report::{LIMIT, read_input};
-use hib_call::{InputFault, Status, Task, tell_text};
+use crate::report::read_input;
+use hib_call::{InputFault, JOURNAL_BYTES, Status, Task, tell_text};
 use hib_input::WithJournal;
 use hib_outside::Sink;
 use std::alloc::Global;
@@ -25,7 +25,7 @@ impl Task for Trace {
     ghost is_sound = { λ _. ⊤ };
 
     fn limit(&self) -> usize {
-        LIMIT
+        JOURNAL_BYTES
     }
 
     fn read(&self, alloc: Global, text: &[u8]) -> Result<WithJournal, InputFault> {

@@ -12,6 +12,7 @@ use Rattle.hib_input.specs.WithJournal.{IsInput, IsBadInput, IsWholeInput}
 use Rattle.hib_input.specs.declared.with_journal.WithJournal.{WithJournal}
 use Rattle.hib_call.specs.declared.status.Status.{Status}
 use Rattle.hib_call.specs.Command.{Command}
+use Rattle.hib_call.specs.Limits.{max_journal}
 use Rattle.hib_call.specs.Ends.{IsWritten}
 use Rattle.hib_call.specs.Outside.{Shared}
 use Rattle.hib_call.specs.StatusLine.{illegal_text}
@@ -53,7 +54,7 @@ pub record Tells (judged : Judged) (answer : Status) (taken written : Option (Li
 -- ---- the command
 abbrev pub auditing : Command WithJournal Judged
 auditing = record {
-  limit = 67108864;
+  limit = max_journal;
   reads = λ text input. IsInput text input.script input.journal.list;
   refuses = IsBadInput;
   has_form = IsWholeInput;

@@ -15,6 +15,7 @@ use Rattle.hib_sections.specs.BulkLines.{BulkSaid, said_of}
 use Rattle.hib_sections.specs.Bulks.{bulks_of}
 use Rattle.hib_call.specs.declared.status.Status.{Status}
 use Rattle.hib_call.specs.Command.{Command}
+use Rattle.hib_call.specs.Limits.{max_script}
 use Rattle.hib_call.specs.Ends.{IsWritten}
 use Rattle.hib_call.specs.Outside.{Shared}
 use Rattle.hib_top.specs.declared.bulk.Bulking.{Bulking}
@@ -64,7 +65,7 @@ Stops input old new _ _ = ⊥
 -- ---- the command
 abbrev pub bulking : Command Bulking BulkRun
 bulking = record {
-  limit = 1048576;
+  limit = max_script;
   reads = λ text input. bulking_of text ≡ Ok (outline_of input.script, (map said_of input.bulks.lines, input.bulks.orders));
   refuses = λ text refused. bulking_of text ≡ Err refused;
   has_form = λ text. (said : Said) × (bulking_of text ≡ Ok said);

@@ -18,6 +18,7 @@ use Rattle.hib_input.specs.WithSection.{Sectioned, section_of}
 use Rattle.hib_sections.specs.Collections.{collections_of}
 use Rattle.hib_call.specs.declared.status.Status.{Status}
 use Rattle.hib_call.specs.Command.{Command}
+use Rattle.hib_call.specs.Limits.{max_script}
 use Rattle.hib_call.specs.Ends.{IsWritten}
 use Rattle.hib_call.specs.Outside.{Shared}
 use Rattle.hib_top.specs.declared.collect.Gathering.{Gathering}
@@ -69,7 +70,7 @@ Stops input old new _ _ = ⊥
 -- ---- the command
 abbrev pub collecting : Command Gathering Collected
 collecting = record {
-  limit = 1048576;
+  limit = max_script;
   reads = λ text input. gathering_of text ≡ Ok (outline_of input.script, input.defs);
   refuses = λ text refused. gathering_of text ≡ Err refused;
   has_form = λ text. (said : Outline × List Def) × (gathering_of text ≡ Ok said);

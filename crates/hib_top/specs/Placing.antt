@@ -16,6 +16,7 @@ use Rattle.hib_input.specs.WithSection.{Sectioned, section_of}
 use Rattle.hib_sections.specs.Places.{places_of}
 use Rattle.hib_call.specs.declared.status.Status.{Status}
 use Rattle.hib_call.specs.Command.{Command}
+use Rattle.hib_call.specs.Limits.{max_script}
 use Rattle.hib_call.specs.Ends.{IsWritten}
 use Rattle.hib_call.specs.Outside.{Shared}
 use Rattle.hib_top.specs.declared.nodes.Placing.{Placing}
@@ -66,7 +67,7 @@ Stops input old new _ _ = ⊥
 -- ---- the command
 abbrev pub placing : Command Placing NodeRun
 placing = record {
-  limit = 1048576;
+  limit = max_script;
   reads = λ text input. placing_of text ≡ Ok (outline_of input.script, (input.places.nodes, input.places.orders));
   refuses = λ text refused. placing_of text ≡ Err refused;
   has_form = λ text. (said : Said) × (placing_of text ≡ Ok said);

@@ -15,7 +15,7 @@ use Rattle.hib_joined.specs.Joined.{AreApart}
 use Rattle.hib_joined.specs.Run.{AreInOrder}
 use Rattle.hib_listeners.specs.Heard.{HaveHeard}
 use Rattle.hib_listeners.specs.Told.{Told}
-use Rattle.hib_core.specs.Bound.{outside_count}
+use Rattle.hib_core.specs.Bound.{max_entries, outside_count}
 use Rattle.hib_core.specs.Standing.{Origin, RoseBy, RoseWithin, told_start, origin_over}
 use Rattle.hib_report.specs.Report.{report, summary}
 use Rattle.hib_json_lines.specs.Line.{json_lines}
@@ -25,6 +25,7 @@ use Rattle.hib_script.specs.Outline.{Outline, outline_of}
 use Rattle.hib_script.specs.Script.{script_of}
 use Rattle.hib_call.specs.declared.status.Status.{Status}
 use Rattle.hib_call.specs.Command.{Command}
+use Rattle.hib_call.specs.Limits.{max_script}
 use Rattle.hib_call.specs.Ends.{IsWritten}
 use Rattle.hib_call.specs.Outside.{Shared}
 use Rattle.hib_store.specs.declared.store.OpenFault.{OpenFault}
@@ -60,7 +61,7 @@ pub record IsPlayed (turns : Turns) (script : Script) (start rows : Option Table
   pub given : IfSome start (λ told. AreListsGiven script told h)
   pub ticked : AreTicked turns h
   -- it is short
-  pub few : length h ≤ 150000
+  pub few : length h ≤ max_entries
   -- what was evicted from outside has an identifier
   pub named : name_identifiers h ≡ true
   -- if the rows at the start fit the mapping, each entry is well formed
@@ -136,7 +137,7 @@ pub record Tells (telling : Telling) (run : Played) (answer : Status) (taken wri
 -- ---- the command
 abbrev pub running : Turns → Telling → Command Script Played
 running turns telling = record {
-  limit = 1048576;
+  limit = max_script;
   reads = λ text script. script_of text ≡ Ok (outline_of script);
   refuses = λ text refused. script_of text ≡ Err refused;
   has_form = λ text. (said : Outline) × (script_of text ≡ Ok said);

@@ -1,18 +1,18 @@
 // The audit of a journal that comes after its script.
 ghost use Rattle.std.specs.Prelude.{◌≡◌, ◌≤◌, length, true, IfOk};
 ghost use Rattle.hib_base.specs.Valid.{is_valid};
+ghost use Rattle.hib_call.specs.Limits.{max_journal};
 ghost use Rattle.hib_call.specs.Ends.{Comes};
 ghost use Rattle.hib_call.specs.Outside.{shared_by};
 ghost use Rattle.hib_top.specs.Auditing.{auditing, status_said, verdict_text};
 
 use hib_audit::Audit;
-use hib_call::{InputFault, Lent, Outcome, Ran, Status, Task, put_illegal, tell_text};
+use hib_call::{
+    InputFault, JOURNAL_BYTES, Lent, Outcome, Ran, Status, Task, put_illegal, tell_text,
+};
 use hib_input::{WithJournal, read_with_journal};
 use hib_outside::{Keeper, Listener, Sink};
 use std::alloc::{AllocError, Global};
-
-/// The most bytes that a script has with its journal after it.
-const LIMIT: usize = 67_108_864;
 
 /// What is said of a journal.
 #[derive(Clone, Copy)]
@@ -30,7 +30,7 @@ pub fn judge_journal<K: Keeper, L: Listener>(
     lent: Lent<K, L>,
 ) -> Ran<Judged, K, L>
     requires valid { is_valid input.script ≡ true }
-    requires few { length input.journal.list ≤ 67108864 }
+    requires few { length input.journal.list ≤ max_journal }
     ensures judged { Comes auditing input
         (shared_by K.tables K.faults K.asked L.heard L.left lent.keeper lent.listeners.items)
         (shared_by K.tables K.faults K.asked L.heard L.left result.lent.keeper
@@ -87,10 +87,10 @@ impl Task for Judge {
     ghost command = { λ _. auditing };
 
     ghost is_sound = { λ input. (is_valid input.script ≡ true)
-        × (length input.journal.list ≤ 67108864) };
+        × (length input.journal.list ≤ max_journal) };
 
     fn limit(&self) -> usize {
-        LIMIT
+        JOURNAL_BYTES
     }
 
     fn read(&self, alloc: Global, text: &[u8]) -> Result<WithJournal, InputFault> {

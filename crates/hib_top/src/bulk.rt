@@ -10,7 +10,7 @@ use crate::unrun::not_run;
 use hib_base::Script;
 use hib_bulk::{BulkFactory, Bulked, Name};
 use hib_bulk_law::Bulks;
-use hib_call::{InputFault, Lent, Outcome, Ran, Status, Task, tell_text};
+use hib_call::{InputFault, Lent, Outcome, Ran, SCRIPT_BYTES, Status, Task, tell_text};
 use hib_input::read_with_section;
 use hib_outside::{Keeper, Listener, Sink};
 use hib_sections::{SectionError, read_bulks};
@@ -109,7 +109,7 @@ impl Task for Bulk {
     ghost is_sound = { λ input. AreSet input.script input.bulks.lines };
 
     fn limit(&self) -> usize {
-        1_048_576
+        SCRIPT_BYTES
     }
 
     #[tactic(auto, using(crate::proofs::Bulks::both_said, crate::proofs::Bulks::no_section, crate::proofs::Bulks::no_bulks, crate::proofs::Bulks::are_set))]

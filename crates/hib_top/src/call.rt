@@ -1,6 +1,7 @@
 // The calls that a program makes with its words.
 ghost use Rattle.std.specs.Prelude.{◌≡◌, ◌≢◌, ◌≤◌, IfOk, IfSome, length, map, option_map, string_bytes, true};
 ghost use Rattle.hib_base.specs.Valid.{is_valid};
+ghost use Rattle.hib_call.specs.Limits.{max_journal};
 ghost use Rattle.hib_call.specs.Outside.{outside, shared_by};
 ghost use Rattle.hib_words.specs.Commands.{asked_of, command};
 ghost use Rattle.hib_top.specs.Words.{HasFew, asked_alone, asked_in, is_alone, telling_of};
@@ -130,7 +131,7 @@ fn serve_alone<S: Source, W: Sink, K: Keeper, L: Listener>(
                 out,
                 lent,
                 |input, lent|
-                    requires { (is_valid input.script ≡ true) × (length input.journal.list ≤ 67108864) }
+                    requires { (is_valid input.script ≡ true) × (length input.journal.list ≤ max_journal) }
                 { judge_journal(alloc, input, lent) },
             );
             ended_with(called.status, called.lent, Journal::open(alloc))

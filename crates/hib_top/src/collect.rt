@@ -9,7 +9,7 @@ ghost use Rattle.hib_top.specs.Running.{origin};
 
 use crate::unrun::not_run;
 use hib_base::Script;
-use hib_call::{InputFault, Lent, Outcome, Ran, Status, Task, tell_text};
+use hib_call::{InputFault, Lent, Outcome, Ran, SCRIPT_BYTES, Status, Task, tell_text};
 use hib_collections::{Defs, Gather, GatherRefused, Gathered, Name};
 use hib_input::read_with_section;
 use hib_outside::{Keeper, Listener, Sink};
@@ -110,7 +110,7 @@ impl Task for Collect {
     ghost is_sound = { λ input. AreSet input.script input.defs };
 
     fn limit(&self) -> usize {
-        1_048_576
+        SCRIPT_BYTES
     }
 
     #[tactic(auto, using(crate::proofs::Gathers::both_said, crate::proofs::Gathers::no_section, crate::proofs::Gathers::no_collections, crate::proofs::Gathers::are_set))]

@@ -8,7 +8,7 @@ ghost use Rattle.hib_top.specs.Running.{origin};
 
 use crate::unrun::not_run;
 use hib_base::Script;
-use hib_call::{InputFault, Lent, Outcome, Ran, Status, Task, tell_text};
+use hib_call::{InputFault, Lent, Outcome, Ran, SCRIPT_BYTES, Status, Task, tell_text};
 use hib_input::read_with_section;
 use hib_nodes::{Name, Noded, Nodes};
 use hib_nodes_law::Places;
@@ -110,7 +110,7 @@ impl Task for AtNodes {
     ghost is_sound = { λ input. AreSet input.script input.places.nodes };
 
     fn limit(&self) -> usize {
-        1_048_576
+        SCRIPT_BYTES
     }
 
     #[tactic(auto, using(crate::proofs::Places::both_said, crate::proofs::Places::no_section, crate::proofs::Places::no_places, crate::proofs::Places::are_set))]

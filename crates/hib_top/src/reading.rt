@@ -2,7 +2,7 @@
 use crate::telling::{Played, Telling, tell_run};
 use crate::turns::Turns;
 use hib_base::Script;
-use hib_call::{InputFault, Status, Task};
+use hib_call::{InputFault, SCRIPT_BYTES, Status, Task};
 use hib_outside::Sink;
 use hib_script::ScriptError;
 use std::alloc::Global;
@@ -30,7 +30,7 @@ impl Task for Run {
     ghost is_sound = { λ script. is_valid script ≡ true };
 
     fn limit(&self) -> usize {
-        1_048_576
+        SCRIPT_BYTES
     }
 
     fn read(&self, alloc: Global, text: &[u8]) -> Result<Script, InputFault> {
