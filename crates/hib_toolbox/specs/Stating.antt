@@ -3,6 +3,7 @@ use Rattle.std.specs.Prelude.{◌≡◌, ℕ, List, Some, None, Option}
 use Rattle.hib_audit.specs.Breaks.{start_rows}
 use Rattle.hib_call.specs.Command.{Command}
 use Rattle.hib_call.specs.Ends.{IsWritten}
+use Rattle.hib_call.specs.Limits.{max_journal}
 use Rattle.hib_call.specs.Outside.{Shared}
 use Rattle.hib_call.specs.declared.status.Status.{Status}
 use Rattle.hib_input.specs.WithJournal.{IsInput, IsBadInput, IsWholeInput}
@@ -41,7 +42,7 @@ TellsStates (States.Illegal entry kind) answer taken written = (answer ≡ Statu
 -- ---- the command
 abbrev pub stating : Command WithJournal States
 stating = record {
-  limit = 67108864;
+  limit = max_journal;
   reads = λ text input. IsInput text input.script input.journal.list;
   refuses = IsBadInput;
   has_form = IsWholeInput;

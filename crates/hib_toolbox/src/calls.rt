@@ -183,7 +183,7 @@ pub fn write_states<S: Source, W: Sink, K: Keeper, L: Listener>(
         lent,
         |input, lent|
             requires valid { is_valid input.script ≡ true }
-            requires few { length input.journal.list ≤ 67108864 }
+            requires few { length input.journal.list ≤ max_journal }
         { state_journal(alloc, input, lent) },
     );
     ended(called)

@@ -18,7 +18,7 @@ pub fn read_input(alloc: Global, text: &[u8]) -> Result<WithJournal, InputFault>
     requires { length text.now ≤ max_journal }
     ensures input { IfOk result (λ input. IsInput text.now input.script input.journal.list) }
     ensures valid { IfOk result (λ input. is_valid input.script ≡ true) }
-    ensures few { IfOk result (λ input. length input.journal.list ≤ 67108864) }
+    ensures few { IfOk result (λ input. length input.journal.list ≤ max_journal) }
     ensures refused { IfErr result (IsWhere (IsBadInput text.now)) }
     ensures whole { IsWholeInput text.now → IfErr result (λ fault. fault ≡ InputFault.NoMemory) }
 {

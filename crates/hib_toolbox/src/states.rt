@@ -3,14 +3,15 @@ ghost use Rattle.std.specs.Prelude.{◌≡◌, ◌≤◌, ◌<◌, ◌^◌, IfOk
 ghost use Rattle.hib_audit.specs.Breaks.{start_rows};
 ghost use Rattle.hib_base.specs.Valid.{is_valid};
 ghost use Rattle.hib_call.specs.Ends.{Comes};
+ghost use Rattle.hib_call.specs.Limits.{max_journal};
 ghost use Rattle.hib_call.specs.Outside.{shared_by};
 ghost use Rattle.hib_journal.specs.Kept.{past};
 ghost use Rattle.hib_toolbox.specs.Stating.{IsTold, stating};
 
-use crate::report::{LIMIT, read_input};
+use crate::report::read_input;
 use hib_audit::{Audit, AuditKind, audit};
 use hib_base::Script;
-use hib_call::{InputFault, Lent, Outcome, Ran, Status, Task, tell_text};
+use hib_call::{InputFault, JOURNAL_BYTES, Lent, Outcome, Ran, Status, Task, tell_text};
 use hib_input::WithJournal;
 use hib_journal::Journal;
 use hib_outside::{Keeper, Listener, Sink};
@@ -53,7 +54,7 @@ pub fn state_journal<K: Keeper, L: Listener>(
     lent: Lent<K, L>,
 ) -> Ran<States, K, L>
     requires valid { is_valid input.script ≡ true }
-    requires few { length input.journal.list ≤ 67108864 }
+    requires few { length input.journal.list ≤ max_journal }
     ensures { Comes stating input
         (shared_by K.tables K.faults K.asked L.heard L.left lent.keeper lent.listeners.items)
         (shared_by K.tables K.faults K.asked L.heard L.left result.lent.keeper
@@ -75,6 +76,7 @@ pub struct Stating;
 impl Task for Stating {
     ghost use Rattle.std.specs.Prelude.{◌≡◌, ◌≤◌, length, true};
     ghost use Rattle.hib_base.specs.Valid.{is_valid};
+    ghost use Rattle.hib_call.specs.Limits.{max_journal};
     ghost use Rattle.hib_toolbox.specs.Stating.{stating};
 
     type Input = WithJournal;
@@ -84,10 +86,10 @@ impl Task for Stating {
     ghost command = { λ _. stating };
 
     ghost is_sound = { λ input. (is_valid input.script ≡ true)
-        × (length input.journal.list ≤ 67108864) };
+        × (length input.journal.list ≤ max_journal) };
 
     fn limit(&self) -> usize {
-        LIMIT
+        JOURNAL_BYTES
     }
 
     fn read(&self, alloc: Global, text: &[u8]) -> Result<WithJournal, InputFault> {
