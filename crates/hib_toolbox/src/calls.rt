@@ -1,6 +1,7 @@
 // The call of each word.
 ghost use Rattle.std.specs.Prelude.{◌≡◌, ◌≤◌, ℕ, None, Some, length, true};
 ghost use Rattle.hib_base.specs.Valid.{is_valid};
+ghost use Rattle.hib_call.specs.Limits.{max_journal};
 ghost use Rattle.hib_call.specs.Outside.{outside, shared_by};
 ghost use Rattle.hib_toolbox.specs.Call.{DoesTool};
 ghost use Rattle.hib_toolbox.specs.Exploring.{IsSaid, IsSaidOf, finding_numbered};
