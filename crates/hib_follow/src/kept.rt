@@ -1,5 +1,5 @@
 // What an entry does to a key of a region.
-ghost use Rattle.std.specs.Prelude.{◌≡◌, ◌+◌, suc, if◌then◌else◌, List, None, Some, IfOk, is_some, option_copied, slice_get};
+ghost use Rattle.std.specs.Prelude.{◌≡◌, ◌+◌, suc, if◌then◌else◌, List, None, Some, IfOk, is_some, option_copied, slice_get, true};
 ghost use Rattle.hib_journal.specs.Next.{strategy};
 ghost use Rattle.hib_journal.specs.Slot.{Slot, evicted_in, key_in, touch_here};
 ghost use Rattle.hib_journal.specs.Types.{Entry, Key};

@@ -1,11 +1,11 @@
 // What an entry has changed, by what is known after it.
-ghost use Rattle.std.specs.Prelude.{◌≡◌, ◌++◌, true, None, Some, OnOk, flat_map, map, option_and_then, option_to_list};
+ghost use Rattle.std.specs.Prelude.{◌≡◌, ◌++◌, true, None, OnOk, flat_map, map, option_and_then, option_to_list};
 ghost use Rattle.std.specs.Borrow.{Bor};
 ghost use Rattle.hib_base.specs.Tables.{key_of, row_left};
 ghost use Rattle.hib_journal.specs.Sessions.{committer};
 ghost use Rattle.hib_journal.specs.Types.{Change, Script};
 ghost use Rattle.hib_follow.specs.Desks.{last_at};
-ghost use Rattle.hib_follow.specs.Holders.{line_at, locked_in};
+ghost use Rattle.hib_follow.specs.Holders.{locked_in};
 ghost use Rattle.hib_follow.specs.Marks.{value_at};
 ghost use Rattle.hib_follow.specs.Newest.{tables_in};
 ghost use Rattle.hib_follow.specs.Touched.{touched_keys};

@@ -1,6 +1,7 @@
 // The line of each fact.
-ghost use Rattle.std.specs.Prelude.{◌≡◌, ◌++◌, ℕ, true, false, List, None, Some, OnOk, option_copied};
+ghost use Rattle.std.specs.Prelude.{◌≡◌, ◌++◌, ℕ, true, false, None, Some, OnOk, option_copied};
 ghost use Rattle.hib_follow.specs.Shelves.{kept_slot};
+ghost use Rattle.hib_journal.specs.Types.{Script};
 ghost use Rattle.hib_states.specs.Facts.{Fact};
 ghost use Rattle.hib_states.specs.Texts.{fact_line};
 

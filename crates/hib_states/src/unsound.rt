@@ -1,8 +1,7 @@
 // The keys of which the claims on the cache don't speak from an entry on.
 ghost use Rattle.std.specs.Prelude.{◌≡◌, ◌++◌, not, OnOk, flat_map};
 ghost use Rattle.std.specs.Borrow.{Bor};
-ghost use Rattle.hib_follow.specs.Deleted.{changes_of, committed_at};
-ghost use Rattle.hib_follow.specs.Desks.{changes_at};
+ghost use Rattle.hib_follow.specs.Deleted.{committed_at};
 ghost use Rattle.hib_journal.specs.Sessions.{committer};
 ghost use Rattle.hib_journal.specs.Slot.{touch_here};
 ghost use Rattle.hib_journal.specs.Types.{Change};
