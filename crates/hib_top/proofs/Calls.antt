@@ -51,15 +51,15 @@ short_call c o = record {
 }
 
 idle_by : (asked : Asked) (o : Outside) → Does asked o o Status.NoMemory None
-idle_by (play s) o = (None, refl, short_call (running Turns.Scheduled (telling_of s.journal)) o)
-idle_by (work n false s) o = (None, refl, short_call (running (Turns.OnWorkers n) (telling_of s.journal)) o)
-idle_by (work n true s) o = (None, refl, short_call (running (Turns.OnParts n) (telling_of s.journal)) o)
-idle_by (make n false) o = ((None, refl, short_call (making n) (unread o)), record { left = refl; faults = refl })
-idle_by (make n true) o = ((None, refl, short_call (printing n) (unread o)), record { left = refl; faults = refl })
-idle_by audit o = (None, refl, short_call auditing o)
-idle_by collect o = (None, refl, short_call collecting o)
-idle_by bulk o = (None, refl, short_call bulking o)
-idle_by nodes o = (None, refl, short_call placing o)
+idle_by (play s) o = (None, short_call (running Turns.Scheduled (telling_of s.journal)) o, refl)
+idle_by (work n false s) o = (None, short_call (running (Turns.OnWorkers n) (telling_of s.journal)) o, refl)
+idle_by (work n true s) o = (None, short_call (running (Turns.OnParts n) (telling_of s.journal)) o, refl)
+idle_by (make n false) o = ((None, short_call (making n) (unread o), refl), record { left = refl; faults = refl })
+idle_by (make n true) o = ((None, short_call (printing n) (unread o), refl), record { left = refl; faults = refl })
+idle_by audit o = (None, short_call auditing o, refl)
+idle_by collect o = (None, short_call collecting o, refl)
+idle_by bulk o = (None, short_call bulking o, refl)
+idle_by nodes o = (None, short_call placing o, refl)
 
 pub idle_if : (asked : Option Asked) (o : Outside) (handed : Option AnyRun) → handed ≡ None → DoesIf asked o o Status.NoMemory handed
 unfolding DoesIf
@@ -86,15 +86,15 @@ not_usage c old new answer run called e = usage_by c old new run (subst (λ (s :
 
 -- ---- a store fault is answered only if one came
 pub store_by : (asked : Asked) (old new : Outside) (answer : Status) (handed : Option AnyRun) → Does asked old new answer handed → answer ≡ Status.StoreFault → Rose old.shared.faults new.shared.faults
-store_by (play s) old new answer handed d = d.2.store
-store_by (work n false s) old new answer handed d = d.2.store
-store_by (work n true s) old new answer handed d = d.2.store
-store_by (make n false) old new answer handed d = d.0.2.store
-store_by (make n true) old new answer handed d = d.0.2.store
-store_by audit old new answer handed d = d.2.store
-store_by collect old new answer handed d = d.2.store
-store_by bulk old new answer handed d = d.2.store
-store_by nodes old new answer handed d = d.2.store
+store_by (play s) old new answer handed d = d.1.store
+store_by (work n false s) old new answer handed d = d.1.store
+store_by (work n true s) old new answer handed d = d.1.store
+store_by (make n false) old new answer handed d = d.0.1.store
+store_by (make n true) old new answer handed d = d.0.1.store
+store_by audit old new answer handed d = d.1.store
+store_by collect old new answer handed d = d.1.store
+store_by bulk old new answer handed d = d.1.store
+store_by nodes old new answer handed d = d.1.store
 
 not_usage_fault : Status.StoreFault ≡ Status.Usage → ⊥
 not_usage_fault e = cc

@@ -17,7 +17,7 @@ use Rattle.hib_words.specs.Commands.{Asked, play, work, make, audit, collect, bu
 
 -- a command was called; what is handed back of its run is this run, if there is one
 abbrev pub DoesCall : {I R : Type 0} → Command I R → (R → AnyRun) → Outside → Outside → Status → Option AnyRun → Type 0
-DoesCall {I} {R} command kind old new answer handed = (run : Option R) × (handed ≡ option_map kind run) × IsCalled command old new answer run
+DoesCall {I} {R} command kind old new answer handed = (run : Option R) × IsCalled command old new answer run × (handed ≡ option_map kind run)
 
 -- for a command that reads nothing: the source stays as it is, and has nothing that is asked for
 abbrev pub unread : Outside → Outside
