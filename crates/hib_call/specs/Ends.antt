@@ -1,24 +1,19 @@
 -- How a call and its parts may end.
-use Rattle.std.specs.Prelude.{◌≡◌, Bool, true, false, List, ℕ, ⊤, Option}
+use Rattle.std.specs.Prelude.{◌≡◌, List, ℕ, ⊤, Option}
 use Rattle.std.specs.Io.KnownBytes.{Appends}
 use Rattle.hib_base.specs.declared.refusals.Refused.{Refused}
+use Rattle.hib_script.specs.declared.errors.ScriptError.{ScriptError}
 use Rattle.hib_outside.specs.Causes.{Rose}
 use Rattle.hib_outside.specs.Fronts.{TakesFront}
 use Rattle.hib_call.specs.declared.status.Status.{Status}
-use Rattle.hib_call.specs.declared.tasks.InputFault.{InputFault}
 use Rattle.hib_call.specs.declared.tasks.Outcome.{Outcome}
 use Rattle.hib_call.specs.Command.{Command}
 use Rattle.hib_call.specs.Outside.{Shared}
 
--- memory ran out
-abbrev pub is_short : Status → Bool
-is_short Status.NoMemory = true
-is_short _ = false
-
 -- want of memory says nothing of a text
-abbrev pub IsWhere : (Refused → Type 0) → InputFault → Type 0
-IsWhere refuses InputFault.NoMemory = ⊤
-IsWhere refuses (InputFault.Refused r) = refuses r
+abbrev pub IsWhere : (Refused → Type 0) → ScriptError → Type 0
+IsWhere refuses ScriptError.NoMemory = ⊤
+IsWhere refuses (ScriptError.Refused r) = refuses r
 
 -- a run may end a call so, with nothing told
 abbrev pub IsEarly : Status → Type 0

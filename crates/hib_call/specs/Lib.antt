@@ -6,3 +6,4 @@ pub mod StatusLine
 pub mod Command
 pub mod Ends
 pub mod Called
+pub mod Runs

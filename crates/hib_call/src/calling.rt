@@ -4,14 +4,15 @@ ghost use Rattle.hib_outside.specs.Causes.{Rose};
 ghost use Rattle.hib_call.specs.Called.{HasInput, HasNone, HasRead, IsCalled};
 ghost use Rattle.hib_call.specs.Ends.{Comes};
 ghost use Rattle.hib_call.specs.Limits.{max_piece};
-ghost use Rattle.hib_call.specs.Outside.{outside, shared_by};
+ghost use Rattle.hib_call.specs.Outside.{outside_of, shared_of};
 ghost use Rattle.hib_call.specs.Streams.{ReadsFew};
 
 use crate::lent::Lent;
 use crate::status::Status;
-use crate::streams::{ReadStop, read_all};
-use crate::tasks::{InputFault, Outcome, Ran, Task};
+use crate::streams::read_all;
+use crate::tasks::{Outcome, Ran, Task};
 use hib_outside::{Keeper, Listener, Sink, Source};
+use hib_script::ScriptError;
 use std::alloc::Global;
 
 /// What a call hands back.
@@ -23,6 +24,35 @@ pub struct Called<R, K, L> {
     pub lent: Lent<K, L>,
     /// What was run, if something was.
     pub run: Option<R>,
+}
+
+impl<R, K, L> Called<R, K, L> {
+    ghost use Rattle.std.specs.Prelude.{◌≡◌, None, option_map};
+    ghost use Rattle.std.specs.Option.{ForSome};
+
+    /// A call in which nothing was run.
+    pub fn idle(status: Status, lent: Lent<K, L>) -> Self
+        ensures status { result.status ≡ status }
+        ensures lent { result.lent ≡ lent }
+        ensures run { result.run ≡ None }
+    {
+        let run = None;
+        Called { status, lent, run }
+    }
+
+    /// The same call, whose run is made into another.
+    pub fn map<Q, F: FnOnce(R) -> Q>(self, f: F) -> Called<Q, K, L>
+        requires { ForSome self.run (F.pre f) }
+        ensures status { result.status ≡ self.status }
+        ensures lent { result.lent ≡ self.lent }
+        // It is what a function makes of it, if calls of f answer as that function does.
+        ensures run { (g : R → Q) → ((x : R) (y : Q) → F.post f x y → y ≡ g x)
+            → result.run ≡ option_map g self.run }
+    {
+        let Called { status, lent, run } = self;
+        let run = run.map(f);
+        Called { status, lent, run }
+    }
 }
 
 /// The input of a command that a source has; or how a call ends that finds none.
@@ -42,16 +72,11 @@ fn input_of<T: Task, S: Source>(alloc: Global, task: &T, source: &mut S) -> Resu
         → (Rose (S.faults source.old) (S.faults source.new) → ⊥)
         → IfErr result (λ status. status ≡ Status.NoMemory) }
 {
-    let text = match read_all(alloc, source, task.limit()) {
-        Ok(text) => text,
-        Err(ReadStop::NoMemory) => return Err(Status::NoMemory),
-        Err(ReadStop::Failed) => return Err(Status::ReadFault),
-        Err(ReadStop::TooLong) => return Err(Status::TooLong),
-    };
+    let text = read_all(alloc, source, task.limit())?;
     match task.read(alloc, &text) {
         Ok(input) => Ok(input),
-        Err(InputFault::NoMemory) => Err(Status::NoMemory),
-        Err(InputFault::Refused(refused)) => Err(Status::Refused(refused)),
+        Err(ScriptError::NoMemory) => Err(Status::NoMemory),
+        Err(ScriptError::Refused(refused)) => Err(Status::Refused(refused)),
     }
 }
 
@@ -74,35 +99,23 @@ pub fn call<
 ) -> Called<T::Run, K, L>
     requires may { (input : T.Input) → T.is_sound input → F.pre run input lent }
     requires comes { (input : T.Input) (ran : _) → T.is_sound input → F.post run input lent ran
-        → Comes (T.command task.now) input
-        (shared_by K.tables K.faults K.asked L.heard L.left lent.keeper lent.listeners.items)
-        (shared_by K.tables K.faults K.asked L.heard L.left ran.lent.keeper ran.lent.listeners.items)
-        ran.outcome }
+        → Comes (T.command task.now) input (shared_of K.Keeper L.Listener lent)
+        (shared_of K.Keeper L.Listener ran.lent) ran.outcome }
     ensures { IsCalled (T.command task.now)
-        (outside (S.left source.old) (S.faults source.old) (W.taken out.old) (W.faults out.old)
-        (shared_by K.tables K.faults K.asked L.heard L.left lent.keeper lent.listeners.items))
-        (outside (S.left source.new) (S.faults source.new) (W.taken out.new) (W.faults out.new)
-        (shared_by K.tables K.faults K.asked L.heard L.left result.lent.keeper
-        result.lent.listeners.items))
+        (outside_of S.Source W.Sink K.Keeper L.Listener source.old out.old lent)
+        (outside_of S.Source W.Sink K.Keeper L.Listener source.new out.new result.lent)
         result.status result.run }
 {
     let input = match input_of(alloc, task, source) {
         Ok(input) => input,
-        Err(status) => return Called {
-            status,
-            lent,
-            run: None,
-        },
+        Err(status) => return Called::idle(status, lent),
     };
     let Ran { outcome, lent } = run(input, lent);
     match outcome {
         Outcome::Over(run) => {
             let status = task.tell(alloc, &run, out);
-            Called {
-                status,
-                lent,
-                run: Some(run),
-            }
+            let run = Some(run);
+            Called { status, lent, run }
         }
         Outcome::Stopped(status, run) => Called { status, lent, run },
     }

@@ -9,9 +9,11 @@ mod lent;
 mod status;
 mod streams;
 mod tasks;
+mod unrun;
 
 pub use calling::{Called, call};
 pub use lent::Lent;
 pub use status::{Status, put_illegal, status_line};
 pub use streams::NothingLeft;
-pub use tasks::{InputFault, JOURNAL_BYTES, Outcome, Ran, SCRIPT_BYTES, Task, tell_text};
+pub use tasks::{JOURNAL_BYTES, Outcome, Ran, SCRIPT_BYTES, Task, tell_text};
+pub use unrun::not_run;

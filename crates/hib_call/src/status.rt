@@ -1,6 +1,5 @@
 // How a call of the program ends.
 ghost use Rattle.hib_call.specs.Exits.{exit_number};
-ghost use Rattle.hib_call.specs.Ends.{is_short};
 ghost use Rattle.hib_call.specs.StatusLine.{status_text, refused_text, illegal_text, kind_text};
 ghost use Rattle.std.specs.Prelude.{◌≡◌, ◌↔◌, ◌++◌, IsTrue, IfOk, OnOk};
 
@@ -46,13 +45,6 @@ impl Status {
         ensures { IsTrue result ↔ (self.now ≡ Status.Done) }
     {
         matches!(self, Status::Done)
-    }
-
-    /// Whether memory ran out.
-    pub fn is_short(&self) -> bool
-        ensures { result ≡ is_short self.now }
-    {
-        matches!(self, Status::NoMemory)
     }
 
     /// The number that a program ends with.

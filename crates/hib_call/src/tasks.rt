@@ -7,8 +7,8 @@ ghost use Rattle.hib_call.specs.Ends.{IsAfterRun, IsWhere, IsWritten};
 
 use crate::lent::Lent;
 use crate::status::Status;
-use hib_base::Refused;
 use hib_outside::{Sink, write_all};
+use hib_script::ScriptError;
 use std::alloc::Global;
 
 /// The most bytes that a script has, with the section after it.
@@ -16,15 +16,6 @@ pub const SCRIPT_BYTES: usize = 1_048_576;
 
 /// The most bytes that a script has with a journal after it.
 pub const JOURNAL_BYTES: usize = 67_108_864;
-
-/// Why a text isn't read as an input.
-#[derive(Clone, Copy, Debug, PartialEq, Eq)]
-pub enum InputFault {
-    /// There is no memory left.
-    NoMemory,
-    /// The first line that can't stand at its place.
-    Refused(Refused),
-}
 
 /// What a run came to.
 #[derive(Drop)]
@@ -66,13 +57,13 @@ pub trait Task {
     /// The input that a text is.
     ///
     /// Errors: `Refused` with the first bad line if the text has not the form; `NoMemory` if there is none left.
-    fn read(&self, alloc: Global, text: &[u8]) -> Result<Self::Input, InputFault>
+    fn read(&self, alloc: Global, text: &[u8]) -> Result<Self::Input, ScriptError>
         requires { length text.now ≤ (command self.now).limit }
         ensures input { IfOk result (λ input. (command self.now).reads text.now input) }
         ensures sound { IfOk result is_sound }
         ensures refused { IfErr result (IsWhere ((command self.now).refuses text.now)) }
         ensures whole { (command self.now).has_form text.now
-            → IfErr result (λ fault. fault ≡ InputFault.NoMemory) };
+            → IfErr result (λ fault. fault ≡ ScriptError.NoMemory) };
 
     /// Tells a run that is over, and answers how the call ends.
     fn tell<W: Sink>(&self, alloc: Global, run: &Self::Run, out: &mut W) -> Status

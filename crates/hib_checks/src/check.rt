@@ -2,9 +2,9 @@
 use crate::row::Row;
 use crate::words::words_of;
 use crate::world::{keeper_of, sink_with, source_with};
-use hib_call::{Status, status_line};
+use hib_call::{Called, Lent, Status, status_line};
 use hib_outside::{Keeper, Listener, MemKeeper, MemSink, MemSource, OpenGate};
-use hib_top::{Ended, top};
+use hib_top::{AnyRun, top};
 use std::alloc::{AllocError, Global};
 use std::sync::Wait;
 use std::thread::Threads;
@@ -36,17 +36,17 @@ fn said(alloc: Global, status: &Status) -> Result<Vec<u8>, AllocError> {
 /// What the top call left of the sink and the keeper.
 fn left_by(
     alloc: Global,
-    ended: &Ended<MemKeeper, Box<dyn Listener>>,
+    called: &Called<AnyRun, MemKeeper, Box<dyn Listener>>,
     sink: &MemSink,
 ) -> Result<Came, AllocError> {
-    let says = said(alloc, &ended.status)?;
+    let says = said(alloc, &called.status)?;
     let output = sink.bytes().to_vec(alloc)?;
     Ok(Came {
-        status: u32::from(ended.status.number()),
+        status: u32::from(called.status.number()),
         says,
         output,
-        keeps: ended.keeper.rows.len(),
-        asks: ended.keeper.asked(),
+        keeps: called.lent.keeper.rows.len(),
+        asks: called.lent.keeper.asked(),
     })
 }
 
@@ -59,17 +59,10 @@ fn end<R: Threads + Wait + Sync>(
     sink: &mut MemSink,
     keeper: MemKeeper,
 ) -> Result<Came, AllocError> {
-    let ended = top(
-        rt,
-        alloc,
-        words,
-        source,
-        sink,
-        keeper,
-        &OpenGate,
-        Vec::new(alloc),
-    );
-    left_by(alloc, &ended, sink)
+    let listeners = Vec::new(alloc);
+    let lent = Lent { keeper, listeners };
+    let called = top(rt, alloc, words, source, sink, lent, &OpenGate);
+    left_by(alloc, &called, sink)
 }
 
 /// Runs the top call with these words on an input, over objects in memory that fail as a row says, and a sink with this room.

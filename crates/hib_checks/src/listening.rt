@@ -1,5 +1,6 @@
 // What listeners hear, by direct calls: whether each has heard the entries that it is to hear, and who is left.
 use hib_base::{Act, Entry, Part, Reply, Seq, Tick};
+use hib_call::Lent;
 use hib_listeners::{Limited, Listeners, Recorder, Trace};
 use hib_outside::{Heard, Listener, MemKeeper, MemSink, MemSource};
 use hib_top::play_words;
@@ -165,9 +166,13 @@ fn hears_eight(
     several: Several,
 ) -> bool {
     let keeper = MemKeeper::new(alloc, Seq::new(alloc));
-    let ended = play_words(alloc, words, source, sink, keeper, several);
-    let left = ended.listeners.as_slice();
-    ended.status.is_done() && left.len() == 1 && left.iter().all(|one| heard_to(one, 8))
+    let lent = Lent {
+        keeper,
+        listeners: several,
+    };
+    let called = play_words(alloc, words, source, sink, lent);
+    let left = called.lent.listeners.as_slice();
+    called.status.is_done() && left.len() == 1 && left.iter().all(|one| heard_to(one, 8))
 }
 
 /// Whether of a recorder and one limited to three entries, which hear a run of eight, the recorder alone comes back, and has

@@ -5,11 +5,11 @@ use crate::gate::Turnstile;
 use crate::words::words_of;
 use crate::world::{empty_keeper, sink_of, source_of};
 use hib_base::Act;
-use hib_call::Status;
+use hib_call::{Called, Lent, Status};
 use hib_journal::Journal;
 use hib_listeners::Recorder;
 use hib_outside::{Gate, Keeper, MemSink, MemSource};
-use hib_top::{Ended, play_words, top};
+use hib_top::{AnyRun, play_words, top};
 use std::alloc::{AllocError, Global};
 use std::sync::Wait;
 use std::thread::Threads;
@@ -99,22 +99,25 @@ fn has_no_form(
     source: &mut MemSource,
     sink: &mut MemSink,
 ) -> bool {
-    let listeners: Vec<Recorder> = Vec::new(alloc);
-    let ended = play_words(alloc, words, source, sink, empty_keeper(alloc), listeners);
-    is_usage(&ended.status)
+    let lent = Lent {
+        keeper: empty_keeper(alloc),
+        listeners: Vec::<Recorder>::new(alloc),
+    };
+    is_usage(&play_words(alloc, words, source, sink, lent).status)
 }
 
-/// What came of a run with one listener.
-fn came_of<K>(ended: &Ended<K, Recorder>) -> Came {
-    let entries = ended.journal.len();
+/// What came of a run with one listener; of a call that ran no script, nothing.
+fn came_of<K>(called: &Called<AnyRun, K, Recorder>) -> Came {
+    let (entries, ends) = match &called.run {
+        Some(AnyRun::Played(run)) => (run.journal.len(), ends_in(&run.journal)),
+        _ => (0, 0),
+    };
+    let listeners = &called.lent.listeners;
     Came {
-        is_done: ended.status.is_done(),
+        is_done: called.status.is_done(),
         entries,
-        ends: ends_in(&ended.journal),
-        is_heard: ended
-            .listeners
-            .iter()
-            .all(|one| one.entries.len() == entries),
+        ends,
+        is_heard: listeners.iter().all(|one| one.entries.len() == entries),
     }
 }
 
@@ -145,8 +148,8 @@ fn listened<R: Threads + Wait + Sync, K: Keeper + Drop, G: Gate>(
     gate: &G,
 ) -> Result<Came, AllocError> {
     let listeners = recorder(alloc)?;
-    let ended = top(rt, alloc, words, source, sink, keeper, gate, listeners);
-    Ok(came_of(&ended))
+    let lent = Lent { keeper, listeners };
+    Ok(came_of(&top(rt, alloc, words, source, sink, lent, gate)))
 }
 
 /// Runs a script by these words over a keeper.

@@ -9,7 +9,7 @@ use Rattle.hib_lex.proofs.Texts.{from_place}
 use Rattle.hib_script.specs.Outline.{Outline, outline_of}
 use Rattle.hib_journal_json.specs.Entries.{AreLines}
 use Rattle.hib_journal_json.proofs.Journals.{same_length, none_bad}
-use Rattle.hib_input.specs.declared.faults.InputFault.{InputFault}
+use Rattle.hib_script.specs.declared.errors.ScriptError.{ScriptError}
 use Rattle.hib_input.specs.declared.with_journal.WithJournal.{WithJournal}
 use Rattle.hib_input.specs.Cut.{TextLines, script_of_lines}
 use Rattle.hib_input.specs.WithJournal.{cut_off, IsBadCut, IsWholeInput}
@@ -34,7 +34,7 @@ rest_few text n k =
     let part : length (take n (drop k text)) ≤ length text = simp (length-take, length-drop) (omega arith) in
     omega (arith, few, part)
 
-pub few_entries : (r : Result WithJournal InputFault) (ls : TextLines) (n : ℕ) → IfOk r (λ i. AreLines i.script ls i.journal.list) → length ls ≤ n → IfOk r (λ i. length i.journal.list ≤ n)
+pub few_entries : (r : Result WithJournal ScriptError) (ls : TextLines) (n : ℕ) → IfOk r (λ i. AreLines i.script ls i.journal.list) → length ls ≤ n → IfOk r (λ i. length i.journal.list ≤ n)
 few_entries (Err f) ls n a h = tt
 few_entries (Ok i) ls n a h = subst (λ m. m ≤ n) (same_length i.script ls i.journal.list a) h
 
@@ -57,18 +57,18 @@ right b (Some p) = p.1
 first_part : {A B : Type 0} (a c : A) (b d : B) → ◌≡◌ {A = Option (A × B)} (Some (a, b)) (Some (c, d)) → (a ≡ c) × (b ≡ d)
 first_part a c b d e = (ap (left a) e, ap (right b) e)
 
-not_bad : (before behind : TextLines) (said : Outline) (f : InputFault) → script_of_lines before ≡ Ok said → ((script : Script) → outline_of script ≡ said → (es : List Entry) × AreLines script behind es) →
-    IsBadCut before behind f → f ≡ InputFault.NoMemory
-not_bad before behind said InputFault.NoMemory is lines bad = refl
-not_bad before behind said (InputFault.Refused r) is lines (inl e) = absurd (other said r (sym is ∙ e))
-not_bad before behind said (InputFault.Refused r) is lines (inr bad) =
+not_bad : (before behind : TextLines) (said : Outline) (f : ScriptError) → script_of_lines before ≡ Ok said → ((script : Script) → outline_of script ≡ said → (es : List Entry) × AreLines script behind es) →
+    IsBadCut before behind f → f ≡ ScriptError.NoMemory
+not_bad before behind said ScriptError.NoMemory is lines bad = refl
+not_bad before behind said (ScriptError.Refused r) is lines (inl e) = absurd (other said r (sym is ∙ e))
+not_bad before behind said (ScriptError.Refused r) is lines (inr bad) =
     let same : outline_of bad.0 ≡ said = said_one (outline_of bad.0) said (sym bad.1.0 ∙ is) in
     let read : (es : List Entry) × AreLines bad.0 behind es = lines bad.0 same in
     absurd (none_bad bad.0 behind read.0 bad.1.1.0 read.1 bad.1.1.1.0)
 
 -- the rest of a text, as code takes it
-pub whole_read : (text : List ℕ) (b k : ℕ) (r : Result WithJournal InputFault) → IfErr r (IsBadCut (lines_of (take b text)) (lines_of (take (length text - k) (drop k text)))) →
-    cut_off text ≡ Some (lines_of (take b text), lines_of (drop k text)) → IsWholeInput text → IfErr r (λ f. f ≡ InputFault.NoMemory)
+pub whole_read : (text : List ℕ) (b k : ℕ) (r : Result WithJournal ScriptError) → IfErr r (IsBadCut (lines_of (take b text)) (lines_of (take (length text - k) (drop k text)))) →
+    cut_off text ≡ Some (lines_of (take b text), lines_of (drop k text)) → IsWholeInput text → IfErr r (λ f. f ≡ ScriptError.NoMemory)
 whole_read text b k (Ok i) bad here w = tt
 whole_read text b k (Err f) bad here w =
     let same : (w.before ≡ lines_of (take b text)) × (w.behind ≡ lines_of (drop k text)) = first_part w.before _ w.behind _ (sym w.cut ∙ here) in

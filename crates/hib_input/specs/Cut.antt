@@ -6,7 +6,7 @@ use Rattle.hib_lex.specs.Lines.{lexing}
 use Rattle.hib_lex.specs.declared.lines.Lines.{Lines}
 use Rattle.hib_script.specs.Outline.{Outline}
 use Rattle.hib_script.specs.Script.{script_in}
-use Rattle.hib_input.specs.declared.faults.InputFault.{InputFault}
+use Rattle.hib_script.specs.declared.errors.ScriptError.{ScriptError}
 
 abbrev pub TextLines : Type 0
 TextLines = List (List ℕ)
@@ -37,6 +37,6 @@ unmarked kind n (Err r) = r
 unmarked kind n (Ok said) = record { line = n; kind = kind }
 
 -- an error says this, or that memory ran out
-abbrev pub IsFault : Refused → InputFault → Type 0
-IsFault r InputFault.NoMemory = Unit {0}
-IsFault r (InputFault.Refused x) = x ≡ r
+abbrev pub IsFault : Refused → ScriptError → Type 0
+IsFault r ScriptError.NoMemory = Unit {0}
+IsFault r (ScriptError.Refused x) = x ≡ r

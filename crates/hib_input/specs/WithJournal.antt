@@ -8,7 +8,7 @@ use Rattle.hib_script.specs.Outline.{Outline, outline_of}
 use Rattle.hib_journal_json.specs.Entries.{AreLines, IsRefused}
 use Rattle.hib_journal_json.specs.declared.faults.JournalFault.{JournalFault}
 use Rattle.hib_input.specs.Cut.{TextLines, cut, script_of_lines, unmarked}
-use Rattle.hib_input.specs.declared.faults.InputFault.{InputFault}
+use Rattle.hib_script.specs.declared.errors.ScriptError.{ScriptError}
 
 -- where the script ends
 abbrev pub cut_off : List ℕ → Option (TextLines × TextLines)
@@ -32,18 +32,18 @@ IsCutBad ls (Some c) r =
 abbrev pub IsBadInput : List ℕ → Refused → Type 0
 IsBadInput text r = IsCutBad (lines_of text) (cut_off text) r
 
-abbrev pub IsRefusedBehind : Script → TextLines → ℕ → InputFault → Type 0
-IsRefusedBehind script behind first InputFault.NoMemory = Unit {0}
-IsRefusedBehind script behind first (InputFault.Refused r) = IsRefused script behind first (JournalFault.Refused r)
+abbrev pub IsRefusedBehind : Script → TextLines → ℕ → ScriptError → Type 0
+IsRefusedBehind script behind first ScriptError.NoMemory = Unit {0}
+IsRefusedBehind script behind first (ScriptError.Refused r) = IsRefused script behind first (JournalFault.Refused r)
 
-abbrev pub IsBadCut : TextLines → TextLines → InputFault → Type 0
-IsBadCut before behind InputFault.NoMemory = Unit {0}
-IsBadCut before behind (InputFault.Refused r) = IsCutBad [] (Some (before, behind)) r
+abbrev pub IsBadCut : TextLines → TextLines → ScriptError → Type 0
+IsBadCut before behind ScriptError.NoMemory = Unit {0}
+IsBadCut before behind (ScriptError.Refused r) = IsCutBad [] (Some (before, behind)) r
 
 -- want of memory says nothing
-abbrev pub IsWhere : List ℕ → InputFault → Type 0
-IsWhere text InputFault.NoMemory = Unit {0}
-IsWhere text (InputFault.Refused r) = IsBadInput text r
+abbrev pub IsWhere : List ℕ → ScriptError → Type 0
+IsWhere text ScriptError.NoMemory = Unit {0}
+IsWhere text (ScriptError.Refused r) = IsBadInput text r
 
 -- the lines after the script are entries', whatever script it is that says this
 pub record IsWholeInput (text : List ℕ) : Type 0 where

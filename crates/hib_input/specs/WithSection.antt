@@ -7,7 +7,6 @@ use Rattle.hib_lex.specs.declared.lines.Lines.{Lines}
 use Rattle.hib_script.specs.Outline.{Outline}
 use Rattle.hib_script.specs.Script.{script_in}
 use Rattle.hib_input.specs.Cut.{TextLines, cut, lexed, script_of_lines, unmarked}
-use Rattle.hib_input.specs.declared.faults.InputFault.{InputFault}
 
 -- the lines of the script and the script that they are, and the lines of the section. Lines have their numbers in the whole text,
 -- and those of the section are counted with all before them
@@ -39,8 +38,3 @@ section_in ls (Some c) = sectioned c.0 c.1
 -- what a text says with the section that begins after this word; or its first bad line
 abbrev pub section_of : List ℕ → List ℕ → Result Sectioned Refused
 section_of word text = section_in (lines_of text) (cut word (lines_of text))
-
--- want of memory says nothing
-abbrev pub IsWhere : {A : Type 0} → Result A Refused → InputFault → Type 0
-IsWhere r InputFault.NoMemory = Unit {0}
-IsWhere r (InputFault.Refused x) = r ≡ Err x

@@ -2,11 +2,9 @@
 #![tactic(auto)]
 
 mod cutting;
-mod faults;
 mod unmarked;
 mod with_journal;
 mod with_section;
 
-pub use faults::InputFault;
 pub use with_journal::{WithJournal, read_with_journal};
 pub use with_section::{WithSection, read_with_section};

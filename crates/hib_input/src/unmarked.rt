@@ -3,25 +3,23 @@ ghost use Rattle.std.specs.Prelude.{◌≡◌, ◌<◌, ◌≤◌, ◌+◌, ◌^
 ghost use Rattle.hib_lex.specs.Lines.{lines_of};
 ghost use Rattle.hib_input.specs.Cut.{IsFault, script_of_lines, unmarked};
 
-use crate::faults::InputFault;
 use hib_base::{Kind, Refused};
 use hib_script::ScriptError;
 use std::alloc::Global;
 
 /// Why a text of so many lines is refused in which the line after the script is missing: its first bad line as a script, or else
 /// this kind at the number of lines.
-pub fn without_mark(alloc: Global, text: &[u8], lines: usize, kind: Kind) -> InputFault
+pub fn without_mark(alloc: Global, text: &[u8], lines: usize, kind: Kind) -> ScriptError
     requires small { length text.now < 2 ^ 31 }
     requires few { lines ≤ length text.now + 1 }
     requires count { lines ≡ length (lines_of text.now) }
     ensures { IsFault (unmarked kind lines (script_of_lines (lines_of text.now))) result }
 {
     match hib_script::read(alloc, text) {
-        Ok(_) => InputFault::Refused(Refused {
+        Ok(_) => ScriptError::Refused(Refused {
             line: lines as u32,
             kind,
         }),
-        Err(ScriptError::Refused(refused)) => InputFault::Refused(refused),
-        Err(ScriptError::NoMemory) => InputFault::NoMemory,
+        Err(error) => error,
     }
 }

@@ -6,10 +6,9 @@ ghost use Rattle.hib_script.specs.Outline.{outline_of};
 ghost use Rattle.hib_journal_json.specs.Entries.{AreLines};
 ghost use Rattle.hib_input.specs.Cut.{script_of_lines};
 ghost use Rattle.hib_input.specs.WithJournal.{IsInput, IsWholeInput, IsWhere, IsRefusedBehind, IsBadCut};
-ghost use Rattle.hib_input.specs.declared.faults.InputFault.TheVariants as faults;
+ghost use Rattle.hib_script.specs.declared.errors.ScriptError.TheVariants as faults;
 
 use crate::cutting::{Cut, cut_of};
-use crate::faults::InputFault;
 use crate::unmarked::without_mark;
 use hib_base::{Kind, Script};
 use hib_journal::Journal;
@@ -32,7 +31,7 @@ fn read_behind(
     script: Script,
     behind: &[u8],
     first: u32,
-) -> Result<WithJournal, InputFault>
+) -> Result<WithJournal, ScriptError>
     requires { is_valid script ≡ true }
     ensures script { IfOk result (λ i. i.script ≡ script) }
     ensures lines { IfOk result (λ i. AreLines script (lines_of behind.now) i.journal.list) }
@@ -40,8 +39,8 @@ fn read_behind(
 {
     match hib_journal_json::read(alloc, &script, behind, first) {
         Ok(journal) => Ok(WithJournal { script, journal }),
-        Err(JournalFault::Refused(refused)) => Err(InputFault::Refused(refused)),
-        Err(JournalFault::NoMemory) => Err(InputFault::NoMemory),
+        Err(JournalFault::Refused(refused)) => Err(ScriptError::Refused(refused)),
+        Err(JournalFault::NoMemory) => Err(ScriptError::NoMemory),
     }
 }
 
@@ -51,7 +50,7 @@ fn read_cut(
     before: &[u8],
     behind: &[u8],
     lines: usize,
-) -> Result<WithJournal, InputFault>
+) -> Result<WithJournal, ScriptError>
     requires small { length before.now < 2 ^ 31 }
     requires few { lines ≤ length before.now + 1 }
     requires count { lines ≡ length (lines_of before.now) }
@@ -61,11 +60,8 @@ fn read_cut(
     ensures valid { IfOk result (λ i. is_valid i.script ≡ true) }
     ensures refused { IfErr result (IsBadCut (lines_of before.now) (lines_of behind.now)) }
 {
-    match hib_script::read(alloc, before) {
-        Ok(script) => read_behind(alloc, script, behind, lines as u32 + 2),
-        Err(ScriptError::Refused(refused)) => Err(InputFault::Refused(refused)),
-        Err(ScriptError::NoMemory) => Err(InputFault::NoMemory),
-    }
+    let script = hib_script::read(alloc, before)?;
+    read_behind(alloc, script, behind, lines as u32 + 2)
 }
 
 /// The script and the journal of a text: the lines before the first line that is exactly `journal` are the script, those after
@@ -73,7 +69,7 @@ fn read_cut(
 ///
 /// Errors: `Refused` exactly if the text has not this form, with its first bad line by the rules of a script, and else the
 /// first line after it that is no entry's; `NoMemory` if there is none left.
-pub fn read_with_journal(alloc: Global, text: &[u8]) -> Result<WithJournal, InputFault>
+pub fn read_with_journal(alloc: Global, text: &[u8]) -> Result<WithJournal, ScriptError>
     requires { length text.now < 2 ^ 31 }
     ensures input { IfOk result (λ i. IsInput text.now i.script i.journal.list) }
     ensures valid { IfOk result (λ i. is_valid i.script ≡ true) }

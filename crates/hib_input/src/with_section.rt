@@ -3,10 +3,10 @@ ghost use Rattle.std.specs.Prelude.{◌≡◌, ◌<◌, ◌≤◌, ◌+◌, ◌^
 ghost use Rattle.hib_base.specs.Valid.{is_valid};
 ghost use Rattle.hib_lex.specs.Lines.{lex_after, lines_of};
 ghost use Rattle.hib_script.specs.Outline.{outline_of};
-ghost use Rattle.hib_input.specs.WithSection.{IsWhere, section_of, sectioned};
+ghost use Rattle.hib_script.specs.Script.{IsWhere};
+ghost use Rattle.hib_input.specs.WithSection.{section_of, sectioned};
 
 use crate::cutting::{Cut, cut_of};
-use crate::faults::InputFault;
 use crate::unmarked::without_mark;
 use hib_base::{Kind, Script};
 use hib_lex::{LexError, Lines, lex_after};
@@ -25,15 +25,15 @@ pub struct WithSection {
 }
 
 /// The lines of a text before which so many others stand.
-fn lexed(alloc: Global, before: u32, text: &[u8]) -> Result<Lines, InputFault>
+fn lexed(alloc: Global, before: u32, text: &[u8]) -> Result<Lines, ScriptError>
     requires { before + length text.now < 2 ^ 31 }
     ensures lines { IfOk result (λ l. lex_after before text.now ≡ Ok l) }
     ensures refused { IfErr result (IsWhere (lex_after before text.now)) }
 {
     match lex_after(alloc, before, text) {
         Ok(lines) => Ok(lines),
-        Err(LexError::Refused(refused)) => Err(InputFault::Refused(refused)),
-        Err(LexError::NoMemory) => Err(InputFault::NoMemory),
+        Err(LexError::Refused(refused)) => Err(ScriptError::Refused(refused)),
+        Err(LexError::NoMemory) => Err(ScriptError::NoMemory),
     }
 }
 
@@ -43,7 +43,7 @@ fn read_cut(
     before: &[u8],
     behind: &[u8],
     lines: usize,
-) -> Result<WithSection, InputFault>
+) -> Result<WithSection, ScriptError>
     requires small { length before.now + length behind.now + 1 < 2 ^ 31 }
     requires few { lines ≤ length before.now }
     requires count { lines ≡ length (lines_of before.now) }
@@ -54,15 +54,12 @@ fn read_cut(
 {
     let before = lexed(alloc, 0, before)?;
     let behind = lexed(alloc, lines as u32 + 1, behind)?;
-    match read_lines(alloc, &before) {
-        Ok(script) => Ok(WithSection {
-            before,
-            script,
-            behind,
-        }),
-        Err(ScriptError::Refused(refused)) => Err(InputFault::Refused(refused)),
-        Err(ScriptError::NoMemory) => Err(InputFault::NoMemory),
-    }
+    let script = read_lines(alloc, &before)?;
+    Ok(WithSection {
+        before,
+        script,
+        behind,
+    })
 }
 
 /// The script and the section of a text: the lines before the first line that is exactly this word are the script, those after it the
@@ -70,7 +67,11 @@ fn read_cut(
 ///
 /// Errors: `Refused` exactly if the text has not this form. The first line is named with which bytes, length or tokens are wrong; else
 /// the script's first bad line; else `Section` at the number of lines, if no line is the word. `NoMemory` if there is none left.
-pub fn read_with_section(alloc: Global, text: &[u8], word: &[u8]) -> Result<WithSection, InputFault>
+pub fn read_with_section(
+    alloc: Global,
+    text: &[u8],
+    word: &[u8],
+) -> Result<WithSection, ScriptError>
     requires { length text.now + 1 < 2 ^ 31 }
     ensures section { IfOk result (λ s. section_of word.now text.now
         ≡ Ok (record { before = s.before; script = outline_of s.script; behind = s.behind })) }

@@ -35,7 +35,7 @@ use Rattle.hib_sections.specs.Bulks.{Read, AreFit, after, after_at, after_lines,
 use Rattle.hib_sections.specs.Sections.{alone, at_line, unless_before}
 use Rattle.hib_sections.specs.declared.bulk_lines.Changing.{Changing}
 use Rattle.hib_sections.specs.declared.bulks.Place.{Place}
-use Rattle.hib_sections.specs.declared.errors.SectionError.{SectionError}
+use Rattle.hib_script.specs.declared.errors.ScriptError.{ScriptError}
 use Rattle.hib_sections.proofs.Locked.{locked}
 use Rattle.hib_sections.proofs.Within.{both}
 
@@ -203,7 +203,7 @@ are_fit m sessions before behind ds os e =
       strategies = locked m before g.1;
     }
 
-pub are_fit_if : (m : List EntityDef) (sessions : List SessionDef) (before : List Line) (behind : Lines) (x : Result Bulks SectionError) → IfOk x (λ b. bulks_of m sessions before behind ≡ Ok (map said_of b.lines, b.orders)) →
+pub are_fit_if : (m : List EntityDef) (sessions : List SessionDef) (before : List Line) (behind : Lines) (x : Result Bulks ScriptError) → IfOk x (λ b. bulks_of m sessions before behind ≡ Ok (map said_of b.lines, b.orders)) →
     IfOk x (λ b. AreFit m b.lines)
 are_fit_if m sessions before behind (Err x) e = tt
 are_fit_if m sessions before behind (Ok b) e = are_fit m sessions before behind b.lines b.orders e

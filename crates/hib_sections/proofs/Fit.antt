@@ -16,7 +16,7 @@ use Rattle.hib_collections_law.specs.declared.entries.Def.{Def}
 use Rattle.hib_sections.specs.Collections.{has_column, has_name, is_versioned, reference, at_column, if_known, declared_by, is_form, declared_in, place_of, named, if_placed, collection_of, with_collection, with_line, declaring, unless_other, collections_of, AreFit}
 use Rattle.hib_sections.specs.Schedules.{other_order}
 use Rattle.hib_sections.specs.declared.collections.Place.{Place}
-use Rattle.hib_sections.specs.declared.errors.SectionError.{SectionError}
+use Rattle.hib_script.specs.declared.errors.ScriptError.{ScriptError}
 
 -- ---- one collection
 pub record IsFit (m : List EntityDef) (ds : List Def) (e : ℕ) : Type 0 where
@@ -97,7 +97,7 @@ unless_fit : (m : List EntityDef) (o : Option ℕ) (r : Result (List Def) Refuse
 unless_fit m (Some n) r g = tt
 unless_fit m None r g = g
 
-pub are_fit : (m : List EntityDef) (before behind : List Line) (x : Result (List Def) SectionError) → IfOk x (λ ds. collections_of m before behind ≡ Ok ds) → IfOk x (AreFit m)
+pub are_fit : (m : List EntityDef) (before behind : List Line) (x : Result (List Def) ScriptError) → IfOk x (λ ds. collections_of m before behind ≡ Ok ds) → IfOk x (AreFit m)
 are_fit m before behind (Err e) h = tt
 are_fit m before behind (Ok ds) h =
     given (collections_of m before behind) (AreFit m) ds

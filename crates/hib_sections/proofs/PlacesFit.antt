@@ -26,7 +26,7 @@ use Rattle.hib_sections.specs.Places.{Read, AreFit, after, after_at, after_place
 use Rattle.hib_sections.specs.Placed.{are_once, is_placed}
 use Rattle.hib_sections.specs.Sections.{actor, alone, at_line, names, unless_before}
 use Rattle.hib_sections.specs.declared.bulks.Place.{Place}
-use Rattle.hib_sections.specs.declared.errors.SectionError.{SectionError}
+use Rattle.hib_script.specs.declared.errors.ScriptError.{ScriptError}
 use Rattle.hib_sections.proofs.Locked.{locked}
 
 -- ---- one place
@@ -234,7 +234,7 @@ are_fit m sessions before behind ps os e =
       strategies = locked m before g.1;
     }
 
-pub are_fit_if : (m : List EntityDef) (sessions : List SessionDef) (before : List Line) (behind : Lines) (x : Result Places SectionError) → IfOk x (λ p. places_of m sessions before behind ≡ Ok (p.nodes, p.orders)) →
+pub are_fit_if : (m : List EntityDef) (sessions : List SessionDef) (before : List Line) (behind : Lines) (x : Result Places ScriptError) → IfOk x (λ p. places_of m sessions before behind ≡ Ok (p.nodes, p.orders)) →
     IfOk x (λ p. AreFit m sessions p.nodes p.orders)
 are_fit_if m sessions before behind (Err x) e = tt
 are_fit_if m sessions before behind (Ok p) e = are_fit m sessions before behind p.nodes p.orders e

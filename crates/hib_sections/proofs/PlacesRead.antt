@@ -5,10 +5,10 @@ use Rattle.hib_base.specs.declared.refusals.Refused.{Refused}
 use Rattle.hib_base.specs.declared.scripts.EntityDef.{EntityDef}
 use Rattle.hib_base.specs.declared.scripts.SessionDef.{SessionDef}
 use Rattle.hib_lex.specs.declared.lines.Line.{Line}
-use Rattle.hib_sections.specs.Collections.{IsWhere}
+use Rattle.hib_script.specs.Script.{IsWhere}
 use Rattle.hib_sections.specs.Places.{Read, after, reading}
 use Rattle.hib_sections.specs.Sections.{at_line}
-use Rattle.hib_sections.specs.declared.errors.SectionError.{SectionError}
+use Rattle.hib_script.specs.declared.errors.ScriptError.{ScriptError}
 
 pub reading_next : (m : List EntityDef) (ss : List SessionDef) (r : Read) (ls : List Line) (i : ℕ) (l : Line) → i < length ls →
     reading m ss (Ok r) (drop i ls) ≡ reading m ss (at_line (get_or ls i l).line (after m ss r (get_or ls i l).tokens)) (drop (i + 1) ls)
@@ -18,7 +18,7 @@ pub reading_done : (m : List EntityDef) (ss : List SessionDef) (r : Read) (ls : 
 reading_done m ss r ls i h = rw (drop_all i ls h) refl
 
 -- why the line there is bad is why the lines are
-pub where_on : (m : List EntityDef) (ss : List SessionDef) (r : Read) (ls : List Line) (i : ℕ) (l : Line) (whole : Result Read Refused) (x : SectionError) →
+pub where_on : (m : List EntityDef) (ss : List SessionDef) (r : Read) (ls : List Line) (i : ℕ) (l : Line) (whole : Result Read Refused) (x : ScriptError) →
     reading m ss (Ok r) (drop i ls) ≡ whole → i < length ls → IsWhere (at_line (get_or ls i l).line (after m ss r (get_or ls i l).tokens)) x → IsWhere whole x
-where_on m ss r ls i l whole SectionError.NoMemory e h w = tt
-where_on m ss r ls i l whole (SectionError.Refused x) e h w = sym e ∙ rw (reading_next m ss r ls i l h, w) refl
+where_on m ss r ls i l whole ScriptError.NoMemory e h w = tt
+where_on m ss r ls i l whole (ScriptError.Refused x) e h w = sym e ∙ rw (reading_next m ss r ls i l h, w) refl

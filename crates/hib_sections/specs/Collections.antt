@@ -17,7 +17,6 @@ use Rattle.hib_collections_law.specs.Types.{max_collections}
 use Rattle.hib_sections.specs.Schedules.{other_order}
 use Rattle.hib_sections.specs.declared.collections.Place.{Place}
 use Rattle.hib_sections.specs.declared.errors.LineError.{LineError}
-use Rattle.hib_sections.specs.declared.errors.SectionError.{SectionError}
 
 -- ---- a line
 abbrev pub has_name : List ℕ → List Def → Bool
@@ -108,11 +107,6 @@ unless_other None r = r
 -- the collections of a section after the lines of a script; or the first bad line of both
 abbrev pub collections_of : List EntityDef → List Line → List Line → Result (List Def) Refused
 collections_of m before behind = unless_other (other_order before) (declaring m (Ok []) behind)
-
--- what an error says; want of memory says nothing
-abbrev pub IsWhere : {A : Type 0} → Result A Refused → SectionError → Type 0
-IsWhere r SectionError.NoMemory = Unit {0}
-IsWhere r (SectionError.Refused x) = r ≡ Err x
 
 -- they aren't more than the limit, each of an entity whose rows have versions
 pub record AreFit (m : List EntityDef) (ds : List Def) : Type 0 where

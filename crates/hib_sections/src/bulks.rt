@@ -3,16 +3,18 @@ ghost use Rattle.std.specs.Prelude.{◌≡◌, ◌≤◌, Ok, IfOk, IfErr, OnOk,
 ghost use Rattle.hib_sections.specs.BulkLines.{said_of};
 ghost use Rattle.hib_sections.specs.Bulks as section;
 ghost use Rattle.hib_sections.specs.Bulks.{AreFit, read_of};
-ghost use Rattle.hib_sections.specs.Collections.{IsFault, IsWhere};
+ghost use Rattle.hib_script.specs.Script.{IsWhere};
+ghost use Rattle.hib_sections.specs.Collections.{IsFault};
 ghost use Rattle.hib_sections.specs.Sections.{alone, at_line};
 
 use crate::before::fault_before;
 use crate::bulk_lines::bulk_line;
-use crate::errors::{LineError, SectionError};
+use crate::errors::LineError;
 use crate::named::{actor, names};
 use hib_base::{Kind, Mapping, Order, Orders, Refused, Seq, Sessions};
 use hib_bulk_law::{BulkDefs, Bulks};
 use hib_lex::{Line, Lines, Token, begins};
+use hib_script::ScriptError;
 use hib_statements::{NamedSessions, order};
 use std::alloc::{AllocError, Global};
 
@@ -175,7 +177,7 @@ fn take_at(
     mapping: &Mapping,
     reading: &mut Reading,
     line: &Line,
-) -> Result<(), SectionError>
+) -> Result<(), ScriptError>
     ensures line { OnOk result (at_line line.now.line
         (section.after mapping.now (read_of reading.old) line.now.tokens)
         ≡ Ok (read_of reading.new)) }
@@ -184,11 +186,11 @@ fn take_at(
 {
     match take(alloc, mapping, reading, line.tokens.as_slice()) {
         Ok(()) => Ok(()),
-        Err(LineError::Fault(kind)) => Err(SectionError::Refused(Refused {
+        Err(LineError::Fault(kind)) => Err(ScriptError::Refused(Refused {
             line: line.line,
             kind,
         })),
-        Err(LineError::NoMemory) => Err(SectionError::NoMemory),
+        Err(LineError::NoMemory) => Err(ScriptError::NoMemory),
     }
 }
 
@@ -199,7 +201,7 @@ fn read(
     mapping: &Mapping,
     sessions: &Sessions,
     lines: &[Line],
-) -> Result<Reading, SectionError>
+) -> Result<Reading, ScriptError>
     ensures read { IfOk result (λ r. section.reading mapping.now (Ok (section.start sessions.now))
         lines.now ≡ Ok (read_of r)) }
     ensures refused { IfErr result (IsWhere
@@ -213,14 +215,14 @@ fn read(
 }
 
 /// What was read, if the text may end there, which has `count` lines.
-fn ended(count: u32, reading: Reading) -> Result<Bulks, SectionError>
+fn ended(count: u32, reading: Reading) -> Result<Bulks, ScriptError>
     ensures bulks { IfOk result (λ b. section.ended_at count (read_of reading) reading.place
         ≡ Ok (map said_of b.lines, b.orders)) }
     ensures refused { IfErr result
         (IsWhere (section.ended_at count (read_of reading) reading.place)) }
 {
     match reading.place {
-        Place::Schedule => Err(SectionError::Refused(Refused {
+        Place::Schedule => Err(ScriptError::Refused(Refused {
             line: count,
             kind: Kind::NoEnd,
         })),
@@ -246,7 +248,7 @@ pub fn read_bulks(
     sessions: &Sessions,
     before: &[Line],
     behind: &Lines,
-) -> Result<Bulks, SectionError>
+) -> Result<Bulks, ScriptError>
     ensures bulks { IfOk result (λ b. section.bulks_of mapping.now sessions.now before.now behind.now
         ≡ Ok (map said_of b.lines, b.orders)) }
     ensures fit { IfOk result (λ b. AreFit mapping.now b.lines) }
@@ -263,14 +265,14 @@ fn bulks_said(
     sessions: &Sessions,
     before: &[Line],
     behind: &Lines,
-) -> Result<Bulks, SectionError>
+) -> Result<Bulks, ScriptError>
     ensures bulks { IfOk result (λ b. section.bulks_of mapping.now sessions.now before.now behind.now
         ≡ Ok (map said_of b.lines, b.orders)) }
     ensures refused { IfErr result
         (IsWhere (section.bulks_of mapping.now sessions.now before.now behind.now)) }
 {
     if let Some(refused) = fault_before(mapping.as_slice(), before) {
-        return Err(SectionError::Refused(refused));
+        return Err(ScriptError::Refused(refused));
     }
     let reading = read(alloc, mapping, sessions, behind.lines.as_slice())?;
     ended(behind.count, reading)

@@ -1,8 +1,9 @@
 // The section lines of collections.
 ghost use Rattle.std.specs.Prelude.{◌≡◌, ◌∷◌, ◌++◌, [], IfOk, IfErr, OnOk, OnErr, Ok};
+ghost use Rattle.hib_script.specs.Script.{IsWhere};
 ghost use Rattle.hib_sections.specs.Collections as lines;
 
-use crate::errors::{LineError, SectionError};
+use crate::errors::LineError;
 use crate::schedules::other_order;
 use hib_base::{ColumnType, EntityDef, EntityNo, Kind, Mapping, Refused, Seq};
 use hib_collections_law::{Def, Defs};
@@ -11,6 +12,7 @@ use hib_lex::{Line, Token, begins};
 use hib_mapping::{
     entity_number, is_number, is_reserved, is_within, is_word, number_up_to, word, word_bytes,
 };
+use hib_script::ScriptError;
 use std::alloc::Global;
 
 /// The most owners for which a collection has room.
@@ -200,18 +202,18 @@ fn take_line(
     mapping: &[EntityDef],
     defs: &mut Defs,
     line: &Line,
-) -> Result<(), SectionError>
+) -> Result<(), ScriptError>
     ensures line { OnOk result (lines.with_line mapping.now defs.old line.now ≡ Ok defs.new) }
     ensures refused { IfErr result
-        (lines.IsWhere (lines.with_line mapping.now defs.old line.now)) }
+        (IsWhere (lines.with_line mapping.now defs.old line.now)) }
 {
     match collection(alloc, mapping, defs.as_slice(), line.tokens.as_slice()) {
         Ok(def) => Ok(defs.push(def)?),
-        Err(LineError::Fault(kind)) => Err(SectionError::Refused(Refused {
+        Err(LineError::Fault(kind)) => Err(ScriptError::Refused(Refused {
             line: line.line,
             kind,
         })),
-        Err(LineError::NoMemory) => Err(SectionError::NoMemory),
+        Err(LineError::NoMemory) => Err(ScriptError::NoMemory),
     }
 }
 
@@ -227,12 +229,12 @@ pub fn read_collections(
     mapping: &Mapping,
     before: &[Line],
     behind: &[Line],
-) -> Result<Defs, SectionError>
+) -> Result<Defs, ScriptError>
     ensures defs { IfOk result (λ ds. lines.collections_of mapping.now before.now behind.now
         ≡ Ok ds) }
     ensures fit { IfOk result (lines.AreFit mapping.now) }
     ensures refused { IfErr result
-        (lines.IsWhere (lines.collections_of mapping.now before.now behind.now)) }
+        (IsWhere (lines.collections_of mapping.now before.now behind.now)) }
 {
     collections_said(alloc, mapping, before, behind)
 }
@@ -243,14 +245,14 @@ fn collections_said(
     mapping: &Mapping,
     before: &[Line],
     behind: &[Line],
-) -> Result<Defs, SectionError>
+) -> Result<Defs, ScriptError>
     ensures defs { IfOk result (λ ds. lines.collections_of mapping.now before.now behind.now
         ≡ Ok ds) }
     ensures refused { IfErr result
-        (lines.IsWhere (lines.collections_of mapping.now before.now behind.now)) }
+        (IsWhere (lines.collections_of mapping.now before.now behind.now)) }
 {
     if let Some(line) = other_order(before) {
-        return Err(SectionError::Refused(Refused {
+        return Err(ScriptError::Refused(Refused {
             line,
             kind: Kind::Order,
         }));
@@ -260,10 +262,10 @@ fn collections_said(
 
 /// The collections of these lines.
 #[tactic(auto, using(crate::proofs::Declared::declaring_next, crate::proofs::Declared::declaring_done, crate::proofs::Declared::where_on))]
-fn declared(alloc: Global, mapping: &[EntityDef], section: &[Line]) -> Result<Defs, SectionError>
+fn declared(alloc: Global, mapping: &[EntityDef], section: &[Line]) -> Result<Defs, ScriptError>
     ensures defs { IfOk result (λ ds. lines.declaring mapping.now (Ok []) section.now ≡ Ok ds) }
     ensures refused { IfErr result
-        (lines.IsWhere (lines.declaring mapping.now (Ok []) section.now)) }
+        (IsWhere (lines.declaring mapping.now (Ok []) section.now)) }
 {
     let mut defs = Seq::new(alloc);
     for line in section {

@@ -1,7 +1,7 @@
-// Why a section isn't read.
+// Why a line is none of a section.
 ghost use Rattle.std.specs.Prelude.{◌≡◌};
 
-use hib_base::{Kind, Refused};
+use hib_base::Kind;
 use std::alloc::AllocError;
 use thiserror::Error;
 
@@ -23,26 +23,5 @@ impl From<AllocError> for LineError {
 
     fn from(_: AllocError) -> Self {
         LineError::NoMemory
-    }
-}
-
-/// Why lines are no section.
-#[derive(Clone, Copy, Debug, PartialEq, Eq, Error)]
-pub enum SectionError {
-    /// There is no memory left.
-    #[error("no memory")]
-    NoMemory,
-    /// A line can't stand at its place.
-    #[error("line {line} is refused", line = .0.line)]
-    Refused(Refused),
-}
-
-impl From<AllocError> for SectionError {
-    ghost use Rattle.hib_sections.specs.declared.errors.SectionError.TheVariants as faults;
-
-    ghost from_gives = { λ _ e. e ≡ faults.NoMemory };
-
-    fn from(_: AllocError) -> Self {
-        SectionError::NoMemory
     }
 }

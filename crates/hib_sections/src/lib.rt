@@ -13,5 +13,5 @@ mod schedules;
 
 pub use bulks::read_bulks;
 pub use collections::read_collections;
-pub use errors::SectionError;
+pub use errors::ScriptError;
 pub use places::read_nodes;

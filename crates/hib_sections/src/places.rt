@@ -2,18 +2,20 @@
 ghost use Rattle.std.specs.Prelude.{◌≡◌, Ok, IfOk, IfErr, OnOk};
 ghost use Rattle.hib_sections.specs.Places as section;
 ghost use Rattle.hib_sections.specs.Places.{AreFit, read_of};
-ghost use Rattle.hib_sections.specs.Collections.{IsFault, IsWhere};
+ghost use Rattle.hib_script.specs.Script.{IsWhere};
+ghost use Rattle.hib_sections.specs.Collections.{IsFault};
 ghost use Rattle.hib_sections.specs.Sections.{alone, at_line, names as names_of};
 
 use crate::before::fault_before;
 use crate::bulks::Place;
-use crate::errors::{LineError, SectionError};
+use crate::errors::LineError;
 use crate::named::{names, session};
 use crate::placed::Placed;
 use hib_base::{Kind, Mapping, Order, Refused, Seq, SessionNo, Sessions};
 use hib_lex::{Line, Lines, Token, begins};
 use hib_mapping::{is_number, is_within, is_word, word_bytes};
 use hib_nodes_law::{NodeOrder, NodeOrders, Places};
+use hib_script::ScriptError;
 use hib_statements::{NamedSessions, order};
 use std::alloc::Global;
 
@@ -222,7 +224,7 @@ fn take_at(
     named: &NamedSessions,
     reading: &mut Reading,
     line: &Line,
-) -> Result<(), SectionError>
+) -> Result<(), ScriptError>
     ensures line { OnOk result (at_line line.now.line
         (section.after mapping.now named.now (read_of reading.old) line.now.tokens)
         ≡ Ok (read_of reading.new)) }
@@ -231,11 +233,11 @@ fn take_at(
 {
     match take(mapping, named, reading, line.tokens.as_slice()) {
         Ok(()) => Ok(()),
-        Err(LineError::Fault(kind)) => Err(SectionError::Refused(Refused {
+        Err(LineError::Fault(kind)) => Err(ScriptError::Refused(Refused {
             line: line.line,
             kind,
         })),
-        Err(LineError::NoMemory) => Err(SectionError::NoMemory),
+        Err(LineError::NoMemory) => Err(ScriptError::NoMemory),
     }
 }
 
@@ -246,7 +248,7 @@ fn read(
     mapping: &Mapping,
     named: &NamedSessions,
     lines: &[Line],
-) -> Result<Reading, SectionError>
+) -> Result<Reading, ScriptError>
     ensures read { IfOk result (λ r. section.reading mapping.now named.now (Ok section.start)
         lines.now ≡ Ok (read_of r)) }
     ensures refused { IfErr result (IsWhere
@@ -260,14 +262,14 @@ fn read(
 }
 
 /// What was read, if the text may end there, which has `count` lines.
-fn ended(count: u32, reading: Reading) -> Result<Places, SectionError>
+fn ended(count: u32, reading: Reading) -> Result<Places, ScriptError>
     ensures places { IfOk result (λ p. section.ended_at count (read_of reading) reading.place
         ≡ Ok (p.nodes, p.orders)) }
     ensures refused { IfErr result
         (IsWhere (section.ended_at count (read_of reading) reading.place)) }
 {
     match reading.place {
-        Place::Schedule => Err(SectionError::Refused(Refused {
+        Place::Schedule => Err(ScriptError::Refused(Refused {
             line: count,
             kind: Kind::NoEnd,
         })),
@@ -293,7 +295,7 @@ pub fn read_nodes(
     sessions: &Sessions,
     before: &[Line],
     behind: &Lines,
-) -> Result<Places, SectionError>
+) -> Result<Places, ScriptError>
     ensures places { IfOk result (λ p. section.places_of mapping.now sessions.now before.now behind.now
         ≡ Ok (p.nodes, p.orders)) }
     ensures fit { IfOk result (λ p. AreFit mapping.now sessions.now p.nodes p.orders) }
@@ -310,14 +312,14 @@ fn places_said(
     sessions: &Sessions,
     before: &[Line],
     behind: &Lines,
-) -> Result<Places, SectionError>
+) -> Result<Places, ScriptError>
     ensures places { IfOk result (λ p. section.places_of mapping.now sessions.now before.now behind.now
         ≡ Ok (p.nodes, p.orders)) }
     ensures refused { IfErr result
         (IsWhere (section.places_of mapping.now sessions.now before.now behind.now)) }
 {
     if let Some(refused) = fault_before(mapping.as_slice(), before) {
-        return Err(SectionError::Refused(refused));
+        return Err(ScriptError::Refused(refused));
     }
     let named = names(alloc, sessions)?;
     let reading = read(alloc, mapping, &named, behind.lines.as_slice())?;

@@ -1,11 +1,10 @@
 -- What a call of the top call leaves of a keeper, whatever its streams are.
 use Rattle.std.specs.Prelude.{◌≡◌, ℕ, Option}
 use Rattle.hib_base.specs.Tables.{Tables}
-use Rattle.hib_journal.specs.Kept.{Kept}
 use Rattle.hib_words.specs.Commands.{Asked}
 use Rattle.hib_call.specs.declared.status.Status.{Status}
 use Rattle.hib_call.specs.Outside.{Outside}
-use Rattle.hib_top.specs.declared.ended.Side.{Side}
+use Rattle.hib_top.specs.declared.any_run.AnyRun.{AnyRun}
 use Rattle.hib_top.specs.Call.{Promised}
 
 -- what a keeper tells of itself
@@ -21,8 +20,7 @@ told_of o = record { tables = o.shared.tables; faults = o.shared.faults; asked =
 pub record IsTopCall (asked : Option Asked) (before after : Told) (answer : Status) : Type 0 where
   pub old : Outside
   pub new : Outside
-  pub journal : Kept
-  pub side : Side
-  pub promised : Promised asked old new answer journal side
+  pub handed : Option AnyRun
+  pub promised : Promised asked old new answer handed
   pub keeper : told_of old ≡ before
   pub left : told_of new ≡ after

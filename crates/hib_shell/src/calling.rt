@@ -7,7 +7,7 @@ ghost use Rattle.hib_shell.specs.Called.{IsTopCall};
 ghost use Rattle.hib_words.specs.Commands.{asked_of};
 ghost use Rattle.hib_words.specs.Topics.{is_traced};
 
-use hib_call::Status;
+use hib_call::{Lent, Status};
 use hib_listeners::Trace;
 use hib_outside::{Keeper, OpenGate, StdSink, StdSource};
 use hib_top::top;
@@ -62,15 +62,15 @@ pub fn call<R: Threads + Wait + Sync, K: Keeper>(
     };
     let mut source = StdSource::new(host.reader());
     let mut sink = StdSink::new(io::writer(host));
-    let ended = top(
+    let lent = Lent { keeper, listeners };
+    let called = top(
         rt,
         host.alloc(),
         words,
         &mut source,
         &mut sink,
-        keeper,
+        lent,
         &OpenGate,
-        listeners,
     );
-    (ended.status, ended.keeper)
+    (called.status, called.lent.keeper)
 }

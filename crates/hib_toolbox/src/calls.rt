@@ -2,7 +2,7 @@
 ghost use Rattle.std.specs.Prelude.{◌≡◌, ◌≤◌, ℕ, None, Some, length, true};
 ghost use Rattle.hib_base.specs.Valid.{is_valid};
 ghost use Rattle.hib_call.specs.Limits.{max_journal};
-ghost use Rattle.hib_call.specs.Outside.{outside, shared_by};
+ghost use Rattle.hib_call.specs.Outside.{outside_of};
 ghost use Rattle.hib_toolbox.specs.Call.{DoesTool};
 ghost use Rattle.hib_toolbox.specs.Exploring.{IsSaid, IsSaidOf, finding_numbered};
 ghost use Rattle.hib_toolbox.specs.Repeating.{IsSaidOfRepeat};
@@ -104,11 +104,8 @@ pub fn write_report<S: Source, W: Sink, K: Keeper, L: Listener>(
     lent: Lent<K, L>,
 ) -> Ended<K, L>
     ensures { DoesTool Tool.Report
-        (outside (S.left source.old) (S.faults source.old) (W.taken out.old) (W.faults out.old)
-        (shared_by K.tables K.faults K.asked L.heard L.left lent.keeper lent.listeners.items))
-        (outside (S.left source.new) (S.faults source.new) (W.taken out.new) (W.faults out.new)
-        (shared_by K.tables K.faults K.asked L.heard L.left result.lent.keeper
-        result.lent.listeners.items))
+        (outside_of S.Source W.Sink K.Keeper L.Listener source.old out.old lent)
+        (outside_of S.Source W.Sink K.Keeper L.Listener source.new out.new result.lent)
         result.status result.said }
 {
     let called = call(alloc, &Report, source, out, lent, |input, lent| {
@@ -126,11 +123,8 @@ pub fn write_flat<S: Source, W: Sink, K: Keeper, L: Listener>(
     lent: Lent<K, L>,
 ) -> Ended<K, L>
     ensures { DoesTool (Tool.Flat csv)
-        (outside (S.left source.old) (S.faults source.old) (W.taken out.old) (W.faults out.old)
-        (shared_by K.tables K.faults K.asked L.heard L.left lent.keeper lent.listeners.items))
-        (outside (S.left source.new) (S.faults source.new) (W.taken out.new) (W.faults out.new)
-        (shared_by K.tables K.faults K.asked L.heard L.left result.lent.keeper
-        result.lent.listeners.items))
+        (outside_of S.Source W.Sink K.Keeper L.Listener source.old out.old lent)
+        (outside_of S.Source W.Sink K.Keeper L.Listener source.new out.new result.lent)
         result.status result.said }
 {
     let called = call(alloc, &Flat { csv }, source, out, lent, |input, lent| {
@@ -148,11 +142,8 @@ pub fn write_spans<S: Source, W: Sink, K: Keeper, L: Listener>(
     lent: Lent<K, L>,
 ) -> Ended<K, L>
     ensures { DoesTool (Tool.Spans jaeger)
-        (outside (S.left source.old) (S.faults source.old) (W.taken out.old) (W.faults out.old)
-        (shared_by K.tables K.faults K.asked L.heard L.left lent.keeper lent.listeners.items))
-        (outside (S.left source.new) (S.faults source.new) (W.taken out.new) (W.faults out.new)
-        (shared_by K.tables K.faults K.asked L.heard L.left result.lent.keeper
-        result.lent.listeners.items))
+        (outside_of S.Source W.Sink K.Keeper L.Listener source.old out.old lent)
+        (outside_of S.Source W.Sink K.Keeper L.Listener source.new out.new result.lent)
         result.status result.said }
 {
     let called = call(alloc, &Trace { jaeger }, source, out, lent, |input, lent| {
@@ -169,11 +160,8 @@ pub fn write_states<S: Source, W: Sink, K: Keeper, L: Listener>(
     lent: Lent<K, L>,
 ) -> Ended<K, L>
     ensures { DoesTool Tool.States
-        (outside (S.left source.old) (S.faults source.old) (W.taken out.old) (W.faults out.old)
-        (shared_by K.tables K.faults K.asked L.heard L.left lent.keeper lent.listeners.items))
-        (outside (S.left source.new) (S.faults source.new) (W.taken out.new) (W.faults out.new)
-        (shared_by K.tables K.faults K.asked L.heard L.left result.lent.keeper
-        result.lent.listeners.items))
+        (outside_of S.Source W.Sink K.Keeper L.Listener source.old out.old lent)
+        (outside_of S.Source W.Sink K.Keeper L.Listener source.new out.new result.lent)
         result.status result.said }
 {
     let called = call(
@@ -198,11 +186,8 @@ pub fn write_rows<S: Source, W: Sink, K: Keeper, L: Listener>(
     lent: Lent<K, L>,
 ) -> Ended<K, L>
     ensures { DoesTool Tool.Rows
-        (outside (S.left source.old) (S.faults source.old) (W.taken out.old) (W.faults out.old)
-        (shared_by K.tables K.faults K.asked L.heard L.left lent.keeper lent.listeners.items))
-        (outside (S.left source.new) (S.faults source.new) (W.taken out.new) (W.faults out.new)
-        (shared_by K.tables K.faults K.asked L.heard L.left result.lent.keeper
-        result.lent.listeners.items))
+        (outside_of S.Source W.Sink K.Keeper L.Listener source.old out.old lent)
+        (outside_of S.Source W.Sink K.Keeper L.Listener source.new out.new result.lent)
         result.status result.said }
 {
     let called = call(alloc, &Rows, source, out, lent, |script, lent| {
@@ -221,11 +206,8 @@ pub fn try_orders<S: Source, W: Sink, K: Keeper, L: Listener, H: Watcher + Drop>
     watcher: H,
 ) -> Ended<K, L>
     ensures { DoesTool (Tool.Orders orders.switches orders.kills orders.at_most None)
-        (outside (S.left source.old) (S.faults source.old) (W.taken out.old) (W.faults out.old)
-        (shared_by K.tables K.faults K.asked L.heard L.left lent.keeper lent.listeners.items))
-        (outside (S.left source.new) (S.faults source.new) (W.taken out.new) (W.faults out.new)
-        (shared_by K.tables K.faults K.asked L.heard L.left result.lent.keeper
-        result.lent.listeners.items))
+        (outside_of S.Source W.Sink K.Keeper L.Listener source.old out.old lent)
+        (outside_of S.Source W.Sink K.Keeper L.Listener source.new out.new result.lent)
         result.status result.said }
 {
     let Called { status, lent, run } = call(
@@ -256,11 +238,8 @@ pub fn show_finding<S: Source, W: Sink, K: Keeper, L: Listener, H: Watcher + Dro
 ) -> Ended<K, L>
     ensures { (number : ℕ) → finding_numbered number ≡ show.finding
         → DoesTool (Tool.Orders show.orders.switches show.orders.kills show.orders.at_most (Some number))
-        (outside (S.left source.old) (S.faults source.old) (W.taken out.old) (W.faults out.old)
-        (shared_by K.tables K.faults K.asked L.heard L.left lent.keeper lent.listeners.items))
-        (outside (S.left source.new) (S.faults source.new) (W.taken out.new) (W.faults out.new)
-        (shared_by K.tables K.faults K.asked L.heard L.left result.lent.keeper
-        result.lent.listeners.items))
+        (outside_of S.Source W.Sink K.Keeper L.Listener source.old out.old lent)
+        (outside_of S.Source W.Sink K.Keeper L.Listener source.new out.new result.lent)
         result.status result.said }
 {
     let Called { status, lent, run } = call(
@@ -288,11 +267,8 @@ pub fn repeat_journal<S: Source, W: Sink, K: Keeper, L: Listener>(
     lent: Lent<K, L>,
 ) -> Ended<K, L>
     ensures { DoesTool Tool.Schedule
-        (outside (S.left source.old) (S.faults source.old) (W.taken out.old) (W.faults out.old)
-        (shared_by K.tables K.faults K.asked L.heard L.left lent.keeper lent.listeners.items))
-        (outside (S.left source.new) (S.faults source.new) (W.taken out.new) (W.faults out.new)
-        (shared_by K.tables K.faults K.asked L.heard L.left result.lent.keeper
-        result.lent.listeners.items))
+        (outside_of S.Source W.Sink K.Keeper L.Listener source.old out.old lent)
+        (outside_of S.Source W.Sink K.Keeper L.Listener source.new out.new result.lent)
         result.status result.said }
 {
     let Called { status, lent, run } = call(alloc, &Repeat, source, out, lent, |input, lent| {

@@ -5,11 +5,11 @@ ghost use Rattle.hib_flat.specs.Lines.{flat, flat_csv};
 ghost use Rattle.hib_outside.specs.Causes.{Rose};
 ghost use Rattle.hib_toolbox.specs.Reporting.{IsToldSo};
 
-use crate::report::read_input;
-use hib_call::{InputFault, JOURNAL_BYTES, Status, Task};
-use hib_input::WithJournal;
+use hib_call::{JOURNAL_BYTES, Status, Task};
+use hib_input::{WithJournal, read_with_journal};
 use hib_outside::Sink;
 use hib_report::WriteStop;
+use hib_script::ScriptError;
 use std::alloc::Global;
 
 /// Writes a journal as flat objects.
@@ -64,8 +64,8 @@ impl Task for Flat {
         JOURNAL_BYTES
     }
 
-    fn read(&self, alloc: Global, text: &[u8]) -> Result<WithJournal, InputFault> {
-        read_input(alloc, text)
+    fn read(&self, alloc: Global, text: &[u8]) -> Result<WithJournal, ScriptError> {
+        read_with_journal(alloc, text)
     }
 
     fn tell<W: Sink>(&self, alloc: Global, run: &WithJournal, out: &mut W) -> Status {

@@ -1,15 +1,12 @@
 // The orders of a script's sessions, tried and told.
-ghost use Rattle.std.specs.Prelude.{◌≡◌, ◌≤◌, Err, IfErr, IfOk, Ok, length, true};
+ghost use Rattle.std.specs.Prelude.{◌≡◌, true};
 ghost use Rattle.hib_base.specs.Valid.{is_valid};
-ghost use Rattle.hib_call.specs.Ends.{Comes, IsWhere};
-ghost use Rattle.hib_call.specs.Limits.{max_script};
-ghost use Rattle.hib_call.specs.Outside.{Shared, shared_by};
-ghost use Rattle.hib_script.specs.Outline.{Outline, outline_of};
-ghost use Rattle.hib_script.specs.Script.{script_of};
+ghost use Rattle.hib_call.specs.Ends.{Comes};
+ghost use Rattle.hib_call.specs.Outside.{Shared, shared_of};
 ghost use Rattle.hib_toolbox.specs.Exploring.{exploring, is_any, is_there, limit_of};
 
 use hib_base::Script;
-use hib_call::{InputFault, Lent, Outcome, Ran, SCRIPT_BYTES, Status, Task, tell_text};
+use hib_call::{Lent, Outcome, Ran, SCRIPT_BYTES, Status, Task, tell_text};
 use hib_law::rows_cohere;
 use hib_order_schedule::{schedules_play_orders, shown_runs_come_again};
 use hib_order_stage::{Searched, Watcher, search_orders};
@@ -109,29 +106,10 @@ pub fn explore<K: Keeper, L: Listener, W: Watcher + Drop>(
 ) -> Ran<Explored, K, L>
     requires { is_valid script ≡ true }
     ensures { Comes (exploring orders.switches orders.kills orders.at_most) script
-        (shared_by K.tables K.faults K.asked L.heard L.left lent.keeper lent.listeners.items)
-        (shared_by K.tables K.faults K.asked L.heard L.left result.lent.keeper
-        result.lent.listeners.items)
-        result.outcome }
+        (shared_of K.Keeper L.Listener lent) (shared_of K.Keeper L.Listener result.lent) result.outcome }
 {
     let outcome = tried(alloc, orders, script, watcher);
     Ran { outcome, lent }
-}
-
-/// Reads a script.
-pub fn read_script(alloc: Global, text: &[u8]) -> Result<Script, InputFault>
-    requires { length text.now ≤ max_script }
-    ensures script { IfOk result (λ script. script_of text.now ≡ Ok (outline_of script)) }
-    ensures valid { IfOk result (λ script. is_valid script ≡ true) }
-    ensures refused { IfErr result (IsWhere (λ refused. script_of text.now ≡ Err refused)) }
-    ensures whole { (said : Outline) → script_of text.now ≡ Ok said
-        → IfErr result (λ fault. fault ≡ InputFault.NoMemory) }
-{
-    match hib_script::read(alloc, text) {
-        Ok(script) => Ok(script),
-        Err(ScriptError::Refused(refused)) => Err(InputFault::Refused(refused)),
-        Err(ScriptError::NoMemory) => Err(InputFault::NoMemory),
-    }
 }
 
 impl Task for Orders {
@@ -151,8 +129,8 @@ impl Task for Orders {
         SCRIPT_BYTES
     }
 
-    fn read(&self, alloc: Global, text: &[u8]) -> Result<Script, InputFault> {
-        read_script(alloc, text)
+    fn read(&self, alloc: Global, text: &[u8]) -> Result<Script, ScriptError> {
+        hib_script::read(alloc, text)
     }
 
     fn tell<W: Sink>(&self, alloc: Global, run: &Explored, out: &mut W) -> Status {

@@ -1,20 +1,20 @@
 // The script whose schedule repeats a journal.
 ghost use Rattle.std.specs.Prelude.{◌≡◌, IfOk, position};
 ghost use Rattle.hib_call.specs.Ends.{Comes};
-ghost use Rattle.hib_call.specs.Outside.{Shared, shared_by};
+ghost use Rattle.hib_call.specs.Outside.{Shared, shared_of};
 ghost use Rattle.hib_order_law.specs.Orders.{steps_in};
 ghost use Rattle.hib_order_schedule.specs.Schedules.{runs_of};
 ghost use Rattle.hib_toolbox.specs.Repeating.{IsScheduled, is_foreign, repeating};
 
-use crate::report::read_input;
 use hib_base::{Act, Entry, Order, Script, Seq};
-use hib_call::{InputFault, JOURNAL_BYTES, Lent, Outcome, Ran, Status, Task, tell_text};
-use hib_input::WithJournal;
+use hib_call::{JOURNAL_BYTES, Lent, Outcome, Ran, Status, Task, tell_text};
+use hib_input::{WithJournal, read_with_journal};
 use hib_order_plays::order_of;
 use hib_order_schedule::{
     may_have_schedule, runs_of, schedules_play_orders, whole_runs_come_again, with_schedule,
 };
 use hib_outside::{Keeper, Listener, Sink};
+use hib_script::ScriptError;
 use std::alloc::{AllocError, Global};
 
 /// Whether a schedule repeats a journal.
@@ -107,10 +107,7 @@ pub fn repeat_run<K: Keeper, L: Listener>(
     lent: Lent<K, L>,
 ) -> Ran<Repeated, K, L>
     ensures { Comes repeating input
-        (shared_by K.tables K.faults K.asked L.heard L.left lent.keeper lent.listeners.items)
-        (shared_by K.tables K.faults K.asked L.heard L.left result.lent.keeper
-        result.lent.listeners.items)
-        result.outcome }
+        (shared_of K.Keeper L.Listener lent) (shared_of K.Keeper L.Listener result.lent) result.outcome }
 {
     let outcome = make_schedule(alloc, input);
     Ran { outcome, lent }
@@ -137,8 +134,8 @@ impl Task for Repeat {
         JOURNAL_BYTES
     }
 
-    fn read(&self, alloc: Global, text: &[u8]) -> Result<WithJournal, InputFault> {
-        read_input(alloc, text)
+    fn read(&self, alloc: Global, text: &[u8]) -> Result<WithJournal, ScriptError> {
+        read_with_journal(alloc, text)
     }
 
     fn tell<W: Sink>(&self, alloc: Global, run: &Repeated, out: &mut W) -> Status {

@@ -4,13 +4,13 @@ ghost use Rattle.std.specs.List.{range_with_len};
 ghost use Rattle.hib_outside.specs.Causes.{FailsByCause};
 ghost use Rattle.hib_outside.specs.Keeps.{rows_of};
 ghost use Rattle.hib_call.specs.Ends.{Comes};
-ghost use Rattle.hib_call.specs.Outside.{shared_by};
+ghost use Rattle.hib_call.specs.Outside.{shared_of};
 ghost use Rattle.hib_toolbox.specs.Listing.{listing};
 
-use crate::orders::read_script;
 use hib_base::{EntityNo, Rows as AllRows, Script};
-use hib_call::{InputFault, Lent, Outcome, Ran, SCRIPT_BYTES, Status, Task, tell_text};
+use hib_call::{Lent, Outcome, Ran, SCRIPT_BYTES, Status, Task, tell_text};
 use hib_outside::{KeepFault, Keeper, Listener, Sink};
+use hib_script::ScriptError;
 use std::alloc::{AllocError, Global};
 
 /// So many entities, from the first.
@@ -55,10 +55,7 @@ pub fn list_rows<K: Keeper, L: Listener>(
     lent: Lent<K, L>,
 ) -> Ran<Script, K, L>
     ensures { Comes listing script
-        (shared_by K.tables K.faults K.asked L.heard L.left lent.keeper lent.listeners.items)
-        (shared_by K.tables K.faults K.asked L.heard L.left result.lent.keeper
-        result.lent.listeners.items)
-        result.outcome }
+        (shared_of K.Keeper L.Listener lent) (shared_of K.Keeper L.Listener result.lent) result.outcome }
 {
     let Lent { keeper, listeners } = lent;
     let mut keeper = keeper;
@@ -93,8 +90,8 @@ impl Task for Rows {
         SCRIPT_BYTES
     }
 
-    fn read(&self, alloc: Global, text: &[u8]) -> Result<Script, InputFault> {
-        read_script(alloc, text)
+    fn read(&self, alloc: Global, text: &[u8]) -> Result<Script, ScriptError> {
+        hib_script::read(alloc, text)
     }
 
     fn tell<W: Sink>(&self, alloc: Global, run: &Script, out: &mut W) -> Status {

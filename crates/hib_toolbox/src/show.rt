@@ -3,18 +3,19 @@ ghost use Rattle.std.specs.Prelude.{◌≡◌, IfOk, true};
 ghost use Rattle.hib_base.specs.Valid.{is_valid};
 ghost use Rattle.hib_call.specs.Ends.{Comes};
 ghost use Rattle.hib_base.specs.declared.scripts.Script.{Script};
-ghost use Rattle.hib_call.specs.Outside.{Shared, shared_by};
+ghost use Rattle.hib_call.specs.Outside.{Shared, shared_of};
 ghost use Rattle.hib_order_tries.specs.declared.found.First.{First};
 ghost use Rattle.hib_toolbox.specs.Exploring.{exploring, finding_numbered, script_shown, showing};
 
-use crate::orders::{Explored, Orders, is_there, read_script, tried};
+use crate::orders::{Explored, Orders, is_there, tried};
 use hib_base::{Script, Seq};
-use hib_call::{InputFault, Lent, Outcome, Ran, SCRIPT_BYTES, Status, Task, tell_text};
+use hib_call::{Lent, Outcome, Ran, SCRIPT_BYTES, Status, Task, tell_text};
 use hib_order_schedule::{schedule_of, with_schedule};
 use hib_order_stage::Watcher;
 use hib_order_text::{Finding, found_of};
 use hib_order_tries::First;
 use hib_outside::{Keeper, Listener, Sink};
+use hib_script::ScriptError;
 use std::alloc::{AllocError, Global};
 
 /// The finding of a number, 1 to 5.
@@ -82,10 +83,7 @@ pub fn explore_for<K: Keeper, L: Listener, W: Watcher + Drop>(
 ) -> Ran<Explored, K, L>
     requires { is_valid script ≡ true }
     ensures { Comes (showing show.orders.switches show.orders.kills show.orders.at_most show.finding) script
-        (shared_by K.tables K.faults K.asked L.heard L.left lent.keeper lent.listeners.items)
-        (shared_by K.tables K.faults K.asked L.heard L.left result.lent.keeper
-        result.lent.listeners.items)
-        result.outcome }
+        (shared_of K.Keeper L.Listener lent) (shared_of K.Keeper L.Listener result.lent) result.outcome }
 {
     let outcome = tried(alloc, show.orders, script, watcher);
     let outcome = with_finding(alloc, show, outcome);
@@ -109,8 +107,8 @@ impl Task for Show {
         SCRIPT_BYTES
     }
 
-    fn read(&self, alloc: Global, text: &[u8]) -> Result<Script, InputFault> {
-        read_script(alloc, text)
+    fn read(&self, alloc: Global, text: &[u8]) -> Result<Script, ScriptError> {
+        hib_script::read(alloc, text)
     }
 
     fn tell<W: Sink>(&self, alloc: Global, run: &Explored, out: &mut W) -> Status {

@@ -1,8 +1,8 @@
 // A journal as a trace.
-use crate::report::read_input;
-use hib_call::{InputFault, JOURNAL_BYTES, Status, Task, tell_text};
-use hib_input::WithJournal;
+use hib_call::{JOURNAL_BYTES, Status, Task, tell_text};
+use hib_input::{WithJournal, read_with_journal};
 use hib_outside::Sink;
+use hib_script::ScriptError;
 use std::alloc::Global;
 
 /// Reads a script, the line `journal` and a journal as JSON lines, and writes the journal as a trace. Nothing is run or judged.
@@ -28,8 +28,8 @@ impl Task for Trace {
         JOURNAL_BYTES
     }
 
-    fn read(&self, alloc: Global, text: &[u8]) -> Result<WithJournal, InputFault> {
-        read_input(alloc, text)
+    fn read(&self, alloc: Global, text: &[u8]) -> Result<WithJournal, ScriptError> {
+        read_with_journal(alloc, text)
     }
 
     fn tell<W: Sink>(&self, alloc: Global, run: &WithJournal, out: &mut W) -> Status {

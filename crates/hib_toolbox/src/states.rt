@@ -4,17 +4,17 @@ ghost use Rattle.hib_audit.specs.Breaks.{start_rows};
 ghost use Rattle.hib_base.specs.Valid.{is_valid};
 ghost use Rattle.hib_call.specs.Ends.{Comes};
 ghost use Rattle.hib_call.specs.Limits.{max_journal};
-ghost use Rattle.hib_call.specs.Outside.{shared_by};
+ghost use Rattle.hib_call.specs.Outside.{shared_of};
 ghost use Rattle.hib_journal.specs.Kept.{past};
 ghost use Rattle.hib_toolbox.specs.Stating.{IsTold, stating};
 
-use crate::report::read_input;
 use hib_audit::{Audit, AuditKind, audit};
 use hib_base::Script;
-use hib_call::{InputFault, JOURNAL_BYTES, Lent, Outcome, Ran, Status, Task, tell_text};
-use hib_input::WithJournal;
+use hib_call::{JOURNAL_BYTES, Lent, Outcome, Ran, Status, Task, tell_text};
+use hib_input::{WithJournal, read_with_journal};
 use hib_journal::Journal;
 use hib_outside::{Keeper, Listener, Sink};
+use hib_script::ScriptError;
 use std::alloc::{AllocError, Global};
 
 /// What is told of a journal.
@@ -56,10 +56,7 @@ pub fn state_journal<K: Keeper, L: Listener>(
     requires valid { is_valid input.script ≡ true }
     requires few { length input.journal.list ≤ max_journal }
     ensures { Comes stating input
-        (shared_by K.tables K.faults K.asked L.heard L.left lent.keeper lent.listeners.items)
-        (shared_by K.tables K.faults K.asked L.heard L.left result.lent.keeper
-        result.lent.listeners.items)
-        result.outcome }
+        (shared_of K.Keeper L.Listener lent) (shared_of K.Keeper L.Listener result.lent) result.outcome }
 {
     let outcome = match states_of(alloc, &input.script, &input.journal) {
         Ok(states) => Outcome::Over(states),
@@ -92,8 +89,8 @@ impl Task for Stating {
         JOURNAL_BYTES
     }
 
-    fn read(&self, alloc: Global, text: &[u8]) -> Result<WithJournal, InputFault> {
-        read_input(alloc, text)
+    fn read(&self, alloc: Global, text: &[u8]) -> Result<WithJournal, ScriptError> {
+        read_with_journal(alloc, text)
     }
 
     fn tell<W: Sink>(&self, _alloc: Global, states: &States, out: &mut W) -> Status {

@@ -1,6 +1,6 @@
 // The call that the tools' program makes with its words.
 ghost use Rattle.std.specs.Prelude.{◌≡◌, ◌≢◌, map, string_bytes};
-ghost use Rattle.hib_call.specs.Outside.{outside, shared_by};
+ghost use Rattle.hib_call.specs.Outside.{outside_of};
 ghost use Rattle.hib_toolbox.specs.Call.{DoesTool, Promised};
 ghost use Rattle.hib_words.specs.Tools.{tool_command};
 
@@ -27,11 +27,8 @@ fn serve<S: Source, W: Sink, K: Keeper, L: Listener, H: Watcher + Drop>(
     watcher: H,
 ) -> Ended<K, L>
     ensures does { DoesTool tool
-        (outside (S.left source.old) (S.faults source.old) (W.taken out.old) (W.faults out.old)
-        (shared_by K.tables K.faults K.asked L.heard L.left lent.keeper lent.listeners.items))
-        (outside (S.left source.new) (S.faults source.new) (W.taken out.new) (W.faults out.new)
-        (shared_by K.tables K.faults K.asked L.heard L.left result.lent.keeper
-        result.lent.listeners.items))
+        (outside_of S.Source W.Sink K.Keeper L.Listener source.old out.old lent)
+        (outside_of S.Source W.Sink K.Keeper L.Listener source.new out.new result.lent)
         result.status result.said }
     ensures usage { result.status ≢ Status.Usage }
 {
@@ -91,11 +88,8 @@ pub fn tools<S: Source, W: Sink, K: Keeper, L: Listener, H: Watcher + Drop>(
     watcher: H,
 ) -> Ended<K, L>
     ensures { Promised (tool_command (map string_bytes words.now))
-        (outside (S.left source.old) (S.faults source.old) (W.taken out.old) (W.faults out.old)
-        (shared_by K.tables K.faults K.asked L.heard L.left lent.keeper lent.listeners.items))
-        (outside (S.left source.new) (S.faults source.new) (W.taken out.new) (W.faults out.new)
-        (shared_by K.tables K.faults K.asked L.heard L.left result.lent.keeper
-        result.lent.listeners.items))
+        (outside_of S.Source W.Sink K.Keeper L.Listener source.old out.old lent)
+        (outside_of S.Source W.Sink K.Keeper L.Listener source.new out.new result.lent)
         result.status result.said }
 {
     match read_tool(alloc, words) {

@@ -1,31 +1,33 @@
 -- The call of a command is what the words have the program do.
 use Rattle.std.proofs.Common.{◌≡◌, ◌≢◌, ◌+◌, ℕ, true, false, List, [], Option, Some, None, refl, sym, ◌∙◌, ap, subst, inl, inr}
+use Rattle.std.specs.Prelude.{◌↔◌, map, option_map, option_and_then, string_bytes}
+use Rattle.std.specs.declared.string.String.{String}
+use Rattle.std.specs.declared.alloc.Global.{Global}
 use Rattle.hib_outside.specs.Causes.{Rose}
-use Rattle.hib_journal.specs.Kept.{Kept, past}
+use Rattle.hib_outside.specs.declared.keeper.Keeper as keepers
+use Rattle.hib_outside.specs.declared.listener.Listener as listeners
+use Rattle.hib_outside.specs.declared.streams.Sink as sinks
+use Rattle.hib_outside.specs.declared.streams.Source as sources
+use Rattle.hib_call.proofs.Runs.{not_fault}
 use Rattle.hib_call.proofs.Taken.{reads_none}
+use Rattle.hib_call.specs.declared.lent.Lent.{Lent}
 use Rattle.hib_call.specs.declared.status.Status.{Status}
 use Rattle.hib_call.specs.Called.{IsCalled, ComesTo}
 use Rattle.hib_call.specs.Command as Calls
-use Rattle.hib_base.specs.Tables.{Tables}
-use Rattle.hib_journal.specs.Types.{Entry}
-use Rattle.hib_call.specs.Outside.{Outside, outside, shared_by}
-use Rattle.hib_top.specs.declared.telling.Played.{Played}
-use Rattle.hib_top.specs.declared.turns.Turns.{Turns}
-use Rattle.hib_top.specs.declared.ended.Side.{Side}
-use Rattle.hib_top.specs.Call.{DoesIf, HandsBack, IsDone, IsKept, Promised, unread}
-use Rattle.hib_top.specs.Auditing.{auditing}
-use Rattle.hib_top.specs.Bulking.{bulking}
-use Rattle.hib_top.specs.Collecting.{collecting}
-use Rattle.hib_top.specs.Making.{making, printing}
-use Rattle.hib_top.specs.Placing.{placing}
-use Rattle.hib_top.specs.Running.{running}
-use Rattle.hib_top.specs.Words.{asked_alone, asked_in, if_alone, is_alone, telling_of}
-use Rattle.hib_top.proofs.Ends.{not_fault}
+use Rattle.hib_call.specs.Limits.{max_piece}
+use Rattle.hib_call.specs.Outside.{Outside, outside_of}
+use Rattle.hib_section_calls.specs.Bulking.{bulking}
+use Rattle.hib_section_calls.specs.Collecting.{collecting}
+use Rattle.hib_section_calls.specs.Placing.{placing}
 use Rattle.hib_words.specs.Commands.{Asked, asked_of, command, play, work, make, audit, collect, bulk, nodes}
 use Rattle.hib_words.specs.declared.words.Command.{Command}
-use Rattle.std.specs.declared.string.String.{String}
-use Rattle.std.specs.declared.alloc.Global.{Global}
-use Rattle.std.specs.Prelude.{◌↔◌, map, option_map, option_and_then, string_bytes}
+use Rattle.hib_top.specs.declared.any_run.AnyRun.{AnyRun}
+use Rattle.hib_top.specs.declared.turns.Turns.{Turns}
+use Rattle.hib_top.specs.Call.{Does, DoesIf, Promised, unread}
+use Rattle.hib_top.specs.Auditing.{auditing}
+use Rattle.hib_top.specs.Making.{making, printing}
+use Rattle.hib_top.specs.Running.{running}
+use Rattle.hib_top.specs.Words.{asked_alone, asked_in, if_alone, is_alone, telling_of}
 
 -- ---- a call in which memory ran out before anything was done
 no_read_fault : Status.NoMemory ≡ Status.ReadFault → ⊥
@@ -44,33 +46,33 @@ short_call c o = record {
   write = λ e. absurd (no_write_fault e);
   store = λ e. absurd (not_fault e);
   long = λ e. absurd (not_long e);
-  few = reads_none (c.limit + 4096) o.left;
+  few = reads_none (c.limit + max_piece) o.left;
   complete = λ has read write. inl tt;
 }
 
-idle_by : (asked : Asked) (o : Outside) (journal : Kept) → past journal ≡ [] → IsDone asked o o Status.NoMemory journal Side.Nothing
-idle_by (play s) o journal e = ((None, e, short_call (running Turns.Scheduled (telling_of s.journal)) o), refl)
-idle_by (work n false s) o journal e = ((None, e, short_call (running (Turns.OnWorkers n) (telling_of s.journal)) o), refl)
-idle_by (work n true s) o journal e = ((None, e, short_call (running (Turns.OnParts n) (telling_of s.journal)) o), refl)
-idle_by (make n false) o journal e = ((None, e, short_call (making n) (unread o), record { left = refl; faults = refl }), refl)
-idle_by (make n true) o journal e = ((None, e, short_call (printing n) (unread o), record { left = refl; faults = refl }), refl)
-idle_by audit o journal e = ((None, e, short_call auditing o), refl)
-idle_by collect o journal e = (e, (None, refl, short_call collecting o))
-idle_by bulk o journal e = (e, (None, refl, short_call bulking o))
-idle_by nodes o journal e = (e, (None, refl, short_call placing o))
+idle_by : (asked : Asked) (o : Outside) → Does asked o o Status.NoMemory None
+idle_by (play s) o = (None, short_call (running Turns.Scheduled (telling_of s.journal)) o, refl)
+idle_by (work n false s) o = (None, short_call (running (Turns.OnWorkers n) (telling_of s.journal)) o, refl)
+idle_by (work n true s) o = (None, short_call (running (Turns.OnParts n) (telling_of s.journal)) o, refl)
+idle_by (make n false) o = ((None, short_call (making n) (unread o), refl), record { left = refl; faults = refl })
+idle_by (make n true) o = ((None, short_call (printing n) (unread o), refl), record { left = refl; faults = refl })
+idle_by audit o = (None, short_call auditing o, refl)
+idle_by collect o = (None, short_call collecting o, refl)
+idle_by bulk o = (None, short_call bulking o, refl)
+idle_by nodes o = (None, short_call placing o, refl)
 
-pub idle_if : (asked : Option Asked) (o : Outside) (journal : Kept) (side : Side) → past journal ≡ [] → side ≡ Side.Nothing → DoesIf asked o o Status.NoMemory journal side
+pub idle_if : (asked : Option Asked) (o : Outside) (handed : Option AnyRun) → handed ≡ None → DoesIf asked o o Status.NoMemory handed
 unfolding DoesIf
-idle_if None o journal side e n = (refl, e, n)
-idle_if (Some asked) o journal side e n = subst (λ (z : Side). IsDone asked o o Status.NoMemory journal z) (sym n) (idle_by asked o journal e)
+idle_if None o handed e = (refl, e)
+idle_if (Some asked) o handed e = subst (λ (z : Option AnyRun). Does asked o o Status.NoMemory z) (sym e) (idle_by asked o)
 
-pub none_does : (asked : Option Asked) (o : Outside) (answer : Status) (journal : Kept) (side : Side) → None ≡ asked → past journal ≡ [] → side ≡ Side.Nothing → DoesIf asked o o answer journal side
+pub none_does : (asked : Option Asked) (o : Outside) (answer : Status) (handed : Option AnyRun) → None ≡ asked → handed ≡ None → DoesIf asked o o answer handed
 unfolding DoesIf
-none_does asked o answer journal side w e n = subst (λ (z : Option Asked). DoesIf z o o answer journal side) w (refl, e, n)
+none_does asked o answer handed w e = subst (λ (z : Option Asked). DoesIf z o o answer handed) w (refl, e)
 
-pub some_does : (asked : Option Asked) (a : Asked) (old new : Outside) (answer : Status) (journal : Kept) (side : Side) → Some a ≡ asked → IsDone a old new answer journal side → DoesIf asked old new answer journal side
+pub some_does : (asked : Option Asked) (a : Asked) (old new : Outside) (answer : Status) (handed : Option AnyRun) → Some a ≡ asked → Does a old new answer handed → DoesIf asked old new answer handed
 unfolding DoesIf
-some_does asked a old new answer journal side e d = subst (λ (z : Option Asked). DoesIf z old new answer journal side) e d
+some_does asked a old new answer handed e d = subst (λ (z : Option Asked). DoesIf z old new answer handed) e d
 
 -- ---- words without a form are told from others
 usage_by : {I R : Type 0} (c : Calls.Command I R) (old new : Outside) (run : Option R) → ComesTo c old new Status.Usage run → ⊥
@@ -82,25 +84,17 @@ usage_by c old new (Some r) (inr s) = s.4
 pub not_usage : {I R : Type 0} (c : Calls.Command I R) (old new : Outside) (answer : Status) (run : Option R) → IsCalled c old new answer run → answer ≢ Status.Usage
 not_usage c old new answer run called e = usage_by c old new run (subst (λ (s : Status). ComesTo c old new s run) e called.came)
 
--- ---- the journal that is handed back
-pub kept_over : (n : ℕ) (answer : Status) (run : Option Played) (journal : Kept) → answer ≢ Status.NoMemory → HandsBack run journal → IsKept (Turns.OnParts n) answer run journal
-kept_over n Status.NoMemory run journal a k = absurd (a refl)
-kept_over n answer run journal a k = k
-
-pub none_kept : (n : ℕ) (answer : Status) (run : Option Played) (journal : Kept) → answer ≡ Status.NoMemory → past journal ≡ [] → IsKept (Turns.OnParts n) answer run journal
-none_kept n answer run journal a e = subst (λ (s : Status). IsKept (Turns.OnParts n) s run journal) (sym a) e
-
 -- ---- a store fault is answered only if one came
-pub store_by : (asked : Asked) (old new : Outside) (answer : Status) (journal : Kept) (side : Side) → IsDone asked old new answer journal side → answer ≡ Status.StoreFault → Rose old.shared.faults new.shared.faults
-store_by (play s) old new answer journal side d = d.0.2.store
-store_by (work n false s) old new answer journal side d = d.0.2.store
-store_by (work n true s) old new answer journal side d = d.0.2.store
-store_by (make n false) old new answer journal side d = d.0.2.store
-store_by (make n true) old new answer journal side d = d.0.2.store
-store_by audit old new answer journal side d = d.0.2.store
-store_by collect old new answer journal side d = d.1.2.store
-store_by bulk old new answer journal side d = d.1.2.store
-store_by nodes old new answer journal side d = d.1.2.store
+pub store_by : (asked : Asked) (old new : Outside) (answer : Status) (handed : Option AnyRun) → Does asked old new answer handed → answer ≡ Status.StoreFault → Rose old.shared.faults new.shared.faults
+store_by (play s) old new answer handed d = d.1.store
+store_by (work n false s) old new answer handed d = d.1.store
+store_by (work n true s) old new answer handed d = d.1.store
+store_by (make n false) old new answer handed d = d.0.1.store
+store_by (make n true) old new answer handed d = d.0.1.store
+store_by audit old new answer handed d = d.1.store
+store_by collect old new answer handed d = d.1.store
+store_by bulk old new answer handed d = d.1.store
+store_by nodes old new answer handed d = d.1.store
 
 not_usage_fault : Status.StoreFault ≡ Status.Usage → ⊥
 not_usage_fault e = cc
@@ -108,18 +102,18 @@ not_usage_fault e = cc
 not_short_fault : Status.StoreFault ≡ Status.NoMemory → ⊥
 not_short_fault e = cc
 
-pub store_if : (asked : Option Asked) (old new : Outside) (answer : Status) (journal : Kept) (side : Side) → Promised asked old new answer journal side → answer ≡ Status.StoreFault → Rose old.shared.faults new.shared.faults
+pub store_if : (asked : Option Asked) (old new : Outside) (answer : Status) (handed : Option AnyRun) → Promised asked old new answer handed → answer ≡ Status.StoreFault → Rose old.shared.faults new.shared.faults
 unfolding DoesIf
-store_if None old new answer journal side p e = absurd (not_usage_fault (sym e ∙ (p.usage (λ s. not_short_fault (sym e ∙ s))).1 refl))
-store_if (Some asked) old new answer journal side p e = store_by asked old new answer journal side p.does e
+store_if None old new answer handed p e = absurd (not_usage_fault (sym e ∙ (p.usage (λ s. not_short_fault (sym e ∙ s))).1 refl))
+store_if (Some asked) old new answer handed p e = store_by asked old new answer handed p.does e
 
 -- ---- and words without a form change no table
-none_by : (old new : Outside) (answer : Status) (journal : Kept) (side : Side) → DoesIf None old new answer journal side → new.shared.tables ≡ old.shared.tables
+none_by : (old new : Outside) (answer : Status) (handed : Option AnyRun) → DoesIf None old new answer handed → new.shared.tables ≡ old.shared.tables
 unfolding DoesIf
-none_by old new answer journal side d = ap (λ (o : Outside). o.shared.tables) d.0
+none_by old new answer handed d = ap (λ (o : Outside). o.shared.tables) d.0
 
-pub none_tables : (asked : Option Asked) (old new : Outside) (answer : Status) (journal : Kept) (side : Side) → Promised asked old new answer journal side → asked ≡ None → new.shared.tables ≡ old.shared.tables
-none_tables asked old new answer journal side p e = none_by old new answer journal side (subst (λ (w : Option Asked). DoesIf w old new answer journal side) e p.does)
+pub none_tables : (asked : Option Asked) (old new : Outside) (answer : Status) (handed : Option AnyRun) → Promised asked old new answer handed → asked ≡ None → new.shared.tables ≡ old.shared.tables
+none_tables asked old new answer handed p e = none_by old new answer handed (subst (λ (w : Option Asked). DoesIf w old new answer handed) e p.does)
 
 -- ---- what words ask for, by the command that they are
 pub asked_some : (words : List (String Global)) (o : Option Command) (c : Command) → o ≡ Some c → option_map asked_of o ≡ command (map string_bytes words) → Some (asked_of c) ≡ asked_in words
@@ -162,40 +156,37 @@ pub usage_short : (asked : Option Asked) (answer : Status) → answer ≡ Status
 usage_short asked answer e m = absurd (m e)
 
 -- ---- what is promised of a call, by what its words are
-pub promised_some : (words : List (String Global)) (o : Option Command) (c : Command) (old new : Outside) (answer : Status) (journal : Kept) (side : Side) → o ≡ Some c →
-    option_map asked_of o ≡ command (map string_bytes words) → IsDone (asked_of c) old new answer journal side → answer ≢ Status.Usage → Promised (asked_in words) old new answer journal side
-promised_some words o c old new answer journal side p e d u =
+pub promised_some : (words : List (String Global)) (o : Option Command) (c : Command) (old new : Outside) (answer : Status) (handed : Option AnyRun) → o ≡ Some c →
+    option_map asked_of o ≡ command (map string_bytes words) → Does (asked_of c) old new answer handed → answer ≢ Status.Usage → Promised (asked_in words) old new answer handed
+promised_some words o c old new answer handed p e d u =
     let said : Some (asked_of c) ≡ asked_in words = asked_some words o c p e in
     record {
-      does = some_does (asked_in words) (asked_of c) old new answer journal side said d;
+      does = some_does (asked_in words) (asked_of c) old new answer handed said d;
       usage = usage_some (asked_in words) (asked_of c) answer said u;
     }
 
-pub promised_none : (asked : Option Asked) (old new : Outside) (answer : Status) (journal : Kept) (side : Side) → None ≡ asked → new ≡ old → past journal ≡ [] → answer ≡ Status.Usage → side ≡ Side.Nothing →
-    Promised asked old new answer journal side
-promised_none asked old new answer journal side p e j u n = record {
-  does = subst (λ (z : Outside). DoesIf asked old z answer journal side) (sym e) (none_does asked old answer journal side p j n);
+pub promised_none : (asked : Option Asked) (old new : Outside) (answer : Status) (handed : Option AnyRun) → None ≡ asked → new ≡ old → answer ≡ Status.Usage → handed ≡ None → Promised asked old new answer handed
+promised_none asked old new answer handed p e u n = record {
+  does = subst (λ (z : Outside). DoesIf asked old z answer handed) (sym e) (none_does asked old answer handed p n);
   usage = usage_none asked answer p u;
 }
 
-pub promised_short : (asked : Option Asked) (old new : Outside) (answer : Status) (journal : Kept) (side : Side) → new ≡ old → past journal ≡ [] → answer ≡ Status.NoMemory → side ≡ Side.Nothing →
-    Promised asked old new answer journal side
-promised_short asked old new answer journal side e j m n = record {
-  does = subst (λ (z : Outside). DoesIf asked old z answer journal side) (sym e) (subst (λ (a : Status). DoesIf asked old old a journal side) (sym m) (idle_if asked old journal side j n));
+pub promised_short : (asked : Option Asked) (old new : Outside) (answer : Status) (handed : Option AnyRun) → new ≡ old → answer ≡ Status.NoMemory → handed ≡ None → Promised asked old new answer handed
+promised_short asked old new answer handed e m n = record {
+  does = subst (λ (z : Outside). DoesIf asked old z answer handed) (sym e) (subst (λ (a : Status). DoesIf asked old old a handed) (sym m) (idle_if asked old handed n));
   usage = usage_short asked answer m;
 }
 
-pub promised_alone : (words : List (String Global)) (o : Option Command) (c : Command) (old new : Outside) (answer : Status) (journal : Kept) (side : Side) → o ≡ Some c →
-    option_map asked_of o ≡ command (map string_bytes words) → is_alone (asked_of c) ≡ true → IsDone (asked_of c) old new answer journal side → answer ≢ Status.Usage → Promised (asked_alone words) old new answer journal side
-promised_alone words o c old new answer journal side p e alone d u =
+pub promised_alone : (words : List (String Global)) (o : Option Command) (c : Command) (old new : Outside) (answer : Status) (handed : Option AnyRun) → o ≡ Some c →
+    option_map asked_of o ≡ command (map string_bytes words) → is_alone (asked_of c) ≡ true → Does (asked_of c) old new answer handed → answer ≢ Status.Usage → Promised (asked_alone words) old new answer handed
+promised_alone words o c old new answer handed p e alone d u =
     let said : Some (asked_of c) ≡ asked_alone words = alone_some words (asked_of c) (asked_some words o c p e) alone in
     record {
-      does = some_does (asked_alone words) (asked_of c) old new answer journal side said d;
+      does = some_does (asked_alone words) (asked_of c) old new answer handed said d;
       usage = usage_some (asked_alone words) (asked_of c) answer said u;
     }
 
--- the keeper and the listeners are the ones that were handed in
-pub handed_back : {A B : Type 0} (tables : A → Option Tables) (faults asked : A → ℕ) (heard : B → Option (List Entry)) (left : B → Option ℕ) (k l : A) (xs ys : List B)
-    (rest : Option (List ℕ)) (r : ℕ) (taken : Option (List ℕ)) (w : ℕ) → l ≡ k → ys ≡ xs →
-    outside rest r taken w (shared_by tables faults asked heard left l ys) ≡ outside rest r taken w (shared_by tables faults asked heard left k xs)
-handed_back tables faults asked heard left k l xs ys rest r taken w e f = rw (e, f) refl
+-- what was lent is handed back
+pub handed_back : {S W K L : Type 0} (source : sources.Ghosts S) (sink : sinks.Ghosts W) (keeper : keepers.Ghosts K) (listener : listeners.Ghosts L) (from : S) (to : W) (l m : Lent K L) → m ≡ l →
+    outside_of source sink keeper listener from to m ≡ outside_of source sink keeper listener from to l
+handed_back source sink keeper listener from to l m e = ap (outside_of source sink keeper listener from to) e

@@ -5,6 +5,3 @@ pub mod Audited
 pub mod Formed
 pub mod OverParts
 pub mod Calls
-pub mod Gathers
-pub mod Bulks
-pub mod Places

@@ -1,5 +1,5 @@
 -- The run of a script.
-use Rattle.std.specs.Prelude.{◌≡◌, ◌⊎◌, reverse, ◌≤◌, ◌+◌, ℕ, Bool, true, false, List, ⊤, length, slice_get, IfSome, Some, None, Option, Ok, Err, ◌++◌, codes}
+use Rattle.std.specs.Prelude.{◌≡◌, ◌⊎◌, reverse, ◌≤◌, ℕ, Bool, true, false, List, ⊤, length, slice_get, IfSome, Some, None, Option, Ok, Err, ◌++◌, codes}
 use Rattle.std.specs.Fmt.{decimal}
 use Rattle.hib_base.specs.Tables.{Tables}
 use Rattle.hib_journal.specs.Types.{Script, SessionDef, Entry}
@@ -7,16 +7,14 @@ use Rattle.hib_journal.specs.Kept.{past}
 use Rattle.hib_journal.specs.Sessions.{Journal}
 use Rattle.hib_journal.specs.Played.{has_next, is_played}
 use Rattle.hib_journal.specs.Legal.{IsLegal}
-use Rattle.hib_journal.specs.Runs.{IsNumbered, told_committed, name_identifiers, ask_count, fault_count}
+use Rattle.hib_journal.specs.Runs.{IsNumbered, told_committed, name_identifiers, fault_count}
 use Rattle.hib_law.specs.Hits.{AreListsGiven}
 use Rattle.hib_law.specs.Law.{Obeys}
 use Rattle.hib_split_law.specs.Merged.{AreDue}
 use Rattle.hib_joined.specs.Joined.{AreApart}
 use Rattle.hib_joined.specs.Run.{AreInOrder}
-use Rattle.hib_listeners.specs.Heard.{HaveHeard}
-use Rattle.hib_listeners.specs.Told.{Told}
 use Rattle.hib_core.specs.Bound.{max_entries, outside_count}
-use Rattle.hib_core.specs.Standing.{Origin, RoseBy, RoseWithin, told_start, origin_over}
+use Rattle.hib_core.specs.Standing.{RoseBy, RoseWithin, told_start}
 use Rattle.hib_report.specs.Report.{report, summary}
 use Rattle.hib_json_lines.specs.Line.{json_lines}
 use Rattle.hib_formed.specs.Fitting.{AreFit}
@@ -28,7 +26,7 @@ use Rattle.hib_call.specs.Command.{Command}
 use Rattle.hib_call.specs.Limits.{max_script}
 use Rattle.hib_call.specs.Ends.{IsWritten}
 use Rattle.hib_call.specs.Outside.{Shared}
-use Rattle.hib_store.specs.declared.store.OpenFault.{OpenFault}
+use Rattle.hib_call.specs.Runs.{AreHandedBack, IsUnrun, most_asked}
 use Rattle.hib_top.specs.declared.turns.Turns.{Turns}
 use Rattle.hib_top.specs.declared.telling.Telling.{Telling}
 use Rattle.hib_top.specs.declared.telling.Played.{Played}
@@ -68,22 +66,6 @@ pub record IsPlayed (turns : Turns) (script : Script) (start rows : Option Table
   pub formed : IfSome start (λ told. AreFit script told → AreEntries script (reverse h))
   pub committed : rows ≡ told_committed start h
 
--- the listeners at the start of a run of these entries and those that are handed back: of the ones that tell, exactly those that
--- stay when they hear all entries, each with these after what it had heard. If memory ran out, one may have had none for the
--- last entry, so that from it on nobody has heard that
-abbrev pub AreHandedBack : Bool → List Entry → List Told → List Told → Type 0
-AreHandedBack false es start now = HaveHeard false es start now
-AreHandedBack true es start now = HaveHeard false es start now ⊎ HaveHeard true es start now
-
--- how often a keeper is asked at most in a run of these entries: if memory ran out once more, without an entry
-abbrev pub most_asked : Bool → Journal → ℕ
-most_asked false h = ask_count h
-most_asked true h = ask_count h + 1
-
--- what a run begins with, over what is lent to it
-abbrev pub origin : Script → Shared → Origin
-origin script old = origin_over script old.tables old.faults old.asked
-
 -- a run: what the keeper and the listeners tell after it is what its journal says. It begins with the rows that the keeper kept,
 -- with the script's rows; short says whether memory ran out
 pub record IsRun (turns : Turns) (short : Bool) (script : Script) (old new : Shared) (run : Played) : Type 0 where
@@ -92,13 +74,6 @@ pub record IsRun (turns : Turns) (short : Bool) (script : Script) (old new : Sha
   pub faults : RoseBy old.faults (fault_count (past run.journal)) new.faults
   pub asked : RoseWithin old.asked (most_asked short (past run.journal)) new.asked
   pub listeners : AreHandedBack short run.journal.list old.told new.told
-
--- nothing was run, and no table has changed
-pub record IsUnrun (old new : Shared) : Type 0 where
-  pub tables : new.tables ≡ old.tables
-  pub faults : RoseBy old.faults 0 new.faults
-  pub asked : new.asked ≡ old.asked
-  pub told : new.told ≡ old.told
 
 -- a run came to its end
 abbrev pub Leaves : Turns → Script → Shared → Shared → Played → Type 0
@@ -113,11 +88,6 @@ Stops turns script old new Status.NoMemory (Some run) = IsRun turns true script 
 Stops turns script old new Status.NoMemory None = IsUnrun old new
 Stops turns script old new Status.StoreFault None = IsUnrun old new
 Stops turns script old new _ _ = ⊥
-
--- how a call ends whose factory wasn't opened
-abbrev pub opening_status : {K : Type 0} → OpenFault K → Status
-opening_status (OpenFault.NoMemory k) = Status.NoMemory
-opening_status (OpenFault.StoreFault k) = Status.StoreFault
 
 -- what is written of a run: its report; its journal as JSON lines; or the number that its script was made from and the summary
 abbrev pub told_by : Telling → Script → List Entry → List ℕ

@@ -3,15 +3,14 @@ ghost use Rattle.std.specs.Prelude.{◌≡◌, ◌≤◌, length, true, IfOk};
 ghost use Rattle.hib_base.specs.Valid.{is_valid};
 ghost use Rattle.hib_call.specs.Limits.{max_journal};
 ghost use Rattle.hib_call.specs.Ends.{Comes};
-ghost use Rattle.hib_call.specs.Outside.{shared_by};
+ghost use Rattle.hib_call.specs.Outside.{shared_of};
 ghost use Rattle.hib_top.specs.Auditing.{auditing, status_said, verdict_text};
 
 use hib_audit::Audit;
-use hib_call::{
-    InputFault, JOURNAL_BYTES, Lent, Outcome, Ran, Status, Task, put_illegal, tell_text,
-};
+use hib_call::{JOURNAL_BYTES, Lent, Outcome, Ran, Status, Task, put_illegal, tell_text};
 use hib_input::{WithJournal, read_with_journal};
 use hib_outside::{Keeper, Listener, Sink};
+use hib_script::ScriptError;
 use std::alloc::{AllocError, Global};
 
 /// What is said of a journal.
@@ -32,10 +31,7 @@ pub fn judge_journal<K: Keeper, L: Listener>(
     requires valid { is_valid input.script ≡ true }
     requires few { length input.journal.list ≤ max_journal }
     ensures judged { Comes auditing input
-        (shared_by K.tables K.faults K.asked L.heard L.left lent.keeper lent.listeners.items)
-        (shared_by K.tables K.faults K.asked L.heard L.left result.lent.keeper
-        result.lent.listeners.items)
-        result.outcome }
+        (shared_of K.Keeper L.Listener lent) (shared_of K.Keeper L.Listener result.lent) result.outcome }
 {
     let outcome = match hib_audit::audit(alloc, &input.script, &input.journal) {
         Ok(audit) => Outcome::Over(Judged {
@@ -93,12 +89,8 @@ impl Task for Judge {
         JOURNAL_BYTES
     }
 
-    fn read(&self, alloc: Global, text: &[u8]) -> Result<WithJournal, InputFault> {
-        match read_with_journal(alloc, text) {
-            Ok(input) => Ok(input),
-            Err(hib_input::InputFault::Refused(refused)) => Err(InputFault::Refused(refused)),
-            Err(hib_input::InputFault::NoMemory) => Err(InputFault::NoMemory),
-        }
+    fn read(&self, alloc: Global, text: &[u8]) -> Result<WithJournal, ScriptError> {
+        read_with_journal(alloc, text)
     }
 
     fn tell<W: Sink>(&self, alloc: Global, judged: &Judged, out: &mut W) -> Status {

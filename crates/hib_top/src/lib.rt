@@ -2,26 +2,19 @@
 //! workers, with collections, with bulk changes or at two nodes, and told; or a journal that comes after its script is judged.
 #![tactic(auto)]
 
+mod any_run;
 mod audit;
-mod bulk;
 mod call;
-mod collect;
-mod ended;
 mod make;
-mod nodes;
 mod play;
 mod reading;
 mod split;
 mod telling;
 mod turns;
-mod unrun;
 mod work;
 
+pub use any_run::AnyRun;
 pub use audit::Judged;
-pub use bulk::{BulkRun, Bulking};
 pub use call::{play_words, top};
-pub use collect::{Collected, Gathering};
-pub use ended::{Ended, Side};
-pub use nodes::{NodeRun, Placing};
 pub use telling::{Played, Telling};
 pub use turns::Turns;

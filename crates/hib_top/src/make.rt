@@ -1,8 +1,9 @@
 // Made scripts: their runs, and their texts.
 use crate::telling::{Played, Telling, tell_run};
 use hib_base::Script;
-use hib_call::{InputFault, Status, Task, tell_text};
+use hib_call::{Status, Task, tell_text};
 use hib_outside::Sink;
+use hib_script::ScriptError;
 use std::alloc::Global;
 
 /// Makes the script of a number, runs it by its schedule and writes the number and the summary.
@@ -29,11 +30,8 @@ impl Task for Make {
         0
     }
 
-    fn read(&self, alloc: Global, _text: &[u8]) -> Result<Script, InputFault> {
-        match hib_make::make(alloc, self.seed) {
-            Ok(script) => Ok(script),
-            Err(_) => Err(InputFault::NoMemory),
-        }
+    fn read(&self, alloc: Global, _text: &[u8]) -> Result<Script, ScriptError> {
+        Ok(hib_make::make(alloc, self.seed)?)
     }
 
     fn tell<W: Sink>(&self, alloc: Global, run: &Played, out: &mut W) -> Status {
@@ -64,11 +62,8 @@ impl Task for Print {
         0
     }
 
-    fn read(&self, alloc: Global, _text: &[u8]) -> Result<Script, InputFault> {
-        match hib_make::make(alloc, self.seed) {
-            Ok(script) => Ok(script),
-            Err(_) => Err(InputFault::NoMemory),
-        }
+    fn read(&self, alloc: Global, _text: &[u8]) -> Result<Script, ScriptError> {
+        Ok(hib_make::make(alloc, self.seed)?)
     }
 
     fn tell<W: Sink>(&self, alloc: Global, script: &Script, out: &mut W) -> Status {

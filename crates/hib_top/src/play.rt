@@ -2,16 +2,16 @@
 ghost use Rattle.std.specs.Prelude.{◌≡◌, true};
 ghost use Rattle.hib_base.specs.Valid.{is_valid};
 ghost use Rattle.hib_call.specs.Ends.{Comes};
-ghost use Rattle.hib_call.specs.Outside.{shared_by};
+ghost use Rattle.hib_call.specs.Outside.{shared_of};
+ghost use Rattle.hib_call.specs.Runs.{origin};
 ghost use Rattle.hib_listeners.specs.Told.{tells};
-ghost use Rattle.hib_top.specs.Running.{origin, running};
+ghost use Rattle.hib_top.specs.Running.{running};
 ghost use Rattle.hib_top.specs.declared.telling.Telling.{Telling};
 ghost use Rattle.hib_top.specs.declared.turns.Turns.{Turns};
 
 use crate::telling::Played;
-use crate::unrun::not_run;
 use hib_base::Script;
-use hib_call::{Lent, Outcome, Ran, Status};
+use hib_call::{Lent, Outcome, Ran, Status, not_run};
 use hib_core::{Factory, Name, OpenRefused, runs_are_short};
 use hib_formed::{entries_are_formed, ticks_are_early};
 use hib_law::lists_are_given;
@@ -27,14 +27,10 @@ fn play_named<N: Name, K: Keeper, L: Listener>(
 ) -> Ran<Played, K, L>
     requires script { script ≡ N.script }
     requires valid { is_valid N.script ≡ true }
-    requires from { origin N.script
-        (shared_by K.tables K.faults K.asked L.heard L.left lent.keeper lent.listeners.items) ≡ N.from }
+    requires from { origin N.script (shared_of K.Keeper L.Listener lent) ≡ N.from }
     requires told { tells L.heard L.left lent.listeners.items ≡ N.told }
     ensures { Comes (running Turns.Scheduled Telling.Report) N.script
-        (shared_by K.tables K.faults K.asked L.heard L.left lent.keeper lent.listeners.items)
-        (shared_by K.tables K.faults K.asked L.heard L.left result.lent.keeper
-        result.lent.listeners.items)
-        result.outcome }
+        (shared_of K.Keeper L.Listener lent) (shared_of K.Keeper L.Listener result.lent) result.outcome }
 {
     lists_are_given();
     entries_are_formed();
@@ -67,10 +63,7 @@ pub fn play_script<K: Keeper, L: Listener>(
 ) -> Ran<Played, K, L>
     requires { is_valid script ≡ true }
     ensures { Comes (running Turns.Scheduled Telling.Report) script
-        (shared_by K.tables K.faults K.asked L.heard L.left lent.keeper lent.listeners.items)
-        (shared_by K.tables K.faults K.asked L.heard L.left result.lent.keeper
-        result.lent.listeners.items)
-        result.outcome }
+        (shared_of K.Keeper L.Listener lent) (shared_of K.Keeper L.Listener result.lent) result.outcome }
 {
     play_named::<Brand, K, L>(alloc, script, lent)
 }

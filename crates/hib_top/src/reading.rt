@@ -2,7 +2,7 @@
 use crate::telling::{Played, Telling, tell_run};
 use crate::turns::Turns;
 use hib_base::Script;
-use hib_call::{InputFault, SCRIPT_BYTES, Status, Task};
+use hib_call::{SCRIPT_BYTES, Status, Task};
 use hib_outside::Sink;
 use hib_script::ScriptError;
 use std::alloc::Global;
@@ -33,12 +33,8 @@ impl Task for Run {
         SCRIPT_BYTES
     }
 
-    fn read(&self, alloc: Global, text: &[u8]) -> Result<Script, InputFault> {
-        match hib_script::read(alloc, text) {
-            Ok(script) => Ok(script),
-            Err(ScriptError::Refused(refused)) => Err(InputFault::Refused(refused)),
-            Err(ScriptError::NoMemory) => Err(InputFault::NoMemory),
-        }
+    fn read(&self, alloc: Global, text: &[u8]) -> Result<Script, ScriptError> {
+        hib_script::read(alloc, text)
     }
 
     fn tell<W: Sink>(&self, alloc: Global, run: &Played, out: &mut W) -> Status {

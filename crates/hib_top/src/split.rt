@@ -4,19 +4,19 @@ ghost use Rattle.hib_base.specs.Valid.{is_valid};
 ghost use Rattle.hib_base.specs.Tables.{Tables};
 ghost use Rattle.hib_call.specs.Ends.{Comes};
 ghost use Rattle.hib_core.specs.Standing.{told_start};
-ghost use Rattle.hib_call.specs.Outside.{shared, shared_by};
+ghost use Rattle.hib_call.specs.Outside.{shared, shared_of};
+ghost use Rattle.hib_call.specs.Runs.{origin};
 ghost use Rattle.hib_joined.specs.Run.{CameToOne};
 ghost use Rattle.hib_listeners.specs.Heard.{HaveHeard};
 ghost use Rattle.hib_listeners.specs.Told.{tells};
 ghost use Rattle.hib_merge.specs.declared.tearing.Torn.{Torn};
-ghost use Rattle.hib_top.specs.Running.{origin, running};
+ghost use Rattle.hib_top.specs.Running.{running};
 ghost use Rattle.hib_top.specs.declared.telling.Telling.{Telling};
 ghost use Rattle.hib_top.specs.declared.turns.Turns.{Turns};
 
 use crate::telling::Played;
-use crate::unrun::not_run;
 use hib_base::{Entry, Script};
-use hib_call::{Lent, Outcome, Ran, Status};
+use hib_call::{Lent, Outcome, Ran, Status, not_run};
 use hib_core::{Name, runs_are_short};
 use hib_formed::entries_are_formed;
 use hib_joined::{Joined, JoinedRun, run_joined};
@@ -73,9 +73,7 @@ fn hear_joined<N: Name, K: Keeper, L: Listener>(
     ensures comes { (kept : Option Tables) → told_start N.script kept ≡ N.from.tables
         → Comes (running (Turns.OnParts workers) Telling.Report) N.script
         (shared kept N.from.faults N.from.asked (tells L.heard L.left listeners.items))
-        (shared_by K.tables K.faults K.asked L.heard L.left result.lent.keeper
-        result.lent.listeners.items)
-        result.outcome }
+        (shared_of K.Keeper L.Listener result.lent) result.outcome }
     ensures torn { (t : Torn) → result.outcome ≡ Outcome.Stopped (Status.Torn t) None
         → joined ≡ Joined.Torn t }
 {
@@ -130,13 +128,9 @@ fn split_named<N: Name + Send + Sync, R: Threads + Wait + Sync, K: Keeper, L: Li
     requires workers { (1 ≤ workers) × (workers ≤ 64) }
     requires script { script ≡ N.script }
     requires valid { is_valid N.script ≡ true }
-    requires from { origin N.script
-        (shared_by K.tables K.faults K.asked L.heard L.left lent.keeper lent.listeners.items) ≡ N.from }
+    requires from { origin N.script (shared_of K.Keeper L.Listener lent) ≡ N.from }
     ensures { Comes (running (Turns.OnParts workers) Telling.Report) N.script
-        (shared_by K.tables K.faults K.asked L.heard L.left lent.keeper lent.listeners.items)
-        (shared_by K.tables K.faults K.asked L.heard L.left result.lent.keeper
-        result.lent.listeners.items)
-        result.outcome }
+        (shared_of K.Keeper L.Listener lent) (shared_of K.Keeper L.Listener result.lent) result.outcome }
 {
     let Lent { keeper, listeners } = lent;
     match run_joined::<R, K, N, G>(rt, alloc, &script, keeper, workers, gate) {
@@ -161,10 +155,7 @@ pub fn split_script<R: Threads + Wait + Sync, K: Keeper, L: Listener, G: Gate>(
     requires workers { (1 ≤ workers) × (workers ≤ 64) }
     requires valid { is_valid script ≡ true }
     ensures { Comes (running (Turns.OnParts workers) Telling.Report) script
-        (shared_by K.tables K.faults K.asked L.heard L.left lent.keeper lent.listeners.items)
-        (shared_by K.tables K.faults K.asked L.heard L.left result.lent.keeper
-        result.lent.listeners.items)
-        result.outcome }
+        (shared_of K.Keeper L.Listener lent) (shared_of K.Keeper L.Listener result.lent) result.outcome }
 {
     split_named::<Brand, R, K, L, G>(rt, alloc, script, lent, workers, gate)
 }

@@ -1,7 +1,7 @@
-use Rattle.hib_call.specs.Outside.{shared_by}
+use Rattle.hib_call.specs.Outside.{shared_of}
 use Rattle.hib_toolbox.proofs.orders.explore.Goals as goal
 
 pub returns : goal.returns
 returns g c =
     c.tried-outcome.ensures
-    (shared_by g.K.Keeper.tables g.K.Keeper.faults g.K.Keeper.asked g.L.Listener.heard g.L.Listener.left c.args.lent.keeper c.args.lent.listeners.items)
+    (shared_of g.K.Keeper g.L.Listener c.args.lent)

@@ -12,7 +12,8 @@ use Rattle.hib_listeners.specs.Told.{tells}
 use Rattle.hib_top.specs.declared.telling.Played.{Played}
 use Rattle.hib_top.specs.declared.turns.Turns.{Turns}
 use Rattle.hib_top.specs.Running.{IsPlayed}
-use Rattle.hib_top.proofs.Ends.{heard_either, once_more, over, stopped, told_by}
+use Rattle.hib_call.proofs.Runs.{heard_either, once_more}
+use Rattle.hib_top.proofs.Ends.{over, stopped, told_by}
 use Rattle.hib_top.proofs.Finished.{all_ended}
 use Rattle.hib_top.proofs.Formed.{early_enough, start_formed}
 use Rattle.hib_top.proofs.play.play_named.Goals as goal

@@ -7,7 +7,8 @@ use Rattle.hib_joined.specs.Run.{CameToOne, IsOneByOne, IsOneRun}
 use Rattle.hib_top.specs.declared.telling.Played.{Played}
 use Rattle.hib_top.specs.declared.turns.Turns.{Turns}
 use Rattle.hib_top.specs.Running.{IsPlayed}
-use Rattle.hib_top.proofs.Ends.{lost, none_failed, over, over_not_torn, short_not_torn}
+use Rattle.hib_call.proofs.Runs.{none_failed}
+use Rattle.hib_top.proofs.Ends.{lost, over, over_not_torn, short_not_torn}
 use Rattle.hib_top.proofs.OverParts.{is_finished, is_played}
 use Rattle.hib_top.proofs.split.hear_joined.Goals as goal
 

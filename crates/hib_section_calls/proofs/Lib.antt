@@ -1,0 +1,4 @@
+-- Lemmas.
+pub mod Gathers
+pub mod Bulks
+pub mod Places
