@@ -13,5 +13,4 @@ mod schedules;
 
 pub use bulks::read_bulks;
 pub use collections::read_collections;
-pub use errors::ScriptError;
 pub use places::read_nodes;
