@@ -36,14 +36,14 @@ use Rattle.hib_bulk.specs.Types.{BulkDef, BulkAct, BulkReply, BulkEntry}
 use Rattle.hib_bulk_law.specs.Plain.{Bulked, plain, plain_reply}
 use Rattle.hib_bulk_law.specs.Rows.{committed, committer}
 use Rattle.hib_bulk_region.specs.Laws as Wide
-use Rattle.hib_bulk.specs.declared.region.Region.{Region}
+use Rattle.hib_bulk.specs.declared.region.EntityRegion.{EntityRegion}
 use Rattle.hib_bulk.specs.Regions.{region_of, IsAtRegion, IsPlaced}
-use Rattle.hib_bulk.specs.Standing.{PartsState, told_committed, IsReady, IsAnswered, entry_at}
+use Rattle.hib_bulk.specs.Standing.{BulkPartsState, told_committed, IsReady, IsAnswered, entry_at}
 use Rattle.hib_bulk.proofs.Placed.{IsRegional}
 use Rattle.hib_bulk.proofs.Replies.{due_plain, due_stored, quiet, unsaved_quiet, stored_quiet, told_quiet}
 use Rattle.hib_bulk.proofs.Kept.{AreKept, kept, plain_next, bulk_none, standing_of}
 
-module _ (l : Laws) (w : Wide.Stays) (script : Script) (lines : List BulkDef) (told : Option Tables) (h : Bulked) (s now : ℕ) (a : Act) (x : PartsState) (k : IsReady script lines told h s now a x) where
+module _ (l : Laws) (w : Wide.Stays) (script : Script) (lines : List BulkDef) (told : Option Tables) (h : Bulked) (s now : ℕ) (a : Act) (x : BulkPartsState) (k : IsReady script lines told h s now a x) where
   abbrev Kept : BulkReply → Type 0
   Kept r = AreKept script lines told h s now a r x
 
@@ -51,10 +51,10 @@ module _ (l : Laws) (w : Wide.Stays) (script : Script) (lines : List BulkDef) (t
   its r = kept l w script lines told h s now a r x k.standing k.due.inside
 
   -- an act of no region leaves the regions
-  regions_kept : (r : BulkReply) (ys : List Region) → (is_regional a ≡ true → ⊥) → ys ≡ x.regions → (n : ℕ) → IsPlaced script n (entry_at now s (BulkAct.Plain a) r ∷ h) (region_of ys n)
+  regions_kept : (r : BulkReply) (ys : List EntityRegion) → (is_regional a ≡ true → ⊥) → ys ≡ x.regions → (n : ℕ) → IsPlaced script n (entry_at now s (BulkAct.Plain a) r ∷ h) (region_of ys n)
   regions_kept r ys p e n = subst (λ zs. IsPlaced script n (entry_at now s (BulkAct.Plain a) r ∷ h) (region_of zs n)) (sym e) ((its r).regions n (λ t. absurd (p t)))
 
-  pub registry_answered : (r : Reply) (y : PartsState) → Legal.part_of a s ≡ Part.Registry → (is_regional a ≡ true → ⊥) → own_reply script (own s (plain h)) a ≡ None →
+  pub registry_answered : (r : Reply) (y : BulkPartsState) → Legal.part_of a s ≡ Part.Registry → (is_regional a ≡ true → ⊥) → own_reply script (own s (plain h)) a ≡ None →
       (IsRegistry x.registry (plain h) → Lists.IsLate Part.Registry now (plain h) → a ≡ Act.Begin → IsServed (λ m. IsRegistry y.registry m) script (plain h) (Some s) now a r) →
       y.store ≡ x.store → y.stamps ≡ x.stamps → y.regions ≡ x.regions → y.results ≡ x.results → IsAnswered script lines told h s now (BulkAct.Plain a) (BulkReply.Plain r) y
   registry_answered r y p f o served b c d e = record {
@@ -72,7 +72,7 @@ module _ (l : Laws) (w : Wide.Stays) (script : Script) (lines : List BulkDef) (t
       v : IsServed (λ m. IsRegistry y.registry m) script (plain h) (Some s) now a r
       v = served k.standing.plain.registry (k.late (λ d. same_part Part.Registry d.part)) (begins_only script (own s (plain h)) a s (ap (same_part Part.Registry) p) o k.due.inside)
 
-  pub stamps_answered : (r : Reply) (y : PartsState) → Legal.part_of a s ≡ Part.Stamps → (is_regional a ≡ true → ⊥) →
+  pub stamps_answered : (r : Reply) (y : BulkPartsState) → Legal.part_of a s ≡ Part.Stamps → (is_regional a ≡ true → ⊥) →
       (AreStamps script (plain h) x.stamps → is_for Part.Stamps a s ≡ true → IsServed (λ m. AreStamps script m y.stamps) script (plain h) (Some s) now a r) →
       y.store ≡ x.store → y.registry ≡ x.registry → y.regions ≡ x.regions → y.results ≡ x.results → IsAnswered script lines told h s now (BulkAct.Plain a) (BulkReply.Plain r) y
   stamps_answered r y p f served b c d e = record {
@@ -90,7 +90,7 @@ module _ (l : Laws) (w : Wide.Stays) (script : Script) (lines : List BulkDef) (t
       v : IsServed (λ m. AreStamps script m y.stamps) script (plain h) (Some s) now a r
       v = served k.standing.plain.stamps (ap (same_part Part.Stamps) p)
 
-  pub results_answered : (r : Reply) (y : PartsState) → Legal.part_of a s ≡ Part.Results → (is_regional a ≡ true → ⊥) →
+  pub results_answered : (r : Reply) (y : BulkPartsState) → Legal.part_of a s ≡ Part.Results → (is_regional a ≡ true → ⊥) →
       (AreResults script (plain h) x.results → is_for Part.Results a s ≡ true → HasQuery script a → IsServed (λ m. AreResults script m y.results) script (plain h) (Some s) now a r) →
       y.store ≡ x.store → y.registry ≡ x.registry → y.stamps ≡ x.stamps → y.regions ≡ x.regions → IsAnswered script lines told h s now (BulkAct.Plain a) (BulkReply.Plain r) y
   results_answered r y p f served b c d e = record {
@@ -131,7 +131,7 @@ module _ (l : Laws) (w : Wide.Stays) (script : Script) (lines : List BulkDef) (t
   rows_next r y z (Some start) e p =
       p ∙ ap (option_map (λ t. stored t (Lists.entry_at now (Some s) a r ∷ quiet (plain h)))) e ∙ ap Some (rows_by a r (committed script lines start h) k.due.stored)
 
-  pub store_answered : (r : Reply) (y : PartsState) → Legal.part_of a s ≡ Part.Store → (is_regional a ≡ true → ⊥) → IsStoreServed script x.store.tables (quiet (plain h)) now s a r y.store →
+  pub store_answered : (r : Reply) (y : BulkPartsState) → Legal.part_of a s ≡ Part.Store → (is_regional a ≡ true → ⊥) → IsStoreServed script x.store.tables (quiet (plain h)) now s a r y.store →
       y.registry ≡ x.registry → y.stamps ≡ x.stamps → y.regions ≡ x.regions → y.results ≡ x.results → IsAnswered script lines told h s now (BulkAct.Plain a) (BulkReply.Plain r) y
   store_answered r y p f v b c d e = record {
     reply = due_stored script lines told h s now a r deferred_here k.due.stored (ap (same_part Part.Store) p)
@@ -149,7 +149,7 @@ module _ (l : Laws) (w : Wide.Stays) (script : Script) (lines : List BulkDef) (t
 
   -- ---- a session's own answers
 
-  pub own_answered : (r : Reply) (y : PartsState) → own_reply script (own s (plain h)) a ≡ Some r → y ≡ record x { registry = own_after s a x.registry } →
+  pub own_answered : (r : Reply) (y : BulkPartsState) → own_reply script (own s (plain h)) a ≡ Some r → y ≡ record x { registry = own_after s a x.registry } →
       IsAnswered script lines told h s now (BulkAct.Plain a) (BulkReply.Plain r) y
   own_answered r y p q = subst (λ v. IsAnswered script lines told h s now (BulkAct.Plain a) (BulkReply.Plain r) v) (sym q) (record {
     reply = due_plain script lines told h s now a r (bulk_none script lines h s a k.session v.region) (own_is script (plain h) s now a r p) v.store;
@@ -171,7 +171,7 @@ module _ (l : Laws) (w : Wide.Stays) (script : Script) (lines : List BulkDef) (t
   -- ---- a region
 
   -- the regions, after that of entity n has changed
-  regions_at : (e : BulkEntry) (n : ℕ) (ys : List Region) → IsAtRegion n x.regions ys → IsPlaced script n (e ∷ h) (region_of ys n) →
+  regions_at : (e : BulkEntry) (n : ℕ) (ys : List EntityRegion) → IsAtRegion n x.regions ys → IsPlaced script n (e ∷ h) (region_of ys n) →
       ((m : ℕ) → (n == m) ≡ false → IsPlaced script m (e ∷ h) (region_of x.regions m)) → (m : ℕ) → IsPlaced script m (e ∷ h) (region_of ys m)
   regions_at e n ys at here others m = by (tested (n == m))
     where
@@ -179,7 +179,7 @@ module _ (l : Laws) (w : Wide.Stays) (script : Script) (lines : List BulkDef) (t
       by (inl q) = subst (λ i. IsPlaced script i (e ∷ h) (region_of ys i)) (eqb-true n m q) here
       by (inr q) = subst (λ z. IsPlaced script m (e ∷ h) z) (sym (at.others m q)) (others m q)
 
-  pub region_answered : (n : ℕ) (r : BulkReply) (y : PartsState) → Legal.part_of a s ≡ Part.Region n → entity_in a ≡ Some n → IsRegional script lines told h s now n a r (region_of y.regions n) →
+  pub region_answered : (n : ℕ) (r : BulkReply) (y : BulkPartsState) → Legal.part_of a s ≡ Part.Region n → entity_in a ≡ Some n → IsRegional script lines told h s now n a r (region_of y.regions n) →
       IsAtRegion n x.regions y.regions → y.store ≡ x.store → y.registry ≡ x.registry → y.stamps ≡ x.stamps → y.results ≡ x.results → IsAnswered script lines told h s now (BulkAct.Plain a) r y
   region_answered n r y p q v at b c d e = record {
     reply = v.reply;
@@ -204,7 +204,7 @@ not_begin Act.Begin n e = absurd (none-some n e)
 not_begin _ n e = refl
 
 -- its session is open, and has a time
-pub time_known : (script : Script) (lines : List BulkDef) (told : Option Tables) (h : Bulked) (s now : ℕ) (a : Act) (x : PartsState) → IsReady script lines told h s now a x → (n : ℕ) → entity_in a ≡ Some n →
+pub time_known : (script : Script) (lines : List BulkDef) (told : Option Tables) (h : Bulked) (s now : ℕ) (a : Act) (x : BulkPartsState) → IsReady script lines told h s now a x → (n : ℕ) → entity_in a ≡ Some n →
     time_of x.registry s ≡ Some (time s (plain h))
 time_known script lines told h s now a x k n e =
     k.standing.plain.registry.each s

@@ -22,9 +22,9 @@ use Rattle.hib_engines.proofs.Opened.{registry_begins}
 use Rattle.hib_store.specs.Stores.{changes_in}
 use Rattle.hib_bulk_region.specs.Laws as Wide
 use Rattle.hib_bulk.specs.Types.{BulkDef}
-use Rattle.hib_bulk.specs.declared.lines.Progress.{Progress}
+use Rattle.hib_bulk.specs.declared.lines.LineProgress.{LineProgress}
 use Rattle.hib_bulk.specs.Regions.{region_of, opened, IsPlaced}
-use Rattle.hib_bulk.specs.Standing.{PartsState, AreStanding, told_committed}
+use Rattle.hib_bulk.specs.Standing.{BulkPartsState, AreStanding, told_committed}
 use Rattle.hib_bulk.specs.Run.{IsLine, AreBuilt, AreSet}
 use Rattle.hib_bulk.specs.Steps.{AreSessions, AreLines, fresh}
 use Rattle.hib_bulk.specs.Factory.{FactoryState, IsStanding}
@@ -55,7 +55,7 @@ told_same : (script : Script) (lines : List BulkDef) (told : Option Tables) → 
 told_same script lines None = refl
 told_same script lines (Some start) = refl
 
-pub parts_begin : Laws → Wide.Begins → (script : Script) (lines : List BulkDef) (told : Option Tables) (x : PartsState) → AreBuilt script lines → x.store.tables ≡ told → x.store.written ≡ [] → x.registry ≡ [] →
+pub parts_begin : Laws → Wide.Begins → (script : Script) (lines : List BulkDef) (told : Option Tables) (x : BulkPartsState) → AreBuilt script lines → x.store.tables ≡ told → x.store.written ≡ [] → x.registry ≡ [] →
     x.stamps ≡ unstamped (length script.mapping) → x.regions ≡ map (λ d. opened d.strategy d.capacity script.timeout) script.mapping → x.results ≡ record { capacity = script.results; kept = [] } → 0 < script.results →
     AreStanding script lines told [] x
 parts_begin l v script lines told x b t w r s g u c = record {
@@ -79,7 +79,7 @@ parts_begin l v script lines told x b t w r s g u c = record {
   entities = ap length g ∙ length-map script.mapping (λ d. opened d.strategy d.capacity script.timeout);
 }
 
-fresh_at : (ds : List BulkDef) (i : ℕ) (p : Progress) → slice_get (map fresh ds) i ≡ Some p → p ≡ record { steps = 0; failed = Rattle.std.proofs.Common.false }
+fresh_at : (ds : List BulkDef) (i : ℕ) (p : LineProgress) → slice_get (map fresh ds) i ≡ Some p → p ≡ record { steps = 0; failed = Rattle.std.proofs.Common.false }
 fresh_at [] i p q = absurd (none-some p q)
 fresh_at (d ∷ ds) zero p q = sym (same_Some (fresh d) p q)
 fresh_at (d ∷ ds) (suc i) p q = fresh_at ds i p q
@@ -87,7 +87,7 @@ fresh_at (d ∷ ds) (suc i) p q = fresh_at ds i p q
 pub lines_begin : (script : Script) (lines : List BulkDef) → AreLines script lines [] (map fresh lines)
 lines_begin script lines = record {
   all = length-map lines fresh;
-  stand = λ i d p e q. subst (λ (z : Progress). IsLine script [] (length script.sessions + i) d z.steps z.failed) (sym (fresh_at lines i p q)) (record { steps = refl; failed = refl; begun = refl; deferred = refl });
+  stand = λ i d p e q. subst (λ (z : LineProgress). IsLine script [] (length script.sessions + i) d z.steps z.failed) (sym (fresh_at lines i p q)) (record { steps = refl; failed = refl; begun = refl; deferred = refl });
 }
 
 pub sessions_begin : (script : Script) (xs : List Session) → Plainly.AreSessions script [] xs → AreSessions script [] xs

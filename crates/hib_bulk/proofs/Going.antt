@@ -17,7 +17,7 @@ use Rattle.hib_bulk_law.specs.Wide.{is_old, is_item_shut}
 use Rattle.hib_bulk_law.specs.Acts.{next, next_of_line, after_sweep, swept_for, acts_of, steps_of}
 use Rattle.hib_bulk_law.proofs.Entries.{no_next, tick_le, plain_sweeps}
 use Rattle.hib_bulk.specs.Changed.{is_fault}
-use Rattle.hib_bulk.specs.Standing.{PartsState, IsLate, IsAnswered}
+use Rattle.hib_bulk.specs.Standing.{BulkPartsState, IsLate, IsAnswered}
 use Rattle.hib_bulk.specs.Run.{fault_count, IsRun, IsSwept, entry_of}
 
 -- ---- the next act
@@ -47,7 +47,7 @@ rose_next from n now false before w l f = omega (arith, w, l)
 
 -- ---- one entry more
 
-pub goes_on : (script : Script) (lines : List BulkDef) (from : Origin) (h : Bulked) (s : ℕ) (a : BulkAct) (r : BulkReply) (x y : PartsState) → IsRun script lines from h x →
+pub goes_on : (script : Script) (lines : List BulkDef) (from : Origin) (h : Bulked) (s : ℕ) (a : BulkAct) (r : BulkReply) (x y : BulkPartsState) → IsRun script lines from h x →
     next script lines h s ≡ Some a → IsAnswered script lines from.tables h s (length h + 1) a r y → length h < 2 ^ 62 → x.store.faults ≤ y.store.faults →
     (is_fault r ≡ true → Rose x.store.faults y.store.faults) → y.store.entities ≡ x.store.entities → IsRun script lines from (entry_of h s a r ∷ h) y
 goes_on script lines from h s a r x y run n v l f g e = record {
@@ -59,7 +59,7 @@ goes_on script lines from h s a r x y run n v l f g e = record {
   built = run.built;
 }
 
-pub late : (script : Script) (lines : List BulkDef) (from : Origin) (h : Bulked) (x : PartsState) → IsRun script lines from h x → IsLate (length h + 1) (plain h)
+pub late : (script : Script) (lines : List BulkDef) (from : Origin) (h : Bulked) (x : BulkPartsState) → IsRun script lines from h x → IsLate (length h + 1) (plain h)
 late script lines from h x run p = let w = tick_le script lines from.tables p h run.legal in omega (arith, w)
 
 -- what was swept away is not old any more

@@ -31,12 +31,12 @@ use Rattle.hib_bulk_law.specs.Legal.{bulk_answer}
 use Rattle.hib_bulk_law.proofs.Entries.{plain_does}
 use Rattle.hib_bulk_region.specs.Laws as Wide
 use Rattle.hib_bulk.specs.Regions.{region_of, IsPlaced}
-use Rattle.hib_bulk.specs.Standing.{PartsState, told_committed, ArePlain, AreStanding, IsStill, entry_at}
+use Rattle.hib_bulk.specs.Standing.{BulkPartsState, told_committed, ArePlain, AreStanding, IsStill, entry_at}
 use Rattle.hib_bulk.proofs.Placed.{placed_kept}
 
 -- ---- what the plain journal gives
 
-pub plain_next : (script : Script) (g : Journal) (s now : ℕ) (a : Act) (r : Reply) (x y : PartsState) → ArePlain script g x → IsDue script (own s g) a →
+pub plain_next : (script : Script) (g : Journal) (s now : ℕ) (a : Act) (r : Reply) (x y : BulkPartsState) → ArePlain script g x → IsDue script (own s g) a →
     ((n : ℕ) → changes_of y.store n ≡ unsaved n (Lists.entry_at now (Some s) a r ∷ g)) → IsRegistry y.registry (Lists.entry_at now (Some s) a r ∷ g) →
     AreStamps script (Lists.entry_at now (Some s) a r ∷ g) y.stamps → AreResults script (Lists.entry_at now (Some s) a r ∷ g) y.results → ArePlain script (Lists.entry_at now (Some s) a r ∷ g) y
 plain_next script g s now a r x y k due changes registry stamps results = record {
@@ -81,7 +81,7 @@ bulk_none script lines h s (Act.AfterInsert k r f) n p = absurd (p refl)
 bulk_none script lines h s (Act.AfterUpdate k i r) n p = absurd (p refl)
 bulk_none script lines h s _ n p = refl
 
-pub record AreKept (script : Script) (lines : List BulkDef) (told : Option Tables) (h : Bulked) (s now : ℕ) (a : Act) (r : BulkReply) (x : PartsState) : Type 0 where
+pub record AreKept (script : Script) (lines : List BulkDef) (told : Option Tables) (h : Bulked) (s now : ℕ) (a : Act) (r : BulkReply) (x : BulkPartsState) : Type 0 where
   pub rows : is_for Part.Store a s ≡ false → x.store.tables ≡ told_committed script lines told (entry_at now s (BulkAct.Plain a) r ∷ h)
   pub changes : is_for Part.Store a s ≡ false → (n : ℕ) → changes_of x.store n ≡ unsaved n (Lists.entry_at now (Some s) a (plain_reply a r) ∷ plain h)
   pub registry : is_for Part.Registry a s ≡ false → IsRegistry x.registry (Lists.entry_at now (Some s) a (plain_reply a r) ∷ plain h)
@@ -89,7 +89,7 @@ pub record AreKept (script : Script) (lines : List BulkDef) (told : Option Table
   pub regions : (n : ℕ) → (is_regional a ≡ true → (acts_on a == n) ≡ false) → IsPlaced script n (entry_at now s (BulkAct.Plain a) r ∷ h) (region_of x.regions n)
   pub results : is_for Part.Results a s ≡ false → AreResults script (Lists.entry_at now (Some s) a (plain_reply a r) ∷ plain h) x.results
 
-pub kept : Laws → Wide.Stays → (script : Script) (lines : List BulkDef) (told : Option Tables) (h : Bulked) (s now : ℕ) (a : Act) (r : BulkReply) (x : PartsState) →
+pub kept : Laws → Wide.Stays → (script : Script) (lines : List BulkDef) (told : Option Tables) (h : Bulked) (s now : ℕ) (a : Act) (r : BulkReply) (x : BulkPartsState) →
     AreStanding script lines told h x → is_outside a ≡ false → AreKept script lines told h s now a r x
 kept l w script lines told h s now a r x k i =
     let q = plain_reply a r in
@@ -104,7 +104,7 @@ kept l w script lines told h s now a r x k i =
     }
 
 -- the parts stand for the entries with that of a plain act
-pub standing_of : (script : Script) (lines : List BulkDef) (told : Option Tables) (h : Bulked) (s now : ℕ) (a : Act) (r : BulkReply) (y : PartsState) →
+pub standing_of : (script : Script) (lines : List BulkDef) (told : Option Tables) (h : Bulked) (s now : ℕ) (a : Act) (r : BulkReply) (y : BulkPartsState) →
     y.store.tables ≡ told_committed script lines told (entry_at now s (BulkAct.Plain a) r ∷ h) → ArePlain script (Lists.entry_at now (Some s) a (plain_reply a r) ∷ plain h) y →
     ((n : ℕ) → IsPlaced script n (entry_at now s (BulkAct.Plain a) r ∷ h) (region_of y.regions n)) → length y.regions ≡ length script.mapping →
     AreStanding script lines told (entry_at now s (BulkAct.Plain a) r ∷ h) y
@@ -125,7 +125,7 @@ of_none a p r = by_key (key_in a) p r
 
 -- ---- parts that are as before
 
-pub still_same : (x y : PartsState) → y ≡ x → IsStill x y
+pub still_same : (x y : BulkPartsState) → y ≡ x → IsStill x y
 still_same x y e = subst (λ v. IsStill x v) (sym e) (record {
   store = record { tables = refl; written = refl; faults = omega arith; later = omega arith; few = omega arith };
   registry = refl;

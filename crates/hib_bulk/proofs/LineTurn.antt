@@ -17,13 +17,13 @@ use Rattle.hib_bulk_law.specs.Law.{AtEachEntry, IsGivenBack}
 use Rattle.hib_bulk_law.proofs.Entries.{is_wide, plain_rests}
 use Rattle.hib_bulk.specs.Changed.{is_fault}
 use Rattle.hib_bulk.specs.Regions.{region_of, held_by}
-use Rattle.hib_bulk.specs.Standing.{PartsState, IsAnswered, entry_at}
+use Rattle.hib_bulk.specs.Standing.{BulkPartsState, IsAnswered, entry_at}
 use Rattle.hib_bulk.specs.Run.{IsRun, IsLine, IsLineTurn, LineMoves, is_under_way, entry_of}
 use Rattle.hib_bulk.proofs.Going.{next_of, goes_on, late}
 use Rattle.hib_bulk.proofs.Moved.{own_next, others_next}
 use Rattle.hib_bulk.proofs.Lined.{LineCase, case_of, held_here}
 
-pub turn_of_line : (said script : Script) (lines : List BulkDef) (from : Origin) (h : Bulked) (s : ℕ) (d : BulkDef) (m : ℕ) (b : Bool) (a : BulkAct) (x : PartsState) → said ≡ script → IsRun script lines from h x →
+pub turn_of_line : (said script : Script) (lines : List BulkDef) (from : Origin) (h : Bulked) (s : ℕ) (d : BulkDef) (m : ℕ) (b : Bool) (a : BulkAct) (x : BulkPartsState) → said ≡ script → IsRun script lines from h x →
     nat_lt s (length script.sessions) ≡ false → line script lines s ≡ Some d → Some a ≡ slice_get (acts_of said s d) m → IsLine script h s d m b → length h < 2 ^ 62 →
     IsLineTurn script lines from.tables h s d m b a x
 turn_of_line said script lines from h s d m b a x q run k l p i f = record {
@@ -89,7 +89,7 @@ record Leaves (script : Script) (h : Bulked) (s : ℕ) (d : BulkDef) (m : ℕ) (
   deferred : deferred (own s (plain (e ∷ h))) ≡ []
   others : (n : ℕ) → (s == n) ≡ false → own n (plain (e ∷ h)) ≡ own n (plain h)
 
-module _ (script : Script) (lines : List BulkDef) (told : Option Tables) (h : Bulked) (s : ℕ) (d : BulkDef) (m : ℕ) (b : Bool) (a : BulkAct) (x : PartsState) (k : IsLineTurn script lines told h s d m b a x) where
+module _ (script : Script) (lines : List BulkDef) (told : Option Tables) (h : Bulked) (s : ℕ) (d : BulkDef) (m : ℕ) (b : Bool) (a : BulkAct) (x : BulkPartsState) (k : IsLineTurn script lines told h s d m b a x) where
   due : next script lines h s ≡ Some a
   due = due_of_line script lines h s d m b k.known k.line k.stands ∙ k.act
 
@@ -141,7 +141,7 @@ module _ (script : Script) (lines : List BulkDef) (told : Option Tables) (h : Bu
     deferred = (leaves r).deferred;
   }
 
-pub line_moves : (script : Script) (lines : List BulkDef) (from : Origin) (h new : Bulked) (s : ℕ) (d : BulkDef) (m : ℕ) (b : Bool) (a : BulkAct) (r : BulkReply) (x w : PartsState) → IsRun script lines from h x →
+pub line_moves : (script : Script) (lines : List BulkDef) (from : Origin) (h new : Bulked) (s : ℕ) (d : BulkDef) (m : ℕ) (b : Bool) (a : BulkAct) (r : BulkReply) (x w : BulkPartsState) → IsRun script lines from h x →
     IsLineTurn script lines from.tables h s d m b a x → IsAnswered script lines from.tables h s (length h + 1) a r w → (is_fault r ≡ true → Rose x.store.faults w.store.faults) → x.store.faults ≤ w.store.faults →
     w.store.entities ≡ x.store.entities → new ≡ entry_of h s a r ∷ h → LineMoves script lines from s d h new x w (m + 1) (b || fails a r)
 line_moves script lines from h new s d m b a r x w run k v f g e grown = record {

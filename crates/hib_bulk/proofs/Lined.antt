@@ -28,10 +28,10 @@ use Rattle.hib_bulk_region.specs.Region.{BulkState}
 use Rattle.hib_bulk_region.specs.Steps as Steps
 use Rattle.hib_bulk_region.specs.Stands.{IsBulkRegion}
 use Rattle.hib_bulk_region.specs.Laws as Wide
-use Rattle.hib_bulk.specs.declared.region.Region.{Region}
+use Rattle.hib_bulk.specs.declared.region.EntityRegion.{EntityRegion}
 use Rattle.hib_bulk.specs.Changed.{IsChanged, tables_changed}
 use Rattle.hib_bulk.specs.Regions.{region_of, held_by, locked_all, unlocked_all, IsAtRegion, IsOfEntity, IsPlaced}
-use Rattle.hib_bulk.specs.Standing.{PartsState, ArePlain, IsAnswered, told_committed, entry_at}
+use Rattle.hib_bulk.specs.Standing.{BulkPartsState, ArePlain, IsAnswered, told_committed, entry_at}
 use Rattle.hib_bulk.specs.Run.{IsLineTurn, is_under_way, outcome_of}
 use Rattle.hib_bulk.proofs.Placed.{placed_stays, regions_by, other_way}
 use Rattle.hib_bulk.proofs.Replies.{due_plain}
@@ -57,7 +57,7 @@ line_case false n b (suc zero) x p = LineCase.Changes (sym (same_Some (BulkAct.B
 line_case false n b (suc (suc zero)) x p = LineCase.Ends (sym (same_Some (BulkAct.Plain Act.End) x p)) refl
 line_case false n b (suc (suc (suc m))) x p = absurd (none-some x p)
 
-module _ (script : Script) (lines : List BulkDef) (told : Option Tables) (h : Bulked) (s : ℕ) (d : BulkDef) (m : ℕ) (b : Bool) (a : BulkAct) (x : PartsState) (k : IsLineTurn script lines told h s d m b a x) where
+module _ (script : Script) (lines : List BulkDef) (told : Option Tables) (h : Bulked) (s : ℕ) (d : BulkDef) (m : ℕ) (b : Bool) (a : BulkAct) (x : BulkPartsState) (k : IsLineTurn script lines told h s d m b a x) where
   pub case_of : LineCase (is_cached script d.entity) d.entity s m a
   case_of = line_case (is_cached script d.entity) d.entity s m a k.act
 
@@ -111,7 +111,7 @@ module _ (script : Script) (lines : List BulkDef) (told : Option Tables) (h : Bu
     query = tt;
   }
 
-  pub line_begins : Laws → Wide.Stays → a ≡ BulkAct.Plain Act.Begin → (r : Reply) (y : PartsState) →
+  pub line_begins : Laws → Wide.Stays → a ≡ BulkAct.Plain Act.Begin → (r : Reply) (y : BulkPartsState) →
       ((l : Journal) → IsRegistry x.registry l → Lists.IsLate Part.Registry (length h + 1) l → Act.Begin ≡ Act.Begin → IsServed (λ m. IsRegistry y.registry m) script l (Some s) (length h + 1) Act.Begin r) →
       y.store ≡ x.store → y.stamps ≡ x.stamps → y.regions ≡ x.regions → y.results ≡ x.results → IsAnswered script lines told h s (length h + 1) (BulkAct.Plain Act.Begin) (BulkReply.Plain r) y
   line_begins l w e r y served b c f i = record {
@@ -134,7 +134,7 @@ module _ (script : Script) (lines : List BulkDef) (told : Option Tables) (h : Bu
   outcome_due true c e = subst (λ z. Outcome.Fault ≡ cond z Outcome.Fault Outcome.Committed) e refl
   outcome_due false c e = subst (λ z. Outcome.Committed ≡ cond z Outcome.Fault Outcome.Committed) e refl
 
-  pub line_ends : Laws → Wide.Stays → a ≡ BulkAct.Plain Act.End → (y : PartsState) →
+  pub line_ends : Laws → Wide.Stays → a ≡ BulkAct.Plain Act.End → (y : BulkPartsState) →
       ((l : Journal) (now : ℕ) (r : Reply) → IsRegistry x.registry l → Lists.IsLate Part.Registry now l → IsRegistry y.registry (Lists.entry_at now (Some s) Act.End r ∷ l)) →
       y.store ≡ x.store → y.stamps ≡ x.stamps → y.regions ≡ x.regions → y.results ≡ x.results →
       IsAnswered script lines told h s (length h + 1) (BulkAct.Plain Act.End) (BulkReply.Plain (Reply.Ended (outcome_of b))) y
@@ -165,7 +165,7 @@ module _ (script : Script) (lines : List BulkDef) (told : Option Tables) (h : Bu
   -- ---- acts that are not in the plain journal
 
   -- such an entry leaves what the plain journal gives
-  plain_same : (e : BulkEntry) (y : PartsState) → is_wide e.act ≡ true → y.store.written ≡ x.store.written → y.registry ≡ x.registry → y.stamps ≡ x.stamps → y.results ≡ x.results → ArePlain script (plain (e ∷ h)) y
+  plain_same : (e : BulkEntry) (y : BulkPartsState) → is_wide e.act ≡ true → y.store.written ≡ x.store.written → y.registry ≡ x.registry → y.stamps ≡ x.stamps → y.results ≡ x.results → ArePlain script (plain (e ∷ h)) y
   plain_same e y w c r t u = subst (λ g. ArePlain script g y) (sym (plain_rests e h w)) (record {
     changes = λ n. ap (λ v. changes_in v n) c ∙ k.standing.plain.changes n;
     bridged = k.standing.plain.bridged;
@@ -175,7 +175,7 @@ module _ (script : Script) (lines : List BulkDef) (told : Option Tables) (h : Bu
     live = k.standing.plain.live;
   })
 
-  pub line_changes : Wide.Stays → (r : BulkReply) (y : PartsState) → a ≡ BulkAct.Bulk s → IsChanged d r x.store y.store → y.registry ≡ x.registry → y.stamps ≡ x.stamps → y.regions ≡ x.regions →
+  pub line_changes : Wide.Stays → (r : BulkReply) (y : BulkPartsState) → a ≡ BulkAct.Bulk s → IsChanged d r x.store y.store → y.registry ≡ x.registry → y.stamps ≡ x.stamps → y.regions ≡ x.regions →
       y.results ≡ x.results → IsAnswered script lines told h s (length h + 1) (BulkAct.Bulk s) r y
   line_changes w r y p v c f g i = record {
     reply = reply told k.standing.rows;
@@ -214,15 +214,15 @@ module _ (script : Script) (lines : List BulkDef) (told : Option Tables) (h : Bu
       rows (Some start) _ = refl
 
   -- an act on a whole region
-  wide_answered : Wide.Stays → (act : BulkAct) (n : ℕ) (r : BulkReply) (y : PartsState) (st nx : BulkState) → is_wide act ≡ true → part_of act s ≡ Part.Region n →
+  wide_answered : Wide.Stays → (act : BulkAct) (n : ℕ) (r : BulkReply) (y : BulkPartsState) (st nx : BulkState) → is_wide act ≡ true → part_of act s ≡ Part.Region n →
       ((i : ℕ) → (n == i) ≡ false → Wide.is_of i act ≡ false) → Wide.restarts act ≡ false → changer act r ≡ None → committer s act r ≡ None →
-      IsReply script lines told h (entry_at (length h + 1) s act r) → region_of x.regions n ≡ Region.ReadWrite st → region_of y.regions n ≡ Region.ReadWrite nx → nx.inner ≡ st.inner →
+      IsReply script lines told h (entry_at (length h + 1) s act r) → region_of x.regions n ≡ EntityRegion.ReadWrite st → region_of y.regions n ≡ EntityRegion.ReadWrite nx → nx.inner ≡ st.inner →
       IsBulkRegion nx n (entry_at (length h + 1) s act r ∷ h) → IsAtRegion n x.regions y.regions → y ≡ record x { regions = y.regions } → IsAnswered script lines told h s (length h + 1) act r y
   wide_answered w act n r y st nx wide part apart stays c1 c2 reply was is inner stands at same = record {
     reply = reply;
     standing = record {
-      rows = ap (λ (z : PartsState). z.store.tables) same ∙ (k.standing.rows ∙ rows_rest script lines told h e c1 c2);
-      plain = plain_same e y wide (ap (λ (z : PartsState). z.store.written) same) (ap (λ (z : PartsState). z.registry) same) (ap (λ (z : PartsState). z.stamps) same) (ap (λ (z : PartsState). z.results) same);
+      rows = ap (λ (z : BulkPartsState). z.store.tables) same ∙ (k.standing.rows ∙ rows_rest script lines told h e c1 c2);
+      plain = plain_same e y wide (ap (λ (z : BulkPartsState). z.store.written) same) (ap (λ (z : BulkPartsState). z.registry) same) (ap (λ (z : BulkPartsState). z.stamps) same) (ap (λ (z : BulkPartsState). z.results) same);
       regions = regions_by (λ i z. IsPlaced script i (e ∷ h) z) n x.regions y.regions at (subst (λ z. IsPlaced script n (e ∷ h) z) (sym is) here)
           (λ i q. placed_stays w script h e i (region_of x.regions i) (record { part = ap (same_part (Part.Region i)) part ∙ other_way n i q; act = apart i q; stays = stays }) (k.standing.regions i));
       entities = at.all ∙ k.standing.entities;
@@ -239,12 +239,12 @@ module _ (script : Script) (lines : List BulkDef) (told : Option Tables) (h : Bu
       here = record { strategy = before.strategy; capacity = ap (λ z. z.capacity) inner ∙ before.capacity; timeout = ap (λ z. z.timeout) inner ∙ before.timeout; stands = stands }
 
   -- the region of a cached entity
-  region_here : (n : ℕ) → is_cached script n ≡ true → (st : BulkState) × (region_of x.regions n ≡ Region.ReadWrite st) × IsBulkRegion st n h
+  region_here : (n : ℕ) → is_cached script n ≡ true → (st : BulkState) × (region_of x.regions n ≡ EntityRegion.ReadWrite st) × IsBulkRegion st n h
   region_here n c = by_region (region_of x.regions n) refl
     where
-      by_region : (z : Region) → region_of x.regions n ≡ z → (st : BulkState) × (region_of x.regions n ≡ Region.ReadWrite st) × IsBulkRegion st n h
-      by_region Region.Uncached q = absurd (uncached_not (strategy script n) (subst (λ z. IsPlaced script n h z) q (k.standing.regions n)) c)
-      by_region (Region.ReadWrite st) q = (st, q, (subst (λ z. IsPlaced script n h z) q (k.standing.regions n)).stands)
+      by_region : (z : EntityRegion) → region_of x.regions n ≡ z → (st : BulkState) × (region_of x.regions n ≡ EntityRegion.ReadWrite st) × IsBulkRegion st n h
+      by_region EntityRegion.Uncached q = absurd (uncached_not (strategy script n) (subst (λ z. IsPlaced script n h z) q (k.standing.regions n)) c)
+      by_region (EntityRegion.ReadWrite st) q = (st, q, (subst (λ z. IsPlaced script n h z) q (k.standing.regions n)).stands)
 
   cached_if : (n : ℕ) → (a ≡ BulkAct.LockAll n) ⊎ (a ≡ BulkAct.UnlockAll n) → is_cached script n ≡ true
   cached_if n o = by_case case_of o
@@ -261,12 +261,12 @@ module _ (script : Script) (lines : List BulkDef) (told : Option Tables) (h : Bu
       by_case (LineCase.Ends p q) (inl e) = let g : BulkAct.LockAll n ≡ BulkAct.Plain Act.End = sym e ∙ p in absurd (cc)
       by_case (LineCase.Ends p q) (inr e) = let g : BulkAct.UnlockAll n ≡ BulkAct.Plain Act.End = sym e ∙ p in absurd (cc)
 
-  pub line_locks : Wide.Stays → Wide.LocksAll → Wide.LockAllGrows → (n : ℕ) (r : BulkReply) (y : PartsState) → a ≡ BulkAct.LockAll n → r ≡ BulkReply.Held (held_by (region_of y.regions n)) →
+  pub line_locks : Wide.Stays → Wide.LocksAll → Wide.LockAllGrows → (n : ℕ) (r : BulkReply) (y : BulkPartsState) → a ≡ BulkAct.LockAll n → r ≡ BulkReply.Held (held_by (region_of y.regions n)) →
       region_of y.regions n ≡ locked_all (region_of x.regions n) → IsAtRegion n x.regions y.regions → y ≡ record x { regions = y.regions } →
       IsAnswered script lines told h s (length h + 1) (BulkAct.LockAll n) r y
   line_locks w v g n r y p q here at same =
       let t = region_here n (cached_if n (inl p)) in
-      let is : region_of y.regions n ≡ Region.ReadWrite (Steps.locked_all t.0) = here ∙ ap locked_all t.1 in
+      let is : region_of y.regions n ≡ EntityRegion.ReadWrite (Steps.locked_all t.0) = here ∙ ap locked_all t.1 in
       let due : (rows : Tables) → r ≡ reply_of script lines rows h s (length h + 1) (BulkAct.LockAll n) =
       λ rows. q ∙ (ap (λ z. BulkReply.Held (held_by z)) is ∙ v script lines rows h s (length h + 1) n t.0 t.2) in
       wide_answered w (BulkAct.LockAll n) n r y t.0 (Steps.locked_all t.0) refl refl (λ i u. u) refl refl refl (reply due told) t.1 is refl (g h (entry_at (length h + 1) s (BulkAct.LockAll n) r) t.0 n refl t.2) at same
@@ -275,12 +275,12 @@ module _ (script : Script) (lines : List BulkDef) (told : Option Tables) (h : Bu
       reply due None = (refl, λ z. inl (due []))
       reply due (Some start) = inl (due (committed script lines start h))
 
-  pub line_unlocks : Wide.Stays → Wide.UnlocksAll → Wide.UnlockAllGrows → (n : ℕ) (r : BulkReply) (y : PartsState) → a ≡ BulkAct.UnlockAll n → r ≡ BulkReply.Released (held_by (region_of y.regions n)) →
+  pub line_unlocks : Wide.Stays → Wide.UnlocksAll → Wide.UnlockAllGrows → (n : ℕ) (r : BulkReply) (y : BulkPartsState) → a ≡ BulkAct.UnlockAll n → r ≡ BulkReply.Released (held_by (region_of y.regions n)) →
       region_of y.regions n ≡ unlocked_all (length h + 1) (region_of x.regions n) → IsAtRegion n x.regions y.regions → y ≡ record x { regions = y.regions } →
       IsAnswered script lines told h s (length h + 1) (BulkAct.UnlockAll n) r y
   line_unlocks w v g n r y p q here at same =
       let t = region_here n (cached_if n (inr p)) in
-      let is : region_of y.regions n ≡ Region.ReadWrite (Steps.unlocked_all (length h + 1) t.0) = here ∙ ap (unlocked_all (length h + 1)) t.1 in
+      let is : region_of y.regions n ≡ EntityRegion.ReadWrite (Steps.unlocked_all (length h + 1) t.0) = here ∙ ap (unlocked_all (length h + 1)) t.1 in
       let due : (rows : Tables) → r ≡ reply_of script lines rows h s (length h + 1) (BulkAct.UnlockAll n) =
       λ rows. q ∙ (ap (λ z. BulkReply.Released (held_by z)) is ∙ v script lines rows h s (length h + 1) n t.0 t.2) in
       wide_answered w (BulkAct.UnlockAll n) n r y t.0 (Steps.unlocked_all (length h + 1) t.0) refl refl (λ i u. u) refl refl refl (reply due told) t.1 is refl (g h (entry_at (length h + 1) s (BulkAct.UnlockAll n) r) t.0 n refl t.2) at same

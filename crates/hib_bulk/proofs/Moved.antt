@@ -27,7 +27,7 @@ use Rattle.hib_bulk_law.specs.Wide.{is_old}
 use Rattle.hib_bulk_law.specs.Acts.{next, swept_for}
 use Rattle.hib_bulk_law.proofs.Entries.{no_line, plain_does, plain_sweeps, swept_of}
 use Rattle.hib_bulk.specs.Regions.{region_of, has_old_in, swept, IsAtRegion, IsPlaced}
-use Rattle.hib_bulk.specs.Standing.{PartsState, ArePlain, AreStanding, IsStill, IsReady, IsTold}
+use Rattle.hib_bulk.specs.Standing.{BulkPartsState, ArePlain, AreStanding, IsStill, IsReady, IsTold}
 use Rattle.hib_bulk.proofs.Placed.{swept_key, old_is, regions_by, placed_swept, swept_elsewhere, placed_stays}
 use Rattle.hib_bulk.proofs.Kept.{rows_rest}
 use Rattle.hib_bulk.specs.Run.{IsRun, IsTurn, IsSwept, Answers, Serves, Sweeps, Leaves, Moves, entry_of, plain_entry, sweeps}
@@ -37,12 +37,12 @@ pub known_none : (script : Script) (lines : List BulkDef) (s : ℕ) → s < leng
 known_none script lines s l = no_line script lines s (lt-ltb s (length script.sessions) l)
 
 -- a run whose session has an act due is ready for it
-pub ready_of : (script : Script) (lines : List BulkDef) (from : Origin) (h : Bulked) (y : Session) (a : Act) (x : PartsState) → IsRun script lines from h x → IsTurn script h y a → IsSwept script h a →
+pub ready_of : (script : Script) (lines : List BulkDef) (from : Origin) (h : Bulked) (y : Session) (a : Act) (x : BulkPartsState) → IsRun script lines from h x → IsTurn script h y a → IsSwept script h a →
     IsReady script lines from.tables h (number_of y) (length h + 1) a x
 ready_of script lines from h y a x run t w =
     record { standing = run.standing; late = late script lines from h x run; due = t.due; session = known_none script lines (number_of y) t.known; swept = w }
 
-pub answers_of : (script : Script) (lines : List BulkDef) (from : Origin) (y : Session) (a : Act) (r : BulkReply) (h : Bulked) (x z : PartsState) → IsRun script lines from h x → IsTurn script h y a →
+pub answers_of : (script : Script) (lines : List BulkDef) (from : Origin) (y : Session) (a : Act) (r : BulkReply) (h : Bulked) (x z : BulkPartsState) → IsRun script lines from h x → IsTurn script h y a →
     IsSwept script h a → IsTold script lines from.tables h (number_of y) (length h + 1) a r x z → length h < 2 ^ 62 → x.store.faults ≤ z.store.faults → z.store.entities ≡ x.store.entities →
     Answers script lines from (number_of y) a r h x z
 answers_of script lines from y a r h x z run t w told l f e = record {
@@ -58,7 +58,7 @@ entry_is h s n t a r q p e d u v =
     ap (λ i. make i p n q) e ∙ (ap (λ i. make (length h + 1) i n q) u ∙ (ap (λ i. make (length h + 1) (Legal.part_of a i) i q) d ∙ ap (λ i. make (length h + 1) (Legal.part_of a s) s i) v))
 
 -- nothing was added
-pub leaves_of : (told script : Script) (h new : Bulked) (x w : PartsState) (y z : Session) → told ≡ script → new ≡ h → IsStill x w → w.store.entities ≡ x.store.entities →
+pub leaves_of : (told script : Script) (h new : Bulked) (x w : BulkPartsState) (y z : Session) → told ≡ script → new ≡ h → IsStill x w → w.store.entities ≡ x.store.entities →
     ((mine : Journal) → Follows told y mine → Follows told z mine) → Leaves script h new x w y z
 leaves_of told script h new x w y z q e u d f = record {
   same = e;
@@ -67,7 +67,7 @@ leaves_of told script h new x w y z q e u d f = record {
   follows = subst (λ (v : Script). (mine : Journal) → Follows v y mine → Follows v z mine) q f;
 }
 
-pub leaves_on : (told script : Script) (h new : Bulked) (x w : PartsState) (y u z : Session) → told ≡ script → ((mine : Journal) → Follows told y mine → Follows told u mine) →
+pub leaves_on : (told script : Script) (h new : Bulked) (x w : BulkPartsState) (y u z : Session) → told ≡ script → ((mine : Journal) → Follows told y mine → Follows told u mine) →
     Leaves script h new x w u z → Leaves script h new x w y z
 leaves_on told script h new x w y u z q f v = record {
   same = v.same;
@@ -98,7 +98,7 @@ others_next h s n a r d = ap (own n) (plain_does (entry_of h s (BulkAct.Plain a)
 own_swept : (h : Bulked) (s n : ℕ) (k : Key) → own n (plain (entry_of h s (BulkAct.Sweep k) BulkReply.Swept ∷ h)) ≡ own n (plain h)
 own_swept h s n k = ap (own n) (plain_sweeps (entry_of h s (BulkAct.Sweep k) BulkReply.Swept) h k refl)
 
-pub moves_of : (told script : Script) (lines : List BulkDef) (from : Origin) (a : Act) (h new : Bulked) (x w : PartsState) (y u z : Session) → told ≡ script → number_of u ≡ number_of y →
+pub moves_of : (told script : Script) (lines : List BulkDef) (from : Origin) (a : Act) (h new : Bulked) (x w : BulkPartsState) (y u z : Session) → told ≡ script → number_of u ≡ number_of y →
     left_in told u ≤ left_in told y → IsTurn script h u a → IsSwept script h a → Serves script lines from a h new x w u z → Moves script lines from h new x w y z
 moves_of told script lines from a h new x w y u z q e l t f v = record {
   entry = entry_of h (number_of u) (BulkAct.Plain a) v.answer;
@@ -114,7 +114,7 @@ moves_of told script lines from a h new x w y u z q e l t f v = record {
   fault = v.fault;
 }
 
-pub moves_swept : (told script : Script) (lines : List BulkDef) (from : Origin) (a : Act) (k : Key) (h new : Bulked) (x w : PartsState) (y u : Session) → told ≡ script → number_of u ≡ number_of y →
+pub moves_swept : (told script : Script) (lines : List BulkDef) (from : Origin) (a : Act) (k : Key) (h new : Bulked) (x w : BulkPartsState) (y u : Session) → told ≡ script → number_of u ≡ number_of y →
     left_in told u ≤ left_in told y → IsTurn script h u a → swept_for a ≡ Some k → is_old script k h ≡ true → Sweeps script lines from (number_of u) k h new x w → Moves script lines from h new x w y u
 moves_swept told script lines from a k h new x w y u q e l t p o v = record {
   entry = entry_of h s (BulkAct.Sweep k) BulkReply.Swept;
@@ -165,14 +165,14 @@ turn_of told script h y u o a q e k f g n d p = subst (λ v. IsTurn v h u a) q (
     follows = subst (λ i. Follows told u (own i (plain h))) (sym e) (g (own (number_of y) (plain h)) (subst (λ v. Follows v y (own (number_of y) (plain h))) (sym q) f))
 
 -- an item of the key that the act names is old, if its region says so
-pub old_of : Wide.FindsOld → (script : Script) (lines : List BulkDef) (from : Origin) (h : Bulked) (u : Session) (a : Act) (x : PartsState) (k : Key) → IsRun script lines from h x → IsTurn script h u a →
+pub old_of : Wide.FindsOld → (script : Script) (lines : List BulkDef) (from : Origin) (h : Bulked) (u : Session) (a : Act) (x : BulkPartsState) (k : Key) → IsRun script lines from h x → IsTurn script h u a →
     swept_for a ≡ Some k → has_old_in (region_of x.regions k.entity) k.id ≡ is_old script k h
 old_of w script lines from h u a x k run t p =
     let q = swept_key a k p in
     old_is w script h k a (region_of x.regions k.entity) (run.standing.regions k.entity) q
     (subst (λ o. Suits (strategy script (entity_of o)) a) q t.due.suits)
 
-pub sweeps_of : Laws → Wide.SweepGrows → Wide.Stays → Wide.FindsOld → (script : Script) (lines : List BulkDef) (from : Origin) (h new : Bulked) (s : ℕ) (k : Key) (x y : PartsState) → IsRun script lines from h x →
+pub sweeps_of : Laws → Wide.SweepGrows → Wide.Stays → Wide.FindsOld → (script : Script) (lines : List BulkDef) (from : Origin) (h new : Bulked) (s : ℕ) (k : Key) (x y : BulkPartsState) → IsRun script lines from h x →
     next script lines h s ≡ Some (BulkAct.Sweep k) → has_old_in (region_of x.regions k.entity) k.id ≡ true → length h < 2 ^ 62 →
     region_of y.regions k.entity ≡ swept (region_of x.regions k.entity) k.id (length h + 1) → IsAtRegion k.entity x.regions y.regions → y ≡ record x { regions = y.regions } →
     new ≡ entry_of h s (BulkAct.Sweep k) BulkReply.Swept ∷ h → Sweeps script lines from s k h new x y
@@ -180,9 +180,9 @@ sweeps_of l w v o script lines from h new s k x y run n old few here at same gro
   grown = grown;
   run = subst (λ (j : Bulked). IsRun script lines from j y) (sym grown)
       (goes_on script lines from h s (BulkAct.Sweep k) BulkReply.Swept x y run n (record { reply = reply from.tables; standing = standing }) few
-      (subst (λ (z : PartsState). x.store.faults ≤ z.store.faults) (sym same) (omega arith)) (λ i. absurd (false≢true i)) (ap (λ (z : PartsState). z.store.entities) same));
+      (subst (λ (z : BulkPartsState). x.store.faults ≤ z.store.faults) (sym same) (omega arith)) (λ i. absurd (false≢true i)) (ap (λ (z : BulkPartsState). z.store.entities) same));
   swept = subst (λ (j : Bulked). is_old script k j ≡ false) (sym grown) (swept_not_old script k h e refl refl);
-  faults = ap (λ (z : PartsState). z.store.faults) same;
+  faults = ap (λ (z : BulkPartsState). z.store.faults) same;
 }
   where
     e : BulkEntry
@@ -207,8 +207,8 @@ sweeps_of l w v o script lines from h new s k x y run n old few here at same gro
 
     standing : AreStanding script lines from.tables (e ∷ h) y
     standing = record {
-      rows = ap (λ (z : PartsState). z.store.tables) same ∙ (run.standing.rows ∙ rows_rest script lines from.tables h e refl refl);
-      plain = subst (λ g. ArePlain script g y) (sym (plain_sweeps e h k refl)) (subst (λ (z : PartsState). ArePlain script (swept_of e k ∷ plain h) z) (sym same) plain_now);
+      rows = ap (λ (z : BulkPartsState). z.store.tables) same ∙ (run.standing.rows ∙ rows_rest script lines from.tables h e refl refl);
+      plain = subst (λ g. ArePlain script g y) (sym (plain_sweeps e h k refl)) (subst (λ (z : BulkPartsState). ArePlain script (swept_of e k ∷ plain h) z) (sym same) plain_now);
       regions = regions_by (λ m z. IsPlaced script m (e ∷ h) z) k.entity x.regions y.regions at
           (subst (λ z. IsPlaced script k.entity (e ∷ h) z) (sym here)
           (placed_swept w script h s k (region_of x.regions k.entity) (late script lines from h x run) old (run.standing.regions k.entity)))

@@ -31,7 +31,7 @@ use Rattle.hib_bulk_region.specs.Answers.{put_reply, inserted_reply}
 use Rattle.hib_bulk_region.specs.Stands.{IsBulkRegion}
 use Rattle.hib_bulk_region.specs.Laws as Wide
 use Rattle.hib_bulk_region.specs.Steps as Steps
-use Rattle.hib_bulk.specs.declared.region.Region.{Region}
+use Rattle.hib_bulk.specs.declared.region.EntityRegion.{EntityRegion}
 use Rattle.hib_bulk.specs.Changed.{is_fault}
 use Rattle.hib_bulk_law.specs.Wide.{is_old}
 use Rattle.hib_bulk_law.specs.Acts.{swept_for}
@@ -175,7 +175,7 @@ kind_due : (script : Script) (lines : List BulkDef) (told : Option Tables) (h : 
 kind_due script lines None h s now a r k q f = (region_kind a r k q, λ p. inl (f []))
 kind_due script lines (Some start) h s now a r k q f = inl (f (committed script lines start h))
 
-pub record IsRegional (script : Script) (lines : List BulkDef) (told : Option Tables) (h : Bulked) (s now n : ℕ) (a : Act) (r : BulkReply) (y : Region) : Type 0 where
+pub record IsRegional (script : Script) (lines : List BulkDef) (told : Option Tables) (h : Bulked) (s now n : ℕ) (a : Act) (r : BulkReply) (y : EntityRegion) : Type 0 where
   pub reply : IsReply script lines told h (entry_at now s (BulkAct.Plain a) r)
   pub placed : IsPlaced script n (entry_at now s (BulkAct.Plain a) r ∷ h) y
 
@@ -197,18 +197,18 @@ unsuited g (Act.RegionRemove k) j q p (inr u) = apart is_nonstrict g Strategy.Un
 unsuited g (Act.Evict k) j q p u = uncached_not g p u
 unsuited g _ j q p u = none-some j q
 
-pub regional : WideAnswers → WideGrows → (script : Script) (lines : List BulkDef) (told : Option Tables) (h : Bulked) (s now n begun : ℕ) (a : Act) (r : BulkReply) (x y : Region) → IsLate now (plain h) →
+pub regional : WideAnswers → WideGrows → (script : Script) (lines : List BulkDef) (told : Option Tables) (h : Bulked) (s now n begun : ℕ) (a : Act) (r : BulkReply) (x y : EntityRegion) → IsLate now (plain h) →
     entity_in a ≡ Some n → begun ≡ time s (plain h) → IsPlaced script n h x → Suits (strategy script n) a → is_outside a ≡ false → r ≡ answer_in x begun now a → y ≡ region_after x begun now a →
     IsRegional script lines told h s now n a r y
-regional w g script lines told h s now n begun a r Region.Uncached y late e b p u o q v = let k = keyed (key_in a) n e in absurd (unsuited (strategy script n) a k.0 k.1 p u)
-regional w g script lines told h s now n begun a r (Region.ReadWrite x) y late e b p u o q v =
+regional w g script lines told h s now n begun a r EntityRegion.Uncached y late e b p u o q v = let k = keyed (key_in a) n e in absurd (unsuited (strategy script n) a k.0 k.1 p u)
+regional w g script lines told h s now n begun a r (EntityRegion.ReadWrite x) y late e b p u o q v =
     let k = keyed (key_in a) n e in
     let t : IsServedBy script lines h s now n x begun a =
     subst (λ i. IsServedBy script lines h s now i x begun a) k.2 (
     served_at w g script lines h s now x begun late a k.0 k.1 b (subst (λ i. IsOfEntity script i x h) (sym k.2) p)
     (subst (λ i. Suits (strategy script i) a) (sym k.2) u) o
     ) in
-    subst (λ z. IsRegional script lines told h s now n a r z) (sym v) (subst (λ z. IsRegional script lines told h s now n a z (Region.ReadWrite (state_after x begun now a))) (sym q) (record {
+    subst (λ z. IsRegional script lines told h s now n a r z) (sym v) (subst (λ z. IsRegional script lines told h s now n a z (EntityRegion.ReadWrite (state_after x begun now a))) (sym q) (record {
       reply = kind_due script lines told h s now a (answer_by x begun now a) k.0 k.1 t.reply;
       placed = let z = sized x begun now a in record { strategy = p.strategy; capacity = z.capacity ∙ p.capacity; timeout = z.timeout ∙ p.timeout; stands = t.stands };
     }))
@@ -238,21 +238,21 @@ calm_inserted (BulkInserted.Wide n) = refl
 calm_inserted (BulkInserted.WideEarly u) = refl
 calm_inserted (BulkInserted.Plain p) = refl
 
-pub calm_in : (x : Region) (begun now : ℕ) (a : Act) → is_fault (answer_in x begun now a) ≡ false
-calm_in Region.Uncached begun now a = refl
-calm_in (Region.ReadWrite x) begun now (Act.Get k time) = calm_wide (is_positive x.holders) x.holders (Regions.got (slot_in x.inner k.id) time) (calm_got (slot_in x.inner k.id) time)
-calm_in (Region.ReadWrite x) begun now (Act.Put k row time floor) = calm_put (Steps.put x k.id row.version time floor)
-calm_in (Region.ReadWrite x) begun now (Act.AfterInsert k row floor) = calm_inserted (Steps.inserted x k.id begun floor)
-calm_in (Region.ReadWrite x) begun now _ = refl
+pub calm_in : (x : EntityRegion) (begun now : ℕ) (a : Act) → is_fault (answer_in x begun now a) ≡ false
+calm_in EntityRegion.Uncached begun now a = refl
+calm_in (EntityRegion.ReadWrite x) begun now (Act.Get k time) = calm_wide (is_positive x.holders) x.holders (Regions.got (slot_in x.inner k.id) time) (calm_got (slot_in x.inner k.id) time)
+calm_in (EntityRegion.ReadWrite x) begun now (Act.Put k row time floor) = calm_put (Steps.put x k.id row.version time floor)
+calm_in (EntityRegion.ReadWrite x) begun now (Act.AfterInsert k row floor) = calm_inserted (Steps.inserted x k.id begun floor)
+calm_in (EntityRegion.ReadWrite x) begun now _ = refl
 
 -- ---- elsewhere
 
-pub placed_stays : Wide.Stays → (script : Script) (h : Bulked) (e : BulkEntry) (n : ℕ) (x : Region) → Wide.IsElsewhere n e → IsPlaced script n h x → IsPlaced script n (e ∷ h) x
-placed_stays l script h e n Region.Uncached w p = p
-placed_stays l script h e n (Region.ReadWrite x) w p = record { strategy = p.strategy; capacity = p.capacity; timeout = p.timeout; stands = l h e x n w p.stands }
+pub placed_stays : Wide.Stays → (script : Script) (h : Bulked) (e : BulkEntry) (n : ℕ) (x : EntityRegion) → Wide.IsElsewhere n e → IsPlaced script n h x → IsPlaced script n (e ∷ h) x
+placed_stays l script h e n EntityRegion.Uncached w p = p
+placed_stays l script h e n (EntityRegion.ReadWrite x) w p = record { strategy = p.strategy; capacity = p.capacity; timeout = p.timeout; stands = l h e x n w p.stands }
 
 -- an act of a session on another region, or on none
-pub placed_kept : Wide.Stays → (script : Script) (h : Bulked) (n s now : ℕ) (a : Act) (r : BulkReply) (x : Region) → IsPlaced script n h x → (is_regional a ≡ true → (acts_on a == n) ≡ false) →
+pub placed_kept : Wide.Stays → (script : Script) (h : Bulked) (n s now : ℕ) (a : Act) (r : BulkReply) (x : EntityRegion) → IsPlaced script n h x → (is_regional a ≡ true → (acts_on a == n) ≡ false) →
     is_restart a ≡ false → IsPlaced script n (entry_at now s (BulkAct.Plain a) r ∷ h) x
 placed_kept l script h n s now a r x p d q =
     let e : BulkEntry = entry_at now s (BulkAct.Plain a) r in
@@ -260,19 +260,19 @@ placed_kept l script h n s now a r x p d q =
     placed_stays l script h e n x (record { part = w.part; act = w.key; stays = w.stays }) p
 
 -- no act of a region is due on an entity that is uncached
-pub none_due : (script : Script) (h : Bulked) (n : ℕ) (a : Act) (x : Region) → x ≡ Region.Uncached → IsPlaced script n h x → entity_in a ≡ Some n → Suits (strategy script n) a → ⊥
-none_due script h n a Region.Uncached e p q u = let k = keyed (key_in a) n q in unsuited (strategy script n) a k.0 k.1 p u
-none_due script h n a (Region.ReadWrite x) e p q u = absurd (cc)
+pub none_due : (script : Script) (h : Bulked) (n : ℕ) (a : Act) (x : EntityRegion) → x ≡ EntityRegion.Uncached → IsPlaced script n h x → entity_in a ≡ Some n → Suits (strategy script n) a → ⊥
+none_due script h n a EntityRegion.Uncached e p q u = let k = keyed (key_in a) n q in unsuited (strategy script n) a k.0 k.1 p u
+none_due script h n a (EntityRegion.ReadWrite x) e p q u = absurd (cc)
 
 -- an act that brings something to its session changes no region
-pub brings_rest : (x : Region) (begun now : ℕ) (a : Act) → brings a ≡ true → region_after x begun now a ≡ x
-brings_rest Region.Uncached begun now a b = refl
-brings_rest (Region.ReadWrite x) begun now (Act.Put k r t f) b = absurd (false≢true b)
-brings_rest (Region.ReadWrite x) begun now (Act.Lock k v f) b = absurd (false≢true b)
-brings_rest (Region.ReadWrite x) begun now (Act.Unlock k i) b = absurd (false≢true b)
-brings_rest (Region.ReadWrite x) begun now (Act.AfterInsert k r f) b = absurd (false≢true b)
-brings_rest (Region.ReadWrite x) begun now (Act.AfterUpdate k i r) b = absurd (false≢true b)
-brings_rest (Region.ReadWrite x) begun now _ b = refl
+pub brings_rest : (x : EntityRegion) (begun now : ℕ) (a : Act) → brings a ≡ true → region_after x begun now a ≡ x
+brings_rest EntityRegion.Uncached begun now a b = refl
+brings_rest (EntityRegion.ReadWrite x) begun now (Act.Put k r t f) b = absurd (false≢true b)
+brings_rest (EntityRegion.ReadWrite x) begun now (Act.Lock k v f) b = absurd (false≢true b)
+brings_rest (EntityRegion.ReadWrite x) begun now (Act.Unlock k i) b = absurd (false≢true b)
+brings_rest (EntityRegion.ReadWrite x) begun now (Act.AfterInsert k r f) b = absurd (false≢true b)
+brings_rest (EntityRegion.ReadWrite x) begun now (Act.AfterUpdate k i r) b = absurd (false≢true b)
+brings_rest (EntityRegion.ReadWrite x) begun now _ b = refl
 
 -- ---- old items
 
@@ -282,14 +282,14 @@ swept_key (Act.Put j r t f) k p = p
 swept_key (Act.Lock j v f) k p = p
 swept_key _ k p = absurd (none-some k p)
 
-pub old_is : Wide.FindsOld → (script : Script) (h : Bulked) (k : Key) (a : Act) (x : Region) → IsPlaced script k.entity h x → key_in a ≡ Some k → Suits (strategy script k.entity) a →
+pub old_is : Wide.FindsOld → (script : Script) (h : Bulked) (k : Key) (a : Act) (x : EntityRegion) → IsPlaced script k.entity h x → key_in a ≡ Some k → Suits (strategy script k.entity) a →
     has_old_in x k.id ≡ is_old script k h
-old_is w script h k a Region.Uncached p q u = absurd (unsuited (strategy script k.entity) a k q p u)
-old_is w script h k a (Region.ReadWrite x) p q u = w script x k h (of_key script k x h p)
+old_is w script h k a EntityRegion.Uncached p q u = absurd (unsuited (strategy script k.entity) a k q p u)
+old_is w script h k a (EntityRegion.ReadWrite x) p q u = w script x k h (of_key script k x h p)
 
 -- ---- all regions, after that of entity n has changed
 
-pub regions_by : (P : ℕ → Region → Type 0) (n : ℕ) (xs ys : List Region) → IsAtRegion n xs ys → P n (region_of ys n) → ((m : ℕ) → (n == m) ≡ false → P m (region_of xs m)) → (m : ℕ) → P m (region_of ys m)
+pub regions_by : (P : ℕ → EntityRegion → Type 0) (n : ℕ) (xs ys : List EntityRegion) → IsAtRegion n xs ys → P n (region_of ys n) → ((m : ℕ) → (n == m) ≡ false → P m (region_of xs m)) → (m : ℕ) → P m (region_of ys m)
 regions_by P n xs ys at here others m = by_test (tested (n == m))
   where
     by_test : Tested (n == m) → P m (region_of ys m)
@@ -300,10 +300,10 @@ pub other_way : (n m : ℕ) → (n == m) ≡ false → (m == n) ≡ false
 other_way n m p = ne_eqb m n (λ e. true≢false (sym (eq-eqb n m (sym e)) ∙ p))
 
 -- an old item is swept away
-pub placed_swept : Wide.SweepGrows → (script : Script) (h : Bulked) (s : ℕ) (k : Key) (x : Region) → IsLate (length h + 1) (plain h) → has_old_in x k.id ≡ true → IsPlaced script k.entity h x →
+pub placed_swept : Wide.SweepGrows → (script : Script) (h : Bulked) (s : ℕ) (k : Key) (x : EntityRegion) → IsLate (length h + 1) (plain h) → has_old_in x k.id ≡ true → IsPlaced script k.entity h x →
     IsPlaced script k.entity (entry_at (length h + 1) s (BulkAct.Sweep k) BulkReply.Swept ∷ h) (swept x k.id (length h + 1))
-placed_swept w script h s k Region.Uncached late o p = absurd (false≢true o)
-placed_swept w script h s k (Region.ReadWrite x) late o p = record {
+placed_swept w script h s k EntityRegion.Uncached late o p = absurd (false≢true o)
+placed_swept w script h s k (EntityRegion.ReadWrite x) late o p = record {
   strategy = p.strategy;
   capacity = p.capacity;
   timeout = p.timeout;

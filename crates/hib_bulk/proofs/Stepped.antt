@@ -14,7 +14,7 @@ use Rattle.hib_session.proofs.Together.{placed_here, placed_there}
 use Rattle.hib_engines.specs.Origin.{Origin}
 use Rattle.hib_engines.specs.declared.stepped.Stepped.{Stepped}
 use Rattle.hib_bulk.specs.Types.{BulkDef, BulkEntry}
-use Rattle.hib_bulk.specs.declared.lines.Progress.{Progress}
+use Rattle.hib_bulk.specs.declared.lines.LineProgress.{LineProgress}
 use Rattle.hib_bulk_law.specs.Plain.{Bulked, plain}
 use Rattle.hib_bulk_law.specs.Acts.{next, steps_of}
 use Rattle.hib_bulk_law.specs.Legal.{has_failed, fails}
@@ -25,7 +25,7 @@ use Rattle.hib_engines.specs.Stamps.{AreStamps}
 use Rattle.hib_engines.specs.Results.{AreResults}
 use Rattle.hib_bulk.specs.Changed.{is_fault}
 use Rattle.hib_bulk.specs.Regions.{region_of, IsPlaced}
-use Rattle.hib_bulk.specs.Standing.{PartsState, ArePlain, IsStill}
+use Rattle.hib_bulk.specs.Standing.{BulkPartsState, ArePlain, IsStill}
 use Rattle.hib_bulk.specs.Run.{IsRun, IsLine, Moves, Leaves, LineMoves}
 use Rattle.hib_bulk.specs.Steps.{AreSessions, AreLines, Adds, HasTurned}
 
@@ -41,7 +41,7 @@ put_there s n xs y z p d = slice_get-get_or xs n y (omega (arith, length-set xs 
 
 -- ---- nothing was added
 
-pub run_still : (script : Script) (lines : List BulkDef) (from : Origin) (h new : Bulked) (x w : PartsState) → IsRun script lines from h x → IsStill x w → w.store.entities ≡ x.store.entities → new ≡ h →
+pub run_still : (script : Script) (lines : List BulkDef) (from : Origin) (h new : Bulked) (x w : BulkPartsState) → IsRun script lines from h x → IsStill x w → w.store.entities ≡ x.store.entities → new ≡ h →
     IsRun script lines from new w
 run_still script lines from h new x w run v e q = subst (λ (j : Bulked). IsRun script lines from j w) (sym q) (record {
   legal = run.legal;
@@ -121,7 +121,7 @@ line_rests script lines h new s n d m b w v q = record {
     other_failed : has_failed n (v.entry ∷ h) ≡ has_failed n h
     other_failed = ap (λ z. (z && fails v.entry.act v.entry.reply) || has_failed n h) other
 
-pub lines_rest : (script : Script) (lines : List BulkDef) (h new : Bulked) (s : ℕ) (ps : List Progress) → s < length script.sessions → AreLines script lines h ps → Adds script lines s h new → AreLines script lines new ps
+pub lines_rest : (script : Script) (lines : List BulkDef) (h new : Bulked) (s : ℕ) (ps : List LineProgress) → s < length script.sessions → AreLines script lines h ps → Adds script lines s h new → AreLines script lines new ps
 lines_rest script lines h new s ps l w v = record {
   all = w.all;
   stand = λ i d p e f. line_rests script lines h new s (length script.sessions + i) d p.steps p.failed (w.stand i d p e f) v
@@ -132,7 +132,7 @@ lines_rest script lines h new s ps l w v = record {
     apart m i n l e = omega (arith, l, e)
 
 -- the lines, of which the one at i is now z
-pub lines_on : (script : Script) (lines : List BulkDef) (h new : Bulked) (i : ℕ) (ps : List Progress) (y z : Progress) → AreLines script lines h ps → slice_get ps i ≡ Some y →
+pub lines_on : (script : Script) (lines : List BulkDef) (h new : Bulked) (i : ℕ) (ps : List LineProgress) (y z : LineProgress) → AreLines script lines h ps → slice_get ps i ≡ Some y →
     ((d : BulkDef) → slice_get lines i ≡ Some d → IsLine script new (length script.sessions + i) d z.steps z.failed) → Adds script lines (length script.sessions + i) h new →
     AreLines script lines new (slice_set ps i z)
 lines_on script lines h new i ps y z w v f o = record {
@@ -146,14 +146,14 @@ lines_on script lines h new i ps y z w v f o = record {
     shifted : (k i n : ℕ) → (i == n) ≡ false → (k + i == k + n) ≡ false
     shifted k i n q = ne_eqb (k + i) (k + n) (λ e. let g : i ≡ n = omega (arith, e) in true≢false (sym (eq-eqb i n g) ∙ q))
 
-    stand : (n : ℕ) (d : BulkDef) (p : Progress) → slice_get lines n ≡ Some d → slice_get (slice_set ps i z) n ≡ Some p → Tested (i == n) → IsLine script new (length script.sessions + n) d p.steps p.failed
+    stand : (n : ℕ) (d : BulkDef) (p : LineProgress) → slice_get lines n ≡ Some d → slice_get (slice_set ps i z) n ≡ Some p → Tested (i == n) → IsLine script new (length script.sessions + n) d p.steps p.failed
     stand n d p e q (inl t) = let g : i ≡ n = eqb-true i n t in
-        subst (λ (u : Progress). IsLine script new (length script.sessions + n) d u.steps u.failed) (sym (put_here i n ps p z l q g))
+        subst (λ (u : LineProgress). IsLine script new (length script.sessions + n) d u.steps u.failed) (sym (put_here i n ps p z l q g))
         (subst (λ m. (d : BulkDef) → slice_get lines m ≡ Some d → IsLine script new (length script.sessions + m) d z.steps z.failed) g f d e)
     stand n d p e q (inr t) =
         line_rests script lines h new (length script.sessions + i) (length script.sessions + n) d p.steps p.failed (w.stand n d p e (put_there i n ps p z q t)) o (shifted (length script.sessions) i n t)
 
-lines_same : (script : Script) (lines : List BulkDef) (h : Bulked) (i : ℕ) (ps : List Progress) (y z : Progress) → AreLines script lines h ps → slice_get ps i ≡ Some y → z ≡ y → AreLines script lines h (slice_set ps i z)
+lines_same : (script : Script) (lines : List BulkDef) (h : Bulked) (i : ℕ) (ps : List LineProgress) (y z : LineProgress) → AreLines script lines h ps → slice_get ps i ≡ Some y → z ≡ y → AreLines script lines h (slice_set ps i z)
 lines_same script lines h i ps y z w v q = record {
   all = length-set ps i z ∙ w.all;
   stand = λ n d p e f. stand n d p e f (tested (i == n));
@@ -162,7 +162,7 @@ lines_same script lines h i ps y z w v q = record {
     l : i < length ps
     l = slice_get_within ps i y v
 
-    stand : (n : ℕ) (d : BulkDef) (p : Progress) → slice_get lines n ≡ Some d → slice_get (slice_set ps i z) n ≡ Some p → Tested (i == n) → IsLine script h (length script.sessions + n) d p.steps p.failed
+    stand : (n : ℕ) (d : BulkDef) (p : LineProgress) → slice_get lines n ≡ Some d → slice_get (slice_set ps i z) n ≡ Some p → Tested (i == n) → IsLine script h (length script.sessions + n) d p.steps p.failed
     stand n d p e f (inl t) = let g : i ≡ n = eqb-true i n t in
         w.stand n d p e (subst (λ m. slice_get ps m ≡ Some p) g (v ∙ ap Some (sym (put_here i n ps p z l f g ∙ q))))
     stand n d p e f (inr t) = w.stand n d p e (put_there i n ps p z f t)
@@ -172,10 +172,10 @@ lines_same script lines h i ps y z w v q = record {
 pub session_at : (script : Script) (h : Bulked) (xs : List Session) (i s : ℕ) (y : Session) → AreSessions script h xs → i ≡ s → s < length script.sessions → y ≡ get_or xs i y → slice_get xs s ≡ Some y
 session_at script h xs i s y w e l v = slice_get-get_or xs s y (subst (λ n. s < n) (sym w.all) l) ∙ ap Some (sym (subst (λ n. y ≡ get_or xs n y) e v))
 
-pub record Turned (script : Script) (lines : List BulkDef) (from : Origin) (s : ℕ) (r : Result Stepped AllocError) (h new : Bulked) (x w : PartsState) (ys : List Session) : Type 0 where
+pub record Turned (script : Script) (lines : List BulkDef) (from : Origin) (s : ℕ) (r : Result Stepped AllocError) (h new : Bulked) (x w : BulkPartsState) (ys : List Session) : Type 0 where
   pub turned : HasTurned script lines from s r h new x w
   pub sessions : AreSessions script new ys
-  pub rest : (ps : List Progress) → AreLines script lines h ps → AreLines script lines new ps
+  pub rest : (ps : List LineProgress) → AreLines script lines h ps → AreLines script lines new ps
 
 -- the one entry that was added
 same_entry : (e f : BulkEntry) (h new : Bulked) → new ≡ e ∷ h → new ≡ f ∷ h → e ≡ f
@@ -184,7 +184,7 @@ same_entry e f h new p q = cc
 no_entry : (e : BulkEntry) (h new : Bulked) → new ≡ h → new ≡ e ∷ h → ⊥
 no_entry e h new p q = let l = ap length (sym p ∙ q) in omega (arith, l)
 
-fault_by : (e : BulkEntry) (h new : Bulked) (x w : PartsState) → new ≡ e ∷ h → (is_fault e.reply ≡ true → Rose x.store.faults w.store.faults) →
+fault_by : (e : BulkEntry) (h new : Bulked) (x w : BulkPartsState) → new ≡ e ∷ h → (is_fault e.reply ≡ true → Rose x.store.faults w.store.faults) →
     (f : BulkEntry) → new ≡ f ∷ h → is_fault f.reply ≡ true → Rose x.store.faults w.store.faults
 fault_by e h new x w p g f q i = g (subst (λ (z : BulkEntry). is_fault z.reply ≡ true) (sym (same_entry e f h new p q)) i)
 
@@ -197,7 +197,7 @@ did_not p = cc
 err_not : (e : AllocError) (t : Stepped) → ◌≡◌ {A = Result Stepped AllocError} (Err e) (Ok t) → ⊥
 err_not e t p = cc
 
-pub turned : (script : Script) (lines : List BulkDef) (from : Origin) (s : ℕ) (r : Result Stepped AllocError) (h new : Bulked) (x w : PartsState) (xs : List Session) (y z : Session) → s < length script.sessions →
+pub turned : (script : Script) (lines : List BulkDef) (from : Origin) (s : ℕ) (r : Result Stepped AllocError) (h new : Bulked) (x w : BulkPartsState) (xs : List Session) (y z : Session) → s < length script.sessions →
     IsRun script lines from h x → AreSessions script h xs → slice_get xs s ≡ Some y → number_of z ≡ number_of y → (r ≡ Ok Stepped.Did → Moves script lines from h new x w y z) →
     (r ≡ Ok Stepped.Done → next script lines h (number_of y) ≡ None) → (r ≢ Ok Stepped.Did → Leaves script h new x w y z) → Turned script lines from s r h new x w (slice_set xs s z)
 turned script lines from s r h new x w xs y z l run all p k did done still = by_result r refl
@@ -250,22 +250,22 @@ turned script lines from s r h new x w xs y z l run all p k did done still = by_
 
 -- ---- a step of a line
 
-pub record LineTurned (script : Script) (lines : List BulkDef) (from : Origin) (s : ℕ) (r : Result Stepped AllocError) (h new : Bulked) (x w : PartsState) (ps : List Progress) : Type 0 where
+pub record LineTurned (script : Script) (lines : List BulkDef) (from : Origin) (s : ℕ) (r : Result Stepped AllocError) (h new : Bulked) (x w : BulkPartsState) (ps : List LineProgress) : Type 0 where
   pub turned : HasTurned script lines from s r h new x w
   pub progress : AreLines script lines new ps
   pub rest : (xs : List Session) → AreSessions script h xs → AreSessions script new xs
 
-pub line_at : (lines : List BulkDef) (ps : List Progress) (i : ℕ) (y : Progress) → length ps ≡ length lines → i < length lines → y ≡ get_or ps i y → slice_get ps i ≡ Some y
+pub line_at : (lines : List BulkDef) (ps : List LineProgress) (i : ℕ) (y : LineProgress) → length ps ≡ length lines → i < length lines → y ≡ get_or ps i y → slice_get ps i ≡ Some y
 line_at lines ps i y e l v = slice_get-get_or ps i y (omega (arith, l, e)) ∙ ap Some (sym v)
 
 pub def_at : (told lines : List BulkDef) (i : ℕ) (d : BulkDef) → told ≡ lines → i < length lines → d ≡ get_or told i d → slice_get lines i ≡ Some d
 def_at told lines i d q l v = slice_get-get_or lines i d l ∙ ap Some (sym (subst (λ ds. d ≡ get_or ds i d) q v))
 
-pub adds_line : (script : Script) (lines : List BulkDef) (from : Origin) (s : ℕ) (d : BulkDef) (h new : Bulked) (x w : PartsState) (m : ℕ) (b : Bool) → LineMoves script lines from s d h new x w m b →
+pub adds_line : (script : Script) (lines : List BulkDef) (from : Origin) (s : ℕ) (d : BulkDef) (h new : Bulked) (x w : BulkPartsState) (m : ℕ) (b : Bool) → LineMoves script lines from s d h new x w m b →
     Adds script lines s h new
 adds_line script lines from s d h new x w m b v = record { entry = v.entry; by = v.by; grown = v.grown; due = v.due; others = v.others }
 
-pub line_turned : (script : Script) (lines : List BulkDef) (from : Origin) (i s : ℕ) (r : Result Stepped AllocError) (h new : Bulked) (x w : PartsState) (ps : List Progress) (y z : Progress) (d : BulkDef) →
+pub line_turned : (script : Script) (lines : List BulkDef) (from : Origin) (i s : ℕ) (r : Result Stepped AllocError) (h new : Bulked) (x w : BulkPartsState) (ps : List LineProgress) (y z : LineProgress) (d : BulkDef) →
     s ≡ length script.sessions + i → IsRun script lines from h x → AreLines script lines h ps → slice_get ps i ≡ Some y → slice_get lines i ≡ Some d →
     (r ≡ Ok Stepped.Did → LineMoves script lines from s d h new x w z.steps z.failed) → (r ≡ Ok Stepped.Done → next script lines h s ≡ None) →
     (r ≢ Ok Stepped.Did → (new ≡ h) × (z ≡ y)) → (r ≢ Ok Stepped.Did → IsStill x w) → w.store.entities ≡ x.store.entities →

@@ -14,7 +14,7 @@ abbrev pub is_fault : BulkReply → Bool
 is_fault (BulkReply.Plain r) = Runs.is_fault r
 is_fault _ = false
 
--- what a line answers whose changes, so many, were answered so
+-- what a line answers that changes n rows, by what the store has answered
 abbrev pub answer_of : Commit → ℕ → BulkReply
 answer_of Commit.Committed n = BulkReply.Changed n
 answer_of (Commit.Stale k found) n = BulkReply.Changed 0

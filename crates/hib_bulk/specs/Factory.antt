@@ -5,17 +5,17 @@ use Rattle.hib_playing.specs.Playing.{GoesOn}
 use Rattle.hib_session.specs.declared.session.Session.{Session}
 use Rattle.hib_engines.specs.Origin.{Origin}
 use Rattle.hib_bulk.specs.Types.{BulkDef}
-use Rattle.hib_bulk.specs.declared.lines.Progress.{Progress}
+use Rattle.hib_bulk.specs.declared.lines.LineProgress.{LineProgress}
 use Rattle.hib_bulk.specs.Kept.{Kept, past}
-use Rattle.hib_bulk.specs.Standing.{PartsState}
+use Rattle.hib_bulk.specs.Standing.{BulkPartsState}
 use Rattle.hib_bulk.specs.Run.{IsRun}
 use Rattle.hib_bulk.specs.Steps.{AreSessions, AreLines}
 
 pub record FactoryState : Type 0 where
   pub journal : Kept
-  pub parts : PartsState
+  pub parts : BulkPartsState
   pub sessions : List Session
-  pub progress : List Progress
+  pub progress : List LineProgress
 
 pub record IsStanding (script : Script) (lines : List BulkDef) (from : Origin) (f : FactoryState) : Type 0 where
   pub run : IsRun script lines from (past f.journal) f.parts

@@ -10,44 +10,44 @@ use Rattle.hib_bulk_region.specs.Region.{BulkState, has_old}
 use Rattle.hib_bulk_region.specs.Answers.{put_reply, inserted_reply}
 use Rattle.hib_bulk_region.specs.Steps as Steps
 use Rattle.hib_bulk_region.specs.Stands.{IsBulkRegion}
-use Rattle.hib_bulk.specs.declared.region.Region.{Region}
+use Rattle.hib_bulk.specs.declared.region.EntityRegion.{EntityRegion}
 
 -- of a read-write entity there is a region
-abbrev pub opened : Strategy → ℕ → ℕ → Region
-opened Strategy.ReadWrite capacity timeout = Region.ReadWrite (Steps.unheld capacity timeout)
-opened _ capacity timeout = Region.Uncached
+abbrev pub opened : Strategy → ℕ → ℕ → EntityRegion
+opened Strategy.ReadWrite capacity timeout = EntityRegion.ReadWrite (Steps.unheld capacity timeout)
+opened _ capacity timeout = EntityRegion.Uncached
 
 -- the region of an entity; none is uncached
-abbrev pub region_of : List Region → ℕ → Region
-region_of xs n = unwrap_or (slice_get xs n) Region.Uncached
+abbrev pub region_of : List EntityRegion → ℕ → EntityRegion
+region_of xs n = unwrap_or (slice_get xs n) EntityRegion.Uncached
 
 -- no region but that of entity n has changed
-pub record IsAtRegion (n : ℕ) (xs ys : List Region) : Type 0 where
+pub record IsAtRegion (n : ℕ) (xs ys : List EntityRegion) : Type 0 where
   pub all : length ys ≡ length xs
   pub others : (m : ℕ) → (n == m) ≡ false → region_of ys m ≡ region_of xs m
 
 -- ---- the calls
 
-abbrev pub has_old_in : Region → ℕ → Bool
-has_old_in Region.Uncached id = false
-has_old_in (Region.ReadWrite x) id = has_old x id
+abbrev pub has_old_in : EntityRegion → ℕ → Bool
+has_old_in EntityRegion.Uncached id = false
+has_old_in (EntityRegion.ReadWrite x) id = has_old x id
 
-abbrev pub swept : Region → ℕ → ℕ → Region
-swept Region.Uncached id now = Region.Uncached
-swept (Region.ReadWrite x) id now = Region.ReadWrite (Steps.swept id now x)
+abbrev pub swept : EntityRegion → ℕ → ℕ → EntityRegion
+swept EntityRegion.Uncached id now = EntityRegion.Uncached
+swept (EntityRegion.ReadWrite x) id now = EntityRegion.ReadWrite (Steps.swept id now x)
 
 -- how many lines hold it
-abbrev pub held_by : Region → ℕ
-held_by Region.Uncached = 0
-held_by (Region.ReadWrite x) = x.holders
+abbrev pub held_by : EntityRegion → ℕ
+held_by EntityRegion.Uncached = 0
+held_by (EntityRegion.ReadWrite x) = x.holders
 
-abbrev pub locked_all : Region → Region
-locked_all Region.Uncached = Region.Uncached
-locked_all (Region.ReadWrite x) = Region.ReadWrite (Steps.locked_all x)
+abbrev pub locked_all : EntityRegion → EntityRegion
+locked_all EntityRegion.Uncached = EntityRegion.Uncached
+locked_all (EntityRegion.ReadWrite x) = EntityRegion.ReadWrite (Steps.locked_all x)
 
-abbrev pub unlocked_all : ℕ → Region → Region
-unlocked_all now Region.Uncached = Region.Uncached
-unlocked_all now (Region.ReadWrite x) = Region.ReadWrite (Steps.unlocked_all now x)
+abbrev pub unlocked_all : ℕ → EntityRegion → EntityRegion
+unlocked_all now EntityRegion.Uncached = EntityRegion.Uncached
+unlocked_all now (EntityRegion.ReadWrite x) = EntityRegion.ReadWrite (Steps.unlocked_all now x)
 
 -- an act of a session that began at `begun`: the answer at a tick; Done to an act that is no region's
 abbrev pub answer_by : BulkState → ℕ → ℕ → Act → BulkReply
@@ -68,13 +68,13 @@ state_after x begun now (Act.AfterInsert k row floor) = Steps.after_insert k.id 
 state_after x begun now (Act.AfterUpdate k lock row) = Steps.after_update k.id lock row now x
 state_after x begun now _ = x
 
-abbrev pub answer_in : Region → ℕ → ℕ → Act → BulkReply
-answer_in Region.Uncached begun now a = BulkReply.Plain Reply.Done
-answer_in (Region.ReadWrite x) begun now a = answer_by x begun now a
+abbrev pub answer_in : EntityRegion → ℕ → ℕ → Act → BulkReply
+answer_in EntityRegion.Uncached begun now a = BulkReply.Plain Reply.Done
+answer_in (EntityRegion.ReadWrite x) begun now a = answer_by x begun now a
 
-abbrev pub region_after : Region → ℕ → ℕ → Act → Region
-region_after Region.Uncached begun now a = Region.Uncached
-region_after (Region.ReadWrite x) begun now a = Region.ReadWrite (state_after x begun now a)
+abbrev pub region_after : EntityRegion → ℕ → ℕ → Act → EntityRegion
+region_after EntityRegion.Uncached begun now a = EntityRegion.Uncached
+region_after (EntityRegion.ReadWrite x) begun now a = EntityRegion.ReadWrite (state_after x begun now a)
 
 -- ---- and they stand for a journal
 
@@ -85,6 +85,6 @@ pub record IsOfEntity (script : Script) (n : ℕ) (x : BulkState) (h : Bulked) :
   pub stands : IsBulkRegion x n h
 
 -- the region of entity n
-abbrev pub IsPlaced : Script → ℕ → Bulked → Region → Type 0
-IsPlaced script n h Region.Uncached = strategy script n ≡ Strategy.Uncached
-IsPlaced script n h (Region.ReadWrite x) = IsOfEntity script n x h
+abbrev pub IsPlaced : Script → ℕ → Bulked → EntityRegion → Type 0
+IsPlaced script n h EntityRegion.Uncached = strategy script n ≡ Strategy.Uncached
+IsPlaced script n h (EntityRegion.ReadWrite x) = IsOfEntity script n x h

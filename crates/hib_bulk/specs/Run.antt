@@ -24,7 +24,7 @@ use Rattle.hib_bulk_law.specs.Acts.{next, swept_for, acts_of, steps_of}
 use Rattle.hib_bulk_law.specs.Legal.{IsLegal, has_failed}
 use Rattle.hib_bulk_law.specs.Law.{AtEachEntry, IsKeyCoherent, IsLoadView, AreInOrder}
 use Rattle.hib_bulk.specs.Changed.{is_fault}
-use Rattle.hib_bulk.specs.Standing.{PartsState, AreStanding, IsStill, IsLate, entry_at}
+use Rattle.hib_bulk.specs.Standing.{BulkPartsState, AreStanding, IsStill, IsLate, entry_at}
 
 -- how many replies say that the keeper failed
 abbrev pub fault_count : Bulked → ℕ
@@ -47,7 +47,7 @@ pub record AreBuilt (script : Script) (lines : List BulkDef) : Type 0 where
   pub below : (i : ℕ) (d : BulkDef) → slice_get lines i ≡ Some d → MeetsBelow (length script.mapping) d.entity d.condition
 
 -- the journal is legal, the parts stand for it, and the keeper has failed as often as it says
-pub record IsRun (script : Script) (lines : List BulkDef) (from : Origin) (h : Bulked) (x : PartsState) : Type 0 where
+pub record IsRun (script : Script) (lines : List BulkDef) (from : Origin) (h : Bulked) (x : BulkPartsState) : Type 0 where
   pub legal : IsLegal script lines from.tables h
   pub standing : AreStanding script lines from.tables h x
   pub ordered : IfSome from.tables (λ t. in_order t ≡ true)
@@ -92,13 +92,13 @@ abbrev pub IsSwept : Script → Bulked → Act → Type 0
 IsSwept script h a = (k : Key) → swept_for a ≡ Some k → is_old script k h ≡ false
 
 -- an act of session s was answered
-pub record Answers (script : Script) (lines : List BulkDef) (from : Origin) (s : ℕ) (a : Act) (r : BulkReply) (h : Bulked) (x y : PartsState) : Type 0 where
+pub record Answers (script : Script) (lines : List BulkDef) (from : Origin) (s : ℕ) (a : Act) (r : BulkReply) (h : Bulked) (x y : BulkPartsState) : Type 0 where
   pub run : IsRun script lines from (entry_of h s (BulkAct.Plain a) r ∷ h) y
   pub taken : IsTaken script s (own s (plain h)) (plain_entry h s a r)
   pub fault : is_fault r ≡ true → Rose x.store.faults y.store.faults
 
 -- an act of session y was answered, its entry added, and taken by the session
-pub record Serves (script : Script) (lines : List BulkDef) (from : Origin) (a : Act) (h new : Bulked) (x w : PartsState) (y z : Session) : Type 0 where
+pub record Serves (script : Script) (lines : List BulkDef) (from : Origin) (a : Act) (h new : Bulked) (x w : BulkPartsState) (y z : Session) : Type 0 where
   pub answer : BulkReply
   pub grown : new ≡ entry_of h (number_of y) (BulkAct.Plain a) answer ∷ h
   pub run : IsRun script lines from new w
@@ -107,14 +107,14 @@ pub record Serves (script : Script) (lines : List BulkDef) (from : Origin) (a : 
   pub fault : is_fault answer ≡ true → Rose x.store.faults w.store.faults
 
 -- an old item was swept away before the next act of session y, and the entry added
-pub record Sweeps (script : Script) (lines : List BulkDef) (from : Origin) (s : ℕ) (k : Key) (h new : Bulked) (x w : PartsState) : Type 0 where
+pub record Sweeps (script : Script) (lines : List BulkDef) (from : Origin) (s : ℕ) (k : Key) (h new : Bulked) (x w : BulkPartsState) : Type 0 where
   pub grown : new ≡ entry_of h s (BulkAct.Sweep k) BulkReply.Swept ∷ h
   pub run : IsRun script lines from new w
   pub swept : is_old script k new ≡ false
   pub faults : w.store.faults ≡ x.store.faults
 
 -- nothing was added: the parts are as before, but for the keeper's counts, and the session follows what it followed
-pub record Leaves (script : Script) (h new : Bulked) (x w : PartsState) (y z : Session) : Type 0 where
+pub record Leaves (script : Script) (h new : Bulked) (x w : BulkPartsState) (y z : Session) : Type 0 where
   pub same : new ≡ h
   pub parts : IsStill x w
   pub entities : w.store.entities ≡ x.store.entities
@@ -130,7 +130,7 @@ abbrev pub left_of : Script → List BulkDef → Bulked → Session → ℕ
 left_of script lines h y = left_in script y + left_in script y + sweeps (next script lines h (number_of y))
 
 -- the act that was due in session y was served, or what was old before it swept away
-pub record Moves (script : Script) (lines : List BulkDef) (from : Origin) (h new : Bulked) (x w : PartsState) (y z : Session) : Type 0 where
+pub record Moves (script : Script) (lines : List BulkDef) (from : Origin) (h new : Bulked) (x w : BulkPartsState) (y z : Session) : Type 0 where
   pub entry : BulkEntry
   pub by : entry.session ≡ number_of y
   pub grown : new ≡ entry ∷ h
@@ -155,7 +155,7 @@ pub record IsLine (script : Script) (h : Bulked) (s : ℕ) (d : BulkDef) (m : �
   pub deferred : deferred (own s (plain h)) ≡ []
 
 -- over entries that the parts stand for, an act of line s is due at the next tick
-pub record IsLineTurn (script : Script) (lines : List BulkDef) (told : Option Tables) (h : Bulked) (s : ℕ) (d : BulkDef) (steps : ℕ) (failed : Bool) (a : BulkAct) (x : PartsState) : Type 0 where
+pub record IsLineTurn (script : Script) (lines : List BulkDef) (told : Option Tables) (h : Bulked) (s : ℕ) (d : BulkDef) (steps : ℕ) (failed : Bool) (a : BulkAct) (x : BulkPartsState) : Type 0 where
   pub legal : IsLegal script lines told h
   pub standing : AreStanding script lines told h x
   pub late : IsLate (length h + 1) (plain h)
@@ -171,7 +171,7 @@ outcome_of true = Outcome.Fault
 outcome_of false = Outcome.Committed
 
 -- the act that was due in a line was answered, and its entry added
-pub record LineMoves (script : Script) (lines : List BulkDef) (from : Origin) (s : ℕ) (d : BulkDef) (h new : Bulked) (x w : PartsState) (steps : ℕ) (failed : Bool) : Type 0 where
+pub record LineMoves (script : Script) (lines : List BulkDef) (from : Origin) (s : ℕ) (d : BulkDef) (h new : Bulked) (x w : BulkPartsState) (steps : ℕ) (failed : Bool) : Type 0 where
   pub entry : BulkEntry
   pub by : entry.session ≡ s
   pub grown : new ≡ entry ∷ h

@@ -21,15 +21,15 @@ use Rattle.hib_bulk_law.specs.Rows.{line, committed}
 use Rattle.hib_bulk_law.specs.Wide.{is_old}
 use Rattle.hib_bulk_law.specs.Acts.{swept_for, part_of}
 use Rattle.hib_bulk_law.specs.Legal.{IsReply}
-use Rattle.hib_bulk.specs.declared.region.Region.{Region}
+use Rattle.hib_bulk.specs.declared.region.EntityRegion.{EntityRegion}
 use Rattle.hib_bulk.specs.Changed.{is_fault}
 use Rattle.hib_bulk.specs.Regions.{region_of, IsPlaced}
 
-pub record PartsState : Type 0 where
+pub record BulkPartsState : Type 0 where
   pub store : StoreState
   pub registry : List (ℕ × ℕ)
   pub stamps : List (Option ℕ)
-  pub regions : List Region
+  pub regions : List EntityRegion
   pub results : Ranked
 
 -- the committed rows, if those at the start are told
@@ -37,7 +37,7 @@ abbrev pub told_committed : Script → List BulkDef → Option Tables → Bulked
 told_committed script lines told h = option_map (λ start. committed script lines start h) told
 
 -- what is the same for everybody but the bulk lines stands for the plain journal
-pub record ArePlain (script : Script) (g : Journal) (x : PartsState) : Type 0 where
+pub record ArePlain (script : Script) (g : Journal) (x : BulkPartsState) : Type 0 where
   pub changes : (n : ℕ) → changes_of x.store n ≡ unsaved n g
   pub bridged : IsBridged g
   pub registry : IsRegistry x.registry g
@@ -46,14 +46,14 @@ pub record ArePlain (script : Script) (g : Journal) (x : PartsState) : Type 0 wh
   pub live : (n : ℕ) → was_killed n g ≡ false
 
 -- each part stands for the entries, from these rows if they are told
-pub record AreStanding (script : Script) (lines : List BulkDef) (told : Option Tables) (h : Bulked) (x : PartsState) : Type 0 where
+pub record AreStanding (script : Script) (lines : List BulkDef) (told : Option Tables) (h : Bulked) (x : BulkPartsState) : Type 0 where
   pub rows : x.store.tables ≡ told_committed script lines told h
   pub plain : ArePlain script (plain h) x
   pub regions : (n : ℕ) → IsPlaced script n h (region_of x.regions n)
   pub entities : length x.regions ≡ length script.mapping
 
 -- all parts are as before, but for the keeper's counts
-pub record IsStill (x y : PartsState) : Type 0 where
+pub record IsStill (x y : BulkPartsState) : Type 0 where
   pub store : IsCounted x.store y.store
   pub registry : y.registry ≡ x.registry
   pub stamps : y.stamps ≡ x.stamps
@@ -69,7 +69,7 @@ abbrev pub IsLate : ℕ → Journal → Type 0
 IsLate now g = (p : Entry → Bool) → last_tick p g < now
 
 -- over entries that the parts stand for, the act of session s is due at a tick after all of them, and meets no old item
-pub record IsReady (script : Script) (lines : List BulkDef) (told : Option Tables) (h : Bulked) (s now : ℕ) (a : Act) (x : PartsState) : Type 0 where
+pub record IsReady (script : Script) (lines : List BulkDef) (told : Option Tables) (h : Bulked) (s now : ℕ) (a : Act) (x : BulkPartsState) : Type 0 where
   pub standing : AreStanding script lines told h x
   pub late : IsLate now (plain h)
   pub due : IsDue script (own s (plain h)) a
@@ -77,12 +77,12 @@ pub record IsReady (script : Script) (lines : List BulkDef) (told : Option Table
   pub swept : (k : Key) → swept_for a ≡ Some k → is_old script k h ≡ false
 
 -- an act was answered: with a reply that may be, and the parts stand for the entries with its own
-pub record IsAnswered (script : Script) (lines : List BulkDef) (told : Option Tables) (h : Bulked) (s now : ℕ) (a : BulkAct) (r : BulkReply) (y : PartsState) : Type 0 where
+pub record IsAnswered (script : Script) (lines : List BulkDef) (told : Option Tables) (h : Bulked) (s now : ℕ) (a : BulkAct) (r : BulkReply) (y : BulkPartsState) : Type 0 where
   pub reply : IsReply script lines told h (entry_at now s a r)
   pub standing : AreStanding script lines told (entry_at now s a r ∷ h) y
 
 -- an act of a session was answered, with the session's own reply if it has one, and the keeper failed if the reply says so
-pub record IsTold (script : Script) (lines : List BulkDef) (told : Option Tables) (h : Bulked) (s now : ℕ) (a : Act) (r : BulkReply) (x y : PartsState) : Type 0 where
+pub record IsTold (script : Script) (lines : List BulkDef) (told : Option Tables) (h : Bulked) (s now : ℕ) (a : Act) (r : BulkReply) (x y : BulkPartsState) : Type 0 where
   pub answered : IsAnswered script lines told h s now (BulkAct.Plain a) r y
   pub mine : (q : Reply) → own_reply script (own s (plain h)) a ≡ Some q → plain_reply a r ≡ q
   pub fault : is_fault r ≡ true → Rose x.store.faults y.store.faults

@@ -20,7 +20,7 @@ act_text script lines (BulkAct.Bulk b) = codes "bulk " ++ name_text script lines
 act_text script lines (BulkAct.UnlockAll n) = codes "unlock-all " ++ entity_text script n
 act_text script lines (BulkAct.Sweep k) = codes "sweep " ++ key_text script k
 
--- a refusal by a region that so many lines hold; to a Get it is a miss
+-- a refusal by a region that lines hold, with their number; to a Get it is a miss
 abbrev pub wide_text : BulkAct → ℕ → List ℕ
 wide_text (BulkAct.Plain (Act.Get k t)) n = codes "miss wide " ++ decimal n
 wide_text _ n = codes "wide " ++ decimal n

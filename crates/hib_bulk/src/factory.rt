@@ -1,5 +1,6 @@
 // The factory with bulk lines: sessions and lines over shared parts, with the journal of their steps.
-ghost use Rattle.std.specs.Prelude.{◌≡◌, ◌≢◌, ◌≤◌, ◌+◌, ◌<◌, ◌^◌, [], ◌∷◌, ℕ, true, false, length, slice_get, Ok, Some, None, IfOk, IfErr};
+ghost use Rattle.std.specs.Prelude.{◌≡◌, ◌≢◌, ◌≤◌, ◌+◌, ◌<◌, ◌^◌, [], ◌∷◌, ℕ, true, false, length, slice_get, Ok, Some};
+ghost use Rattle.std.specs.Prelude.{None, IfOk, IfErr};
 ghost use Rattle.hib_outside.specs.Causes.{Rose};
 ghost use Rattle.hib_store.specs.Stores.{handed_back, is_store_fault};
 ghost use Rattle.hib_engines.specs.Counts.{RoseBy};
@@ -16,10 +17,10 @@ ghost use Rattle.hib_bulk.specs.Steps.{Adds, HasTurned};
 ghost use Rattle.hib_bulk.specs.Played.{has_next, number_count};
 
 use crate::journal::Bulked;
-use crate::lines::Progress;
+use crate::lines::LineProgress;
 use crate::names::Name;
 use crate::opening::open_lines;
-use crate::parts::Parts;
+use crate::parts::BulkParts;
 use crate::steps::{step_line, step_session};
 use hib_base::{Order, Script, SessionNo};
 use hib_bulk_law::{BulkDefs, Bulks, loads_are_views, rows_cohere, steps_are_in_order};
@@ -30,14 +31,14 @@ use hib_store::OpenFault;
 use std::alloc::{AllocError, Global};
 use std::marker::{Model, PhantomData};
 
-/// Sessions and bulk lines over shared parts, with the journal of their steps, which is legal for the name's script and lines from
-/// the name's rows.
+/// Sessions and bulk lines over shared parts, with the journal of their steps, which is legal for the name's script and
+/// lines from the name's rows.
 pub struct BulkFactory<K: Keeper, N: Name> {
     script: Script,
     bulks: Bulks,
-    parts: Parts<K>,
+    parts: BulkParts<K>,
     sessions: Vec<Session>,
-    progress: Vec<Progress>,
+    progress: Vec<LineProgress>,
     journal: Bulked,
     of: PhantomData<N>,
 }
@@ -65,8 +66,9 @@ impl<K: Keeper, N: Name> Model for BulkFactory<K, N> {
 }
 
 impl<K: Keeper, N: Name> BulkFactory<K, N> {
-    /// Opens the factory of this name, in which no session and no line has begun. The keeper is seeded with the script's mapping and
-    /// rows, each of which it takes if its key has none. At an error the keeper is handed back with the rows that it had.
+    /// Opens the factory of this name, in which no session and no line has begun. The keeper is seeded with the
+    /// script's mapping and rows, each of which it takes if its key has none. At an error the keeper is handed back
+    /// with the rows that it had.
     pub fn open(
         alloc: Global,
         script: Script,
@@ -92,7 +94,7 @@ impl<K: Keeper, N: Name> BulkFactory<K, N> {
         let Ok(progress) = open_lines(alloc, bulks.lines.as_slice()) else {
             return Err(OpenFault::NoMemory(keeper));
         };
-        let parts = Parts::open(alloc, &script, keeper)?;
+        let parts = BulkParts::open(alloc, &script, keeper)?;
         Ok(BulkFactory {
             script,
             bulks,
@@ -134,8 +136,8 @@ impl<K: Keeper, N: Name> BulkFactory<K, N> {
         }
     }
 
-    /// One step of a session or a line: the act that is due in it, if one is. Lines are numbered after the sessions. If memory runs
-    /// out no entry is added, and nothing has changed but the keeper's counts; so a later call may succeed.
+    /// One step of a session or a line: the act that is due in it, if one is. Lines are numbered after the sessions. If
+    /// memory runs out no entry is added, and nothing has changed but the keeper's counts; so a later call may succeed.
     pub fn step(&mut self, alloc: Global, number: SessionNo) -> Result<Stepped, AllocError>
         requires known { number < length N.script.sessions + length N.lines }
         ensures did { result ≡ Ok Stepped.Did
@@ -241,7 +243,7 @@ impl<K: Keeper, N: Name> BulkFactory<K, N> {
             journal,
             of: _,
         } = self;
-        let Parts {
+        let BulkParts {
             store,
             registry: _,
             stamps: _,

@@ -8,7 +8,8 @@ use std::marker::Model;
 /// No memory holds more entries.
 const MOST: usize = 1 << 62;
 
-/// The entries of a run with bulk lines, the oldest first. They are only added to. Room for the next one is made before it comes.
+/// The entries of a run with bulk lines, the oldest first. They are only added to. Room for the next one is made before
+/// it comes.
 #[derive(Drop)]
 pub struct Bulked {
     entries: Vec<BulkEntry>,

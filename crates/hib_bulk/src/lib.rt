@@ -1,4 +1,5 @@
-//! Bulk changes: sessions over shared parts, and lines that change the rows which meet a condition under a lock on a whole region.
+//! Bulk changes: sessions over shared parts, and lines that change the rows which meet a condition under a lock on a
+//! whole region.
 #![tactic(auto)]
 
 mod changing;
@@ -18,5 +19,5 @@ mod turns;
 pub use factory::BulkFactory;
 pub use journal::Bulked;
 pub use names::Name;
-pub use region::Region;
+pub use region::EntityRegion;
 pub use texts::text;

@@ -1,5 +1,6 @@
 // One turn of a bulk line: its next act is answered by a part, and the entry added.
-ghost use Rattle.std.specs.Prelude.{◌≡◌, ◌≢◌, ◌≤◌, ◌<◌, ◌+◌, ◌^◌, ◌||◌, ℕ, Bool, true, false, slice_get, length, nat_lt, Ok, None, Some, Option, List, IfOk, OnErr};
+ghost use Rattle.std.specs.Prelude.{◌≡◌, ◌≢◌, ◌≤◌, ◌<◌, ◌+◌, ◌^◌, ◌||◌, ℕ, Bool, true, false, slice_get, length};
+ghost use Rattle.std.specs.Prelude.{nat_lt, Ok, None, Some, Option, List, IfOk, OnErr};
 ghost use Rattle.hib_base.specs.Tables.{Tables};
 ghost use Rattle.hib_journal.specs.Next.{is_cached as cached};
 ghost use Rattle.hib_journal.specs.Types.{Act as Did, Script as Said};
@@ -18,7 +19,7 @@ ghost use Rattle.hib_bulk.specs.Run.{IsRun, IsLine, IsLineTurn, LineMoves, outco
 
 use crate::journal::Bulked;
 use crate::names::Name;
-use crate::parts::Parts;
+use crate::parts::BulkParts;
 use crate::storing::change_rows;
 use crate::turns::reserve_tick;
 use hib_base::{Act, EntityNo, Outcome, Part, Reply, Script, SessionNo, Strategy, Tick};
@@ -30,7 +31,7 @@ use std::alloc::{AllocError, Global};
 
 /// How far a line has come.
 #[derive(Clone, Copy, Debug)]
-pub struct Progress {
+pub struct LineProgress {
     /// How many of its acts are done.
     pub steps: u8,
     /// Whether its change was answered by a fault.
@@ -47,7 +48,7 @@ fn is_cached(script: &Script, entity: EntityNo) -> bool
     }
 }
 
-/// The act of a line that has done so many; none if it is at its end.
+/// The act of a line that has done `steps` acts; none if it is at its end.
 fn act_of_line(script: &Script, line: &BulkDef, number: SessionNo, steps: u8) -> Option<BulkAct>
     ensures act { result ≡ slice_get (acts_of script.now number line.now) steps }
     ensures few { (a : Doing) → result ≡ Some a → steps < 5 }
@@ -98,7 +99,7 @@ fn outcome(failed: bool) -> Outcome
     }
 }
 
-impl<K: Keeper> Parts<K> {
+impl<K: Keeper> BulkParts<K> {
     /// A line locks the region of an entity. It takes no memory.
     fn lock_all(&mut self, entity: EntityNo) -> BulkReply
         requires { held_by (region_of self.old.regions entity) < 2 ^ 62 }
@@ -227,8 +228,8 @@ impl<K: Keeper> Parts<K> {
         self.unlock_all(entity, now)
     }
 
-    /// The answer of the store to the change of a line. A fault is answered only if the keeper failed in this call. At an error the
-    /// parts are as before, but for the keeper's counts.
+    /// The answer of the store to the change of a line. A fault is answered only if the keeper failed in this call. At
+    /// an error the parts are as before, but for the keeper's counts.
     fn change_line(
         &mut self,
         alloc: Global,
@@ -253,8 +254,8 @@ impl<K: Keeper> Parts<K> {
         change_rows(alloc, &mut self.store, line)
     }
 
-    /// The answer to the act that is due in a line, at this tick. A fault is answered only if the keeper failed in this call. At an
-    /// error the parts are as before, but for the keeper's counts.
+    /// The answer to the act that is due in a line, at this tick. A fault is answered only if the keeper failed in this
+    /// call. At an error the parts are as before, but for the keeper's counts.
     fn answer_line(
         &mut self,
         alloc: Global,
@@ -296,8 +297,8 @@ pub fn line_turn<K: Keeper, N: Name>(
     script: &Script,
     line: &BulkDef,
     number: SessionNo,
-    progress: &mut Progress,
-    parts: &mut Parts<K>,
+    progress: &mut LineProgress,
+    parts: &mut BulkParts<K>,
     journal: &mut Bulked,
 ) -> Result<Stepped, AllocError>
     requires script { script.now ≡ N.script }

@@ -10,9 +10,9 @@ ghost use Rattle.hib_bulk.specs.Standing.{AreStanding};
 ghost use Rattle.hib_bulk.specs.Run.{AreBuilt};
 ghost use Rattle.hib_bulk.specs.Steps.{fresh};
 
-use crate::lines::Progress;
-use crate::parts::Parts;
-use crate::region::Region;
+use crate::lines::LineProgress;
+use crate::parts::BulkParts;
+use crate::region::EntityRegion;
 use hib_base::Script;
 use hib_bulk_law::BulkDef;
 use hib_bulk_region::laws as wide;
@@ -22,24 +22,24 @@ use hib_store::OpenFault;
 use std::alloc::{AllocError, Global};
 
 /// The regions of a script's entities, which are empty. Fails for want of memory alone.
-fn open_regions(alloc: Global, script: &Script) -> Result<Vec<Region>, AllocError>
+fn open_regions(alloc: Global, script: &Script) -> Result<Vec<EntityRegion>, AllocError>
     ensures { IfOk result (λ v. v.items
         ≡ map (λ d. opened d.strategy d.capacity script.now.timeout) script.now.mapping) }
 {
     let mut regions = Vec::new(alloc);
     for entity in script.mapping.as_slice() {
-        regions.push(Region::open(alloc, entity.strategy, entity.capacity, script.timeout))?;
+        regions.push(EntityRegion::open(alloc, entity.strategy, entity.capacity, script.timeout))?;
     }
     Ok(regions)
 }
 
 /// How far each line has come that has done nothing. Fails for want of memory alone.
-pub fn open_lines(alloc: Global, lines: &[BulkDef]) -> Result<Vec<Progress>, AllocError>
+pub fn open_lines(alloc: Global, lines: &[BulkDef]) -> Result<Vec<LineProgress>, AllocError>
     ensures { IfOk result (λ v. v.items ≡ map fresh lines.now) }
 {
     let mut progress = Vec::new(alloc);
     for _line in lines {
-        progress.push(Progress {
+        progress.push(LineProgress {
             steps: 0,
             failed: false,
         })?;
@@ -47,9 +47,10 @@ pub fn open_lines(alloc: Global, lines: &[BulkDef]) -> Result<Vec<Progress>, All
     Ok(progress)
 }
 
-impl<K: Keeper> Parts<K> {
-    /// Opens the parts of a run in which nothing has happened. At an error the keeper is handed back, with the rows that it had.
-    pub fn open(alloc: Global, script: &Script, keeper: K) -> Result<Parts<K>, OpenFault<K>>
+impl<K: Keeper> BulkParts<K> {
+    /// Opens the parts of a run in which nothing has happened. At an error the keeper is handed back, with the rows
+    /// that it had.
+    pub fn open(alloc: Global, script: &Script, keeper: K) -> Result<BulkParts<K>, OpenFault<K>>
         requires entities { length script.now.mapping < 2 ^ 16 }
         requires results { 0 < script.now.results }
         ensures standing { IfOk result (λ p. (lines : List LineSpec) → AreBuilt script.now lines
@@ -77,7 +78,7 @@ impl<K: Keeper> Parts<K> {
         let entities = script.mapping.len() as u16;
         let rows = script.rows.as_slice();
         let store = StoreEngine::open(alloc, keeper, &script.mapping, rows, entities)?;
-        Ok(Parts {
+        Ok(BulkParts {
             store,
             registry: Registry::new(alloc),
             stamps,

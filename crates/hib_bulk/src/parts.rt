@@ -1,5 +1,6 @@
 // The parts of a run with bulk lines, and what they answer.
-ghost use Rattle.std.specs.Prelude.{◌≡◌, ◌≤◌, ◌<◌, ◌^◌, ◌∷◌, ◌+◌, [], ℕ, List, length, true, false, IfOk, IfSome, OnOk, OnErr, Option, Some, None};
+ghost use Rattle.std.specs.Prelude.{◌≡◌, ◌≤◌, ◌<◌, ◌^◌, ◌∷◌, ◌+◌, [], ℕ, List, length, true, false, IfOk, IfSome, OnOk};
+ghost use Rattle.std.specs.Prelude.{OnErr, Option, Some, None};
 ghost use Rattle.hib_base.specs.Tables.{Tables};
 ghost use Rattle.hib_base.specs.declared.numbers.Key.{Key as KeySpec};
 ghost use Rattle.hib_journal.specs.Types.{Script as Said};
@@ -17,7 +18,7 @@ ghost use Rattle.hib_bulk.specs.Changed.{is_fault};
 ghost use Rattle.hib_bulk.specs.Regions.{region_of, has_old_in, swept, IsAtRegion};
 ghost use Rattle.hib_bulk.specs.Standing.{AreStanding, IsStill, IsReady, IsAnswered, IsTold};
 
-use crate::region::Region;
+use crate::region::EntityRegion;
 use hib_base::{Act, EntityNo, Key, Part, Reply, Script, SessionNo, Tick};
 use hib_bulk_law::BulkReply;
 use hib_bulk_region::laws as wide;
@@ -28,8 +29,9 @@ use hib_session::Session;
 use std::alloc::{AllocError, Global};
 use std::marker::Model;
 
-/// The store, the open sessions and lines, the stamps of tables, the regions that lines may lock, and the results of queries.
-pub struct Parts<K: Keeper> {
+/// The store, the open sessions and lines, the stamps of tables, the regions that lines may lock, and the results of
+/// queries.
+pub struct BulkParts<K: Keeper> {
     /// The committed rows, and what each session has written and not committed.
     pub store: StoreEngine<K>,
     /// The open sessions and lines with the ticks at which they began.
@@ -37,15 +39,15 @@ pub struct Parts<K: Keeper> {
     /// For each table the tick of its last change, or one ahead while a commit is under way.
     pub stamps: StampsEngine,
     /// For each entity of the script its region, in order.
-    pub regions: Vec<Region>,
+    pub regions: Vec<EntityRegion>,
     /// The results of queries that are kept.
     pub results: ResultsEngine,
 }
 
-impl<K: Keeper> Model for Parts<K> {
-    ghost use Rattle.hib_bulk.specs.Standing.{PartsState};
+impl<K: Keeper> Model for BulkParts<K> {
+    ghost use Rattle.hib_bulk.specs.Standing.{BulkPartsState};
 
-    ghost Value = { PartsState };
+    ghost Value = { BulkPartsState };
 
     ghost view = { λ p. record {
       store = p.store;
@@ -56,7 +58,7 @@ impl<K: Keeper> Model for Parts<K> {
     } };
 }
 
-impl<K: Keeper> Parts<K> {
+impl<K: Keeper> BulkParts<K> {
     /// Whether a key has an old item.
     fn old(&self, key: Key) -> bool
         ensures { result ≡ has_old_in (region_of self.now.regions key.entity) key.id }
@@ -107,8 +109,8 @@ impl<K: Keeper> Parts<K> {
         }
     }
 
-    /// The answer of the region of an entity to an act of a session. An item that the act would meet isn't old. At an error
-    /// nothing has changed.
+    /// The answer of the region of an entity to an act of a session. An item that the act would meet isn't old. At an
+    /// error nothing has changed.
     fn serve_region(
         &mut self,
         alloc: Global,
@@ -146,8 +148,9 @@ impl<K: Keeper> Parts<K> {
         Ok(BulkReply::Plain(Reply::Done))
     }
 
-    /// The answer of a part to an act of a session that is neither the session's own nor a region's. A fault is answered only if the
-    /// keeper failed in this call. At an error the parts are as before, but for the keeper's counts.
+    /// The answer of a part to an act of a session that is neither the session's own nor a region's. A fault is
+    /// answered only if the keeper failed in this call. At an error the parts are as before, but for the keeper's
+    /// counts.
     fn serve(
         &mut self,
         alloc: Global,
@@ -185,9 +188,9 @@ impl<K: Keeper> Parts<K> {
         }
     }
 
-    /// The answer to an act that is due in a session, at this tick: the session's own, or that of a part. A fault is answered only
-    /// if the keeper failed in this call. At an error the parts are as before, but for the keeper's counts, and so they are if the
-    /// act brings something to the session.
+    /// The answer to an act that is due in a session, at this tick: the session's own, or that of a part. A fault is
+    /// answered only if the keeper failed in this call. At an error the parts are as before, but for the keeper's
+    /// counts, and so they are if the act brings something to the session.
     pub fn answer(
         &mut self,
         alloc: Global,

@@ -7,7 +7,8 @@ ghost use Rattle.hib_bulk_region.specs.Region.{has_old};
 ghost use Rattle.hib_bulk_region.specs.Answers.{put_reply as put_answer, inserted_reply as inserted_answer};
 ghost use Rattle.hib_bulk_region.specs.Steps.{got};
 ghost use Rattle.hib_bulk.specs.Types.{BulkReply as Replied};
-ghost use Rattle.hib_bulk.specs.Regions.{opened, has_old_in, swept, held_by, locked_all, unlocked_all, answer_by, state_after, answer_in, region_after};
+ghost use Rattle.hib_bulk.specs.Regions.{opened, has_old_in, swept, held_by, locked_all, unlocked_all, answer_by};
+ghost use Rattle.hib_bulk.specs.Regions.{state_after, answer_in, region_after};
 
 use hib_base::{Act, Got, Reply, Row, Strategy, Tick};
 use hib_bulk_law::BulkReply;
@@ -56,8 +57,8 @@ fn inserted_reply(inserted: BulkInserted) -> BulkReply
     }
 }
 
-/// What an act of a session that began at `begun` comes to, at this tick. An item that the act would meet isn't old. An act that
-/// isn't a region's is answered Done, and changes nothing. At an error nothing has changed.
+/// What an act of a session that began at `begun` comes to, at this tick. An item that the act would meet isn't old. An
+/// act that isn't a region's is answered Done, and changes nothing. At an error nothing has changed.
 fn act_on(
     alloc: Global,
     region: &mut BulkRegion,
@@ -112,21 +113,23 @@ fn act_on(
 
 /// The region of an entity.
 #[derive(Drop)]
-pub enum Region {
+pub enum EntityRegion {
     /// An entity that isn't cached has none.
     Uncached,
     /// The region of a read-write entity.
     ReadWrite(BulkRegion),
 }
 
-impl Region {
+impl EntityRegion {
     /// The empty region of a strategy, which nobody holds. There is one for read-write alone.
-    pub fn open(alloc: Global, strategy: Strategy, capacity: u32, timeout: u32) -> Region
+    pub fn open(alloc: Global, strategy: Strategy, capacity: u32, timeout: u32) -> EntityRegion
         ensures { result ≡ opened strategy capacity timeout }
     {
         match strategy {
-            Strategy::ReadWrite => Region::ReadWrite(BulkRegion::open(alloc, capacity, timeout)),
-            _ => Region::Uncached,
+            Strategy::ReadWrite => EntityRegion::ReadWrite(BulkRegion::open(
+                alloc, capacity, timeout,
+            )),
+            _ => EntityRegion::Uncached,
         }
     }
 
@@ -135,8 +138,8 @@ impl Region {
         ensures { result ≡ has_old_in self.now id }
     {
         match self {
-            Region::Uncached => false,
-            Region::ReadWrite(region) => region.old(id),
+            EntityRegion::Uncached => false,
+            EntityRegion::ReadWrite(region) => region.old(id),
         }
     }
 
@@ -146,8 +149,8 @@ impl Region {
         ensures { self.new ≡ swept self.old id now }
     {
         match self {
-            Region::Uncached => {}
-            Region::ReadWrite(region) => region.sweep(id, now),
+            EntityRegion::Uncached => {}
+            EntityRegion::ReadWrite(region) => region.sweep(id, now),
         }
     }
 
@@ -158,8 +161,8 @@ impl Region {
         ensures state { self.new ≡ locked_all self.old }
     {
         match self {
-            Region::Uncached => 0,
-            Region::ReadWrite(region) => region.lock_all(),
+            EntityRegion::Uncached => 0,
+            EntityRegion::ReadWrite(region) => region.lock_all(),
         }
     }
 
@@ -170,13 +173,13 @@ impl Region {
         ensures state { self.new ≡ unlocked_all now self.old }
     {
         match self {
-            Region::Uncached => 0,
-            Region::ReadWrite(region) => region.unlock_all(now),
+            EntityRegion::Uncached => 0,
+            EntityRegion::ReadWrite(region) => region.unlock_all(now),
         }
     }
 
-    /// Answers an act of a session that began at `begun`, at this tick. An item that the act would meet isn't old. At an error
-    /// nothing has changed.
+    /// Answers an act of a session that began at `begun`, at this tick. An item that the act would meet isn't old. At
+    /// an error nothing has changed.
     pub fn serve(
         &mut self,
         alloc: Global,
@@ -192,8 +195,8 @@ impl Region {
         ensures err { OnErr result (self.new ≡ self.old) }
     {
         match self {
-            Region::Uncached => Ok(BulkReply::Plain(Reply::Done)),
-            Region::ReadWrite(region) => act_on(alloc, region, act, begun, now),
+            EntityRegion::Uncached => Ok(BulkReply::Plain(Reply::Done)),
+            EntityRegion::ReadWrite(region) => act_on(alloc, region, act, begun, now),
         }
     }
 }

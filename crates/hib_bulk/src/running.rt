@@ -5,7 +5,8 @@ ghost use Rattle.hib_playing.specs.Playing.{Leads, play_all, play_each, play_ste
 ghost use Rattle.hib_bulk.specs.Factory.{HasGoneOn};
 ghost use Rattle.hib_bulk.specs.Kept.{past};
 ghost use Rattle.hib_bulk.specs.Run.{Obeys};
-ghost use Rattle.hib_bulk.specs.Played.{AreOver, has_next, is_by, is_played, number_count, play_numbers, play_order, play_script};
+ghost use Rattle.hib_bulk.specs.Played.{AreOver, has_next, is_by, is_played, number_count, play_numbers, play_order};
+ghost use Rattle.hib_bulk.specs.Played.{play_script};
 
 use crate::factory::BulkFactory;
 use crate::names::Name;
@@ -15,8 +16,8 @@ use hib_outside::Keeper;
 use std::alloc::{AllocError, Global};
 
 impl<K: Keeper, N: Name> BulkFactory<K, N> {
-    /// Runs a session or a line for so many steps, or to its end if that comes before; one that isn't there has none. If memory runs
-    /// out the steps so far stand.
+    /// Runs a session or a line for `steps` steps, or to its end if that comes before; one that isn't there has none.
+    /// If memory runs out the steps so far stand.
     fn run_steps(&mut self, alloc: Global, number: SessionNo, steps: u32) -> Result<(), AllocError>
         ensures played { OnOk result (Leads
             (play_steps (has_next N.script N.lines) is_by number steps) played
@@ -105,8 +106,8 @@ impl<K: Keeper, N: Name> BulkFactory<K, N> {
         self.finish(alloc)
     }
 
-    /// Plays the orders, one after the other, and then each session to its end, the first one first, and each line after them. If
-    /// memory runs out it stops there, and the steps so far stand.
+    /// Plays the orders, one after the other, and then each session to its end, the first one first, and each line
+    /// after them. If memory runs out it stops there, and the steps so far stand.
     pub fn play(&mut self, alloc: Global) -> Result<(), AllocError>
         ensures played { OnOk result (past self.old.journal ≡ []
             → is_played N.script N.lines N.orders (past self.new.journal) ≡ true) }

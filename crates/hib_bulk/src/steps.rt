@@ -1,15 +1,15 @@
 // A step of a run with bulk lines: one act of a session or of a line, if one is due.
 ghost use Rattle.std.specs.Prelude.{◌≡◌, ◌+◌, ◌<◌, ◌^◌, List, length};
 ghost use Rattle.hib_session.specs.declared.session.Session.{Session as Actor};
-ghost use Rattle.hib_bulk.specs.declared.lines.Progress.{Progress as Come};
+ghost use Rattle.hib_bulk.specs.declared.lines.LineProgress.{LineProgress as Come};
 ghost use Rattle.hib_bulk.specs.Kept.{past};
 ghost use Rattle.hib_bulk.specs.Run.{IsRun};
 ghost use Rattle.hib_bulk.specs.Steps.{AreSessions, AreLines, HasTurned};
 
 use crate::journal::Bulked;
-use crate::lines::{Progress, line_turn};
+use crate::lines::{LineProgress, line_turn};
 use crate::names::Name;
-use crate::parts::Parts;
+use crate::parts::BulkParts;
 use crate::turns::take_turn;
 use hib_base::{Script, SessionNo};
 use hib_bulk_law::BulkDef;
@@ -18,14 +18,14 @@ use hib_outside::Keeper;
 use hib_session::Session;
 use std::alloc::{AllocError, Global};
 
-/// One act of the session of this number, or the sweep that is due before it. If memory runs out nothing has changed, but for the
-/// keeper's counts.
+/// One act of the session of this number, or the sweep that is due before it. If memory runs out nothing has changed,
+/// but for the keeper's counts.
 pub fn step_session<K: Keeper, N: Name>(
     alloc: Global,
     script: &Script,
     number: SessionNo,
     sessions: &mut Vec<Session>,
-    parts: &mut Parts<K>,
+    parts: &mut BulkParts<K>,
     journal: &mut Bulked,
 ) -> Result<Stepped, AllocError>
     requires script { script.now ≡ N.script }
@@ -56,8 +56,8 @@ pub fn step_line<K: Keeper, N: Name>(
     script: &Script,
     lines: &[BulkDef],
     at: usize,
-    progress: &mut Vec<Progress>,
-    parts: &mut Parts<K>,
+    progress: &mut Vec<LineProgress>,
+    parts: &mut BulkParts<K>,
     journal: &mut Bulked,
 ) -> Result<Stepped, AllocError>
     requires script { script.now ≡ N.script }

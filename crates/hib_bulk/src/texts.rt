@@ -2,7 +2,8 @@
 ghost use Rattle.std.specs.Prelude.{◌≡◌, ◌++◌, OnOk, IfOk, codes, flat_map};
 ghost use Rattle.hib_texts.specs.Texts.{entity_text};
 ghost use Rattle.std.specs.Fmt.{decimal};
-ghost use Rattle.hib_bulk.specs.Text.{act_text, body_text, bulked_text, entry_text, head_text, name_text, reply_text, wide_text};
+ghost use Rattle.hib_bulk.specs.Text.{act_text, body_text, bulked_text, entry_text, head_text, name_text, reply_text};
+ghost use Rattle.hib_bulk.specs.Text.{wide_text};
 
 use crate::journal::Bulked;
 use hib_base::{Act, Bytes, EntityNo, Script, Seq, SessionNo};
@@ -85,7 +86,7 @@ fn put_done(
     }
 }
 
-/// A refusal by a region that so many lines hold: to a get it is a miss.
+/// A refusal by a region that lines hold, with their number: to a get it is a miss.
 fn put_wide(alloc: Global, out: &mut Vec<u8>, act: &BulkAct, holders: u64) -> Result<(), AllocError>
     ensures { OnOk result (out.new.items ≡ out.old.items ++ wide_text act.now holders) }
 {
@@ -191,7 +192,8 @@ fn put_entries(
     Ok(())
 }
 
-/// The text of a journal with bulk lines: the number of entries, a line for each, and `end`. Fails for want of memory alone.
+/// The text of a journal with bulk lines: the number of entries, a line for each, and `end`. Fails for want of memory
+/// alone.
 pub fn text(
     alloc: Global,
     script: &Script,

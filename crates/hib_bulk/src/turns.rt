@@ -1,5 +1,6 @@
 // One turn of a session: the act that is due is answered by the session or by a part, and its entry is added.
-ghost use Rattle.std.specs.Prelude.{ℕ, ◌≡◌, ◌≢◌, ◌∷◌, ◌<◌, ◌≤◌, ◌^◌, ◌+◌, length, IfOk, OnOk, OnErr, IfSome, IsOk, Ok, None, Some, Option, List, false, true};
+ghost use Rattle.std.specs.Prelude.{ℕ, ◌≡◌, ◌≢◌, ◌∷◌, ◌<◌, ◌≤◌, ◌^◌, ◌+◌, length, IfOk, OnOk, OnErr, IfSome, IsOk, Ok};
+ghost use Rattle.std.specs.Prelude.{None, Some, Option, List, false, true};
 ghost use Rattle.hib_journal.specs.Sessions.{Journal as Plain, own};
 ghost use Rattle.hib_journal.specs.Next.{next as next_plain};
 ghost use Rattle.hib_session.specs.Memory.{brings};
@@ -15,7 +16,7 @@ ghost use Rattle.hib_bulk.specs.Run.{IsRun, IsTurn, IsSwept, whole_of, bulk_of, 
 
 use crate::journal::Bulked;
 use crate::names::Name;
-use crate::parts::Parts;
+use crate::parts::BulkParts;
 use hib_base::{
     Act, Entry, Evicted, Inserted, Key, Miss, Part, Put, Reply, Script, SessionNo, Tick,
 };
@@ -92,14 +93,14 @@ fn due_act(alloc: Global, script: &Script, session: &Session) -> Result<Option<A
     Ok(act)
 }
 
-/// The tick and the reply of the act that is due, which the session or a part has answered. The journal has room for its entry.
-/// If memory runs out nothing has changed, but for the keeper's counts.
+/// The tick and the reply of the act that is due, which the session or a part has answered. The journal has room for
+/// its entry. If memory runs out nothing has changed, but for the keeper's counts.
 fn answered<K: Keeper, N: Name>(
     alloc: Global,
     script: &Script,
     session: &Session,
     act: &Act,
-    parts: &mut Parts<K>,
+    parts: &mut BulkParts<K>,
     journal: &mut Bulked,
 ) -> Result<(Tick, BulkReply), AllocError>
     requires script { script.now ≡ N.script }
@@ -120,8 +121,8 @@ fn answered<K: Keeper, N: Name>(
     Ok((tick, reply))
 }
 
-/// The session takes the entry of its act, and then the journal, which has room for it: both, or if memory runs out neither.
-/// Of a session that is ready it runs out only if the act brings something to it.
+/// The session takes the entry of its act, and then the journal, which has room for it: both, or if memory runs out
+/// neither. Of a session that is ready it runs out only if the act brings something to it.
 fn enter(
     alloc: Global,
     script: &Script,
@@ -167,13 +168,14 @@ fn enter(
     Ok(())
 }
 
-/// The act that is due is answered, taken by its session, and its entry added: all of it, or if memory runs out nothing.
+/// The act that is due is answered, taken by its session, and its entry added: all of it, or if memory runs out
+/// nothing.
 fn serve<K: Keeper, N: Name>(
     alloc: Global,
     script: &Script,
     session: &mut Session,
     act: Act,
-    parts: &mut Parts<K>,
+    parts: &mut BulkParts<K>,
     journal: &mut Bulked,
 ) -> Result<(), AllocError>
     requires script { script.now ≡ N.script }
@@ -222,7 +224,7 @@ fn sweep_entry(key: &Key, session: SessionNo, tick: Tick) -> BulkEntry
 fn sweep<K: Keeper, N: Name>(
     key: Key,
     session: SessionNo,
-    parts: &mut Parts<K>,
+    parts: &mut BulkParts<K>,
     journal: &mut Bulked,
 ) -> Result<(), AllocError>
     requires run { IsRun N.script N.lines N.from (past journal.old) parts.old }
@@ -244,12 +246,13 @@ fn sweep<K: Keeper, N: Name>(
     Ok(())
 }
 
-/// One act of a session, if one is due: first all is made ready, and only then is what is old swept away, or the act answered.
+/// One act of a session, if one is due: first all is made ready, and only then is what is old swept away, or the act
+/// answered.
 pub fn take_turn<K: Keeper, N: Name>(
     alloc: Global,
     script: &Script,
     session: &mut Session,
-    parts: &mut Parts<K>,
+    parts: &mut BulkParts<K>,
     journal: &mut Bulked,
 ) -> Result<Stepped, AllocError>
     requires script { script.now ≡ N.script }

@@ -9,3 +9,4 @@ pub mod Obeyed
 pub mod Gather
 pub mod Text
 pub mod Counted
+pub mod Shared

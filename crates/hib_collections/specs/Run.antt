@@ -161,7 +161,7 @@ Does script defs s g new x y t = HasMoved script defs s g new x y t
 -- ---- the whole
 
 -- the steps of a run as contracts see them
-pub record CoreState : Type 0 where
+pub record GatherCoreState : Type 0 where
   pub journal : Kept
   pub engines : EnginesState
   pub refused : Bool

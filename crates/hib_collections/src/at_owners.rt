@@ -1,5 +1,7 @@
-// What a session does at an owner of a collection, by the region of the collection: it asks for members, offers them, locks and unlocks.
-ghost use Rattle.std.specs.Prelude.{◌≡◌, ◌+◌, ◌<◌, ◌≤◌, ◌^◌, ℕ, List, Option, length, IfOk, IfSome, OnOk, OnErr, Some, None, true, false, is_some};
+// What a session does at an owner of a collection, by the region of the collection: it asks for members, offers them,
+// locks and unlocks.
+ghost use Rattle.std.specs.Prelude.{◌≡◌, ◌+◌, ◌<◌, ◌≤◌, ◌^◌, ℕ, List, Option, length, IfOk, IfSome, OnOk, OnErr, Some};
+ghost use Rattle.std.specs.Prelude.{None, true, false, is_some};
 ghost use Rattle.hib_base.specs.Tables.{Tables};
 ghost use Rattle.hib_base.specs.declared.entries.Act.{Act};
 ghost use Rattle.hib_base.specs.declared.scripts.Script.{Script as Said};
@@ -16,12 +18,13 @@ ghost use Rattle.hib_collections_law.specs.Gathered.{Due, IsGathered, due, plain
 ghost use Rattle.hib_collections.specs.Collected.{AreCollected};
 ghost use Rattle.hib_collections.specs.Kept.{past};
 ghost use Rattle.hib_collections.specs.Gatherers.{IsGatherer};
-ghost use Rattle.hib_collections.specs.Run.{IsAnsweredAt, IsRun, IsTurn, Leaves, Serves, list_of_hit};
+ghost use Rattle.hib_collections.specs.Run.{IsAnsweredAt, IsTurn, list_of_hit};
+ghost use Rattle.hib_collections.specs.Shared.{HasLeft, HasServed, IsShared};
 
 use crate::members::Gatherer;
 use crate::names::Name;
-use crate::places::Place;
-use crate::shared::Shared;
+use crate::places::OwnerPlace;
+use crate::shared::GatherShared;
 use crate::turns::Turned;
 use hib_base::{Act, Entry, Listing, Reply, Row, Script, SessionNo, Tick, copy_cells};
 use hib_collections_law::{GatherEntry, MemberAct, MemberEntry};
@@ -30,12 +33,12 @@ use hib_journal::part_of;
 use hib_outside::Keeper;
 use std::alloc::{AllocError, Global};
 
-/// An act at an owner is answered by the region of its collection, at this tick. A read leaves the regions as they are, and so does
-/// want of memory.
+/// An act at an owner is answered by the region of its collection, at this tick. A read leaves the regions as they are,
+/// and so does want of memory.
 fn answer_at(
     alloc: Global,
     regions: &mut Vec<Region>,
-    place: Place,
+    place: OwnerPlace,
     act: &Act,
     tick: Tick,
 ) -> Result<Reply, AllocError>
@@ -72,7 +75,7 @@ fn members_in(alloc: Global, reply: &Reply) -> Result<Option<Listing>, AllocErro
 fn member_entry(
     tick: Tick,
     session: SessionNo,
-    place: Place,
+    place: OwnerPlace,
     act: MemberAct,
     reply: Reply,
 ) -> MemberEntry
@@ -98,13 +101,12 @@ fn member_entry(
 /// The members of an owner were refused at this tick. It takes no memory.
 fn serve_miss<K: Keeper, N: Name>(
     gatherer: &mut Gatherer,
-    shared: &mut Shared<K>,
-    place: Place,
+    shared: &mut GatherShared<K>,
+    place: OwnerPlace,
     tick: Tick,
     reply: Reply,
 ) -> Turned
-    requires run { IsRun N.script N.defs N.from (past shared.old.journal) shared.old.engines
-        shared.old.regions.items }
+    requires run { IsShared N.script N.defs N.from shared.old }
     requires member { IsGatherer N.script (past shared.old.journal)
         (number_of gatherer.old.session) gatherer.old }
     requires tick { tick ≡ length (past shared.old.journal) + 1 }
@@ -119,9 +121,7 @@ fn serve_miss<K: Keeper, N: Name>(
         shared.old.regions.items }
     requires miss { list_of_hit reply ≡ None }
     requires calm { is_fault reply ≡ false }
-    ensures { Serves N.script N.defs N.from (number_of gatherer.old.session)
-        (past shared.old.journal) (past shared.new.journal) shared.old.engines shared.new.engines
-        shared.new.regions.items gatherer.new result }
+    ensures { HasServed N.script N.defs N.from shared.old shared.new gatherer.old gatherer.new result }
 {
     let number = gatherer.session.number();
     let act = MemberAct::Get {
@@ -133,20 +133,19 @@ fn serve_miss<K: Keeper, N: Name>(
     Turned::Did
 }
 
-/// The members of an owner were answered at this tick: the session takes them as the list that is due. If memory runs out nothing
-/// has changed.
+/// The members of an owner were answered at this tick: the session takes them as the list that is due. If memory runs
+/// out nothing has changed.
 fn serve_hit<K: Keeper, N: Name>(
     alloc: Global,
     script: &Script,
     gatherer: &mut Gatherer,
-    shared: &mut Shared<K>,
-    place: Place,
+    shared: &mut GatherShared<K>,
+    place: OwnerPlace,
     entry: Entry,
     reply: Reply,
 ) -> Result<Turned, AllocError>
     requires script { script.now ≡ N.script }
-    requires run { IsRun N.script N.defs N.from (past shared.old.journal) shared.old.engines
-        shared.old.regions.items }
+    requires run { IsShared N.script N.defs N.from shared.old }
     requires turn { IsTurn N.script (past shared.old.journal) gatherer.old entry.act }
     requires few { length (past shared.old.journal) + 1 < 2 ^ 62 }
     requires room { 0 < shared.old.journal.spare }
@@ -161,12 +160,9 @@ fn serve_hit<K: Keeper, N: Name>(
         (length (past shared.old.journal) + 1) (Some (number_of gatherer.old.session)) entry.act
         (Reply.Listed l)) }
     requires is_hit { is_some (list_of_hit reply) ≡ true }
-    ensures ok { IfOk result (Serves N.script N.defs N.from (number_of gatherer.old.session)
-        (past shared.old.journal) (past shared.new.journal) shared.old.engines shared.new.engines
-        shared.new.regions.items gatherer.new) }
-    ensures err { OnErr result (Leaves N.script (past shared.old.journal) (past shared.new.journal)
-        shared.old.engines shared.new.engines shared.old.regions.items shared.new.regions.items
-        gatherer.old gatherer.new) }
+    ensures ok { IfOk result (HasServed N.script N.defs N.from shared.old shared.new gatherer.old
+        gatherer.new) }
+    ensures err { OnErr result (HasLeft N.script shared.old shared.new gatherer.old gatherer.new) }
 {
     lists_leave();
     let act = MemberAct::Get {
@@ -180,20 +176,19 @@ fn serve_hit<K: Keeper, N: Name>(
     Ok(Turned::Hit(entry))
 }
 
-/// A collection is asked for the members of an owner, before a list of them. A hit takes the place of the list. If memory runs out
-/// nothing has changed.
+/// A collection is asked for the members of an owner, before a list of them. A hit takes the place of the list. If
+/// memory runs out nothing has changed.
 pub fn serve_get<K: Keeper, N: Name>(
     alloc: Global,
     script: &Script,
     gatherer: &mut Gatherer,
-    shared: &mut Shared<K>,
+    shared: &mut GatherShared<K>,
     act: Act,
-    place: Place,
+    place: OwnerPlace,
     tick: Tick,
 ) -> Result<Turned, AllocError>
     requires script { script.now ≡ N.script }
-    requires run { IsRun N.script N.defs N.from (past shared.old.journal) shared.old.engines
-        shared.old.regions.items }
+    requires run { IsShared N.script N.defs N.from shared.old }
     requires tick { tick ≡ length (past shared.old.journal) + 1 }
     requires few { length (past shared.old.journal) + 1 < 2 ^ 62 }
     requires room { 0 < shared.old.journal.spare }
@@ -201,12 +196,9 @@ pub fn serve_get<K: Keeper, N: Name>(
     requires due { due N.script N.defs (number_of gatherer.old.session) (past shared.old.journal)
         ≡ Some (Due.Member place (MemberAct.Get (time_in (own (number_of gatherer.old.session)
         (plain N.script (past shared.old.journal)))))) }
-    ensures ok { IfOk result (Serves N.script N.defs N.from (number_of gatherer.old.session)
-        (past shared.old.journal) (past shared.new.journal) shared.old.engines shared.new.engines
-        shared.new.regions.items gatherer.new) }
-    ensures err { OnErr result (Leaves N.script (past shared.old.journal) (past shared.new.journal)
-        shared.old.engines shared.new.engines shared.old.regions.items shared.new.regions.items
-        gatherer.old gatherer.new) }
+    ensures ok { IfOk result (HasServed N.script N.defs N.from shared.old shared.new gatherer.old
+        gatherer.new) }
+    ensures err { OnErr result (HasLeft N.script shared.old shared.new gatherer.old gatherer.new) }
 {
     let number = gatherer.session.number();
     let get = Act::Get {
@@ -230,29 +222,26 @@ pub fn serve_get<K: Keeper, N: Name>(
     }
 }
 
-/// Members that were listed after a miss are offered to the region of their collection. If memory runs out nothing has changed.
+/// Members that were listed after a miss are offered to the region of their collection. If memory runs out nothing has
+/// changed.
 pub fn serve_put<K: Keeper, N: Name>(
     alloc: Global,
     gatherer: &mut Gatherer,
-    shared: &mut Shared<K>,
-    place: Place,
+    shared: &mut GatherShared<K>,
+    place: OwnerPlace,
     cells: Listing,
     tick: Tick,
 ) -> Result<Turned, AllocError>
-    requires run { IsRun N.script N.defs N.from (past shared.old.journal) shared.old.engines
-        shared.old.regions.items }
+    requires run { IsShared N.script N.defs N.from shared.old }
     requires tick { tick ≡ length (past shared.old.journal) + 1 }
     requires few { length (past shared.old.journal) + 1 < 2 ^ 62 }
     requires room { 0 < shared.old.journal.spare }
     requires member { IsGatherer N.script (past shared.old.journal)
         (number_of gatherer.old.session) gatherer.old }
     requires listed { gatherer.old.notes.listed ≡ Some (place, cells) }
-    ensures ok { IfOk result (Serves N.script N.defs N.from (number_of gatherer.old.session)
-        (past shared.old.journal) (past shared.new.journal) shared.old.engines shared.new.engines
-        shared.new.regions.items gatherer.new) }
-    ensures err { OnErr result (Leaves N.script (past shared.old.journal) (past shared.new.journal)
-        shared.old.engines shared.new.engines shared.old.regions.items shared.new.regions.items
-        gatherer.old gatherer.new) }
+    ensures ok { IfOk result (HasServed N.script N.defs N.from shared.old shared.new gatherer.old
+        gatherer.new) }
+    ensures err { OnErr result (HasLeft N.script shared.old shared.new gatherer.old gatherer.new) }
 {
     let number = gatherer.session.number();
     let time = gatherer.session.time();
@@ -278,12 +267,11 @@ pub fn serve_put<K: Keeper, N: Name>(
 pub fn serve_lock<K: Keeper, N: Name>(
     alloc: Global,
     gatherer: &mut Gatherer,
-    shared: &mut Shared<K>,
-    place: Place,
+    shared: &mut GatherShared<K>,
+    place: OwnerPlace,
     tick: Tick,
 ) -> Result<Turned, AllocError>
-    requires run { IsRun N.script N.defs N.from (past shared.old.journal) shared.old.engines
-        shared.old.regions.items }
+    requires run { IsShared N.script N.defs N.from shared.old }
     requires tick { tick ≡ length (past shared.old.journal) + 1 }
     requires few { length (past shared.old.journal) + 1 < 2 ^ 62 }
     requires room { 0 < shared.old.journal.spare }
@@ -293,12 +281,9 @@ pub fn serve_lock<K: Keeper, N: Name>(
     requires due { due N.script N.defs (number_of gatherer.old.session) (past shared.old.journal)
         ≡ Some (Due.Member place (MemberAct.Lock (floor_in (own (number_of gatherer.old.session)
         (plain N.script (past shared.old.journal)))))) }
-    ensures ok { IfOk result (Serves N.script N.defs N.from (number_of gatherer.old.session)
-        (past shared.old.journal) (past shared.new.journal) shared.old.engines shared.new.engines
-        shared.new.regions.items gatherer.new) }
-    ensures err { OnErr result (Leaves N.script (past shared.old.journal) (past shared.new.journal)
-        shared.old.engines shared.new.engines shared.old.regions.items shared.new.regions.items
-        gatherer.old gatherer.new) }
+    ensures ok { IfOk result (HasServed N.script N.defs N.from shared.old shared.new gatherer.old
+        gatherer.new) }
+    ensures err { OnErr result (HasLeft N.script shared.old shared.new gatherer.old gatherer.new) }
 {
     let number = gatherer.session.number();
     let floor = gatherer.session.floor();
@@ -318,13 +303,12 @@ pub fn serve_lock<K: Keeper, N: Name>(
 pub fn serve_unlock<K: Keeper, N: Name>(
     alloc: Global,
     gatherer: &mut Gatherer,
-    shared: &mut Shared<K>,
-    place: Place,
+    shared: &mut GatherShared<K>,
+    place: OwnerPlace,
     lock: Tick,
     tick: Tick,
 ) -> Result<Turned, AllocError>
-    requires run { IsRun N.script N.defs N.from (past shared.old.journal) shared.old.engines
-        shared.old.regions.items }
+    requires run { IsShared N.script N.defs N.from shared.old }
     requires tick { tick ≡ length (past shared.old.journal) + 1 }
     requires few { length (past shared.old.journal) + 1 < 2 ^ 62 }
     requires room { 0 < shared.old.journal.spare }
@@ -332,12 +316,9 @@ pub fn serve_unlock<K: Keeper, N: Name>(
         (number_of gatherer.old.session) gatherer.old }
     requires due { due N.script N.defs (number_of gatherer.old.session) (past shared.old.journal)
         ≡ Some (Due.Member place (MemberAct.Unlock lock)) }
-    ensures ok { IfOk result (Serves N.script N.defs N.from (number_of gatherer.old.session)
-        (past shared.old.journal) (past shared.new.journal) shared.old.engines shared.new.engines
-        shared.new.regions.items gatherer.new) }
-    ensures err { OnErr result (Leaves N.script (past shared.old.journal) (past shared.new.journal)
-        shared.old.engines shared.new.engines shared.old.regions.items shared.new.regions.items
-        gatherer.old gatherer.new) }
+    ensures ok { IfOk result (HasServed N.script N.defs N.from shared.old shared.new gatherer.old
+        gatherer.new) }
+    ensures err { OnErr result (HasLeft N.script shared.old shared.new gatherer.old gatherer.new) }
 {
     let number = gatherer.session.number();
     let unlock = Act::Unlock {

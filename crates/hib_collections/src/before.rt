@@ -5,15 +5,16 @@ ghost use Rattle.hib_base.specs.declared.scripts.Script.{Script as Said};
 ghost use Rattle.hib_journal.specs.Sessions.{Journal};
 ghost use Rattle.hib_journal.specs.Next.{is_in_tables};
 ghost use Rattle.hib_session.specs.Session.{Follows};
-ghost use Rattle.hib_collections_law.specs.Types.{Gathered};
+ghost use Rattle.hib_collections_law.specs.Types.{Gathered, max_collections};
 ghost use Rattle.hib_collections_law.specs.Gathered as Law;
-ghost use Rattle.hib_collections_law.specs.Gathered.{due_end, due_for, due_list, due_write, is_changed, locks_in, missed};
+ghost use Rattle.hib_collections_law.specs.Gathered.{due_end, due_for, due_list, due_write, is_changed, locks_in};
+ghost use Rattle.hib_collections_law.specs.Gathered.{missed};
 ghost use Rattle.hib_collections.specs.Notes.{AreNoted};
 ghost use Rattle.hib_collections.specs.Before.{IsKnown, due_by};
 
 use crate::notes::Notes;
 use crate::owners::{asked, to_lock};
-use crate::places::Place;
+use crate::places::OwnerPlace;
 use hib_base::{Act, Change, EntityNo, QueryNo, Script, Tick};
 use hib_collections_law::Defs;
 use hib_session::Session;
@@ -23,11 +24,11 @@ pub enum Before {
     /// Nothing: the act itself is next.
     Nothing,
     /// The collection of a list is asked for its members.
-    Get(Place),
+    Get(OwnerPlace),
     /// The owner of a row that is to be written is locked.
-    Lock(Place),
+    Lock(OwnerPlace),
     /// A lock is given back.
-    Unlock(Place, Tick),
+    Unlock(OwnerPlace, Tick),
 }
 
 /// Whether one of the changes is of an entity.
@@ -43,8 +44,8 @@ fn is_touched(entity: EntityNo, changes: &[Change]) -> bool
 }
 
 /// The collection and the owner of a query of the script.
-fn asked_by(script: &Script, defs: &Defs, query: QueryNo) -> Option<Place>
-    requires few { length defs.now ≤ 64 }
+fn asked_by(script: &Script, defs: &Defs, query: QueryNo) -> Option<OwnerPlace>
+    requires few { length defs.now ≤ max_collections }
     ensures { result ≡ Law.asked_by script.now defs.now query }
 {
     match script.queries.as_slice().get(usize::from(query.0)) {
@@ -54,7 +55,7 @@ fn asked_by(script: &Script, defs: &Defs, query: QueryNo) -> Option<Place>
 }
 
 /// Whether the session has changed the entity of a collection.
-fn has_changed(defs: &Defs, session: &Session, place: Place) -> bool
+fn has_changed(defs: &Defs, session: &Session, place: OwnerPlace) -> bool
     ensures { (script : Said) (mine : Journal) → Follows script session.now mine
         → result ≡ is_changed defs.now mine place.0 }
 {
@@ -64,7 +65,8 @@ fn has_changed(defs: &Defs, session: &Session, place: Place) -> bool
     }
 }
 
-/// What comes before a list: the collection that it is of is asked, unless it has just refused, or the session has changed its entity.
+/// What comes before a list: the collection that it is of is asked, unless it has just refused, or the session has
+/// changed its entity.
 fn before_list(
     script: &Script,
     defs: &Defs,
@@ -72,7 +74,7 @@ fn before_list(
     notes: &Notes,
     query: QueryNo,
 ) -> Before
-    requires few { length defs.now ≤ 64 }
+    requires few { length defs.now ≤ max_collections }
     ensures { (told : Said) (mine : Journal) (own : Gathered) → Follows told session.now mine
         → AreNoted notes.now own
         → due_list defs.now (Law.asked_by script.now defs.now query)
@@ -95,7 +97,7 @@ fn before_list(
 
 /// What comes before a write: each owner whose members it may change is locked.
 fn before_write(defs: &Defs, session: &Session, notes: &Notes, change: &Change) -> Before
-    requires few { length defs.now ≤ 64 }
+    requires few { length defs.now ≤ max_collections }
     ensures { (script : Said) (mine : Journal) (own : Gathered) → Follows script session.now mine
         → AreNoted notes.now own → IsKnown mine (Act.Write change.now)
         → due_write (Law.to_lock defs.now change.now mine (locks_in own)) change.now mine
@@ -127,7 +129,7 @@ pub fn comes_before(
     notes: &Notes,
     act: &Act,
 ) -> Before
-    requires few { length defs.now ≤ 64 }
+    requires few { length defs.now ≤ max_collections }
     ensures { (mine : Journal) (own : Gathered) → Follows script.now session.now mine
         → AreNoted notes.now own → IsKnown mine act.now
         → due_for script.now defs.now act.now mine own ≡ due_by result act.now mine }

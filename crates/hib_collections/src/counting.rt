@@ -91,8 +91,8 @@ fn count_entry(counts: &mut [Counts], entry: &GatherEntry)
     }
 }
 
-/// The counts of the first collections, so many, in one pass over the entries. An entry on another is counted nowhere. Fails for want
-/// of memory alone.
+/// The counts of the first `number` collections, in one pass over the entries. An entry on another is counted nowhere.
+/// Fails for want of memory alone.
 pub fn counts_of(
     alloc: Global,
     entries: &[GatherEntry],

@@ -1,5 +1,7 @@
-// A run with collections: sessions over engines and over the regions of collections, the journal of their steps, and the listeners.
-ghost use Rattle.std.specs.Prelude.{◌≡◌, ◌<◌, ◌≤◌, ◌^◌, ℕ, [], ◌∷◌, length, slice_get, Some, is_ok, OnOk, OnErr, IfOk, IfErr, Ok, true, false};
+// A run with collections: sessions over engines and over the regions of collections, the journal of their steps, and
+// the listeners.
+ghost use Rattle.std.specs.Prelude.{◌≡◌, ◌<◌, ◌≤◌, ◌^◌, ℕ, [], ◌∷◌, length, slice_get, Some, is_ok, OnOk, OnErr, IfOk};
+ghost use Rattle.std.specs.Prelude.{IfErr, Ok, true, false};
 ghost use Rattle.hib_journal.specs.Runs.{told_committed, fault_count};
 ghost use Rattle.hib_outside.specs.Causes.{Rose};
 ghost use Rattle.hib_store.specs.Stores.{handed_back, is_store_fault};
@@ -18,7 +20,7 @@ ghost use Rattle.hib_collections.specs.Played.{GoesOn, has_next};
 
 use crate::gathered::Gathered;
 use crate::names::Name;
-use crate::steps::Core;
+use crate::steps::GatherCore;
 use crate::telling::tell;
 use hib_base::{Order, Script, SessionNo};
 use hib_collections_law::Defs;
@@ -38,12 +40,12 @@ pub struct GatherRefused<K, L> {
     pub listeners: Vec<L>,
 }
 
-/// Sessions over shared engines and over the regions of collections, with the journal of their steps, which is legal for the name's
-/// script and collections from the name's rows, and the listeners that are told each entry of a session's plan, a hit as the list
-/// that it stands for, in the step that adds it. After a listener had no memory for an entry, which stands, no call adds one more:
-/// it answers want of memory and changes nothing.
+/// Sessions over shared engines and over the regions of collections, with the journal of their steps, which is legal
+/// for the name's script and collections from the name's rows, and the listeners that are told each entry of a
+/// session's plan, a hit as the list that it stands for, in the step that adds it. After a listener had no memory for
+/// an entry, which stands, no call adds one more: it answers want of memory and changes nothing.
 pub struct Gather<K: Keeper, N: Name, L: Listener> {
-    core: Core<K, N>,
+    core: GatherCore<K, N>,
     listeners: Listeners<L>,
     /// Whether a listener had no memory for the newest entry that is told.
     deaf: bool,
@@ -71,9 +73,9 @@ impl<K: Keeper, N: Name, L: Listener> Model for Gather<K, N, L> {
 }
 
 impl<K: Keeper, N: Name, L: Listener> Gather<K, N, L> {
-    /// Opens the run of this name, in which no session has begun. The keeper is seeded with the script's mapping and rows, each of
-    /// which it takes if its key has none. At an error the keeper is handed back with the rows that it had, and the listeners
-    /// untold.
+    /// Opens the run of this name, in which no session has begun. The keeper is seeded with the script's mapping and
+    /// rows, each of which it takes if its key has none. At an error the keeper is handed back with the rows that it
+    /// had, and the listeners untold.
     pub fn open(
         alloc: Global,
         script: Script,
@@ -98,7 +100,7 @@ impl<K: Keeper, N: Name, L: Listener> Gather<K, N, L> {
         ensures listeners { IfErr result (λ e. e.listeners ≡ listeners) }
     {
         nothing_was_told();
-        match Core::open(alloc, script, defs, keeper) {
+        match GatherCore::open(alloc, script, defs, keeper) {
             Ok(core) => Ok(Gather {
                 core,
                 listeners: Listeners::open(listeners),
@@ -108,9 +110,10 @@ impl<K: Keeper, N: Name, L: Listener> Gather<K, N, L> {
         }
     }
 
-    /// One step of a session: what is due in it, if anything is, and then the listeners hear of its entry. The other sessions stay as
-    /// they are. If memory runs out no entry is added and nothing has changed, but the answer of `refused` and the keeper's counts;
-    /// so a later call may succeed. Only if a listener had none does the entry stand, and no call adds another.
+    /// One step of a session: what is due in it, if anything is, and then the listeners hear of its entry. The other
+    /// sessions stay as they are. If memory runs out no entry is added and nothing has changed, but the answer of
+    /// `refused` and the keeper's counts; so a later call may succeed. Only if a listener had none does the entry
+    /// stand, and no call adds another.
     pub fn step(&mut self, alloc: Global, number: SessionNo) -> Result<Stepped, AllocError>
         requires known { number < length N.script.sessions }
         ensures did { result ≡ Ok Stepped.Did → HasStepped N.script N.defs number
@@ -224,7 +227,8 @@ impl<K: Keeper, N: Name, L: Listener> Gather<K, N, L> {
         self.core.lawful();
     }
 
-    /// The keeper, the script, the collections, the journal and the listeners that stayed, with what the run promises of them.
+    /// The keeper, the script, the collections, the journal and the listeners that stayed, with what the run promises
+    /// of them.
     pub fn close(self) -> (K, Script, Defs, Gathered, Vec<L>)
         ensures script { result.1 ≡ N.script }
         ensures defs { result.2 ≡ N.defs }

@@ -9,7 +9,8 @@ use std::marker::Model;
 /// No memory holds as many entries.
 const MOST: usize = 1 << 62;
 
-/// The entries of a run with collections, the oldest first. They are only added to. Room for the next one can be made before it comes.
+/// The entries of a run with collections, the oldest first. They are only added to. Room for the next one can be made
+/// before it comes.
 #[derive(Drop)]
 pub struct Gathered {
     entries: Vec<GatherEntry>,

@@ -1,7 +1,8 @@
 // The text of a journal with collections.
 ghost use Rattle.std.specs.Prelude.{◌≡◌, ◌≤◌, ◌++◌, OnOk, IfOk, flat_map, length};
 ghost use Rattle.hib_collections.specs.Counted.{total_text};
-ghost use Rattle.hib_collections.specs.Text.{counts_text, entry_text, gathered_text, member_act_text, member_reply_text, member_text, numbers_text, owner_text};
+ghost use Rattle.hib_collections.specs.Text.{counts_text, entry_text, gathered_text, member_act_text};
+ghost use Rattle.hib_collections.specs.Text.{member_reply_text, member_text, numbers_text, owner_text};
 
 use crate::counting::{Counts, counts_of};
 use crate::gathered::Gathered;
@@ -179,8 +180,8 @@ fn put_entries(
     Ok(())
 }
 
-/// The text of a journal with collections: the number of entries, a line for each, a line for each collection with its hits, misses,
-/// stored puts and locks, and `end`. Fails for want of memory alone.
+/// The text of a journal with collections: the number of entries, a line for each, a line for each collection with its
+/// hits, misses, stored puts and locks, and `end`. Fails for want of memory alone.
 pub fn text(
     alloc: Global,
     script: &Script,

@@ -2,21 +2,21 @@
 ghost use Rattle.std.specs.Prelude.{◌≡◌, ◌∷◌, [], ◌++◌, drop, slice_get, OnOk, true};
 ghost use Rattle.hib_collections_law.specs.Gathered.{is_locked};
 
-use crate::places::Place;
+use crate::places::OwnerPlace;
 use hib_base::Tick;
 use indexmap::IndexSet;
 use std::alloc::{AllocError, Global};
 use std::marker::Model;
 
-/// The locks that a session has taken in its transaction and not given back, with their numbers, in the order in which they were
-/// taken. Whether an owner is locked is asked of a set, however many are, until the first lock is given back: that is at the
-/// transaction's end.
+/// The locks that a session has taken in its transaction and not given back, with their numbers, in the order in which
+/// they were taken. Whether an owner is locked is asked of a set, however many are, until the first lock is given back:
+/// that is at the transaction's end.
 #[derive(Drop)]
 pub struct Locks {
     /// All that were taken.
-    taken: Vec<(Place, Tick)>,
+    taken: Vec<(OwnerPlace, Tick)>,
     /// Their owners.
-    places: IndexSet<Place>,
+    places: IndexSet<OwnerPlace>,
     /// How many of them were given back.
     given: usize,
 }
@@ -39,7 +39,7 @@ impl Model for Locks {
 }
 
 /// Whether one of some locks is on an owner.
-fn is_among(locks: &[(Place, Tick)], place: Place) -> bool
+fn is_among(locks: &[(OwnerPlace, Tick)], place: OwnerPlace) -> bool
     ensures { result ≡ is_locked locks.now place }
 {
     locks.iter().any(|lock| lock.0 == place)
@@ -58,7 +58,7 @@ impl Locks {
     }
 
     /// Whether an owner is locked.
-    pub fn has(&self, place: Place) -> bool
+    pub fn has(&self, place: OwnerPlace) -> bool
         ensures { result ≡ is_locked self.now.held place }
     {
         if self.given == 0 {
@@ -68,7 +68,7 @@ impl Locks {
     }
 
     /// The lock that is to be given back first.
-    pub fn first(&self) -> Option<(Place, Tick)>
+    pub fn first(&self) -> Option<(OwnerPlace, Tick)>
         ensures { result ≡ slice_get self.now.held 0 }
     {
         self.taken.as_slice().get(self.given).copied()
@@ -85,7 +85,7 @@ impl Locks {
     }
 
     /// A lock was taken. It takes no memory.
-    pub fn take(&mut self, place: Place, lock: Tick)
+    pub fn take(&mut self, place: OwnerPlace, lock: Tick)
         requires { self.old.room ≡ true }
         ensures { self.new.held ≡ self.old.held ++ (place, lock) ∷ [] }
     {

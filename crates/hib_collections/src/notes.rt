@@ -1,22 +1,23 @@
 // What is noted of a session beside what it remembers itself.
-ghost use Rattle.std.specs.Prelude.{◌≡◌, [], drop, Some, None, IfOk, OnOk, OnErr, IfSome, IsSome, if◌then◌else◌, true, is_some};
+ghost use Rattle.std.specs.Prelude.{◌≡◌, [], drop, Some, None, IfOk, OnOk, OnErr, IfSome, IsSome, if◌then◌else◌, true};
+ghost use Rattle.std.specs.Prelude.{is_some};
 ghost use Rattle.hib_session.specs.Memory.{brings};
 ghost use Rattle.hib_collections_law.specs.Gathered.{is_miss, unless_begun};
 ghost use Rattle.hib_collections.specs.Notes.{listed_from, locks_with};
 
 use crate::locks::Locks;
-use crate::places::Place;
+use crate::places::OwnerPlace;
 use hib_base::{Act, Listing, Reply, Tick, copy_cells};
 use std::alloc::{AllocError, Global};
 use std::marker::Model;
 
-/// What is noted of a session's last entries: the locks that it holds on owners of collections, the owner whose members it was
-/// refused, if it got nothing since, and the list that it was answered then.
+/// What is noted of a session's last entries: the locks that it holds on owners of collections, the owner whose members
+/// it was refused, if it got nothing since, and the list that it was answered then.
 #[derive(Drop)]
 pub struct Notes {
     locks: Locks,
-    missed: Option<Place>,
-    listed: Option<(Place, Listing)>,
+    missed: Option<OwnerPlace>,
+    listed: Option<(OwnerPlace, Listing)>,
 }
 
 impl Model for Notes {
@@ -68,7 +69,7 @@ impl Notes {
     }
 
     /// The list that it was answered after it was refused the members of an owner: the owner, and a copy of the list.
-    pub fn copy_of_listed(&self, alloc: Global) -> Result<Option<(Place, Listing)>, AllocError>
+    pub fn copy_of_listed(&self, alloc: Global) -> Result<Option<(OwnerPlace, Listing)>, AllocError>
         ensures { IfOk result (λ l. l ≡ self.now.listed) }
     {
         match &self.listed {
@@ -99,7 +100,7 @@ impl Notes {
         alloc: Global,
         act: &Act,
         reply: &Reply,
-    ) -> Result<Option<(Place, Listing)>, AllocError>
+    ) -> Result<Option<(OwnerPlace, Listing)>, AllocError>
         ensures listed { IfOk result (λ l. l ≡ listed_from self.now.missed act.now reply.now) }
         ensures fails { OnErr result (brings act.now ≡ true) }
     {
@@ -113,7 +114,7 @@ impl Notes {
     }
 
     /// An entry of the session's plan came, with what was listed in it. It takes no memory.
-    pub fn note(&mut self, act: &Act, listed: Option<(Place, Listing)>)
+    pub fn note(&mut self, act: &Act, listed: Option<(OwnerPlace, Listing)>)
         ensures locks { self.new.locks ≡ unless_begun act.now self.old.locks }
         ensures missed { self.new.missed ≡ None }
         ensures listed { self.new.listed ≡ listed }
@@ -126,7 +127,7 @@ impl Notes {
     }
 
     /// The members of an owner were asked for, and this was answered, no hit. It takes no memory.
-    pub fn miss(&mut self, place: Place, reply: &Reply)
+    pub fn miss(&mut self, place: OwnerPlace, reply: &Reply)
         ensures locks { self.new.locks ≡ self.old.locks }
         ensures missed { self.new.missed ≡ (if is_miss reply.now then Some place else None) }
         ensures listed { self.new.listed ≡ None }
@@ -160,7 +161,7 @@ impl Notes {
     }
 
     /// A lock was answered. It takes no memory.
-    pub fn lock(&mut self, place: Place, reply: &Reply)
+    pub fn lock(&mut self, place: OwnerPlace, reply: &Reply)
         requires { self.old.room ≡ true }
         ensures locks { self.new.locks ≡ locks_with place reply.now self.old.locks }
         ensures missed { self.new.missed ≡ None }

@@ -1,14 +1,16 @@
 // The collection and the owner that a query is of, and the owners whose members a change may change.
-ghost use Rattle.std.specs.Prelude.{◌≡◌, ◌≤◌, ◌++◌, ◌==◌, [], if◌then◌else◌, Some, None, find, not, map, length, option_copied, option_to_list};
+ghost use Rattle.std.specs.Prelude.{◌≡◌, ◌≤◌, ◌++◌, ◌==◌, [], if◌then◌else◌, Some, None, find, not, map, length};
+ghost use Rattle.std.specs.Prelude.{option_copied, option_to_list};
 ghost use Rattle.hib_base.specs.Tables.{key_of};
 ghost use Rattle.hib_base.specs.declared.rows.Cell.{Cell};
 ghost use Rattle.hib_journal.specs.Query.{same_cell};
 ghost use Rattle.hib_collections_law.specs.Members as Members;
 ghost use Rattle.hib_collections_law.specs.Gathered as Gathered;
+ghost use Rattle.hib_collections_law.specs.Types.{max_collections};
 ghost use Rattle.hib_collections_law.specs.Gathered.{is_locked, owners_from};
 
 use crate::locks::Locks;
-use crate::places::Place;
+use crate::places::OwnerPlace;
 use hib_base::{Cell, Change, Cond, Op, Path, Query, Row, Select};
 use hib_collections_law::{Def, Defs};
 
@@ -100,11 +102,11 @@ fn owners(def: &Def, old: Option<&Row>, change: &Change) -> (Option<u64>, Option
 }
 
 /// An owner of a collection, if there is one and it isn't locked.
-fn free(locks: &Locks, collection: u16, owner: Option<u64>) -> Option<Place>
+fn free(locks: &Locks, collection: u16, owner: Option<u64>) -> Option<OwnerPlace>
     ensures { result ≡ find (λ p. not (is_locked locks.now.held p))
         (map (λ o. (collection, o)) (option_to_list owner)) }
 {
-    let place = Place {
+    let place = OwnerPlace {
         collection,
         owner: owner?,
     };
@@ -112,7 +114,11 @@ fn free(locks: &Locks, collection: u16, owner: Option<u64>) -> Option<Place>
 }
 
 /// The first of two owners of a collection that isn't locked.
-fn first_free(locks: &Locks, collection: u16, owners: (Option<u64>, Option<u64>)) -> Option<Place>
+fn first_free(
+    locks: &Locks,
+    collection: u16,
+    owners: (Option<u64>, Option<u64>),
+) -> Option<OwnerPlace>
     ensures { result ≡ find (λ p. not (is_locked locks.now.held p))
         (map (λ o. (collection, o)) (option_to_list owners.0 ++ option_to_list owners.1)) }
 {
@@ -129,7 +135,7 @@ fn free_in(
     collection: u16,
     old: Option<&Row>,
     change: &Change,
-) -> Option<Place>
+) -> Option<OwnerPlace>
     ensures { result ≡ find (λ p. not (is_locked locks.now.held p))
         (if (key_of change.now).entity == def.now.entity
         then map (λ o. (collection, o)) (Gathered.owners def.now (option_copied old.entry) change.now)
@@ -142,9 +148,10 @@ fn free_in(
     }
 }
 
-/// The first owner that is to be locked before a change is written, by the row that was there; there is none if all are locked.
-pub fn to_lock(defs: &Defs, change: &Change, old: Option<&Row>, locks: &Locks) -> Option<Place>
-    requires few { length defs.now ≤ 64 }
+/// The first owner that is to be locked before a change is written, by the row that was there; there is none if all are
+/// locked.
+pub fn to_lock(defs: &Defs, change: &Change, old: Option<&Row>, locks: &Locks) -> Option<OwnerPlace>
+    requires few { length defs.now ≤ max_collections }
     ensures { result ≡ find (λ p. not (is_locked locks.now.held p))
         (owners_from 0 defs.now (option_copied old.entry) change.now) }
 {
@@ -216,13 +223,13 @@ fn owner_asked(def: &Def, query: &Query) -> Option<u64>
 }
 
 /// The collection and the owner that a query is of, if it is of one.
-pub fn asked(defs: &Defs, query: &Query) -> Option<Place>
-    requires few { length defs.now ≤ 64 }
+pub fn asked(defs: &Defs, query: &Query) -> Option<OwnerPlace>
+    requires few { length defs.now ≤ max_collections }
     ensures { result ≡ Members.asked defs.now query.now }
 {
     for (at, def) in defs.as_slice().iter().enumerate() {
         if let Some(owner) = owner_asked(def, query) {
-            return Some(Place {
+            return Some(OwnerPlace {
                 collection: at as u16,
                 owner,
             });

@@ -7,14 +7,14 @@ use std::marker::Model;
 
 /// An owner of a collection. Contracts see the pair.
 #[derive(Clone, Copy, Debug, PartialEq, Eq, Hash)]
-pub struct Place {
+pub struct OwnerPlace {
     /// The collection, by its place among the collections.
     pub collection: u16,
     /// The owner, by its identifier.
     pub owner: u64,
 }
 
-impl Model for Place {
+impl Model for OwnerPlace {
     ghost use Rattle.std.specs.Prelude.{ℕ};
 
     ghost Value = { ℕ × ℕ };
@@ -24,7 +24,7 @@ impl Model for Place {
     ghost inverse = { λ p. record { collection = p.0; owner = p.1 } };
 }
 
-impl Place {
+impl OwnerPlace {
     /// The collection, taken for an entity.
     pub fn entity(self) -> EntityNo
         ensures { result ≡ self.0 }

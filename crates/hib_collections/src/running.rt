@@ -6,7 +6,8 @@ ghost use Rattle.hib_collections.specs.Gather.{HasStopped};
 ghost use Rattle.hib_collections.specs.Kept.{past};
 ghost use Rattle.hib_collections.specs.Obeyed.{Obeys};
 ghost use Rattle.hib_collections.specs.Run.{IsAskedOnceMore};
-ghost use Rattle.hib_collections.specs.Played.{played, has_next, is_played, play_all, play_order, play_orders, play_script, play_sessions, play_steps, AreOver, GoesOn, Leads};
+ghost use Rattle.hib_collections.specs.Played.{played, has_next, is_played, play_all, play_order, play_orders};
+ghost use Rattle.hib_collections.specs.Played.{play_script, play_sessions, play_steps, AreOver, GoesOn, Leads};
 
 use crate::gather::Gather;
 use crate::names::Name;
@@ -16,8 +17,8 @@ use hib_outside::{Keeper, Listener};
 use std::alloc::{AllocError, Global};
 
 impl<K: Keeper, N: Name, L: Listener> Gather<K, N, L> {
-    /// Runs a session for so many steps, or to its end if that comes before; one that isn't there has none. If memory runs out
-    /// the steps so far stand.
+    /// Runs a session for `steps` steps, or to its end if that comes before; one that isn't there has none. If memory
+    /// runs out the steps so far stand.
     fn run_steps(&mut self, alloc: Global, number: SessionNo, steps: u32) -> Result<(), AllocError>
         ensures played { OnOk result (Leads (play_steps N.script N.defs number steps) played
             (past self.old.journal) (past self.new.journal)) }
@@ -109,8 +110,8 @@ impl<K: Keeper, N: Name, L: Listener> Gather<K, N, L> {
         Ok(())
     }
 
-    /// Plays the script: the orders of its schedule that run sessions, one after the other, and then each session to its end, the
-    /// first one first. If memory runs out it stops there, and the steps so far stand.
+    /// Plays the script: the orders of its schedule that run sessions, one after the other, and then each session to
+    /// its end, the first one first. If memory runs out it stops there, and the steps so far stand.
     pub fn play(&mut self, alloc: Global) -> Result<(), AllocError>
         ensures played { OnOk result (past self.old.journal ≡ []
             → is_played N.script N.defs (past self.new.journal) ≡ true) }

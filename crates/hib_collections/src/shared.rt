@@ -10,7 +10,7 @@ use hib_outside::Keeper;
 use std::alloc::{AllocError, Global};
 
 /// What sessions share: the engines of their script, a region for each collection, and the journal of their steps.
-pub struct Shared<K: Keeper> {
+pub struct GatherShared<K: Keeper> {
     /// The store, the open sessions, the stamps, the regions of entities and the results of queries.
     pub engines: Engines<K>,
     /// For each collection its region, in order.

@@ -1,5 +1,6 @@
 // The steps of a run with collections, each of which adds one entry to its journal, whoever hears of it.
-ghost use Rattle.std.specs.Prelude.{◌≡◌, ◌≢◌, ◌≤◌, ◌<◌, ◌^◌, ℕ, [], length, slice_get, Some, OnOk, OnErr, IfOk, IfErr, Ok, false, true};
+ghost use Rattle.std.specs.Prelude.{◌≡◌, ◌≢◌, ◌≤◌, ◌<◌, ◌^◌, ℕ, [], length, slice_get, Some, OnOk, OnErr, IfOk, IfErr};
+ghost use Rattle.std.specs.Prelude.{Ok, false, true};
 ghost use Rattle.hib_journal.specs.Runs.{told_committed, fault_count};
 ghost use Rattle.hib_outside.specs.Causes.{Rose};
 ghost use Rattle.hib_store.specs.Stores.{handed_back, is_store_fault};
@@ -15,7 +16,7 @@ ghost use Rattle.hib_collections.specs.Played.{has_next};
 use crate::gathered::Gathered;
 use crate::members::{Gatherer, open_all};
 use crate::names::Name;
-use crate::shared::{Shared, open_regions};
+use crate::shared::{GatherShared, open_regions};
 use crate::turns::{Turned, has_turn, turn};
 use hib_base::{Order, Script, SessionNo};
 use hib_collections_law::{Defs, collections_cohere, sessions_end};
@@ -25,25 +26,25 @@ use hib_store::OpenFault;
 use std::alloc::{AllocError, Global};
 use std::marker::{Model, PhantomData};
 
-/// Sessions over engines and over the regions of collections, with the journal of their steps, which tells nobody of them. The
-/// journal is legal for the name's script and collections, from the name's rows.
-pub struct Core<K: Keeper, N: Name> {
+/// Sessions over engines and over the regions of collections, with the journal of their steps, which tells nobody of
+/// them. The journal is legal for the name's script and collections, from the name's rows.
+pub struct GatherCore<K: Keeper, N: Name> {
     script: Script,
     defs: Defs,
     gatherers: Vec<Gatherer>,
-    shared: Shared<K>,
+    shared: GatherShared<K>,
     /// Whether memory ran out in a call.
     refused: bool,
     of: PhantomData<N>,
 }
 
-impl<K: Keeper, N: Name> Model for Core<K, N> {
+impl<K: Keeper, N: Name> Model for GatherCore<K, N> {
     ghost use Rattle.std.specs.Prelude.{◌≡◌, false};
     ghost use Rattle.hib_collections.specs.Kept.{past};
     ghost use Rattle.hib_collections.specs.Gatherers.{AreGatherers};
-    ghost use Rattle.hib_collections.specs.Run.{CoreState, IsAsked, IsRun};
+    ghost use Rattle.hib_collections.specs.Run.{GatherCoreState, IsAsked, IsRun};
 
-    ghost Value = { CoreState };
+    ghost Value = { GatherCoreState };
 
     ghost view = { λ c. record {
       journal = c.shared.journal;
@@ -58,16 +59,16 @@ impl<K: Keeper, N: Name> Model for Core<K, N> {
         × (c.refused ≡ false → IsAsked N.script N.from (past c.shared.journal) c.shared.engines) };
 }
 
-impl<K: Keeper, N: Name> Core<K, N> {
-    /// Opens the core of the run of this name, in which no session has begun. The rows that the keeper keeps are widened to the script's
-    /// mapping, and each of the script's rows whose key has none is added. At an error the keeper is handed back, with the rows
-    /// that it had.
+impl<K: Keeper, N: Name> GatherCore<K, N> {
+    /// Opens the core of the run of this name, in which no session has begun. The rows that the keeper keeps are
+    /// widened to the script's mapping, and each of the script's rows whose key has none is added. At an error the
+    /// keeper is handed back, with the rows that it had.
     pub fn open(
         alloc: Global,
         script: Script,
         defs: Defs,
         keeper: K,
-    ) -> Result<Core<K, N>, OpenFault<K>>
+    ) -> Result<GatherCore<K, N>, OpenFault<K>>
         requires script { script ≡ N.script }
         requires defs { defs ≡ N.defs }
         requires set { AreSet N.script N.defs }
@@ -88,11 +89,11 @@ impl<K: Keeper, N: Name> Core<K, N> {
             return Err(OpenFault::NoMemory(keeper));
         };
         let engines = Engines::open(alloc, &script, keeper)?;
-        Ok(Core {
+        Ok(GatherCore {
             script,
             defs,
             gatherers,
-            shared: Shared {
+            shared: GatherShared {
                 engines,
                 regions,
                 journal: Gathered::open(alloc),
@@ -102,8 +103,8 @@ impl<K: Keeper, N: Name> Core<K, N> {
         })
     }
 
-    /// One step of a session: what is due in it, if anything is. If memory runs out no entry is added and nothing has changed, but the
-    /// answer of `refused` and the keeper's counts; so a later call may succeed.
+    /// One step of a session: what is due in it, if anything is. If memory runs out no entry is added and nothing has
+    /// changed, but the answer of `refused` and the keeper's counts; so a later call may succeed.
     pub fn step(&mut self, alloc: Global, number: SessionNo) -> Result<Turned, AllocError>
         requires known { number < length N.script.sessions }
         ensures does { IfOk result (Does N.script N.defs number (past self.old.journal)
@@ -235,7 +236,7 @@ impl<K: Keeper, N: Name> Core<K, N> {
         ensures asked { self.refused ≡ false → RoseWithin N.from.asked
             (ask_count N.script (past result.3)) (K.asked result.0) }
     {
-        let Core {
+        let GatherCore {
             script,
             defs,
             gatherers: _,
@@ -243,7 +244,7 @@ impl<K: Keeper, N: Name> Core<K, N> {
             refused: _,
             of: _,
         } = self;
-        let Shared {
+        let GatherShared {
             engines,
             regions: _,
             journal,

@@ -31,8 +31,8 @@ fn tell_entry<L: Listener>(
     told
 }
 
-/// Tells the entry of a session's plan that a turn added, or the one that its hit stands for; nothing, if it added another. If a
-/// listener has no memory for it, that is noted.
+/// Tells the entry of a session's plan that a turn added, or the one that its hit stands for; nothing, if it added
+/// another. If a listener has no memory for it, that is noted.
 pub fn tell<L: Listener>(
     alloc: Global,
     turned: &Turned,

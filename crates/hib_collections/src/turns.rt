@@ -1,5 +1,6 @@
 // One turn of a session: an act of its plan is answered, or one at a collection's region that comes before or after it.
-ghost use Rattle.std.specs.Prelude.{◌≡◌, ◌+◌, ◌<◌, ◌^◌, Option, length, IfOk, IfSome, OnOk, OnErr, Some, None, true, false, is_some};
+ghost use Rattle.std.specs.Prelude.{◌≡◌, ◌+◌, ◌<◌, ◌^◌, Option, length, IfOk, IfSome, OnOk, OnErr, Some, None, true};
+ghost use Rattle.std.specs.Prelude.{false, is_some};
 ghost use Rattle.hib_base.specs.declared.entries.Act.{Act};
 ghost use Rattle.hib_journal.specs.Sessions.{Journal};
 ghost use Rattle.hib_journal.specs.Next.{next};
@@ -9,14 +10,15 @@ ghost use Rattle.hib_engines.specs.Engines.{IsStill};
 ghost use Rattle.hib_collections_law.specs.Gathered.{Due, due};
 ghost use Rattle.hib_collections.specs.Kept.{past};
 ghost use Rattle.hib_collections.specs.Gatherers.{AreGatherers, IsGatherer};
-ghost use Rattle.hib_collections.specs.Run.{Does, IsKept, IsRun, IsTurn, Leaves, Serves, Turns, is_done};
+ghost use Rattle.hib_collections.specs.Run.{Does, IsKept, IsTurn, is_done};
+ghost use Rattle.hib_collections.specs.Shared.{HasLeft, HasServed, HasTurned, IsShared};
 
 use crate::at_owners::{serve_get, serve_lock, serve_put, serve_unlock};
 use crate::before::{Before, comes_before};
 use crate::gathered::Gathered;
 use crate::members::Gatherer;
 use crate::names::Name;
-use crate::shared::Shared;
+use crate::shared::GatherShared;
 use hib_base::{Act, Entry, Script, SessionNo, Tick};
 use hib_collections_law::{Defs, GatherEntry};
 use hib_journal::part_of;
@@ -59,8 +61,8 @@ fn due_act(alloc: Global, script: &Script, session: &Session) -> Result<Option<A
     Ok(act)
 }
 
-/// Makes a session and the journal ready for one more entry, and gives its tick: one more than there are entries. At an error all is
-/// as before but for the room.
+/// Makes a session and the journal ready for one more entry, and gives its tick: one more than there are entries. At an
+/// error all is as before but for the room.
 fn prepare(
     alloc: Global,
     script: &Script,
@@ -81,18 +83,18 @@ fn prepare(
     Ok(Tick(journal.len() as u64 + 1))
 }
 
-/// The act of the plan is answered, taken by its session, and its entry added: all of it, or if memory runs out nothing.
+/// The act of the plan is answered, taken by its session, and its entry added: all of it, or if memory runs out
+/// nothing.
 fn serve_plain<K: Keeper, N: Name>(
     alloc: Global,
     script: &Script,
     gatherer: &mut Gatherer,
-    shared: &mut Shared<K>,
+    shared: &mut GatherShared<K>,
     act: Act,
     tick: Tick,
 ) -> Result<Turned, AllocError>
     requires script { script.now ≡ N.script }
-    requires run { IsRun N.script N.defs N.from (past shared.old.journal) shared.old.engines
-        shared.old.regions.items }
+    requires run { IsShared N.script N.defs N.from shared.old }
     requires tick { tick ≡ length (past shared.old.journal) + 1 }
     requires few { length (past shared.old.journal) + 1 < 2 ^ 62 }
     requires room { 0 < shared.old.journal.spare }
@@ -100,12 +102,9 @@ fn serve_plain<K: Keeper, N: Name>(
     requires ready { is_ready script.now gatherer.old.session ≡ true }
     requires due { due N.script N.defs (number_of gatherer.old.session) (past shared.old.journal)
         ≡ Some (Due.Plain act) }
-    ensures ok { IfOk result (Serves N.script N.defs N.from (number_of gatherer.old.session)
-        (past shared.old.journal) (past shared.new.journal) shared.old.engines shared.new.engines
-        shared.new.regions.items gatherer.new) }
-    ensures err { OnErr result (Leaves N.script (past shared.old.journal) (past shared.new.journal)
-        shared.old.engines shared.new.engines shared.old.regions.items shared.new.regions.items
-        gatherer.old gatherer.new) }
+    ensures ok { IfOk result (HasServed N.script N.defs N.from shared.old shared.new gatherer.old
+        gatherer.new) }
+    ensures err { OnErr result (HasLeft N.script shared.old shared.new gatherer.old gatherer.new) }
 {
     let reply = shared
         .engines
@@ -132,14 +131,13 @@ fn serve<K: Keeper, N: Name>(
     script: &Script,
     defs: &Defs,
     gatherer: &mut Gatherer,
-    shared: &mut Shared<K>,
+    shared: &mut GatherShared<K>,
     act: Act,
     tick: Tick,
 ) -> Result<Turned, AllocError>
     requires script { script.now ≡ N.script }
     requires defs { defs.now ≡ N.defs }
-    requires run { IsRun N.script N.defs N.from (past shared.old.journal) shared.old.engines
-        shared.old.regions.items }
+    requires run { IsShared N.script N.defs N.from shared.old }
     requires tick { tick ≡ length (past shared.old.journal) + 1 }
     requires few { length (past shared.old.journal) + 1 < 2 ^ 62 }
     requires room { 0 < shared.old.journal.spare }
@@ -147,12 +145,9 @@ fn serve<K: Keeper, N: Name>(
     requires turn { IsTurn N.script (past shared.old.journal) gatherer.old act }
     requires ready { is_ready script.now gatherer.old.session ≡ true }
     requires unlisted { gatherer.old.notes.listed ≡ None }
-    ensures ok { IfOk result (Serves N.script N.defs N.from (number_of gatherer.old.session)
-        (past shared.old.journal) (past shared.new.journal) shared.old.engines shared.new.engines
-        shared.new.regions.items gatherer.new) }
-    ensures err { OnErr result (Leaves N.script (past shared.old.journal) (past shared.new.journal)
-        shared.old.engines shared.new.engines shared.old.regions.items shared.new.regions.items
-        gatherer.old gatherer.new) }
+    ensures ok { IfOk result (HasServed N.script N.defs N.from shared.old shared.new gatherer.old
+        gatherer.new) }
+    ensures err { OnErr result (HasLeft N.script shared.old shared.new gatherer.old gatherer.new) }
 {
     match comes_before(script, defs, &gatherer.session, &gatherer.notes, &act) {
         Before::Nothing => serve_plain::<K, N>(alloc, script, gatherer, shared, act, tick),
@@ -170,20 +165,16 @@ fn take_turn<K: Keeper, N: Name>(
     script: &Script,
     defs: &Defs,
     gatherer: &mut Gatherer,
-    shared: &mut Shared<K>,
+    shared: &mut GatherShared<K>,
 ) -> Result<Turned, AllocError>
     requires script { script.now ≡ N.script }
     requires defs { defs.now ≡ N.defs }
-    requires run { IsRun N.script N.defs N.from (past shared.old.journal) shared.old.engines
-        shared.old.regions.items }
+    requires run { IsShared N.script N.defs N.from shared.old }
     requires member { IsGatherer N.script (past shared.old.journal)
         (number_of gatherer.old.session) gatherer.old }
-    ensures ok { IfOk result (Turns N.script N.defs N.from (number_of gatherer.old.session)
-        (past shared.old.journal) (past shared.new.journal) shared.old.engines shared.new.engines
-        shared.old.regions.items shared.new.regions.items gatherer.old gatherer.new) }
-    ensures err { OnErr result (Leaves N.script (past shared.old.journal) (past shared.new.journal)
-        shared.old.engines shared.new.engines shared.old.regions.items shared.new.regions.items
-        gatherer.old gatherer.new) }
+    ensures ok { IfOk result (HasTurned N.script N.defs N.from shared.old shared.new gatherer.old
+        gatherer.new) }
+    ensures err { OnErr result (HasLeft N.script shared.old shared.new gatherer.old gatherer.new) }
 {
     let tick = prepare(alloc, script, gatherer, &mut shared.journal)?;
     if let Some((place, list)) = gatherer.notes.copy_of_listed(alloc)? {
@@ -218,23 +209,22 @@ pub fn has_turn<N: Name>(
     Ok(act.is_some())
 }
 
-/// One act of the session of this number, if one is due. If memory runs out nothing has changed, but for the keeper's counts.
+/// One act of the session of this number, if one is due. If memory runs out nothing has changed, but for the keeper's
+/// counts.
 pub fn turn<K: Keeper, N: Name>(
     alloc: Global,
     script: &Script,
     defs: &Defs,
     number: SessionNo,
     gatherers: &mut Vec<Gatherer>,
-    shared: &mut Shared<K>,
+    shared: &mut GatherShared<K>,
 ) -> Result<Turned, AllocError>
     requires script { script.now ≡ N.script }
     requires defs { defs.now ≡ N.defs }
     requires known { number < length N.script.sessions }
-    requires run { IsRun N.script N.defs N.from (past shared.old.journal) shared.old.engines
-        shared.old.regions.items }
+    requires run { IsShared N.script N.defs N.from shared.old }
     requires sessions { AreGatherers N.script (past shared.old.journal) gatherers.old.items }
-    ensures run { IsRun N.script N.defs N.from (past shared.new.journal) shared.new.engines
-        shared.new.regions.items }
+    ensures run { IsShared N.script N.defs N.from shared.new }
     ensures sessions { AreGatherers N.script (past shared.new.journal) gatherers.new.items }
     ensures ok { IfOk result (Does N.script N.defs number (past shared.old.journal)
         (past shared.new.journal) shared.old.engines shared.new.engines) }

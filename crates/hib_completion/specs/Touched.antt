@@ -1,8 +1,8 @@
 -- The changes of a transaction by key.
-use Rattle.std.specs.Prelude.{◌≡◌, ℕ, if◌then◌else◌, List, [], ◌∷◌, ◌++◌, Some, None, Option, slice_get}
+use Rattle.std.specs.Prelude.{◌≡◌, ℕ, Bool, true, ◌&&◌, if◌then◌else◌, List, [], ◌∷◌, ◌++◌, Some, None, Option, slice_get}
 use Rattle.std.specs.Map.{keys_of as keys_in, lookup}
-use Rattle.hib_base.specs.Keys.{same_key}
-use Rattle.hib_base.specs.Tables.{first_on, last_on}
+use Rattle.hib_base.specs.Keys.{same_key, is_before}
+use Rattle.hib_base.specs.Tables.{first_on, key_of, last_on}
 use Rattle.hib_journal.specs.Types.{Key, Change}
 use Rattle.hib_journal.specs.Next.{keys_of}
 use Rattle.hib_completion.specs.Completed.{is_key_in}
@@ -20,6 +20,15 @@ or_place (Some i) b = Some i
 -- a key that is not among the keys comes last
 abbrev pub with_key : Key → List Key → List Key
 with_key k ks = if is_key_in k ks then ks else ks ++ k ∷ []
+
+abbrev pub is_next : Key → List Change → Bool
+is_next k [] = true
+is_next k (c ∷ cs) = is_before k (key_of c)
+
+-- each change's key comes before that of the next one
+abbrev pub rise : List Change → Bool
+rise [] = true
+rise (c ∷ cs) = is_next (key_of c) cs && rise cs
 
 -- what is known of the changed keys is what these changes say
 pub record StandsFor (cs : List Change) (touched : Touched) : Type 0 where

@@ -1,19 +1,21 @@
 // The acts that complete a transaction.
-ghost use Rattle.std.specs.Prelude.{◌≡◌, ◌≤◌, ◌∷◌, ◌++◌, [], IfOk, OnOk, length, option_copied, option_and_then, if◌then◌else◌, take, None};
+ghost use Rattle.std.specs.Prelude.{◌≡◌, ◌≤◌, ◌∷◌, ◌++◌, [], true, IfOk, OnOk, length, option_copied, option_and_then, if◌then◌else◌, take, None};
 ghost use Rattle.std.specs.List.{list_any};
 ghost use Rattle.hib_base.specs.Keys.{same_key};
 ghost use Rattle.hib_journal.specs.Next.{complete_by, complete_insert, complete_update, release_of, keys_of};
 ghost use Rattle.hib_base.specs.Tables.{key_of, row_left};
 ghost use Rattle.hib_completion.specs.Completed.{acts_of, key_acts, keys_acts, completes};
-ghost use Rattle.hib_completion.specs.Touched.{StandsFor};
+ghost use Rattle.hib_completion.specs.Touched.{rise, StandsFor};
 
 use crate::lists::tables;
-use crate::touched::{Touched, change_of, first_of, is_changed, key_at, last_of, lock_number};
+use crate::touched::{
+    Touched, change_of, first_of, is_changed, key_at, keys_rise, last_of, lock_number,
+};
 use hib_base::{Act, Acts, Change, Key, Mapping, Mode, Row, Seq, Strategy, Tick, strategy_of};
 use indexmap::IndexMap;
 use std::alloc::{AllocError, Global};
 
-/// Up to so many changes going over them is cheaper than maps of their keys.
+/// For how many changes at most going over them is cheaper than maps of their keys.
 const FEW: usize = 8;
 
 /// The row that may be put back after a key's last change.
@@ -149,25 +151,43 @@ fn all_completed(
     Ok(acts)
 }
 
-/// What completes the key of the only change.
-fn one_completed(
+/// What completes the key of a change, if no other is of its key.
+fn alone_completed(
     alloc: Global,
     mapping: &Mapping,
     change: &Change,
     locks: &IndexMap<Key, Tick>,
     done: bool,
     floor: Tick,
-) -> Result<Acts, AllocError>
-    ensures { IfOk result (λ q. q ≡ keys_acts mapping.now (change.now ∷ []) locks.now.entries done
-        floor (keys_of (change.now ∷ []))) }
+) -> Result<Option<Act>, AllocError>
+    ensures { IfOk result (λ a. acts_of a ≡ key_acts mapping.now (change.now ∷ [])
+        locks.now.entries done floor (key_of change.now)) }
 {
     let key = change.key();
     let strategy = strategy_of(mapping.as_slice(), key.entity);
     let lock = lock_number(locks, &key);
     let row = put_back(done, Some(change));
+    let act = key_completed(alloc, Some(change), strategy, key, lock, floor, row)?;
+    Ok(act)
+}
+
+/// What completes each of the keys of changes whose keys rise, and of which each is therefore the only one of its key.
+fn risen_completed(
+    alloc: Global,
+    mapping: &Mapping,
+    changes: &[Change],
+    locks: &IndexMap<Key, Tick>,
+    done: bool,
+    floor: Tick,
+) -> Result<Acts, AllocError>
+    requires { rise changes.now ≡ true }
+    ensures { IfOk result (λ q. q ≡ keys_acts mapping.now changes.now locks.now.entries done floor
+        (keys_of changes.now)) }
+{
     let mut acts = Seq::new(alloc);
-    if let Some(act) = key_completed(alloc, Some(change), strategy, key, lock, floor, row)? {
-        acts.push(act)?;
+    for place in 0..changes.len() {
+        let act = alone_completed(alloc, mapping, &changes[place], locks, done, floor)?;
+        add(&mut acts, act)?;
     }
     Ok(acts)
 }
@@ -246,7 +266,8 @@ fn few_completed(
     Ok(acts)
 }
 
-/// What completes each of the keys of these changes, in order of first change. Maps are made only if there are many.
+/// What completes each of the keys of these changes, in order of first change. Maps are made only if there are many and
+/// their keys don't rise.
 fn keys_completed(
     alloc: Global,
     mapping: &Mapping,
@@ -260,7 +281,7 @@ fn keys_completed(
 {
     match changes {
         [] => Ok(Seq::new(alloc)),
-        [change] => one_completed(alloc, mapping, change, locks, done, floor),
+        _ if keys_rise(changes) => risen_completed(alloc, mapping, changes, locks, done, floor),
         _ if changes.len() <= FEW => few_completed(alloc, mapping, changes, locks, done, floor),
         _ => {
             let touched = Touched::of(alloc, changes)?;

@@ -1,5 +1,5 @@
 // The places of the first and the last change of each key, each found in one pass.
-ghost use Rattle.std.specs.Prelude.{◌≡◌, ◌<◌, if◌then◌else◌, IfOk, OnOk, None, Some, length, option_copied, slice_get};
+ghost use Rattle.std.specs.Prelude.{◌≡◌, ◌<◌, true, if◌then◌else◌, IfOk, OnOk, None, Some, length, option_copied, slice_get};
 ghost use Rattle.std.specs.List.{list_any};
 ghost use Rattle.std.specs.Map.{keys_of as keys_in, lookup};
 ghost use Rattle.hib_base.specs.Keys.{same_key};
@@ -7,9 +7,10 @@ ghost use Rattle.hib_base.specs.Tables.{first_on, key_of, last_on};
 ghost use Rattle.hib_base.specs.declared.numbers.Key.{Key as KeyOf};
 ghost use Rattle.hib_journal.specs.Next.{keys_of};
 ghost use Rattle.hib_completion.specs.Completed.{lock_of};
-ghost use Rattle.hib_completion.specs.Touched.{at_place, or_place, with_key, StandsFor};
+ghost use Rattle.hib_completion.specs.Touched.{at_place, or_place, rise, with_key, StandsFor};
 
 use hib_base::{Change, Key, Tick};
+use hib_outside::keyed;
 use indexmap::IndexMap;
 use std::alloc::{AllocError, Global};
 
@@ -23,6 +24,22 @@ pub fn change_of<'a>(
         ≡ at_place changes.now (lookup (same_key key.now) places.now.entries) }
 {
     changes.get(*places.get(key)?)
+}
+
+/// Whether the keys of changes rise from one to the next.
+pub fn keys_rise(changes: &[Change]) -> bool
+    ensures { result ≡ true → rise changes.now ≡ true }
+{
+    let mut from = changes.len().saturating_sub(1);
+    while from > 0 {
+        let key = changes[from].key();
+        let before = changes[from - 1].key();
+        if !keyed::comes_before(&before, &key) {
+            return false;
+        }
+        from -= 1;
+    }
+    true
 }
 
 /// Whether one of the changes is of a key.

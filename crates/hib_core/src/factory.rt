@@ -216,7 +216,7 @@ impl<K: Keeper, N: Name, L: Listener> Factory<K, N, L> {
         self.core.lawful();
     }
 
-    /// Runs a session for so many steps, or to its end if that comes before; one that isn't there has none. If memory
+    /// Runs a session for `steps` steps, or to its end if that comes before; one that isn't there has none. If memory
     /// runs out the steps so far stand.
     pub fn run_steps(
         &mut self,

@@ -61,8 +61,7 @@ impl<K: Keeper> Model for StoreEngine<K> {
 impl<K: Keeper> StoreEngine<K> {
     /// The store over a keeper that is seeded by one call: the rows that it keeps are widened to the columns of this mapping,
     /// and each of these rows whose key has none is added. No session has written. At an error the keeper is handed back, with the
-    /// rows that it had. Lists of the first entities, so many as are
-    /// said here, are answered from an index.
+    /// rows that it had. Lists of the first `entities` entities are answered from an index.
     pub fn open(
         alloc: Global,
         keeper: K,

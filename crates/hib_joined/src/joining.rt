@@ -15,11 +15,11 @@ use std::alloc::Global;
 pub enum Joined {
     /// They fit together: the one journal of the run.
     One(Journal),
-    /// A lock gave another region than the one that was asked for, or lists or ticks don't fit together. There is no journal. The
-    /// keeper has the rows of the commits that were made; no clause says which.
+    /// A lock gave another region than the one that was asked for, or lists or ticks don't fit together. There is no
+    /// journal. The keeper has the rows of the commits that were made; no clause says which.
     Torn(Torn),
-    /// Memory ran out, in the run or while its lists were joined. There is no journal. The keeper has the rows of the commits that
-    /// were made; no clause says which.
+    /// Memory ran out, in the run or while its lists were joined. There is no journal. The keeper has the rows of the
+    /// commits that were made; no clause says which.
     NoMemory,
 }
 

@@ -5,7 +5,7 @@ ghost use Rattle.hib_journal.specs.Kept.{past};
 ghost use Rattle.hib_outside.specs.Causes.{Rose};
 ghost use Rattle.hib_store.specs.Stores.{handed_back, is_store_fault};
 ghost use Rattle.hib_engines.specs.Origin.{origin_over};
-ghost use Rattle.hib_split.specs.Alone.{AreListed};
+ghost use Rattle.hib_split.specs.Alone.{AreListed, max_workers};
 ghost use Rattle.hib_joined.specs.Joined.{AreJoinedUnless};
 ghost use Rattle.hib_joined.specs.Run.{CameToOne};
 
@@ -30,7 +30,8 @@ pub struct JoinedRun<K> {
     pub keeper: K,
     /// What the lists of its parts and of its sessions came to.
     pub joined: Joined,
-    /// The list of each part, in the order of parts: the own entries of each session come last, in the order of sessions.
+    /// The list of each part, in the order of parts: the own entries of each session come last, in the order of
+    /// sessions.
     pub lists: Lists,
     /// The list of each session, at the place of its number.
     pub mine: Lists,
@@ -40,13 +41,14 @@ pub struct JoinedRun<K> {
     pub out_of_memory: bool,
 }
 
-/// Runs each session of a script to its end on so many workers, each part behind a lock of its own, and joins the lists into one
-/// journal. Before a step a worker passes the gate, with the number of its session's entries so far. With one worker no thread is
-/// started, no lock is taken and the gate isn't asked; then the run is never torn, its sessions come one after the other, in order
-/// of number, and the k-th entry has tick k. The lists are handed out, and what they came to is said of them. The keeper is seeded
-/// with the script's rows, each of which it takes if its key has none. At an error the keeper is handed back, with the rows that it
-/// had. If the run is torn, or memory ran out after it began, the keeper comes back with the rows of the commits that were made so
-/// far. It may wait for other threads.
+/// Runs each session of a script to its end on `workers` workers, each part behind a lock of its own, and joins the
+/// lists into one journal. Before a step a worker passes the gate, with the number of its session's entries so far.
+/// With one worker no thread is started, no lock is taken and the gate isn't asked; then the run is never torn, its
+/// sessions come one after the other, in order of number, and the k-th entry has tick k. The lists are handed out, and
+/// what they came to is said of them. The keeper is seeded with the script's rows, each of which it takes if its key
+/// has none. At an error the keeper is handed back, with the rows that it had. If the run is torn, or memory ran out
+/// after it began, the keeper comes back with the rows of the commits that were made so far. It may wait for other
+/// threads.
 pub fn run_joined<R: Threads + Wait + Sync, K: Keeper, N: Name + Send + Sync, G: Gate>(
     rt: &R,
     alloc: Global,
@@ -55,7 +57,7 @@ pub fn run_joined<R: Threads + Wait + Sync, K: Keeper, N: Name + Send + Sync, G:
     workers: u32,
     gate: &G,
 ) -> Result<JoinedRun<K>, OpenFault<K>>
-    requires workers { (1 ≤ workers) × (workers ≤ 64) }
+    requires workers { (1 ≤ workers) × (workers ≤ max_workers) }
     requires script { script.now ≡ N.script }
     requires valid { is_valid N.script ≡ true }
     requires from { origin_over N.script (K.tables keeper) (K.faults keeper) (K.asked keeper)

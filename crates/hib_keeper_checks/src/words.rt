@@ -48,7 +48,7 @@ fn column(alloc: Global, default: Option<Cell>) -> ColumnDef {
     }
 }
 
-/// An entity with so many columns without a default, and one for each of the cells that follow.
+/// An entity with as many columns without a default as the first byte says, and one for each of the cells that follow.
 pub fn columns(alloc: Global, bytes: &[u8]) -> Result<EntityDef, AllocError> {
     let (count, rest) = next(bytes);
     let (defaults, _) = cells_at(alloc, rest)?;

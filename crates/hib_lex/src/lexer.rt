@@ -14,7 +14,7 @@ pub const MOST_BYTES: usize = 4096;
 /// The most bytes of a quoted text.
 pub const MOST_TEXT: usize = 200;
 
-/// Room is made for so many tokens at once: few lines have more.
+/// For how many tokens room is made at once: few lines have more.
 const USUAL_TOKENS: usize = 6;
 
 /// A part of a line.

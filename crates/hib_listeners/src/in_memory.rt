@@ -61,7 +61,7 @@ pub struct Limited {
 }
 
 impl Limited {
-    /// It has heard nothing, and is to hear so many entries.
+    /// It has heard nothing, and is to hear `left` entries.
     pub fn new(alloc: Global, left: u32) -> Limited
         requires { 1 ≤ left }
         ensures entries { result.entries.items ≡ [] }

@@ -32,7 +32,7 @@ fn torn_lists(
     Ok(None)
 }
 
-/// Whether an entry is of one of the first sessions, so many as are given.
+/// Whether an entry is of one of the first `count` sessions.
 fn is_known(count: usize, entry: &Entry) -> bool
     ensures { result ≡ Rattle.hib_merge.specs.Tearing.is_known count entry.now }
 {

@@ -45,7 +45,7 @@ fn place<'a>(lists: &mut Vec<Pointed<'a>>, entry: &'a Entry) -> Result<(), Alloc
     }
 }
 
-/// Of each of the first sessions, so many as there are, its entries.
+/// Of each of the first `count` sessions its entries.
 pub fn own_lists<'a>(
     alloc: Global,
     entries: &'a [Entry],

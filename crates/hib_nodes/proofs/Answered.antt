@@ -21,13 +21,13 @@ use Rattle.hib_engines.proofs.RegionServed.{named}
 use Rattle.hib_engines.proofs.RegionList.{of_region}
 use Rattle.hib_nodes_law.specs.Types.{Noded}
 use Rattle.hib_nodes_law.specs.Nodes.{entries, of_node}
-use Rattle.hib_nodes.specs.Standing.{PartsState, IsAtNode, IsReady, IsAnswered, is_node, node_in, entry_on}
+use Rattle.hib_nodes.specs.Standing.{NodesPartsState, IsAtNode, IsReady, IsAnswered, is_node, node_in, entry_on}
 use Rattle.hib_nodes.proofs.Lists.{other_part, same_list, late_own, before_node}
 use Rattle.hib_nodes.specs.Parts.{IsAlone}
 use Rattle.hib_nodes.proofs.Stands.{node_rests, node_registry, node_region, nodes_after, node_stands}
 use Rattle.hib_nodes.proofs.Replies.{due_reply}
 
-module _ (script : Script) (told : Option Tables) (h : Noded) (n s now : ℕ) (a : Act) (r : Reply) (x y : PartsState) (k : IsReady script told h n s now a x) where
+module _ (script : Script) (told : Option Tables) (h : Noded) (n s now : ℕ) (a : Act) (r : Reply) (x y : NodesPartsState) (k : IsReady script told h n s now a x) where
   here : IsAtNode script (of_node n h) (node_in x n)
   here = k.standing.nodes n k.node
 

@@ -24,7 +24,7 @@ use Rattle.hib_engines.proofs.RegionList.{regions_begin}
 use Rattle.hib_nodes_law.specs.Types.{Noded, Nodings}
 use Rattle.hib_nodes_law.specs.Legal.{is_of_node, seen_at}
 use Rattle.hib_nodes.specs.Kept.{past}
-use Rattle.hib_nodes.specs.Standing.{NodeState, PartsState, AreStanding, IsAtNode, node_in}
+use Rattle.hib_nodes.specs.Standing.{NodeState, NodesPartsState, AreStanding, IsAtNode, node_in}
 use Rattle.hib_nodes.specs.Queue.{QueuesState, AreQueues, IsQueue, queue_in}
 use Rattle.hib_nodes.specs.Run.{AreSet, IsAsked, IsRun}
 use Rattle.hib_nodes.specs.Shared.{SharedState, AreSessions, IsShared}
@@ -42,7 +42,7 @@ node_begins l script z r g = record {
   entities = ap length g ∙ length-map script.mapping (λ d. empty d.strategy d.capacity script.timeout);
 }
 
-pub parts_begin : Laws → (script : Script) (told : Option Tables) (x : PartsState) → x.store.tables ≡ told → x.store.written ≡ [] → x.stamps ≡ unstamped (length script.mapping) →
+pub parts_begin : Laws → (script : Script) (told : Option Tables) (x : NodesPartsState) → x.store.tables ≡ told → x.store.written ≡ [] → x.stamps ≡ unstamped (length script.mapping) →
     x.results ≡ record { capacity = script.results; kept = [] } → 0 < script.results → IsAtNode script [] x.first → IsAtNode script [] x.second → AreStanding script told [] x
 parts_begin l script told x t w s u c a b = record {
   store = record { rows = t ∙ told_same told; changes = λ n. ap (λ v. changes_in v n) w };
@@ -98,5 +98,5 @@ shared_begins script places from x set e s q f = record {
 pub sessions_begin : (script : Script) (h : Noded) (xs : List Session) → h ≡ [] → Plainly.AreSessions script [] xs → AreSessions script h xs
 sessions_begin script h xs e w = subst (λ (g : Noded). AreSessions script g xs) (sym e) (record { all = w.all; numbers = w.numbers; follow = λ s y p. w.follow s y p refl })
 
-pub asked_begins : (from : Origin) (h : Noded) (x : PartsState) → h ≡ [] → x.store.asked ≡ from.asked → IsAsked from h x
+pub asked_begins : (from : Origin) (h : Noded) (x : NodesPartsState) → h ≡ [] → x.store.asked ≡ from.asked → IsAsked from h x
 asked_begins from h x e a = subst (λ (g : Noded). IsAsked from g x) (sym e) (record { later = omega (arith, a); few = omega (arith, a) })

@@ -17,7 +17,7 @@ use Rattle.hib_nodes_law.specs.Nodes.{entries, of_node, queue, pairs, fence_coun
 use Rattle.hib_nodes_law.specs.Legal.{second_half, due_of}
 use Rattle.hib_nodes_law.specs.Apart.{IsInTurn}
 use Rattle.hib_nodes.specs.Fencing.{IsFencedAt}
-use Rattle.hib_nodes.specs.Standing.{PartsState, AreStanding, AreBefore, entry_on, is_node, node_in}
+use Rattle.hib_nodes.specs.Standing.{NodesPartsState, AreStanding, AreBefore, entry_on, is_node, node_in}
 use Rattle.hib_nodes_law.specs.Apart.{AreOfParts}
 use Rattle.hib_nodes.specs.Kept.{past}
 use Rattle.hib_nodes.specs.Queue.{AreQueues, queue_in, with_queue}
@@ -30,7 +30,7 @@ use Rattle.hib_nodes.proofs.Apart.{apart_nobody}
 use Rattle.hib_nodes.proofs.Going.{before_next}
 use Rattle.hib_nodes.proofs.Queues.{fence_pairs, fence_counts}
 
-module _ (script : Script) (places : Nodings) (from : Origin) (h : Noded) (n : ℕ) (k : Key) (x y : PartsState) (run : IsRun script places from h x)
+module _ (script : Script) (places : Nodings) (from : Origin) (h : Noded) (n : ℕ) (k : Key) (x y : NodesPartsState) (run : IsRun script places from h x)
     (few : length h + 1 < 2 ^ 62) (known : is_node n ≡ true) (first : slice_get (queue script n h) 0 ≡ Some k) where
   now : ℕ
   now = length h + 1
@@ -168,16 +168,16 @@ sessions_rest script n h new xs v w = record {
   follow = λ s y p. subst (λ m. Follows script y m) (sym (ap (λ j. own s (entries j)) v.grown)) (w.follow s y p);
 }
 
-asked_rest : (script : Script) (from : Origin) (n : ℕ) (h new : Noded) (x y : PartsState) → HasDelivered script n h new → y.store ≡ x.store → IsAsked from h x → IsAsked from new y
+asked_rest : (script : Script) (from : Origin) (n : ℕ) (h new : Noded) (x y : NodesPartsState) → HasDelivered script n h new → y.store ≡ x.store → IsAsked from h x → IsAsked from new y
 asked_rest script from n h new x y v e a = subst (λ (j : Noded). RoseWithin from.asked (store_ask_count (of_part Part.Store (entries j))) y.store.asked) (sym v.grown)
     (subst (λ (z : StoreState). RoseWithin from.asked (store_ask_count (of_part Part.Store (entries h))) z.asked) (sym e) a)
 
-pub record IsRested (script : Script) (from : Origin) (new : Noded) (y : PartsState) (xs : List Session) (A : Type 0) : Type 0 where
+pub record IsRested (script : Script) (from : Origin) (new : Noded) (y : NodesPartsState) (xs : List Session) (A : Type 0) : Type 0 where
   pub sessions : AreSessions script new xs
   pub asked : A → IsAsked from new y
 
 -- whether or not one was delivered
-pub rested : (script : Script) (from : Origin) (n : ℕ) (b : Bool) (h new : Noded) (x y : PartsState) (xs : List Session) (A : Type 0) → (b ≡ true → HasDelivered script n h new) → (b ≡ false → new ≡ h) →
+pub rested : (script : Script) (from : Origin) (n : ℕ) (b : Bool) (h new : Noded) (x y : NodesPartsState) (xs : List Session) (A : Type 0) → (b ≡ true → HasDelivered script n h new) → (b ≡ false → new ≡ h) →
     y.store ≡ x.store → AreSessions script h xs → (A → IsAsked from h x) → IsRested script from new y xs A
 rested script from n true h new x y xs A f g e w a = record { sessions = sessions_rest script n h new xs (f refl) w; asked = λ i. asked_rest script from n h new x y (f refl) e (a i) }
 rested script from n false h new x y xs A f g e w a = record {

@@ -18,7 +18,7 @@ use Rattle.hib_engines.proofs.Opened.{floor_is}
 use Rattle.hib_nodes_law.specs.Types.{Noded}
 use Rattle.hib_nodes_law.specs.Nodes.{entries, of_node}
 use Rattle.hib_nodes.specs.Fencing.{IsFencedAt}
-use Rattle.hib_nodes.specs.Standing.{NodeState, PartsState, AreBefore, AreStanding, IsAtNode, is_node, node_in, entry_on}
+use Rattle.hib_nodes.specs.Standing.{NodeState, NodesPartsState, AreBefore, AreStanding, IsAtNode, is_node, node_in, entry_on}
 use Rattle.hib_nodes.proofs.Lists.{other_part, same_list, at_other, at_node, late_own, before_node}
 use Rattle.hib_nodes.specs.Parts.{AreShared, IsAlone}
 
@@ -82,7 +82,7 @@ two_other n m d e h q = at_other m (entry_on n e) (entry_on n d ∷ h) q ∙ at_
 two_same : (n m : ℕ) (d e : Entry) (h : Noded) → (n == m) ≡ true → of_node m (entry_on n e ∷ entry_on n d ∷ h) ≡ e ∷ d ∷ of_node m h
 two_same n m d e h q = at_node m (entry_on n e) (entry_on n d ∷ h) q ∙ ap (λ l. e ∷ l) (at_node m (entry_on n d) h q)
 
-pub fence_stands : (script : Script) (told : Option Tables) (h : Noded) (n i : ℕ) (d e : Entry) (x y : PartsState) → d.part ≡ Part.Region i → e.part ≡ Part.Region i →
+pub fence_stands : (script : Script) (told : Option Tables) (h : Noded) (n i : ℕ) (d e : Entry) (x y : NodesPartsState) → d.part ≡ Part.Region i → e.part ≡ Part.Region i →
     AreStanding script told h x → AreShared x y → IsAtNode script (e ∷ d ∷ of_node n h) (node_in y n) →
     ((m : ℕ) → is_node m ≡ true → (n == m) ≡ false → node_in y m ≡ node_in x m) → AreStanding script told (entry_on n e ∷ entry_on n d ∷ h) y
 fence_stands script told h n i d e x y s t k w here others = record {
@@ -100,7 +100,7 @@ fence_stands script told h n i d e x y s t k w here others = record {
         subst (λ g. IsAtNode script g (node_in y m)) (sym (two_other n m d e h q)) (subst (λ z. IsAtNode script (of_node m h) z) (sym (others m j q)) (k.nodes m j))
 
 -- what the region of a node answers is a fence of the parts
-pub parts_fenced : (script : Script) (told : Option Tables) (h : Noded) (n now : ℕ) (k : Key) (d e : Entry) (x y : PartsState) → AreStanding script told h x → AreBefore now h → is_node n ≡ true →
+pub parts_fenced : (script : Script) (told : Option Tables) (h : Noded) (n now : ℕ) (k : Key) (d e : Entry) (x y : NodesPartsState) → AreStanding script told h x → AreBefore now h → is_node n ≡ true →
     strategy script k.entity ≡ Strategy.ReadWrite → IsAlone n x y →
     ((g : Journal) → IsAtNode script g (node_in x n) → IsLate Part.Registry now g → IsLate (Part.Region k.entity) now g → strategy script k.entity ≡ Strategy.ReadWrite → IsFencedAt script g k now d e (node_in y n)) →
     IsFencedAt script (of_node n h) k now d e (node_in y n) × AreStanding script told (entry_on n e ∷ entry_on n d ∷ h) y

@@ -17,7 +17,7 @@ use Rattle.hib_nodes_law.specs.declared.nodes.NodeEntry.{NodeEntry}
 use Rattle.hib_nodes_law.specs.Types.{Noded, Nodings}
 use Rattle.hib_nodes_law.specs.Nodes.{entries}
 use Rattle.hib_nodes_law.specs.Legal.{node_of}
-use Rattle.hib_nodes.specs.Standing.{PartsState, AreBefore, IsTold, entry_on, is_node}
+use Rattle.hib_nodes.specs.Standing.{NodesPartsState, AreBefore, IsTold, entry_on, is_node}
 use Rattle.hib_nodes.specs.Run.{IsRun}
 use Rattle.hib_nodes.proofs.Lists.{turns_before, before_all}
 use Rattle.hib_nodes.proofs.Apart.{apart_more}
@@ -68,10 +68,10 @@ rose_next from n before now false w l f = omega (arith, w, l)
 
 -- ---- an act of a session
 
-pub before_next : (script : Script) (places : Nodings) (from : Origin) (h : Noded) (x : PartsState) → IsRun script places from h x → AreBefore (length h + 1) h
+pub before_next : (script : Script) (places : Nodings) (from : Origin) (h : Noded) (x : NodesPartsState) → IsRun script places from h x → AreBefore (length h + 1) h
 before_next script places from h x run = turns_before script places h (length h + 1) run.turns (omega arith)
 
-pub runs_on : (script : Script) (places : Nodings) (from : Origin) (h : Noded) (s : ℕ) (a : Act) (r : Reply) (x y : PartsState) → IsRun script places from h x →
+pub runs_on : (script : Script) (places : Nodings) (from : Origin) (h : Noded) (s : ℕ) (a : Act) (r : Reply) (x y : NodesPartsState) → IsRun script places from h x →
     length h < 2 ^ 62 → next script s (own s (entries h)) ≡ Some a → is_node (node_of places s) ≡ true →
     IsTold script from.tables h (node_of places s) s (length h + 1) a r x y → x.store.faults ≤ y.store.faults →
     IsRun script places from (next_entry h (node_of places s) s a r ∷ h) y

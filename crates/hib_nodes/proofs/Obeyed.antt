@@ -11,10 +11,10 @@ use Rattle.hib_nodes_law.specs.Nodes.{entries}
 use Rattle.hib_nodes_law.specs.Legal.{AreNodesLegal}
 use Rattle.hib_nodes_law.specs.Apart.{AreInTurn, AreNodesApart}
 use Rattle.hib_nodes_law.specs.Law.{NodesCohere}
-use Rattle.hib_nodes.specs.Standing.{PartsState}
+use Rattle.hib_nodes.specs.Standing.{NodesPartsState}
 use Rattle.hib_nodes.specs.Run.{IsRun, Obeys}
 
-pub obeyed : (script : Script) (places : Nodings) (from : Origin) (h : Noded) (x : PartsState) → IsRun script places from h x →
+pub obeyed : (script : Script) (places : Nodings) (from : Origin) (h : Noded) (x : NodesPartsState) → IsRun script places from h x →
     ((s : Script) (told : Option Tables) (ps : Nodings) (g : Noded) → AreInTurn s ps g → AreNodesApart s told g → AreNodesLegal s told ps g) →
     ((s : Script) (start : Tables) (ps : Nodings) (n : ℕ) (k : Key) → strategy s k.entity ≡ Strategy.ReadWrite → (g : Noded) → AreNodesLegal s (Some start) ps g → NodesCohere s start n k g) →
     ((s : Script) (told : Option Tables) (ps : Nodings) (i : ℕ) (g : Noded) → AreNodesLegal s told ps g → InOrder (plan_of s i) (own i (entries g))) →

@@ -18,7 +18,7 @@ use Rattle.hib_engines.proofs.RegistryServed.{end_stands}
 use Rattle.hib_nodes_law.specs.Types.{Noded}
 use Rattle.hib_nodes_law.specs.Nodes.{entries, of_node}
 use Rattle.hib_nodes.specs.Parts.{with_node}
-use Rattle.hib_nodes.specs.Standing.{NodeState, PartsState, AreStanding, IsAtNode, IsReady, IsAnswered, IsAskedFor, IsTold, node_in, entry_on}
+use Rattle.hib_nodes.specs.Standing.{NodeState, NodesPartsState, AreStanding, IsAtNode, IsReady, IsAnswered, IsAskedFor, IsTold, node_in, entry_on}
 use Rattle.hib_nodes.proofs.Lists.{late_own, before_node}
 use Rattle.hib_nodes.proofs.Stands.{node_rests, node_registry, nodes_after, node_stands}
 use Rattle.hib_nodes.proofs.Sides.{node_with, same_with, with_alone}
@@ -41,7 +41,7 @@ silent (Act.Remove k) cs p = refl
 silent Act.Clear cs p = refl
 silent _ cs p = absurd (false≢true p)
 
-module _ (script : Script) (told : Option Tables) (h : Noded) (n s now : ℕ) (r : Reply) (x : PartsState) where
+module _ (script : Script) (told : Option Tables) (h : Noded) (n s now : ℕ) (r : Reply) (x : NodesPartsState) where
   -- an act that no shared part hears of
   unheard : (a : Act) → IsReady script told h n s now a x → part_of a s ≡ Part.Own s → AreStanding script told (entry_on n (entry_at now (Some s) a r) ∷ h) x
   unheard a k p = node_stands script told h (entry_on n (entry_at now (Some s) a r)) x x k.standing (record { store = refl; stamps = refl; results = refl })
@@ -74,7 +74,7 @@ module _ (script : Script) (told : Option Tables) (h : Noded) (n s now : ℕ) (r
   stands Act.Clear k o = subst (λ v. AreStanding script told (entry_on n (entry_at now (Some s) Act.Clear r) ∷ h) v) (sym (same_with n x)) (unheard Act.Clear k refl)
   stands _ k o = absurd (false≢true o)
 
-pub own_told : (script : Script) (told : Option Tables) (h : Noded) (n s now : ℕ) (a : Act) (r : Reply) (x y : PartsState) → IsReady script told h n s now a x →
+pub own_told : (script : Script) (told : Option Tables) (h : Noded) (n s now : ℕ) (a : Act) (r : Reply) (x y : NodesPartsState) → IsReady script told h n s now a x →
     own_reply script (own s (entries h)) a ≡ Some r → y ≡ with_node n (record (node_in x n) { registry = own_after s a (node_in x n).registry }) x → IsTold script told h n s now a r x y
 own_told script told h n s now a r x y k p q = record {
   answered = record {
@@ -89,8 +89,8 @@ own_told script told h n s now a r x y k p q = record {
 }
   where
     store_same : y.store ≡ x.store
-    store_same = ap (λ (v : PartsState). v.store) q ∙ (with_alone n (record (node_in x n) { registry = own_after s a (node_in x n).registry }) x k.node).shared.store
+    store_same = ap (λ (v : NodesPartsState). v.store) q ∙ (with_alone n (record (node_in x n) { registry = own_after s a (node_in x n).registry }) x k.node).shared.store
 
-pub part_told : (script : Script) (told : Option Tables) (h : Noded) (n s now : ℕ) (a : Act) (r : Reply) (x y : PartsState) → own_reply script (own s (entries h)) a ≡ None →
+pub part_told : (script : Script) (told : Option Tables) (h : Noded) (n s now : ℕ) (a : Act) (r : Reply) (x y : NodesPartsState) → own_reply script (own s (entries h)) a ≡ None →
     IsAnswered script told h n s now a r y → IsAskedFor h s a x y → (is_fault r ≡ true → Rose x.store.faults y.store.faults) → IsTold script told h n s now a r x y
 part_told script told h n s now a r x y p v w f = record { answered = v; mine = λ q t. absurd (none-some q (sym p ∙ t)); asked = w; fault = f }

@@ -15,7 +15,7 @@ use Rattle.hib_nodes_law.specs.Types.{Noded, Nodings}
 use Rattle.hib_nodes_law.specs.Nodes.{entries}
 use Rattle.hib_nodes_law.specs.Legal.{node_of}
 use Rattle.hib_nodes.specs.Kept.{past}
-use Rattle.hib_nodes.specs.Standing.{PartsState, IsReady, IsTold, entry_on, is_node}
+use Rattle.hib_nodes.specs.Standing.{NodesPartsState, IsReady, IsTold, entry_on, is_node}
 use Rattle.hib_nodes.specs.Queue.{QueuesState, AreQueues, AreWaiting, queue_in, other_node}
 use Rattle.hib_nodes.specs.Run.{IsRun, AreSet}
 use Rattle.hib_nodes.specs.Shared.{SharedState, IsShared, IsTurn, Serves}
@@ -38,7 +38,7 @@ pub at_node : (script : Script) (places : Nodings) (s : ℕ) → AreSet script p
 at_node script places s w = placed places s w.nodes
 
 -- the parts are ready for the act that is due
-pub ready_of : (script : Script) (places : Nodings) (from : Origin) (h : Noded) (x : PartsState) (y : Session) (a : Act) → IsRun script places from h x → IsTurn script h y a →
+pub ready_of : (script : Script) (places : Nodings) (from : Origin) (h : Noded) (x : NodesPartsState) (y : Session) (a : Act) → IsRun script places from h x → IsTurn script h y a →
     IsReady script from.tables h (node_of places (number_of y)) (number_of y) (length h + 1) a x
 ready_of script places from h x y a run turn = record {
   standing = run.standing;
@@ -47,7 +47,7 @@ ready_of script places from h x y a run turn = record {
   due = turn.due;
 }
 
-pub taken_of : (script : Script) (h : Noded) (n : ℕ) (x z : PartsState) (told : Option Tables) (y : Session) (a : Act) (r : Reply) → IsTurn script h y a →
+pub taken_of : (script : Script) (h : Noded) (n : ℕ) (x z : NodesPartsState) (told : Option Tables) (y : Session) (a : Act) (r : Reply) → IsTurn script h y a →
     IsTold script told h n (number_of y) (length h + 1) a r x z → IsTaken script (number_of y) (own (number_of y) (entries h)) (entry_at (length h + 1) (Some (number_of y)) a r)
 taken_of script h n x z told y a r turn v = record { due = turn.next; own = v.mine }
 
@@ -92,7 +92,7 @@ serves_of script places from a r x w q y z e ks shared turn few told faults is g
     n = node_of places (number_of y)
 
 -- what the parts were asked for
-pub asked_of : (given script : Script) (places : Nodings) (from : Origin) (n tick : ℕ) (x : SharedState) (y : Session) (a : Act) (r : Reply) (w : PartsState) → given ≡ script →
+pub asked_of : (given script : Script) (places : Nodings) (from : Origin) (n tick : ℕ) (x : SharedState) (y : Session) (a : Act) (r : Reply) (w : NodesPartsState) → given ≡ script →
     n ≡ node_of places (number_of y) → tick ≡ length (past x.journal) + 1 → IsShared script places from x → IsTurn script (past x.journal) y a →
     ((o : Option Tables) (h : Noded) → Follows given y (own (number_of y) (entries h)) → IsReady given o h n (number_of y) tick a x.parts → IsTold given o h n (number_of y) tick a r x.parts w) →
     IsTold script from.tables (past x.journal) (node_of places (number_of y)) (number_of y) (length (past x.journal) + 1) a r x.parts w

@@ -16,7 +16,7 @@ use Rattle.hib_engines.specs.Results.{AreResults}
 use Rattle.hib_nodes_law.specs.declared.nodes.NodeEntry.{NodeEntry}
 use Rattle.hib_nodes_law.specs.Types.{Noded}
 use Rattle.hib_nodes_law.specs.Nodes.{entries, of_node}
-use Rattle.hib_nodes.specs.Standing.{NodeState, PartsState, AreStanding, IsAtNode, is_node, node_in}
+use Rattle.hib_nodes.specs.Standing.{NodeState, NodesPartsState, AreStanding, IsAtNode, is_node, node_in}
 use Rattle.hib_nodes.specs.Parts.{AreShared}
 use Rattle.hib_nodes.proofs.Lists.{other_part, same_list, at_other, at_node}
 
@@ -60,7 +60,7 @@ node_region script g e n x y p s w r k = record {
 
 -- ---- all nodes
 
-pub nodes_after : (script : Script) (h : Noded) (e : NodeEntry) (x y : PartsState) → ((m : ℕ) → is_node m ≡ true → IsAtNode script (of_node m h) (node_in x m)) →
+pub nodes_after : (script : Script) (h : Noded) (e : NodeEntry) (x y : NodesPartsState) → ((m : ℕ) → is_node m ≡ true → IsAtNode script (of_node m h) (node_in x m)) →
     IsAtNode script (e.entry ∷ of_node e.node h) (node_in y e.node) → ((m : ℕ) → is_node m ≡ true → (e.node == m) ≡ false → node_in y m ≡ node_in x m) →
     (m : ℕ) → is_node m ≡ true → IsAtNode script (of_node m (e ∷ h)) (node_in y m)
 nodes_after script h e x y k here others m i = by_node (tested (e.node == m))
@@ -77,7 +77,7 @@ nodes_after script h e x y k here others m i = by_node (tested (e.node == m))
 -- ---- all parts
 
 -- an entry of a part that is not the store, nor the stamps, nor the results
-pub node_stands : (script : Script) (told : Option Tables) (h : Noded) (e : NodeEntry) (x y : PartsState) → AreStanding script told h x → AreShared x y →
+pub node_stands : (script : Script) (told : Option Tables) (h : Noded) (e : NodeEntry) (x y : NodesPartsState) → AreStanding script told h x → AreShared x y →
     same_part Part.Store e.entry.part ≡ false → same_part Part.Stamps e.entry.part ≡ false → same_part Part.Results e.entry.part ≡ false →
     ((m : ℕ) → is_node m ≡ true → IsAtNode script (of_node m (e ∷ h)) (node_in y m)) → AreStanding script told (e ∷ h) y
 node_stands script told h e x y k s p q r nodes = record {

@@ -25,7 +25,7 @@ use Rattle.hib_nodes_law.specs.Types.{Noded, Nodings}
 use Rattle.hib_nodes_law.specs.Nodes.{entries}
 use Rattle.hib_nodes_law.specs.Legal.{node_of}
 use Rattle.hib_nodes.specs.Kept.{past}
-use Rattle.hib_nodes.specs.Standing.{PartsState, IsAskedFor, entry_on}
+use Rattle.hib_nodes.specs.Standing.{NodesPartsState, IsAskedFor, entry_on}
 use Rattle.hib_nodes.specs.Shared.{SharedState, AreSessions, HasTurned, IsAskedOn, IsShared, IsTurn, Leaves, Moves, Serves}
 use Rattle.hib_nodes.specs.Turns.{IsKept}
 use Rattle.hib_nodes.proofs.Still.{shared_still}
@@ -69,9 +69,9 @@ moves_of told script places from a x v w y u z e p k t s = record {
     number = s.number ∙ k.number;
     follows = subst (λ i. Follows script z (own i (entries (past w.journal)))) k.number s.follows;
     asked = subst (λ i. IsAskedFor (past x.journal) i a x.parts w.parts) k.number
-        (subst (λ (q : PartsState). IsAskedFor (past x.journal) (number_of u) a q w.parts) p
+        (subst (λ (q : NodesPartsState). IsAskedFor (past x.journal) (number_of u) a q w.parts) p
         (subst (λ (g : Noded). IsAskedFor g (number_of u) a v.parts w.parts) e s.asked));
-    fault = λ f. subst (λ (q : PartsState). Rose q.store.faults w.parts.store.faults) p (s.fault f);
+    fault = λ f. subst (λ (q : NodesPartsState). Rose q.store.faults w.parts.store.faults) p (s.fault f);
   };
 }
 
@@ -178,7 +178,7 @@ turned script places from s r x w xs y z k all p did done rests left = by_result
 
     rested : r ≡ Ok Stepped.Done → past w.journal ≡ past x.journal → IsAskedOn x w
     rested e q b v = subst (λ (g : Noded). RoseWithin b (store_ask_count (of_part Part.Store (entries g))) w.parts.store.asked) (sym q)
-        (subst (λ (t : PartsState). RoseWithin b (store_ask_count (of_part Part.Store (entries (past x.journal)))) t.store.asked) (sym (rests e)) v)
+        (subst (λ (t : NodesPartsState). RoseWithin b (store_ask_count (of_part Part.Store (entries (past x.journal)))) t.store.asked) (sym (rests e)) v)
 
     by_result : (q : Result Stepped AllocError) → r ≡ q → Turned script places from s r x w (slice_set xs s z)
     by_result (Ok Stepped.Did) e = by_move e (did e)

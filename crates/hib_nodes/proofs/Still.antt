@@ -14,14 +14,14 @@ use Rattle.hib_engines.specs.Results.{AreResults}
 use Rattle.hib_nodes_law.specs.Types.{Noded, Nodings}
 use Rattle.hib_nodes_law.specs.Nodes.{entries, of_node}
 use Rattle.hib_nodes.specs.Kept.{past}
-use Rattle.hib_nodes.specs.Standing.{PartsState, AreStanding, IsAtNode, IsStill, node_in}
+use Rattle.hib_nodes.specs.Standing.{NodesPartsState, AreStanding, IsAtNode, IsStill, node_in}
 use Rattle.hib_nodes.specs.Queue.{QueuesState, AreQueues, AreWaiting}
 use Rattle.hib_nodes.specs.Run.{IsRun}
 use Rattle.hib_nodes.specs.Shared.{SharedState, IsShared, Leaves}
 use Rattle.hib_nodes.specs.Turns.{IsKept}
 use Rattle.hib_nodes.proofs.Turned.{waiting_pairs, waiting_taken}
 
-pub still_same : (x y : PartsState) → y ≡ x → IsStill x y
+pub still_same : (x y : NodesPartsState) → y ≡ x → IsStill x y
 still_same x y e = subst (λ v. IsStill x v) (sym e) (record {
   store = record { tables = refl; written = refl; faults = omega arith; later = omega arith; few = omega arith };
   stamps = refl;
@@ -30,14 +30,14 @@ still_same x y e = subst (λ v. IsStill x v) (sym e) (record {
   second = refl;
 })
 
-still_node : (x y : PartsState) (n : ℕ) → IsStill x y → node_in y n ≡ node_in x n
+still_node : (x y : NodesPartsState) (n : ℕ) → IsStill x y → node_in y n ≡ node_in x n
 still_node x y n w = by_test (tested (n == 2))
   where
     by_test : Tested (n == 2) → node_in y n ≡ node_in x n
     by_test (inl t) = rw t w.second
     by_test (inr t) = rw t w.first
 
-still_standing : (script : Script) (told : Option Tables) (h : Noded) (x y : PartsState) → IsStill x y → AreStanding script told h x → AreStanding script told h y
+still_standing : (script : Script) (told : Option Tables) (h : Noded) (x y : NodesPartsState) → IsStill x y → AreStanding script told h x → AreStanding script told h y
 still_standing script told h x y w k = record {
   store = record { rows = w.store.tables ∙ k.store.rows; changes = λ n. ap (λ v. changes_in v n) w.store.written ∙ k.store.changes n };
   stamps = subst (λ z. AreStamps script (of_part Part.Stamps (entries h)) z) (sym w.stamps) k.stamps;
@@ -45,7 +45,7 @@ still_standing script told h x y w k = record {
   nodes = λ n i. subst (λ z. IsAtNode script (of_node n h) z) (sym (still_node x y n w)) (k.nodes n i);
 }
 
-run_still : (script : Script) (places : Nodings) (from : Origin) (h new : Noded) (x y : PartsState) → IsRun script places from h x → IsStill x y → new ≡ h → IsRun script places from new y
+run_still : (script : Script) (places : Nodings) (from : Origin) (h new : Noded) (x y : NodesPartsState) → IsRun script places from h x → IsStill x y → new ≡ h → IsRun script places from new y
 run_still script places from h new x y run w e = subst (λ (g : Noded). IsRun script places from g y) (sym e) (record {
   turns = run.turns;
   whole = run.whole;
@@ -86,7 +86,7 @@ pub leaves_then : (told script : Script) (x v w : SharedState) (y u z : Session)
     Leaves script v w u z → Leaves script x w y z
 leaves_then told script x v w y u z q e p r k l = record {
   same = l.same ∙ e;
-  parts = subst (λ (t : PartsState). IsStill t w.parts) p l.parts;
+  parts = subst (λ (t : NodesPartsState). IsStill t w.parts) p l.parts;
   queues = subst (λ (t : QueuesState). AreWaiting t w.queues) r l.queues;
   number = l.number ∙ k.number;
   follows = λ mine g. l.follows mine (subst (λ (t : Script). (mine : Journal) → Follows t y mine → Follows t u mine) q k.follows mine g);

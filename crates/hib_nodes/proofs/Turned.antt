@@ -12,7 +12,7 @@ use Rattle.hib_engines.specs.Counts.{RoseWithin}
 use Rattle.hib_nodes_law.specs.declared.nodes.NodeEntry.{NodeEntry}
 use Rattle.hib_nodes_law.specs.Types.{Noded}
 use Rattle.hib_nodes_law.specs.Nodes.{entries, shared_keys, committed_changes}
-use Rattle.hib_nodes.specs.Standing.{PartsState, IsAskedFor, entry_on, is_node}
+use Rattle.hib_nodes.specs.Standing.{NodesPartsState, IsAskedFor, entry_on, is_node}
 use Rattle.hib_nodes.specs.Queue.{QueueState, QueuesState, AreQueues, AreWaiting, queue_in, other_node}
 use Rattle.hib_nodes.specs.Turns.{keys_at, is_committed}
 use Rattle.hib_nodes.proofs.Lists.{other_part, same_list}
@@ -78,7 +78,7 @@ asks_none cs (Act.Load k) s p = absurd (true≢false p)
 asks_none cs (Act.List q) s p = absurd (true≢false p)
 asks_none cs _ s p = refl
 
-pub asked_on : (h : Noded) (n s now : ℕ) (a : Act) (r : Reply) (x y : PartsState) → IsAskedFor h s a x y → (b : ℕ) →
+pub asked_on : (h : Noded) (n s now : ℕ) (a : Act) (r : Reply) (x y : NodesPartsState) → IsAskedFor h s a x y → (b : ℕ) →
     RoseWithin b (store_ask_count (of_part Part.Store (entries h))) x.store.asked →
     RoseWithin b (store_ask_count (of_part Part.Store (entry_at now (Some s) a r ∷ entries h))) y.store.asked
 asked_on h n s now a r x y f b w = by_part (tested (same_part Part.Store (part_of a s)))

@@ -22,7 +22,7 @@ use Rattle.hib_nodes_law.specs.Apart.{AreInTurn, AreNodesApart}
 use Rattle.hib_nodes_law.specs.Law.{NodesCohere}
 use Rattle.hib_playing.specs.Playing.{GoesOn}
 use Rattle.hib_nodes.specs.Kept.{past}
-use Rattle.hib_nodes.specs.Standing.{PartsState, AreStanding, entry_on, is_node}
+use Rattle.hib_nodes.specs.Standing.{NodesPartsState, AreStanding, entry_on, is_node}
 
 -- what a run asks of its script and its places: the script is valid, and each place is a node
 pub record AreSet (script : Script) (places : Nodings) : Type 0 where
@@ -35,7 +35,7 @@ AreAtNodes (e ∷ h) = AreAtNodes h × (is_node e.node ≡ true)
 
 -- each entry came in its turn and no fence is half done; the lists of all parts and sessions are legal, so the journal is; the parts stand
 -- for it, and the keeper has failed as often as it says
-pub record IsRun (script : Script) (places : Nodings) (from : Origin) (h : Noded) (x : PartsState) : Type 0 where
+pub record IsRun (script : Script) (places : Nodings) (from : Origin) (h : Noded) (x : NodesPartsState) : Type 0 where
   pub turns : AreInTurn script places h
   pub whole : second_half h ≡ None
   pub nodes : AreAtNodes h
@@ -46,11 +46,11 @@ pub record IsRun (script : Script) (places : Nodings) (from : Origin) (h : Noded
   pub set : AreSet script places
 
 -- the keeper was asked no more often than the store's entries say
-abbrev pub IsAsked : Origin → Noded → PartsState → Type 0
+abbrev pub IsAsked : Origin → Noded → NodesPartsState → Type 0
 IsAsked from h x = RoseWithin from.asked (store_ask_count (of_part Part.Store (entries h))) x.store.asked
 
 -- no more often than the journal says, and once more, if memory ran out
-abbrev pub IsAskedOnceMore : Origin → Noded → PartsState → Type 0
+abbrev pub IsAskedOnceMore : Origin → Noded → NodesPartsState → Type 0
 IsAskedOnceMore from h x = RoseWithin from.asked (ask_count (entries h) + 1) x.store.asked
 
 -- what is claimed of the journal of two nodes: it is legal, so no item is older than what its node has not been told of, and each
@@ -97,7 +97,7 @@ pub record IsDelivered (script : Script) (n : ℕ) (old new : Noded) : Type 0 wh
 -- a run as contracts see it: the entries, the parts, and whether memory ran out in a call
 pub record NodesState : Type 0 where
   pub journal : Rattle.hib_nodes.specs.Kept.Kept
-  pub parts : PartsState
+  pub parts : NodesPartsState
   pub refused : Bool
 
 -- a run stopped, since memory ran out: the entries so far stand, the run says so, and the keeper was asked once more at most than they say,

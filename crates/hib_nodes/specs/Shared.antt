@@ -19,12 +19,12 @@ use Rattle.hib_nodes_law.specs.Types.{Noded, Nodings}
 use Rattle.hib_nodes_law.specs.Nodes.{entries}
 use Rattle.hib_nodes_law.specs.Legal.{node_of}
 use Rattle.hib_nodes.specs.Kept.{Kept, past}
-use Rattle.hib_nodes.specs.Standing.{PartsState, IsAskedFor, IsStill, entry_on}
+use Rattle.hib_nodes.specs.Standing.{NodesPartsState, IsAskedFor, IsStill, entry_on}
 use Rattle.hib_nodes.specs.Queue.{QueuesState, AreQueues, AreWaiting}
 use Rattle.hib_nodes.specs.Run.{IsRun, HasStepped, IsOver}
 
 pub record SharedState : Type 0 where
-  pub parts : PartsState
+  pub parts : NodesPartsState
   pub queues : QueuesState
   pub journal : Kept
 

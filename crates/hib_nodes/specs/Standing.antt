@@ -35,14 +35,14 @@ pub record NodeState : Type 0 where
   pub regions : List Region
 
 -- what is shared, and what each node has
-pub record PartsState : Type 0 where
+pub record NodesPartsState : Type 0 where
   pub store : StoreState
   pub stamps : List (Option ℕ)
   pub results : Ranked
   pub first : NodeState
   pub second : NodeState
 
-abbrev pub node_in : PartsState → ℕ → NodeState
+abbrev pub node_in : NodesPartsState → ℕ → NodeState
 node_in x n = if n == 2 then x.second else x.first
 
 -- ---- what they stand for
@@ -54,14 +54,14 @@ pub record IsAtNode (script : Script) (g : Journal) (x : NodeState) : Type 0 whe
   pub entities : length x.regions ≡ length script.mapping
 
 -- of the entries of a journal, from these rows if they are told
-pub record AreStanding (script : Script) (told : Option Tables) (h : Noded) (x : PartsState) : Type 0 where
+pub record AreStanding (script : Script) (told : Option Tables) (h : Noded) (x : NodesPartsState) : Type 0 where
   pub store : IsStored told (of_part Part.Store (entries h)) x.store
   pub stamps : AreStamps script (of_part Part.Stamps (entries h)) x.stamps
   pub results : AreResults script (of_part Part.Results (entries h)) x.results
   pub nodes : (n : ℕ) → is_node n ≡ true → IsAtNode script (of_node n h) (node_in x n)
 
 -- all parts are as before, but for the keeper's counts, and the keeper was asked once at most
-pub record IsStill (x y : PartsState) : Type 0 where
+pub record IsStill (x y : NodesPartsState) : Type 0 where
   pub store : IsCounted x.store y.store
   pub stamps : y.stamps ≡ x.stamps
   pub results : y.results ≡ x.results
@@ -79,26 +79,26 @@ abbrev pub entry_on : ℕ → Entry → NodeEntry
 entry_on n e = record { node = n; entry = e }
 
 -- over entries that the parts stand for, the act of session s at node n is due at a later tick
-pub record IsReady (script : Script) (told : Option Tables) (h : Noded) (n s now : ℕ) (a : Act) (x : PartsState) : Type 0 where
+pub record IsReady (script : Script) (told : Option Tables) (h : Noded) (n s now : ℕ) (a : Act) (x : NodesPartsState) : Type 0 where
   pub standing : AreStanding script told h x
   pub node : is_node n ≡ true
   pub late : AreBefore now h
   pub due : IsDue script (own s (entries h)) a
 
 -- an act was answered: with the reply that is due over the entries of its part, and the parts stand for the entries with its own
-pub record IsAnswered (script : Script) (told : Option Tables) (h : Noded) (n s now : ℕ) (a : Act) (r : Reply) (y : PartsState) : Type 0 where
+pub record IsAnswered (script : Script) (told : Option Tables) (h : Noded) (n s now : ℕ) (a : Act) (r : Reply) (y : NodesPartsState) : Type 0 where
   pub reply : is_own (part_of a s) ≡ false → is_of_session a ≡ false →
       IsStoreReply script told (of_part (part_of a s) (seen_at (part_of a s) n h)) (entry_at now (Some s) a r)
   pub standing : AreStanding script told (entry_on n (entry_at now (Some s) a r) ∷ h) y
 
 -- the keeper was asked once at most for an act of s, and only if the act asks
-abbrev pub IsAskedFor : Noded → ℕ → Act → PartsState → PartsState → Type 0
+abbrev pub IsAskedFor : Noded → ℕ → Act → NodesPartsState → NodesPartsState → Type 0
 IsAskedFor h s a x y =
     RoseWithin x.store.asked (if asks (unsaved s (of_part Part.Store (entries h))) a then 1 else 0) y.store.asked
 
 -- an act of s was answered, with the session's own reply if it has one; the keeper was asked as the act allows, and it failed if
 -- the reply says so
-pub record IsTold (script : Script) (told : Option Tables) (h : Noded) (n s now : ℕ) (a : Act) (r : Reply) (x y : PartsState) : Type 0 where
+pub record IsTold (script : Script) (told : Option Tables) (h : Noded) (n s now : ℕ) (a : Act) (r : Reply) (x y : NodesPartsState) : Type 0 where
   pub answered : IsAnswered script told h n s now a r y
   pub mine : (q : Reply) → own_reply script (own s (entries h)) a ≡ Some q → r ≡ q
   pub asked : IsAskedFor h s a x y

@@ -6,15 +6,18 @@ ghost use Rattle.hib_nodes.specs.Shared.{IsShared};
 ghost use Rattle.hib_nodes.specs.Standing.{is_node};
 
 use crate::names::Name;
-use crate::shared::Shared;
+use crate::shared::NodesShared;
 use hib_base::Tick;
 use hib_nodes_law::{NodeEntry, apart_is_legal, parts_tell};
 use hib_outside::Keeper;
 use std::alloc::AllocError;
 
-/// The first pair that waits for a node is delivered, by a fence of its key, whose two entries are added; false if none waits. If
-/// memory runs out nothing has changed.
-pub fn deliver<K: Keeper, N: Name>(node: u8, shared: &mut Shared<K>) -> Result<bool, AllocError>
+/// The first pair that waits for a node is delivered, by a fence of its key, whose two entries are added; false if none
+/// waits. If memory runs out nothing has changed.
+pub fn deliver<K: Keeper, N: Name>(
+    node: u8,
+    shared: &mut NodesShared<K>,
+) -> Result<bool, AllocError>
     requires node { is_node node ≡ true }
     requires shared { IsShared N.script N.places N.from shared.old }
     ensures shared { IsShared N.script N.places N.from shared.new }

@@ -8,7 +8,8 @@ use std::marker::Model;
 /// No memory holds more entries.
 const MOST: usize = 1 << 62;
 
-/// The entries of both nodes, the oldest first. They are only added to. Room for the next ones is made before they come.
+/// The entries of both nodes, the oldest first. They are only added to. Room for the next ones is made before they
+/// come.
 #[derive(Drop)]
 pub struct Noded {
     entries: Vec<NodeEntry>,

@@ -97,8 +97,8 @@ impl Node {
         serve_region(alloc, &mut self.regions, entity, act, now)
     }
 
-    /// A fence of a key of a read-write region, at this tick and the next one: its two entries. The floor is the least time of the
-    /// open sessions, or the tick if none is open. At an error nothing has changed.
+    /// A fence of a key of a read-write region, at this tick and the next one: its two entries. The floor is the least
+    /// time of the open sessions, or the tick if none is open. At an error nothing has changed.
     pub fn fence(&mut self, key: Key, now: Tick) -> Result<(Entry, Entry), AllocError>
         requires { now < 2 ^ 62 }
         ensures fenced { IfOk result (λ f. (script : Said) (g : Journal)

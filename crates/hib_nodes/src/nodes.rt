@@ -1,5 +1,6 @@
 // Two nodes over one store: sessions at each, and the journal of both.
-ghost use Rattle.std.specs.Prelude.{◌≡◌, ◌≢◌, ◌<◌, ◌≤◌, ◌^◌, ℕ, [], ◌∷◌, length, slice_get, Some, OnOk, OnErr, IfOk, IfErr, Ok, Option, true, false};
+ghost use Rattle.std.specs.Prelude.{◌≡◌, ◌≢◌, ◌<◌, ◌≤◌, ◌^◌, ℕ, [], ◌∷◌, length, slice_get, Some, OnOk, OnErr, IfOk};
+ghost use Rattle.std.specs.Prelude.{IfErr, Ok, Option, true, false};
 ghost use Rattle.hib_base.specs.Tables.{Tables};
 ghost use Rattle.hib_journal.specs.Runs.{told_committed, is_fault, fault_count, ask_count};
 ghost use Rattle.hib_outside.specs.Causes.{Rose};
@@ -11,7 +12,8 @@ ghost use Rattle.hib_nodes_law.specs.Apart.{AreOfParts};
 ghost use Rattle.hib_nodes_law.specs.Nodes.{entries};
 ghost use Rattle.hib_nodes.specs.Kept.{past};
 ghost use Rattle.hib_nodes.specs.Played.{has_next};
-ghost use Rattle.hib_nodes.specs.Run.{AreSet, HasDelivered, HasStepped, IsAsked, IsAskedOnceMore, IsDelivered, IsOver, Obeys};
+ghost use Rattle.hib_nodes.specs.Run.{AreSet, HasDelivered, HasStepped, IsAsked, IsAskedOnceMore, IsDelivered, IsOver};
+ghost use Rattle.hib_nodes.specs.Run.{Obeys};
 ghost use Rattle.hib_nodes.specs.Standing.{is_node, IsStill};
 
 use crate::fencing;
@@ -19,7 +21,7 @@ use crate::journal::Noded;
 use crate::names::Name;
 use crate::opening::open_shared;
 use crate::placing::nodes_of;
-use crate::shared::Shared;
+use crate::shared::NodesShared;
 use crate::turns::turn;
 use hib_base::{Script, SessionNo};
 use hib_engines::Stepped;
@@ -32,15 +34,16 @@ use hib_store::OpenFault;
 use std::alloc::{AllocError, Global};
 use std::marker::{Model, PhantomData};
 
-/// Two nodes over one store: sessions at each, with registries and regions of their own, and the journal of their steps and of what
-/// is delivered from one to the other. The journal is legal for the name's script and places, from the name's rows.
+/// Two nodes over one store: sessions at each, with registries and regions of their own, and the journal of their steps
+/// and of what is delivered from one to the other. The journal is legal for the name's script and places, from the
+/// name's rows.
 pub struct Nodes<K: Keeper, N: Name> {
     script: Script,
     places: Places,
     /// The node of each session.
     nodes: Vec<u8>,
     sessions: Vec<Session>,
-    shared: Shared<K>,
+    shared: NodesShared<K>,
     /// Whether memory ran out in a call.
     refused: bool,
     of: PhantomData<N>,
@@ -71,8 +74,9 @@ impl<K: Keeper, N: Name> Model for Nodes<K, N> {
 }
 
 impl<K: Keeper, N: Name> Nodes<K, N> {
-    /// Opens the run of this name, in which no session has begun. The rows that the keeper keeps are widened to the script's mapping,
-    /// and each of the script's rows whose key has none is added. At an error the keeper is handed back, with the rows that it had.
+    /// Opens the run of this name, in which no session has begun. The rows that the keeper keeps are widened to the
+    /// script's mapping, and each of the script's rows whose key has none is added. At an error the keeper is handed
+    /// back, with the rows that it had.
     pub fn open(
         alloc: Global,
         script: Script,
@@ -111,9 +115,9 @@ impl<K: Keeper, N: Name> Nodes<K, N> {
         })
     }
 
-    /// One step of a session: the act that is due in it, if one is, at its node. A commit that applies comes into the other node's
-    /// queue in the same step. If memory runs out no entry is added and nothing has changed, but the answer of `refused` and the
-    /// keeper's counts; so a later call may succeed.
+    /// One step of a session: the act that is due in it, if one is, at its node. A commit that applies comes into the
+    /// other node's queue in the same step. If memory runs out no entry is added and nothing has changed, but the
+    /// answer of `refused` and the keeper's counts; so a later call may succeed.
     pub fn step(&mut self, alloc: Global, number: SessionNo) -> Result<Stepped, AllocError>
         requires known { number < length N.script.sessions }
         ensures did { result ≡ Ok Stepped.Did → HasStepped N.script N.places number
@@ -136,9 +140,9 @@ impl<K: Keeper, N: Name> Nodes<K, N> {
         stepped
     }
 
-    /// The first pair that waits for a node is delivered to it, by a fence of its key: two entries, at this tick and the next one.
-    /// False exactly if none waits, and then nothing is done. If memory runs out neither entry is added and nothing has changed, but
-    /// the answer of `refused`.
+    /// The first pair that waits for a node is delivered to it, by a fence of its key: two entries, at this tick and
+    /// the next one. False exactly if none waits, and then nothing is done. If memory runs out neither entry is added
+    /// and nothing has changed, but the answer of `refused`.
     pub fn deliver(&mut self, node: u8) -> Result<bool, AllocError>
         requires node { is_node node ≡ true }
         ensures delivered { result ≡ Ok true
@@ -159,7 +163,8 @@ impl<K: Keeper, N: Name> Nodes<K, N> {
         delivered
     }
 
-    /// One step of a session. If memory runs out nothing has changed but the answer of `refused` and the keeper's counts.
+    /// One step of a session. If memory runs out nothing has changed but the answer of `refused` and the keeper's
+    /// counts.
     fn take_step(&mut self, alloc: Global, number: SessionNo) -> Result<Stepped, AllocError>
         requires known { number < length N.script.sessions }
         ensures did { result ≡ Ok Stepped.Did → HasStepped N.script N.places number
@@ -217,7 +222,8 @@ impl<K: Keeper, N: Name> Nodes<K, N> {
         }
     }
 
-    /// The journal obeys the law of two nodes, and the list of the store tells its committed rows and its counts. It does nothing.
+    /// The journal obeys the law of two nodes, and the list of the store tells its committed rows and its counts. It
+    /// does nothing.
     pub fn lawful(&self)
         ensures law { Obeys N.script N.places N.from.tables (past self.now.journal) }
         ensures told { AreOfParts (past self.now.journal) }
@@ -306,7 +312,7 @@ impl<K: Keeper, N: Name> Nodes<K, N> {
             refused: _,
             of: _,
         } = self;
-        let Shared {
+        let NodesShared {
             parts,
             queues: _,
             journal,

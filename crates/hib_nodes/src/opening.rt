@@ -10,18 +10,19 @@ ghost use Rattle.hib_nodes.specs.Standing.{AreStanding};
 
 use crate::journal::Noded;
 use crate::node::Node;
-use crate::parts::Parts;
+use crate::parts::NodesParts;
 use crate::queue::Queues;
-use crate::shared::Shared;
+use crate::shared::NodesShared;
 use hib_base::Script;
 use hib_engines::{ResultsEngine, StampsEngine, StoreEngine, laws};
 use hib_outside::Keeper;
 use hib_store::OpenFault;
 use std::alloc::Global;
 
-impl<K: Keeper> Parts<K> {
-    /// The parts of a run in which nothing has happened. At an error the keeper is handed back, with the rows that it had.
-    fn open(alloc: Global, script: &Script, keeper: K) -> Result<Parts<K>, OpenFault<K>>
+impl<K: Keeper> NodesParts<K> {
+    /// The parts of a run in which nothing has happened. At an error the keeper is handed back, with the rows that it
+    /// had.
+    fn open(alloc: Global, script: &Script, keeper: K) -> Result<NodesParts<K>, OpenFault<K>>
         requires built { IsBuilt script.now }
         ensures standing { IfOk result (λ p. AreStanding script.now
             (told_start script.now (K.tables keeper)) [] p) }
@@ -49,7 +50,7 @@ impl<K: Keeper> Parts<K> {
         let entities = script.mapping.len() as u16;
         let rows = script.rows.as_slice();
         let store = StoreEngine::open(alloc, keeper, &script.mapping, rows, entities)?;
-        Ok(Parts {
+        Ok(NodesParts {
             store,
             stamps,
             results,
@@ -64,7 +65,7 @@ impl<K: Keeper> Parts<K> {
         ensures faults { K.faults result ≡ self.store.faults }
         ensures asked { K.asked result ≡ self.store.asked }
     {
-        let Parts {
+        let NodesParts {
             store,
             stamps: _,
             results: _,
@@ -75,12 +76,13 @@ impl<K: Keeper> Parts<K> {
     }
 }
 
-/// What the sessions of a run share in which nothing has happened. At an error the keeper is handed back, with the rows that it had.
+/// What the sessions of a run share in which nothing has happened. At an error the keeper is handed back, with the rows
+/// that it had.
 pub fn open_shared<K: Keeper>(
     alloc: Global,
     script: &Script,
     keeper: K,
-) -> Result<Shared<K>, OpenFault<K>>
+) -> Result<NodesShared<K>, OpenFault<K>>
     requires built { IsBuilt script.now }
     ensures journal { IfOk result (λ s. past s.journal ≡ []) }
     ensures queues { IfOk result (λ s. AreQueues script.now [] s.queues) }
@@ -94,8 +96,8 @@ pub fn open_shared<K: Keeper>(
     ensures fault { IfErr result (λ e. is_store_fault e ≡ true
         → Rose (K.faults keeper) (K.faults (handed_back e))) }
 {
-    let parts = Parts::open(alloc, script, keeper)?;
-    Ok(Shared {
+    let parts = NodesParts::open(alloc, script, keeper)?;
+    Ok(NodesShared {
         parts,
         queues: Queues::open(alloc),
         journal: Noded::open(alloc),

@@ -1,5 +1,6 @@
 // The parts of a run of two nodes, and what they answer.
-ghost use Rattle.std.specs.Prelude.{◌≡◌, ◌≤◌, ◌<◌, ◌^◌, ◌==◌, ◌∷◌, ℕ, List, length, cond, true, false, IfOk, OnOk, OnErr, Option, Some, None};
+ghost use Rattle.std.specs.Prelude.{◌≡◌, ◌≤◌, ◌<◌, ◌^◌, ◌==◌, ◌∷◌, ℕ, List, length, cond, true, false, IfOk, OnOk};
+ghost use Rattle.std.specs.Prelude.{OnErr, Option, Some, None};
 ghost use Rattle.hib_base.specs.Tables.{Tables};
 ghost use Rattle.hib_journal.specs.Types.{Script as Said, Strategy};
 ghost use Rattle.hib_journal.specs.Next.{strategy};
@@ -19,7 +20,8 @@ ghost use Rattle.hib_engines.specs.Registry.{own_after, IsRegistry};
 ghost use Rattle.hib_engines.specs.Served.{AreWithin, IsServed, reads};
 ghost use Rattle.hib_nodes.specs.Parts.{with_node, IsAlone};
 ghost use Rattle.hib_nodes.specs.Fencing.{IsFencedAt};
-ghost use Rattle.hib_nodes.specs.Standing.{entry_on, is_node, node_in, AreBefore, AreStanding, IsAnswered, IsAskedFor, IsReady, IsStill, IsTold};
+ghost use Rattle.hib_nodes.specs.Standing.{entry_on, is_node, node_in, AreBefore, AreStanding, IsAnswered, IsAskedFor};
+ghost use Rattle.hib_nodes.specs.Standing.{IsReady, IsStill, IsTold};
 
 use crate::node::Node;
 use hib_base::{Act, EntityNo, Entry, Key, Part, Reply, Script, SessionNo, Tick};
@@ -30,8 +32,9 @@ use hib_session::Session;
 use std::alloc::{AllocError, Global};
 use std::marker::Model;
 
-/// The store, the stamps of tables and the results of queries, which both nodes share, and what each node has for itself.
-pub struct Parts<K: Keeper> {
+/// The store, the stamps of tables and the results of queries, which both nodes share, and what each node has for
+/// itself.
+pub struct NodesParts<K: Keeper> {
     /// The committed rows, and what each session has written and not committed.
     pub store: StoreEngine<K>,
     /// For each table the tick of its last change, or one ahead while a commit is under way.
@@ -44,10 +47,10 @@ pub struct Parts<K: Keeper> {
     pub second: Node,
 }
 
-impl<K: Keeper> Model for Parts<K> {
-    ghost use Rattle.hib_nodes.specs.Standing.{PartsState};
+impl<K: Keeper> Model for NodesParts<K> {
+    ghost use Rattle.hib_nodes.specs.Standing.{NodesPartsState};
 
-    ghost Value = { PartsState };
+    ghost Value = { NodesPartsState };
 
     ghost view = { λ p. record {
       store = p.store;
@@ -58,7 +61,7 @@ impl<K: Keeper> Model for Parts<K> {
     } };
 }
 
-impl<K: Keeper> Parts<K> {
+impl<K: Keeper> NodesParts<K> {
     /// What an act of a session's own does to the parts: End closes the session at its node.
     fn note_own(&mut self, node: u8, session: SessionNo, act: &Act)
         ensures { self.new ≡ with_node node (record (node_in self.old node)
@@ -129,8 +132,8 @@ impl<K: Keeper> Parts<K> {
         }
     }
 
-    /// The answer of a part to an act of a session at a node, which isn't the session's own. A fault is answered only if the keeper
-    /// failed in this call. At an error the parts are as before, but for the keeper's counts.
+    /// The answer of a part to an act of a session at a node, which isn't the session's own. A fault is answered only
+    /// if the keeper failed in this call. At an error the parts are as before, but for the keeper's counts.
     fn serve(
         &mut self,
         alloc: Global,
@@ -168,9 +171,9 @@ impl<K: Keeper> Parts<K> {
         }
     }
 
-    /// The answer to an act that is due in a session at a node, at this tick: the session's own, or that of a part. A fault is
-    /// answered only if the keeper failed in this call, and the keeper is asked once at most. At an error the parts are as before,
-    /// but for the keeper's counts, and so they are if the act brings something to the session.
+    /// The answer to an act that is due in a session at a node, at this tick: the session's own, or that of a part. A
+    /// fault is answered only if the keeper failed in this call, and the keeper is asked once at most. At an error the
+    /// parts are as before, but for the keeper's counts, and so they are if the act brings something to the session.
     pub fn answer(
         &mut self,
         alloc: Global,
@@ -200,8 +203,8 @@ impl<K: Keeper> Parts<K> {
         self.serve(alloc, script, node, number, act, now)
     }
 
-    /// A fence of a key of a read-write region at a node, at this tick and the next one: its two entries. At an error nothing has
-    /// changed.
+    /// A fence of a key of a read-write region at a node, at this tick and the next one: its two entries. At an error
+    /// nothing has changed.
     pub fn fence(&mut self, node: u8, key: Key, now: Tick) -> Result<(Entry, Entry), AllocError>
         requires { now < 2 ^ 62 }
         ensures fenced { IfOk result (λ f. (script : Said) (told : Option Tables) (h : Past)

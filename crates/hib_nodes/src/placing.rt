@@ -5,7 +5,8 @@ ghost use Rattle.hib_nodes.specs.Placed.{ArePlaced};
 use hib_base::SessionNo;
 use std::alloc::{AllocError, Global};
 
-/// The node of each of so many sessions, by its number: the first that is named for it, or 1. Fails for want of memory alone.
+/// The node of each of the first `sessions` sessions, by its number: the first that is named for it, or 1. Fails for
+/// want of memory alone.
 pub fn nodes_of(
     alloc: Global,
     places: &[(SessionNo, u8)],

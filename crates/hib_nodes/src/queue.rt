@@ -8,12 +8,12 @@ use std::marker::Model;
 
 /// The keys of the pairs that ever came to a node, the oldest first, of which the first ones are delivered.
 #[derive(Drop)]
-pub struct Queue {
+pub struct KeyQueue {
     pairs: Vec<Key>,
     taken: usize,
 }
 
-impl Model for Queue {
+impl Model for KeyQueue {
     ghost use Rattle.std.specs.Prelude.{◌-◌, ◌≤◌, vec_len, vec_capacity};
     ghost use Rattle.hib_nodes.specs.Queue.{QueueState};
 
@@ -28,15 +28,15 @@ impl Model for Queue {
     ghost invariant = { λ q. q.taken ≤ vec_len q.pairs };
 }
 
-impl Queue {
+impl KeyQueue {
     ghost use Rattle.hib_nodes.specs.Queue.{waiting};
 
     /// Nothing waits.
-    pub fn open(alloc: Global) -> Queue
+    pub fn open(alloc: Global) -> KeyQueue
         ensures pairs { result.pairs ≡ [] }
         ensures taken { result.taken ≡ 0 }
     {
-        Queue {
+        KeyQueue {
             pairs: Vec::new(alloc),
             taken: 0,
         }
@@ -57,7 +57,7 @@ impl Queue {
         self.taken += 1;
     }
 
-    /// Makes room for so many more. At an error it is as before.
+    /// Makes room for `count` more keys. At an error it is as before.
     pub fn reserve(&mut self, count: usize) -> Result<(), AllocError>
         ensures pairs { self.new.pairs ≡ self.old.pairs }
         ensures taken { self.new.taken ≡ self.old.taken }
@@ -81,8 +81,8 @@ impl Queue {
 /// What waits for each node.
 #[derive(Drop)]
 pub struct Queues {
-    first: Queue,
-    second: Queue,
+    first: KeyQueue,
+    second: KeyQueue,
 }
 
 impl Model for Queues {
@@ -111,8 +111,8 @@ impl Queues {
         ensures second_taken { result.second.taken ≡ 0 }
     {
         Queues {
-            first: Queue::open(alloc),
-            second: Queue::open(alloc),
+            first: KeyQueue::open(alloc),
+            second: KeyQueue::open(alloc),
         }
     }
 
@@ -140,7 +140,7 @@ impl Queues {
         }
     }
 
-    /// Makes room for so many more that wait for a node. At an error all is as before.
+    /// Makes room for `count` more keys that wait for a node. At an error all is as before.
     pub fn reserve(&mut self, node: u8, count: usize) -> Result<(), AllocError>
         ensures same { AreWaiting self.old self.new }
         ensures room { OnOk result (count ≤ (queue_in self.new node).spare) }

@@ -3,7 +3,8 @@ ghost use Rattle.std.specs.Prelude.{◌≡◌, ◌<◌, ◌==◌, ℕ, [], lengt
 ghost use Rattle.hib_playing.specs.Playing.{GoesOn, Leads, play_all, play_each, play_steps, play_then, played};
 ghost use Rattle.hib_nodes_law.specs.Nodes.{queue};
 ghost use Rattle.hib_nodes.specs.Kept.{past};
-ghost use Rattle.hib_nodes.specs.Played.{AreOver, has_next, is_by, is_played, play_order, play_queue, play_script, play_sessions};
+ghost use Rattle.hib_nodes.specs.Played.{AreOver, has_next, is_by, is_played, play_order, play_queue, play_script};
+ghost use Rattle.hib_nodes.specs.Played.{play_sessions};
 ghost use Rattle.hib_nodes.specs.Run.{HasStopped, IsAskedOnceMore, Obeys};
 ghost use Rattle.hib_nodes.specs.Standing.{is_node};
 
@@ -16,8 +17,8 @@ use hib_outside::Keeper;
 use std::alloc::{AllocError, Global};
 
 impl<K: Keeper, N: Name> Nodes<K, N> {
-    /// Runs a session for so many steps, or to its end if that comes before; one that isn't there has none. If memory runs out
-    /// the steps so far stand.
+    /// Runs a session for `steps` steps, or to its end if that comes before; one that isn't there has none. If memory
+    /// runs out the steps so far stand.
     fn run_steps(&mut self, alloc: Global, number: SessionNo, steps: u32) -> Result<(), AllocError>
         ensures played { OnOk result (Leads (play_steps (has_next N.script) is_by number steps) played
             (past self.old.journal) (past self.new.journal)) }
@@ -91,8 +92,8 @@ impl<K: Keeper, N: Name> Nodes<K, N> {
         }
     }
 
-    /// Carries an order out: a session runs, or the first pair that waits for a node is delivered. If memory runs out the entries so
-    /// far stand.
+    /// Carries an order out: a session runs, or the first pair that waits for a node is delivered. If memory runs out
+    /// the entries so far stand.
     fn obey(&mut self, alloc: Global, order: NodeOrder) -> Result<(), AllocError>
         ensures played { OnOk result (Leads (play_order N.script order) played
             (past self.old.journal) (past self.new.journal)) }
@@ -154,8 +155,8 @@ impl<K: Keeper, N: Name> Nodes<K, N> {
         self.deliver_rest()
     }
 
-    /// Plays the script: the orders, one after the other, then each session to its end, the first one first, and then all that waits
-    /// for node 1 and for node 2. If memory runs out it stops there, and the entries so far stand.
+    /// Plays the script: the orders, one after the other, then each session to its end, the first one first, and then
+    /// all that waits for node 1 and for node 2. If memory runs out it stops there, and the entries so far stand.
     pub fn play(&mut self, alloc: Global) -> Result<(), AllocError>
         ensures played { OnOk result (past self.old.journal ≡ []
             → is_played N.script N.orders (past self.new.journal) ≡ true) }

@@ -87,8 +87,8 @@ fn put_entries(
     Ok(())
 }
 
-/// The text of a journal of two nodes: the number of entries, a line for each with its node behind the tick, and `end`. A number
-/// that the script doesn't know prints as nothing. Fails for want of memory alone.
+/// The text of a journal of two nodes: the number of entries, a line for each with its node behind the tick, and `end`.
+/// A number that the script doesn't know prints as nothing. Fails for want of memory alone.
 pub fn text(alloc: Global, script: &Script, journal: &Noded) -> Result<Bytes, AllocError>
     ensures { IfOk result (λ b. b ≡ noded_text script.now journal.now.list) }
 {

@@ -1,6 +1,7 @@
-// One turn of a session: the act that is due is answered by the session or by a part, and its entry is added. What it commits comes
-// into the other node's queue in the same step.
-ghost use Rattle.std.specs.Prelude.{◌≡◌, ◌≢◌, ◌≤◌, ◌<◌, ◌+◌, ◌++◌, ◌^◌, [], length, IfOk, IfSome, OnOk, OnErr, Some, None, Ok, true, if◌then◌else◌};
+// One turn of a session: the act that is due is answered by the session or by a part, and its entry is added. What it
+// commits comes into the other node's queue in the same step.
+ghost use Rattle.std.specs.Prelude.{◌≡◌, ◌≢◌, ◌≤◌, ◌<◌, ◌+◌, ◌++◌, ◌^◌, [], length, IfOk, IfSome, OnOk, OnErr, Some};
+ghost use Rattle.std.specs.Prelude.{None, Ok, true, if◌then◌else◌};
 ghost use Rattle.hib_journal.specs.Sessions.{Journal, own};
 ghost use Rattle.hib_journal.specs.Next.{next};
 ghost use Rattle.hib_session.specs.Session.{Follows, is_ready, number_of};
@@ -16,7 +17,7 @@ use crate::journal::Noded;
 use crate::keys::shared_keys;
 use crate::names::Name;
 use crate::queue::{Queues, other_node};
-use crate::shared::Shared;
+use crate::shared::NodesShared;
 use hib_base::{Act, Commit, Entry, Key, Reply, Script, SessionNo, Tick};
 use hib_engines::Stepped;
 use hib_journal::part_of;
@@ -37,8 +38,8 @@ fn due_act(alloc: Global, script: &Script, session: &Session) -> Result<Option<A
     Ok(act)
 }
 
-/// Makes a session and the journal ready for one more entry, and gives its tick: one more than there are entries. At an error all is
-/// as before but for the room.
+/// Makes a session and the journal ready for one more entry, and gives its tick: one more than there are entries. At an
+/// error all is as before but for the room.
 fn prepare(
     alloc: Global,
     script: &Script,
@@ -57,8 +58,8 @@ fn prepare(
     Ok(Tick(journal.len() as u64 + 1))
 }
 
-/// What comes into the other node's queue if this act of a session is a commit that applies, with room for it there. At an error
-/// what waits is as before.
+/// What comes into the other node's queue if this act of a session is a commit that applies, with room for it there. At
+/// an error what waits is as before.
 fn keys_due(
     alloc: Global,
     script: &Script,
@@ -90,7 +91,8 @@ fn is_committed(reply: &Reply) -> bool
     }
 }
 
-/// The keys come into the other node's queue, where there is room for them, if the reply says that the commit was applied.
+/// The keys come into the other node's queue, where there is room for them, if the reply says that the commit was
+/// applied.
 fn note_commit(node: u8, reply: &Reply, keys: &[Key], queues: &mut Queues)
     requires { length keys.now ≤ (queue_in queues.old (other_node node)).spare }
     ensures pairs { (queue_in queues.new (other_node node)).pairs
@@ -106,13 +108,14 @@ fn note_commit(node: u8, reply: &Reply, keys: &[Key], queues: &mut Queues)
     }
 }
 
-/// The act that is due is answered, taken by its session, and its entry added: all of it, or if memory runs out nothing.
+/// The act that is due is answered, taken by its session, and its entry added: all of it, or if memory runs out
+/// nothing.
 fn serve<K: Keeper, N: Name>(
     alloc: Global,
     script: &Script,
     node: u8,
     session: &mut Session,
-    shared: &mut Shared<K>,
+    shared: &mut NodesShared<K>,
     act: Act,
     tick: Tick,
 ) -> Result<(), AllocError>
@@ -147,13 +150,14 @@ fn serve<K: Keeper, N: Name>(
     Ok(())
 }
 
-/// One act of a session at its node, if one is due. If memory runs out nothing has changed, but for the keeper's counts.
+/// One act of a session at its node, if one is due. If memory runs out nothing has changed, but for the keeper's
+/// counts.
 fn take_turn<K: Keeper, N: Name>(
     alloc: Global,
     script: &Script,
     node: u8,
     session: &mut Session,
-    shared: &mut Shared<K>,
+    shared: &mut NodesShared<K>,
 ) -> Result<Stepped, AllocError>
     requires script { script.now ≡ N.script }
     requires node { node ≡ node_of N.places (number_of session.old) }
@@ -177,15 +181,15 @@ fn take_turn<K: Keeper, N: Name>(
     Ok(Stepped::Did)
 }
 
-/// One act of the session of this number at its node, if one is due. If memory runs out nothing has changed, but for the keeper's
-/// counts.
+/// One act of the session of this number at its node, if one is due. If memory runs out nothing has changed, but for
+/// the keeper's counts.
 pub fn turn<K: Keeper, N: Name>(
     alloc: Global,
     script: &Script,
     node: u8,
     number: SessionNo,
     sessions: &mut Vec<Session>,
-    shared: &mut Shared<K>,
+    shared: &mut NodesShared<K>,
 ) -> Result<Stepped, AllocError>
     requires script { script.now ≡ N.script }
     requires node { node ≡ node_of N.places number }

@@ -12,7 +12,7 @@ use Rattle.hib_base.specs.Keys.{same_key}
 use Rattle.hib_base.specs.Tables.{Tables, after_change, after_changes, key_of}
 use Rattle.hib_journal.specs.Held.{is_break}
 use Rattle.hib_journal.specs.Types.{Key, Row, Change, Act, Reply, Entry}
-use Rattle.hib_order_judge.specs.Desks.{changes_at}
+use Rattle.hib_order_judge.specs.Dossiers.{changes_at}
 use Rattle.hib_order_judge.specs.Footings.{Basis, touched, basis_here, basis_after, basis_of, basis_at, rest_after, rest_at, row_from}
 use Rattle.hib_order_judge.specs.declared.footings.Footing.{Footing}
 use Rattle.hib_outside.proofs.Commits.{after_changes_push}

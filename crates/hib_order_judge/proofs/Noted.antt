@@ -15,8 +15,8 @@ use Rattle.hib_journal.specs.Sessions.{Journal, own, changes_in}
 use Rattle.hib_order_law.specs.Judged.{is_lost_by, rests_on, same_row}
 use Rattle.hib_order_law.specs.Orders.{onto}
 use Rattle.hib_order_judge.specs.Footings.{rest_at}
-use Rattle.hib_order_judge.specs.Desks.{IsDesk, IsKnown, AreDesks, is_lost_row, has_lost_row}
-use Rattle.hib_order_judge.specs.declared.desk.Desk.{Desk}
+use Rattle.hib_order_judge.specs.Dossiers.{IsDossier, IsKnown, AreDossiers, is_lost_row, has_lost_row}
+use Rattle.hib_order_judge.specs.declared.dossier.Dossier.{Dossier}
 use Rattle.hib_report.specs.declared.fates.Fate.{Fate}
 use Rattle.hib_order_judge.proofs.Footed.{rests_are}
 
@@ -34,11 +34,11 @@ own_outside : (n : ℕ) (e : Entry) (h : Journal) → e.session ≡ None → own
 own_outside n e h p = rw p refl
 
 -- an entry of no session
-pub noted_outside : (es : List Entry) (e : Entry) (h : Journal) (ds : List Desk) → e.session ≡ None → AreDesks es h ds → AreDesks es (e ∷ h) ds
+pub noted_outside : (es : List Entry) (e : Entry) (h : Journal) (ds : List Dossier) → e.session ≡ None → AreDossiers es h ds → AreDossiers es (e ∷ h) ds
 noted_outside es e h ds p a = λ s. subst (λ m. IsKnown es m (slice_get ds s)) (sym (own_outside s e h p)) (a s)
 
 -- a place that is set, and the others
-set_here : (ds : List Desk) (n : ℕ) (d : Desk) → n < length ds → slice_get (slice_set ds n d) n ≡ Some d
+set_here : (ds : List Dossier) (n : ℕ) (d : Dossier) → n < length ds → slice_get (slice_set ds n d) n ≡ Some d
 set_here [] n d l = absurd (no n l)
   where
     no : (k : ℕ) → k < 0 → ⊥
@@ -46,7 +46,7 @@ set_here [] n d l = absurd (no n l)
 set_here (x ∷ ds) zero d l = refl
 set_here (x ∷ ds) (suc n) d l = set_here ds n d (omega arith)
 
-set_apart : (ds : List Desk) (n s : ℕ) (d : Desk) → (n ≡ s → ⊥) → slice_get (slice_set ds n d) s ≡ slice_get ds s
+set_apart : (ds : List Dossier) (n s : ℕ) (d : Dossier) → (n ≡ s → ⊥) → slice_get (slice_set ds n d) s ≡ slice_get ds s
 set_apart [] n s d p = refl
 set_apart (x ∷ ds) zero zero d p = absurd (p refl)
 set_apart (x ∷ ds) zero (suc s) d p = refl
@@ -54,14 +54,14 @@ set_apart (x ∷ ds) (suc n) zero d p = refl
 set_apart (x ∷ ds) (suc n) (suc s) d p = set_apart ds n s d (λ e. p (ap suc e))
 
 -- an entry of a session, which was noted at its place
-pub noted : (es : List Entry) (s : ℕ) (e : Entry) (h : Journal) (ds : List Desk) (y z : Desk) → e.session ≡ Some s → s < length ds → y ≡ get_or ds s y → AreDesks es h ds
-    → ((mine : Journal) → IsDesk es mine y → IsDesk es (e ∷ mine) z) → AreDesks es (e ∷ h) (slice_set ds s z)
+pub noted : (es : List Entry) (s : ℕ) (e : Entry) (h : Journal) (ds : List Dossier) (y z : Dossier) → e.session ≡ Some s → s < length ds → y ≡ get_or ds s y → AreDossiers es h ds
+    → ((mine : Journal) → IsDossier es mine y → IsDossier es (e ∷ mine) z) → AreDossiers es (e ∷ h) (slice_set ds s z)
 noted es s e h ds y z p l v a f = λ n. at n (tested (s == n))
   where
     place : slice_get ds s ≡ Some y
     place = slice_get-get_or ds s y l ∙ ap Some (sym v)
 
-    was : IsDesk es (own s h) y
+    was : IsDossier es (own s h) y
     was = subst (IsKnown es (own s h)) place (a s)
 
     here : IsKnown es (own s (e ∷ h)) (slice_get (slice_set ds s z) s)
@@ -71,17 +71,17 @@ noted es s e h ds y z p l v a f = λ n. at n (tested (s == n))
     at n (inl q) = subst (λ m. IsKnown es (own m (e ∷ h)) (slice_get (slice_set ds s z) m)) (eqb-true s n q) here
     at n (inr q) = rw (own_other s n e h p q, set_apart ds s n z (λ e. true≢false (sym (eq-eqb s n e) ∙ q))) (a n)
 
-pub noted_at : (es : List Entry) (i s : ℕ) (e : Entry) (h : Journal) (ds : List Desk) (y z : Desk) → i ≡ s → y ≡ get_or ds i y → e.session ≡ Some s → s < length ds → AreDesks es h ds
-    → ((mine : Journal) → IsDesk es mine y → IsDesk es (e ∷ mine) z) → AreDesks es (e ∷ h) (slice_set ds i z)
+pub noted_at : (es : List Entry) (i s : ℕ) (e : Entry) (h : Journal) (ds : List Dossier) (y z : Dossier) → i ≡ s → y ≡ get_or ds i y → e.session ≡ Some s → s < length ds → AreDossiers es h ds
+    → ((mine : Journal) → IsDossier es mine y → IsDossier es (e ∷ mine) z) → AreDossiers es (e ∷ h) (slice_set ds i z)
 noted_at es i s e h ds y z g v p l a f =
-    subst (λ j. AreDesks es (e ∷ h) (slice_set ds j z)) (sym g) (noted es s e h ds y z p l (subst (λ n. y ≡ get_or ds n y) g v) a f)
+    subst (λ j. AreDossiers es (e ∷ h) (slice_set ds j z)) (sym g) (noted es s e h ds y z p l (subst (λ n. y ≡ get_or ds n y) g v) a f)
 
 -- one place more, of a session that has done nothing
-pub reached : (es : List Entry) (h : Journal) (ds : List Desk) (d : Desk) → IsDesk es [] d → AreDesks es h ds → AreDesks es h (ds ++ d ∷ [])
+pub reached : (es : List Entry) (h : Journal) (ds : List Dossier) (d : Dossier) → IsDossier es [] d → AreDossiers es h ds → AreDossiers es h (ds ++ d ∷ [])
 reached es h ds d b a = λ s. at ds s (own s h) (a s)
   where
-    at : (ds : List Desk) (s : ℕ) (m : Journal) → IsKnown es m (slice_get ds s) → IsKnown es m (slice_get (ds ++ d ∷ []) s)
-    at [] zero m e = subst (λ l. IsDesk es l d) (sym e) b
+    at : (ds : List Dossier) (s : ℕ) (m : Journal) → IsKnown es m (slice_get ds s) → IsKnown es m (slice_get (ds ++ d ∷ []) s)
+    at [] zero m e = subst (λ l. IsDossier es l d) (sym e) b
     at [] (suc s) m e = e
     at (x ∷ ds) zero m e = e
     at (x ∷ ds) (suc s) m e = at ds s m e
@@ -90,8 +90,8 @@ any_same : (cs : List Change) (p q : Change → Bool) → ((c : Change) → p c 
 any_same [] p q e = refl
 any_same (c ∷ cs) p q e = rw (e c, any_same cs p q e) refl
 
--- the changes of a desk are lost updates if those of its session are
-pub lost_is : (es : List Entry) (rows : Tables) (mine : Journal) (d : Desk) → IsDesk es mine d → has_lost_row es rows d ≡ is_lost_by rows mine (changes_in mine)
+-- the changes of a dossier are lost updates if those of its session are
+pub lost_is : (es : List Entry) (rows : Tables) (mine : Journal) (d : Dossier) → IsDossier es mine d → has_lost_row es rows d ≡ is_lost_by rows mine (changes_in mine)
 lost_is es rows mine d b =
     ap (list_any (λ c. is_lost_row rows (key_of c) (rest_at es d.rests.entries (key_of c)))) b.written
     ∙ any_same (changes_in mine) (λ c. is_lost_row rows (key_of c) (rest_at es d.rests.entries (key_of c)))

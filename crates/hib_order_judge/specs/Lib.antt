@@ -1,3 +1,3 @@
-pub mod Desks
+pub mod Dossiers
 pub mod Footings
 pub mod Verdicts

@@ -7,8 +7,8 @@ use hib_base::{Entry, Outcome, Script};
 use hib_report::Fates;
 use std::alloc::{AllocError, Global};
 
-/// Of each session of a script, by number, the outcome of its last transaction in a run of these entries, the oldest first. Want of
-/// memory alone is an error.
+/// Of each session of a script, by number, the outcome of its last transaction in a run of these entries, the oldest
+/// first. Want of memory alone is an error.
 pub fn ending(alloc: Global, script: &Script, entries: &[Entry]) -> Result<Vec<Outcome>, AllocError>
     ensures { IfOk result (λ v. v.items ≡ ending script.now (onto entries.now [])) }
 {

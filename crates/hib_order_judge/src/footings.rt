@@ -2,11 +2,13 @@
 ghost use Rattle.hib_base.specs.Keys.{same_key};
 ghost use Rattle.hib_journal.specs.Held.{is_break};
 ghost use Rattle.hib_journal.specs.Types.{Entry, Key};
-ghost use Rattle.hib_order_judge.specs.Footings.{basis_after, basis_at, basis_here, basis_of, basis_written, rest_after, rest_at, row_from, row_given, touched};
+ghost use Rattle.hib_order_judge.specs.Footings.{basis_after, basis_at, basis_here, basis_of, basis_written};
+ghost use Rattle.hib_order_judge.specs.Footings.{rest_after, rest_at, row_from, row_given, touched};
 ghost use Rattle.hib_base.specs.Tables.{row_left};
 ghost use Rattle.std.specs.Map.{lookup};
 ghost use Rattle.std.specs.Option.{option_or};
-ghost use Rattle.std.specs.Prelude.{◌≡◌, if◌then◌else◌, List, None, Some, OnOk, option_and_then, option_copied, option_map, slice_get};
+ghost use Rattle.std.specs.Prelude.{◌≡◌, if◌then◌else◌, List, None, Some, OnOk, option_and_then, option_copied};
+ghost use Rattle.std.specs.Prelude.{option_map, slice_get};
 
 use hib_base::{Act, Change, Commit, Entry, Key, Reply, Row};
 use indexmap::IndexMap;

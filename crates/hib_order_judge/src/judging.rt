@@ -2,12 +2,12 @@
 ghost use Rattle.hib_base.specs.Tables.{Tables, in_order};
 ghost use Rattle.hib_base.specs.declared.scripts.Script.{Script};
 ghost use Rattle.hib_journal.specs.Sessions.{Journal, committed, is_empty};
-ghost use Rattle.hib_order_judge.specs.Desks.{AreDesks};
+ghost use Rattle.hib_order_judge.specs.Dossiers.{AreDossiers};
 ghost use Rattle.hib_order_judge.specs.Verdicts.{verdicts, verdicts_of};
 ghost use Rattle.hib_order_law.specs.Judged.{is_lost_update};
 ghost use Rattle.std.specs.Prelude.{◌≡◌, ◌∷◌, ◌||◌, [], IfOk, OnOk, false, true};
 
-use crate::desks::Desks;
+use crate::dossiers::Dossiers;
 use crate::laying::{committer, rows_after};
 use crate::tests_of::{is_old_list, is_refused, is_stale_hit};
 use hib_base::{Entry, Key, Rows, Script};
@@ -31,14 +31,14 @@ fn none() -> Verdicts
 }
 
 /// Whether an entry is a commit of a change that rests on a row which is not the committed one any more.
-fn is_lost_update(entries: &[Entry], rows: &Rows, desks: &Desks<'_>, entry: &Entry) -> bool
+fn is_lost_update(entries: &[Entry], rows: &Rows, dossiers: &Dossiers<'_>, entry: &Entry) -> bool
     requires { in_order rows.now ≡ true }
-    ensures { (start : Tables) (h : Journal) → AreDesks entries.now h desks.now.all.items
+    ensures { (start : Tables) (h : Journal) → AreDossiers entries.now h dossiers.now.all.items
         → rows.now ≡ committed start h → result ≡ is_lost_update start h entry.now }
 {
     match committer(entry) {
         None => false,
-        Some(session) => desks.has_lost_row(entries, session, rows),
+        Some(session) => dossiers.has_lost_row(entries, session, rows),
     }
 }
 
@@ -49,27 +49,27 @@ fn either(a: bool, b: bool) -> bool
     a || b
 }
 
-/// Takes the next entry, one of these, before which these rows are committed and this is known of the sessions. Of keys nothing is
-/// judged.
+/// Takes the next entry, one of these, before which these rows are committed and this is known of the sessions. Of keys
+/// nothing is judged.
 fn note(
     judged: &mut Verdicts,
     alloc: Global,
     script: &Script,
     entries: &[Entry],
     rows: &Rows,
-    desks: &Desks<'_>,
+    dossiers: &Dossiers<'_>,
     entry: &Entry,
 ) -> Result<(), AllocError>
     requires { in_order rows.now ≡ true }
-    ensures { OnOk result ((start : Tables) (h : Journal) → AreDesks entries.now h desks.now.all.items
+    ensures { OnOk result ((start : Tables) (h : Journal) → AreDossiers entries.now h dossiers.now.all.items
         → rows.now ≡ committed start h
         → judged.old ≡ record (verdicts script.now start h) { unsound_key = false }
         → judged.new ≡ record (verdicts script.now start (entry.now ∷ h)) { unsound_key = false }) }
 {
-    let is_old = is_old_list(alloc, script, rows, desks.found(entry.session), entry)?;
+    let is_old = is_old_list(alloc, script, rows, dossiers.found(entry.session), entry)?;
     let old_list = either(is_old, judged.old_list);
     let stale_hit = either(is_stale_hit(rows, entry), judged.stale_hit);
-    let is_lost = is_lost_update(entries, rows, desks, entry);
+    let is_lost = is_lost_update(entries, rows, dossiers, entry);
     let lost_update = either(is_lost, judged.lost_update);
     let refused_commit = either(is_refused(entry), judged.refused_commit);
     *judged = Verdicts {
@@ -94,13 +94,21 @@ fn judge_entries(
         { unsound_key = false }) }
 {
     let mut rows = start;
-    let mut desks = Desks::new(alloc);
+    let mut dossiers = Dossiers::new(alloc);
     let mut verdicts = none();
     for place in 0..entries.len() {
         let entry = &entries[place];
-        note(&mut verdicts, alloc, script, entries, &rows, &desks, entry)?;
-        rows = rows_after(alloc, rows, &desks, entry)?;
-        desks.note(alloc, place, entry)?;
+        note(
+            &mut verdicts,
+            alloc,
+            script,
+            entries,
+            &rows,
+            &dossiers,
+            entry,
+        )?;
+        rows = rows_after(alloc, rows, &dossiers, entry)?;
+        dossiers.note(alloc, place, entry)?;
     }
     Ok(verdicts)
 }
@@ -112,8 +120,8 @@ fn is_none(keys: &BTreeSet<Key>) -> bool
     keys.is_empty()
 }
 
-/// Judges a run, of which these are the committed rows at the start and the entries, the oldest first. Want of memory alone is an
-/// error.
+/// Judges a run, of which these are the committed rows at the start and the entries, the oldest first. Want of memory
+/// alone is an error.
 pub fn judge(
     alloc: Global,
     script: &Script,

@@ -2,10 +2,10 @@
 ghost use Rattle.hib_base.specs.Tables.{Tables, after_change, after_changes, in_order};
 ghost use Rattle.hib_journal.specs.Sessions.{Journal, committed, committer};
 ghost use Rattle.hib_journal.specs.Types.{Entry};
-ghost use Rattle.hib_order_judge.specs.Desks.{AreDesks, changes_at};
+ghost use Rattle.hib_order_judge.specs.Dossiers.{AreDossiers, changes_at};
 ghost use Rattle.std.specs.Prelude.{◌≡◌, ◌∷◌, List, IfOk, OnOk, true};
 
-use crate::desks::Desks;
+use crate::dossiers::Dossiers;
 use hib_base::{Act, Change, Commit, Entry, Key, Reply, Row, Rows, Seq, SessionNo};
 use hib_outside::keyed;
 use std::alloc::{AllocError, Global};
@@ -56,20 +56,20 @@ fn lay_all(alloc: Global, rows: Rows, changes: &[&Change]) -> Result<Rows, Alloc
 pub fn rows_after(
     alloc: Global,
     rows: Rows,
-    desks: &Desks<'_>,
+    dossiers: &Dossiers<'_>,
     entry: &Entry,
 ) -> Result<Rows, AllocError>
     requires { in_order rows ≡ true }
     ensures rows { IfOk result (λ r. (start : Tables) (h : Journal)
-        (es : List Entry) → AreDesks es h desks.now.all.items → rows ≡ committed start h
+        (es : List Entry) → AreDossiers es h dossiers.now.all.items → rows ≡ committed start h
         → r ≡ committed start (entry.now ∷ h)) }
     ensures ordered { IfOk result (λ r. in_order r ≡ true) }
 {
     let Some(session) = committer(entry) else {
         return Ok(rows);
     };
-    match desks.of(session) {
+    match dossiers.of(session) {
         None => Ok(rows),
-        Some(desk) => lay_all(alloc, rows, desk.written.as_slice()),
+        Some(dossier) => lay_all(alloc, rows, dossier.written.as_slice()),
     }
 }

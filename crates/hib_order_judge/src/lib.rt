@@ -1,8 +1,8 @@
 //! Judges a run in one pass over its entries.
 #![tactic(auto)]
 
-mod desk;
-mod desks;
+mod dossier;
+mod dossiers;
 mod endings;
 mod footings;
 mod judging;

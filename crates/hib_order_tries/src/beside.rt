@@ -1,7 +1,8 @@
 // The first steps of the other orders of one.
 ghost use Rattle.hib_order_law.specs.Orders.{comes, cost, same_step, switches};
 ghost use Rattle.hib_order_law.specs.declared.step.Step.{Step};
-ghost use Rattle.hib_order_tries.specs.Left.{AreBeside, AreLeft, AreOpen, IsAdded, IsBefore, cost_left, first_of, is_at};
+ghost use Rattle.hib_order_tries.specs.Left.{AreBeside, AreLeft, AreOpen, IsAdded, IsBefore, cost_left, first_of};
+ghost use Rattle.hib_order_tries.specs.Left.{is_at};
 ghost use Rattle.hib_order_tries.specs.Tail.{IsTail};
 ghost use Rattle.std.specs.Prelude.{◌≡◌, ◌++◌, ◌∷◌, ◌+◌, ◌<◌, ◌≤◌, ◌^◌, [], IfOk, OnOk, drop, false, length, map, take};
 
@@ -40,7 +41,8 @@ struct Before {
 }
 
 impl Before {
-    /// What the steps before a place of an order cost, of which the tail from that place on is known and how many switches it makes.
+    /// What the steps before a place of an order cost, of which the tail from that place on is known and how many
+    /// switches it makes.
     fn of(order: &[Step], at: usize, tail: &Tail, total: usize) -> Before
         requires inside { at ≤ length order.now }
         requires tail { IsTail (drop at order.now) tail.now.steps.items tail.now.first
@@ -142,7 +144,8 @@ impl Beginnings {
         }
     }
 
-    /// Adds those that leave an order at a place with a step. They are built if they cost no more switches than a level.
+    /// Adds those that leave an order at a place with a step. They are built if they cost no more switches than a
+    /// level.
     fn add(
         &mut self,
         alloc: Global,
@@ -191,8 +194,8 @@ impl Beginnings {
         Ok(())
     }
 
-    /// Adds those that leave an order at a place, of which the tail from that place on is known, how many switches it makes, and which
-    /// kills may come there.
+    /// Adds those that leave an order at a place, of which the tail from that place on is known, how many switches it
+    /// makes, and which kills may come there.
     fn leave(
         &mut self,
         alloc: Global,
@@ -217,10 +220,11 @@ impl Beginnings {
     }
 }
 
-/// The first steps of the other orders of one that share so many steps at least, if they cost no more switches than a level; and whether
-/// there are others. From there on the order kills no session. `turns` says what each of its steps does to its session, `may_kill`
-/// whether one more session may be killed, and `total` how many switches it makes. What is built is what is answered; beside that each
-/// step of the order takes as long as there are sessions, and if a session may be killed, the open ones are kept for each step.
+/// The first steps of the other orders of one that share the first `from` steps at least, if they cost no more switches
+/// than a level; and whether there are others. From there on the order kills no session. `turns` says what each of its
+/// steps does to its session, `may_kill` whether one more session may be killed, and `total` how many switches it
+/// makes. What is built is what is answered; beside that each step of the order takes as long as there are sessions,
+/// and if a session may be killed, the open ones are kept for each step.
 pub fn others(
     alloc: Global,
     order: &[Step],

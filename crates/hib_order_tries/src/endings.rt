@@ -2,7 +2,8 @@
 ghost use Rattle.hib_base.specs.declared.replies.Outcome.{Outcome};
 ghost use Rattle.hib_order_tries.specs.Found.{AreApart, ended_so};
 ghost use Rattle.hib_order_tries.specs.Marks.{mark_of, marks_of};
-ghost use Rattle.std.specs.Prelude.{◌≡◌, ◌+◌, ◌<◌, ◌^◌, ◌-◌, Bool, List, [], IfOk, OnErr, OnOk, if◌then◌else◌, length, option_copied, slice_get, true};
+ghost use Rattle.std.specs.Prelude.{◌≡◌, ◌+◌, ◌<◌, ◌^◌, ◌-◌, Bool, List, [], IfOk, OnErr, OnOk, if◌then◌else◌, length};
+ghost use Rattle.std.specs.Prelude.{option_copied, slice_get, true};
 
 use hib_base::Outcome;
 use indexmap::IndexMap;
@@ -18,7 +19,8 @@ pub struct Ending {
     pub count: u64,
 }
 
-/// How the orders that were tried have ended: each ending once, in the order of their first orders. Contracts see a list of endings.
+/// How the orders that were tried have ended: each ending once, in the order of their first orders. Contracts see a
+/// list of endings.
 #[derive(Drop)]
 pub struct Endings {
     by_marks: IndexMap<Vec<u8>, Ending>,

@@ -4,7 +4,8 @@ ghost use Rattle.hib_base.specs.declared.replies.Outcome.{Outcome};
 ghost use Rattle.hib_order_law.specs.Orders.{steps_in, switches};
 ghost use Rattle.hib_order_tries.specs.Found.{AreCounted, AreFindings, IsBelow, IsFound};
 ghost use Rattle.hib_order_tries.specs.Amid.{AreJudged, IsJudged};
-ghost use Rattle.std.specs.Prelude.{◌≡◌, ◌∷◌, ◌<◌, ◌^◌, ◌-◌, ◌+◌, ◌==◌, ℕ, Bool, List, [], IfNone, IfSome, OnOk, if◌then◌else◌, slice_index_or, true};
+ghost use Rattle.std.specs.Prelude.{◌≡◌, ◌∷◌, ◌<◌, ◌^◌, ◌-◌, ◌+◌, ◌==◌, ℕ, Bool, List, [], IfNone, IfSome, OnOk};
+ghost use Rattle.std.specs.Prelude.{if◌then◌else◌, slice_index_or, true};
 
 use crate::endings::Endings;
 use crate::player::Played;
@@ -39,7 +40,7 @@ impl Found {
         }
     }
 
-    /// Whether an order with so many switches comes before the first that was found.
+    /// Whether an order with `total` switches comes before the first that was found.
     fn is_before(&self, total: usize) -> bool
         ensures none { IfNone self.now.first (result ≡ true) }
         ensures some { IfSome self.now.first (λ f. IsBelow total f.switches result) }
@@ -50,7 +51,7 @@ impl Found {
         }
     }
 
-    /// Takes one more order, which makes so many switches and has it or not.
+    /// Takes one more order, which makes `total` switches and has it or not.
     fn note(
         &mut self,
         alloc: Global,
@@ -98,7 +99,7 @@ pub struct Findings {
     pub unsound_key: Found,
 }
 
-/// Counts one more order among those that make so many switches.
+/// Counts one more order among those that make this many switches.
 fn count_level(levels: &mut Vec<u64>, switches: usize) -> Result<(), AllocError>
     requires { slice_index_or levels.old.items switches 0 < 2 ^ 64 - 1 }
     ensures { OnOk result ((k : ℕ) → slice_index_or levels.new.items k 0
@@ -135,7 +136,7 @@ impl Findings {
         }
     }
 
-    /// Takes what is judged of one more order, which makes so many switches.
+    /// Takes what is judged of one more order, which makes `total` switches.
     fn note_verdicts(
         &mut self,
         alloc: Global,
@@ -159,7 +160,7 @@ impl Findings {
             .note(alloc, verdicts.unsound_key, order, total)
     }
 
-    /// Takes one more order, which makes so many switches.
+    /// Takes one more order, which makes `total` switches.
     pub fn note(&mut self, alloc: Global, run: Played, total: usize) -> Result<(), AllocError>
         requires room { self.old.tried < 2 ^ 64 - 1 }
         requires counts { AreCounted self.old }

@@ -8,8 +8,8 @@ ghost use Rattle.hib_order_tries.specs.Found.{IsFound};
 ghost use Rattle.hib_order_tries.specs.declared.found.Found.{Found};
 ghost use Rattle.std.specs.Prelude.{◌≡◌, ◌+◌, ℕ, Bool, List, IfNone, IfSome, false, true};
 
-/// If all orders within a number of switches and one of kills were tried and none is told to have something, then no run within these
-/// has it, whoever made it. And an order that is told to have it is that of a run that has it.
+/// If all orders within a number of switches and one of kills were tried and none is told to have something, then no
+/// run within these has it, whoever made it. And an order that is told to have it is that of a run that has it.
 pub fn what_is_told_is_so()
     ensures none { (script : Script) (start : Tables) (has : List Entry → Bool) (most_kills most : ℕ)
         (runs : List (List Entry)) (found : Found)

@@ -1,4 +1,5 @@
-//! Tries each order of sessions and kills within a number of switches, those with the fewest first, and says which of them end badly.
+//! Tries each order of sessions and kills within a number of switches, those with the fewest first, and says which of
+//! them end badly.
 #![tactic(auto)]
 
 mod beside;

@@ -40,9 +40,9 @@ pub trait Player {
     /// How each session of a run has ended.
     ghost ended: { List Entry → List Outcome };
 
-    /// Plays a run that begins with these steps, to the end of each session that isn't killed; after these steps none is killed. Each of
-    /// the steps may come at its turn. Want of memory is the only error. After it the player may answer want of memory for ever; a run
-    /// that it does play is played as if this one had not been asked for.
+    /// Plays a run that begins with these steps, to the end of each session that isn't killed; after these steps none
+    /// is killed. Each of the steps may come at its turn. Want of memory is the only error. After it the player may
+    /// answer want of memory for ever; a run that it does play is played as if this one had not been asked for.
     fn play(&mut self, alloc: Global, begun: &[Step]) -> Result<Played, AllocError>
         requires { can_begin script start [] begun.now ≡ true }
         ensures { IfOk result (λ p. IsPlayed script start judged ended begun.now p.order.items

@@ -2,7 +2,8 @@
 ghost use Rattle.hib_order_law.specs.Orders.{comes, leaves, switches, whose};
 ghost use Rattle.hib_order_law.specs.declared.step.Step.{Step};
 ghost use Rattle.hib_order_tries.specs.Tail.{IsTail};
-ghost use Rattle.std.specs.Prelude.{◌≡◌, ◌∷◌, ◌<◌, ◌≤◌, ◌^◌, ℕ, List, [], IfOk, IfNone, IfSome, OnOk, None, Some, length, drop};
+ghost use Rattle.std.specs.Prelude.{◌≡◌, ◌∷◌, ◌<◌, ◌≤◌, ◌^◌, ℕ, List, [], IfOk, IfNone, IfSome, OnOk, None, Some};
+ghost use Rattle.std.specs.Prelude.{length, drop};
 
 use hib_order_law::Step;
 use std::alloc::{AllocError, Global};

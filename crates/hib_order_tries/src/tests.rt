@@ -1,10 +1,10 @@
-// Searches of made-up sessions, of which each has so many steps, and each step is due whatever the others have made. A session is open from
-// its first step to its last, and if it has one alone it stays open.
+// Searches of made-up sessions, of which each has a number of steps, and each step is due whatever the others have
+// made. A session is open from its first step to its last, and if it has one alone it stays open.
 ghost use Rattle.hib_order_tries.specs.Found.{AreCounted};
 ghost use Rattle.std.specs.Prelude.{◌≡◌, ◌+◌, ◌≤◌, IfOk, OnOk, length};
 
 use crate::player::{Played, Player};
-use crate::trying::{Progress, Told, search};
+use crate::trying::{Searching, Told, search};
 use hib_base::Outcome;
 use hib_order_law::{Step, Turn, Verdicts};
 use std::alloc::{AllocError, Global};
@@ -49,7 +49,8 @@ fn finished(alloc: Global, steps: &[u32], begun: &[Step]) -> Result<Vec<Step>, A
     Ok(order)
 }
 
-/// What a step does to its session, if the session makes so many steps: the first opens it, and its last one closes it, if it is another.
+/// What a step does to its session, if the session makes `all` steps: the first opens it, and its last one closes it,
+/// if it is another.
 fn turn_by(all: Option<&u32>, made: usize) -> Turn {
     match all {
         None => Turn::GoesOn,
@@ -78,7 +79,8 @@ fn turns(alloc: Global, steps: &[u32], order: &[Step]) -> Result<Vec<Turn>, Allo
     Ok(turns)
 }
 
-/// A run that begins so. A hit is stale if session 1 makes the first step, and session 0 is refused if it makes the last one.
+/// A run that begins so. A hit is stale if session 1 makes the first step, and session 0 is refused if it makes the
+/// last one.
 fn play(alloc: Global, steps: &[u32], begun: &[Step]) -> Result<Played, AllocError>
     ensures order { IfOk result (λ p. length begun.now ≤ length p.order.items) }
     ensures turns { IfOk result (λ p. length p.turns.items ≡ length p.order.items) }
@@ -119,7 +121,7 @@ fn searched_killing(
     most: usize,
     limit: u64,
 ) -> Result<Told, AllocError> {
-    let mut progress = Progress::new(alloc)?;
+    let mut progress = Searching::new(alloc)?;
     for played in 0..1000 {
         let Some(begun) = progress.waiting.next(alloc, most) else {
             return Ok(progress.told(true, played));

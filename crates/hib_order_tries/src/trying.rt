@@ -7,12 +7,13 @@ ghost use Rattle.hib_order_law.specs.declared.step.Step.{Step};
 ghost use Rattle.hib_order_law.specs.declared.verdicts.Verdicts.{Verdicts};
 ghost use Rattle.hib_order_tries.specs.Amid.{IsAmid};
 ghost use Rattle.hib_order_tries.specs.Found.{AreCounted, IsPlayed, IsTold};
-ghost use Rattle.std.specs.Prelude.{◌≡◌, ◌∷◌, ◌++◌, ◌⊎◌, ◌<◌, ◌≤◌, ◌^◌, ◌-◌, ℕ, List, [], IfOk, OnOk, false, length, map, true};
+ghost use Rattle.std.specs.Prelude.{◌≡◌, ◌∷◌, ◌++◌, ◌⊎◌, ◌<◌, ◌≤◌, ◌^◌, ◌-◌, ℕ, List, [], IfOk, OnOk, false, length};
+ghost use Rattle.std.specs.Prelude.{map, true};
 
 use crate::beside::switches;
 use crate::found::Findings;
 use crate::player::{Played, Player};
-use crate::waiting::Waiting;
+use crate::waiting::Untried;
 use std::alloc::{AllocError, Global};
 
 /// What a search came to.
@@ -30,16 +31,16 @@ pub struct Told {
 
 /// A search between two plays.
 #[derive(Drop)]
-pub struct Progress {
+pub struct Searching {
     /// What waits to be played.
-    pub waiting: Waiting,
+    pub waiting: Untried,
     /// What was found.
     pub findings: Findings,
 }
 
-impl Progress {
+impl Searching {
     /// Nothing was played.
-    pub fn new(alloc: Global) -> Result<Progress, AllocError>
+    pub fn new(alloc: Global) -> Result<Searching, AllocError>
         ensures tried { IfOk result (λ s. s.findings.tried ≡ 0) }
         ensures counts { IfOk result (λ s. AreCounted s.findings) }
         ensures level { IfOk result (λ s. s.waiting.level ≡ 0) }
@@ -49,14 +50,14 @@ impl Progress {
             → IsAmid script start judged ended most_kills most s.waiting.level
             (map (λ v. v.items) s.waiting.now.items) s.waiting.beyond s.findings) }
     {
-        let waiting = Waiting::new(alloc)?;
-        Ok(Progress {
+        let waiting = Untried::new(alloc)?;
+        Ok(Searching {
             waiting,
             findings: Findings::none(alloc),
         })
     }
 
-    /// Takes a run that was played and begins with first steps that waited, so many; as many kills may come as the bound says. False if
+    /// Takes a run that was played, whose first `from` steps waited; as many kills may come as the bound says. False if
     /// it is one more than may be tried: then nothing has changed.
     pub fn take(
         &mut self,
@@ -114,9 +115,10 @@ impl Progress {
     }
 }
 
-/// Tries the orders within a number of switches and a number of kills, those with the fewest switches first, each once, and so many of
-/// them at most: `limit`. All are tried unless there are more than that, or 2^64 - 1 runs were played. What is kept grows with the script
-/// and with the endings that are told, and not with the orders. An error is want of memory, and then nothing is told.
+/// Tries the orders within a number of switches and a number of kills, those with the fewest switches first, each once,
+/// and `limit` of them at most. All are tried unless there are more than that, or 2^64 - 1 runs were played. What is
+/// kept grows with the script and with the endings that are told, and not with the orders. An error is want of memory,
+/// and then nothing is told.
 pub fn search<P: Player>(
     alloc: Global,
     player: &mut P,
@@ -131,7 +133,7 @@ pub fn search<P: Player>(
     ensures whole { IfOk result (λ t.
         (t.whole ≡ true) ⊎ (t.findings.tried ≡ limit) ⊎ (t.played ≡ 2 ^ 64 - 1)) }
 {
-    let mut progress = Progress::new(alloc)?;
+    let mut progress = Searching::new(alloc)?;
     for played in 0..u64::MAX {
         let Some(begun) = progress.waiting.next(alloc, most) else {
             return Ok(progress.told(true, played));

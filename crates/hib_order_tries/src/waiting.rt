@@ -5,7 +5,8 @@ ghost use Rattle.hib_base.specs.declared.scripts.Script.{Script};
 ghost use Rattle.hib_order_law.specs.Orders.{kills, switches};
 ghost use Rattle.hib_order_law.specs.Search.{AreTried, IsSearch};
 ghost use Rattle.hib_order_tries.specs.Left.{IsTurned};
-ghost use Rattle.std.specs.Prelude.{◌≡◌, ◌∷◌, ◌++◌, ◌+◌, ◌≤◌, ◌^◌, ◌<◌, ℕ, List, [], IfNone, IfOk, IfSome, OnOk, length, map, false};
+ghost use Rattle.std.specs.Prelude.{◌≡◌, ◌∷◌, ◌++◌, ◌+◌, ◌≤◌, ◌^◌, ◌<◌, ℕ, List, [], IfNone, IfOk, IfSome, OnOk};
+ghost use Rattle.std.specs.Prelude.{length, map, false};
 
 use crate::beside::others;
 use crate::openings::may_kill;
@@ -14,7 +15,7 @@ use std::alloc::{AllocError, Global};
 
 /// The first steps that wait to be tried.
 #[derive(Drop)]
-pub struct Waiting {
+pub struct Untried {
     /// How many switches they may cost.
     pub level: usize,
     /// The first steps.
@@ -23,24 +24,24 @@ pub struct Waiting {
     pub beyond: bool,
 }
 
-impl Waiting {
+impl Untried {
     /// The beginning of all orders, which has no step.
-    pub fn new(alloc: Global) -> Result<Waiting, AllocError>
+    pub fn new(alloc: Global) -> Result<Untried, AllocError>
         ensures level { IfOk result (λ w. w.level ≡ 0) }
         ensures now { IfOk result (λ w. map (λ v. v.items) w.now.items ≡ [] ∷ []) }
         ensures beyond { IfOk result (λ w. w.beyond ≡ false) }
     {
         let mut now = Vec::new(alloc);
         now.push(Vec::new(alloc))?;
-        Ok(Waiting {
+        Ok(Untried {
             level: 0,
             now,
             beyond: false,
         })
     }
 
-    /// Takes one. If none waits, then the beginning of all orders comes again, for those that make one more switch; and none if no
-    /// order makes so many, or none may.
+    /// Takes one. If none waits, then the beginning of all orders comes again, for those that make one more switch; and
+    /// none if no order makes as many as that, or none may.
     pub fn next(&mut self, alloc: Global, most: usize) -> Option<Vec<Step>>
         ensures level { self.old.level ≤ most → self.new.level ≤ most }
         ensures some { IfSome result (λ b. (script : Script) (start : Tables) (most_kills : ℕ)
@@ -67,8 +68,8 @@ impl Waiting {
         Some(Vec::new(alloc))
     }
 
-    /// After a run was played that begins with the first steps that were taken, so many, and kills no session after them: those of its other
-    /// orders wait that cost no more switches than the level and have no more kills than may come.
+    /// After a run was played whose first `from` steps were taken from here, and which kills no session after them:
+    /// those of its other orders wait that cost no more switches than the level and have no more kills than may come.
     pub fn add(
         &mut self,
         alloc: Global,

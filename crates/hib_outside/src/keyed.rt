@@ -12,7 +12,9 @@ pub(crate) fn is_same(a: &Key, b: &Key) -> bool
     a == b
 }
 
-pub(crate) fn comes_before(a: &Key, b: &Key) -> bool
+/// Whether a key comes before another: by entity, then by identifier.
+#[inline]
+pub fn comes_before(a: &Key, b: &Key) -> bool
     ensures { result ≡ is_before a.now b.now }
 {
     a.entity.0 < b.entity.0 || (a.entity.0 == b.entity.0 && a.id < b.id)

@@ -219,7 +219,8 @@ pub fn change_all(rows: &mut Vec<(Key, Row)>, changes: Vec<Change>)
     }
 }
 
-/// Whether changes are many beside so many rows, and their keys rise or fall all along: from one to the next few rows are passed then.
+/// Whether changes are many beside the number of rows, and their keys rise or fall all along: from one to the next few
+/// rows are passed then.
 fn is_sweep(changes: &[Change], rows: usize) -> bool {
     if changes.len() < rows / 8 {
         return false;

@@ -24,7 +24,7 @@ use hib_outside::Keeper;
 use std::alloc::{AllocError, Global};
 
 /// The tick of a step: one more than the greater of the last ticks of its part and of its session. If there is none after that,
-/// want of memory is answered: no memory holds so many entries.
+/// want of memory is answered: no memory holds as many entries as that.
 fn tick_of(part: Tick, session: Tick) -> Result<Tick, AllocError>
     requires part { part ≤ 2 ^ 62 }
     requires session { session ≤ 2 ^ 62 }

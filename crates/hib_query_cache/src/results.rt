@@ -11,7 +11,7 @@ use std::alloc::{AllocError, Global};
 use std::marker::Model;
 use std::num::NonZeroUsize;
 
-/// The results of at most so many queries as the capacity, each with its time. Contracts see the capacity, and the
+/// The results of as many queries as the capacity at most, each with its time. Contracts see the capacity, and the
 /// results with the most recently used first.
 #[derive(Drop)]
 pub struct Results {

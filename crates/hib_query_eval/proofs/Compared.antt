@@ -137,101 +137,88 @@ nat_tied a b h = eqb-true a b (sym (unsigned_tied a b) ∙ h)
 nat_ties : (a b : ℕ) → a ≡ b → is_eq (nat_cmp a b) ≡ true
 nat_ties a b e = unsigned_tied a b ∙ eq-eqb a b e
 
-module _ (e c i : ℕ) (d : Cell) where
-  place_tied : (a b : Place) → is_eq (place_cmp a b) ≡ true → is_place e c i d a ≡ is_place e c i d b
+module _ (i : ℕ) (d : Cell) where
+  place_tied : (a b : Place) → is_eq (place_cmp a b) ≡ true → is_place i d a ≡ is_place i d b
   place_tied a b h =
-      let p : (is_eq (nat_cmp a.entity b.entity) ≡ true) × (is_eq (ordering_then (nat_cmp a.column b.column) (ordering_then (value_cmp a.value b.value) (nat_cmp a.id b.id))) ≡ true) =
-      then_parts (nat_cmp a.entity b.entity) (ordering_then (nat_cmp a.column b.column) (ordering_then (value_cmp a.value b.value) (nat_cmp a.id b.id))) h in
-      let q : (is_eq (nat_cmp a.column b.column) ≡ true) × (is_eq (ordering_then (value_cmp a.value b.value) (nat_cmp a.id b.id)) ≡ true) =
-      then_parts (nat_cmp a.column b.column) (ordering_then (value_cmp a.value b.value) (nat_cmp a.id b.id)) p.1 in
-      let r : (is_eq (value_cmp a.value b.value) ≡ true) × (is_eq (nat_cmp a.id b.id) ≡ true) = then_parts (value_cmp a.value b.value) (nat_cmp a.id b.id) q.1 in
-      alike a.entity b.entity a.column b.column (cell_in a.value) (cell_in b.value) a.id b.id (nat_tied a.entity b.entity p.0) (nat_tied a.column b.column q.0)
-      (value_tied a.value b.value r.0) (nat_tied a.id b.id r.1)
+      let r : (is_eq (value_cmp a.value b.value) ≡ true) × (is_eq (nat_cmp a.id b.id) ≡ true) = then_parts (value_cmp a.value b.value) (nat_cmp a.id b.id) h in
+      alike (cell_in a.value) (cell_in b.value) a.id b.id (value_tied a.value b.value r.0) (nat_tied a.id b.id r.1)
     where
-      alike : (e' f c' g : ℕ) (v w : Option Cell) (i' j : ℕ) → e' ≡ f → c' ≡ g → v ≡ w → i' ≡ j
-          → ((e == e') && ((c == c') && (option_map_or (same_cell d) v false && (i == i')))) ≡ ((e == f) && ((c == g) && (option_map_or (same_cell d) w false && (i == j))))
-      alike e' f c' g v w i' j p q r s = λ x. (e == p x) && ((c == q x) && (option_map_or (same_cell d) (r x) false && (i == s x)))
+      alike : (v w : Option Cell) (i' j : ℕ) → v ≡ w → i' ≡ j → (option_map_or (same_cell d) v false && (i == i')) ≡ (option_map_or (same_cell d) w false && (i == j))
+      alike v w i' j r s = λ x. option_map_or (same_cell d) (r x) false && (i == s x)
 
   abbrev pub Parts : Place → Type 0
-  Parts p = (e ≡ p.entity) × (c ≡ p.column) × (cell_in p.value ≡ Some d) × (i ≡ p.id)
+  Parts p = (cell_in p.value ≡ Some d) × (i ≡ p.id)
 
-  pub place_parts : (p : Place) → is_place e c i d p ≡ true → Parts p
+  pub place_parts : (p : Place) → is_place i d p ≡ true → Parts p
   place_parts p h =
-      let x : ((e == p.entity) ≡ true) × (((c == p.column) && (option_map_or (same_cell d) (cell_in p.value) false && (i == p.id))) ≡ true) =
-      and_parts (e == p.entity) ((c == p.column) && (option_map_or (same_cell d) (cell_in p.value) false && (i == p.id))) h in
-      let y : ((c == p.column) ≡ true) × ((option_map_or (same_cell d) (cell_in p.value) false && (i == p.id)) ≡ true) =
-      and_parts (c == p.column) (option_map_or (same_cell d) (cell_in p.value) false && (i == p.id)) x.1 in
-      let z : (option_map_or (same_cell d) (cell_in p.value) false ≡ true) × ((i == p.id) ≡ true) = and_parts (option_map_or (same_cell d) (cell_in p.value) false) (i == p.id) y.1 in
-      (eqb-true e p.entity x.0, eqb-true c p.column y.0, value_is d p.value z.0, eqb-true i p.id z.1)
+      let z : (option_map_or (same_cell d) (cell_in p.value) false ≡ true) × ((i == p.id) ≡ true) = and_parts (option_map_or (same_cell d) (cell_in p.value) false) (i == p.id) h in
+      (value_is d p.value z.0, eqb-true i p.id z.1)
 
-  place_ties : (a b : Place) → is_place e c i d a ≡ true → is_place e c i d b ≡ true → is_eq (place_cmp a b) ≡ true
+  place_ties : (a b : Place) → is_place i d a ≡ true → is_place i d b ≡ true → is_eq (place_cmp a b) ≡ true
   place_ties a b h k =
       let p : Parts a = place_parts a h in
       let q : Parts b = place_parts b k in
-      then_from (nat_cmp a.entity b.entity) (ordering_then (nat_cmp a.column b.column) (ordering_then (value_cmp a.value b.value) (nat_cmp a.id b.id)))
-      (nat_ties a.entity b.entity (sym p.0 ∙ q.0))
-      (then_from (nat_cmp a.column b.column) (ordering_then (value_cmp a.value b.value) (nat_cmp a.id b.id)) (nat_ties a.column b.column (sym p.1 ∙ q.1))
-      (then_from (value_cmp a.value b.value) (nat_cmp a.id b.id) (value_ties d a.value b.value p.2 q.2) (nat_ties a.id b.id (sym p.3 ∙ q.3))))
+      then_from (value_cmp a.value b.value) (nat_cmp a.id b.id) (value_ties d a.value b.value p.0 q.0) (nat_ties a.id b.id (sym p.1 ∙ q.1))
 
   -- of a place of the cell, another ties with it exactly if it is of the cell too
-  ties_with : (k p : Place) → is_place e c i d k ≡ true → is_eq (place_cmp k p) ≡ is_place e c i d p
-  ties_with k p h = at (tested (is_eq (place_cmp k p))) (tested (is_place e c i d p))
+  ties_with : (k p : Place) → is_place i d k ≡ true → is_eq (place_cmp k p) ≡ is_place i d p
+  ties_with k p h = at (tested (is_eq (place_cmp k p))) (tested (is_place i d p))
     where
-      at : Tested (is_eq (place_cmp k p)) → Tested (is_place e c i d p) → is_eq (place_cmp k p) ≡ is_place e c i d p
+      at : Tested (is_eq (place_cmp k p)) → Tested (is_place i d p) → is_eq (place_cmp k p) ≡ is_place i d p
       at (inl t) u = t ∙ sym h ∙ place_tied k p t
       at (inr t) (inl u) = absurd (true≢false (sym (place_ties k p h u) ∙ t))
       at (inr t) (inr u) = t ∙ sym u
 
-  tied_by : (p k : Place) → is_place e c i d k ≡ true → is_eq (place_cmp p k) ≡ is_place e c i d p
-  tied_by p k h = at (tested (is_eq (place_cmp p k))) (tested (is_place e c i d p))
+  tied_by : (p k : Place) → is_place i d k ≡ true → is_eq (place_cmp p k) ≡ is_place i d p
+  tied_by p k h = at (tested (is_eq (place_cmp p k))) (tested (is_place i d p))
     where
-      at : Tested (is_eq (place_cmp p k)) → Tested (is_place e c i d p) → is_eq (place_cmp p k) ≡ is_place e c i d p
+      at : Tested (is_eq (place_cmp p k)) → Tested (is_place i d p) → is_eq (place_cmp p k) ≡ is_place i d p
       at (inl t) u = t ∙ sym h ∙ sym (place_tied p k t)
       at (inr t) (inl u) = absurd (true≢false (sym (place_ties p k u h) ∙ t))
       at (inr t) (inr u) = t ∙ sym u
 
-  contains_here : (ps : List Place) (k : Place) → is_place e c i d k ≡ true → list_any (λ x. is_eq (place_cmp k x)) ps ≡ has_place ps e c i d
+  contains_here : (ps : List Place) (k : Place) → is_place i d k ≡ true → list_any (λ x. is_eq (place_cmp k x)) ps ≡ has_place ps i d
   contains_here [] k h = refl
   contains_here (p ∷ ps) k h = λ x. ties_with k p h x || contains_here ps k h x
 
-  found : (ps : List Place) → has_place ps e c i d ≡ true → (k : Place) × (is_place e c i d k ≡ true)
+  found : (ps : List Place) → has_place ps i d ≡ true → (k : Place) × (is_place i d k ≡ true)
   found [] h = absurd (true≢false (sym h))
-  found (p ∷ ps) h = at (tested (is_place e c i d p)) (found ps)
+  found (p ∷ ps) h = at (tested (is_place i d p)) (found ps)
     where
-      at : Tested (is_place e c i d p) → (has_place ps e c i d ≡ true → (k : Place) × (is_place e c i d k ≡ true)) → (k : Place) × (is_place e c i d k ≡ true)
+      at : Tested (is_place i d p) → (has_place ps i d ≡ true → (k : Place) × (is_place i d k ≡ true)) → (k : Place) × (is_place i d k ≡ true)
       at (inl t) f = (p, t)
       at (inr t) f = f (rw t at h)
 
   -- after a place is added or taken out
   updated : (ps qs : List Place) (p : Place) (b : Bool)
       → ((q : Place) → list_any (λ x. is_eq (place_cmp q x)) qs ≡ cond (is_eq (place_cmp p q)) b (list_any (λ x. is_eq (place_cmp q x)) ps))
-      → has_place qs e c i d ≡ cond (is_place e c i d p) b (has_place ps e c i d)
-  updated ps qs p b f = at (tested (is_place e c i d p)) (tested (has_place ps e c i d)) (tested (has_place qs e c i d))
+      → has_place qs i d ≡ cond (is_place i d p) b (has_place ps i d)
+  updated ps qs p b f = at (tested (is_place i d p)) (tested (has_place ps i d)) (tested (has_place qs i d))
     where
-      by : (k : Place) → is_place e c i d k ≡ true → has_place qs e c i d ≡ cond (is_place e c i d p) b (has_place ps e c i d)
+      by : (k : Place) → is_place i d k ≡ true → has_place qs i d ≡ cond (is_place i d p) b (has_place ps i d)
       by k h = sym (contains_here qs k h) ∙ f k ∙ λ x. cond (tied_by p k h x) b (contains_here ps k h x)
 
-      at : Tested (is_place e c i d p) → Tested (has_place ps e c i d) → Tested (has_place qs e c i d)
-          → has_place qs e c i d ≡ cond (is_place e c i d p) b (has_place ps e c i d)
+      at : Tested (is_place i d p) → Tested (has_place ps i d) → Tested (has_place qs i d)
+          → has_place qs i d ≡ cond (is_place i d p) b (has_place ps i d)
       at (inl t) u v = by p t
-      at (inr t) (inl u) v = let k : (k : Place) × (is_place e c i d k ≡ true) = found ps u in by k.0 k.1
-      at (inr t) (inr u) (inl v) = let k : (k : Place) × (is_place e c i d k ≡ true) = found qs v in by k.0 k.1
-      at (inr t) (inr u) (inr v) = v ∙ sym u ∙ sym (ap (λ x. cond x b (has_place ps e c i d)) t)
+      at (inr t) (inl u) v = let k : (k : Place) × (is_place i d k ≡ true) = found ps u in by k.0 k.1
+      at (inr t) (inr u) (inl v) = let k : (k : Place) × (is_place i d k ≡ true) = found qs v in by k.0 k.1
+      at (inr t) (inr u) (inr v) = v ∙ sym u ∙ sym (ap (λ x. cond x b (has_place ps i d)) t)
 
   pub added : (ps qs : List Place) (p : Place)
       → ((q : Place) → list_any (λ x. is_eq (place_cmp q x)) qs ≡ cond (is_eq (place_cmp p q)) true (list_any (λ x. is_eq (place_cmp q x)) ps))
-      → has_place qs e c i d ≡ (is_place e c i d p || has_place ps e c i d)
-  added ps qs p f = updated ps qs p true f ∙ at (is_place e c i d p)
+      → has_place qs i d ≡ (is_place i d p || has_place ps i d)
+  added ps qs p f = updated ps qs p true f ∙ at (is_place i d p)
     where
-      at : (b : Bool) → cond b true (has_place ps e c i d) ≡ (b || has_place ps e c i d)
+      at : (b : Bool) → cond b true (has_place ps i d) ≡ (b || has_place ps i d)
       at true = refl
       at false = refl
 
   pub dropped : (ps qs : List Place) (p : Place)
       → ((q : Place) → list_any (λ x. is_eq (place_cmp q x)) qs ≡ cond (is_eq (place_cmp p q)) false (list_any (λ x. is_eq (place_cmp q x)) ps))
-      → has_place qs e c i d ≡ (not (is_place e c i d p) && has_place ps e c i d)
-  dropped ps qs p f = updated ps qs p false f ∙ at (is_place e c i d p)
+      → has_place qs i d ≡ (not (is_place i d p) && has_place ps i d)
+  dropped ps qs p f = updated ps qs p false f ∙ at (is_place i d p)
     where
-      at : (b : Bool) → cond b false (has_place ps e c i d) ≡ (not b && has_place ps e c i d)
+      at : (b : Bool) → cond b false (has_place ps i d) ≡ (not b && has_place ps i d)
       at true = refl
       at false = refl

@@ -44,8 +44,7 @@ value_cmp_is Value.Greatest (Value.Bool b) = refl
 value_cmp_is Value.Greatest Value.Greatest = refl
 
 place_cmp_at : (a b : Place) → derived_cmp a b ≡ place_cmp a b
-place_cmp_at a b =
-    ap (λ o. ordering_then (nat_cmp a.entity b.entity) (ordering_then (nat_cmp a.column b.column) (ordering_then o (nat_cmp a.id b.id)))) (value_cmp_is a.value b.value)
+place_cmp_at a b = ap (λ o. ordering_then o (nat_cmp a.id b.id)) (value_cmp_is a.value b.value)
 
 pub place_cmp_is : derived_cmp ≡ place_cmp
 place_cmp_is = λ i. λ a b. place_cmp_at a b i

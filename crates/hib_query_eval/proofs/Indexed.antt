@@ -16,8 +16,8 @@ use Rattle.hib_query_eval.specs.Places.{has_place, has_cell, IsIndexOf}
 
 pub no_rows : (e c : ℕ) (ps : List Place) → ps ≡ [] → IsIndexOf e c ps []
 no_rows e c ps n = record {
-  cells = λ i d. ap (λ xs. has_place xs e c i d) n;
-  fit = λ i d h. absurd (true≢false (sym h ∙ ap (λ xs. has_place xs e c i d) n));
+  cells = λ i d. ap (λ xs. has_place xs i d) n;
+  fit = λ i d h. absurd (true≢false (sym h ∙ ap (λ xs. has_place xs i d) n));
 }
 
 own_id : (k : Key) (e i : ℕ) → same_key k (key e i) ≡ true → k.id ≡ i
@@ -25,20 +25,20 @@ own_id k e i h = eqb-true k.id i ((and_parts (k.entity == e) (k.id == i) h).1)
 
 -- a key's cell in a column is added, if it had no row
 pub with_cells : (e c : ℕ) (ps qs : List Place) (t u : Tables) (k : Key) (o : Option Row) → IsIndexOf e c ps t → row_at t k ≡ None → (is_some o ≡ true → k.id < 2 ^ 64)
-    → ((i : ℕ) (d : Cell) → has_place qs e c i d ≡ ((same_key k (key e i) && has_cell o c d) || has_place ps e c i d))
+    → ((i : ℕ) (d : Cell) → has_place qs i d ≡ ((same_key k (key e i) && has_cell o c d) || has_place ps i d))
     → ((q : Key) → row_at u q ≡ cond (same_key k q) o (row_at t q)) → IsIndexOf e c qs u
 with_cells e c ps qs t u k o x n l f g = record {
   cells = λ i d. at i d (tested (same_key k (key e i)));
-  fit = λ i d h. fits i d (tested (has_place ps e c i d)) (tested (same_key k (key e i))) (sym (f i d) ∙ h);
+  fit = λ i d h. fits i d (tested (has_place ps i d)) (tested (same_key k (key e i))) (sym (f i d) ∙ h);
 }
   where
     or_false : (b : Bool) → (b || false) ≡ b
     or_false true = refl
     or_false false = refl
 
-    at : (i : ℕ) (d : Cell) → Tested (same_key k (key e i)) → has_place qs e c i d ≡ has_cell (row_at u (key e i)) c d
+    at : (i : ℕ) (d : Cell) → Tested (same_key k (key e i)) → has_place qs i d ≡ has_cell (row_at u (key e i)) c d
     at i d (inl s) =
-        let none : has_place ps e c i d ≡ false =
+        let none : has_place ps i d ≡ false =
         x.cells i d ∙ ap (λ j. has_cell (row_at t j) c d) (sym (same_key_eq k (key e i) s)) ∙ ap (λ r. has_cell r c d) n in
         f i d ∙ (λ j. (s j && has_cell o c d) || none j) ∙ or_false (has_cell o c d)
         ∙ sym (ap (λ r. has_cell r c d) (g (key e i) ∙ ap (λ b. cond b o (row_at t (key e i))) s))
@@ -46,7 +46,7 @@ with_cells e c ps qs t u k o x n l f g = record {
         f i d ∙ (λ j. (s j && has_cell o c d) || x.cells i d j)
         ∙ sym (ap (λ r. has_cell r c d) (g (key e i) ∙ ap (λ b. cond b o (row_at t (key e i))) s))
 
-    fits : (i : ℕ) (d : Cell) → Tested (has_place ps e c i d) → Tested (same_key k (key e i)) → ((same_key k (key e i) && has_cell o c d) || has_place ps e c i d) ≡ true
+    fits : (i : ℕ) (d : Cell) → Tested (has_place ps i d) → Tested (same_key k (key e i)) → ((same_key k (key e i) && has_cell o c d) || has_place ps i d) ≡ true
         → i < 2 ^ 64
     fits i d (inl p) s h = x.fit i d p
     fits i d (inr p) (inl s) h = subst (λ m. m < 2 ^ 64) (own_id k e i s) (l (some o (sym (or_false (has_cell o c d)) ∙ sym (λ j. (s j && has_cell o c d) || p j) ∙ h)))
@@ -58,20 +58,20 @@ with_cells e c ps qs t u k o x n l f g = record {
 
 -- a key's cell in a column is dropped
 pub without_cells : (e c : ℕ) (ps qs : List Place) (t u : Tables) (k : Key) → IsIndexOf e c ps t
-    → ((i : ℕ) (d : Cell) → has_place qs e c i d ≡ (not (same_key k (key e i) && has_cell (row_at t k) c d) && has_place ps e c i d))
+    → ((i : ℕ) (d : Cell) → has_place qs i d ≡ (not (same_key k (key e i) && has_cell (row_at t k) c d) && has_place ps i d))
     → ((q : Key) → row_at u q ≡ cond (same_key k q) None (row_at t q)) → IsIndexOf e c qs u
 without_cells e c ps qs t u k x f g = record {
   cells = λ i d. at i d (tested (same_key k (key e i)));
-  fit = λ i d h. x.fit i d ((and_parts (not (same_key k (key e i) && has_cell (row_at t k) c d)) (has_place ps e c i d) (sym (f i d) ∙ h)).1);
+  fit = λ i d h. x.fit i d ((and_parts (not (same_key k (key e i) && has_cell (row_at t k) c d)) (has_place ps i d) (sym (f i d) ∙ h)).1);
 }
   where
     none : (b : Bool) → (not b && b) ≡ false
     none true = refl
     none false = refl
 
-    at : (i : ℕ) (d : Cell) → Tested (same_key k (key e i)) → has_place qs e c i d ≡ has_cell (row_at u (key e i)) c d
+    at : (i : ℕ) (d : Cell) → Tested (same_key k (key e i)) → has_place qs i d ≡ has_cell (row_at u (key e i)) c d
     at i d (inl s) =
-        let there : has_place ps e c i d ≡ has_cell (row_at t k) c d = x.cells i d ∙ ap (λ j. has_cell (row_at t j) c d) (sym (same_key_eq k (key e i) s)) in
+        let there : has_place ps i d ≡ has_cell (row_at t k) c d = x.cells i d ∙ ap (λ j. has_cell (row_at t j) c d) (sym (same_key_eq k (key e i) s)) in
         f i d ∙ (λ j. not (s j && has_cell (row_at t k) c d) && there j) ∙ none (has_cell (row_at t k) c d)
         ∙ sym (ap (λ r. has_cell r c d) (g (key e i) ∙ ap (λ b. cond b None (row_at t (key e i))) s))
     at i d (inr s) =
@@ -123,17 +123,17 @@ row_at_after c t q = at (tested (same_key (key_of c) q))
 -- after a change, of which the row that was there and the row that it leaves are given
 pub changed : (e c : ℕ) (ps ms qs : List Place) (x : Change) (t : Tables) (k : Key) (a b : Option Row) → k ≡ key_of x → a ≡ row_at t (key_of x) → b ≡ row_left x
     → IsIndexOf e c ps t → (is_some b ≡ true → k.id < 2 ^ 64)
-    → ((i : ℕ) (d : Cell) → has_place ms e c i d ≡ (not (same_key k (key e i) && has_cell a c d) && has_place ps e c i d))
-    → ((i : ℕ) (d : Cell) → has_place qs e c i d ≡ ((same_key k (key e i) && has_cell b c d) || has_place ms e c i d))
+    → ((i : ℕ) (d : Cell) → has_place ms i d ≡ (not (same_key k (key e i) && has_cell a c d) && has_place ps i d))
+    → ((i : ℕ) (d : Cell) → has_place qs i d ≡ ((same_key k (key e i) && has_cell b c d) || has_place ms i d))
     → IsIndexOf e c qs (after_change x t)
 changed e c ps ms qs x t k a b p q r y l f g =
     with_cells e c ms qs (without t (key_of x)) (after_change x t) (key_of x) (row_left x)
     (without_cells e c ps ms t (without t (key_of x)) (key_of x) y
-    (λ i d. f i d ∙ (λ z. not (same_key (p z) (key e i) && has_cell (q z) c d) && has_place ps e c i d))
+    (λ i d. f i d ∙ (λ z. not (same_key (p z) (key e i) && has_cell (q z) c d) && has_place ps i d))
     (row_at_without t (key_of x)))
     (row_at_itself (key_of x) t)
     (λ h. subst (λ j. j.id < 2 ^ 64) p (l (ap is_some r ∙ h)))
-    (λ i d. g i d ∙ (λ z. (same_key (p z) (key e i) && has_cell (r z) c d) || has_place ms e c i d))
+    (λ i d. g i d ∙ (λ z. (same_key (p z) (key e i) && has_cell (r z) c d) || has_place ms i d))
     (λ j. row_at_after x t j ∙ at j (tested (same_key (key_of x) j)))
   where
     at : (j : Key) → Tested (same_key (key_of x) j)
@@ -168,7 +168,7 @@ row_at_last (y ∷ ys) (suc n) x q o l e =
     at d (inr s) h = rw s h
 
 pub one_row : (e c : ℕ) (ps qs : List Place) (t : Tables) (n : ℕ) (x : Key × Row) → in_order t ≡ true → n < length t → x ≡ get_or t n x → IsIndexOf e c ps (take n t) → x.0.id < 2 ^ 64
-    → ((i : ℕ) (d : Cell) → has_place qs e c i d ≡ ((same_key x.0 (key e i) && has_cell (Some x.1) c d) || has_place ps e c i d))
+    → ((i : ℕ) (d : Cell) → has_place qs i d ≡ ((same_key x.0 (key e i) && has_cell (Some x.1) c d) || has_place ps i d))
     → IsIndexOf e c qs (take (n + 1) t)
 one_row e c ps qs t n x o l y p h f =
     subst (λ m. IsIndexOf e c qs (take m t)) (sym (add-one n))

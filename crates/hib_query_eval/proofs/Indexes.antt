@@ -34,11 +34,11 @@ module _ (k : Key) (e c i : ℕ) (d : Cell) (o : Option Row) where
       none true = refl
       none false = refl
 
-  pub one_cell : (x : Cell) (p : Place) → k.entity ≡ e → p.entity ≡ e → p.column ≡ c → cell_in p.value ≡ Some x → p.id ≡ k.id → has_cell o c d ≡ same_cell d x
-      → is_place e c i d p ≡ (same_key k (key e i) && has_cell o c d)
-  one_cell x p ke pe pc pv pi h =
-      (λ j. (e == pe j) && ((c == pc j) && (option_map_or (same_cell d) (pv j) false && (i == pi j))))
-      ∙ (λ j. eq-eqb e e refl j && (eq-eqb c c refl j && (same_cell d x && eq_sym i k.id j)))
+  pub one_cell : (x : Cell) (p : Place) → k.entity ≡ e → cell_in p.value ≡ Some x → p.id ≡ k.id → has_cell o c d ≡ same_cell d x
+      → is_place i d p ≡ (same_key k (key e i) && has_cell o c d)
+  one_cell x p ke pv pi h =
+      (λ j. option_map_or (same_cell d) (pv j) false && (i == pi j))
+      ∙ (λ j. same_cell d x && eq_sym i k.id j)
       ∙ turned (same_cell d x) (k.id == i)
       ∙ sym (λ j. (eq-eqb k.entity e ke j && (k.id == i)) && h j)
     where

@@ -245,21 +245,17 @@ nat_to a b l = let p : nat_lt a b ≡ false = le-ltb a b l in at (a == b) p
     at false p = rw p refl
 
 -- a place of a cell is found by a search whose bounds its value is between
-module _ (e c i : ℕ) (d : Cell) (from to : Value) where
+module _ (i : ℕ) (d : Cell) (from to : Value) where
   abbrev pub IsBetween : Type 0
   IsBetween = (v : Value) → cell_in v ≡ Some d → (is_le (value_cmp from v) ≡ true) × (is_lt (value_cmp to v) ≡ false)
 
-  within : (p : Place) → is_place e c i d p ≡ true → i < 2 ^ 64 → IsBetween → is_within e c from to p ≡ true
+  within : (p : Place) → is_place i d p ≡ true → i < 2 ^ 64 → IsBetween → is_within from to p ≡ true
   within p h l b =
-      let q : Parts e c i d p = place_parts e c i d p h in
-      let r : (is_le (value_cmp from p.value) ≡ true) × (is_lt (value_cmp to p.value) ≡ false) = b p.value q.2 in
-      let low : is_le (place_cmp (record { entity = e; column = c; value = from; id = 0 }) p) ≡ true =
-      le_then (nat_cmp e p.entity) _ (nat_from e p.entity (omega (arith, q.0)))
-      (le_then (nat_cmp c p.column) _ (nat_from c p.column (omega (arith, q.1))) (le_then (value_cmp from p.value) _ r.0 (nat_from 0 p.id (omega arith)))) in
-      let high : is_lt (place_cmp (record { entity = e; column = c; value = to; id = 2 ^ 64 - 1 }) p) ≡ false =
-      lt_then (nat_cmp e p.entity) _ (nat_to e p.entity (omega (arith, q.0)))
-      (lt_then (nat_cmp c p.column) _ (nat_to c p.column (omega (arith, q.1)))
-      (lt_then (value_cmp to p.value) _ r.1 (nat_to (2 ^ 64 - 1) p.id (subst (λ n. n ≤ 2 ^ 64 - 1) q.3 (up_to i l))))) in
+      let q : Parts i d p = place_parts i d p h in
+      let r : (is_le (value_cmp from p.value) ≡ true) × (is_lt (value_cmp to p.value) ≡ false) = b p.value q.0 in
+      let low : is_le (place_cmp (record { value = from; id = 0 }) p) ≡ true = le_then (value_cmp from p.value) _ r.0 (nat_from 0 p.id (omega arith)) in
+      let high : is_lt (place_cmp (record { value = to; id = 2 ^ 64 - 1 }) p) ≡ false =
+      lt_then (value_cmp to p.value) _ r.1 (nat_to (2 ^ 64 - 1) p.id (subst (λ n. n ≤ 2 ^ 64 - 1) q.1 (up_to i l))) in
       at _ _ low high
     where
       up_to : (n : ℕ) → n < 2 ^ 64 → n ≤ 2 ^ 64 - 1
@@ -268,19 +264,19 @@ module _ (e c i : ℕ) (d : Cell) (from to : Value) where
       at : (x y : Ordering) → is_le x ≡ true → is_lt y ≡ false → (is_le x && not (is_lt y)) ≡ true
       at x y s t = rw (s, t) refl
 
-  pub found_between : (ps : List Place) → has_place ps e c i d ≡ true → i < 2 ^ 64 → IsBetween → has_id i (map (λ p. p.id) (filter (is_within e c from to) ps)) ≡ true
+  pub found_between : (ps : List Place) → has_place ps i d ≡ true → i < 2 ^ 64 → IsBetween → has_id i (map (λ p. p.id) (filter (is_within from to) ps)) ≡ true
   found_between [] h l b = absurd (true≢false (sym h))
-  found_between (p ∷ ps) h l b = at (tested (is_place e c i d p)) (tested (is_within e c from to p)) (λ g. found_between ps g l b)
+  found_between (p ∷ ps) h l b = at (tested (is_place i d p)) (tested (is_within from to p)) (λ g. found_between ps g l b)
     where
-      at : Tested (is_place e c i d p) → Tested (is_within e c from to p)
-          → (has_place ps e c i d ≡ true → has_id i (map (λ p. p.id) (filter (is_within e c from to) ps)) ≡ true)
-          → has_id i (map (λ p. p.id) (filter (is_within e c from to) (p ∷ ps))) ≡ true
+      at : Tested (is_place i d p) → Tested (is_within from to p)
+          → (has_place ps i d ≡ true → has_id i (map (λ p. p.id) (filter (is_within from to) ps)) ≡ true)
+          → has_id i (map (λ p. p.id) (filter (is_within from to) (p ∷ ps))) ≡ true
       at (inl t) (inl u) f =
-          let q : Parts e c i d p = place_parts e c i d p t in
-          let n : (p.id == i) ≡ true = eq-eqb p.id i (sym q.3) in
+          let q : Parts i d p = place_parts i d p t in
+          let n : (p.id == i) ≡ true = eq-eqb p.id i (sym q.1) in
           rw (u, n) refl
       at (inl t) (inr u) f = absurd (true≢false (sym (within p t l b) ∙ u))
-      at (inr t) (inl u) f = rw u (or_right (p.id == i) (has_id i (map (λ p. p.id) (filter (is_within e c from to) ps))) (f (rw t at h)))
+      at (inr t) (inl u) f = rw u (or_right (p.id == i) (has_id i (map (λ p. p.id) (filter (is_within from to) ps))) (f (rw t at h)))
       at (inr t) (inr u) f = rw u (f (rw t at h))
 
 pub has_id-append : (i : ℕ) (xs ys : List ℕ) → has_id i (xs ++ ys) ≡ (has_id i xs || has_id i ys)
@@ -299,16 +295,16 @@ id_more i xs ys h = has_id-append i xs ys ∙ or_right (has_id i xs) (has_id i y
 
 -- what each comparison finds
 module _ (x d : Cell) (w : Value) (is : cell_in w ≡ Some x) where
-  pub eq_between : (u : Value) → cell_in u ≡ Some x → passes Op.Eq d x ≡ true → (e c i : ℕ) → IsBetween e c i d w u
-  eq_between u o h e c i v q =
+  pub eq_between : (u : Value) → cell_in u ≡ Some x → passes Op.Eq d x ≡ true → (i : ℕ) → IsBetween i d w u
+  eq_between u o h i v q =
       let p : cell_in v ≡ Some x = q ∙ ap Some (same_cell_eq d x h) in
       (eq_le (value_cmp w v) (value_ties x w v is p), eq_not_lt (value_cmp u v) (value_ties x u v o p))
 
-  pub lt_between : passes Op.Lt d x ≡ true → (e c i : ℕ) → IsBetween e c i d Value.Least w
-  lt_between h e c i v q = (least_from v, below_within w v ((λ j. is_below_at (q j) (is j)) ∙ h))
+  pub lt_between : passes Op.Lt d x ≡ true → (i : ℕ) → IsBetween i d Value.Least w
+  lt_between h i v q = (least_from v, below_within w v ((λ j. is_below_at (q j) (is j)) ∙ h))
 
-  pub gt_between : passes Op.Gt d x ≡ true → (e c i : ℕ) → IsBetween e c i d w Value.Greatest
-  gt_between h e c i v q = (above_within w v ((λ j. is_below_at (is j) (q j)) ∙ h), greatest_to v)
+  pub gt_between : passes Op.Gt d x ≡ true → (i : ℕ) → IsBetween i d w Value.Greatest
+  gt_between h i v q = (above_within w v ((λ j. is_below_at (is j) (q j)) ∙ h), greatest_to v)
 
   some_kind : (y : Cell) → 0 < kind (Some y)
   some_kind (Cell.Int n) = omega arith
@@ -319,11 +315,10 @@ module _ (x d : Cell) (w : Value) (is : cell_in w ≡ Some x) where
   not_true true h = absurd (true≢false (sym h))
   not_true false h = refl
 
-  pub le_between : (n : Value) → ((v : Value) → kind (Some x) < kind (cell_in v) → is_le (value_cmp n v) ≡ true) → passes Op.Le d x ≡ true → (e c i : ℕ)
-      → IsBetween e c i d Value.Least w ⊎ IsBetween e c i d n Value.Greatest
-  le_between n f h e c i = at (tested (nat_lt (kind (Some x)) (kind (Some d))))
+  pub le_between : (n : Value) → ((v : Value) → kind (Some x) < kind (cell_in v) → is_le (value_cmp n v) ≡ true) → passes Op.Le d x ≡ true → (i : ℕ) → IsBetween i d Value.Least w ⊎ IsBetween i d n Value.Greatest
+  le_between n f h i = at (tested (nat_lt (kind (Some x)) (kind (Some d))))
     where
-      at : Tested (nat_lt (kind (Some x)) (kind (Some d))) → IsBetween e c i d Value.Least w ⊎ IsBetween e c i d n Value.Greatest
+      at : Tested (nat_lt (kind (Some x)) (kind (Some d))) → IsBetween i d Value.Least w ⊎ IsBetween i d n Value.Greatest
       at (inl t) = inr (λ v q. (f v (subst (λ m. kind (Some x) < m) (sym (ap kind q)) (ltb-true (kind (Some x)) (kind (Some d)) t)), greatest_to v))
       at (inr t) = inl (λ v q. (
         least_from v,
@@ -337,11 +332,10 @@ module _ (x d : Cell) (w : Value) (is : cell_in w ≡ Some x) where
               let m : kind (Some x) < kind (Some d) = subst (λ n. n < kind (Some d)) (ap kind is) (subst (λ n. kind (cell_in w) < n) (ap kind q) l) in
               absurd (true≢false (sym (lt-ltb (kind (Some x)) (kind (Some d)) m) ∙ t))
 
-  pub ge_between : (n : Value) → ((v : Value) → 0 < kind (cell_in v) → kind (cell_in v) < kind (Some x) → is_lt (value_cmp n v) ≡ false) → passes Op.Ge d x ≡ true → (e c i : ℕ)
-      → IsBetween e c i d w Value.Greatest ⊎ IsBetween e c i d Value.Least n
-  ge_between n f h e c i = at (tested (nat_lt (kind (Some d)) (kind (Some x))))
+  pub ge_between : (n : Value) → ((v : Value) → 0 < kind (cell_in v) → kind (cell_in v) < kind (Some x) → is_lt (value_cmp n v) ≡ false) → passes Op.Ge d x ≡ true → (i : ℕ) → IsBetween i d w Value.Greatest ⊎ IsBetween i d Value.Least n
+  ge_between n f h i = at (tested (nat_lt (kind (Some d)) (kind (Some x))))
     where
-      at : Tested (nat_lt (kind (Some d)) (kind (Some x))) → IsBetween e c i d w Value.Greatest ⊎ IsBetween e c i d Value.Least n
+      at : Tested (nat_lt (kind (Some d)) (kind (Some x))) → IsBetween i d w Value.Greatest ⊎ IsBetween i d Value.Least n
       at (inl t) = inr (λ v q. (least_from v, f v (subst (λ m. 0 < m) (sym (ap kind q)) (some_kind d)) (subst (λ m. m < kind (Some x)) (sym (ap kind q)) (ltb-true (kind (Some d)) (kind (Some x)) t))))
       at (inr t) = inl (λ v q. (
         here v q (not_below w v (subst (λ m. 0 < m) (sym (ap kind is)) (some_kind x)) (subst (λ m. 0 < m) (sym (ap kind q)) (some_kind d))
@@ -362,11 +356,11 @@ pub still : (i : ℕ) (old new more : List ℕ) → new ≡ old ++ more → has_
 still i old new more e h = ap (has_id i) e ∙ id_kept i old more h
 
 -- two searches, of which one finds
-module _ (e c i : ℕ) (d : Cell) (ps : List Place) (from to from' to' : Value) (old mid new : List ℕ) where
-  pub one_finds : mid ≡ old ++ map (λ p. p.id) (filter (is_within e c from to) ps) → new ≡ mid ++ map (λ p. p.id) (filter (is_within e c from' to') ps)
-      → has_place ps e c i d ≡ true → i < 2 ^ 64 → IsBetween e c i d from to ⊎ IsBetween e c i d from' to' → has_id i new ≡ true
-  one_finds m n h l (inl b) = still i mid new _ n (gained i old mid _ m (found_between e c i d from to ps h l b))
-  one_finds m n h l (inr b) = gained i mid new _ n (found_between e c i d from' to' ps h l b)
+module _ (i : ℕ) (d : Cell) (ps : List Place) (from to from' to' : Value) (old mid new : List ℕ) where
+  pub one_finds : mid ≡ old ++ map (λ p. p.id) (filter (is_within from to) ps) → new ≡ mid ++ map (λ p. p.id) (filter (is_within from' to') ps)
+      → has_place ps i d ≡ true → i < 2 ^ 64 → IsBetween i d from to ⊎ IsBetween i d from' to' → has_id i new ≡ true
+  one_finds m n h l (inl b) = still i mid new _ n (gained i old mid _ m (found_between i d from to ps h l b))
+  one_finds m n h l (inr b) = gained i mid new _ n (found_between i d from' to' ps h l b)
 
 -- what is behind the types below
 pub behind_none : (v : Value) → 0 < kind (cell_in v) → kind (cell_in v) < 1 → is_lt (value_cmp Value.Least v) ≡ false
@@ -392,29 +386,29 @@ behind_texts b (Value.Bool a) l k = absurd (omega arith)
 
 -- the rows whose cell in a column passes a test
 pub cell_covers : (ps : List Place) (e c : ℕ) (test : Cell → Bool) (ids : List ℕ)
-    → ((i : ℕ) (d : Cell) → i < 2 ^ 64 → has_place ps e c i d ≡ true → test d ≡ true → has_id i ids ≡ true)
+    → ((i : ℕ) (d : Cell) → i < 2 ^ 64 → has_place ps i d ≡ true → test d ≡ true → has_id i ids ≡ true)
     → (t : Tables) → IsIndexOf e c ps t → (r : Row) (i : ℕ) → row_at t (key e i) ≡ Some r → option_map_or test (slice_get r.cells c) false ≡ true → has_id i ids ≡ true
 cell_covers ps e c test ids f t x r i at h = by (slice_get r.cells c) refl h
   where
     by : (o : Option Cell) → slice_get r.cells c ≡ o → option_map_or test o false ≡ true → has_id i ids ≡ true
     by None q g = absurd (true≢false (sym g))
     by (Some d) q g =
-        let there : has_place ps e c i d ≡ true = x.cells i d ∙ ap (λ o. has_cell o c d) at ∙ ap (λ x. option_map_or (same_cell d) x false) q ∙ same_cell_refl d in
+        let there : has_place ps i d ≡ true = x.cells i d ∙ ap (λ o. has_cell o c d) at ∙ ap (λ x. option_map_or (same_cell d) x false) q ∙ same_cell_refl d in
         f i d (x.fit i d there) there g
 
 -- a comparison at a column of the entity itself
 pub no_target_covers : (ps : List Place) (e c : ℕ) (p : Path) (test : Cell → Bool) (ids : List ℕ) → p.target ≡ None → c ≡ p.column
-    → ((i : ℕ) (d : Cell) → i < 2 ^ 64 → has_place ps e c i d ≡ true → test d ≡ true → has_id i ids ≡ true)
+    → ((i : ℕ) (d : Cell) → i < 2 ^ 64 → has_place ps i d ≡ true → test d ≡ true → has_id i ids ≡ true)
     → (t : Tables) → IsIndexOf e c ps t → (r : Row) (i : ℕ) → row_at t (key e i) ≡ Some r → option_map_or test (cell_at t r p) false ≡ true → has_id i ids ≡ true
 no_target_covers ps e c p test ids n m f t y r i at h =
     cell_covers ps e c test ids f t y r i at (ap (λ k. option_map_or test (slice_get r.cells k) false) m ∙ sym (ap (λ g. option_map_or test (cell_by t r p.column g) false) n) ∙ h)
 
 -- a comparison at a column of the row to which a cell refers
 module _ (ps gs : List Place) (e c : ℕ) (g : Target) (test : Cell → Bool) (targets ids : List ℕ)
-    (finds : (i : ℕ) (d : Cell) → i < 2 ^ 64 → has_place gs g.entity g.column i d ≡ true → test d ≡ true → has_id i targets ≡ true)
-    (refers : Refer ps e c targets ids) (t : Tables) (x : IsIndexOf e c ps t) (y : IsIndexOf g.entity g.column gs t) where
+    (finds : (i : ℕ) (d : Cell) → i < 2 ^ 64 → has_place gs i d ≡ true → test d ≡ true → has_id i targets ≡ true)
+    (refers : Refer ps targets ids) (t : Tables) (x : IsIndexOf e c ps t) (y : IsIndexOf g.entity g.column gs t) where
   -- a row has the place of its cell
-  placed : (xs : List Place) (n k i : ℕ) (r : Row) (d : Cell) → IsIndexOf n k xs t → row_at t (key n i) ≡ Some r → slice_get r.cells k ≡ Some d → has_place xs n k i d ≡ true
+  placed : (xs : List Place) (n k i : ℕ) (r : Row) (d : Cell) → IsIndexOf n k xs t → row_at t (key n i) ≡ Some r → slice_get r.cells k ≡ Some d → has_place xs i d ≡ true
   placed xs n k i r d z at q = z.cells i d ∙ ap (λ o. has_cell o k d) at ∙ ap (λ x. option_map_or (same_cell d) x false) q ∙ same_cell_refl d
 
   referred : (r : Row) (i j : ℕ) → row_at t (key e i) ≡ Some r → slice_get r.cells c ≡ Some (Cell.Int (pos j))
@@ -425,8 +419,8 @@ module _ (ps gs : List Place) (e c : ℕ) (g : Target) (test : Cell → Bool) (t
       by : (o : Option Cell) → slice_get s.cells g.column ≡ o → option_map_or test o false ≡ true → has_id i ids ≡ true
       by None v h = absurd (true≢false (sym h))
       by (Some d) v h =
-          let there : has_place gs g.entity g.column j d ≡ true = placed gs g.entity g.column j s d y b v in
-          let here : has_place ps e c i (Cell.Int (pos j)) ≡ true = placed ps e c i r (Cell.Int (pos j)) x at q in
+          let there : has_place gs j d ≡ true = placed gs g.entity g.column j s d y b v in
+          let here : has_place ps i (Cell.Int (pos j)) ≡ true = placed ps e c i r (Cell.Int (pos j)) x at q in
           refers i j (x.fit i (Cell.Int (pos j)) here) (finds j d (y.fit j d there) there h) here
 
   pub step_covers : (p : Path) → p.target ≡ Some g → c ≡ p.column → (r : Row) (i : ℕ) → row_at t (key e i) ≡ Some r → option_map_or test (cell_at t r p) false ≡ true → has_id i ids ≡ true
@@ -442,17 +436,17 @@ module _ (ps gs : List Place) (e c : ℕ) (g : Target) (test : Cell → Bool) (t
       by (Some (Cell.Bool b)) q h = absurd (true≢false (sym h ∙ ap (λ o. option_map_or test (option_and_then (λ x. slice_get x.cells g.column) (row_of_ref t g.entity o)) false) q))
 
 pub steps_cover : (ps gs : List Place) (e c k : ℕ) (g : Target) (p : Path) (test : Cell → Bool) (found targets ids : List ℕ) → p.target ≡ Some g → c ≡ p.column → k ≡ g.column → targets ≡ found
-    → ((i : ℕ) (d : Cell) → i < 2 ^ 64 → has_place gs g.entity k i d ≡ true → test d ≡ true → has_id i found ≡ true) → Refer ps e c targets ids
+    → ((i : ℕ) (d : Cell) → i < 2 ^ 64 → has_place gs i d ≡ true → test d ≡ true → has_id i found ≡ true) → Refer ps targets ids
     → (t : Tables) → IsIndexOf e c ps t → IsIndexOf g.entity k gs t → (r : Row) (i : ℕ) → row_at t (key e i) ≡ Some r → option_map_or test (cell_at t r p) false ≡ true → has_id i ids ≡ true
 steps_cover ps gs e c k g p test found targets ids n m l s f h t x y =
-    step_covers ps gs e c g test found ids (λ i d b v. f i d b (subst (λ w. has_place gs g.entity w i d ≡ true) (sym l) v))
-    (subst (λ xs. Refer ps e c xs ids) s h) t x (subst (λ w. IsIndexOf g.entity w gs t) l y) p n m
+    step_covers ps gs e c g test found ids f
+    (subst (λ xs. Refer ps xs ids) s h) t x (subst (λ w. IsIndexOf g.entity w gs t) l y) p n m
 
 -- one identifier of a target more
-pub refer_more : (ps : List Place) (e c : ℕ) (targets : List ℕ) (n : ℕ) (d : Cell) (m : ℕ) (old new : List ℕ) → m < length targets → n ≡ get_or targets m n → d ≡ Cell.Int (pos n)
-    → Refer ps e c (take m targets) old → ((i : ℕ) → has_id i old ≡ true → has_id i new ≡ true)
-    → ((i : ℕ) (x : Cell) → i < 2 ^ 64 → has_place ps e c i x ≡ true → passes Op.Eq x d ≡ true → has_id i new ≡ true) → Refer ps e c (take (m + 1) targets) new
-refer_more ps e c targets n d m old new l f q r k g i j b h p = at (tested (has_id j (take m targets)))
+pub refer_more : (ps : List Place) (targets : List ℕ) (n : ℕ) (d : Cell) (m : ℕ) (old new : List ℕ) → m < length targets → n ≡ get_or targets m n → d ≡ Cell.Int (pos n)
+    → Refer ps (take m targets) old → ((i : ℕ) → has_id i old ≡ true → has_id i new ≡ true)
+    → ((i : ℕ) (x : Cell) → i < 2 ^ 64 → has_place ps i x ≡ true → passes Op.Eq x d ≡ true → has_id i new ≡ true) → Refer ps (take (m + 1) targets) new
+refer_more ps targets n d m old new l f q r k g i j b h p = at (tested (has_id j (take m targets)))
   where
     at : Tested (has_id j (take m targets)) → has_id i new ≡ true
     at (inl t) = k i (r i j b t p)
@@ -462,8 +456,8 @@ refer_more ps e c targets n d m old new l f q r k g i j b h p = at (tested (has_
         let e : n ≡ j = eqb-true n j s in
         g i (Cell.Int (pos j)) b p (ap (same_cell (Cell.Int (pos j))) (q ∙ ap (λ v. Cell.Int (pos v)) e) ∙ same_cell_refl (Cell.Int (pos j)))
 
-pub no_refer : (ps : List Place) (e c : ℕ) (ids : List ℕ) → Refer ps e c [] ids
-no_refer ps e c ids i j b h p = absurd (true≢false (sym h))
+pub no_refer : (ps : List Place) (ids : List ℕ) → Refer ps [] ids
+no_refer ps ids i j b h p = absurd (true≢false (sym h))
 
 -- a condition of two of which one holds
 pub or_covers : (cs : List Column) (e : ℕ) (a b : Cond) (p : Option (List ℕ)) (q : Option (List ℕ)) (ids : List ℕ) → IfSome p (Covers cs e a) → IfSome q (Covers cs e b)

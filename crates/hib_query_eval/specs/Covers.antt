@@ -17,9 +17,9 @@ Covers cs entity condition ids =
     (t : Tables) → AreIndexes cs t → (r : Row) (id : ℕ) → row_at t (key entity id) ≡ Some r → holds t r condition ≡ true → has_id id ids ≡ true
 
 -- the rows whose cell in a column refers to a row of one of some identifiers
-abbrev pub Refer : List Place → ℕ → ℕ → List ℕ → List ℕ → Type 0
-Refer ps entity column targets ids =
-    (i j : ℕ) → i < 2 ^ 64 → has_id j targets ≡ true → has_place ps entity column i (Cell.Int (pos j)) ≡ true → has_id i ids ≡ true
+abbrev pub Refer : List Place → List ℕ → List ℕ → Type 0
+Refer ps targets ids =
+    (i j : ℕ) → i < 2 ^ 64 → has_id j targets ≡ true → has_place ps i (Cell.Int (pos j)) ≡ true → has_id i ids ≡ true
 
 -- the rows of tables that meet a query's condition
 abbrev pub HasMet : Query → Tables → List ℕ → Type 0

@@ -18,13 +18,12 @@ cell_in (Value.Text t) = Some (Cell.Text t.items)
 cell_in (Value.Bool b) = Some (Cell.Bool b)
 cell_in Value.Greatest = None
 
--- the place of a cell in a column of a row
-abbrev pub is_place : ℕ → ℕ → ℕ → Cell → Place → Bool
-is_place entity column id cell p =
-    (entity == p.entity) && ((column == p.column) && (option_map_or (same_cell cell) (cell_in p.value) false && (id == p.id)))
+-- the place of a cell of the row with an identifier
+abbrev pub is_place : ℕ → Cell → Place → Bool
+is_place id cell p = option_map_or (same_cell cell) (cell_in p.value) false && (id == p.id)
 
-abbrev pub has_place : List Place → ℕ → ℕ → ℕ → Cell → Bool
-has_place ps entity column id cell = list_any (is_place entity column id cell) ps
+abbrev pub has_place : List Place → ℕ → Cell → Bool
+has_place ps id cell = list_any (is_place id cell) ps
 
 -- whether a row has a cell in a column
 abbrev pub has_cell : Option Row → ℕ → Cell → Bool
@@ -33,8 +32,8 @@ has_cell (Some r) column cell = option_map_or (same_cell cell) (slice_get r.cell
 
 -- the places are those of the cells of an entity's rows in a column, and no others; identifiers have 64 bits
 pub record IsIndexOf (entity column : ℕ) (ps : List Place) (t : Tables) : Type 0 where
-  pub cells : (id : ℕ) (cell : Cell) → has_place ps entity column id cell ≡ has_cell (row_at t (key entity id)) column cell
-  pub fit : (id : ℕ) (cell : Cell) → has_place ps entity column id cell ≡ true → id < 2 ^ 64
+  pub cells : (id : ℕ) (cell : Cell) → has_place ps id cell ≡ has_cell (row_at t (key entity id)) column cell
+  pub fit : (id : ℕ) (cell : Cell) → has_place ps id cell ≡ true → id < 2 ^ 64
 
 -- each column has the places of its cells
 abbrev pub AreIndexes : List Column → Tables → Type 0

@@ -26,14 +26,11 @@ value_cmp (Value.Bool a) v = Greater
 value_cmp Value.Greatest Value.Greatest = Equal
 value_cmp Value.Greatest v = Greater
 
--- by entity, by column, by value, and then by identifier
+-- by value, and then by identifier
 abbrev pub place_cmp : Place → Place → Ordering
-place_cmp a b =
-    ordering_then (nat_cmp a.entity b.entity)
-    (ordering_then (nat_cmp a.column b.column) (ordering_then (value_cmp a.value b.value) (nat_cmp a.id b.id)))
+place_cmp a b = ordering_then (value_cmp a.value b.value) (nat_cmp a.id b.id)
 
--- the place of a cell in a column that is at one of two values or between them
-abbrev pub is_within : ℕ → ℕ → Value → Value → Place → Bool
-is_within entity column from to p =
-    range_contains place_cmp (Included (record { entity = entity; column = column; value = from; id = 0 }))
-    (Included (record { entity = entity; column = column; value = to; id = 2 ^ 64 - 1 })) p
+-- the place of a cell that is at one of two values or between them
+abbrev pub is_within : Value → Value → Place → Bool
+is_within from to p =
+    range_contains place_cmp (Included (record { value = from; id = 0 })) (Included (record { value = to; id = 2 ^ 64 - 1 })) p

@@ -40,147 +40,129 @@ fn below_kind(alloc: Global, cell: &Cell) -> Value
     }
 }
 
-/// Adds the identifiers of the rows whose cell in a column is the same.
+/// Adds the identifiers of the rows whose cell is the same.
 fn add_same(
     alloc: Global,
     places: &BTreeSet<Place>,
-    entity: EntityNo,
-    column: usize,
     cell: &Cell,
     ids: &mut Vec<u64>,
 ) -> Result<(), AllocError>
     ensures kept { OnOk result ((i : ℕ) → has_id i ids.old.items ≡ true
         → has_id i ids.new.items ≡ true) }
     ensures found { OnOk result ((i : ℕ) (d : CellSpec) → i < 2 ^ 64
-        → has_place places.now.keys entity column i d ≡ true → passes Op.Eq d cell.now ≡ true
+        → has_place places.now.keys i d ≡ true → passes Op.Eq d cell.now ≡ true
         → has_id i ids.new.items ≡ true) }
 {
     let from = places::value_of(alloc, cell)?;
     let to = places::value_of(alloc, cell)?;
-    places::add_between(places, entity, column, from, to, ids)
+    places::add_between(places, from, to, ids)
 }
 
-/// Adds the identifiers of the rows whose cell in a column is below.
+/// Adds the identifiers of the rows whose cell is below.
 fn add_below(
     alloc: Global,
     places: &BTreeSet<Place>,
-    entity: EntityNo,
-    column: usize,
     cell: &Cell,
     ids: &mut Vec<u64>,
 ) -> Result<(), AllocError>
     ensures kept { OnOk result ((i : ℕ) → has_id i ids.old.items ≡ true
         → has_id i ids.new.items ≡ true) }
     ensures found { OnOk result ((i : ℕ) (d : CellSpec) → i < 2 ^ 64
-        → has_place places.now.keys entity column i d ≡ true → passes Op.Lt d cell.now ≡ true
+        → has_place places.now.keys i d ≡ true → passes Op.Lt d cell.now ≡ true
         → has_id i ids.new.items ≡ true) }
 {
     let to = places::value_of(alloc, cell)?;
-    places::add_between(places, entity, column, Value::Least, to, ids)
+    places::add_between(places, Value::Least, to, ids)
 }
 
-/// Adds the identifiers of the rows whose cell in a column is above.
+/// Adds the identifiers of the rows whose cell is above.
 fn add_above(
     alloc: Global,
     places: &BTreeSet<Place>,
-    entity: EntityNo,
-    column: usize,
     cell: &Cell,
     ids: &mut Vec<u64>,
 ) -> Result<(), AllocError>
     ensures kept { OnOk result ((i : ℕ) → has_id i ids.old.items ≡ true
         → has_id i ids.new.items ≡ true) }
     ensures found { OnOk result ((i : ℕ) (d : CellSpec) → i < 2 ^ 64
-        → has_place places.now.keys entity column i d ≡ true → passes Op.Gt d cell.now ≡ true
+        → has_place places.now.keys i d ≡ true → passes Op.Gt d cell.now ≡ true
         → has_id i ids.new.items ≡ true) }
 {
     let from = places::value_of(alloc, cell)?;
-    places::add_between(places, entity, column, from, Value::Greatest, ids)
+    places::add_between(places, from, Value::Greatest, ids)
 }
 
-/// Adds the identifiers of the rows whose cell in a column isn't above: one of another type isn't above either.
+/// Adds the identifiers of the rows whose cell isn't above: one of another type isn't above either.
 fn add_not_above(
     alloc: Global,
     places: &BTreeSet<Place>,
-    entity: EntityNo,
-    column: usize,
     cell: &Cell,
     ids: &mut Vec<u64>,
 ) -> Result<(), AllocError>
     ensures kept { OnOk result ((i : ℕ) → has_id i ids.old.items ≡ true
         → has_id i ids.new.items ≡ true) }
     ensures found { OnOk result ((i : ℕ) (d : CellSpec) → i < 2 ^ 64
-        → has_place places.now.keys entity column i d ≡ true → passes Op.Le d cell.now ≡ true
+        → has_place places.now.keys i d ≡ true → passes Op.Le d cell.now ≡ true
         → has_id i ids.new.items ≡ true) }
 {
     let to = places::value_of(alloc, cell)?;
-    places::add_between(places, entity, column, Value::Least, to, ids)?;
+    places::add_between(places, Value::Least, to, ids)?;
     let next = above_kind(alloc, cell);
-    places::add_between(places, entity, column, next, Value::Greatest, ids)
+    places::add_between(places, next, Value::Greatest, ids)
 }
 
-/// Adds the identifiers of the rows whose cell in a column isn't below: one of another type isn't below either.
+/// Adds the identifiers of the rows whose cell isn't below: one of another type isn't below either.
 fn add_not_below(
     alloc: Global,
     places: &BTreeSet<Place>,
-    entity: EntityNo,
-    column: usize,
     cell: &Cell,
     ids: &mut Vec<u64>,
 ) -> Result<(), AllocError>
     ensures kept { OnOk result ((i : ℕ) → has_id i ids.old.items ≡ true
         → has_id i ids.new.items ≡ true) }
     ensures found { OnOk result ((i : ℕ) (d : CellSpec) → i < 2 ^ 64
-        → has_place places.now.keys entity column i d ≡ true → passes Op.Ge d cell.now ≡ true
+        → has_place places.now.keys i d ≡ true → passes Op.Ge d cell.now ≡ true
         → has_id i ids.new.items ≡ true) }
 {
     let from = places::value_of(alloc, cell)?;
-    places::add_between(places, entity, column, from, Value::Greatest, ids)?;
+    places::add_between(places, from, Value::Greatest, ids)?;
     let last = below_kind(alloc, cell);
-    places::add_between(places, entity, column, Value::Least, last, ids)
+    places::add_between(places, Value::Least, last, ids)
 }
 
-/// The identifiers of the rows whose cell in a column stands to a cell as a comparison says, and perhaps of others. None if
+/// The identifiers of the rows whose cell stands to a cell as a comparison says, and perhaps of others. None if
 /// an index doesn't narrow the comparison.
 fn compared(
     alloc: Global,
     places: &BTreeSet<Place>,
-    entity: EntityNo,
-    column: usize,
     op: Op,
     cell: &Cell,
 ) -> Result<Option<Vec<u64>>, AllocError>
     ensures { IfOk result (λ o. IfSome o (λ ids. (i : ℕ) (d : CellSpec) → i < 2 ^ 64
-        → has_place places.now.keys entity column i d ≡ true → passes op d cell.now ≡ true
+        → has_place places.now.keys i d ≡ true → passes op d cell.now ≡ true
         → has_id i ids.items ≡ true)) }
 {
     let mut ids = Vec::new(alloc);
     match op {
-        Op::Eq => add_same(alloc, places, entity, column, cell, &mut ids)?,
+        Op::Eq => add_same(alloc, places, cell, &mut ids)?,
         Op::Ne => return Ok(None),
-        Op::Lt => add_below(alloc, places, entity, column, cell, &mut ids)?,
-        Op::Le => add_not_above(alloc, places, entity, column, cell, &mut ids)?,
-        Op::Gt => add_above(alloc, places, entity, column, cell, &mut ids)?,
-        Op::Ge => add_not_below(alloc, places, entity, column, cell, &mut ids)?,
+        Op::Lt => add_below(alloc, places, cell, &mut ids)?,
+        Op::Le => add_not_above(alloc, places, cell, &mut ids)?,
+        Op::Gt => add_above(alloc, places, cell, &mut ids)?,
+        Op::Ge => add_not_below(alloc, places, cell, &mut ids)?,
     }
     Ok(Some(ids))
 }
 
-/// The identifiers of the rows whose cell in a column is one of some cells.
-fn among(
-    alloc: Global,
-    places: &BTreeSet<Place>,
-    entity: EntityNo,
-    column: usize,
-    cells: &[Cell],
-) -> Result<Vec<u64>, AllocError>
+/// The identifiers of the rows whose cell is one of some cells.
+fn among(alloc: Global, places: &BTreeSet<Place>, cells: &[Cell]) -> Result<Vec<u64>, AllocError>
     ensures { IfOk result (λ ids. (i : ℕ) (d : CellSpec) → i < 2 ^ 64
-        → has_place places.now.keys entity column i d ≡ true
+        → has_place places.now.keys i d ≡ true
         → list_any (λ c. same_cell d c) cells.now ≡ true → has_id i ids.items ≡ true) }
 {
     let mut ids = Vec::new(alloc);
     for cell in cells {
-        add_same(alloc, places, entity, column, cell, &mut ids)?;
+        add_same(alloc, places, cell, &mut ids)?;
     }
     Ok(ids)
 }
@@ -211,24 +193,22 @@ fn joined(first: Option<Vec<u64>>, second: Option<Vec<u64>>) -> Result<Option<Ve
     Ok(Some(first))
 }
 
-/// The identifiers of the rows whose cell in a column refers to a row of one of some identifiers. None if one of these is so
+/// The identifiers of the rows whose cell refers to a row of one of some identifiers. None if one of these is so
 /// large that no cell holds it.
 fn referring(
     alloc: Global,
     places: &BTreeSet<Place>,
-    entity: EntityNo,
-    column: usize,
     targets: &[u64],
 ) -> Result<Option<Vec<u64>>, AllocError>
     ensures { IfOk result (λ o. IfSome o
-        (λ ids. Refer places.now.keys entity column targets.now ids.items)) }
+        (λ ids. Refer places.now.keys targets.now ids.items)) }
 {
     let mut ids = Vec::new(alloc);
     for target in targets {
         let Ok(id) = i64::try_from(*target) else {
             return Ok(None);
         };
-        add_same(alloc, places, entity, column, &Cell::Int(id), &mut ids)?;
+        add_same(alloc, places, &Cell::Int(id), &mut ids)?;
     }
     Ok(Some(ids))
 }
@@ -250,16 +230,16 @@ fn compared_at(
         return Ok(None);
     };
     let Some(target) = path.target else {
-        return compared(alloc, places, entity, column, op, cell);
+        return compared(alloc, places, op, cell);
     };
     let of_target = usize::from(target.column);
     let Some(there) = places_in(columns, target.entity, of_target) else {
         return Ok(None);
     };
-    let Some(found) = compared(alloc, there, target.entity, of_target, op, cell)? else {
+    let Some(found) = compared(alloc, there, op, cell)? else {
         return Ok(None);
     };
-    referring(alloc, places, entity, column, found.as_slice())
+    referring(alloc, places, found.as_slice())
 }
 
 /// The identifiers of the rows of which the cell at a path is one of some cells, and perhaps of others.
@@ -278,14 +258,14 @@ fn among_at(
         return Ok(None);
     };
     let Some(target) = path.target else {
-        return Ok(Some(among(alloc, places, entity, column, cells)?));
+        return Ok(Some(among(alloc, places, cells)?));
     };
     let of_target = usize::from(target.column);
     let Some(there) = places_in(columns, target.entity, of_target) else {
         return Ok(None);
     };
-    let found = among(alloc, there, target.entity, of_target, cells)?;
-    referring(alloc, places, entity, column, found.as_slice())
+    let found = among(alloc, there, cells)?;
+    referring(alloc, places, found.as_slice())
 }
 
 /// The identifiers of the rows of an entity that meet a condition, and perhaps of others, in any order. None if the columns
@@ -344,22 +324,8 @@ pub fn is_wide(
             };
             let value = places::value_of(alloc, cell)?;
             Ok(match op {
-                Op::Lt | Op::Le => places::are_more(
-                    places,
-                    entity,
-                    column,
-                    Value::Least,
-                    value,
-                    most,
-                ),
-                Op::Gt | Op::Ge => places::are_more(
-                    places,
-                    entity,
-                    column,
-                    value,
-                    Value::Greatest,
-                    most,
-                ),
+                Op::Lt | Op::Le => places::are_more(places, Value::Least, value, most),
+                Op::Gt | Op::Ge => places::are_more(places, value, Value::Greatest, most),
                 Op::Eq => false,
                 Op::Ne => true,
             })

@@ -58,14 +58,14 @@ fn place_in(
     row: Option<&Row>,
 ) -> Result<Option<Place>, AllocError>
     ensures { IfOk result (λ place. (i : ℕ) (d : CellSpec)
-        → option_map_or (is_place entity column i d) place false
+        → option_map_or (is_place i d) place false
         ≡ (same_key key.now (key_at entity i) && has_cell (option_copied row.entry) column d)) }
 {
     if key.entity != entity {
         return Ok(None);
     }
     match cell_of(row, column) {
-        Some(cell) => Ok(Some(places::place_of(alloc, entity, key.id, column, cell)?)),
+        Some(cell) => Ok(Some(places::place_of(alloc, key.id, cell)?)),
         None => Ok(None),
     }
 }
@@ -79,9 +79,9 @@ fn drop_cell(
     key: &Key,
     row: Option<&Row>,
 ) -> Result<(), AllocError>
-    ensures { OnOk result ((i : ℕ) (d : CellSpec) → has_place places.new.keys entity column i d
+    ensures { OnOk result ((i : ℕ) (d : CellSpec) → has_place places.new.keys i d
         ≡ (not (same_key key.now (key_at entity i) && has_cell (option_copied row.entry) column d)
-        && has_place places.old.keys entity column i d)) }
+        && has_place places.old.keys i d)) }
 {
     match place_in(alloc, entity, column, key, row)? {
         Some(place) => {
@@ -102,9 +102,9 @@ fn add_cell(
     row: Option<&Row>,
 ) -> Result<(), AllocError>
     ensures fit { key.now.id < 2 ^ 64 }
-    ensures added { OnOk result ((i : ℕ) (d : CellSpec) → has_place places.new.keys entity column i d
+    ensures added { OnOk result ((i : ℕ) (d : CellSpec) → has_place places.new.keys i d
         ≡ ((same_key key.now (key_at entity i) && has_cell (option_copied row.entry) column d)
-        || has_place places.old.keys entity column i d)) }
+        || has_place places.old.keys i d)) }
 {
     let _id = key.id;
     match place_in(alloc, entity, column, key, row)? {

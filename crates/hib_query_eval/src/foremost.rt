@@ -121,8 +121,8 @@ fn start(alloc: Global, query: &Query, sort: &Sort) -> Result<Option<Value>, All
     }
 }
 
-/// How far a walk along a column goes: to so many rows that a query lists, in so many steps. If that is sure, the query
-/// lists each row from the first one on that it lists.
+/// How far a walk along a column goes: to a number of rows that a query lists, in at most a number of steps. If it is sure, the
+/// query lists each row from the first one on that it lists.
 #[derive(Clone, Copy)]
 struct Reach {
     most: usize,
@@ -137,13 +137,12 @@ fn ahead<'a>(
     places: &'a BTreeSet<Place>,
     start: Option<Value>,
 ) -> Range<'a, Place> {
-    let column = usize::from(sort.column);
     if sort.desc {
         let to = start.unwrap_or(Value::Greatest);
-        return places::between(places, query.entity, column, Value::Least, to);
+        return places::between(places, Value::Least, to);
     }
     let from = start.unwrap_or(Value::Least);
-    places::between(places, query.entity, column, from, Value::Greatest)
+    places::between(places, from, Value::Greatest)
 }
 
 /// The next identifier of a walk, which goes down from the last place or up from the first one.
@@ -220,7 +219,7 @@ fn are_few(
     }
 }
 
-/// Rows among which are those that come first in a query's order, so many as are asked for, of those that it lists of
+/// Rows among which are those that come first in a query's order, as many as are asked for, of those that it lists of
 /// some rows. None if the order of all is as quick.
 pub fn foremost<'a>(
     alloc: Global,

@@ -21,7 +21,7 @@ pub fn gives(alloc: Global, query: &Query, rows: &Rows) -> Result<Listing, Alloc
 {
     let view = View::of(rows.as_slice());
     let met = listed(alloc, query, rows.as_slice(), &view, enough(query))?;
-    selected(alloc, query, &met)
+    selected(alloc, query, met)
 }
 
 /// How many of the rows that a query lists are enough for what it gives, since they stand in its order already. None if all are
@@ -42,7 +42,7 @@ pub fn last_place(query: &Query) -> usize
     query.offset as usize + query.limit as usize
 }
 
-/// Whether so many rows are enough.
+/// Whether a number of rows is enough.
 pub fn is_enough(count: usize, most: Option<usize>) -> bool
     ensures { result ≡ is_enough count most }
 {
@@ -53,9 +53,9 @@ pub fn is_enough(count: usize, most: Option<usize>) -> bool
 }
 
 /// What a query selects of the rows that meet its condition.
-pub fn selected(alloc: Global, query: &Query, met: &Vec<&(Key, Row)>) -> Result<Listing, AllocError>
+pub fn selected(alloc: Global, query: &Query, met: Vec<&(Key, Row)>) -> Result<Listing, AllocError>
     ensures { IfOk result (λ l. l ≡ selected query.now
-        (map (λ r. r.now) met.now.items) query.now.select) }
+        (map (λ r. r.now) met.entry.items) query.now.select) }
 {
     match query.select {
         Select::Count => count(alloc, met.len()),
@@ -78,18 +78,13 @@ pub fn selected(alloc: Global, query: &Query, met: &Vec<&(Key, Row)>) -> Result<
 fn placed<'a>(
     alloc: Global,
     query: &Query,
-    met: &Vec<&'a (Key, Row)>,
+    met: Vec<&'a (Key, Row)>,
 ) -> Result<Vec<&'a (Key, Row)>, AllocError>
     ensures { IfOk result (λ v. map (λ r. r.now) v.items
         ≡ take (query.now.offset + query.now.limit)
-        (sorted query.now.order (map (λ r. r.now) met.now.items))) }
+        (sorted query.now.order (map (λ r. r.now) met.entry.items))) }
 {
-    orders::first_sorted(
-        alloc,
-        query.order.as_slice(),
-        met.as_slice(),
-        last_place(query),
-    )
+    orders::first_sorted(alloc, query.order.as_slice(), met, last_place(query))
 }
 
 /// The rows that a query lists of a view, of some of its rows. Where a number is enough, no more than that.
@@ -123,7 +118,7 @@ pub fn is_listed<'a>(query: &Query, view: &'a View<'_>, row: &'a (Key, Row)) -> 
     row.0.entity == query.entity && conditions::meets(view, &row.1, &query.condition)
 }
 
-/// So many rows from a place on.
+/// The rows from `offset` on, `limit` at most.
 fn cut<'a, 'b>(rows: &'a [&'b (Key, Row)], offset: u32, limit: u32) -> &'a [&'b (Key, Row)]
     ensures { result.now ≡ take limit (drop offset rows.now) }
 {

@@ -64,12 +64,12 @@ fn given(
     let view = View::of(rows);
     let own = searches::of_entity(rows, query.entity);
     match foremost::foremost(alloc, query, own, columns, &view)? {
-        Some(met) => listing::selected(alloc, query, &met),
+        Some(met) => listing::selected(alloc, query, met),
         None => given_of_all(alloc, query, rows, columns, &view),
     }
 }
 
-/// What a query gives over rows as they are, by all rows that it lists, or by so many as are enough.
+/// What a query gives over rows as they are, by all rows that it lists, or by as many as are enough.
 fn given_of_all(
     alloc: Global,
     query: &Query,
@@ -84,7 +84,7 @@ fn given_of_all(
 {
     let enough = listing::enough(query);
     let met = searches::listed(alloc, query, rows, columns, view, enough)?;
-    listing::selected(alloc, query, &met)
+    listing::selected(alloc, query, met)
 }
 
 /// What a query gives over rows with changes laid over them, of which it is known what they leave.
@@ -104,5 +104,5 @@ fn given_over(
     let view = View::over(rows, changes, laid);
     let enough = listing::enough(query);
     let met = searches::listed_over(alloc, query, rows, columns, changes, laid, &view, enough)?;
-    listing::selected(alloc, query, &met)
+    listing::selected(alloc, query, met)
 }

@@ -6,7 +6,7 @@ ghost use Rattle.hib_journal.specs.Types.{Cell as CellSpec};
 ghost use Rattle.hib_query_eval.specs.Places.{cell_in, is_place, has_place};
 ghost use Rattle.hib_query_eval.specs.Spans.{value_cmp, is_within};
 
-use hib_base::{Cell, EntityNo};
+use hib_base::Cell;
 use std::alloc::{AllocError, Global};
 use std::collections::BTreeSet;
 use std::collections::btree_set::Range;
@@ -27,13 +27,9 @@ pub enum Value {
     Greatest,
 }
 
-/// The place of a cell: cells of one column stand together, in order of their values and then of identifiers.
+/// The place of a cell among those of its column: in order of their values and then of identifiers.
 #[derive(PartialEq, Eq, PartialOrd, Ord, Drop)]
 pub struct Place {
-    /// The entity that the cell's row is of.
-    pub entity: EntityNo,
-    /// The column, from 0.
-    pub column: usize,
     /// The cell.
     pub value: Value,
     /// The identifier of the cell's row.
@@ -51,22 +47,12 @@ pub fn value_of(alloc: Global, cell: &Cell) -> Result<Value, AllocError>
     }
 }
 
-/// The place of a cell in a column of the row of an identifier.
-pub fn place_of(
-    alloc: Global,
-    entity: EntityNo,
-    id: u64,
-    column: usize,
-    cell: &Cell,
-) -> Result<Place, AllocError>
-    ensures entity { IfOk result (λ p. p.entity ≡ entity) }
-    ensures column { IfOk result (λ p. p.column ≡ column) }
+/// The place of a cell of the row of an identifier.
+pub fn place_of(alloc: Global, id: u64, cell: &Cell) -> Result<Place, AllocError>
     ensures cell { IfOk result (λ p. cell_in p.value ≡ Some cell.now) }
     ensures id { IfOk result (λ p. p.id ≡ id) }
 {
     Ok(Place {
-        entity,
-        column,
         value: value_of(alloc, cell)?,
         id,
     })
@@ -74,9 +60,9 @@ pub fn place_of(
 
 /// Adds a place.
 pub fn add_place(places: &mut BTreeSet<Place>, place: Place) -> Result<(), AllocError>
-    ensures { OnOk result ((e c i : ℕ) (d : CellSpec)
-        → has_place places.new.keys e c i d
-        ≡ (is_place e c i d place || has_place places.old.keys e c i d)) }
+    ensures { OnOk result ((i : ℕ) (d : CellSpec)
+        → has_place places.new.keys i d
+        ≡ (is_place i d place || has_place places.old.keys i d)) }
 {
     places.insert(place)?;
     Ok(())
@@ -84,84 +70,49 @@ pub fn add_place(places: &mut BTreeSet<Place>, place: Place) -> Result<(), Alloc
 
 /// Drops a place, if it is there.
 pub fn drop_place(places: &mut BTreeSet<Place>, place: Place)
-    ensures { (e c i : ℕ) (d : CellSpec)
-        → has_place places.new.keys e c i d
-        ≡ (not (is_place e c i d place) && has_place places.old.keys e c i d) }
+    ensures { (i : ℕ) (d : CellSpec)
+        → has_place places.new.keys i d
+        ≡ (not (is_place i d place) && has_place places.old.keys i d) }
 {
     places.remove(&place);
 }
 
-/// Adds the identifiers of the rows whose cell in a column is at one of two values or between them.
-pub fn add_between(
-    places: &BTreeSet<Place>,
-    entity: EntityNo,
-    column: usize,
-    from: Value,
-    to: Value,
-    ids: &mut Vec<u64>,
-) -> Result<(), AllocError>
+/// The places of the cells that are at one of two values or between them, in order.
+pub fn between(places: &BTreeSet<Place>, from: Value, to: Value) -> Range<'_, Place>
     requires { is_gt (value_cmp from to) ≡ false }
-    ensures { OnOk result (ids.new.items
-        ≡ ids.old.items ++ map (λ p. p.id)
-        (filter (is_within entity column from to) places.now.keys)) }
+    ensures { result ≡ filter (is_within from to) places.now.keys }
 {
-    let first = Place {
-        entity,
-        column,
-        value: from,
-        id: 0,
-    };
+    let first = Place { value: from, id: 0 };
     let last = Place {
-        entity,
-        column,
-        value: to,
-        id: u64::MAX,
-    };
-    let found = places.range((Bound::Included(first), Bound::Included(last)));
-    for place in found {
-        ids.push(place.id)?;
-    }
-    Ok(())
-}
-
-/// The places of the cells in a column that are at one of two values or between them, in order.
-pub fn between(
-    places: &BTreeSet<Place>,
-    entity: EntityNo,
-    column: usize,
-    from: Value,
-    to: Value,
-) -> Range<'_, Place>
-    requires { is_gt (value_cmp from to) ≡ false }
-{
-    let first = Place {
-        entity,
-        column,
-        value: from,
-        id: 0,
-    };
-    let last = Place {
-        entity,
-        column,
         value: to,
         id: u64::MAX,
     };
     places.range((Bound::Included(first), Bound::Included(last)))
 }
 
-/// Whether more cells than this are in a column at one of two values or between them.
-pub fn are_more(
+/// Adds the identifiers of the rows whose cell is at one of two values or between them.
+pub fn add_between(
     places: &BTreeSet<Place>,
-    entity: EntityNo,
-    column: usize,
     from: Value,
     to: Value,
-    most: usize,
-) -> bool
+    ids: &mut Vec<u64>,
+) -> Result<(), AllocError>
+    requires { is_gt (value_cmp from to) ≡ false }
+    ensures { OnOk result (ids.new.items
+        ≡ ids.old.items ++ map (λ p. p.id) (filter (is_within from to) places.now.keys)) }
+{
+    for place in between(places, from, to) {
+        ids.push(place.id)?;
+    }
+    Ok(())
+}
+
+/// Whether more cells than this are at one of two values or between them.
+pub fn are_more(places: &BTreeSet<Place>, from: Value, to: Value, most: usize) -> bool
     requires { is_gt (value_cmp from to) ≡ false }
 {
     let mut left = most;
-    for _place in between(places, entity, column, from, to) {
+    for _place in between(places, from, to) {
         if left == 0 {
             return true;
         }

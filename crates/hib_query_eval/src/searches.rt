@@ -1,7 +1,6 @@
 // The rows that a query lists, by an index and with changes laid over.
 ghost use Rattle.std.specs.Prelude.{◌≡◌, ◌<◌, ◌≤◌, ℕ, true, false, length, IfOk, IfSome, OnOk, map, take, drop, option_copied};
 ghost use Rattle.std.specs.List.Sorted.{IsStrictlyIncreasing};
-ghost use Rattle.hib_base.specs.Keys.{is_before};
 ghost use Rattle.hib_base.specs.Tables.{Tables, in_order, after_changes};
 ghost use Rattle.hib_journal.specs.Room.{key as key_at};
 ghost use Rattle.hib_journal.specs.Query.{listed};
@@ -148,8 +147,8 @@ fn narrowed_over(
     Ok(Some(ids))
 }
 
-/// The rows that are enough, where so many are listed among the first rows. None else, and where the places tell that few rows meet
-/// the condition.
+/// As many rows as are enough, if the first rows have them. None if they don't, or if the places tell that few rows meet the
+/// condition.
 fn listed_early<'a>(
     alloc: Global,
     query: &Query,
@@ -249,12 +248,6 @@ pub fn listed<'a>(
     }
 }
 
-fn comes_before(a: &Key, b: &Key) -> bool
-    ensures { result ≡ is_before a.now b.now }
-{
-    a.entity.0 < b.entity.0 || (a.entity.0 == b.entity.0 && a.id < b.id)
-}
-
 /// Whether of the rows that are left in two lists the second list's comes first.
 fn is_second(rows: &[(Key, Row)], at: usize, left: &[(Key, Row)], behind: usize) -> bool
     ensures first { result ≡ comes_first (drop at rows.now) (drop behind left.now) }
@@ -267,7 +260,7 @@ fn is_second(rows: &[(Key, Row)], at: usize, left: &[(Key, Row)], behind: usize)
     if at >= rows.len() {
         return true;
     }
-    comes_before(&left[behind].0, &rows[at].0)
+    keyed::comes_before(&left[behind].0, &rows[at].0)
 }
 
 /// The rows that a query lists of a view, in order: of some rows, but those of changed keys, and of the rows that changes leave. Where

@@ -72,7 +72,7 @@ pub fn close(draft: &mut Draft) -> Result<(), AllocError>
     }
 }
 
-/// Whether there is room for one more beside so many.
+/// Whether there is room for one more beside `count`.
 pub fn has_room(count: usize, most: usize) -> bool
     ensures { result ≡ nat_lt count most }
 {

@@ -61,7 +61,7 @@ fn read_text(alloc: Global, draft: &mut Draft, text: &[u8]) -> Result<u32, Scrip
     Ok(count)
 }
 
-/// Reads one more line of a text, after so many others: takes the one before it that said something, and gives the one that does so
+/// Reads one more line of a text: takes the one before it that said something, and gives the one that does so
 /// now. What is left of the text is read for its first bad line if the line that is taken has a fault.
 fn pass(
     alloc: Global,
@@ -126,7 +126,7 @@ fn line_said(alloc: Global, number: u32, line: &[u8]) -> Result<Option<Line>, Sc
     }
 }
 
-/// Takes a line into a draft, after which a text is left whose lines come after so many others.
+/// Takes a line into a draft, and what is left of the text is read if the line has a fault.
 fn take(
     alloc: Global,
     draft: &mut Draft,
@@ -149,7 +149,7 @@ fn take(
     }
 }
 
-/// The first bad line of a text before which so many others stand; or else this fault, of a line before it.
+/// The first bad line of a text that has `before` lines before it; or else this fault, of a line before it.
 fn first_bad(alloc: Global, fault: Refused, before: u32, text: &[u8]) -> ScriptError
     requires { before + length text.now < 2 ^ 31 }
     ensures { order.IsWhere (unless_bad fault (lex_after_in before text.now)) result }
@@ -234,7 +234,7 @@ fn step(alloc: Global, draft: &mut Draft, followed: bool, line: &Line) -> Result
     }
 }
 
-/// The script of a draft at the end of a text of so many lines.
+/// The script of a draft at the end of a text of `count` lines.
 fn ended(count: u32, draft: Draft) -> Result<Script, ScriptError>
     ensures script { IfOk result (λ s. order.ended_at count (reader_of draft) draft.place
         ≡ Ok (outline_of s)) }
@@ -264,7 +264,7 @@ fn finished(mut draft: Draft) -> Result<Script, AllocError>
     Ok(script)
 }
 
-/// What is said if a text of so many lines ends within a session or a schedule.
+/// What is said if a text of `count` lines ends within a session or a schedule.
 fn unfinished(count: u32) -> ScriptError
     ensures { result ≡ ScriptError.Refused (order.refused_at count Kind.NoEnd) }
 {

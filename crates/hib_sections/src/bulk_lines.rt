@@ -98,7 +98,7 @@ fn is_mistyped(condition: &Behind) -> bool
     matches!(condition, Behind::Fault(Kind::CellType))
 }
 
-/// Whether a path steps to one of the first so many entities, if it steps to one.
+/// Whether a path steps to one of the first `count` entities, if it steps to one.
 fn is_step_within(count: usize, path: &Path) -> bool
     ensures { result ≡ lines.is_step_within count path.now }
 {
@@ -108,7 +108,7 @@ fn is_step_within(count: usize, path: &Path) -> bool
     }
 }
 
-/// Whether a condition steps to the first so many entities alone.
+/// Whether a condition steps to the first `count` entities alone.
 #[tactic(auto, using(crate::proofs::Within::and_within, crate::proofs::Within::or_within, crate::proofs::Within::one))]
 fn is_within(count: usize, condition: &Cond) -> bool
     ensures { result ≡ list_all (lines.is_within count) (parts_of condition.now) }
@@ -386,7 +386,7 @@ fn of_words(
     }
 }
 
-/// The bulk line of a line that begins with `update` or else `delete`, after so many bulk lines and with these names taken.
+/// The bulk line of a line that begins with `update` or else `delete`, after `count` bulk lines and with these names taken.
 ///
 /// Errors: `Fault` exactly if it is none, with the first kind that it has of words, taken, unknown, type, depth and many. `NoMemory`
 /// if there is none left. Nothing is changed.

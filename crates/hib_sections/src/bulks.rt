@@ -214,7 +214,7 @@ fn read(
     Ok(reading)
 }
 
-/// What was read, if the text may end there, which has so many lines.
+/// What was read, if the text may end there, which has `count` lines.
 fn ended(count: u32, reading: Reading) -> Result<Bulks, ScriptError>
     ensures bulks { IfOk result (λ b. section.ended_at count (read_of reading) reading.place
         ≡ Ok (map said_of b.lines, b.orders)) }

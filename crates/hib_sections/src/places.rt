@@ -261,7 +261,7 @@ fn read(
     Ok(reading)
 }
 
-/// What was read, if the text may end there, which has so many lines.
+/// What was read, if the text may end there, which has `count` lines.
 fn ended(count: u32, reading: Reading) -> Result<Places, ScriptError>
     ensures places { IfOk result (λ p. section.ended_at count (read_of reading) reading.place
         ≡ Ok (p.nodes, p.orders)) }

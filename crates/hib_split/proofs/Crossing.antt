@@ -24,7 +24,7 @@ use Rattle.hib_parts.specs.contracts.region.RegionPart as RegionPartT
 use Rattle.hib_parts.specs.contracts.worker.Worker as WorkerT
 use Rattle.hib_split.specs.contracts.strange.Strange as StrangeT
 use Rattle.hib_split.specs.contracts.locks.LockedRegion as LockedRegionT
-use Rattle.hib_split.specs.contracts.bench.Bench as BenchT
+use Rattle.hib_split.specs.contracts.locked_parts.LockedParts as LockedPartsT
 
 strange_send : IsSend StrangeT.the_field.row
 strange_send = search (sendable, crosses) depth 100 fits 100000
@@ -84,8 +84,8 @@ module _ (K : RattleType) (k : keeper.Ghosts K.Denot) (sk : IsSend K) where
     locked_sync : IsSync (LockedRegionT.the_field N n).row
     locked_sync = search (sendable, crosses, region_part_send) depth 100 fits 100000
 
-    fields_sync : IsSync (BenchT.the_field K N k n).row
+    fields_sync : IsSync (LockedPartsT.the_field K N k n).row
     fields_sync = search (sendable, crosses, registry_part_send, store_part_send, stamps_part_send, results_part_send, locked_sync, worker_send, strange_send) depth 100 fits 100000
 
-    pub bench_sync : IsSync (BenchT.the_row K N k n)
-    bench_sync = search (sendable, fields_sync) depth 20
+    pub locked_parts_sync : IsSync (LockedPartsT.the_row K N k n)
+    locked_parts_sync = search (sendable, fields_sync) depth 20

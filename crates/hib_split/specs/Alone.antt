@@ -13,6 +13,10 @@ use Rattle.hib_merge.specs.Merging.{AreRising, IsInOne}
 use Rattle.hib_engines.specs.Origin.{Origin}
 use Rattle.hib_parts.specs.Run.{AreOfRun, AreOfRunOneByOne, IsOneByOne}
 
+-- the most workers that a run takes
+abbrev pub max_workers : ℕ
+max_workers = 64
+
 -- the lists of parts and those of sessions are legal, each by itself, and those of parts can be merged
 pub record AreListed (script : Script) (told : Option Tables) (lists mine : List Journal) : Type 0 where
   pub parts : ArePartsLegal script told lists

@@ -63,10 +63,10 @@ pub fn without_room<K: Keeper, N: Name>(alloc: Global, parts: Parts<K, N>) -> Sp
     }
 }
 
-/// Runs each session to its end, the first one first. The tick of a step is one more than the greater of the last ticks of its part
-/// and of its session. If memory runs out, or no tick is left, the steps so far stand. Else, if the parts had no entries before, the
-/// lists of sessions agree with what those of parts are merged into. If the script is valid as well, that has one session after the
-/// other, in order of number, and its k-th entry has tick k.
+/// Runs each session to its end, the first one first. The tick of a step is one more than the greater of the last ticks
+/// of its part and of its session. If memory runs out, or no tick is left, the steps so far stand. Else, if the parts
+/// had no entries before, the lists of sessions agree with what those of parts are merged into. If the script is valid
+/// as well, that has one session after the other, in order of number, and its k-th entry has tick k.
 pub fn run_alone<K: Keeper, N: Name>(alloc: Global, parts: Parts<K, N>, script: &Script) -> Split<K>
     requires script { script.now ≡ N.script }
     requires store { parts.store.list ≡ [] }

@@ -1,5 +1,6 @@
 // The lists of parts put together, in the order of parts.
-ghost use Rattle.std.specs.Prelude.{◌≡◌, ◌≤◌, ◌+◌, ◌==◌, ◌∷◌, ◌++◌, ℕ, [], if◌then◌else◌, map, reverse, false, vec_len, vec_capacity, IfOk, OnOk};
+ghost use Rattle.std.specs.Prelude.{◌≡◌, ◌≤◌, ◌+◌, ◌==◌, ◌∷◌, ◌++◌, ℕ, [], if◌then◌else◌, map, reverse, false, vec_len};
+ghost use Rattle.std.specs.Prelude.{vec_capacity, IfOk, OnOk};
 ghost use Rattle.hib_base.specs.declared.entries.Part.{Part};
 ghost use Rattle.hib_journal.specs.Kept.{past};
 ghost use Rattle.hib_journal.specs.Lists.{of_part};
@@ -19,7 +20,7 @@ use hib_outside::Keeper;
 use hib_parts::{Parts, RegionPart};
 use std::alloc::{AllocError, Global};
 
-/// No lists, with room for so many.
+/// No lists, with room for `count` of them.
 pub fn room_for(alloc: Global, count: usize) -> Result<Vec<Journal>, AllocError>
     ensures items { IfOk result (λ v. v.items ≡ []) }
     ensures room { IfOk result (λ v. vec_len v + count ≤ vec_capacity v) }

@@ -38,7 +38,8 @@ pub fn lock_regions<N: Name>(regions: Vec<RegionPart<N>>, locks: &mut Vec<Locked
     }
 }
 
-/// Takes each region out of its lock, in order, and compares it with the one that was put there. There is room for the regions.
+/// Takes each region out of its lock, in order, and compares it with the one that was put there. There is room for the
+/// regions.
 pub fn unlock_regions<N: Name>(
     locks: Vec<LockedRegion<N>>,
     regions: &mut Vec<RegionPart<N>>,

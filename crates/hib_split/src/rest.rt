@@ -1,5 +1,7 @@
-// What comes of a run: the caller steps the sessions to their ends from where workers left them, and puts the lists together.
-ghost use Rattle.std.specs.Prelude.{◌≡◌, ◌≢◌, ◌<◌, ◌≤◌, ◌+◌, [], length, map, true, false, None, vec_len, vec_capacity, IfSome, IsSome};
+// What comes of a run: the caller steps the sessions to their ends from where workers left them, and puts the lists
+// together.
+ghost use Rattle.std.specs.Prelude.{◌≡◌, ◌≢◌, ◌<◌, ◌≤◌, ◌+◌, [], length, map, true, false, None, vec_len, vec_capacity};
+ghost use Rattle.std.specs.Prelude.{IfSome, IsSome};
 ghost use Rattle.hib_base.specs.Valid.{is_valid};
 ghost use Rattle.hib_base.specs.declared.entries.Part.{Part};
 ghost use Rattle.hib_journal.specs.Kept.{past};
@@ -8,7 +10,8 @@ ghost use Rattle.hib_engines.specs.Counts.{RoseBy, RoseWithin};
 ghost use Rattle.hib_split_law.specs.Apart.{store_ask_count};
 ghost use Rattle.hib_split_law.specs.Merged.{AreOwnLegal, of_part_in};
 ghost use Rattle.hib_parts.specs.Run.{GoesOn, cached_entities, entities_of, part_lists};
-ghost use Rattle.hib_split.specs.Alone.{AreAtEnds, AreListed, AreOfOne, AreOneByOne, AreOwnListed, AreSoFar, AreWhole, IsToldBy};
+ghost use Rattle.hib_split.specs.Alone.{AreAtEnds, AreListed, AreOfOne, AreOneByOne, AreOwnListed, AreSoFar, AreWhole};
+ghost use Rattle.hib_split.specs.Alone.{IsToldBy};
 
 use crate::gathering::{add_own_lists, add_shared};
 use crate::strange::Strange;
@@ -24,7 +27,8 @@ use std::alloc::Global;
 pub struct Split<K: Keeper> {
     /// The keeper that the parts were opened with.
     pub keeper: K,
-    /// The list of each part, in the order of parts: the own entries of each session come last, in the order of sessions.
+    /// The list of each part, in the order of parts: the own entries of each session come last, in the order of
+    /// sessions.
     pub lists: Lists,
     /// The list of each session, at the place of its number.
     pub mine: Lists,
@@ -82,8 +86,8 @@ fn step_to_end<K: Keeper, N: Name>(
     }
 }
 
-/// Steps a session to its end, unless memory had run out before. Its list is added to those of the sessions before it. There is room
-/// for it. Whether memory has run out.
+/// Steps a session to its end, unless memory had run out before. Its list is added to those of the sessions before it.
+/// There is room for it. Whether memory has run out.
 fn end_session<K: Keeper, N: Name>(
     alloc: Global,
     script: &Script,
@@ -121,8 +125,8 @@ fn end_session<K: Keeper, N: Name>(
     refused
 }
 
-/// Steps each session to its end, the first one first, unless memory runs out or had run out before. The list of each session is added
-/// to `mine`, where there is room for them. Whether memory has run out.
+/// Steps each session to its end, the first one first, unless memory runs out or had run out before. The list of each
+/// session is added to `mine`, where there is room for them. Whether memory has run out.
 fn end_sessions<K: Keeper, N: Name>(
     alloc: Global,
     script: &Script,
@@ -163,8 +167,8 @@ fn has_run_out<K: Keeper, N: Name>(refused: bool, store: &StorePart<K, N>) -> bo
     refused || store.refused()
 }
 
-/// Steps the sessions to their ends, from where the workers that were put aside left them, unless memory ran out in one. The lists are
-/// put together. There is room for them.
+/// Steps the sessions to their ends, from where the workers that were put aside left them, unless memory ran out in
+/// one. The lists are put together. There is room for them.
 pub fn go_on<K: Keeper, N: Name>(
     alloc: Global,
     script: &Script,

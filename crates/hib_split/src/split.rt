@@ -9,9 +9,10 @@ ghost use Rattle.hib_split_law.specs.Apart.{store_ask_count};
 ghost use Rattle.hib_split_law.specs.Merged.{of_part_in};
 ghost use Rattle.hib_parts.specs.Run.{cached_entities, entities_of};
 ghost use Rattle.hib_split.specs.Alone.{AreAtEnds, AreListed, AreOneByOne, AreOwnListed, AreWhole, IsToldBy};
+ghost use Rattle.hib_split.specs.Alone.{max_workers};
 
 use crate::alone::{rooms, run_alone, without_room};
-use crate::bench::{Left, room_for_threads};
+use crate::locked_parts::{Left, room_for_threads};
 use crate::rest::{Split, go_on, stop};
 use crate::threads::on_threads;
 use hib_base::Script;
@@ -22,16 +23,17 @@ use std::alloc::Global;
 use std::sync::Wait;
 use std::thread::Threads;
 
-/// Runs each session to its end on so many workers, each part behind a lock of its own. With one worker it is `run_alone`: no
-/// thread is started, no lock is taken, the gate isn't asked, and the sessions of a valid script come one after the other, in order
-/// of number. With more, each takes the next session that nobody has taken, and
-/// makes its steps one after the other: before a step it passes the gate, with the number of the session's entries so far, and for a
-/// step it takes the lock of the part that is due, or none for an act of the session's own. The tick of a step is one more than the
-/// greater of the last ticks of its part and of its session. After the workers have ended, the caller steps the sessions to their ends.
+/// Runs each session to its end on `workers` workers, each part behind a lock of its own. With one worker it is
+/// `run_alone`: no thread is started, no lock is taken, the gate isn't asked, and the sessions of a valid script come
+/// one after the other, in order of number. With more, each takes the next session that nobody has taken, and makes its
+/// steps one after the other: before a step it passes the gate, with the number of the session's entries so far, and
+/// for a step it takes the lock of the part that is due, or none for an act of the session's own. The tick of a step is
+/// one more than the greater of the last ticks of its part and of its session. After the workers have ended, the caller
+/// steps the sessions to their ends.
 ///
-/// What stands behind a lock is known by its type alone, so the region that a lock gave is compared with the one that was asked for.
-/// If they differ, `strange` says so, the rest isn't run, and there are no lists. If memory runs out, or no tick is left, the
-/// steps so far stand. It may wait for other threads.
+/// What stands behind a lock is known by its type alone, so the region that a lock gave is compared with the one that
+/// was asked for. If they differ, `strange` says so, the rest isn't run, and there are no lists. If memory runs out, or
+/// no tick is left, the steps so far stand. It may wait for other threads.
 #[tactic(auto, using(crate::proofs::Failed::told_fewer))]
 pub fn work_split<R: Threads + Wait + Sync, K: Keeper, N: Name + Send + Sync, G: Gate>(
     rt: &R,
@@ -41,7 +43,7 @@ pub fn work_split<R: Threads + Wait + Sync, K: Keeper, N: Name + Send + Sync, G:
     workers: u32,
     gate: &G,
 ) -> Split<K>
-    requires workers { (1 ≤ workers) × (workers ≤ 64) }
+    requires workers { (1 ≤ workers) × (workers ≤ max_workers) }
     requires script { script.now ≡ N.script }
     requires store { parts.store.list ≡ [] }
     requires entities { entities_of parts.regions.items ≡ cached_entities N.script }

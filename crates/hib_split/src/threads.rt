@@ -3,8 +3,8 @@ ghost use Rattle.std.specs.Prelude.{◌≡◌, ◌≤◌, ◌+◌, [], vec_len, 
 ghost use denote.Param.Send.{IsSync};
 ghost use Rattle.hib_parts.specs.Run.{entities_of};
 
-use crate::bench::{Bench, Left, Room};
 use crate::halt::Halt;
+use crate::locked_parts::{Left, LockedParts, Room};
 use hib_base::{Query, Script};
 use hib_engines::{Name, Stepped};
 use hib_outside::{Gate, Keeper};
@@ -38,9 +38,9 @@ pub fn on_threads<R: Threads + Wait + Sync, K: Keeper, N: Name + Send + Sync, G:
         regions,
         aside,
     } = room;
-    let bench = Bench::open(parts, script, locks, aside);
-    take_turns(rt, alloc, &bench, script, workers, gate);
-    bench.close(regions)
+    let locked = LockedParts::open(parts, script, locks, aside);
+    take_turns(rt, alloc, &locked, script, workers, gate);
+    locked.close(regions)
 }
 
 /// What threads may share, proofs may say so of.
@@ -52,7 +52,7 @@ fn may_be_shared<T: Sync>()
 fn take_turns<R: Threads + Wait + Sync, K: Keeper, N: Name + Send + Sync, G: Gate>(
     rt: &R,
     alloc: Global,
-    bench: &Bench<K, N>,
+    locked: &LockedParts<K, N>,
     script: &Script,
     workers: u32,
     gate: &G,
@@ -62,12 +62,12 @@ fn take_turns<R: Threads + Wait + Sync, K: Keeper, N: Name + Send + Sync, G: Gat
     may_be_shared::<Query>();
     let work = move ||
         requires { script.now ≡ N.script }
-    { serve(rt, alloc, bench, script, gate) };
+    { serve(rt, alloc, locked, script, gate) };
     spread(rt, workers, &work);
 }
 
-/// Has so many threads do this work, of which this one is the last, and waits for their ends. One that can't be started is done
-/// without.
+/// Has `workers` threads do this work, of which this one is the last, and waits for their ends. One that can't be
+/// started is done without.
 fn spread<R: Threads + Wait + Sync, F: Fn() + Sync>(rt: &R, workers: u32, work: &F)
     requires { F.pre work.now }
 {
@@ -83,32 +83,32 @@ fn spread<R: Threads + Wait + Sync, F: Fn() + Sync>(rt: &R, workers: u32, work: 
 fn serve<R: Wait, K: Keeper, N: Name, G: Gate>(
     rt: &R,
     alloc: Global,
-    bench: &Bench<K, N>,
+    locked: &LockedParts<K, N>,
     script: &Script,
     gate: &G,
 )
     requires { script.now ≡ N.script }
 {
     for _ in rt.forever() {
-        let Some(number) = bench.take_session() else {
+        let Some(number) = locked.take_session() else {
             break;
         };
         let mut worker = Worker::begin(alloc, number);
-        let ran = run_session(rt, alloc, bench, script, &mut worker, gate);
-        bench.put_aside(rt, worker);
+        let ran = run_session(rt, alloc, locked, script, &mut worker, gate);
+        locked.put_aside(rt, worker);
         if let Err(halt) = ran {
-            bench.note(rt, halt);
+            locked.note(rt, halt);
             break;
         }
     }
 }
 
-/// Steps a session to its end. No lock is held before a step, nor while the gate holds the worker. Once memory has run out in another
-/// worker, no further step is made.
+/// Steps a session to its end. No lock is held before a step, nor while the gate holds the worker. Once memory has run
+/// out in another worker, no further step is made.
 fn run_session<R: Wait, K: Keeper, N: Name, G: Gate>(
     rt: &R,
     alloc: Global,
-    bench: &Bench<K, N>,
+    locked: &LockedParts<K, N>,
     script: &Script,
     worker: &mut Worker<N>,
     gate: &G,
@@ -119,10 +119,10 @@ fn run_session<R: Wait, K: Keeper, N: Name, G: Gate>(
     let mut place: u32 = 0;
     for _ in rt.forever() {
         gate.pass(number, place);
-        if bench.refused() {
+        if locked.refused() {
             return Err(Halt::NoMemory);
         }
-        match bench.step(rt, alloc, script, worker)? {
+        match locked.step(rt, alloc, script, worker)? {
             Stepped::Did => place = place.saturating_add(1),
             Stepped::Done => break,
         }

@@ -1,6 +1,6 @@
 -- The row that a line gives, or the first thing that is wrong with it:
 -- row ENTITY ID vN CELL .. of a versioned entity, row ENTITY ID CELL .. of a plain one
-use Rattle.std.specs.Prelude.{ℕ, Bool, true, false, if◌then◌else◌, ◌||◌, ◌==◌, nat_le, List, [], ◌∷◌, length, slice_get, Option, Some, None, Result, Ok, Err, ◌≡◌}
+use Rattle.std.specs.Prelude.{ℕ, suc, Bool, true, false, if◌then◌else◌, ◌||◌, ◌==◌, nat_le, List, [], ◌∷◌, length, slice_get, Option, Some, None, Result, Ok, Err, ◌≡◌}
 use Rattle.std.specs.List.{list_any}
 use Rattle.hib_base.specs.Keys.{same_key}
 use Rattle.hib_base.specs.declared.numbers.Key.{Key}
@@ -21,7 +21,7 @@ use Rattle.hib_statements.specs.declared.rows.Told.{Told}
 -- ---- vN: the letter v and digits that don't begin with 0, or 0
 -- what is above the greatest version, however wide, counts as the next number
 abbrev pub capped : ℕ → ℕ
-capped n = if nat_le n max_version then n else 1000001
+capped n = if nat_le n max_version then n else suc max_version
 
 abbrev pub is_natural : List ℕ → Bool
 is_natural ds = is_zero ds || is_positive ds

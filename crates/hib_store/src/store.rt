@@ -90,8 +90,7 @@ impl<K: Keeper> Store<K> {
 
     /// The store over a keeper that is seeded by one call: the rows that it keeps are widened to the columns of this mapping,
     /// and each of these rows whose key has none is added. No session has written. At an error the keeper is handed back, with the
-    /// rows that it had. A list of the first entities, so many as
-    /// are said here, is answered from an index.
+    /// rows that it had. A list of the first `entities` entities is answered from an index.
     pub fn open(
         alloc: Global,
         mut keeper: K,

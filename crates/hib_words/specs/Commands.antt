@@ -10,7 +10,7 @@ use Rattle.hib_words.specs.Given.{Text, Form, Given, is_given, options_in, value
 use Rattle.hib_words.specs.declared.forms.OptionName.{OptionName}
 use Rattle.hib_words.specs.declared.forms.OptionName.TheVariants as name
 use Rattle.hib_words.specs.declared.forms.Verb.{Verb}
-use Rattle.hib_words.specs.declared.forms.Verb.TheVariants.{Play, Work, Make, Audit, Collect, Bulk, Nodes, Orders, Report, Flat, Schedule, Spans, Rows}
+use Rattle.hib_words.specs.declared.forms.Verb.TheVariants.{Play, Work, Make, Audit, Collect, Bulk, Nodes, Orders, Report, Flat, Schedule, Spans, States, Rows}
 use Rattle.hib_words.specs.declared.words.Command.{Command}
 use Rattle.hib_words.specs.declared.words.Command.TheVariants as variant
 use Rattle.hib_words.specs.declared.words.Options.{Options}
@@ -31,6 +31,7 @@ verb_word Report = codes "report"
 verb_word Flat = codes "flat"
 verb_word Schedule = codes "schedule"
 verb_word Spans = codes "spans"
+verb_word States = codes "states"
 verb_word Rows = codes "rows"
 
 abbrev pub word_of : OptionName → Text
@@ -71,6 +72,7 @@ options_of Report = []
 options_of Flat = name.Csv ∷ []
 options_of Schedule = []
 options_of Spans = name.Jaeger ∷ []
+options_of States = []
 options_of Rows = name.File ∷ []
 
 abbrev pub form_of : Verb → Form
@@ -162,12 +164,16 @@ abbrev pub settings_in : Chosen → Option Settings
 settings_in chosen = if option_map_or is_value chosen.file true
     then Some (record { journal = chosen.journal; trace = chosen.trace; file = chosen.file }) else None
 
+-- the most workers that words ask for
+abbrev pub max_workers : ℕ
+max_workers = 64
+
 -- what a verb asks of the program with these options; none if a number is missing or out of its range, a value is none, or the verb is
 -- one of its tools
 abbrev pub asked : Verb → Chosen → Option Asked
 asked Play chosen = option_map play (settings_in chosen)
 asked Work chosen = option_and_then (λ n. option_map (work n chosen.split) (settings_in chosen))
-    (option_and_then (number_between 1 64) chosen.workers)
+    (option_and_then (number_between 1 max_workers) chosen.workers)
 asked Make chosen = option_map (λ n. make n chosen.text) (option_and_then (number_between 0 4294967295) chosen.seed)
 asked Audit chosen = Some audit
 asked Collect chosen = Some collect
@@ -178,6 +184,7 @@ asked Report chosen = None
 asked Flat chosen = None
 asked Schedule chosen = None
 asked Spans chosen = None
+asked States chosen = None
 asked Rows chosen = None
 
 -- the command that words are, without the program's name; none if they have no form

@@ -1,4 +1,5 @@
-//! The words of the command line, of the program and of its tools: which command they are, and the texts that tell of them.
+//! The words of the command line, of the program and of its tools: which command they are, and the texts that tell of
+//! them.
 #![tactic(auto)]
 
 mod forms;

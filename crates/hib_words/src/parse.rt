@@ -41,8 +41,8 @@ pub struct Found<'a> {
     pub jaeger: bool,
 }
 
-/// Whether clap reads the word as the definition does: it begins with no hyphen, or with two before something more. No other
-/// word has a form after the first.
+/// Whether clap reads the word as the definition does: it begins with no hyphen, or with two before something more. No
+/// other word has a form after the first.
 fn is_fit(word: &str) -> bool
     ensures { result ≡ is_fit word.now }
 {

@@ -8,6 +8,12 @@ use crate::parse::{Found, parse};
 use crate::words::{is_value, number_between};
 use std::alloc::{AllocError, Global};
 
+/// The most switches of an order.
+const MOST_SWITCHES: u32 = 64;
+
+/// The most sessions that are killed in an order.
+const MOST_KILLS: u32 = 64;
+
 /// What the words of a command line ask of the tools.
 #[derive(Clone, Copy, Debug, PartialEq, Eq)]
 pub enum Tool {
@@ -36,6 +42,8 @@ pub enum Tool {
         /// For Jaeger, and not for Perfetto.
         jaeger: bool,
     },
+    /// The state after each entry of a journal is written.
+    States,
     /// The rows of a file are written.
     Rows,
 }
@@ -56,10 +64,10 @@ fn number_if_any(text: Option<&str>, low: u32, high: u32) -> Option<Option<u32>>
 fn orders(found: &Found<'_>) -> Option<Tool>
     ensures { result ≡ tool_asked Verb.Orders (chosen_of found.now) }
 {
-    let Some(switches) = number_if_any(found.switches, 0, 64) else {
+    let Some(switches) = number_if_any(found.switches, 0, MOST_SWITCHES) else {
         return None;
     };
-    let Some(kills) = number_if_any(found.kills, 0, 64) else {
+    let Some(kills) = number_if_any(found.kills, 0, MOST_KILLS) else {
         return None;
     };
     let Some(at_most) = number_if_any(found.at_most, 1, u32::MAX) else {
@@ -102,13 +110,14 @@ fn tool_from(verb: Verb, found: &Found<'_>) -> Option<Tool>
         Verb::Spans => Some(Tool::Spans {
             jaeger: found.jaeger,
         }),
+        Verb::States => Some(Tool::States),
         Verb::Rows => rows(found),
         _ => None,
     }
 }
 
-/// What these words ask of the tools, without the program's own name before them; none exactly if they have no form. The only
-/// error is want of memory.
+/// What these words ask of the tools, without the program's own name before them; none exactly if they have no form.
+/// The only error is want of memory.
 pub fn read_tool(alloc: Global, words: &[String]) -> Result<Option<Tool>, AllocError>
     ensures { IfOk result (λ r. r ≡ tool_command (map string_bytes words.now)) }
 {

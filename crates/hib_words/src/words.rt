@@ -2,13 +2,17 @@
 ghost use Rattle.std.specs.Prelude.{option_map, ◌≡◌, IfOk, map, string_bytes};
 ghost use Rattle.std.specs.Char.{is_ascii_digit};
 ghost use Rattle.std.specs.List.{list_all};
-ghost use Rattle.hib_words.specs.Commands.{asked, asked_of, command, in_range, is_numeral, is_value, number_between, settings_in, settings_of};
+ghost use Rattle.hib_words.specs.Commands.{asked, asked_of, command, in_range, is_numeral, is_value, number_between};
+ghost use Rattle.hib_words.specs.Commands.{settings_in, settings_of};
 ghost use Rattle.hib_words.specs.Matched.{chosen_of};
 ghost use Rattle.hib_words.specs.Topics.{file_of, is_traced};
 
 use crate::forms::{Verb, verb_named};
 use crate::parse::{Found, parse};
 use std::alloc::{AllocError, Global};
+
+/// The most workers.
+const MOST_WORKERS: u32 = 64;
 
 /// What the words of a command line ask for.
 #[derive(Drop)]
@@ -171,7 +175,7 @@ fn work(alloc: Global, found: &Found<'_>) -> Result<Option<Command>, AllocError>
     let Some(text) = found.workers else {
         return Ok(None);
     };
-    let Some(workers) = number_between(text, 1, 64) else {
+    let Some(workers) = number_between(text, 1, MOST_WORKERS) else {
         return Ok(None);
     };
     let Some(options) = options_from(alloc, found)? else {
@@ -214,9 +218,13 @@ fn command_from(alloc: Global, verb: Verb, found: &Found<'_>) -> Result<Option<C
         Verb::Collect => Ok(Some(Command::Collect)),
         Verb::Bulk => Ok(Some(Command::Bulk)),
         Verb::Nodes => Ok(Some(Command::Nodes)),
-        Verb::Orders | Verb::Report | Verb::Flat | Verb::Schedule | Verb::Spans | Verb::Rows => Ok(
-            None,
-        ),
+        Verb::Orders
+        | Verb::Report
+        | Verb::Flat
+        | Verb::Schedule
+        | Verb::Spans
+        | Verb::States
+        | Verb::Rows => Ok(None),
     }
 }
 

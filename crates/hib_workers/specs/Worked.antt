@@ -1,5 +1,5 @@
 -- What workers leave of the factory that they were handed.
-use Rattle.std.specs.Prelude.{◌≡◌, true, false, [], None}
+use Rattle.std.specs.Prelude.{◌≡◌, ℕ, true, false, [], None}
 use Rattle.hib_journal.specs.Types.{Script}
 use Rattle.hib_journal.specs.Kept.{past}
 use Rattle.hib_law.specs.Law.{Obeys}
@@ -7,6 +7,10 @@ use Rattle.hib_session.specs.Bound.{outside_count}
 use Rattle.hib_core.specs.Factory.{FactoryState, IsAskedOnceMore}
 use Rattle.hib_core.specs.Playing.{GoesOn}
 use Rattle.hib_engines.specs.Origin.{Origin}
+
+-- the most workers that a run takes
+abbrev pub max_workers : ℕ
+max_workers = 64
 
 -- a factory on which workers took turns, and the one that they were handed
 pub record IsWorked (script : Script) (from : Origin) (handed now : FactoryState) : Type 0 where

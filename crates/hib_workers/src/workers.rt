@@ -5,7 +5,7 @@ ghost use Rattle.hib_journal.specs.Kept.{past};
 ghost use Rattle.hib_session.specs.Bound.{outside_count};
 ghost use Rattle.hib_law.specs.Hits.{AreListsGiven};
 ghost use Rattle.hib_session.specs.Sessions.{AreOver};
-ghost use Rattle.hib_workers.specs.Worked.{IsWorked};
+ghost use Rattle.hib_workers.specs.Worked.{IsWorked, max_workers};
 
 use crate::desk::{Desk, Handed};
 use hib_base::{Query, SessionNo};
@@ -27,13 +27,14 @@ pub struct Worked<K: Keeper, N: Name, L: Listener> {
     pub out_of_memory: bool,
 }
 
-/// How many steps of a session a worker makes at most before it gives the factory's lock back, if the gate holds nobody.
+/// How many steps of a session a worker makes at most before it gives the factory's lock back, if the gate holds
+/// nobody.
 const STEPS: u32 = 64;
 
-/// Runs each session to its end, on so many threads, of which the caller's is one. Each takes the next session that nobody has taken,
-/// and makes its steps one after the other: before a step it passes the gate, and for a step it takes the factory's lock. If the gate
-/// holds nobody, it passes it once and keeps the lock for up to 64 steps. What they leave undone is done here once they have ended.
-/// Once memory has run out no further step is made.
+/// Runs each session to its end, on `workers` threads, of which the caller's is one. Each takes the next session that
+/// nobody has taken, and makes its steps one after the other: before a step it passes the gate, and for a step it takes
+/// the factory's lock. If the gate holds nobody, it passes it once and keeps the lock for up to 64 steps. What they
+/// leave undone is done here once they have ended. Once memory has run out no further step is made.
 pub fn work<R: Threads + Wait + Sync, K: Keeper, N: Name + Send + Sync, L: Listener, G: Gate>(
     rt: &R,
     alloc: Global,
@@ -41,7 +42,7 @@ pub fn work<R: Threads + Wait + Sync, K: Keeper, N: Name + Send + Sync, L: Liste
     workers: u32,
     gate: &G,
 ) -> Worked<K, N, L>
-    requires workers { (1 ≤ workers) × (workers ≤ 64) }
+    requires workers { (1 ≤ workers) × (workers ≤ max_workers) }
     requires inside { outside_count (past factory.journal) ≡ 0 }
     ensures worked { IsWorked N.script N.from factory result.factory }
     ensures given { IfSome N.from.tables
@@ -145,8 +146,8 @@ fn take_turns<
     spread(rt, workers, &move || serve(rt, alloc, bench, gate));
 }
 
-/// Has so many threads do this work, of which this one is the last, and waits for their ends. One that can't be started is done
-/// without.
+/// Has `workers` threads do this work, of which this one is the last, and waits for their ends. One that can't be
+/// started is done without.
 fn spread<R: Threads + Wait + Sync, F: Fn() + Sync>(rt: &R, workers: u32, work: &F)
     requires { F.pre work.now }
 {
@@ -200,13 +201,13 @@ fn run_session<H: Handed, R: Wait, K: Keeper, N: Name, L: Listener, G: Gate>(
 
 /// What was made of a session.
 enum Made {
-    /// So many steps, and more may follow.
+    /// A number of steps, and more may follow.
     Steps(u32),
     /// All, to its end.
     All,
 }
 
-/// Makes so many steps of a session, or fewer to its end.
+/// Makes `most` steps of a session, or fewer to its end.
 fn make_steps<H: Handed, K: Keeper, N: Name, L: Listener>(
     alloc: Global,
     desk: &mut Desk<K, N, L, H>,

@@ -6,6 +6,6 @@ use Rattle.hib_query_eval.proofs.candidates.add_below.Goals as goal
 pub returns-clause-found : goal.returns-clause-found
 returns-clause-found c = on_ok_weaker c.add_between.result
     (λ m i d l h p. gained i c.args.ids.now.items _ _ m
-    (found_between c.args.entity c.args.column i d Value.Least c.in_ok-to.to c.args.places.now.keys h l
-    (lt_between c.args.cell.now d c.in_ok-to.to c.in_ok-to.ensures p c.args.entity c.args.column i)))
+    (found_between i d Value.Least c.in_ok-to.to c.args.places.now.keys h l
+    (lt_between c.args.cell.now d c.in_ok-to.to c.in_ok-to.ensures p i)))
     c.add_between.ensures

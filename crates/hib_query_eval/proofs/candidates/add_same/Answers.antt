@@ -10,6 +10,6 @@ add_between-requires c = eq_not_gt (value_cmp c.in_ok-from.from c.in_ok-to.to) (
 pub returns-clause-found : goal.returns-clause-found
 returns-clause-found c = on_ok_weaker c.add_between.result
     (λ m i d l h p. gained i c.args.ids.now.items _ _ m
-    (found_between c.args.entity c.args.column i d c.in_ok-from.from c.in_ok-to.to c.args.places.now.keys h l
-    (eq_between c.args.cell.now d c.in_ok-from.from c.in_ok-from.ensures c.in_ok-to.to c.in_ok-to.ensures p c.args.entity c.args.column i)))
+    (found_between i d c.in_ok-from.from c.in_ok-to.to c.args.places.now.keys h l
+    (eq_between c.args.cell.now d c.in_ok-from.from c.in_ok-from.ensures c.in_ok-to.to c.in_ok-to.ensures p i)))
     c.add_between.ensures

@@ -8,5 +8,5 @@ use Rattle.hib_query_eval.proofs.candidates.among.Given as goal
 -- the rows with one of the cells so far are there
 abbrev pub invariant-loop-cell : goal.invariant-loop-cell
 invariant-loop-cell l =
-    (i : ℕ) (d : Cell) → i < 2 ^ 64 → has_place l.places.keys l.entity l.column i d ≡ true → list_any (λ c. same_cell d c) (take l.cell-index l.cells) ≡ true
+    (i : ℕ) (d : Cell) → i < 2 ^ 64 → has_place l.places.keys i d ≡ true → list_any (λ c. same_cell d c) (take l.cell-index l.cells) ≡ true
     → has_id i l.ids.items ≡ true

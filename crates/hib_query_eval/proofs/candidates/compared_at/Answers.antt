@@ -21,7 +21,7 @@ returns c = IfOk-weaker c.referring.result _ _
     c.args.path.now (λ d. passes c.args.op d c.args.cell.now) c.in-Some-2.found.items c.as_slice.result.now ids.items c.in-Some-target.is c.from-column.ensures
     c.from-of_target.ensures c.as_slice.ensures.value
     (subst (λ o. IfSome o (λ ids. (i : ℕ) (d : Cell) → i < 2 ^ 64
-    → has_place c.in-Some-places_in.there.now.keys c.in-Some-target.target.entity c.from-of_target.result i d ≡ true
+    → has_place c.in-Some-places_in.there.now.keys i d ≡ true
     → passes c.args.op d c.args.cell.now ≡ true → has_id i ids.items ≡ true)) c.in-Some-2.is c.in_ok-found.ensures)
     f t (c.in-Some.ensures t x) (c.in-Some-places_in.ensures t x)))
     c.referring.ensures

@@ -4,4 +4,4 @@ use Rattle.hib_query_eval.proofs.candidates.referring.Given as goal
 
 -- the rows that refer to one of the identifiers so far are there
 abbrev pub invariant-loop-target : goal.invariant-loop-target
-invariant-loop-target l = Refer l.places.keys l.entity l.column (take l.target-index l.targets) l.ids.items
+invariant-loop-target l = Refer l.places.keys (take l.target-index l.targets) l.ids.items

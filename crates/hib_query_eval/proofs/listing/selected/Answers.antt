@@ -10,7 +10,7 @@ use Rattle.hib_query_eval.proofs.listing.selected.Goals as goal
 
 pub returns-in_ok-placed-in-Ids : goal.returns-in_ok-placed-in-Ids
 returns-in_ok-placed-in-Ids c =
-    let found : Tables = map (λ r. r.now) c.args.met.now.items in
+    let found : Tables = map (λ r. r.now) c.args.met.items in
     let placed : Tables = sorted c.args.query.now.order found in
     IfOk-weaker c.identifiers.result _ _
     (λ l e. e
@@ -23,7 +23,7 @@ returns-in_ok-placed-in-Ids c =
 
 pub returns-in_ok-placed-in-Column : goal.returns-in_ok-placed-in-Column
 returns-in_ok-placed-in-Column c =
-    let found : Tables = map (λ r. r.now) c.args.met.now.items in
+    let found : Tables = map (λ r. r.now) c.args.met.items in
     let placed : Tables = sorted c.args.query.now.order found in
     IfOk-weaker c.cells_of.result _ _
     (λ l e. e

@@ -7,4 +7,4 @@ use Rattle.hib_query_eval.proofs.places.add_between.Given as goal
 abbrev pub invariant-loop-place : goal.invariant-loop-place
 invariant-loop-place l =
     l.ids.items ++ map (λ p. p.id) l.place-iterator
-    ≡ l.fn.ids.items ++ map (λ p. p.id) (filter (is_within l.fn.entity l.column l.fn.from l.fn.to) l.fn.places.keys)
+    ≡ l.fn.ids.items ++ map (λ p. p.id) (filter (is_within l.fn.from l.fn.to) l.fn.places.keys)

@@ -1,7 +1,0 @@
-use Rattle.std.proofs.Common.{◌≡◌, false, subst}
-use Rattle.hib_bulk.specs.declared.region.Region.{Region}
-use Rattle.hib_bulk.specs.Regions.{has_old_in}
-use Rattle.hib_bulk.proofs.region.Region.serve.Goals as goal
-
-pub act_on-requires-clause-swept : goal.act_on-requires-clause-swept
-act_on-requires-clause-swept c = λ k p. subst (λ (x : Region). has_old_in x k.id ≡ false) c.in-ReadWrite.is (c.requires.swept k p)

@@ -1,0 +1,270 @@
+// What workers share: each part behind a lock of its own.
+ghost use Rattle.std.specs.Prelude.{◌≡◌, ◌<◌, ◌≤◌, ◌+◌, ◌^◌, [], map, vec_len, vec_capacity, IfNone, IfOk, IsOk};
+ghost use Rattle.hib_parts.specs.Listed.{IsDueOn};
+ghost use Rattle.hib_parts.specs.Run.{entities_of};
+
+use crate::halt::Halt;
+use crate::locks::{LockedRegion, lock_regions, step_under_lock, unlock_regions};
+use crate::strange::Strange;
+use hib_base::{Part, Script, SessionNo};
+use hib_engines::{Name, Stepped};
+use hib_journal::part_of;
+use hib_outside::{Keeper, lock_soon};
+use hib_parts::{
+    Parts, RegionPart, RegistryPart, ResultsPart, StampsPart, StorePart, Worker, step_own,
+    step_registry, step_results, step_stamps, step_store,
+};
+use std::alloc::{AllocError, Global};
+use std::sync::atomic::{AtomicBool, AtomicUsize, Ordering};
+use std::sync::{Mutex, Wait};
+
+/// What workers share: each part behind a lock of its own, the number of the next session that nobody has taken, and
+/// what they leave.
+pub struct LockedParts<K: Keeper, N: Name> {
+    registry: Mutex<RegistryPart<N>>,
+    store: Mutex<StorePart<K, N>>,
+    stamps: Mutex<StampsPart<N>>,
+    results: Mutex<ResultsPart<N>>,
+    regions: Vec<LockedRegion<N>>,
+    next: AtomicUsize,
+    sessions: usize,
+    /// The workers that were put aside, each at the place of its session.
+    aside: Mutex<Vec<Option<Worker<N>>>>,
+    strange: Mutex<Option<Strange>>,
+    /// Whether memory ran out in a worker.
+    refused: AtomicBool,
+    ghost few: { sessions < 2 ^ 32 },
+}
+
+/// What workers leave, when they have ended.
+pub struct Left<K: Keeper, N: Name> {
+    /// The parts, out of their locks.
+    pub parts: Parts<K, N>,
+    /// The workers, each at the place of its session.
+    pub aside: Vec<Option<Worker<N>>>,
+    /// The entity that was asked for and the one that was found, if a lock gave another region. Then regions may be
+    /// missing.
+    pub strange: Option<Strange>,
+    /// Whether memory ran out in a worker.
+    pub refused: bool,
+}
+
+/// Room for what a run on threads needs beside the lists.
+pub struct Room<N: Name> {
+    /// For the locks of regions.
+    pub locks: Vec<LockedRegion<N>>,
+    /// For the regions, when they come out of their locks.
+    pub regions: Vec<RegionPart<N>>,
+    /// A place for the worker of each session.
+    pub aside: Vec<Option<Worker<N>>>,
+}
+
+/// A place for the worker of each session, and none is there.
+fn places_for<N: Name>(
+    alloc: Global,
+    sessions: usize,
+) -> Result<Vec<Option<Worker<N>>>, AllocError> {
+    let mut places = Vec::with_capacity(alloc, sessions)?;
+    for _ in 0..sessions {
+        places.push(None)?;
+    }
+    Ok(places)
+}
+
+/// Room for a run on threads over this number of regions, with this number of sessions.
+pub fn room_for_threads<N: Name>(
+    alloc: Global,
+    regions: usize,
+    sessions: usize,
+) -> Result<Room<N>, AllocError>
+    ensures locks { IfOk result (λ r. (r.locks.items ≡ []) × (vec_len r.locks ≡ 0)) }
+    ensures lock_room { IfOk result (λ r. regions ≤ vec_capacity r.locks) }
+    ensures regions { IfOk result (λ r. (r.regions.items ≡ []) × (vec_len r.regions ≡ 0)) }
+    ensures room { IfOk result (λ r. regions ≤ vec_capacity r.regions) }
+{
+    let locks = Vec::with_capacity(alloc, regions)?;
+    let back = Vec::with_capacity(alloc, regions)?;
+    let aside = places_for(alloc, sessions)?;
+    Ok(Room {
+        locks,
+        regions: back,
+        aside,
+    })
+}
+
+/// The region that isn't the one that was asked for, if there is one: found by the caller, or before by a worker.
+fn first_strange(unlocked: Result<(), Strange>, found: Option<Strange>) -> Option<Strange>
+    ensures { IfNone result (IsOk unlocked) }
+{
+    match unlocked {
+        Ok(()) => found,
+        Err(strange) => Some(strange),
+    }
+}
+
+impl<K: Keeper, N: Name> LockedParts<K, N> {
+    /// Each part behind a lock of its own. There is room for the locks of regions.
+    pub fn open(
+        parts: Parts<K, N>,
+        script: &Script,
+        locks: Vec<LockedRegion<N>>,
+        aside: Vec<Option<Worker<N>>>,
+    ) -> LockedParts<K, N>
+        requires script { script.now ≡ N.script }
+        requires empty { locks.items ≡ [] }
+        requires room { vec_len locks + vec_len parts.regions ≤ vec_capacity locks }
+        ensures entities { map (λ l. l.entity) result.regions.items
+            ≡ entities_of parts.regions.items }
+        ensures len { vec_len result.regions ≡ vec_len locks + vec_len parts.regions }
+    {
+        parts.registry.built();
+        let Parts {
+            registry,
+            store,
+            stamps,
+            results,
+            regions,
+        } = parts;
+        let mut locks = locks;
+        lock_regions(regions, &mut locks);
+        LockedParts {
+            registry: Mutex::new(registry),
+            store: Mutex::new(store),
+            stamps: Mutex::new(stamps),
+            results: Mutex::new(results),
+            regions: locks,
+            next: AtomicUsize::new(0),
+            sessions: script.sessions.len(),
+            aside: Mutex::new(aside),
+            strange: Mutex::new(None),
+            refused: AtomicBool::new(false),
+        }
+    }
+
+    /// What workers leave, when they have ended. There is room for the regions.
+    pub fn close(self, room: Vec<RegionPart<N>>) -> Left<K, N>
+        requires empty { room.items ≡ [] }
+        requires room { vec_len room + vec_len self.regions ≤ vec_capacity room }
+        ensures entities { IfNone result.strange
+            (entities_of result.parts.regions.items
+            ≡ map (λ l. l.entity) self.regions.items) }
+        ensures len { IfNone result.strange
+            (vec_len result.parts.regions ≡ vec_len room + vec_len self.regions) }
+    {
+        let LockedParts {
+            registry,
+            store,
+            stamps,
+            results,
+            regions: locks,
+            next: _,
+            sessions: _,
+            aside,
+            strange,
+            refused,
+        } = self;
+        let mut regions = room;
+        let unlocked = unlock_regions(locks, &mut regions);
+        Left {
+            parts: Parts {
+                registry: registry.into_inner(),
+                store: store.into_inner(),
+                stamps: stamps.into_inner(),
+                results: results.into_inner(),
+                regions,
+            },
+            aside: aside.into_inner(),
+            strange: first_strange(unlocked, strange.into_inner()),
+            refused: refused.into_inner(),
+        }
+    }
+
+    /// The next session that nobody has taken, or none if all are taken.
+    pub fn take_session(&self) -> Option<SessionNo> {
+        let number = self.next.fetch_add(1, Ordering::SeqCst);
+        if number >= self.sessions {
+            return None;
+        }
+        Some(SessionNo(number as u32))
+    }
+
+    /// Whether memory ran out in a worker.
+    pub fn refused(&self) -> bool {
+        self.refused.load(Ordering::SeqCst)
+    }
+
+    /// Notes why a worker stopped.
+    pub fn note<R: Wait>(&self, rt: &R, halt: Halt) {
+        match halt {
+            Halt::NoMemory => self.refused.store(true, Ordering::SeqCst),
+            Halt::Strange(strange) => {
+                let mut held = lock_soon(rt, &self.strange);
+                *held = Some(strange);
+            }
+        }
+    }
+
+    /// Puts a worker at the place of its session, for the caller to go on with.
+    pub fn put_aside<R: Wait>(&self, rt: &R, worker: Worker<N>) {
+        let mut held = lock_soon(rt, &self.aside);
+        let aside = &mut *held;
+        let place = worker.number().0 as usize;
+        // Each session has a place.
+        if place < aside.len() {
+            aside[place] = Some(worker);
+        }
+    }
+
+    /// One step of a session: the act that is due in it, if one is, under the lock of the part that it is on. An act of
+    /// its own is made under no lock. The session is made ready before the lock is taken.
+    pub fn step<R: Wait>(
+        &self,
+        rt: &R,
+        alloc: Global,
+        script: &Script,
+        worker: &mut Worker<N>,
+    ) -> Result<Stepped, Halt>
+        requires { script.now ≡ N.script }
+    {
+        worker.ready(alloc, script)?;
+        let Some(act) = worker.next(alloc, script)? else {
+            return Ok(Stepped::Done);
+        };
+        let part = part_of(&act, worker.number());
+        self.step_on(rt, alloc, script, worker, part)?;
+        Ok(Stepped::Did)
+    }
+
+    /// The act that is due in a session, which is on this part, is answered under the part's lock.
+    fn step_on<R: Wait>(
+        &self,
+        rt: &R,
+        alloc: Global,
+        script: &Script,
+        worker: &mut Worker<N>,
+        part: Part,
+    ) -> Result<(), Halt>
+        requires script { script.now ≡ N.script }
+        requires due { IsDueOn N.script part worker.old }
+    {
+        match part {
+            Part::Registry => {
+                step_registry(alloc, script, &mut *lock_soon(rt, &self.registry), worker)?;
+            }
+            Part::Store => {
+                step_store(alloc, script, &mut *lock_soon(rt, &self.store), worker)?;
+            }
+            Part::Stamps => {
+                step_stamps(alloc, script, &mut *lock_soon(rt, &self.stamps), worker)?;
+            }
+            Part::Results => {
+                step_results(alloc, script, &mut *lock_soon(rt, &self.results), worker)?;
+            }
+            Part::Region(entity) => {
+                step_under_lock(rt, alloc, script, self.regions.as_slice(), entity, worker)?;
+            }
+            Part::Own(_) => step_own(alloc, script, worker)?,
+        }
+        Ok(())
+    }
+}

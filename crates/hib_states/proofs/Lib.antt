@@ -1,0 +1,11 @@
+pub mod Rowed
+pub mod Named
+pub mod Seated
+pub mod Told
+pub mod Choices
+pub mod Taken
+pub mod Rests
+pub mod Copies
+pub mod Sounds
+pub mod Whole
+pub mod Prefixes
