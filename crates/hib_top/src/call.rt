@@ -66,12 +66,9 @@ fn serve_alone<S: Source, W: Sink, K: Keeper, L: Listener>(
     { play_script(alloc, script, lent) };
     match command {
         Command::Play { options } => {
+            let turns = Turns::Scheduled;
             let telling = telling_of(options.journal);
-            let task = Run {
-                turns: Turns::Scheduled,
-                telling,
-            };
-            call(alloc, &task, source, out, lent, play).map(AnyRun::Played)
+            call(alloc, &Run { turns, telling }, source, out, lent, play).map(AnyRun::Played)
         }
         Command::Work { .. } => unreachable!(),
         Command::Make { seed, text: false } => {
