@@ -5,7 +5,7 @@ pub mod Told
 pub mod Choices
 pub mod Taken
 pub mod Rests
-pub mod Copies
+pub mod Held
 pub mod Sounds
 pub mod Whole
 pub mod Prefixes

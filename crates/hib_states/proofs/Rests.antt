@@ -12,10 +12,10 @@ use Rattle.hib_journal.specs.Types.{Key, Change, Act, Reply, Entry, Script, Stra
 use Rattle.hib_journal.specs.Coherence.{holders, takes, gives_back}
 use Rattle.hib_journal.specs.Held.{is_begin}
 use Rattle.hib_journal.specs.Next.{strategy}
-use Rattle.hib_journal.specs.Sessions.{Journal, is_by, is_session, is_restart, own, time, floor_in, floor_after, changes, changes_in, changes_after, committer, committed, is_open}
+use Rattle.hib_journal.specs.Sessions.{Journal, is_by, is_session, is_restart, own, time, floor_in, floor_after, changes, changes_in, changes_after, committer, committed, is_open, open_after}
 use Rattle.hib_journal.specs.Slot.{Slot, history, slot_from, touch}
 use Rattle.hib_journal.specs.Room.{item}
-use Rattle.hib_journal.specs.Stamps.{names, stamp}
+use Rattle.hib_journal.specs.Stamps.{names, stamp, stamp_after}
 use Rattle.hib_journal.proofs.Sessions.{own_self, own_other, time_same}
 use Rattle.hib_follow.specs.Cached.{cached, cached_by, item_slot}
 use Rattle.hib_follow.specs.Desks.{change_in}
@@ -98,7 +98,7 @@ stamps_next script h e t =
     kept : (b : Bool) (x v : Option ℕ) → b ≡ false → v ≡ cond b x v
     kept b x v p = sym (ap (λ c. cond c x v) p)
 
-    by : (a : Act) (v : Option ℕ) → names t (tables_in a) ≡ false → cond (is_restart a) None v ≡ Rattle.hib_journal.specs.Stamps.stamp_after script.timeout t a e.tick v
+    by : (a : Act) (v : Option ℕ) → names t (tables_in a) ≡ false → cond (is_restart a) None v ≡ stamp_after script.timeout t a e.tick v
     by (Act.Pre ts) v p = kept (names t ts) (Some (e.tick + script.timeout)) v p
     by (Act.Stamp ts) v p = kept (names t ts) (Some e.tick) v p
     by Act.Restart v p = refl
@@ -114,7 +114,7 @@ pub open_next : (h : Journal) (e : Entry) (m : ℕ) →
 open_next h e m =
     settled (names m (sessions_in e.act e.session)) (is_open m (e ∷ h)) (cond (is_restart e.act) false (is_open m h)) (by e.act e.session (is_open m h))
   where
-    by : (a : Act) (o : Option ℕ) (b : Bool) → names m (sessions_in a o) ≡ false → cond (is_restart a) false b ≡ Rattle.hib_journal.specs.Sessions.open_after m o a b
+    by : (a : Act) (o : Option ℕ) (b : Bool) → names m (sessions_in a o) ≡ false → cond (is_restart a) false b ≡ open_after m o a b
     by Act.Begin None b p = refl
     by Act.Begin (Some n) b p = ap (λ c. c || b) (sym (named_one n m p))
     by Act.End None b p = refl
@@ -149,7 +149,7 @@ floors_next h e m =
 
 -- what a session has written, if it begins with its entry, and else
 abbrev emptied : ℕ → Act → Option ℕ → Bool → Bool
-emptied m a o b = names m (sessions_in a o) && Rattle.hib_journal.specs.Sessions.open_after m o a b
+emptied m a o b = names m (sessions_in a o) && open_after m o a b
 
 ends_open : (c b : Bool) → ((c || false) && cond c false b) ≡ false
 ends_open true b = refl

@@ -12,6 +12,7 @@ use Rattle.hib_journal.specs.Types.{Key, Row, Change, Act, Reply, Entry, Script,
 use Rattle.hib_journal.specs.Coherence.{holders}
 use Rattle.hib_journal.specs.Held.{held, is_break}
 use Rattle.hib_journal.specs.Legal.{row_of}
+use Rattle.hib_journal.specs.Results.{result}
 use Rattle.hib_journal.specs.Sessions.{Journal, is_session, is_restart, own, time, floor_in, changes, committer, committed, is_open}
 use Rattle.hib_journal.specs.Slot.{Slot}
 use Rattle.hib_journal.specs.Stamps.{names}
@@ -175,7 +176,7 @@ stamps_all v (t ∷ ts) s =
 pub results_all : (script : Script) (h : Journal) (e : Entry) (s : State) → all_taken (kept_facts script h e) s ≡ s
 results_all script h e s = by (queries_in e.act e.reply) s
   where
-    by : (qs : List ℕ) (s : State) → all_taken (map (λ q. Fact.Kept q (Rattle.hib_journal.specs.Results.result script.results q (e ∷ h))) qs) s ≡ s
+    by : (qs : List ℕ) (s : State) → all_taken (map (λ q. Fact.Kept q (result script.results q (e ∷ h))) qs) s ≡ s
     by [] s = refl
     by (q ∷ qs) s = by qs s
 

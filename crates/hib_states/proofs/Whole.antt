@@ -19,7 +19,7 @@ use Rattle.hib_states.specs.States.{sessions_in, facts, is_guarded}
 use Rattle.hib_states.proofs.Told.{written_is}
 use Rattle.hib_states.proofs.Taken.{causes, copies_all, expired_all, holders_all, restarted, results_all, reused_at, rows_at, sessions_all, slots_all, stamps_all, joined, written_at}
 use Rattle.hib_states.proofs.Rests.{changes_next, floors_next, holders_next, open_next, rows_next, slots_next, stamps_next, times_next}
-use Rattle.hib_states.proofs.Copies.{copies_next}
+use Rattle.hib_states.proofs.Held.{copies_next}
 use Rattle.hib_states.proofs.Sounds.{unsound_next}
 
 entry_taken : (script : Script) (start : Tables) (h : Journal) (e : Entry) → all_taken (facts script start h e) (state_of script start h) ≡ state_of script start (e ∷ h)

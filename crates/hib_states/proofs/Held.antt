@@ -29,8 +29,8 @@ other_key : (k j : Key) → has_key (Some j) k ≡ false → same_key j k ≡ fa
 other_key k j p = sym (or-false (same_key j k)) ∙ p
 
 spares_write : (k : Key) (c : Change) (r : Reply) → same_key (key_of c) k ≡ false → Spares k (Act.Write c) r
-spares_write k (Change.Insert j w) r p = record { written = rw p refl; deletes = refl; removes = refl; cells = λ cs. refl; arrives = refl }
-spares_write k (Change.Update j v w) r p = record { written = rw p refl; deletes = refl; removes = refl; cells = λ cs. refl; arrives = refl }
+spares_write k (Change.Insert j w) r p = record { written = ap (λ b. cond b (Some w) None) p; deletes = refl; removes = refl; cells = λ cs. refl; arrives = refl }
+spares_write k (Change.Update j v w) r p = record { written = ap (λ b. cond b (Some w) None) p; deletes = refl; removes = refl; cells = λ cs. refl; arrives = refl }
 spares_write k (Change.Delete j v) r p = record { written = refl; deletes = p; removes = refl; cells = λ cs. refl; arrives = refl }
 
 spares : (k : Key) (a : Act) (r : Reply) → has_key (copied_in a r) k ≡ false → Spares k a r
