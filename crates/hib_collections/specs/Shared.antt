@@ -1,5 +1,5 @@
 -- What stands for the journal of a run, and what a turn does, of all that the sessions share together.
-use Rattle.std.specs.Prelude.{◌≡◌}
+use Rattle.std.specs.Prelude.{List}
 use Rattle.hib_journal.specs.Types.{Script}
 use Rattle.hib_session.specs.Session.{number_of}
 use Rattle.hib_engines.specs.Origin.{Origin}

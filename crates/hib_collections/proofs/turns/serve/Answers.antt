@@ -5,7 +5,7 @@ use Rattle.hib_session.specs.Session.{Follows, number_of}
 use Rattle.hib_collections_law.specs.Gathered.{plain}
 use Rattle.hib_collections.specs.Kept.{past}
 use Rattle.hib_collections_law.specs.declared.entries.Def.{Def}
-use Rattle.hib_collections_law.specs.Types.{Gathered}
+use Rattle.hib_collections_law.specs.Types.{Gathered, max_collections}
 use Rattle.hib_collections_law.specs.Gathered.{due_for}
 use Rattle.hib_collections.specs.Before.{IsKnown, due_by}
 use Rattle.hib_collections.specs.Notes.{AreNoted}
@@ -13,7 +13,7 @@ use Rattle.hib_collections.proofs.Taken.{due_before}
 use Rattle.hib_collections.proofs.turns.serve.Goals as goal
 
 pub comes_before-requires : goal.comes_before-requires
-comes_before-requires g c = record { few = subst (λ (ds : List Def). length ds ≤ 64) (sym c.requires.defs) c.requires.run.set.few }
+comes_before-requires g c = record { few = subst (λ (ds : List Def). length ds ≤ max_collections) (sym c.requires.defs) c.requires.run.set.few }
 
 pub serve_plain-requires-clause-due : goal.serve_plain-requires-clause-due
 serve_plain-requires-clause-due g c κs within =
