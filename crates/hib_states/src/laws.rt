@@ -6,7 +6,6 @@ ghost use Rattle.hib_states.specs.Last.{IsToldWhole};
 
 /// What is told of a journal, taken one thing after the other from the state at the start, is the state after the journal, but for the
 /// results of queries.
-#[tactic(auto, using(crate::proofs::Whole::told_whole))]
 pub fn states_are_whole()
     ensures { (script : Script) (start : Tables) (h : Journal) → IsToldWhole script start h }
 {}
