@@ -62,8 +62,7 @@ fn put_sets(
     Ok(())
 }
 
-/// The cells of a key's row as members, if there is one.
-pub fn put_row_of(
+fn put_row_of(
     alloc: Global,
     out: &mut Vec<u8>,
     script: &Script,

@@ -3,5 +3,4 @@ pub mod Data
 pub mod Listing
 pub mod Repeating
 pub mod Exploring
-pub mod Stating
 pub mod Call

@@ -14,7 +14,7 @@ use Rattle.hib_words.specs.Commands.{Chosen, chosen_in, form_of, word_of}
 use Rattle.hib_words.specs.Matched.{HoldsGiven, IsProper}
 use Rattle.hib_words.specs.declared.forms.OptionName.TheVariants as name
 use Rattle.hib_words.specs.declared.forms.Verb.{Verb}
-use Rattle.hib_words.specs.declared.forms.Verb.TheVariants.{Play, Work, Make, Audit, Collect, Bulk, Nodes, Orders, Report, Flat, Schedule, Spans, States, Rows}
+use Rattle.hib_words.specs.declared.forms.Verb.TheVariants.{Play, Work, Make, Audit, Collect, Bulk, Nodes, Orders, Report, Flat, Schedule, Spans, Rows}
 use Rattle.hib_words.proofs.Getters.{has_flag, flag_given, flag_not_given, value_given}
 
 -- what `get_flag` and `get_str` ensure
@@ -57,7 +57,7 @@ not_flagged o is e = true≢false (sym (ap (λ (o : Option Bool). option_map_or 
 -- ---- a test that each form passes
 
 abbrev on_all : (Verb → Bool) → Bool
-on_all p = list_all p (Play ∷ Work ∷ Make ∷ Audit ∷ Collect ∷ Bulk ∷ Nodes ∷ Orders ∷ Report ∷ Flat ∷ Schedule ∷ Spans ∷ States ∷ Rows ∷ [])
+on_all p = list_all p (Play ∷ Work ∷ Make ∷ Audit ∷ Collect ∷ Bulk ∷ Nodes ∷ Orders ∷ Report ∷ Flat ∷ Schedule ∷ Spans ∷ Rows ∷ [])
 
 part : {A : Type 0} (p : A → Bool) (a : A) (rest : List A) → list_all p (a ∷ rest) ≡ true → (p a ≡ true) × (list_all p rest ≡ true)
 part p a rest e = both (p a) (list_all p rest) e
@@ -69,47 +69,44 @@ part p a rest e = both (p a) (list_all p rest) e
 each : (p : Verb → Bool) → on_all p ≡ true → (v : Verb) → p v ≡ true
 each p e v = go v
   where
-    after1 : (p Play ≡ true) × (list_all p (Work ∷ Make ∷ Audit ∷ Collect ∷ Bulk ∷ Nodes ∷ Orders ∷ Report ∷ Flat ∷ Schedule ∷ Spans ∷ States ∷ Rows ∷ []) ≡ true)
-    after1 = part p Play (Work ∷ Make ∷ Audit ∷ Collect ∷ Bulk ∷ Nodes ∷ Orders ∷ Report ∷ Flat ∷ Schedule ∷ Spans ∷ States ∷ Rows ∷ []) e
+    after1 : (p Play ≡ true) × (list_all p (Work ∷ Make ∷ Audit ∷ Collect ∷ Bulk ∷ Nodes ∷ Orders ∷ Report ∷ Flat ∷ Schedule ∷ Spans ∷ Rows ∷ []) ≡ true)
+    after1 = part p Play (Work ∷ Make ∷ Audit ∷ Collect ∷ Bulk ∷ Nodes ∷ Orders ∷ Report ∷ Flat ∷ Schedule ∷ Spans ∷ Rows ∷ []) e
 
-    after2 : (p Work ≡ true) × (list_all p (Make ∷ Audit ∷ Collect ∷ Bulk ∷ Nodes ∷ Orders ∷ Report ∷ Flat ∷ Schedule ∷ Spans ∷ States ∷ Rows ∷ []) ≡ true)
-    after2 = part p Work (Make ∷ Audit ∷ Collect ∷ Bulk ∷ Nodes ∷ Orders ∷ Report ∷ Flat ∷ Schedule ∷ Spans ∷ States ∷ Rows ∷ []) after1.1
+    after2 : (p Work ≡ true) × (list_all p (Make ∷ Audit ∷ Collect ∷ Bulk ∷ Nodes ∷ Orders ∷ Report ∷ Flat ∷ Schedule ∷ Spans ∷ Rows ∷ []) ≡ true)
+    after2 = part p Work (Make ∷ Audit ∷ Collect ∷ Bulk ∷ Nodes ∷ Orders ∷ Report ∷ Flat ∷ Schedule ∷ Spans ∷ Rows ∷ []) after1.1
 
-    after3 : (p Make ≡ true) × (list_all p (Audit ∷ Collect ∷ Bulk ∷ Nodes ∷ Orders ∷ Report ∷ Flat ∷ Schedule ∷ Spans ∷ States ∷ Rows ∷ []) ≡ true)
-    after3 = part p Make (Audit ∷ Collect ∷ Bulk ∷ Nodes ∷ Orders ∷ Report ∷ Flat ∷ Schedule ∷ Spans ∷ States ∷ Rows ∷ []) after2.1
+    after3 : (p Make ≡ true) × (list_all p (Audit ∷ Collect ∷ Bulk ∷ Nodes ∷ Orders ∷ Report ∷ Flat ∷ Schedule ∷ Spans ∷ Rows ∷ []) ≡ true)
+    after3 = part p Make (Audit ∷ Collect ∷ Bulk ∷ Nodes ∷ Orders ∷ Report ∷ Flat ∷ Schedule ∷ Spans ∷ Rows ∷ []) after2.1
 
-    after4 : (p Audit ≡ true) × (list_all p (Collect ∷ Bulk ∷ Nodes ∷ Orders ∷ Report ∷ Flat ∷ Schedule ∷ Spans ∷ States ∷ Rows ∷ []) ≡ true)
-    after4 = part p Audit (Collect ∷ Bulk ∷ Nodes ∷ Orders ∷ Report ∷ Flat ∷ Schedule ∷ Spans ∷ States ∷ Rows ∷ []) after3.1
+    after4 : (p Audit ≡ true) × (list_all p (Collect ∷ Bulk ∷ Nodes ∷ Orders ∷ Report ∷ Flat ∷ Schedule ∷ Spans ∷ Rows ∷ []) ≡ true)
+    after4 = part p Audit (Collect ∷ Bulk ∷ Nodes ∷ Orders ∷ Report ∷ Flat ∷ Schedule ∷ Spans ∷ Rows ∷ []) after3.1
 
-    after5 : (p Collect ≡ true) × (list_all p (Bulk ∷ Nodes ∷ Orders ∷ Report ∷ Flat ∷ Schedule ∷ Spans ∷ States ∷ Rows ∷ []) ≡ true)
-    after5 = part p Collect (Bulk ∷ Nodes ∷ Orders ∷ Report ∷ Flat ∷ Schedule ∷ Spans ∷ States ∷ Rows ∷ []) after4.1
+    after5 : (p Collect ≡ true) × (list_all p (Bulk ∷ Nodes ∷ Orders ∷ Report ∷ Flat ∷ Schedule ∷ Spans ∷ Rows ∷ []) ≡ true)
+    after5 = part p Collect (Bulk ∷ Nodes ∷ Orders ∷ Report ∷ Flat ∷ Schedule ∷ Spans ∷ Rows ∷ []) after4.1
 
-    after6 : (p Bulk ≡ true) × (list_all p (Nodes ∷ Orders ∷ Report ∷ Flat ∷ Schedule ∷ Spans ∷ States ∷ Rows ∷ []) ≡ true)
-    after6 = part p Bulk (Nodes ∷ Orders ∷ Report ∷ Flat ∷ Schedule ∷ Spans ∷ States ∷ Rows ∷ []) after5.1
+    after6 : (p Bulk ≡ true) × (list_all p (Nodes ∷ Orders ∷ Report ∷ Flat ∷ Schedule ∷ Spans ∷ Rows ∷ []) ≡ true)
+    after6 = part p Bulk (Nodes ∷ Orders ∷ Report ∷ Flat ∷ Schedule ∷ Spans ∷ Rows ∷ []) after5.1
 
-    after7 : (p Nodes ≡ true) × (list_all p (Orders ∷ Report ∷ Flat ∷ Schedule ∷ Spans ∷ States ∷ Rows ∷ []) ≡ true)
-    after7 = part p Nodes (Orders ∷ Report ∷ Flat ∷ Schedule ∷ Spans ∷ States ∷ Rows ∷ []) after6.1
+    after7 : (p Nodes ≡ true) × (list_all p (Orders ∷ Report ∷ Flat ∷ Schedule ∷ Spans ∷ Rows ∷ []) ≡ true)
+    after7 = part p Nodes (Orders ∷ Report ∷ Flat ∷ Schedule ∷ Spans ∷ Rows ∷ []) after6.1
 
-    after8 : (p Orders ≡ true) × (list_all p (Report ∷ Flat ∷ Schedule ∷ Spans ∷ States ∷ Rows ∷ []) ≡ true)
-    after8 = part p Orders (Report ∷ Flat ∷ Schedule ∷ Spans ∷ States ∷ Rows ∷ []) after7.1
+    after8 : (p Orders ≡ true) × (list_all p (Report ∷ Flat ∷ Schedule ∷ Spans ∷ Rows ∷ []) ≡ true)
+    after8 = part p Orders (Report ∷ Flat ∷ Schedule ∷ Spans ∷ Rows ∷ []) after7.1
 
-    after9 : (p Report ≡ true) × (list_all p (Flat ∷ Schedule ∷ Spans ∷ States ∷ Rows ∷ []) ≡ true)
-    after9 = part p Report (Flat ∷ Schedule ∷ Spans ∷ States ∷ Rows ∷ []) after8.1
+    after9 : (p Report ≡ true) × (list_all p (Flat ∷ Schedule ∷ Spans ∷ Rows ∷ []) ≡ true)
+    after9 = part p Report (Flat ∷ Schedule ∷ Spans ∷ Rows ∷ []) after8.1
 
-    after10 : (p Flat ≡ true) × (list_all p (Schedule ∷ Spans ∷ States ∷ Rows ∷ []) ≡ true)
-    after10 = part p Flat (Schedule ∷ Spans ∷ States ∷ Rows ∷ []) after9.1
+    after10 : (p Flat ≡ true) × (list_all p (Schedule ∷ Spans ∷ Rows ∷ []) ≡ true)
+    after10 = part p Flat (Schedule ∷ Spans ∷ Rows ∷ []) after9.1
 
-    after11 : (p Schedule ≡ true) × (list_all p (Spans ∷ States ∷ Rows ∷ []) ≡ true)
-    after11 = part p Schedule (Spans ∷ States ∷ Rows ∷ []) after10.1
+    after11 : (p Schedule ≡ true) × (list_all p (Spans ∷ Rows ∷ []) ≡ true)
+    after11 = part p Schedule (Spans ∷ Rows ∷ []) after10.1
 
-    after12 : (p Spans ≡ true) × (list_all p (States ∷ Rows ∷ []) ≡ true)
-    after12 = part p Spans (States ∷ Rows ∷ []) after11.1
+    after12 : (p Spans ≡ true) × (list_all p (Rows ∷ []) ≡ true)
+    after12 = part p Spans (Rows ∷ []) after11.1
 
-    after13 : (p States ≡ true) × (list_all p (Rows ∷ []) ≡ true)
-    after13 = part p States (Rows ∷ []) after12.1
-
-    after14 : (p Rows ≡ true) × (list_all p [] ≡ true)
-    after14 = part p Rows [] after13.1
+    after13 : (p Rows ≡ true) × (list_all p [] ≡ true)
+    after13 = part p Rows [] after12.1
 
     go : (v : Verb) → p v ≡ true
     go Play = after1.0
@@ -124,8 +121,7 @@ each p e v = go v
     go Flat = after10.0
     go Schedule = after11.0
     go Spans = after12.0
-    go States = after13.0
-    go Rows = after14.0
+    go Rows = after13.0
 
 abbrev flag_in : Text → Verb → Bool
 flag_in id v = option_map_or not (takes_value (form_of v) id) true

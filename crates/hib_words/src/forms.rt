@@ -35,8 +35,6 @@ pub enum Verb {
     Schedule,
     /// Writes a journal as a trace.
     Spans,
-    /// Writes the state after each entry of a journal.
-    States,
     /// Writes the rows of a file.
     Rows,
 }
@@ -115,7 +113,6 @@ impl Verb {
             Verb::Flat => "flat",
             Verb::Schedule => "schedule",
             Verb::Spans => "spans",
-            Verb::States => "states",
             Verb::Rows => "rows",
         }
     }
@@ -137,8 +134,7 @@ impl Verb {
             | Verb::Bulk
             | Verb::Nodes
             | Verb::Report
-            | Verb::Schedule
-            | Verb::States => { &[] }
+            | Verb::Schedule => { &[] }
         }
     }
 }
@@ -169,7 +165,6 @@ pub fn tool_named(word: &str) -> Option<Verb>
         "flat" => Some(Verb::Flat),
         "schedule" => Some(Verb::Schedule),
         "spans" => Some(Verb::Spans),
-        "states" => Some(Verb::States),
         "rows" => Some(Verb::Rows),
         _ => None,
     }

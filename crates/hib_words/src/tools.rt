@@ -42,8 +42,6 @@ pub enum Tool {
         /// For Jaeger, and not for Perfetto.
         jaeger: bool,
     },
-    /// The state after each entry of a journal is written.
-    States,
     /// The rows of a file are written.
     Rows,
 }
@@ -110,7 +108,6 @@ fn tool_from(verb: Verb, found: &Found<'_>) -> Option<Tool>
         Verb::Spans => Some(Tool::Spans {
             jaeger: found.jaeger,
         }),
-        Verb::States => Some(Tool::States),
         Verb::Rows => rows(found),
         _ => None,
     }
