@@ -49,7 +49,7 @@ pub fn lex(alloc: Global, text: &[u8]) -> Result<Lines, LexError>
     lex_after(alloc, 0, text)
 }
 
-/// The lines of a text, and how many lines stand before it: its first one has the next number, and their count is that of all
+/// The lines of a text that has `before` lines before it: the first one has the next number, and their count is that of all
 /// lines so far. Else it is as `lex` says.
 #[tactic(auto, using(crate::proofs::Texts::lexing_done, crate::proofs::Texts::length_fits))]
 pub fn lex_after(alloc: Global, before: u32, text: &[u8]) -> Result<Lines, LexError>

@@ -35,7 +35,7 @@ impl Model for Items {
 }
 
 impl Items {
-    /// No items, of at most `capacity`. It takes no memory.
+    /// No items; later there are at most `capacity`. It takes no memory.
     pub fn open(alloc: Global, capacity: u32) -> Items
         ensures { result ≡ empty capacity }
     {

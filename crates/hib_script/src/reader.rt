@@ -126,7 +126,7 @@ fn line_said(alloc: Global, number: u32, line: &[u8]) -> Result<Option<Line>, Sc
     }
 }
 
-/// Takes a line into a draft, and what is left of the text is read if the line has a fault.
+/// Takes a line into a draft. If the line has a fault, what is left of the text is read for its first bad line.
 fn take(
     alloc: Global,
     draft: &mut Draft,
