@@ -2,6 +2,7 @@
 #![tactic(auto)]
 
 mod asking;
+mod last_list;
 mod queries;
 mod store;
 mod views;

@@ -6,6 +6,7 @@ ghost use Rattle.hib_base.specs.Tables.{Tables, row_at, row_left, last_on, after
 ghost use Rattle.hib_outside.specs.Causes.{Rose};
 
 use crate::asking::{self, Loaded};
+use crate::last_list::{self, LastList};
 use crate::written::Written;
 use crate::{queries, views, written};
 use hib_base::{Change, Commit, Cond, EntityNo, Key, Listing, Mapping, Query, Row, SessionNo};
@@ -41,6 +42,8 @@ pub struct Store<K: Keeper> {
     entities: u16,
     // The committed rows of the first entities, once a list was asked of them.
     index: Option<Index>,
+    // The last list that a session with changes was given. None once something is written or committed.
+    last: Option<LastList>,
 }
 
 impl<K: Keeper> Model for Store<K> {
@@ -58,9 +61,12 @@ impl<K: Keeper> Model for Store<K> {
       indexed = is_some s.index;
     } };
 
+    ghost use Rattle.std.specs.Prelude.{IfSome};
+    ghost use Rattle.hib_store.specs.Last.{Stands};
     ghost use Rattle.hib_store.specs.Stores.{IsIndexed};
 
-    ghost invariant = { λ s. IsIndexed s.entities s.index (K.tables s.keeper) };
+    ghost invariant = { λ s. IsIndexed s.entities s.index (K.tables s.keeper)
+        × IfSome s.last (Stands (K.tables s.keeper) s.written.entries) };
 }
 
 impl<K: Keeper> Store<K> {
@@ -85,6 +91,7 @@ impl<K: Keeper> Store<K> {
             written: Written::new(alloc),
             entities,
             index: None,
+            last: None,
         }
     }
 
@@ -130,6 +137,7 @@ impl<K: Keeper> Store<K> {
             written: _,
             entities: _,
             index: _,
+            last: _,
         } = self;
         keeper
     }
@@ -209,13 +217,20 @@ impl<K: Keeper> Store<K> {
             let changes = written::changes_of(&self.written, session);
             return Ok(Listed::List(views::listed(alloc, query, rows, changes)?));
         }
+        if self.index.is_some() {
+            if let Some(list) = last_list::again(alloc, &self.last, session, query)? {
+                return Ok(Listed::List(list));
+            }
+        }
         asking::make_index(alloc, &mut self.keeper, &mut self.index, self.entities)?;
         views::ready(alloc, &mut self.index, query)?;
         written::lay(alloc, &mut self.written, session, query)?;
-        match written::own_of(&self.written, session) {
-            Some(own) => views::answered(alloc, &self.index, query, own),
-            None => views::answered(alloc, &self.index, query, &Own::new(alloc)),
-        }
+        let Some(own) = written::own_of(&self.written, session) else {
+            return views::answered(alloc, &self.index, query, &Own::new(alloc));
+        };
+        let listed = views::answered(alloc, &self.index, query, own)?;
+        self.last = last_list::kept(alloc, session, query, &listed)?;
+        Ok(listed)
     }
 
     /// Makes the index of the committed rows of the first entities, unless it stands. False only if the keeper failed; if the answer
@@ -268,6 +283,7 @@ impl<K: Keeper> Store<K> {
         ensures entities { self.new.entities ≡ self.old.entities }
         ensures indexed { self.new.indexed ≡ self.old.indexed }
     {
+        self.last = None;
         written::add_change(alloc, &mut self.written, session, change)
     }
 
@@ -281,6 +297,7 @@ impl<K: Keeper> Store<K> {
         ensures entities { self.new.entities ≡ self.old.entities }
         ensures indexed { self.new.indexed ≡ self.old.indexed }
     {
+        self.last = None;
         written::drop_session(&mut self.written, session);
     }
 
@@ -293,6 +310,7 @@ impl<K: Keeper> Store<K> {
         ensures entities { self.new.entities ≡ self.old.entities }
         ensures indexed { self.new.indexed ≡ self.old.indexed }
     {
+        self.last = None;
         self.written.clear();
     }
 
@@ -322,6 +340,7 @@ impl<K: Keeper> Store<K> {
             return Ok(Commit::Committed);
         }
         let commit = asking::apply(alloc, &mut self.keeper, changes)?;
+        self.last = None;
         self.index = views::left(alloc, self.index.take(), &commit, changes);
         written::drop_session(&mut self.written, session);
         Ok(commit)
@@ -342,6 +361,7 @@ impl<K: Keeper> Store<K> {
         ensures indexed { StandsCommitted result self.old.indexed self.new.indexed }
     {
         let commit = asking::apply(alloc, &mut self.keeper, changes)?;
+        self.last = None;
         self.index = views::left(alloc, self.index.take(), &commit, changes);
         Ok(commit)
     }
