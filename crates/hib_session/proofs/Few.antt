@@ -13,7 +13,9 @@ use Rattle.hib_journal.specs.Sessions.{Journal, changes_in, changes_after, time_
 use Rattle.hib_journal.specs.Held.{held, pending, is_fresh, without_key}
 use Rattle.hib_journal.specs.Plan.{Plan, after, left_of, first_act, one, each, InOrder}
 use Rattle.hib_journal.specs.Next
-use Rattle.hib_session.proofs.Once.{none_some, some_same, times, AllAsk, all_pending, once_pending}
+use Rattle.hib_law.proofs.Basics.{none_some, some_same}
+use Rattle.hib_law.proofs.Flushes.{times}
+use Rattle.hib_session.proofs.Once.{AllAsk, all_pending, once_pending}
 use Rattle.hib_session.proofs.Still.{touched, touched_by, has, filter_few, without_less, asks_not_still, IsCalm, IsDue, calm_start, calm_after, is_pause, ask_pause, ask_write, once_apart, once_rest}
 use Rattle.hib_session.specs.Bound.{most_entries}
 

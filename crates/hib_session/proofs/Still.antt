@@ -14,7 +14,9 @@ use Rattle.hib_journal.specs.Held.{Instance, Arrival, arrival, arrived_key, is_b
 use Rattle.hib_journal.proofs.Shapes.{insert_of, update_of, delete_of}
 use Rattle.hib_session.specs.Memory.{is_unwritten}
 use Rattle.hib_session.proofs.Kept.{later, after_write, arrives_other, fresh, held_later, held_arrives, held_broken}
-use Rattle.hib_session.proofs.Once.{some_same, none_some, Asks, AllAsk, times}
+use Rattle.hib_law.proofs.Basics.{none_some, some_same}
+use Rattle.hib_law.proofs.Flushes.{times}
+use Rattle.hib_session.proofs.Once.{Asks, AllAsk}
 
 -- ---- the keys on which something came since they were last written
 
