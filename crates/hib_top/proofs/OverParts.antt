@@ -1,5 +1,5 @@
 -- What a run over parts under locks of their own comes to.
-use Rattle.std.proofs.Common.{◌≡◌, ◌≤◌, ◌+◌, ◌^◌, ℕ, Bool, true, false, List, [], ◌∷◌, ◌++◌, length, Result, Option, IfSome, sym, subst, arith}
+use Rattle.std.proofs.Common.{◌≡◌, ◌≤◌, ◌+◌, ◌^◌, ℕ, Bool, true, false, List, [], ◌∷◌, ◌++◌, length, Result, Option, sym, subst, arith}
 use Rattle.std.specs.Prelude.{not, is_ok}
 use Rattle.hib_base.specs.Tables.{Tables}
 use Rattle.hib_base.specs.Valid.{is_valid}

@@ -76,8 +76,9 @@ pub record IsRun (turns : Turns) (short : Bool) (script : Script) (old new : Sha
   pub asked : RoseWithin old.asked (most_asked short (ask_count (past run.journal))) new.asked
   pub listeners : AreHandedBack short run.journal.list old.told new.told
 
--- a run didn't come to its end: memory ran out, on the way or before the first step, or the keeper didn't take the script's rows. Over parts no journal is
--- there then, and nothing is said of the rows; with two workers or more they may be torn, and then two entities, entries or ticks differ
+-- a run didn't come to its end: memory ran out, on the way or before the first step, or the keeper didn't take the script's rows. Over
+-- parts no journal is there then, and nothing is said of the rows; with two workers or more they may be torn, and then two entities,
+-- entries or ticks differ
 abbrev pub Stops : Turns → Script → Shared → Shared → Status → Option Played → Type 0
 Stops (Turns.OnParts n) script old new (Status.Torn torn) None = (2 ≤ n) × AreApart torn × RoseBy old.faults 0 new.faults
 Stops (Turns.OnParts n) script old new Status.NoMemory None = RoseBy old.faults 0 new.faults
