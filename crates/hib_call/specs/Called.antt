@@ -16,10 +16,8 @@ pub record HasText (most : ℕ) (left after : Option (List ℕ)) (text : List �
   pub few : length text ≤ most
 
 -- it is this input
-pub record HasRead {I R : Type 0} (c : Command I R) (left after : Option (List ℕ)) (input : I) : Type 0 where
-  pub text : List ℕ
-  pub read : HasText c.limit left after text
-  pub is : c.reads text input
+abbrev pub HasRead : {I R : Type 0} → Command I R → Option (List ℕ) → Option (List ℕ) → I → Type 0
+HasRead c left after input = (text : List ℕ) × HasText c.limit left after text × c.reads text input
 
 -- no input was read, and this is how the call ends
 abbrev pub HasNone : {I R : Type 0} → Command I R → Option (List ℕ) → Option (List ℕ) → Status → Type 0
@@ -48,11 +46,8 @@ ComesTo c old new answer None = (HasNone c old.left new.left answer × IsIdle ol
 ComesTo c old new answer (Some run) = IsTold c old new answer run ⊎ IsStopped c old new answer (Some run)
 
 -- the source tells a text within the limit that has the form
-pub record HasInput {I R : Type 0} (c : Command I R) (left : Option (List ℕ)) : Type 0 where
-  pub text : List ℕ
-  pub told : left ≡ Some text
-  pub few : length text ≤ c.limit
-  pub form : c.has_form text
+abbrev pub HasInput : {I R : Type 0} → Command I R → Option (List ℕ) → Type 0
+HasInput c left = (text : List ℕ) × (left ≡ Some text) × (length text ≤ c.limit) × c.has_form text
 
 pub record IsCalled {I R : Type 0} (c : Command I R) (old new : Outside) (answer : Status) (run : Option R) : Type 0 where
   -- what stands after the call, by how it ended

@@ -1,8 +1,6 @@
 -- What runs of several commands leave, and runs that don't begin.
-use Rattle.std.specs.Prelude.{◌≡◌, ◌⊎◌, ◌+◌, ℕ, Bool, true, false, List}
+use Rattle.std.specs.Prelude.{◌≡◌, ◌⊎◌, ◌+◌, ℕ, Bool, true, false, if◌then◌else◌, List}
 use Rattle.hib_journal.specs.Types.{Script, Entry}
-use Rattle.hib_journal.specs.Sessions.{Journal}
-use Rattle.hib_journal.specs.Runs.{ask_count}
 use Rattle.hib_listeners.specs.Heard.{HaveHeard}
 use Rattle.hib_listeners.specs.Told.{Told}
 use Rattle.hib_store.specs.declared.store.OpenFault.{OpenFault}
@@ -22,10 +20,9 @@ abbrev pub AreHandedBack : Bool → List Entry → List Told → List Told → T
 AreHandedBack false es start now = HaveHeard false es start now
 AreHandedBack true es start now = HaveHeard false es start now ⊎ HaveHeard true es start now
 
--- how often a keeper is asked at most in a run of these entries: if memory ran out once more, without an entry
-abbrev pub most_asked : Bool → Journal → ℕ
-most_asked false h = ask_count h
-most_asked true h = ask_count h + 1
+-- how often a keeper is asked at most in a run whose entries ask it so often: if memory ran out once more, without an entry
+abbrev pub most_asked : Bool → ℕ → ℕ
+most_asked short n = if short then n + 1 else n
 
 -- nothing was run, and no table has changed
 pub record IsUnrun (old new : Shared) : Type 0 where

@@ -1,12 +1,10 @@
 -- The run of a script with collections.
-use Rattle.std.specs.Prelude.{◌≡◌, ℕ, ◌+◌, Bool, true, false, List, codes, Some, None, Option, Result, Ok, Err}
+use Rattle.std.specs.Prelude.{◌≡◌, ℕ, Bool, true, false, List, codes, Some, None, Option, Result, Ok, Err}
 use Rattle.hib_base.specs.declared.refusals.Refused.{Refused}
 use Rattle.hib_engines.specs.Counts.{RoseBy, RoseWithin}
 use Rattle.hib_engines.specs.Origin.{told_start}
 use Rattle.hib_journal.specs.Runs.{told_committed, fault_count}
-use Rattle.hib_journal.specs.Types.{Script}
 use Rattle.hib_collections_law.specs.declared.entries.Def.{Def}
-use Rattle.hib_collections_law.specs.Types.{Gathered}
 use Rattle.hib_collections_law.specs.Gathered.{plain}
 use Rattle.hib_collections.specs.Kept.{past}
 use Rattle.hib_collections.specs.Gather.{heard_in}
@@ -24,7 +22,7 @@ use Rattle.hib_call.specs.Ends.{IsWritten}
 use Rattle.hib_call.specs.Outside.{Shared}
 use Rattle.hib_section_calls.specs.declared.collect.Gathering.{Gathering}
 use Rattle.hib_section_calls.specs.declared.collect.Collected.{Collected}
-use Rattle.hib_call.specs.Runs.{AreHandedBack, IsUnrun}
+use Rattle.hib_call.specs.Runs.{AreHandedBack, IsUnrun, most_asked}
 
 -- ---- what a text says: a script, and collections after a line `collections`; or its first bad line
 abbrev pub with_collections : Outline → Result (List Def) Refused → Result (Outline × List Def) Refused
@@ -39,11 +37,6 @@ abbrev pub gathering_of : List ℕ → Result (Outline × List Def) Refused
 gathering_of text = if_sectioned (section_of (codes "collections") text)
 
 -- ---- what a run leaves
--- how often a keeper is asked at most: if memory ran out once more, without an entry
-abbrev pub most_asked : Bool → Script → Gathered → ℕ
-most_asked false script g = ask_count script g
-most_asked true script g = ask_count script g + 1
-
 -- what the keeper and the listeners tell after a run is what its journal says, and the journal obeys the law of collections. It begins
 -- with the rows that the keeper kept, with the script's rows; short says whether memory ran out
 pub record IsCollected (short : Bool) (input : Gathering) (old new : Shared) (run : Collected) : Type 0 where
@@ -52,7 +45,7 @@ pub record IsCollected (short : Bool) (input : Gathering) (old new : Shared) (ru
   pub obeys : Obeys input.script input.defs (told_start input.script old.tables) (past run.journal)
   pub rows : new.tables ≡ told_committed (told_start input.script old.tables) (plain input.script (past run.journal))
   pub faults : RoseBy old.faults (fault_count (plain input.script (past run.journal))) new.faults
-  pub asked : RoseWithin old.asked (most_asked short input.script (past run.journal)) new.asked
+  pub asked : RoseWithin old.asked (most_asked short (ask_count input.script (past run.journal))) new.asked
   pub listeners : AreHandedBack short (heard_in input.script (past run.journal)) old.told new.told
 
 -- a run came to its end: that of each session, by the schedule

@@ -1,5 +1,5 @@
 -- The run of a script at two nodes over one store.
-use Rattle.std.specs.Prelude.{◌≡◌, ℕ, ◌+◌, Bool, true, false, List, [], codes, Some, None, Option, Result, Ok, Err}
+use Rattle.std.specs.Prelude.{◌≡◌, ℕ, Bool, true, false, List, [], codes, Some, None, Option, Result, Ok, Err}
 use Rattle.hib_base.specs.declared.refusals.Refused.{Refused}
 use Rattle.hib_journal.specs.Runs.{told_committed, fault_count, ask_count}
 use Rattle.hib_engines.specs.Counts.{RoseBy, RoseWithin}
@@ -48,7 +48,7 @@ pub record IsNoded (short : Bool) (input : Placing) (old new : Shared) (run : No
   pub obeys : Obeys input.script input.places.nodes (told_start input.script old.tables) (past run.journal)
   pub rows : new.tables ≡ told_committed (told_start input.script old.tables) (entries (past run.journal))
   pub faults : RoseBy old.faults (fault_count (entries (past run.journal))) new.faults
-  pub asked : RoseWithin old.asked (most_asked short (entries (past run.journal))) new.asked
+  pub asked : RoseWithin old.asked (most_asked short (ask_count (entries (past run.journal)))) new.asked
   pub listeners : new.told ≡ old.told
 
 -- a run came to its end: that of each session, by the schedule, and nothing waits for a node

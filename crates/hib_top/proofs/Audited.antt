@@ -5,7 +5,11 @@ use Rattle.hib_journal.specs.Kept.{Kept, past}
 use Rattle.hib_audit.specs.declared.verdict.Audit.{Audit}
 use Rattle.hib_call.specs.declared.status.Status.{Status}
 use Rattle.hib_call.specs.Ends.{IsAfterRun, IsWritten}
-use Rattle.hib_top.specs.Auditing.{IsSaid, status_said}
+use Rattle.hib_top.specs.Auditing.{status_said}
+
+-- the status says it, unless it could not be written
+abbrev IsSaid : Status → Audit → Type 0
+IsSaid answer a = (answer ≡ status_said a) ⊎ ((answer ≡ Status.WriteFault) ⊎ (answer ≡ Status.NoMemory))
 
 pub is_said : (a : Audit) → IsSaid (status_said a) a
 is_said a = inl refl

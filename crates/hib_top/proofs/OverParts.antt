@@ -1,15 +1,15 @@
 -- What a run over parts under locks of their own comes to.
-use Rattle.std.proofs.Common.{◌≡◌, ◌≤◌, ◌+◌, ◌^◌, ℕ, Bool, true, false, List, [], ◌∷◌, ◌++◌, length, Result, Option, IfSome, sym, subst, arith}
+use Rattle.std.proofs.Common.{◌≡◌, ◌≤◌, ◌+◌, ◌^◌, ℕ, Bool, true, false, List, [], ◌∷◌, ◌++◌, length, Result, Option, sym, subst, arith}
 use Rattle.std.specs.Prelude.{not, is_ok}
 use Rattle.hib_base.specs.Tables.{Tables}
 use Rattle.hib_base.specs.Valid.{is_valid}
+use Rattle.hib_base.proofs.Valid.{rules}
 use Rattle.hib_journal.specs.Types.{Script, Entry}
 use Rattle.hib_journal.specs.Legal.{IsLegal}
 use Rattle.hib_journal.specs.Runs.{name_identifiers}
 use Rattle.hib_journal.specs.Sessions.{Journal}
 use Rattle.hib_listeners.specs.Heard.{HaveHeard}
 use Rattle.hib_listeners.specs.Told.{Told, AreTold}
-use Rattle.hib_law.specs.Hits.{AreListsGiven}
 use Rattle.hib_formed.specs.Early.{AreEarly}
 use Rattle.hib_split_law.specs.Merged.{AreDue}
 use Rattle.hib_split_law.proofs.Merge.{last_few}
@@ -25,9 +25,6 @@ use Rattle.hib_top.proofs.Formed.{Formed, early_enough, start_formed}
 -- ---- laws that are called
 abbrev pub Short : Type 0
 Short = (script : Script) (told : Option Tables) (h : Journal) → is_valid script ≡ true → IsLegal script told h → outside_count h ≤ length script.schedule → length h ≤ 150000
-
-abbrev pub Given : Type 0
-Given = (script : Script) (told : Option Tables) (h : Journal) → is_valid script ≡ true → IsLegal script told h → IfSome told (λ start. AreListsGiven script start h)
 
 -- ---- who hears of it
 abbrev pub Carries : Type 0
@@ -46,16 +43,16 @@ early (e ∷ h) d few =
     let l : e.tick ≤ length (e ∷ h) = last_few (λ _. true) (e ∷ h) d in
     (early h d.0 (omega (arith, few)), omega (arith, l, few))
 
-pub is_played : Short → Given → Formed → (n : ℕ) (script : Script) (from : Origin) (h : Journal) (rows : Option Tables) (failed asked_for : ℕ) → is_valid script ≡ true →
+pub is_played : Short → Formed → (n : ℕ) (script : Script) (from : Origin) (h : Journal) (rows : Option Tables) (failed asked_for : ℕ) → is_valid script ≡ true →
     IsOneRun script from h rows failed asked_for → (n ≡ 1 → IsOneByOne h) → IsPlayed (Turns.OnParts n) script from.tables rows h
-is_played short given formed n script from h rows failed asked_for v one order =
+is_played short formed n script from h rows failed asked_for v one order =
     let few : length h ≤ 150000 = short script from.tables h v one.legal (let o : outside_count h ≡ 0 = one.inside in omega (arith, o)) in
     let small : length h ≤ 2 ^ 61 = early_enough h few in
     let named : name_identifiers h ≡ true = all_named h one.inside in
     record {
       legal = one.legal;
       law = one.law;
-      given = given script from.tables h v one.legal;
+      declared = (rules script v).declared;
       ticked = (one.due, λ e. (order e).numbered);
       few = few;
       named = named;

@@ -1,14 +1,15 @@
 -- The run of a script.
-use Rattle.std.specs.Prelude.{◌≡◌, ◌⊎◌, reverse, ◌≤◌, ℕ, Bool, true, false, List, ⊤, length, slice_get, IfSome, Some, None, Option, Ok, Err, ◌++◌, codes}
+use Rattle.std.specs.Prelude.{◌≡◌, ◌⊎◌, reverse, ◌≤◌, ℕ, Bool, true, false, List, length, slice_get, IfSome, Some, None, Option, Ok, Err, ◌++◌, codes}
 use Rattle.std.specs.Fmt.{decimal}
+use Rattle.std.specs.List.{list_all}
+use Rattle.hib_base.specs.Scripts.{is_declared}
 use Rattle.hib_base.specs.Tables.{Tables}
 use Rattle.hib_journal.specs.Types.{Script, SessionDef, Entry}
 use Rattle.hib_journal.specs.Kept.{past}
 use Rattle.hib_journal.specs.Sessions.{Journal}
 use Rattle.hib_journal.specs.Played.{has_next, is_played}
 use Rattle.hib_journal.specs.Legal.{IsLegal}
-use Rattle.hib_journal.specs.Runs.{IsNumbered, told_committed, name_identifiers, fault_count}
-use Rattle.hib_law.specs.Hits.{AreListsGiven}
+use Rattle.hib_journal.specs.Runs.{IsNumbered, told_committed, name_identifiers, fault_count, ask_count}
 use Rattle.hib_law.specs.Law.{Obeys}
 use Rattle.hib_split_law.specs.Merged.{AreDue}
 use Rattle.hib_joined.specs.Joined.{AreApart}
@@ -55,8 +56,8 @@ pub record IsFinished (turns : Turns) (script : Script) (h : Journal) : Type 0 w
 pub record IsPlayed (turns : Turns) (script : Script) (start rows : Option Tables) (h : Journal) : Type 0 where
   pub legal : IsLegal script start h
   pub law : Obeys script start h
-  -- and each list from the cache is what its query gave
-  pub given : IfSome start (λ told. AreListsGiven script told h)
+  -- and each query reads declared tables alone, so that each list from the cache is what its query gave
+  pub declared : list_all (λ q. is_declared script q) script.queries ≡ true
   pub ticked : AreTicked turns h
   -- it is short
   pub few : length h ≤ max_entries
@@ -72,15 +73,12 @@ pub record IsRun (turns : Turns) (short : Bool) (script : Script) (old new : Sha
   pub of : run.script ≡ script
   pub played : IsPlayed turns script (told_start script old.tables) new.tables (past run.journal)
   pub faults : RoseBy old.faults (fault_count (past run.journal)) new.faults
-  pub asked : RoseWithin old.asked (most_asked short (past run.journal)) new.asked
+  pub asked : RoseWithin old.asked (most_asked short (ask_count (past run.journal))) new.asked
   pub listeners : AreHandedBack short run.journal.list old.told new.told
 
--- a run came to its end
-abbrev pub Leaves : Turns → Script → Shared → Shared → Played → Type 0
-Leaves turns script old new run = IsRun turns false script old new run × IsFinished turns script (past run.journal)
-
--- it didn't: memory ran out, on the way or before the first step, or the keeper didn't take the script's rows. Over parts no journal is
--- there then, and nothing is said of the rows; with two workers or more they may be torn, and then two entities, entries or ticks differ
+-- a run didn't come to its end: memory ran out, on the way or before the first step, or the keeper didn't take the script's rows. Over
+-- parts no journal is there then, and nothing is said of the rows; with two workers or more they may be torn, and then two entities,
+-- entries or ticks differ
 abbrev pub Stops : Turns → Script → Shared → Shared → Status → Option Played → Type 0
 Stops (Turns.OnParts n) script old new (Status.Torn torn) None = (2 ≤ n) × AreApart torn × RoseBy old.faults 0 new.faults
 Stops (Turns.OnParts n) script old new Status.NoMemory None = RoseBy old.faults 0 new.faults
@@ -95,14 +93,10 @@ told_by Telling.Report script es = report script es
 told_by Telling.JsonLines script es = json_lines script es
 told_by (Telling.Summary n) script es = codes "seed " ++ decimal n ++ codes "\n" ++ summary script es
 
--- JSON lines that are written, whole or in part, are of well-formed entries: then they are read back as these entries
-abbrev pub AreTellable : Telling → Script → List Entry → Type 0
-AreTellable Telling.JsonLines script es = AreEntries script es
-AreTellable _ script es = ⊤
-
 pub record Tells (telling : Telling) (run : Played) (answer : Status) (taken written : Option (List ℕ)) : Type 0 where
   pub report : IsWritten answer (told_by telling run.script run.journal.list) taken written
-  pub tellable : AreTellable telling run.script run.journal.list ⊎ ((answer ≡ Status.NoMemory) × (written ≡ taken))
+  -- JSON lines that are written, whole or in part, are of well-formed entries: then they are read back as these entries
+  pub tellable : telling ≡ Telling.JsonLines → AreEntries run.script run.journal.list ⊎ ((answer ≡ Status.NoMemory) × (written ≡ taken))
 
 -- ---- the command
 abbrev pub running : Turns → Telling → Command Script Played
@@ -111,7 +105,7 @@ running turns telling = record {
   reads = λ text script. script_of text ≡ Ok (outline_of script);
   refuses = λ text refused. script_of text ≡ Err refused;
   has_form = λ text. (said : Outline) × (script_of text ≡ Ok said);
-  leaves = Leaves turns;
+  leaves = λ script old new run. IsRun turns false script old new run × IsFinished turns script (past run.journal);
   stops = Stops turns;
   tells = Tells telling;
 }

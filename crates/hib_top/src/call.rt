@@ -3,7 +3,7 @@ ghost use Rattle.std.specs.Prelude.{◌≡◌, ◌≢◌, ◌≤◌, IfOk, IfSom
 ghost use Rattle.hib_base.specs.Valid.{is_valid};
 ghost use Rattle.hib_call.specs.Limits.{max_journal};
 ghost use Rattle.hib_call.specs.Outside.{outside_of};
-ghost use Rattle.hib_words.specs.Commands.{asked_of, command};
+ghost use Rattle.hib_words.specs.Commands.{asked_of, command, max_workers};
 ghost use Rattle.hib_top.specs.Words.{HasFew, asked_alone, asked_in, is_alone, telling_of};
 ghost use Rattle.hib_top.specs.Call.{Does, Promised};
 
@@ -125,13 +125,13 @@ fn serve<R: Threads + Wait + Sync, S: Source, W: Sink, K: Keeper, G: Gate, L: Li
     if *split {
         let turns = Turns::OnParts(workers);
         let run = |script: Script, lent: Lent<K, L>|
-            requires { (is_valid script ≡ true) × (1 ≤ workers) × (workers ≤ 64) }
+            requires { (is_valid script ≡ true) × (1 ≤ workers) × (workers ≤ max_workers) }
         { split_script(rt, alloc, script, lent, workers, gate) };
         call(alloc, &Run { turns, telling }, source, out, lent, run).map(AnyRun::Played)
     } else {
         let turns = Turns::OnWorkers(workers);
         let run = |script: Script, lent: Lent<K, L>|
-            requires { (is_valid script ≡ true) × (1 ≤ workers) × (workers ≤ 64) }
+            requires { (is_valid script ≡ true) × (1 ≤ workers) × (workers ≤ max_workers) }
         { work_script(rt, alloc, script, lent, workers, gate) };
         call(alloc, &Run { turns, telling }, source, out, lent, run).map(AnyRun::Played)
     }

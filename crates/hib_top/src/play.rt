@@ -14,7 +14,6 @@ use hib_base::Script;
 use hib_call::{Lent, Outcome, Ran, Status, not_run};
 use hib_core::{Factory, Name, OpenRefused, runs_are_short};
 use hib_formed::{entries_are_formed, ticks_are_early};
-use hib_law::lists_are_given;
 use hib_outside::{Keeper, Listener};
 use std::alloc::Global;
 use std::marker::Brand;
@@ -32,7 +31,6 @@ fn play_named<N: Name, K: Keeper, L: Listener>(
     ensures { Comes (running Turns.Scheduled Telling.Report) N.script
         (shared_of K.Keeper L.Listener lent) (shared_of K.Keeper L.Listener result.lent) result.outcome }
 {
-    lists_are_given();
     entries_are_formed();
     ticks_are_early();
     runs_are_short();

@@ -10,6 +10,7 @@ ghost use Rattle.hib_joined.specs.Run.{CameToOne};
 ghost use Rattle.hib_listeners.specs.Heard.{HaveHeard};
 ghost use Rattle.hib_listeners.specs.Told.{tells};
 ghost use Rattle.hib_merge.specs.declared.tearing.Torn.{Torn};
+ghost use Rattle.hib_words.specs.Commands.{max_workers};
 ghost use Rattle.hib_top.specs.Running.{running};
 ghost use Rattle.hib_top.specs.declared.telling.Telling.{Telling};
 ghost use Rattle.hib_top.specs.declared.turns.Turns.{Turns};
@@ -20,7 +21,6 @@ use hib_call::{Lent, Outcome, Ran, Status, not_run};
 use hib_core::{Name, runs_are_short};
 use hib_formed::entries_are_formed;
 use hib_joined::{Joined, JoinedRun, run_joined};
-use hib_law::lists_are_given;
 use hib_listeners::{Listeners, nothing_was_told, telling_goes_on};
 use hib_outside::{Gate, Keeper, Listener};
 use std::alloc::Global;
@@ -77,7 +77,6 @@ fn hear_joined<N: Name, K: Keeper, L: Listener>(
     ensures torn { (t : Torn) → result.outcome ≡ Outcome.Stopped (Status.Torn t) None
         → joined ≡ Joined.Torn t }
 {
-    lists_are_given();
     entries_are_formed();
     runs_are_short();
     let _workers = workers;
@@ -125,7 +124,7 @@ fn split_named<N: Name + Send + Sync, R: Threads + Wait + Sync, K: Keeper, L: Li
     workers: u32,
     gate: &G,
 ) -> Ran<Played, K, L>
-    requires workers { (1 ≤ workers) × (workers ≤ 64) }
+    requires workers { (1 ≤ workers) × (workers ≤ max_workers) }
     requires script { script ≡ N.script }
     requires valid { is_valid N.script ≡ true }
     requires from { origin N.script (shared_of K.Keeper L.Listener lent) ≡ N.from }
@@ -152,7 +151,7 @@ pub fn split_script<R: Threads + Wait + Sync, K: Keeper, L: Listener, G: Gate>(
     workers: u32,
     gate: &G,
 ) -> Ran<Played, K, L>
-    requires workers { (1 ≤ workers) × (workers ≤ 64) }
+    requires workers { (1 ≤ workers) × (workers ≤ max_workers) }
     requires valid { is_valid script ≡ true }
     ensures { Comes (running (Turns.OnParts workers) Telling.Report) script
         (shared_of K.Keeper L.Listener lent) (shared_of K.Keeper L.Listener result.lent) result.outcome }

@@ -5,7 +5,7 @@ ghost use Rattle.hib_call.specs.Ends.{IsAfterRun, IsWritten};
 ghost use Rattle.hib_json_lines.specs.Line.{json_lines};
 ghost use Rattle.hib_outside.specs.Causes.{Rose};
 ghost use Rattle.hib_report.specs.Report.{report, summary};
-ghost use Rattle.hib_top.specs.Running.{AreTellable, Tells, told_by};
+ghost use Rattle.hib_top.specs.Running.{Tells, told_by};
 ghost use Rattle.hib_top.specs.declared.telling.Telling.{Telling};
 
 use hib_base::Script;

@@ -5,6 +5,7 @@ ghost use Rattle.hib_call.specs.Ends.{Comes};
 ghost use Rattle.hib_call.specs.Outside.{shared_of};
 ghost use Rattle.hib_call.specs.Runs.{origin};
 ghost use Rattle.hib_listeners.specs.Told.{tells};
+ghost use Rattle.hib_words.specs.Commands.{max_workers};
 ghost use Rattle.hib_top.specs.Running.{running};
 ghost use Rattle.hib_top.specs.declared.telling.Telling.{Telling};
 ghost use Rattle.hib_top.specs.declared.turns.Turns.{Turns};
@@ -14,7 +15,6 @@ use hib_base::Script;
 use hib_call::{Lent, Outcome, Ran, Status, not_run};
 use hib_core::{Factory, Name, OpenRefused, runs_are_short};
 use hib_formed::{entries_are_formed, ticks_are_early};
-use hib_law::lists_are_given;
 use hib_outside::{Gate, Keeper, Listener};
 use hib_workers::Worked;
 use std::alloc::Global;
@@ -31,7 +31,7 @@ fn work_named<N: Name + Send + Sync, R: Threads + Wait + Sync, K: Keeper, L: Lis
     workers: u32,
     gate: &G,
 ) -> Ran<Played, K, L>
-    requires workers { (1 ≤ workers) × (workers ≤ 64) }
+    requires workers { (1 ≤ workers) × (workers ≤ max_workers) }
     requires script { script ≡ N.script }
     requires valid { is_valid N.script ≡ true }
     requires from { origin N.script (shared_of K.Keeper L.Listener lent) ≡ N.from }
@@ -39,7 +39,6 @@ fn work_named<N: Name + Send + Sync, R: Threads + Wait + Sync, K: Keeper, L: Lis
     ensures { Comes (running (Turns.OnWorkers workers) Telling.Report) N.script
         (shared_of K.Keeper L.Listener lent) (shared_of K.Keeper L.Listener result.lent) result.outcome }
 {
-    lists_are_given();
     entries_are_formed();
     ticks_are_early();
     runs_are_short();
@@ -75,7 +74,7 @@ pub fn work_script<R: Threads + Wait + Sync, K: Keeper, L: Listener, G: Gate>(
     workers: u32,
     gate: &G,
 ) -> Ran<Played, K, L>
-    requires workers { (1 ≤ workers) × (workers ≤ 64) }
+    requires workers { (1 ≤ workers) × (workers ≤ max_workers) }
     requires valid { is_valid script ≡ true }
     ensures { Comes (running (Turns.OnWorkers workers) Telling.Report) script
         (shared_of K.Keeper L.Listener lent) (shared_of K.Keeper L.Listener result.lent) result.outcome }

@@ -1,5 +1,5 @@
 -- The getters give what the words gave.
-use Rattle.std.proofs.Common.{◌≡◌, ◌∙◌, Bool, cond, true, false, List, [], ◌∷◌, refl, sym, ap, Option, Some, None, true≢false}
+use Rattle.std.proofs.Common.{◌≡◌, ◌∙◌, ℕ, zero, suc, Bool, cond, true, false, List, [], ◌∷◌, refl, sym, ap, Option, Some, None, true≢false}
 use Rattle.std.specs.Borrow.{Bor}
 use Rattle.std.specs.Prelude.{codes, not, option_map, ◌&&◌}
 use Rattle.std.specs.List.{list_all}
@@ -54,74 +54,43 @@ not_valued o is e = true≢false (sym (ap (λ (o : Option Bool). option_map_or n
 not_flagged : (o : Option Bool) → option_map_or (λ b. b) o true ≡ true → o ≡ Some false → ⊥
 not_flagged o is e = true≢false (sym (ap (λ (o : Option Bool). option_map_or (λ b. b) o true) (sym e) ∙ is))
 
--- ---- a test that each form passes
+-- ---- a test that each form passes. A verb more comes at the end of this list, and is an equation of `each`
+
+abbrev verbs : List Verb
+verbs = Play ∷ Work ∷ Make ∷ Audit ∷ Collect ∷ Bulk ∷ Nodes ∷ Orders ∷ Report ∷ Flat ∷ Schedule ∷ Spans ∷ Rows ∷ []
 
 abbrev on_all : (Verb → Bool) → Bool
-on_all p = list_all p (Play ∷ Work ∷ Make ∷ Audit ∷ Collect ∷ Bulk ∷ Nodes ∷ Orders ∷ Report ∷ Flat ∷ Schedule ∷ Spans ∷ Rows ∷ [])
+on_all p = list_all p verbs
 
-part : {A : Type 0} (p : A → Bool) (a : A) (rest : List A) → list_all p (a ∷ rest) ≡ true → (p a ≡ true) × (list_all p rest ≡ true)
-part p a rest e = both (p a) (list_all p rest) e
-  where
-    both : (x y : Bool) → (x && y) ≡ true → (x ≡ true) × (y ≡ true)
-    both true y q = (refl, q)
-    both false y q = absurd (true≢false (sym q))
+-- the verb at this place passes
+abbrev PassesAt : (Verb → Bool) → List Verb → ℕ → Type 0
+PassesAt p [] i = Unit {0}
+PassesAt p (v ∷ vs) zero = p v ≡ true
+PassesAt p (v ∷ vs) (suc i) = PassesAt p vs i
+
+both_true : (x y : Bool) → (x && y) ≡ true → (x ≡ true) × (y ≡ true)
+both_true true y e = (refl, e)
+both_true false y e = absurd (true≢false (sym e))
+
+at : (p : Verb → Bool) (vs : List Verb) (i : ℕ) → list_all p vs ≡ true → PassesAt p vs i
+at p [] i e = tt
+at p (v ∷ vs) zero e = (both_true (p v) (list_all p vs) e).0
+at p (v ∷ vs) (suc i) e = at p vs i (both_true (p v) (list_all p vs) e).1
 
 each : (p : Verb → Bool) → on_all p ≡ true → (v : Verb) → p v ≡ true
-each p e v = go v
-  where
-    after1 : (p Play ≡ true) × (list_all p (Work ∷ Make ∷ Audit ∷ Collect ∷ Bulk ∷ Nodes ∷ Orders ∷ Report ∷ Flat ∷ Schedule ∷ Spans ∷ Rows ∷ []) ≡ true)
-    after1 = part p Play (Work ∷ Make ∷ Audit ∷ Collect ∷ Bulk ∷ Nodes ∷ Orders ∷ Report ∷ Flat ∷ Schedule ∷ Spans ∷ Rows ∷ []) e
-
-    after2 : (p Work ≡ true) × (list_all p (Make ∷ Audit ∷ Collect ∷ Bulk ∷ Nodes ∷ Orders ∷ Report ∷ Flat ∷ Schedule ∷ Spans ∷ Rows ∷ []) ≡ true)
-    after2 = part p Work (Make ∷ Audit ∷ Collect ∷ Bulk ∷ Nodes ∷ Orders ∷ Report ∷ Flat ∷ Schedule ∷ Spans ∷ Rows ∷ []) after1.1
-
-    after3 : (p Make ≡ true) × (list_all p (Audit ∷ Collect ∷ Bulk ∷ Nodes ∷ Orders ∷ Report ∷ Flat ∷ Schedule ∷ Spans ∷ Rows ∷ []) ≡ true)
-    after3 = part p Make (Audit ∷ Collect ∷ Bulk ∷ Nodes ∷ Orders ∷ Report ∷ Flat ∷ Schedule ∷ Spans ∷ Rows ∷ []) after2.1
-
-    after4 : (p Audit ≡ true) × (list_all p (Collect ∷ Bulk ∷ Nodes ∷ Orders ∷ Report ∷ Flat ∷ Schedule ∷ Spans ∷ Rows ∷ []) ≡ true)
-    after4 = part p Audit (Collect ∷ Bulk ∷ Nodes ∷ Orders ∷ Report ∷ Flat ∷ Schedule ∷ Spans ∷ Rows ∷ []) after3.1
-
-    after5 : (p Collect ≡ true) × (list_all p (Bulk ∷ Nodes ∷ Orders ∷ Report ∷ Flat ∷ Schedule ∷ Spans ∷ Rows ∷ []) ≡ true)
-    after5 = part p Collect (Bulk ∷ Nodes ∷ Orders ∷ Report ∷ Flat ∷ Schedule ∷ Spans ∷ Rows ∷ []) after4.1
-
-    after6 : (p Bulk ≡ true) × (list_all p (Nodes ∷ Orders ∷ Report ∷ Flat ∷ Schedule ∷ Spans ∷ Rows ∷ []) ≡ true)
-    after6 = part p Bulk (Nodes ∷ Orders ∷ Report ∷ Flat ∷ Schedule ∷ Spans ∷ Rows ∷ []) after5.1
-
-    after7 : (p Nodes ≡ true) × (list_all p (Orders ∷ Report ∷ Flat ∷ Schedule ∷ Spans ∷ Rows ∷ []) ≡ true)
-    after7 = part p Nodes (Orders ∷ Report ∷ Flat ∷ Schedule ∷ Spans ∷ Rows ∷ []) after6.1
-
-    after8 : (p Orders ≡ true) × (list_all p (Report ∷ Flat ∷ Schedule ∷ Spans ∷ Rows ∷ []) ≡ true)
-    after8 = part p Orders (Report ∷ Flat ∷ Schedule ∷ Spans ∷ Rows ∷ []) after7.1
-
-    after9 : (p Report ≡ true) × (list_all p (Flat ∷ Schedule ∷ Spans ∷ Rows ∷ []) ≡ true)
-    after9 = part p Report (Flat ∷ Schedule ∷ Spans ∷ Rows ∷ []) after8.1
-
-    after10 : (p Flat ≡ true) × (list_all p (Schedule ∷ Spans ∷ Rows ∷ []) ≡ true)
-    after10 = part p Flat (Schedule ∷ Spans ∷ Rows ∷ []) after9.1
-
-    after11 : (p Schedule ≡ true) × (list_all p (Spans ∷ Rows ∷ []) ≡ true)
-    after11 = part p Schedule (Spans ∷ Rows ∷ []) after10.1
-
-    after12 : (p Spans ≡ true) × (list_all p (Rows ∷ []) ≡ true)
-    after12 = part p Spans (Rows ∷ []) after11.1
-
-    after13 : (p Rows ≡ true) × (list_all p [] ≡ true)
-    after13 = part p Rows [] after12.1
-
-    go : (v : Verb) → p v ≡ true
-    go Play = after1.0
-    go Work = after2.0
-    go Make = after3.0
-    go Audit = after4.0
-    go Collect = after5.0
-    go Bulk = after6.0
-    go Nodes = after7.0
-    go Orders = after8.0
-    go Report = after9.0
-    go Flat = after10.0
-    go Schedule = after11.0
-    go Spans = after12.0
-    go Rows = after13.0
+each p e Play = at p verbs 0 e
+each p e Work = at p verbs 1 e
+each p e Make = at p verbs 2 e
+each p e Audit = at p verbs 3 e
+each p e Collect = at p verbs 4 e
+each p e Bulk = at p verbs 5 e
+each p e Nodes = at p verbs 6 e
+each p e Orders = at p verbs 7 e
+each p e Report = at p verbs 8 e
+each p e Flat = at p verbs 9 e
+each p e Schedule = at p verbs 10 e
+each p e Spans = at p verbs 11 e
+each p e Rows = at p verbs 12 e
 
 abbrev flag_in : Text → Verb → Bool
 flag_in id v = option_map_or not (takes_value (form_of v) id) true

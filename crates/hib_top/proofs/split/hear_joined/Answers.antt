@@ -24,7 +24,7 @@ returns-in-One-clause-comes g c = λ kept q.
     let came : IsOneRun script from h rows failed asked × (n ≡ 1 → IsOneByOne h) = subst (λ (z : Joined). CameToOne n script from z rows failed asked) c.in-One.is c.requires.came in
     let one : IsOneRun script from h rows failed asked = came.0 in
     let played : IsPlayed (Turns.OnParts n) script from.tables rows h =
-    is_played c.runs_are_short.ensures.few c.lists_are_given.ensures.lists c.entries_are_formed.ensures.formed n script from h rows failed asked c.requires.valid one came.1 in
+    is_played c.runs_are_short.ensures.few c.entries_are_formed.ensures.formed n script from h rows failed asked c.requires.valid one came.1 in
     let begun : IsPlayed (Turns.OnParts n) script (told_start script kept) rows h = subst (λ (t : Option Tables). IsPlayed (Turns.OnParts n) script t rows h) (sym q) played in
     let run : Played = record { script = c.args.script; journal = c.in-One.journal } in
     elim c.hear_run-outcome.ensures [

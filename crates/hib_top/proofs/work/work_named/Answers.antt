@@ -1,5 +1,6 @@
 use Rattle.std.proofs.Common.{◌≡◌, ◌≤◌, ◌^◌, Bool, true, false, length, Option, sym, ◌∙◌, ap, subst, arith}
 use Rattle.hib_base.specs.Tables.{Tables}
+use Rattle.hib_base.proofs.Valid.{rules}
 use Rattle.hib_journal.specs.Kept.{Kept, past}
 use Rattle.hib_journal.specs.Runs.{ask_count, name_identifiers}
 use Rattle.hib_core.specs.Bound.{outside_count}
@@ -30,7 +31,7 @@ returns g c =
     record {
       legal = c.close-keeper.ensures.legal;
       law = c.close-keeper.ensures.law;
-      given = c.lists_are_given.ensures.lists g.N.Name.script g.N.Name.from.tables h c.requires.valid c.close-keeper.ensures.legal;
+      declared = (rules g.N.Name.script c.requires.valid).declared;
       ticked = c.close-keeper.ensures.numbered;
       few = few;
       named = named;
