@@ -2,12 +2,12 @@
 //! `stdin` describes, and what is answered is printed. At the end a disk is stopped at each of its calls.
 #![tactic(auto)]
 
-mod bench;
+mod calls;
 mod crash;
 mod play;
 mod words;
 
-use bench::Bench;
+use calls::NextCall;
 use std::io;
 
 /// The lines of standard input.
@@ -21,11 +21,11 @@ fn lines_given(rt: &HostRuntime) -> io::Result<Vec<String>> {
 
 /// Does what each of these lines says.
 fn try_lines(rt: &HostRuntime, lines: &[String]) -> io::Result<()> {
-    let mut bench = Bench::new(rt.alloc());
+    let mut call = NextCall::new(rt.alloc());
     let mut taken = 0usize;
     for (place, line) in lines.iter().enumerate() {
         if place >= taken {
-            let block = bench::open(rt, &mut bench, line.as_str(), &lines[place + 1..])?;
+            let block = calls::open(rt, &mut call, line.as_str(), &lines[place + 1..])?;
             taken = block.saturating_add(place + 1);
         }
     }

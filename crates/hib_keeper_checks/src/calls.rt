@@ -9,7 +9,7 @@ use std::io;
 
 /// What was read for the next call of the keeper that is open.
 #[derive(Drop)]
-pub struct Bench {
+pub struct NextCall {
     alloc: Global,
     next: Next,
 }
@@ -80,7 +80,7 @@ fn call<K: Keeper>(
 /// Does what these lines say over a keeper, up to the one that closes it. Answers how many lines were taken.
 fn serve<K: Keeper>(
     rt: &HostRuntime,
-    bench: &mut Bench,
+    call: &mut NextCall,
     lines: &[String],
     keeper: &mut K,
 ) -> io::Result<usize> {
@@ -89,7 +89,7 @@ fn serve<K: Keeper>(
             println!(rt; "close: ok")?;
             return Ok(place.saturating_add(1));
         }
-        bench.take_line(rt, line.as_str(), keeper)?;
+        call.take_line(rt, line.as_str(), keeper)?;
     }
     Ok(lines.len())
 }
@@ -102,7 +102,7 @@ fn is_skipped(line: &str) -> bool {
 /// Opens a keeper in memory if a line says so, and does over it what those after it say. Answers how many of these were taken.
 pub fn open(
     rt: &HostRuntime,
-    bench: &mut Bench,
+    call: &mut NextCall,
     line: &str,
     lines: &[String],
 ) -> io::Result<usize> {
@@ -114,16 +114,16 @@ pub fn open(
         return Ok(0);
     }
     println!(rt; "{line}: ok")?;
-    match in_memory(bench.alloc) {
-        Ok(mut keeper) => serve(rt, bench, lines, &mut keeper),
+    match in_memory(call.alloc) {
+        Ok(mut keeper) => serve(rt, call, lines, &mut keeper),
         Err(_) => Ok(0),
     }
 }
 
-impl Bench {
+impl NextCall {
     /// Nothing was read for the next call.
-    pub fn new(alloc: Global) -> Bench {
-        Bench {
+    pub fn new(alloc: Global) -> NextCall {
+        NextCall {
             alloc,
             next: nothing(alloc),
         }
