@@ -277,7 +277,10 @@ if (typeof document !== 'undefined') {
   const textOf = id => document.getElementById(id).textContent, scripts = [...document.querySelectorAll('pre[data-name]')];
   try {
     const meanings = readMeanings(textOf('meanings'));
-    const runOf = (script, n) => ({ ...analyse(script, readJournal(textOf(`report${n}`), script)), meanings });
+    const runOf = (script, n) => {
+      const run = analyse(script, readJournal(textOf(`report${n}`), script));
+      return { ...run, meanings, told: readTold(textOf(`states${n}`), run.entries) };
+    };
     const runs = scripts.map(({ textContent }, n) => runOf(readScript(textContent), n));
     start(runs, scripts.map(script => script.dataset.name));
   } catch (fault) {

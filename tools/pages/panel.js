@@ -102,9 +102,14 @@ function walkTo(run, at) {
   return run.walk.state;
 }
 
+// The tables of the state after an entry: as they are told, or else as this page works them out.
+function tablesAfter(run, place, at, shown) {
+  return run.told ? toldTables(run, toldAt(run, place), at, shown) : tablesOf(run, walkTo(run, place), at, shown);
+}
+
 function drawState(run, at, shown) {
-  const before = tablesOf(run, walkTo(run, at - 1), at, shown);
-  return tablesOf(run, walkTo(run, at), at, shown).map((table, n) => drawTable(table, before[n], at === NEVER)).join('');
+  const before = tablesAfter(run, at - 1, at, shown);
+  return tablesAfter(run, at, at, shown).map((table, n) => drawTable(table, before[n], at === NEVER)).join('');
 }
 
 // ---- the panel ----
@@ -126,13 +131,17 @@ function drawEntry(run, at) {
   const parts = [`<p class="line mono">${escaped(lineOf(entry))}</p>`];
   if (run.said[at]) parts.push(`<p>${sentence(run, run.said[at])}</p>`);
   if (story) parts.push(`<p>${sentence(run, story.why)}</p>`);
+  if (run.told) for (const cause of toldCauses(run, at)) parts.push(`<p>The cause, by the definitions: ${cause}.</p>`);
   if (odd) parts.push(`<p class="bad">By the entries before, ${whyOdd(odd)}.</p>`);
   return parts.join('') + drawMeanings(run, entry);
 }
 
+const TOLD_NOTE = 'as <code>hib_tools states</code> tells it, by the definitions of the journal, which is proved.';
+const UNPROVED_NOTE = 'as this page works it out: an unproved account.';
+
 function drawPanel(run, at, shown) {
   const what = at === NEVER ? '<p><b>Before the first entry.</b> Pick an entry, or step with the arrow keys, to see what it means and the state after it.</p>' :
-    `${drawEntry(run, at)}<p class="note">The state after this entry, as this page works it out, unproved. What the entry changed is marked.</p>`;
+    `${drawEntry(run, at)}<p class="note">The state after this entry, ${run.told ? TOLD_NOTE : UNPROVED_NOTE} What the entry changed is marked.</p>`;
   return what + drawState(run, at, shown);
 }
 

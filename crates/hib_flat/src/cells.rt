@@ -62,7 +62,8 @@ fn put_sets(
     Ok(())
 }
 
-fn put_row_of(
+/// The cells of a key's row as members, if there is one.
+pub fn put_row_of(
     alloc: Global,
     out: &mut Vec<u8>,
     script: &Script,

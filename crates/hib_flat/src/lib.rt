@@ -12,4 +12,10 @@ mod sending;
 mod values;
 mod words;
 
+pub use cells::put_row_of;
+pub use form::Form;
+pub use lists::put_list_member;
+pub use parts::change_expected;
 pub use sending::{write, write_csv};
+pub use values::{put_bool_member, put_number_member, put_word_member};
+pub use words::change_word;

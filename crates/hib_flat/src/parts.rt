@@ -115,7 +115,8 @@ pub fn version_in(act: &Act, reply: &Reply) -> Option<u64>
     }
 }
 
-fn change_expected(change: &Change) -> Option<u64>
+/// The version that a change expects.
+pub fn change_expected(change: &Change) -> Option<u64>
     ensures { result ≡ parts.change_expected change.now }
 {
     match change {

@@ -22,7 +22,8 @@ pub fn part_word(part: Part) -> &'static [u8]
     }
 }
 
-fn change_word(change: &Change) -> &'static [u8]
+/// The word of a change.
+pub fn change_word(change: &Change) -> &'static [u8]
     ensures { result.now ≡ words.change_word change.now }
 {
     match change {

@@ -17,6 +17,7 @@ use Rattle.hib_toolbox.specs.Data.{flattening, tracing}
 use Rattle.hib_toolbox.specs.Listing.{listing}
 use Rattle.hib_toolbox.specs.Repeating.{IsSaidOfRepeat, repeating}
 use Rattle.hib_toolbox.specs.Reporting.{reporting}
+use Rattle.hib_toolbox.specs.Stating.{stating}
 use Rattle.hib_toolbox.specs.declared.repeat.Repeated.{Repeated}
 
 -- ---- a call in which memory ran out before anything was done
@@ -58,6 +59,7 @@ idle_by : (asked : Tool) (o : Outside) → DoesTool asked o o Status.NoMemory Sa
 idle_by tool.Report o = (None, short_call reporting o, refl)
 idle_by (tool.Flat csv) o = (None, short_call (flattening csv) o, refl)
 idle_by (tool.Spans jaeger) o = (None, short_call tracing o, refl)
+idle_by tool.States o = (None, short_call stating o, refl)
 idle_by tool.Schedule o = (None, short_call repeating o, refl)
 idle_by tool.Rows o = (None, short_call listing o, refl)
 idle_by (tool.Orders switches kills at_most None) o = (None, short_call (exploring switches kills at_most) o, refl)

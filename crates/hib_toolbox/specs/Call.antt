@@ -15,12 +15,15 @@ use Rattle.hib_toolbox.specs.Data.{flattening, tracing}
 use Rattle.hib_toolbox.specs.Listing.{listing}
 use Rattle.hib_toolbox.specs.Repeating.{IsSaidOfRepeat, repeating}
 use Rattle.hib_toolbox.specs.Reporting.{reporting}
+use Rattle.hib_toolbox.specs.Stating.{stating}
+use Rattle.hib_toolbox.specs.declared.states.States.{States}
 
 -- what is asked for is done by the call of a command
 abbrev pub DoesTool : Tool → Outside → Outside → Status → Said → Type 0
 DoesTool tool.Report old new answer said = (run : Option WithJournal) × IsCalled reporting old new answer run × (said ≡ Said.Nothing)
 DoesTool (tool.Flat csv) old new answer said = (run : Option WithJournal) × IsCalled (flattening csv) old new answer run × (said ≡ Said.Nothing)
 DoesTool (tool.Spans jaeger) old new answer said = (run : Option WithJournal) × IsCalled tracing old new answer run × (said ≡ Said.Nothing)
+DoesTool tool.States old new answer said = (run : Option States) × IsCalled stating old new answer run × (said ≡ Said.Nothing)
 DoesTool tool.Schedule old new answer said = (run : Option Repeated) × IsCalled repeating old new answer run × IsSaidOfRepeat answer run said
 DoesTool tool.Rows old new answer said = (run : Option Script) × IsCalled listing old new answer run × (said ≡ Said.Nothing)
 DoesTool (tool.Orders switches kills at_most None) old new answer said =

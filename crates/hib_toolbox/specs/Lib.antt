@@ -3,4 +3,5 @@ pub mod Data
 pub mod Listing
 pub mod Repeating
 pub mod Exploring
+pub mod Stating
 pub mod Call

@@ -1,6 +1,7 @@
 // The call of each word.
-ghost use Rattle.std.specs.Prelude.{◌≡◌, ℕ, None, Some, true};
+ghost use Rattle.std.specs.Prelude.{◌≡◌, ◌≤◌, ℕ, None, Some, length, true};
 ghost use Rattle.hib_base.specs.Valid.{is_valid};
+ghost use Rattle.hib_call.specs.Limits.{max_journal};
 ghost use Rattle.hib_call.specs.Outside.{outside_of};
 ghost use Rattle.hib_toolbox.specs.Call.{DoesTool};
 ghost use Rattle.hib_toolbox.specs.Exploring.{IsSaid, IsSaidOf, finding_numbered};
@@ -15,6 +16,7 @@ use crate::report::{Report, as_read};
 use crate::rows::{Rows, list_rows};
 use crate::show::{Show, explore_for};
 use crate::spans::Trace;
+use crate::states::{Stating, state_journal};
 use hib_call::{Called, Lent, Status, call};
 use hib_order_stage::Watcher;
 use hib_order_text::Finding;
@@ -147,6 +149,32 @@ pub fn write_spans<S: Source, W: Sink, K: Keeper, L: Listener>(
     let called = call(alloc, &Trace { jaeger }, source, out, lent, |input, lent| {
         as_read(input, lent)
     });
+    ended(called)
+}
+
+/// Writes the states of a journal.
+pub fn write_states<S: Source, W: Sink, K: Keeper, L: Listener>(
+    alloc: Global,
+    source: &mut S,
+    out: &mut W,
+    lent: Lent<K, L>,
+) -> Ended<K, L>
+    ensures { DoesTool Tool.States
+        (outside_of S.Source W.Sink K.Keeper L.Listener source.old out.old lent)
+        (outside_of S.Source W.Sink K.Keeper L.Listener source.new out.new result.lent)
+        result.status result.said }
+{
+    let called = call(
+        alloc,
+        &Stating,
+        source,
+        out,
+        lent,
+        |input, lent|
+            requires valid { is_valid input.script ≡ true }
+            requires few { length input.journal.list ≤ max_journal }
+        { state_journal(alloc, input, lent) },
+    );
     ended(called)
 }
 

@@ -1,5 +1,5 @@
 //! The tools' top call: what the words ask for is the call of a command. The orders of a script's sessions are tried, a journal is written
-//! as its report, as data, as the script that repeats it or as a trace, or the rows of a keeper are.
+//! as its report, as data, as its states, as the script that repeats it or as a trace, or the rows of a keeper are.
 #![tactic(auto)]
 
 mod calls;
@@ -11,6 +11,7 @@ mod report;
 mod rows;
 mod show;
 mod spans;
+mod states;
 mod top;
 
 pub use ended::{Ended, Said};
@@ -21,4 +22,5 @@ pub use report::Report;
 pub use rows::Rows;
 pub use show::Show;
 pub use spans::Trace;
+pub use states::{States, Stating};
 pub use top::tools;

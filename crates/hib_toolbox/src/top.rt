@@ -6,6 +6,7 @@ ghost use Rattle.hib_words.specs.Tools.{tool_command};
 
 use crate::calls::{
     repeat_journal, show_finding, try_orders, write_flat, write_report, write_rows, write_spans,
+    write_states,
 };
 use crate::ended::{Ended, Said};
 use crate::orders::Orders;
@@ -36,6 +37,7 @@ fn serve<S: Source, W: Sink, K: Keeper, L: Listener, H: Watcher + Drop>(
         Tool::Flat { csv } => write_flat(alloc, csv, source, out, lent),
         Tool::Spans { jaeger } => write_spans(alloc, jaeger, source, out, lent),
         Tool::Schedule => repeat_journal(alloc, source, out, lent),
+        Tool::States => write_states(alloc, source, out, lent),
         Tool::Rows => write_rows(alloc, source, out, lent),
         Tool::Orders {
             switches,
@@ -75,8 +77,8 @@ fn ended_idle<K, L>(status: Status, lent: Lent<K, L>) -> Ended<K, L>
 /// Does what the words ask of the tools, and hands back what is lent. `orders` reads a script, tries the orders of its sessions and writes
 /// what was found, or the script with the schedule of a finding. `rows` reads a script and writes the rows that the keeper has of its
 /// entities. The others read a script and a journal after it: `report` writes the report of the journal, `flat` its entries with a member
-/// for each thing, `schedule` the script whose schedule repeats it, `spans` a trace. If the words have no form, nothing is read and nothing
-/// written. The watcher hears of each run that `orders` plays.
+/// for each thing, `schedule` the script whose schedule repeats it, `spans` a trace, `states` the state after each entry. If the words
+/// have no form, nothing is read and nothing written. The watcher hears of each run that `orders` plays.
 pub fn tools<S: Source, W: Sink, K: Keeper, L: Listener, H: Watcher + Drop>(
     alloc: Global,
     words: &[String],

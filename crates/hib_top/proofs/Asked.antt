@@ -6,7 +6,7 @@ use Rattle.std.specs.Str.Parse.{digits_value}
 use Rattle.hib_words.specs.Given.{Text, options_in}
 use Rattle.hib_words.specs.declared.words.Command.{Command}
 use Rattle.hib_words.specs.declared.forms.Verb.{Verb}
-use Rattle.hib_words.specs.declared.forms.Verb.TheVariants.{Play, Work, Make, Audit, Collect, Bulk, Nodes, Orders, Report, Flat, Schedule, Spans, Rows}
+use Rattle.hib_words.specs.declared.forms.Verb.TheVariants.{Play, Work, Make, Audit, Collect, Bulk, Nodes, Orders, Report, Flat, Schedule, States, Spans, Rows}
 use Rattle.hib_words.specs.Commands.{Asked, Chosen, play, work, make, asked, chosen_in, command, form_of, settings_in, asked_of, is_numeral, number_between, verb_named}
 use Rattle.hib_top.specs.Words.{HasFew}
 
@@ -54,6 +54,7 @@ asked_few Orders chosen = tt
 asked_few Report chosen = tt
 asked_few Flat chosen = tt
 asked_few Schedule chosen = tt
+asked_few States chosen = tt
 asked_few Spans chosen = tt
 asked_few Rows chosen = tt
 

@@ -14,7 +14,7 @@ use Rattle.hib_words.specs.Commands.{Chosen, chosen_in, form_of, word_of}
 use Rattle.hib_words.specs.Matched.{HoldsGiven, IsProper}
 use Rattle.hib_words.specs.declared.forms.OptionName.TheVariants as name
 use Rattle.hib_words.specs.declared.forms.Verb.{Verb}
-use Rattle.hib_words.specs.declared.forms.Verb.TheVariants.{Play, Work, Make, Audit, Collect, Bulk, Nodes, Orders, Report, Flat, Schedule, Spans, Rows}
+use Rattle.hib_words.specs.declared.forms.Verb.TheVariants.{Play, Work, Make, Audit, Collect, Bulk, Nodes, Orders, Report, Flat, Schedule, Spans, States, Rows}
 use Rattle.hib_words.proofs.Getters.{has_flag, flag_given, flag_not_given, value_given}
 
 -- what `get_flag` and `get_str` ensure
@@ -57,7 +57,7 @@ not_flagged o is e = true≢false (sym (ap (λ (o : Option Bool). option_map_or 
 -- ---- a test that each form passes. A verb more comes at the end of this list, and is an equation of `each`
 
 abbrev verbs : List Verb
-verbs = Play ∷ Work ∷ Make ∷ Audit ∷ Collect ∷ Bulk ∷ Nodes ∷ Orders ∷ Report ∷ Flat ∷ Schedule ∷ Spans ∷ Rows ∷ []
+verbs = Play ∷ Work ∷ Make ∷ Audit ∷ Collect ∷ Bulk ∷ Nodes ∷ Orders ∷ Report ∷ Flat ∷ Schedule ∷ Spans ∷ States ∷ Rows ∷ []
 
 abbrev on_all : (Verb → Bool) → Bool
 on_all p = list_all p verbs
@@ -90,7 +90,8 @@ each p e Report = at p verbs 8 e
 each p e Flat = at p verbs 9 e
 each p e Schedule = at p verbs 10 e
 each p e Spans = at p verbs 11 e
-each p e Rows = at p verbs 12 e
+each p e States = at p verbs 12 e
+each p e Rows = at p verbs 13 e
 
 abbrev flag_in : Text → Verb → Bool
 flag_in id v = option_map_or not (takes_value (form_of v) id) true

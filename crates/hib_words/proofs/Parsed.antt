@@ -16,7 +16,7 @@ use Rattle.hib_words.specs.Clap.{app_for, built_rules, built_shape}
 use Rattle.hib_words.specs.Commands.{form_of, verb_word}
 use Rattle.hib_words.specs.Matched.{HoldsGiven, is_fit}
 use Rattle.hib_words.specs.declared.forms.Verb.{Verb}
-use Rattle.hib_words.specs.declared.forms.Verb.TheVariants.{Play, Work, Make, Audit, Collect, Bulk, Nodes, Orders, Report, Flat, Schedule, Spans, Rows}
+use Rattle.hib_words.specs.declared.forms.Verb.TheVariants.{Play, Work, Make, Audit, Collect, Bulk, Nodes, Orders, Report, Flat, Schedule, Spans, States, Rows}
 use Rattle.hib_words.proofs.Agree.{Answers, answers}
 use Rattle.hib_words.proofs.Getters.{IsProperEnd, proper}
 use Rattle.hib_words.proofs.Fit.{fit_words, unfit_none}
@@ -37,6 +37,7 @@ simple Report = refl
 simple Flat = refl
 simple Schedule = refl
 simple Spans = refl
+simple States = refl
 simple Rows = refl
 
 pub free : (v : Verb) → is_simple_and_free (app v) ≡ true
@@ -52,6 +53,7 @@ free Report = refl
 free Flat = refl
 free Schedule = refl
 free Spans = refl
+free States = refl
 free Rows = refl
 
 abbrev flat : Text → Form → App
@@ -81,6 +83,7 @@ fault_is Report words = flat_fault (verb_word Report) (form_of Report) (drop 1 w
 fault_is Flat words = flat_fault (verb_word Flat) (form_of Flat) (drop 1 words)
 fault_is Schedule words = flat_fault (verb_word Schedule) (form_of Schedule) (drop 1 words)
 fault_is Spans words = flat_fault (verb_word Spans) (form_of Spans) (drop 1 words)
+fault_is States words = flat_fault (verb_word States) (form_of States) (drop 1 words)
 fault_is Rows words = flat_fault (verb_word Rows) (form_of Rows) (drop 1 words)
 
 matches_are : (v : Verb) (words : List Text) → matches_of (app v) words ≡ rows_after (built_rules (form_of v)) [] (drop 1 words)
@@ -96,6 +99,7 @@ matches_are Report words = refl
 matches_are Flat words = refl
 matches_are Schedule words = refl
 matches_are Spans words = refl
+matches_are States words = refl
 matches_are Rows words = refl
 
 pub all_of_texts : {X : Type 0} (f : X → Text) (xs : List X) → list_all (λ x. is_fit (f x)) (drop 1 xs) ≡ list_all is_fit (drop 1 (map f xs))

@@ -10,7 +10,7 @@ use Rattle.hib_words.specs.Given.{Text, Form, Given, is_given, options_in, value
 use Rattle.hib_words.specs.declared.forms.OptionName.{OptionName}
 use Rattle.hib_words.specs.declared.forms.OptionName.TheVariants as name
 use Rattle.hib_words.specs.declared.forms.Verb.{Verb}
-use Rattle.hib_words.specs.declared.forms.Verb.TheVariants.{Play, Work, Make, Audit, Collect, Bulk, Nodes, Orders, Report, Flat, Schedule, Spans, Rows}
+use Rattle.hib_words.specs.declared.forms.Verb.TheVariants.{Play, Work, Make, Audit, Collect, Bulk, Nodes, Orders, Report, Flat, Schedule, Spans, States, Rows}
 use Rattle.hib_words.specs.declared.words.Command.{Command}
 use Rattle.hib_words.specs.declared.words.Command.TheVariants as variant
 use Rattle.hib_words.specs.declared.words.Options.{Options}
@@ -31,6 +31,7 @@ verb_word Report = codes "report"
 verb_word Flat = codes "flat"
 verb_word Schedule = codes "schedule"
 verb_word Spans = codes "spans"
+verb_word States = codes "states"
 verb_word Rows = codes "rows"
 
 abbrev pub word_of : OptionName → Text
@@ -71,6 +72,7 @@ options_of Report = []
 options_of Flat = name.Csv ∷ []
 options_of Schedule = []
 options_of Spans = name.Jaeger ∷ []
+options_of States = []
 options_of Rows = name.File ∷ []
 
 abbrev pub form_of : Verb → Form
@@ -182,6 +184,7 @@ asked Report chosen = None
 asked Flat chosen = None
 asked Schedule chosen = None
 asked Spans chosen = None
+asked States chosen = None
 asked Rows chosen = None
 
 -- the command that words are, without the program's name; none if they have no form

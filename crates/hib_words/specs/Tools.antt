@@ -6,7 +6,7 @@ use Rattle.std.specs.Str.{bytes_eq}
 use Rattle.hib_words.specs.Given.{Text, options_in}
 use Rattle.hib_words.specs.Commands.{Chosen, chosen_in, form_of, is_value, number_between, verb_word}
 use Rattle.hib_words.specs.declared.forms.Verb.{Verb}
-use Rattle.hib_words.specs.declared.forms.Verb.TheVariants.{Orders, Report, Flat, Schedule, Spans, Rows}
+use Rattle.hib_words.specs.declared.forms.Verb.TheVariants.{Orders, Report, Flat, Schedule, Spans, States, Rows}
 use Rattle.hib_words.specs.declared.tools.Tool.{Tool}
 use Rattle.hib_words.specs.declared.tools.Tool.TheVariants as variant
 
@@ -18,6 +18,7 @@ tool_named word =
     else if bytes_eq word (verb_word Flat) then Some Flat
     else if bytes_eq word (verb_word Schedule) then Some Schedule
     else if bytes_eq word (verb_word Spans) then Some Spans
+    else if bytes_eq word (verb_word States) then Some States
     else if bytes_eq word (verb_word Rows) then Some Rows
     else None
 
@@ -46,6 +47,7 @@ tool_asked Report chosen = Some variant.Report
 tool_asked Flat chosen = Some (variant.Flat chosen.csv)
 tool_asked Schedule chosen = Some variant.Schedule
 tool_asked Spans chosen = Some (variant.Spans chosen.jaeger)
+tool_asked States chosen = Some variant.States
 tool_asked Rows chosen = if option_map_or is_value chosen.file false then Some variant.Rows else None
 tool_asked _ chosen = None
 

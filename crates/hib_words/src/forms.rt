@@ -35,6 +35,8 @@ pub enum Verb {
     Schedule,
     /// Writes a journal as a trace.
     Spans,
+    /// Writes the state after each entry of a journal.
+    States,
     /// Writes the rows of a file.
     Rows,
 }
@@ -113,6 +115,7 @@ impl Verb {
             Verb::Flat => "flat",
             Verb::Schedule => "schedule",
             Verb::Spans => "spans",
+            Verb::States => "states",
             Verb::Rows => "rows",
         }
     }
@@ -134,7 +137,8 @@ impl Verb {
             | Verb::Bulk
             | Verb::Nodes
             | Verb::Report
-            | Verb::Schedule => { &[] }
+            | Verb::Schedule
+            | Verb::States => { &[] }
         }
     }
 }
@@ -165,6 +169,7 @@ pub fn tool_named(word: &str) -> Option<Verb>
         "flat" => Some(Verb::Flat),
         "schedule" => Some(Verb::Schedule),
         "spans" => Some(Verb::Spans),
+        "states" => Some(Verb::States),
         "rows" => Some(Verb::Rows),
         _ => None,
     }

@@ -109,11 +109,13 @@ Of a journal as JSON lines, behind its script and a line 'journal', the report i
 'hib play' would have written:
   hib work --workers 4 --journal < examples/shop.hib > lines
   (cat examples/shop.hib; echo journal; cat lines) | hib_tools report
-The same input is read by three more words. 'flat' writes the journal for jq and notebooks, 'schedule' the
-script by which 'hib play' repeats it, 'spans' a trace that Perfetto opens:
+The same input is read by four more words. 'flat' writes the journal for jq and notebooks, 'schedule' the
+script by which 'hib play' repeats it, 'spans' a trace that Perfetto opens, 'states' what each entry of a
+legal journal has changed, and why what was refused was:
   (cat examples/shop.hib; echo journal; cat lines) | hib_tools flat --csv
   (cat examples/shop.hib; echo journal; cat lines) | hib_tools schedule > again.hib
   (cat examples/shop.hib; echo journal; cat lines) | hib_tools spans > trace.json
+  (cat examples/shop.hib; echo journal; cat lines) | hib_tools states > states.jsonl
 The rows of a file that 'hib play --file' has worked on, as lines of the script:
   hib_tools rows --file shop.db < examples/shop.hib
 
@@ -122,7 +124,8 @@ The words --help and --version stand alone: beside another word they are no comm
 Exit status, which a line on standard error explains if it isn't 0 or 1:
   0  all was done, and nothing was found
   1  an order ends badly, and the text was written whole; with --show, there is no finding K; of
-     'schedule', no schedule repeats the journal
+     'schedule', no schedule repeats the journal; of 'states', the journal isn't legal, as in
+     'hib: illegal 3 reply'
   2  the words are no command
   3  the input is no script, as in 'hib: line 7: no-end'; nothing was written
   4  reading failed; nothing was written
@@ -150,6 +153,7 @@ impl Verb {
             Verb::Flat => "hib_tools flat",
             Verb::Schedule => "hib_tools schedule",
             Verb::Spans => "hib_tools spans",
+            Verb::States => "hib_tools states",
             Verb::Rows => "hib_tools rows",
         }
     }
@@ -171,6 +175,8 @@ impl Verb {
                 "Writes a journal that comes after its script as JSON with a member for each thing",
             Verb::Schedule => "Writes the script with the schedule that repeats a journal",
             Verb::Spans => "Writes a journal that comes after its script as a trace",
+            Verb::States =>
+                "Writes the state after each entry of a journal that comes after its script",
             Verb::Rows => "Writes the rows of a SQLite file as lines of the script",
         }
     }
@@ -187,12 +193,13 @@ impl OptionName {
     }
 }
 
-const TOOL_VERBS: [Verb; 6] = [
+const TOOL_VERBS: [Verb; 7] = [
     Verb::Orders,
     Verb::Report,
     Verb::Flat,
     Verb::Schedule,
     Verb::Spans,
+    Verb::States,
     Verb::Rows,
 ];
 

@@ -42,6 +42,8 @@ pub enum Tool {
         /// For Jaeger, and not for Perfetto.
         jaeger: bool,
     },
+    /// The state after each entry of a journal is written.
+    States,
     /// The rows of a file are written.
     Rows,
 }
@@ -108,6 +110,7 @@ fn tool_from(verb: Verb, found: &Found<'_>) -> Option<Tool>
         Verb::Spans => Some(Tool::Spans {
             jaeger: found.jaeger,
         }),
+        Verb::States => Some(Tool::States),
         Verb::Rows => rows(found),
         _ => None,
     }

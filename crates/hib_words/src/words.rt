@@ -218,9 +218,13 @@ fn command_from(alloc: Global, verb: Verb, found: &Found<'_>) -> Result<Option<C
         Verb::Collect => Ok(Some(Command::Collect)),
         Verb::Bulk => Ok(Some(Command::Bulk)),
         Verb::Nodes => Ok(Some(Command::Nodes)),
-        Verb::Orders | Verb::Report | Verb::Flat | Verb::Schedule | Verb::Spans | Verb::Rows => Ok(
-            None,
-        ),
+        Verb::Orders
+        | Verb::Report
+        | Verb::Flat
+        | Verb::Schedule
+        | Verb::Spans
+        | Verb::States
+        | Verb::Rows => Ok(None),
     }
 }
 

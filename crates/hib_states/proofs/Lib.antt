@@ -1,0 +1,12 @@
+pub mod Rowed
+pub mod Membered
+pub mod Named
+pub mod Seated
+pub mod Told
+pub mod Choices
+pub mod Taken
+pub mod Rests
+pub mod Held
+pub mod Sounds
+pub mod Whole
+pub mod Prefixes
