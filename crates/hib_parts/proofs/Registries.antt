@@ -27,14 +27,18 @@ ends_only script m (Act.Kill n) s r p o = absurd (none_some r o)
 ends_only script m Act.Restart s r p o = absurd (none_some r o)
 ends_only script m _ s r p o = absurd (false≢true p)
 
-pub end_due : (script : Script) (w : WorkerState) (a : Act) (r : Reply) → IsDueOn script Part.Registry w → IsDueAct script w a → own_reply script w.list a ≡ Some r → IsDueAct script w Act.End
-end_due script w a r on d o = subst (λ b. IsDueAct script w b) (ends_only script w.list a w.number r (for_part Part.Registry a w.number (part_on script Part.Registry w a on d)) o) d
+pub end_is : (script : Script) (w : WorkerState) (a : Act) (r : Reply) → IsDueOn script Part.Registry w → IsDueAct script w a → own_reply script w.list a ≡ Some r → a ≡ Act.End
+end_is script w a r on d o = ends_only script w.list a w.number r (for_part Part.Registry a w.number (part_on script Part.Registry w a on d)) o
 
 pub end_reply : (script : Script) (w : WorkerState) (a : Act) (r : Reply) → IsDueOn script Part.Registry w → IsDueAct script w a → own_reply script w.list a ≡ Some r → own_reply script w.list Act.End ≡ Some r
 end_reply script w a r on d o = subst (λ b. own_reply script w.list b ≡ Some r) (ends_only script w.list a w.number r (for_part Part.Registry a w.number (part_on script Part.Registry w a on d)) o) o
 
-pub begin_due : (script : Script) (w : WorkerState) (a : Act) → IsDueOn script Part.Registry w → IsDueAct script w a → own_reply script w.list a ≡ None → IsDueAct script w Act.Begin
-begin_due script w a on d o = subst (λ b. IsDueAct script w b) (begins_only script w.list a w.number (for_part Part.Registry a w.number (part_on script Part.Registry w a on d)) o d.allowed.inside) d
+pub begin_is : (script : Script) (w : WorkerState) (a : Act) → IsDueOn script Part.Registry w → IsDueAct script w a → own_reply script w.list a ≡ None → a ≡ Act.Begin
+begin_is script w a on d o = begins_only script w.list a w.number (for_part Part.Registry a w.number (part_on script Part.Registry w a on d)) o d.allowed.inside
+
+-- of an act that is this one, the same is known
+pub due_as : (script : Script) (w : WorkerState) (a b : Act) → a ≡ b → IsDueAct script w a → IsDueAct script w b
+due_as script w a b e d = subst (λ c. IsDueAct script w c) e d
 
 -- ---- an End
 
@@ -53,9 +57,6 @@ end_step script told l last w a now r k d b o t =
       list = part_more script told Part.Registry l last (entry_at now (Some w.number) a r) k (ap (λ c. part_of c w.number) (sym e)) t.part t.bounded
           (λ h. absurd (true≢false (ap Rattle.hib_split_law.specs.Apart.is_of_session e ∙ h)));
     }
-
-pub end_quiet : (script : Script) (w : WorkerState) (a : Act) → IsDueAct script w Act.End → IsDueAct script w a → brings a ≡ false
-end_quiet script w a d b = ap brings (sym (act_same script w Act.End a d.due b.due))
 
 pub end_stands : (script : Script) (told : Option Tables) (l : Journal) (last : ℕ) (x y : Opened) (w : WorkerState) (a : Act) (n now : ℕ) (r : Reply) → IsPartList script told Part.Registry l last → IsRegistry x l → IsDueAct script w Act.End → IsDueAct script w a →
     n ≡ w.number → IsLater now l w.list → ((j : Journal) (u : ℕ) (q : Reply) → IsRegistry x j → IsLate Part.Registry u j → IsRegistry y (entry_at u (Some n) Act.End q ∷ j)) → IsRegistry y (entry_at now (Some w.number) a r ∷ l)

@@ -1,6 +1,6 @@
 -- A run on one worker goes on by a step of a session: the lists of parts and of sessions are those of one journal.
 use Rattle.std.specs.Prelude.{unwrap_or}
-use Rattle.std.proofs.Common.{◌≡◌, ◌<◌, ◌≤◌, ◌+◌, ◌⊎◌, ℕ, zero, suc, max, Bool, true, false, cond, not, ◌==◌, List, [], ◌∷◌, length, take, set, get_or, slice_get, Some, Option, Result, OnOk, refl, sym, ap, ◌∙◌, subst, eq-eqb, eqb-true, inl, inr, arith}
+use Rattle.std.proofs.Common.{◌≡◌, ◌<◌, ◌≤◌, ◌+◌, ◌⊎◌, ℕ, zero, suc, max, Bool, true, false, cond, not, ◌==◌, List, [], ◌∷◌, length, take, set, get_or, slice_get, Some, Option, Result, OnOk, IfOk, IfSome, refl, sym, ap, ◌∙◌, subst, eq-eqb, eqb-true, inl, inr, arith}
 use Rattle.std.proofs.lemmas.Bool.{true≢false, and_parts}
 use Rattle.std.specs.List.{list_all}
 use Rattle.hib_base.proofs.Tables.{Tested, tested}
@@ -15,7 +15,7 @@ use Rattle.hib_engines.proofs.Outcomes.{map_on}
 use Rattle.hib_split_law.specs.Apart.{is_own, IsOwnLegal}
 use Rattle.hib_split_law.specs.Merged.{due_tick}
 use Rattle.hib_split_law.proofs.Apart.{same_self, same_is, last_picked}
-use Rattle.hib_parts.specs.Listed.{AreBy, RegionState, WorkerState, IsDueOn, IsEntered, IsEnteredDue, IsOwnEntered, last_of}
+use Rattle.hib_parts.specs.Listed.{AreBy, RegionState, WorkerState, IsAnswered, IsAnsweredDue, IsAsked, IsDueOn, IsEnteredDue, IsOwnEntered, last_of}
 use Rattle.hib_parts.specs.Run.{IsFirst, is_other, list_in, list_on, IsStepOn, with_own, last_session, AreOfRun, AreOfRunOneByOne, IsNext, IsOneByOne, GoesOn}
 use Rattle.hib_parts.proofs.Placing.{flip, put, picked_put, due_put, turn_put, sessions_put}
 use Rattle.hib_parts.proofs.Steps.{act_same}
@@ -23,11 +23,19 @@ use Rattle.hib_parts.proofs.OneByOne.{put_last, one_more, first_part, later}
 
 -- ---- the tick of a step
 
-pub entered_due : (a b now : ℕ) (l k : Journal) (w v : WorkerState) → a ≡ last_of l → b ≡ last_of w.list → now ≡ due a b → IsEntered now l k w v → IsEnteredDue l k w v
-entered_due a b now l k w v p q e i = subst (λ n. IsEntered n l k w v) (e ∙ (ap (λ n. due n b) p ∙ ap (λ n. due (last_of l) n) q)) i
+pub answered_due : {E : Type 0} (script : Script) (a b now : ℕ) (l k : Journal) (w : WorkerState) (r : Result Entry E) → a ≡ last_of l → b ≡ last_of w.list → now ≡ due a b → IfOk r (IsAnswered script now l k w) →
+    IfOk r (IsAnsweredDue script l k w)
+answered_due script a b now l k w r p q e i = subst (λ n. IfOk r (IsAnswered script n l k w)) (e ∙ (ap (λ n. due n b) p ∙ ap (λ n. due (last_of l) n) q)) i
 
-pub own_entered_due : (b now : ℕ) (w v : WorkerState) → b ≡ last_of w.list → now ≡ due 0 b → IsOwnEntered now w v → IsOwnEntered (due 0 (last_of w.list)) w v
-own_entered_due b now w v q e i = subst (λ n. IsOwnEntered n w v) (e ∙ ap (λ n. due 0 n) q) i
+-- an entry that was answered, and that its session has accepted
+pub entered_of : (script : Script) (l k : Journal) (w v : WorkerState) (e : Entry) → IsAnsweredDue script l k w e → v.list ≡ e ∷ w.list → v.left < w.left → IsEnteredDue l k w v
+entered_of script l k w v e a m s = record { entry = e; tick = a.tick; list = a.list; mine = m; less = s }
+
+pub own_entered_of : (w v : WorkerState) (e : Entry) → e.tick ≡ due 0 (last_of w.list) → v.list ≡ e ∷ w.list → v.left < w.left → IsOwnEntered (due 0 (last_of w.list)) w v
+own_entered_of w v e t m s = record { entry = e; tick = t; mine = m; less = s }
+
+pub own_later : (b t : ℕ) (m : Journal) → b ≡ last_of m → t ≡ due 0 b → last_of m < t
+own_later b t m q e = omega arith
 
 -- ---- which list an entry goes to
 
@@ -274,9 +282,12 @@ module _ (script : Script) (p : Part) (old new : Part → Journal) (w v : Worker
         next = inl (subst (λ k. last_of k ≤ last_of v.list) last (omega (arith, newest)));
       }
 
--- the act that is due is on its part
-pub due_on : (script : Script) (w : WorkerState) (o : Option Act) (a : Act) (n : ℕ) (p : Part) → o ≡ next script w.number w.list → o ≡ Some a → n ≡ w.number → p ≡ part_of a n → IsDueOn script p w
-due_on script w o a n p e i q h = record { act = a; due = sym e ∙ i; part = sym (h ∙ ap (part_of a) q) }
+-- the act that a session is asked for is on its part
+pub asked_is : (script : Script) (w : WorkerState) (o : Option (Act × Act)) (t : Act × Act) → o ≡ Some t → IfSome o (λ u. IsAsked script w u.0 u.1) → IsAsked script w t.0 t.1
+asked_is script w o t e i = subst (λ x. IfSome x (λ u. IsAsked script w u.0 u.1)) e i
+
+pub asked_on : (script : Script) (w : WorkerState) (a b : Act) (n : ℕ) (p : Part) → IsAsked script w a b → n ≡ w.number → p ≡ part_of a n → IsDueOn script p w
+asked_on script w a b n p k q h = record { act = a; due = k.due.due; part = sym (h ∙ ap (part_of a) q) }
 
 pub goes_on : (script : Script) (p : Part) (old new : Part → Journal) (w v : WorkerState) → ((s : ℕ) → old (Part.Own s) ≡ []) → IsDueOn script p w → v.number ≡ w.number → IsOwnLegal script v.number v.list → AreBy v.number v.list → IsStepOn p old new w v →
     GoesOn old w new v

@@ -21,7 +21,7 @@ use Rattle.hib_engines.specs.Built.{IsBuilt}
 use Rattle.hib_engines.specs.Due.{IsDue}
 use Rattle.hib_engines.proofs.Allowed.{is_due}
 use Rattle.hib_engines.proofs.Brought.{region_reads}
-use Rattle.hib_parts.specs.Listed.{WorkerState, RegionState, IsPartList, IsDueAct, IsDueEntry, IsDueOn, IsLater, IsKept, last_of}
+use Rattle.hib_parts.specs.Listed.{WorkerState, RegionState, IsAnswered, IsPartList, IsDueAct, IsDueEntry, IsDueOn, IsLater, last_of}
 use Rattle.hib_parts.specs.Copied.{is_small}
 use Rattle.hib_parts.proofs.Lists.{late_in, part_more}
 use Rattle.hib_parts.proofs.Replies.{any_reply, is_shared, none_own, not_mine, small_reply, plain_brings, is_plain, stamps_plain, region_plain, entity_is}
@@ -120,13 +120,19 @@ region_step script told n l last x y w a now r b k stands on d t f =
 
 -- ---- from what a call has answered to what the types keep
 
-pub fits_kept : (script : Script) (w v : WorkerState) (a : Act) (now : ℕ) (r : Reply) → IsKept w v → IsDueEntry script w.number w.list (entry_at now (Some w.number) a r) →
-    IsDueEntry script v.number v.list (entry_at now (Some v.number) a r)
-fits_kept script w v a now r k f = subst (λ n. IsDueEntry script n v.list (entry_at now (Some n) a r)) (sym k.number) (subst (λ m. IsDueEntry script w.number m (entry_at now (Some w.number) a r)) (sym k.list) f)
+-- the list after the entry, and the entry that is handed out
+pub entry_there : (w : WorkerState) (n : ℕ) (l mid new : Journal) (a : Act) (now : ℕ) (r : Reply) → n ≡ w.number → mid ≡ l → new ≡ entry_at now (Some n) a r ∷ mid → new ≡ entry_at now (Some w.number) a r ∷ l
+entry_there w n l mid new a now r k m e = e ∙ (ap (λ i. entry_at now (Some i) a r ∷ mid) k ∙ ap (λ j. entry_at now (Some w.number) a r ∷ j) m)
 
--- the list after the entry
-pub entry_here : (w v : WorkerState) (l mid new : Journal) (a : Act) (now : ℕ) (r : Reply) → IsKept w v → mid ≡ l → new ≡ entry_at now (Some v.number) a r ∷ mid → new ≡ entry_at now (Some w.number) a r ∷ l
-entry_here w v l mid new a now r k m e = e ∙ (ap (λ n. entry_at now (Some n) a r ∷ mid) k.number ∙ ap (λ j. entry_at now (Some w.number) a r ∷ j) m)
+pub answered : (script : Script) (w : WorkerState) (n : ℕ) (l view new : Journal) (a : Act) (now : ℕ) (r : Reply) (e : Entry) → l ≡ view → n ≡ w.number → new ≡ entry_at now (Some w.number) a r ∷ l → e ≡ entry_at now (Some n) a r →
+    IsDueEntry script w.number w.list (entry_at now (Some w.number) a r) → IsAnswered script now view new w e
+answered script w n l view new a now r e v k m h d =
+    let same : e ≡ entry_at now (Some w.number) a r = h ∙ ap (λ i. entry_at now (Some i) a r) k in
+    record {
+      tick = ap (λ (x : Entry). x.tick) same;
+      list = m ∙ (ap (λ j. entry_at now (Some w.number) a r ∷ j) v ∙ ap (λ x. x ∷ view) (sym same));
+      due = subst (λ x. IsDueEntry script w.number w.list x) (sym same) d;
+    }
 
 pub stamps_on : (said script : Script) (told : Option Tables) (l view : Journal) (last : ℕ) (x y : Stamped) (w : WorkerState) (a : Act) (now : ℕ) (r : Reply) → said ≡ script → l ≡ view → IsPartList script told Part.Stamps l last → AreStamps script l x →
     IsDueOn script Part.Stamps w → IsDueAct script w a → IsLater now view w.list →

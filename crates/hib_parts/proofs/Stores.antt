@@ -4,7 +4,7 @@ use Rattle.std.proofs.Common.{◌≡◌, ◌⊎◌, ◌<◌, ◌≤◌, ◌+◌,
 use Rattle.std.proofs.lemmas.Bool.{true≢false, false≢true}
 use Rattle.hib_base.specs.Tables.{Tables}
 use Rattle.hib_base.proofs.Tables.{Tested, tested}
-use Rattle.hib_journal.specs.Types.{Commit, Script, Act, Reply, Part}
+use Rattle.hib_journal.specs.Types.{Commit, Script, Act, Reply, Part, Entry}
 use Rattle.hib_journal.specs.Sessions.{Journal, is_empty}
 use Rattle.hib_journal.specs.Legal.{part_of, is_of_store}
 use Rattle.hib_journal.specs.Lists.{entry_at, unsaved, IsStoreReply}
@@ -21,8 +21,8 @@ use Rattle.hib_engines.specs.Origin.{Origin}
 use Rattle.hib_engines.proofs.Brought.{store_reads}
 use Rattle.hib_engines.proofs.Rose.{rose_more, rose_on, rose_if}
 use Rattle.hib_parts.specs.Copied.{is_small}
-use Rattle.hib_parts.specs.Listed.{WorkerState, IsPartList, IsDueAct, IsDueEntry, IsDueOn, IsLater, IsKept}
-use Rattle.hib_parts.specs.Stored.{IsKeeping, IsStoreEntered}
+use Rattle.hib_parts.specs.Listed.{WorkerState, IsPartList, IsDueAct, IsDueEntry, IsDueOn, IsLater}
+use Rattle.hib_parts.specs.Stored.{IsKeeping, IsStoreAnswered}
 use Rattle.hib_parts.proofs.Lists.{part_more}
 use Rattle.hib_parts.proofs.Steps.{shared_fits, part_on, for_part, known}
 
@@ -92,20 +92,20 @@ store_step script told l x y w a now r b stands on d t f g =
 within_more : (b n o m w : ℕ) → RoseWithin b n o → RoseWithin o m w → RoseWithin b (n + m) w
 within_more b n o m w p q = record { later = omega (arith, p.later, q.later); few = omega (arith, p.few, q.few) }
 
-pub keeping_more : (script : Script) (from : Origin) (now : ℕ) (l k : Journal) (x y : StoreState) (w v : WorkerState) (refused : Bool) → IsKeeping from l x refused → IsStoreEntered script from.tables now l k x y w v → IsKeeping from k y refused
-keeping_more script from now l k x y w v refused h m = record {
+pub keeping_more : (script : Script) (from : Origin) (now : ℕ) (l k : Journal) (x y : StoreState) (w : WorkerState) (e : Entry) (refused : Bool) → IsKeeping from l x refused → IsStoreAnswered script from.tables now l k x y w e → IsKeeping from k y refused
+keeping_more script from now l k x y w e refused h m = record {
   stands = m.stands;
   faults = subst (λ j. RoseBy from.faults (fault_count j) y.faults) (sym m.list)
-      (rose_more from.faults (fault_count l) x.faults (cond (is_fault m.entry.reply) 1 0) y.faults h.faults (rose_if m.entry.reply x.faults y.faults m.faults m.fault));
+      (rose_more from.faults (fault_count l) x.faults (cond (is_fault e.reply) 1 0) y.faults h.faults (rose_if e.reply x.faults y.faults m.faults m.fault));
   asked = λ u. subst (λ j. RoseWithin from.asked (store_ask_count j) y.asked) (sym m.list)
-      (within_more from.asked (store_ask_count l) x.asked (cond (asks (unsaved (unwrap_or m.entry.session 0) l) m.entry.act) 1 0) y.asked (h.asked u) m.asked);
+      (within_more from.asked (store_ask_count l) x.asked (cond (asks (unsaved (unwrap_or e.session 0) l) e.act) 1 0) y.asked (h.asked u) m.asked);
 }
 
-pub list_more : (script : Script) (told : Option Tables) (now : ℕ) (l k : Journal) (x y : StoreState) (w v : WorkerState) (last : ℕ) → IsPartList script told Part.Store l last → IsLater now l w.list → IsStoreEntered script told now l k x y w v →
+pub list_more : (script : Script) (told : Option Tables) (now : ℕ) (l k : Journal) (x y : StoreState) (w : WorkerState) (e : Entry) (last : ℕ) → IsPartList script told Part.Store l last → IsLater now l w.list → IsStoreAnswered script told now l k x y w e →
     IsPartList script told Part.Store k now
-list_more script told now l k x y w v last h t m = subst (λ j. IsPartList script told Part.Store j now) (sym m.list)
-    (subst (λ n. IsPartList script told Part.Store (m.entry ∷ l) n) m.tick
-    (part_more script told Part.Store l last m.entry h m.part (subst (λ n. Rattle.hib_parts.specs.Listed.last_of l < n) (sym m.tick) t.part) (subst (λ n. n ≤ 2 ^ 62) (sym m.tick) t.bounded) (λ o. m.reply)))
+list_more script told now l k x y w e last h t m = subst (λ j. IsPartList script told Part.Store j now) (sym m.list)
+    (subst (λ n. IsPartList script told Part.Store (e ∷ l) n) m.tick
+    (part_more script told Part.Store l last e h m.part (subst (λ n. Rattle.hib_parts.specs.Listed.last_of l < n) (sym m.tick) t.part) (subst (λ n. n ≤ 2 ^ 62) (sym m.tick) t.bounded) (λ o. m.reply)))
 
 pub keeping_counted : (from : Origin) (l k : Journal) (x y : StoreState) (refused : Bool) → IsKeeping from l x refused → k ≡ l → IsCounted x y → IsKeeping from k y true
 keeping_counted from l k x y refused h e c = record {
@@ -126,32 +126,30 @@ keeping_begins from l x e t f w a = subst (λ j. IsKeeping from j x false) (sym 
     told_same None = refl
     told_same (Some start) = refl
 
-pub store_on : (said script : Script) (told : Option Tables) (l : Journal) (n : ℕ) (x y : StoreState) (w v : WorkerState) (a : Act) (now : ℕ) (r : Reply) → said ≡ script → IsKept w v → n ≡ v.number → IsBuilt script →
+pub store_on : (said script : Script) (told : Option Tables) (l : Journal) (n : ℕ) (x y : StoreState) (w : WorkerState) (a : Act) (now : ℕ) (r : Reply) → said ≡ script → n ≡ w.number → IsBuilt script →
     IsStored told l x → IsDueOn script Part.Store w → IsDueAct script w a → IsLater now l w.list →
     ((given : Option Tables) (j : Journal) (t : ℕ) → IsStored given j x → is_for Part.Store a n ≡ true → HasQuery said a → IsStoreServed said given j t n a r y) →
     RoseWithin x.asked (cond (asks (changes_of x n) a) 1 0) y.asked → StoreStep script told l x y w a now r
-store_on said script told l n x y w v a now r q k e b stands on d t f g =
-    let same : n ≡ w.number = e ∙ k.number in
+store_on said script told l n x y w a now r q same b stands on d t f g =
     store_step script told l x y w a now r b stands on d t
     (subst (λ m. (given : Option Tables) (j : Journal) (u : ℕ) → IsStored given j x → is_for Part.Store a m ≡ true → HasQuery script a → IsStoreServed script given j u m a r y) same
     (subst (λ (s : Script). (given : Option Tables) (j : Journal) (u : ℕ) → IsStored given j x → is_for Part.Store a n ≡ true → HasQuery s a → IsStoreServed s given j u n a r y) q f))
     (subst (λ m. RoseWithin x.asked (cond (asks (changes_of x m) a) 1 0) y.asked) same g)
 
-pub store_entered : (script : Script) (told : Option Tables) (l new : Journal) (x y : StoreState) (w v : WorkerState) (a : Act) (now : ℕ) (r : Reply) → StoreStep script told l x y w a now r →
-    new ≡ entry_at now (Some w.number) a r ∷ l → v.list ≡ entry_at now (Some w.number) a r ∷ w.list → v.left < w.left → x.faults ≤ y.faults → (is_fault r ≡ true → Rose x.faults y.faults) → IsStoreEntered script told now l new x y w v
-store_entered script told l new x y w v a now r s e m less later fault = record {
-  entry = entry_at now (Some w.number) a r;
-  tick = refl;
-  part = s.part;
-  list = e;
-  mine = m;
-  less = less;
-  reply = s.reply;
-  stands = subst (λ j. IsStored told j y) (sym e) s.stands;
-  asked = s.asked;
-  faults = later;
-  fault = fault;
-}
+pub store_answered : (script : Script) (told : Option Tables) (l new : Journal) (x y : StoreState) (w : WorkerState) (n : ℕ) (a : Act) (now : ℕ) (r : Reply) (e : Entry) → StoreStep script told l x y w a now r → n ≡ w.number →
+    new ≡ entry_at now (Some w.number) a r ∷ l → e ≡ entry_at now (Some n) a r → x.faults ≤ y.faults → (is_fault r ≡ true → Rose x.faults y.faults) → IsStoreAnswered script told now l new x y w e
+store_answered script told l new x y w n a now r e s k m h later fault =
+    subst (λ d. IsStoreAnswered script told now l new x y w d) (sym (h ∙ ap (λ i. entry_at now (Some i) a r) k)) (record {
+      tick = refl;
+      part = s.part;
+      list = m;
+      due = s.fits;
+      reply = s.reply;
+      stands = subst (λ j. IsStored told j y) (sym m) s.stands;
+      asked = s.asked;
+      faults = later;
+      fault = fault;
+    })
 
 pub store_left : (x y : StoreState) (a : Act) (s : ℕ) → part_of a s ≡ Part.Store → (reads a ≡ true → IsCounted x y) → (brings a ≡ false → ⊥) → IsCounted x y
 store_left x y a s q f g = by_test (tested (brings a))

@@ -1,5 +1,5 @@
 -- What the part of the store keeps.
-use Rattle.std.specs.Prelude.{◌≡◌, ◌<◌, ◌≤◌, ℕ, Bool, true, false, ◌∷◌, Option, unwrap_or, if◌then◌else◌}
+use Rattle.std.specs.Prelude.{◌≡◌, ◌≤◌, ℕ, Bool, true, false, ◌∷◌, Option, unwrap_or, if◌then◌else◌}
 use Rattle.hib_base.specs.Tables.{Tables}
 use Rattle.hib_journal.specs.Types.{Script, Part, Entry}
 use Rattle.hib_journal.specs.Sessions.{Journal}
@@ -11,7 +11,7 @@ use Rattle.hib_engines.specs.Counts.{RoseBy, RoseWithin}
 use Rattle.hib_engines.specs.Store.{IsStored}
 use Rattle.hib_split_law.specs.Apart.{store_ask_count}
 use Rattle.hib_engines.specs.Origin.{Origin}
-use Rattle.hib_parts.specs.Listed.{WorkerState}
+use Rattle.hib_parts.specs.Listed.{WorkerState, IsDueEntry}
 
 -- the store's part: its entries, the newest first, whether memory ran out in a call, and what its keeper tells
 pub record StoredState : Type 0 where
@@ -28,14 +28,12 @@ pub record IsKeeping (from : Origin) (l : Journal) (store : StoreState) (refused
   pub faults : RoseBy from.faults (fault_count l) store.faults
   pub asked : refused ≡ false → RoseWithin from.asked (store_ask_count l) store.asked
 
--- an act of the store was answered, and its entry added to a list and to that of a session
-pub record IsStoreEntered (script : Script) (told : Option Tables) (now : ℕ) (l k : Journal) (x y : StoreState) (w v : WorkerState) : Type 0 where
-  pub entry : Entry
+-- an act of the store that is due in a session was answered, and its entry added to a list
+pub record IsStoreAnswered (script : Script) (told : Option Tables) (now : ℕ) (l k : Journal) (x y : StoreState) (w : WorkerState) (entry : Entry) : Type 0 where
   pub tick : entry.tick ≡ now
   pub part : entry.part ≡ Part.Store
   pub list : k ≡ entry ∷ l
-  pub mine : v.list ≡ entry ∷ w.list
-  pub less : v.left < w.left
+  pub due : IsDueEntry script w.number w.list entry
   pub reply : IsStoreReply script told l entry
   pub stands : IsStored told k y
   pub asked : RoseWithin x.asked (if asks (unsaved (unwrap_or entry.session 0) l) entry.act then 1 else 0) y.asked

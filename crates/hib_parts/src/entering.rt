@@ -1,108 +1,52 @@
-// One entry goes to the list of a part and to that of a session.
-ghost use Rattle.std.specs.Prelude.{◌≡◌, ◌<◌, ◌≤◌, ◌∷◌, true, false, IfOk, IsOk, IsSome, OnOk, OnErr, Some};
+// One entry goes to the list of a part and to its session.
+ghost use Rattle.std.specs.Prelude.{◌≡◌, ◌<◌, ◌∷◌, true, IfOk, IsOk, OnOk, OnErr, Some};
 ghost use Rattle.hib_journal.specs.Kept.{past};
 ghost use Rattle.hib_journal.specs.Lists.{entry_at};
-ghost use Rattle.hib_journal.specs.Next.{next};
-ghost use Rattle.hib_session.specs.Memory.{brings};
 ghost use Rattle.hib_parts.specs.Copied.{is_small};
-ghost use Rattle.hib_parts.specs.Listed.{IsDueAct, IsDueEntry, IsKept};
 
 use crate::copied::copied;
-use crate::worker::{Worker, add, entry_of};
-use hib_base::{Act, Reply, Script, Tick};
-use hib_engines::Name;
+use crate::worker::{add, entry_of};
+use hib_base::{Act, Entry, Reply, SessionNo, Tick};
 use hib_journal::Journal;
 use std::alloc::{AllocError, Global};
 
-/// The act that is due, twice. Both lists have room for its entry then, and the session is ready for it. The lists stay as they are.
-pub fn prepared<N: Name>(
-    alloc: Global,
-    script: &Script,
-    worker: &mut Worker<N>,
+/// Adds the entry of an act to a list that has room for it. The same entry, for the session. It takes no memory.
+pub fn enter_both(
     list: &mut Journal,
-) -> Result<(Act, Act), AllocError>
-    requires script { script.now ≡ N.script }
-    requires due { IsSome (next N.script worker.old.number worker.old.list) }
-    ensures kept { IsKept worker.old worker.new }
-    ensures left { worker.new.left ≤ worker.old.left }
-    ensures list { past list.new ≡ past list.old }
-    ensures due { IfOk result (λ t. IsDueAct N.script worker.old t.0) }
-    ensures twin { IfOk result (λ t. t.1 ≡ t.0) }
-    ensures ready { OnOk result (worker.new.ready ≡ true) }
-    ensures room { OnOk result (0 < list.new.spare) }
-    ensures own_room { OnOk result (0 < worker.new.spare) }
-{
-    list.reserve()?;
-    let act = worker.due(alloc, script)?;
-    let twin = act.copy(alloc)?;
-    worker.ready(alloc, script)?;
-    Ok((act, twin))
-}
-
-/// Adds the entry of the act that is due to both lists, which have room for it, or to neither. Of a session that is ready it
-/// answers Ok, unless the act brings something to the session.
-pub fn enter_both<N: Name>(
-    alloc: Global,
-    script: &Script,
-    worker: &mut Worker<N>,
-    list: &mut Journal,
+    number: SessionNo,
     acts: (Act, Act),
     replies: (Reply, Reply),
     now: Tick,
-) -> Result<(), AllocError>
-    requires script { script.now ≡ N.script }
+) -> Entry
     requires room { 0 < list.old.spare }
-    requires own_room { 0 < worker.old.spare }
     requires acts { acts.1 ≡ acts.0 }
     requires replies { replies.1 ≡ replies.0 }
-    requires due { IsDueEntry N.script worker.old.number worker.old.list
-        (entry_at now (Some worker.old.number) acts.0 replies.0) }
-    ensures number { worker.new.number ≡ worker.old.number }
-    ensures mine { OnOk result (worker.new.list
-        ≡ entry_at now (Some worker.old.number) acts.0 replies.0 ∷ worker.old.list) }
-    ensures list { OnOk result (past list.new
-        ≡ entry_at now (Some worker.old.number) acts.0 replies.0 ∷ past list.old) }
-    ensures less { OnOk result (worker.new.left < worker.old.left) }
-    ensures kept { OnErr result (IsKept worker.old worker.new) }
-    ensures same { OnErr result (past list.new ≡ past list.old) }
-    ensures brings { worker.old.ready ≡ true → brings acts.0 ≡ false → IsOk result }
+    ensures entry { result ≡ entry_at now (Some number) acts.0 replies.0 }
+    ensures list { past list.new ≡ entry_at now (Some number) acts.0 replies.0 ∷ past list.old }
 {
-    let number = worker.number();
     let (act, twin) = acts;
     let (reply, spare) = replies;
-    worker.enter(alloc, script, entry_of(number, act, reply, now))?;
     add(list, entry_of(number, twin, spare, now));
-    Ok(())
+    entry_of(number, act, reply, now)
 }
 
-/// The same, with the reply once. Of a session that is ready it answers Ok for a reply that owns no memory, unless the act brings
-/// something to the session.
-pub fn enter_answer<N: Name>(
+/// The same, with the reply once. It takes memory only for a reply that owns some. At an error the list is as before.
+pub fn enter_answer(
     alloc: Global,
-    script: &Script,
-    worker: &mut Worker<N>,
     list: &mut Journal,
+    number: SessionNo,
     acts: (Act, Act),
     reply: Reply,
     now: Tick,
-) -> Result<(), AllocError>
-    requires script { script.now ≡ N.script }
+) -> Result<Entry, AllocError>
     requires room { 0 < list.old.spare }
-    requires own_room { 0 < worker.old.spare }
     requires acts { acts.1 ≡ acts.0 }
-    requires due { IsDueEntry N.script worker.old.number worker.old.list
-        (entry_at now (Some worker.old.number) acts.0 reply) }
-    ensures number { worker.new.number ≡ worker.old.number }
-    ensures mine { OnOk result (worker.new.list
-        ≡ entry_at now (Some worker.old.number) acts.0 reply ∷ worker.old.list) }
+    ensures entry { IfOk result (λ e. e ≡ entry_at now (Some number) acts.0 reply) }
     ensures list { OnOk result (past list.new
-        ≡ entry_at now (Some worker.old.number) acts.0 reply ∷ past list.old) }
-    ensures less { OnOk result (worker.new.left < worker.old.left) }
-    ensures kept { OnErr result (IsKept worker.old worker.new) }
+        ≡ entry_at now (Some number) acts.0 reply ∷ past list.old) }
     ensures same { OnErr result (past list.new ≡ past list.old) }
-    ensures brings { worker.old.ready ≡ true → is_small reply ≡ true → brings acts.0 ≡ false
-        → IsOk result }
+    ensures small { is_small reply ≡ true → IsOk result }
 {
     let twin = copied(alloc, &reply)?;
-    enter_both(alloc, script, worker, list, acts, (reply, twin), now)
+    Ok(enter_both(list, number, acts, (reply, twin), now))
 }

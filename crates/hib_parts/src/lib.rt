@@ -21,5 +21,7 @@ pub use registry::RegistryPart;
 pub use results::ResultsPart;
 pub use stamps::StampsPart;
 pub use store::StorePart;
-pub use turns::{step_own, step_region, step_registry, step_results, step_stamps, step_store};
+pub use turns::{
+    answer_own, answer_region, answer_registry, answer_results, answer_stamps, answer_store,
+};
 pub use worker::Worker;

@@ -1,16 +1,16 @@
 // The region of an entity, with the list of its entries.
-ghost use Rattle.std.specs.Prelude.{◌≡◌, ◌<◌, ◌≤◌, ◌^◌, [], length, OnOk, OnErr};
+ghost use Rattle.std.specs.Prelude.{◌≡◌, ◌<◌, ◌≤◌, ◌^◌, [], length, IfOk, OnOk, OnErr};
 ghost use Rattle.hib_base.specs.declared.entries.Part.{Part};
 ghost use Rattle.hib_base.specs.declared.scripts.Strategy.{Strategy};
 ghost use Rattle.hib_journal.specs.Kept.{past};
 ghost use Rattle.hib_journal.specs.Next.{strategy};
 ghost use Rattle.hib_split_law.specs.Apart.{IsPartLegal};
 ghost use Rattle.hib_engines.specs.Built.{IsBuilt};
-ghost use Rattle.hib_parts.specs.Listed.{AreFenced, AreOf, IsDueOn, IsEntered, IsLater, IsKept, last_of};
+ghost use Rattle.hib_parts.specs.Listed.{AreFenced, AreOf, IsAnswered, IsDueAct, IsDueOn, IsLater, last_of};
 
-use crate::entering::{enter_answer, prepared};
+use crate::entering::enter_answer;
 use crate::worker::{Worker, add};
-use hib_base::{EntityNo, Key, Script, Tick};
+use hib_base::{Act, EntityNo, Entry, Key, Script, Tick};
 use hib_engines::{Name, Region, fence_entries, laws};
 use hib_journal::Journal;
 use std::alloc::{AllocError, Global};
@@ -86,29 +86,30 @@ impl<N: Name> RegionPart<N> {
     }
 
     /// One act of a session: the act that is due in it, which is on this region, is answered at this tick, which is after the last
-    /// ticks of both. Its entry goes to both lists. If memory runs out both lists are as before.
-    pub fn serve(
+    /// ticks of both. Its entry is added to the list, and handed out for the session to take it. At an error all is as
+    /// before.
+    pub fn answer(
         &mut self,
         alloc: Global,
-        worker: &mut Worker<N>,
+        worker: &Worker<N>,
         script: &Script,
+        acts: (Act, Act),
         now: Tick,
-    ) -> Result<(), AllocError>
+    ) -> Result<Entry, AllocError>
         requires script { script.now ≡ N.script }
-        requires due { IsDueOn N.script (Part.Region self.old.entity) worker.old }
-        requires later { IsLater now self.old.list worker.old.list }
+        requires due { IsDueOn N.script (Part.Region self.old.entity) worker.now }
+        requires act { IsDueAct N.script worker.now acts.0 }
+        requires twin { acts.1 ≡ acts.0 }
+        requires later { IsLater now self.old.list worker.now.list }
         ensures entity { self.new.entity ≡ self.old.entity }
-        ensures number { worker.new.number ≡ worker.old.number }
-        ensures entered { OnOk result (IsEntered now self.old.list self.new.list worker.old
-            worker.new) }
-        ensures kept { OnErr result (IsKept worker.old worker.new) }
+        ensures answered { IfOk result (IsAnswered N.script now self.old.list self.new.list worker.now) }
         ensures same { OnErr result (self.new ≡ self.old) }
     {
-        let acts = prepared(alloc, script, worker, &mut self.list)?;
+        self.list.reserve()?;
         let reply = self.region.serve(alloc, &acts.0, now)?;
-        enter_answer(alloc, script, worker, &mut self.list, acts, reply, now)?;
+        let entry = enter_answer(alloc, &mut self.list, worker.number(), acts, reply, now)?;
         self.last = now;
-        Ok(())
+        Ok(entry)
     }
 
     /// A fence of a key of this region: its lock is taken at this tick, which is after the last one, for no session, and given back at

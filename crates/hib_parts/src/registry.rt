@@ -1,5 +1,5 @@
 // Which sessions are open, with the list of its entries.
-ghost use Rattle.std.specs.Prelude.{◌≡◌, ◌≤◌, ◌^◌, [], OnOk, OnErr, Some};
+ghost use Rattle.std.specs.Prelude.{◌≡◌, ◌≤◌, ◌^◌, [], IfOk, OnErr, Some};
 ghost use Rattle.hib_base.specs.declared.entries.Act.{Act};
 ghost use Rattle.hib_base.specs.declared.entries.Part.{Part};
 ghost use Rattle.hib_journal.specs.Kept.{past};
@@ -7,11 +7,11 @@ ghost use Rattle.hib_session.specs.Session.{own_reply};
 ghost use Rattle.hib_split_law.specs.Apart.{IsPartLegal};
 ghost use Rattle.hib_engines.specs.Built.{IsBuilt};
 ghost use Rattle.hib_engines.specs.Registry.{IsLeast};
-ghost use Rattle.hib_parts.specs.Listed.{AreOf, IsDueAct, IsDueOn, IsEntered, IsLater, IsKept, last_of};
+ghost use Rattle.hib_parts.specs.Listed.{AreOf, IsAnswered, IsDueAct, IsDueOn, IsLater, last_of};
 
-use crate::entering::{enter_answer, prepared};
+use crate::entering::enter_answer;
 use crate::worker::Worker;
-use hib_base::{Act, Reply, Script, Tick};
+use hib_base::{Act, Entry, Reply, Script, Tick};
 use hib_engines::{Name, Registry};
 use hib_journal::Journal;
 use std::alloc::{AllocError, Global};
@@ -88,28 +88,28 @@ impl<N: Name> RegistryPart<N> {
     }
 
     /// One act of a session: the Begin or the End that is due in it is answered at this tick, which is after the last ticks of both.
-    /// Its entry goes to both lists. A session that is open in the list, by another worker of its number, begins anew. If memory
-    /// runs out both lists are as before.
-    pub fn serve(
+    /// Its entry is added to the list, and handed out for the session to take it. A session that is open in the list, by another
+    /// worker of its number, begins anew. At an error all is as before.
+    pub fn answer(
         &mut self,
         alloc: Global,
-        worker: &mut Worker<N>,
+        worker: &Worker<N>,
         script: &Script,
+        acts: (Act, Act),
         now: Tick,
-    ) -> Result<(), AllocError>
+    ) -> Result<Entry, AllocError>
         requires script { script.now ≡ N.script }
-        requires due { IsDueOn N.script Part.Registry worker.old }
-        requires later { IsLater now self.old worker.old.list }
-        ensures number { worker.new.number ≡ worker.old.number }
-        ensures entered { OnOk result (IsEntered now self.old self.new worker.old worker.new) }
-        ensures kept { OnErr result (IsKept worker.old worker.new) }
+        requires due { IsDueOn N.script Part.Registry worker.now }
+        requires act { IsDueAct N.script worker.now acts.0 }
+        requires twin { acts.1 ≡ acts.0 }
+        requires later { IsLater now self.old worker.now.list }
+        ensures answered { IfOk result (IsAnswered N.script now self.old self.new worker.now) }
         ensures same { OnErr result (self.new ≡ self.old) }
     {
-        let act = worker.due(alloc, script)?;
-        let own = worker.reply_to(alloc, script, &act)?;
+        let own = worker.reply_to(alloc, script, &acts.0)?;
         match own {
-            Some(reply) => self.end(alloc, worker, script, reply, now),
-            None => self.begin(alloc, worker, script, now),
+            Some(reply) => self.end(alloc, worker, acts, reply, now),
+            None => self.begin(alloc, worker, acts, now),
         }
     }
 
@@ -117,50 +117,48 @@ impl<N: Name> RegistryPart<N> {
     fn end(
         &mut self,
         alloc: Global,
-        worker: &mut Worker<N>,
-        script: &Script,
+        worker: &Worker<N>,
+        acts: (Act, Act),
         reply: Reply,
         now: Tick,
-    ) -> Result<(), AllocError>
-        requires script { script.now ≡ N.script }
-        requires due { IsDueAct N.script worker.old Act.End }
-        requires reply { own_reply N.script worker.old.list Act.End ≡ Some reply }
-        requires later { IsLater now self.old worker.old.list }
-        ensures number { worker.new.number ≡ worker.old.number }
-        ensures entered { OnOk result (IsEntered now self.old self.new worker.old worker.new) }
-        ensures kept { OnErr result (IsKept worker.old worker.new) }
+    ) -> Result<Entry, AllocError>
+        requires act { IsDueAct N.script worker.now acts.0 }
+        requires end { acts.0 ≡ Act.End }
+        requires twin { acts.1 ≡ acts.0 }
+        requires reply { own_reply N.script worker.now.list Act.End ≡ Some reply }
+        requires later { IsLater now self.old worker.now.list }
+        ensures answered { IfOk result (IsAnswered N.script now self.old self.new worker.now) }
         ensures same { OnErr result (self.new ≡ self.old) }
     {
         let number = worker.number();
-        let acts = prepared(alloc, script, worker, &mut self.list)?;
-        enter_answer(alloc, script, worker, &mut self.list, acts, reply, now)?;
+        self.list.reserve()?;
+        let entry = enter_answer(alloc, &mut self.list, number, acts, reply, now)?;
         self.registry.end(number);
         self.last = now;
-        Ok(())
+        Ok(entry)
     }
 
     /// The Begin of a session.
     fn begin(
         &mut self,
         alloc: Global,
-        worker: &mut Worker<N>,
-        script: &Script,
+        worker: &Worker<N>,
+        acts: (Act, Act),
         now: Tick,
-    ) -> Result<(), AllocError>
-        requires script { script.now ≡ N.script }
-        requires due { IsDueAct N.script worker.old Act.Begin }
-        requires later { IsLater now self.old worker.old.list }
-        ensures number { worker.new.number ≡ worker.old.number }
-        ensures entered { OnOk result (IsEntered now self.old self.new worker.old worker.new) }
-        ensures kept { OnErr result (IsKept worker.old worker.new) }
+    ) -> Result<Entry, AllocError>
+        requires act { IsDueAct N.script worker.now acts.0 }
+        requires begin { acts.0 ≡ Act.Begin }
+        requires twin { acts.1 ≡ acts.0 }
+        requires later { IsLater now self.old worker.now.list }
+        ensures answered { IfOk result (IsAnswered N.script now self.old self.new worker.now) }
         ensures same { OnErr result (self.new ≡ self.old) }
     {
         let number = worker.number();
-        let acts = prepared(alloc, script, worker, &mut self.list)?;
+        self.list.reserve()?;
         let reply = self.registry.serve(number, &acts.0, now)?;
-        enter_answer(alloc, script, worker, &mut self.list, acts, reply, now)?;
+        let entry = enter_answer(alloc, &mut self.list, number, acts, reply, now)?;
         self.last = now;
-        Ok(())
+        Ok(entry)
     }
 
     /// Its entries, which are legal by themselves.

@@ -11,11 +11,11 @@ ghost use Rattle.hib_engines.specs.Results.{AreResults};
 ghost use Rattle.hib_engines.specs.Served.{is_for, IsServed, HasQuery};
 ghost use Rattle.hib_split_law.specs.Apart.{IsPartLegal};
 ghost use Rattle.hib_engines.specs.Built.{IsBuilt};
-ghost use Rattle.hib_parts.specs.Listed.{AreOf, IsDueOn, IsEntered, IsLater, IsKept, last_of};
+ghost use Rattle.hib_parts.specs.Listed.{AreOf, IsAnswered, IsDueAct, IsDueOn, IsLater, last_of};
 
-use crate::entering::{enter_both, prepared};
+use crate::entering::enter_both;
 use crate::worker::Worker;
-use hib_base::{Act, Listing, QueryNo, Reply, Script, Tick, copy_cells};
+use hib_base::{Act, Entry, Listing, QueryNo, Reply, Script, Tick, copy_cells};
 use hib_engines::{Name, laws};
 use hib_journal::Journal;
 use hib_query_cache::Results;
@@ -172,27 +172,29 @@ impl<N: Name> ResultsPart<N> {
     }
 
     /// One act of a session: the act that is due in it, which is on the results, is answered at this tick, which is after the last
-    /// ticks of both. Its entry goes to both lists. If memory runs out both lists are as before.
-    pub fn serve(
+    /// ticks of both. Its entry is added to the list, and handed out for the session to take it. At an error all is as
+    /// before.
+    pub fn answer(
         &mut self,
         alloc: Global,
-        worker: &mut Worker<N>,
+        worker: &Worker<N>,
         script: &Script,
+        acts: (Act, Act),
         now: Tick,
-    ) -> Result<(), AllocError>
+    ) -> Result<Entry, AllocError>
         requires script { script.now ≡ N.script }
-        requires due { IsDueOn N.script Part.Results worker.old }
-        requires later { IsLater now self.old worker.old.list }
-        ensures number { worker.new.number ≡ worker.old.number }
-        ensures entered { OnOk result (IsEntered now self.old self.new worker.old worker.new) }
-        ensures kept { OnErr result (IsKept worker.old worker.new) }
+        requires due { IsDueOn N.script Part.Results worker.now }
+        requires act { IsDueAct N.script worker.now acts.0 }
+        requires twin { acts.1 ≡ acts.0 }
+        requires later { IsLater now self.old worker.now.list }
+        ensures answered { IfOk result (IsAnswered N.script now self.old self.new worker.now) }
         ensures same { OnErr result (self.new ≡ self.old) }
     {
-        let acts = prepared(alloc, script, worker, &mut self.list)?;
+        self.list.reserve()?;
         let replies = answer_twice(alloc, &mut self.results, &acts.0)?;
-        enter_both(alloc, script, worker, &mut self.list, acts, replies, now)?;
+        let entry = enter_both(&mut self.list, worker.number(), acts, replies, now);
         self.last = now;
-        Ok(())
+        Ok(entry)
     }
 
     /// Its entries, which are legal by themselves.

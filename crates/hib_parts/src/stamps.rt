@@ -1,14 +1,14 @@
 // The stamps of tables, with the list of their entries.
-ghost use Rattle.std.specs.Prelude.{◌≡◌, ◌≤◌, ◌^◌, [], IfOk, OnOk, OnErr};
+ghost use Rattle.std.specs.Prelude.{◌≡◌, ◌≤◌, ◌^◌, [], IfOk, OnErr};
 ghost use Rattle.hib_base.specs.declared.entries.Part.{Part};
 ghost use Rattle.hib_journal.specs.Kept.{past};
 ghost use Rattle.hib_split_law.specs.Apart.{IsPartLegal};
 ghost use Rattle.hib_engines.specs.Built.{IsBuilt};
-ghost use Rattle.hib_parts.specs.Listed.{AreOf, IsDueOn, IsEntered, IsLater, IsKept, last_of};
+ghost use Rattle.hib_parts.specs.Listed.{AreOf, IsAnswered, IsDueAct, IsDueOn, IsLater, last_of};
 
-use crate::entering::{enter_answer, prepared};
+use crate::entering::enter_answer;
 use crate::worker::Worker;
-use hib_base::{Script, Tick};
+use hib_base::{Act, Entry, Script, Tick};
 use hib_engines::{Name, StampsEngine, laws};
 use hib_journal::Journal;
 use std::alloc::{AllocError, Global};
@@ -74,27 +74,29 @@ impl<N: Name> StampsPart<N> {
     }
 
     /// One act of a session: the act that is due in it, which is on the stamps, is answered at this tick, which is after the last
-    /// ticks of both. Its entry goes to both lists. If memory runs out both lists are as before.
-    pub fn serve(
+    /// ticks of both. Its entry is added to the list, and handed out for the session to take it. At an error all is as
+    /// before.
+    pub fn answer(
         &mut self,
         alloc: Global,
-        worker: &mut Worker<N>,
+        worker: &Worker<N>,
         script: &Script,
+        acts: (Act, Act),
         now: Tick,
-    ) -> Result<(), AllocError>
+    ) -> Result<Entry, AllocError>
         requires script { script.now ≡ N.script }
-        requires due { IsDueOn N.script Part.Stamps worker.old }
-        requires later { IsLater now self.old worker.old.list }
-        ensures number { worker.new.number ≡ worker.old.number }
-        ensures entered { OnOk result (IsEntered now self.old self.new worker.old worker.new) }
-        ensures kept { OnErr result (IsKept worker.old worker.new) }
+        requires due { IsDueOn N.script Part.Stamps worker.now }
+        requires act { IsDueAct N.script worker.now acts.0 }
+        requires twin { acts.1 ≡ acts.0 }
+        requires later { IsLater now self.old worker.now.list }
+        ensures answered { IfOk result (IsAnswered N.script now self.old self.new worker.now) }
         ensures same { OnErr result (self.new ≡ self.old) }
     {
-        let acts = prepared(alloc, script, worker, &mut self.list)?;
+        self.list.reserve()?;
         let reply = self.stamps.serve(alloc, script, &acts.0, now)?;
-        enter_answer(alloc, script, worker, &mut self.list, acts, reply, now)?;
+        let entry = enter_answer(alloc, &mut self.list, worker.number(), acts, reply, now)?;
         self.last = now;
-        Ok(())
+        Ok(entry)
     }
 
     /// Its entries, which are legal by themselves.

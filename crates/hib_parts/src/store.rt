@@ -1,7 +1,6 @@
 // The store, with the list of its entries.
-ghost use Rattle.std.specs.Prelude.{◌≡◌, ◌≤◌, ◌^◌, [], ◌∷◌, true, false, IfOk, IfErr, OnOk, OnErr};
+ghost use Rattle.std.specs.Prelude.{◌≡◌, ◌≤◌, ◌^◌, [], true, false, IfOk, IfErr, OnOk, OnErr};
 ghost use Rattle.std.specs.Option.{option_map};
-ghost use Rattle.hib_base.specs.declared.entries.Entry.{Entry};
 ghost use Rattle.hib_base.specs.declared.entries.Part.{Part};
 ghost use Rattle.hib_journal.specs.Kept.{past};
 ghost use Rattle.hib_journal.specs.Lists.{stored};
@@ -13,12 +12,12 @@ ghost use Rattle.hib_engines.specs.Counts.{RoseBy, RoseWithin};
 ghost use Rattle.hib_engines.specs.Store.{IsCounted, IsStored};
 ghost use Rattle.hib_engines.specs.Origin.{origin_over};
 ghost use Rattle.hib_engines.specs.Built.{IsBuilt};
-ghost use Rattle.hib_parts.specs.Listed.{AreOf, IsDueOn, IsEntered, IsLater, IsKept, last_of};
-ghost use Rattle.hib_parts.specs.Stored.{IsStoreEntered};
+ghost use Rattle.hib_parts.specs.Listed.{AreOf, IsAnswered, IsDueAct, IsDueOn, IsLater, last_of};
+ghost use Rattle.hib_parts.specs.Stored.{IsStoreAnswered};
 
-use crate::entering::{enter_answer, prepared};
+use crate::entering::enter_answer;
 use crate::worker::Worker;
-use hib_base::{Script, Tick};
+use hib_base::{Act, Entry, Script, Tick};
 use hib_engines::{Name, StoreEngine};
 use hib_journal::Journal;
 use hib_outside::Keeper;
@@ -58,32 +57,33 @@ impl<K: Keeper, N: Name> Model for StorePart<K, N> {
         × IsKeeping N.from (past p.list) p.store p.refused };
 }
 
-/// One act of a session on the store: its entry goes to both lists, or if memory runs out to neither.
-fn serve_store<K: Keeper, N: Name>(
+/// One act of a session on the store: its entry is added to the list and handed out, or if memory runs out it isn't.
+fn answer_act<K: Keeper, N: Name>(
     alloc: Global,
     script: &Script,
-    worker: &mut Worker<N>,
+    worker: &Worker<N>,
     store: &mut StoreEngine<K>,
     list: &mut Journal,
+    acts: (Act, Act),
     now: Tick,
-) -> Result<(), AllocError>
+) -> Result<Entry, AllocError>
     requires script { script.now ≡ N.script }
     requires built { IsBuilt N.script }
-    requires due { IsDueOn N.script Part.Store worker.old }
-    requires later { IsLater now (past list.old) worker.old.list }
+    requires due { IsDueOn N.script Part.Store worker.now }
+    requires act { IsDueAct N.script worker.now acts.0 }
+    requires twin { acts.1 ≡ acts.0 }
+    requires later { IsLater now (past list.old) worker.now.list }
     requires stands { IsStored N.from.tables (past list.old) store.old }
-    ensures number { worker.new.number ≡ worker.old.number }
-    ensures entered { OnOk result (IsStoreEntered N.script N.from.tables now (past list.old)
-        (past list.new) store.old store.new worker.old worker.new) }
-    ensures kept { OnErr result (IsKept worker.old worker.new) }
+    ensures answered { IfOk result (IsStoreAnswered N.script N.from.tables now (past list.old)
+        (past list.new) store.old store.new worker.now) }
     ensures same { OnErr result (past list.new ≡ past list.old) }
     ensures counted { OnErr result (IsCounted store.old store.new) }
 {
-    let acts = prepared(alloc, script, worker, list)?;
+    list.reserve()?;
     let number = worker.number();
     let reply = store.serve(alloc, script, number, &acts.0)?;
-    enter_answer(alloc, script, worker, list, acts, reply, now)?;
-    Ok(())
+    let entry = enter_answer(alloc, list, number, acts, reply, now)?;
+    Ok(entry)
 }
 
 impl<K: Keeper, N: Name> StorePart<K, N> {
@@ -143,33 +143,41 @@ impl<K: Keeper, N: Name> StorePart<K, N> {
     }
 
     /// One act of a session: the act that is due in it, which is on the store, is answered at this tick, which is after the last
-    /// ticks of both. Its entry goes to both lists, with a fault only if the keeper failed. If memory runs out both lists are as before, the keeper was asked once at
-    /// most, and `refused` says so from then on.
-    pub fn serve(
+    /// ticks of both. Its entry is added to the list, with a fault only if the keeper failed, and handed out for the session to take
+    /// it. If memory runs out the list is as before, the keeper was asked once at most, and `refused` says so from then on.
+    pub fn answer(
         &mut self,
         alloc: Global,
-        worker: &mut Worker<N>,
+        worker: &Worker<N>,
         script: &Script,
+        acts: (Act, Act),
         now: Tick,
-    ) -> Result<(), AllocError>
+    ) -> Result<Entry, AllocError>
         requires script { script.now ≡ N.script }
-        requires due { IsDueOn N.script Part.Store worker.old }
-        requires later { IsLater now self.old.list worker.old.list }
-        ensures number { worker.new.number ≡ worker.old.number }
-        ensures entered { OnOk result (IsEntered now self.old.list self.new.list worker.old
-            worker.new) }
-        ensures fault { OnOk result ((e : Entry) → self.new.list ≡ e ∷ self.old.list
-            → is_fault e.reply ≡ true → Rose self.old.faults self.new.faults) }
+        requires due { IsDueOn N.script Part.Store worker.now }
+        requires act { IsDueAct N.script worker.now acts.0 }
+        requires twin { acts.1 ≡ acts.0 }
+        requires later { IsLater now self.old.list worker.now.list }
+        ensures answered { IfOk result (IsAnswered N.script now self.old.list self.new.list worker.now) }
+        ensures fault { IfOk result (λ e. is_fault e.reply ≡ true
+            → Rose self.old.faults self.new.faults) }
         ensures going { OnOk result (self.new.refused ≡ self.old.refused) }
-        ensures kept { OnErr result (IsKept worker.old worker.new) }
         ensures same { OnErr result (self.new.list ≡ self.old.list) }
         ensures tables { OnErr result (self.new.tables ≡ self.old.tables) }
         ensures refused { OnErr result (self.new.refused ≡ true) }
     {
-        match serve_store(alloc, script, worker, &mut self.store, &mut self.list, now) {
-            Ok(()) => {
+        match answer_act(
+            alloc,
+            script,
+            worker,
+            &mut self.store,
+            &mut self.list,
+            acts,
+            now,
+        ) {
+            Ok(entry) => {
                 self.last = now;
-                Ok(())
+                Ok(entry)
             }
             Err(error) => {
                 self.refused = true;

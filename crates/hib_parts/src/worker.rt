@@ -1,15 +1,16 @@
 // A session with the list of its own entries.
-ghost use Rattle.std.specs.Prelude.{◌≡◌, ◌+◌, ◌<◌, ◌≤◌, ◌^◌, [], ◌∷◌, Some, true, false, IfOk, IfSome, IsSome, IsOk, OnOk, OnErr};
+ghost use Rattle.std.specs.Prelude.{◌≡◌, ◌+◌, ◌<◌, ◌≤◌, ◌^◌, [], ◌∷◌, None, Some, true, false, IfOk, IfSome, IsSome, IsOk, OnOk, OnErr};
 ghost use Rattle.std.specs.Option.{option_map};
 ghost use Rattle.hib_base.specs.declared.entries.Part.{Part};
 ghost use Rattle.hib_journal.specs.Kept.{past};
 ghost use Rattle.hib_journal.specs.Legal;
 ghost use Rattle.hib_journal.specs.Lists.{entry_at};
 ghost use Rattle.hib_journal.specs.Next.{next};
-ghost use Rattle.hib_session.specs.Memory.{brings};
-ghost use Rattle.hib_session.specs.Session.{own_reply};
+ghost use Rattle.hib_journal.specs.Sessions.{Journal as Entries};
+ghost use Rattle.hib_session.specs.Session.{Follows, IsTaken, number_of, own_reply};
 ghost use Rattle.hib_split_law.specs.Apart.{IsOwnLegal};
-ghost use Rattle.hib_parts.specs.Listed.{AreBy, IsDueAct, IsDueEntry, IsDueOn, IsKept, IsOwnEntered, last_of};
+ghost use Rattle.hib_parts.specs.Behind.{IsFollowed};
+ghost use Rattle.hib_parts.specs.Listed.{AreBy, IsAsked, IsDueAct, IsDueEntry, IsKept, last_of};
 
 use hib_base::{Act, Entry, Part, Reply, Script, SessionNo, Tick};
 use hib_engines::Name;
@@ -25,6 +26,43 @@ pub fn add(list: &mut Journal, entry: Entry)
     ensures spare { list.new.spare + 1 ≡ list.old.spare }
 {
     let _ = list.push(entry);
+}
+
+/// The session takes up the last entry, unless it has. The entries stay.
+fn catch_up(
+    alloc: Global,
+    script: &Script,
+    session: &mut Session,
+    behind: &mut bool,
+    list: &Journal,
+) -> Result<(), AllocError>
+    requires { IsFollowed script.now session.old behind.old (past list.now) }
+    ensures number { number_of session.new ≡ number_of session.old }
+    ensures followed { IsFollowed script.now session.new behind.new (past list.now) }
+    ensures level { OnOk result (behind.new ≡ false) }
+{
+    if !*behind {
+        return Ok(());
+    }
+    let Some(entry) = list.last() else {
+        return Err(AllocError);
+    };
+    session.advance(alloc, script, entry)?;
+    *behind = false;
+    Ok(())
+}
+
+/// Whether the session has yet to take up this entry of the act that is due in it, since memory ran out.
+fn is_left_behind(alloc: Global, script: &Script, session: &mut Session, entry: &Entry) -> bool
+    ensures number { number_of session.new ≡ number_of session.old }
+    ensures followed { (mine : Entries) → Follows script.now session.old mine
+        → IsTaken script.now (number_of session.old) mine entry.now
+        → IsFollowed script.now session.new result (entry.now ∷ mine) }
+{
+    match session.advance(alloc, script, entry) {
+        Ok(()) => false,
+        Err(_) => true,
+    }
 }
 
 /// The entry of an act of a session, which was answered at this tick.
@@ -47,26 +85,29 @@ pub struct Worker<N: Name> {
     session: Session,
     last: Tick,
     list: Journal,
+    /// Whether the session has yet to take up the last entry: memory ran out when that came.
+    behind: bool,
     of: PhantomData<N>,
 }
 
 impl<N: Name> Model for Worker<N> {
     ghost use Rattle.hib_journal.specs.Kept.{past};
-    ghost use Rattle.hib_session.specs.Session.{Follows, number_of, is_ready, left_in};
+    ghost use Rattle.hib_session.specs.Session.{number_of};
     ghost use Rattle.hib_parts.specs.Listed.{IsOwnList, WorkerState};
+    ghost use Rattle.hib_parts.specs.Behind.{IsFollowed, is_ready_at, left_of};
 
     ghost Value = { WorkerState };
 
     ghost view = { λ w. record {
       number = number_of w.session;
       list = past w.list;
-      ready = is_ready N.script w.session;
+      ready = is_ready_at N.script w.session w.behind;
       spare = w.list.spare;
-      left = left_in N.script w.session;
+      left = left_of N.script (number_of w.session) (past w.list);
     } };
 
     ghost invariant = { λ w. IsOwnList N.script (number_of w.session) (past w.list) w.last
-        × Follows N.script w.session (past w.list) };
+        × IsFollowed N.script w.session w.behind (past w.list) };
 }
 
 impl<N: Name> Worker<N> {
@@ -79,6 +120,21 @@ impl<N: Name> Worker<N> {
             session: Session::open(alloc, number),
             last: Tick(0),
             list: Journal::open(alloc),
+            behind: false,
+            of: PhantomData,
+        }
+    }
+
+    /// The same, with room for `count` entries if there is memory for them, and else without.
+    pub fn begin_for(alloc: Global, number: SessionNo, count: usize) -> Worker<N>
+        ensures number { result.number ≡ number }
+        ensures list { result.list ≡ [] }
+    {
+        Worker {
+            session: Session::open(alloc, number),
+            last: Tick(0),
+            list: Journal::open_for(alloc, count),
+            behind: false,
             of: PhantomData,
         }
     }
@@ -114,12 +170,16 @@ impl<N: Name> Worker<N> {
         let _ = &self.list;
     }
 
-    /// The act that is due, or none at the end of the session.
+    /// The act that is due, or none at the end of the session. Of a session that isn't ready it may answer want of
+    /// memory.
     pub fn next(&self, alloc: Global, script: &Script) -> Result<Option<Act>, AllocError>
         requires { script.now ≡ N.script }
         ensures act { IfOk result (λ a. a ≡ next N.script self.now.number self.now.list) }
         ensures due { IfOk result (λ a. IfSome a (IsDueAct N.script self.now)) }
     {
+        if self.behind {
+            return Err(AllocError);
+        }
         let act = self.session.next_act(alloc, script)?;
         Ok(act)
     }
@@ -136,18 +196,6 @@ impl<N: Name> Worker<N> {
         }
     }
 
-    /// The act that is due, if there is one.
-    pub fn due(&self, alloc: Global, script: &Script) -> Result<Act, AllocError>
-        requires script { script.now ≡ N.script }
-        requires due { IsSome (next N.script self.now.number self.now.list) }
-        ensures { IfOk result (IsDueAct N.script self.now) }
-    {
-        match self.next(alloc, script)? {
-            Some(act) => Ok(act),
-            None => unreachable!(),
-        }
-    }
-
     /// The session's own reply to an act of its own and to End; none to another act.
     pub fn reply_to(
         &self,
@@ -158,12 +206,14 @@ impl<N: Name> Worker<N> {
         requires { script.now ≡ N.script }
         ensures { IfOk result (λ r. r ≡ own_reply N.script self.now.list act.now) }
     {
+        if self.behind {
+            return Err(AllocError);
+        }
         let reply = self.session.reply_to(alloc, script, act)?;
         Ok(reply)
     }
 
-    /// Makes the session ready for its next act, with room for one more entry. Then `enter` takes memory for an entry alone that
-    /// brings something to the session. Its entries stay as they are.
+    /// Makes the session ready for its next act, with room for one more entry. Its entries stay as they are.
     pub fn ready(&mut self, alloc: Global, script: &Script) -> Result<(), AllocError>
         requires { script.now ≡ N.script }
         ensures kept { IsKept self.old self.new }
@@ -171,44 +221,58 @@ impl<N: Name> Worker<N> {
         ensures ready { OnOk result (self.new.ready ≡ true) }
         ensures room { OnOk result (0 < self.new.spare) }
     {
+        catch_up(
+            alloc,
+            script,
+            &mut self.session,
+            &mut self.behind,
+            &self.list,
+        )?;
         self.list.reserve()?;
         self.session.ready(alloc, script)?;
         Ok(())
     }
 
-    /// Takes the entry of the act that is due, for which there is room. Of a session that is ready it answers Ok, unless the
-    /// act brings something to the session. At an error its entries are as before.
-    pub fn enter(&mut self, alloc: Global, script: &Script, entry: Entry) -> Result<(), AllocError>
+    /// The act that is due in the session, twice, or none at its end. The session is ready for it then, with room for its
+    /// entry. Its entries stay as they are.
+    pub fn asked(
+        &mut self,
+        alloc: Global,
+        script: &Script,
+    ) -> Result<Option<(Act, Act)>, AllocError>
+        requires { script.now ≡ N.script }
+        ensures kept { IsKept self.old self.new }
+        ensures left { self.new.left ≤ self.old.left }
+        ensures over { IfOk result (λ o. o ≡ None
+            → next N.script self.new.number self.new.list ≡ None) }
+        ensures due { IfOk result (λ o. IfSome o (λ t. IsAsked N.script self.new t.0 t.1)) }
+    {
+        self.ready(alloc, script)?;
+        let Some(act) = self.next(alloc, script)? else {
+            return Ok(None);
+        };
+        let twin = act.copy(alloc)?;
+        Ok(Some((act, twin)))
+    }
+
+    /// Takes the entry of the act that is due, which was answered: the session is ready, and there is room for it. If
+    /// memory runs out for what the entry brings, the session takes it up when it is made ready the next time.
+    pub fn accept(&mut self, alloc: Global, script: &Script, entry: Entry)
         requires script { script.now ≡ N.script }
+        requires ready { self.old.ready ≡ true }
         requires room { 0 < self.old.spare }
         requires due { IsDueEntry N.script self.old.number self.old.list entry }
         ensures number { self.new.number ≡ self.old.number }
-        ensures list { OnOk result (self.new.list ≡ entry ∷ self.old.list) }
-        ensures less { OnOk result (self.new.left < self.old.left) }
-        ensures err { OnErr result (IsKept self.old self.new) }
-        ensures brings { self.old.ready ≡ true → brings entry.act ≡ false → IsOk result }
+        ensures list { self.new.list ≡ entry ∷ self.old.list }
+        ensures less { self.new.left < self.old.left }
     {
-        self.session.advance(alloc, script, &entry)?;
+        self.behind = is_left_behind(alloc, script, &mut self.session, &entry);
         self.last = entry.tick;
         add(&mut self.list, entry);
-        Ok(())
-    }
-
-    /// Takes the entry of the act that is due. If memory runs out its entries are as before.
-    pub fn take(&mut self, alloc: Global, script: &Script, entry: Entry) -> Result<(), AllocError>
-        requires script { script.now ≡ N.script }
-        requires due { IsDueEntry N.script self.old.number self.old.list entry }
-        ensures number { self.new.number ≡ self.old.number }
-        ensures list { OnOk result (self.new.list ≡ entry ∷ self.old.list) }
-        ensures less { OnOk result (self.new.left < self.old.left) }
-        ensures err { OnErr result (IsKept self.old self.new) }
-    {
-        self.ready(alloc, script)?;
-        self.enter(alloc, script, entry)
     }
 
     /// The session's own reply to an act of its own.
-    fn own_answer(&self, alloc: Global, script: &Script, act: &Act) -> Result<Reply, AllocError>
+    pub fn own_answer(&self, alloc: Global, script: &Script, act: &Act) -> Result<Reply, AllocError>
         requires script { script.now ≡ N.script }
         requires own { Legal.part_of act.now self.now.number ≡ Part.Own self.now.number }
         ensures { IfOk result (λ r. own_reply N.script self.now.list act.now ≡ Some r) }
@@ -218,24 +282,6 @@ impl<N: Name> Worker<N> {
             Some(reply) => Ok(reply),
             None => unreachable!(),
         }
-    }
-
-    /// The act that is due, which is the session's own, is answered by the session at this tick, which is after its last one. If
-    /// memory runs out its entries are as before.
-    pub fn own(&mut self, alloc: Global, script: &Script, now: Tick) -> Result<(), AllocError>
-        requires script { script.now ≡ N.script }
-        requires due { IsDueOn N.script (Part.Own self.old.number) self.old }
-        requires later { last_of self.old.list < now }
-        requires bounded { now ≤ 2 ^ 62 }
-        ensures number { self.new.number ≡ self.old.number }
-        ensures entered { OnOk result (IsOwnEntered now self.old self.new) }
-        ensures kept { OnErr result (IsKept self.old self.new) }
-    {
-        let act = self.due(alloc, script)?;
-        let reply = self.own_answer(alloc, script, &act)?;
-        let number = self.number();
-        self.take(alloc, script, entry_of(number, act, reply, now))?;
-        Ok(())
     }
 
     /// The entries of the session, which are legal by themselves.
@@ -249,6 +295,7 @@ impl<N: Name> Worker<N> {
             session,
             last: _,
             list,
+            behind: _,
             of: _,
         } = self;
         (session.number(), list)

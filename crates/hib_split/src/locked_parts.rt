@@ -1,18 +1,19 @@
 // What workers share: each part behind a lock of its own.
 ghost use Rattle.std.specs.Prelude.{◌≡◌, ◌<◌, ◌≤◌, ◌+◌, ◌^◌, [], map, vec_len, vec_capacity, IfNone, IfOk, IsOk};
-ghost use Rattle.hib_parts.specs.Listed.{IsDueOn};
+ghost use Rattle.hib_parts.specs.Listed.{IsDueAct, IsDueEntry, IsDueOn};
 ghost use Rattle.hib_parts.specs.Run.{entities_of};
 
 use crate::halt::Halt;
-use crate::locks::{LockedRegion, lock_regions, step_under_lock, unlock_regions};
+use crate::locks::{LockedRegion, answer_under_lock, lock_regions, unlock_regions};
+use crate::rest::taken;
 use crate::strange::Strange;
-use hib_base::{Part, Script, SessionNo};
+use hib_base::{Act, Entry, Part, Script, SessionNo};
 use hib_engines::{Name, Stepped};
 use hib_journal::part_of;
 use hib_outside::{Keeper, lock_soon};
 use hib_parts::{
-    Parts, RegionPart, RegistryPart, ResultsPart, StampsPart, StorePart, Worker, step_own,
-    step_registry, step_results, step_stamps, step_store,
+    Parts, RegionPart, RegistryPart, ResultsPart, StampsPart, StorePart, Worker, answer_own,
+    answer_registry, answer_results, answer_stamps, answer_store,
 };
 use std::alloc::{AllocError, Global};
 use std::sync::atomic::{AtomicBool, AtomicUsize, Ordering};
@@ -28,7 +29,7 @@ pub struct LockedParts<K: Keeper, N: Name> {
     regions: Vec<LockedRegion<N>>,
     next: AtomicUsize,
     sessions: usize,
-    /// The workers that were put aside, each at the place of its session.
+    /// The workers that none has taken or that were put aside, each at the place of its session.
     aside: Mutex<Vec<Option<Worker<N>>>>,
     strange: Mutex<Option<Strange>>,
     /// Whether memory ran out in a worker.
@@ -55,27 +56,30 @@ pub struct Room<N: Name> {
     pub locks: Vec<LockedRegion<N>>,
     /// For the regions, when they come out of their locks.
     pub regions: Vec<RegionPart<N>>,
-    /// A place for the worker of each session.
+    /// The worker of each session at its place.
     pub aside: Vec<Option<Worker<N>>>,
 }
 
-/// A place for the worker of each session, and none is there.
+/// The worker of each session at its place, with room for three entries a statement and two more: few sessions have more.
 fn places_for<N: Name>(
     alloc: Global,
-    sessions: usize,
+    script: &Script,
 ) -> Result<Vec<Option<Worker<N>>>, AllocError> {
-    let mut places = Vec::with_capacity(alloc, sessions)?;
-    for _ in 0..sessions {
-        places.push(None)?;
+    let mut places = Vec::with_capacity(alloc, script.sessions.len())?;
+    let mut number: u32 = 0;
+    for session in script.sessions.as_slice() {
+        let count = session.statements.len().saturating_mul(3).saturating_add(2);
+        places.push(Some(Worker::begin_for(alloc, SessionNo(number), count)))?;
+        number = number.saturating_add(1);
     }
     Ok(places)
 }
 
-/// Room for a run on threads over this number of regions, with this number of sessions.
+/// Room for a run on threads over this number of regions, with the sessions of this script.
 pub fn room_for_threads<N: Name>(
     alloc: Global,
     regions: usize,
-    sessions: usize,
+    script: &Script,
 ) -> Result<Room<N>, AllocError>
     ensures locks { IfOk result (λ r. (r.locks.items ≡ []) × (vec_len r.locks ≡ 0)) }
     ensures lock_room { IfOk result (λ r. regions ≤ vec_capacity r.locks) }
@@ -84,7 +88,7 @@ pub fn room_for_threads<N: Name>(
 {
     let locks = Vec::with_capacity(alloc, regions)?;
     let back = Vec::with_capacity(alloc, regions)?;
-    let aside = places_for(alloc, sessions)?;
+    let aside = places_for(alloc, script)?;
     Ok(Room {
         locks,
         regions: back,
@@ -204,6 +208,12 @@ impl<K: Keeper, N: Name> LockedParts<K, N> {
         }
     }
 
+    /// The worker of a session, from its place.
+    pub fn worker_of<R: Wait>(&self, rt: &R, alloc: Global, number: SessionNo) -> Worker<N> {
+        let mut held = lock_soon(rt, &self.aside);
+        taken(alloc, &mut *held, number)
+    }
+
     /// Puts a worker at the place of its session, for the caller to go on with.
     pub fn put_aside<R: Wait>(&self, rt: &R, worker: Worker<N>) {
         let mut held = lock_soon(rt, &self.aside);
@@ -215,8 +225,9 @@ impl<K: Keeper, N: Name> LockedParts<K, N> {
         }
     }
 
-    /// One step of a session: the act that is due in it, if one is, under the lock of the part that it is on. An act of
-    /// its own is made under no lock. The session is made ready before the lock is taken.
+    /// One step of a session: the act that is due in it, if one is, is answered under the lock of the part that it is on,
+    /// and its entry added to the part's list. An act of its own is made under no lock. The session is asked for the act
+    /// before the lock is taken, and accepts the entry once it has been given back.
     pub fn step<R: Wait>(
         &self,
         rt: &R,
@@ -226,45 +237,75 @@ impl<K: Keeper, N: Name> LockedParts<K, N> {
     ) -> Result<Stepped, Halt>
         requires { script.now ≡ N.script }
     {
-        worker.ready(alloc, script)?;
-        let Some(act) = worker.next(alloc, script)? else {
+        let Some(acts) = worker.asked(alloc, script)? else {
             return Ok(Stepped::Done);
         };
-        let part = part_of(&act, worker.number());
-        self.step_on(rt, alloc, script, worker, part)?;
+        let part = part_of(&acts.0, worker.number());
+        let entry = self.answer(rt, alloc, script, worker, part, acts)?;
+        worker.accept(alloc, script, entry);
         Ok(Stepped::Did)
     }
 
-    /// The act that is due in a session, which is on this part, is answered under the part's lock.
-    fn step_on<R: Wait>(
+    /// The act that is due in a session, which is on this part, is answered under the part's lock, or under none if it is
+    /// the session's own.
+    fn answer<R: Wait>(
         &self,
         rt: &R,
         alloc: Global,
         script: &Script,
-        worker: &mut Worker<N>,
+        worker: &Worker<N>,
         part: Part,
-    ) -> Result<(), Halt>
+        acts: (Act, Act),
+    ) -> Result<Entry, Halt>
         requires script { script.now ≡ N.script }
-        requires due { IsDueOn N.script part worker.old }
+        requires due { IsDueOn N.script part worker.now }
+        requires act { IsDueAct N.script worker.now acts.0 }
+        requires twin { acts.1 ≡ acts.0 }
+        ensures { IfOk result (IsDueEntry N.script worker.now.number worker.now.list) }
     {
-        match part {
+        let entry = match part {
             Part::Registry => {
-                step_registry(alloc, script, &mut *lock_soon(rt, &self.registry), worker)?;
+                answer_registry(
+                    alloc,
+                    script,
+                    &mut *lock_soon(rt, &self.registry),
+                    worker,
+                    acts,
+                )?
             }
             Part::Store => {
-                step_store(alloc, script, &mut *lock_soon(rt, &self.store), worker)?;
+                answer_store(
+                    alloc,
+                    script,
+                    &mut *lock_soon(rt, &self.store),
+                    worker,
+                    acts,
+                )?
             }
             Part::Stamps => {
-                step_stamps(alloc, script, &mut *lock_soon(rt, &self.stamps), worker)?;
+                answer_stamps(
+                    alloc,
+                    script,
+                    &mut *lock_soon(rt, &self.stamps),
+                    worker,
+                    acts,
+                )?
             }
             Part::Results => {
-                step_results(alloc, script, &mut *lock_soon(rt, &self.results), worker)?;
+                answer_results(
+                    alloc,
+                    script,
+                    &mut *lock_soon(rt, &self.results),
+                    worker,
+                    acts,
+                )?
             }
             Part::Region(entity) => {
-                step_under_lock(rt, alloc, script, self.regions.as_slice(), entity, worker)?;
+                let regions = self.regions.as_slice();
+                answer_under_lock(rt, alloc, script, regions, entity, worker, acts)?
             }
-            Part::Own(_) => step_own(alloc, script, worker)?,
-        }
-        Ok(())
+            Part::Own(_) => answer_own(alloc, script, worker, acts.0)?,
+        };
+        Ok(entry)
     }
 }

@@ -1,15 +1,15 @@
 // Regions, each behind a lock of its own.
-ghost use Rattle.std.specs.Prelude.{◌≡◌, ◌<◌, ◌≤◌, ◌+◌, [], length, map, vec_len, vec_capacity, IfSome, OnOk};
+ghost use Rattle.std.specs.Prelude.{◌≡◌, ◌<◌, ◌≤◌, ◌+◌, [], length, map, vec_len, vec_capacity, IfOk, IfSome, OnOk};
 ghost use Rattle.hib_base.specs.declared.entries.Part.{Part};
-ghost use Rattle.hib_parts.specs.Listed.{IsDueOn};
+ghost use Rattle.hib_parts.specs.Listed.{IsDueAct, IsDueEntry, IsDueOn};
 ghost use Rattle.hib_parts.specs.Run.{entities_of};
 
 use crate::halt::Halt;
 use crate::strange::{Strange, compared};
-use hib_base::{EntityNo, Script};
+use hib_base::{Act, EntityNo, Entry, Script};
 use hib_engines::Name;
 use hib_outside::lock_soon;
-use hib_parts::{RegionPart, Worker, step_region};
+use hib_parts::{RegionPart, Worker, answer_region};
 use std::alloc::Global;
 use std::sync::{Mutex, Wait};
 
@@ -73,17 +73,21 @@ fn place_of<N: Name>(regions: &[LockedRegion<N>], entity: EntityNo) -> Option<us
     None
 }
 
-/// One act of a session on the region of this entity, under the region's lock.
-pub fn step_under_lock<R: Wait, N: Name>(
+/// The act that is due in a session, which is on the region of this entity, is answered under the region's lock.
+pub fn answer_under_lock<R: Wait, N: Name>(
     rt: &R,
     alloc: Global,
     script: &Script,
     regions: &[LockedRegion<N>],
     entity: EntityNo,
-    worker: &mut Worker<N>,
-) -> Result<(), Halt>
+    worker: &Worker<N>,
+    acts: (Act, Act),
+) -> Result<Entry, Halt>
     requires script { script.now ≡ N.script }
-    requires due { IsDueOn N.script (Part.Region entity) worker.old }
+    requires due { IsDueOn N.script (Part.Region entity) worker.now }
+    requires act { IsDueAct N.script worker.now acts.0 }
+    requires twin { acts.1 ≡ acts.0 }
+    ensures { IfOk result (IsDueEntry N.script worker.now.number worker.now.list) }
 {
     // No act is due on an entity that isn't cached.
     let Some(place) = place_of(regions, entity) else {
@@ -93,6 +97,6 @@ pub fn step_under_lock<R: Wait, N: Name>(
     let region = &mut *held;
     let found = region.entity();
     compared(entity, found)?;
-    step_region(alloc, script, region, worker)?;
-    Ok(())
+    let entry = answer_region(alloc, script, region, worker, acts)?;
+    Ok(entry)
 }

@@ -39,7 +39,11 @@ pub struct Split<K: Keeper> {
 }
 
 /// The worker of a session, or if none was put aside one that has done nothing.
-fn taken<N: Name>(alloc: Global, aside: &mut Vec<Option<Worker<N>>>, number: SessionNo) -> Worker<N>
+pub fn taken<N: Name>(
+    alloc: Global,
+    aside: &mut Vec<Option<Worker<N>>>,
+    number: SessionNo,
+) -> Worker<N>
     ensures number { result.number ≡ number }
     ensures none { aside.old.items ≡ [] → aside.new.items ≡ [] }
     ensures fresh { aside.old.items ≡ [] → result.list ≡ [] }

@@ -77,7 +77,7 @@ pub fn work_split<R: Threads + Wait + Sync, K: Keeper, N: Name + Send + Sync, G:
     let Ok((lists, mine)) = rooms(alloc, regions, sessions) else {
         return without_room(alloc, parts);
     };
-    let Ok(room) = room_for_threads(alloc, regions, sessions) else {
+    let Ok(room) = room_for_threads(alloc, regions, script) else {
         return without_room(alloc, parts);
     };
     let Left {

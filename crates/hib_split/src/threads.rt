@@ -93,7 +93,7 @@ fn serve<R: Wait, K: Keeper, N: Name, G: Gate>(
         let Some(number) = locked.take_session() else {
             break;
         };
-        let mut worker = Worker::begin(alloc, number);
+        let mut worker = locked.worker_of(rt, alloc, number);
         let ran = run_session(rt, alloc, locked, script, &mut worker, gate);
         locked.put_aside(rt, worker);
         if let Err(halt) = ran {

@@ -1,5 +1,5 @@
-use Rattle.hib_parts.proofs.Run.{entered_due}
+use Rattle.hib_parts.proofs.Run.{entered_of}
 use Rattle.hib_parts.proofs.turns.step_region.Goals as goal
 
 pub returns-clause-entered : goal.returns-clause-entered
-returns-clause-entered g c = entered_due c.last.result c.last-2.result c.in_ok-now.now c.args.region.now.list c.serve.new.self.list c.args.worker.now c.serve.new.worker c.last.ensures.last c.last-2.ensures.last c.in_ok-now.ensures.due c.in_ok-serve.ensures.entered
+returns-clause-entered g c = entered_of g.N.Name.script c.args.region.now.list c.answer_region.new.region.list c.args.worker.now c.accept.new.self c.in_ok-entry.entry c.in_ok-entry.ensures.answered c.accept.ensures.list c.accept.ensures.less

@@ -1,5 +1,5 @@
-use Rattle.hib_parts.proofs.Run.{entered_due}
+use Rattle.hib_parts.proofs.Run.{entered_of}
 use Rattle.hib_parts.proofs.turns.step_results.Goals as goal
 
 pub returns-clause-entered : goal.returns-clause-entered
-returns-clause-entered g c = entered_due c.last.result c.last-2.result c.in_ok-now.now c.args.results.now c.serve.new.self c.args.worker.now c.serve.new.worker c.last.ensures.last c.last-2.ensures.last c.in_ok-now.ensures.due c.in_ok-serve.ensures.entered
+returns-clause-entered g c = entered_of g.N.Name.script c.args.results.now c.answer_results.new.results c.args.worker.now c.accept.new.self c.in_ok-entry.entry c.in_ok-entry.ensures.answered c.accept.ensures.list c.accept.ensures.less
