@@ -35,8 +35,9 @@ fn first_bad(
     Ok(Audit::Legal)
 }
 
-/// Whether a journal is legal for a script from the script's rows; else its first entry that isn't, and the first point that this
-/// entry breaks. A fault in the journal is taken if the act may fail there. The entries after the first bad one are not looked at.
+/// Whether a journal is legal for a script from the script's rows; else its first entry that isn't, and the first point
+/// that this entry breaks. A fault in the journal is taken if the act may fail there. The entries after the first bad
+/// one are not looked at.
 pub fn audit(alloc: Global, script: &Script, journal: &Journal) -> Result<Audit, AllocError>
     requires valid { is_valid script.now ≡ true }
     requires few { length (past journal.now) < 2 ^ 32 }

@@ -41,8 +41,8 @@ impl Model for Auditor {
     } };
 }
 
-/// Whether the reply of an entry of a session, whose act is due, is one that may be. If it is, the engines stand for the journal with
-/// the entry.
+/// Whether the reply of an entry of a session, whose act is due, is one that may be. If it is, the engines stand for
+/// the journal with the entry.
 fn answers(
     alloc: Global,
     script: &Script,

@@ -63,7 +63,8 @@ fn outside_act(alloc: Global, act: &Act) -> Result<Option<Act>, AllocError>
     Ok(None)
 }
 
-/// The act that is due: of a session its next one, and without a session the entry's own, if no session does such an act.
+/// The act that is due: of a session its next one, and without a session the entry's own, if no session does such an
+/// act.
 pub fn due_act(
     alloc: Global,
     script: &Script,

@@ -105,7 +105,8 @@ impl Ticks {
         }
     }
 
-    /// Whether an entry's tick is from 1 to 2^62, not before the last one, and after those of its part and of its session.
+    /// Whether an entry's tick is from 1 to 2^62, not before the last one, and after those of its part and of its
+    /// session.
     pub fn is_after(&self, entry: &Entry) -> bool
         ensures { result ≡ Rattle.hib_audit.specs.Standing.is_after self.now entry.now }
     {

@@ -54,8 +54,8 @@ impl Written {
         self.keys.contains(&key)
     }
 
-    /// Whether a fault may be the answer to an act: to a Load of a key that isn't changed, to a List, and to a Commit of some
-    /// changes.
+    /// Whether a fault may be the answer to an act: to a Load of a key that isn't changed, to a List, and to a Commit
+    /// of some changes.
     pub fn may_fail(&self, act: &Act, reply: &Reply) -> bool
         ensures { (cs : List Change) → HasWritten cs self.now → IsTrue result
             ↔ (fault_of cs act.now ≡ Some reply.now) }

@@ -23,8 +23,8 @@ pub enum Part {
     Own(SessionNo),
 }
 
-/// What is done to a part, in one atomic step. In all of these, `time` is the tick at which the transaction of the session began,
-/// and `floor` is the least time among the sessions that were open then, its own among them.
+/// What is done to a part, in one atomic step. In all of these, `time` is the tick at which the transaction of the
+/// session began, and `floor` is the least time among the sessions that were open then, its own among them.
 #[derive(Drop, PartialEq, Eq)]
 pub enum Act {
     /// A transaction begins.

@@ -204,7 +204,8 @@ pub enum Reply {
     Known,
     /// To a set: the cells are set.
     Set,
-    /// To a set or a removal: nothing has changed, since the session doesn't hold the key, or has marked it for deletion.
+    /// To a set or a removal: nothing has changed, since the session doesn't hold the key, or has marked it for
+    /// deletion.
     Unknown,
     /// To a set: nothing has changed, since rows of the entity are never updated.
     ReadOnly,

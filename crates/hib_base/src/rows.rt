@@ -92,8 +92,8 @@ pub fn owned_cells(alloc: Global, cells: &[Cell]) -> Result<Vec<Cell>, AllocErro
     Ok(copy)
 }
 
-/// An equal list of cells: the same one, which takes no memory, unless it has as many owners as can be counted. Fails for
-/// want of memory alone.
+/// An equal list of cells: the same one, which takes no memory, unless it has as many owners as can be counted. Fails
+/// for want of memory alone.
 pub fn copy_cells(alloc: Global, cells: &Cells) -> Result<Cells, AllocError>
     ensures { IfOk result (λ c. c ≡ cells.now) }
 {

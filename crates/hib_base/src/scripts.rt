@@ -58,8 +58,8 @@ pub struct ColumnDef {
     pub name: Text,
     /// What its cells are.
     pub kind: ColumnType,
-    /// The cell that a row gets in it if the row was kept before the column was there. After a column that has a default
-    /// each column has one.
+    /// The cell that a row gets in it if the row was kept before the column was there. After a column that has a
+    /// default each column has one.
     pub default: Option<Cell>,
 }
 

@@ -220,7 +220,8 @@ fn sweep_entry(key: &Key, session: SessionNo, tick: Tick) -> BulkEntry
     }
 }
 
-/// An old item is swept away before the act of a session that would meet it. If memory runs out nothing has changed.
+/// An item that was stored before a bulk line gave its region back is swept away, before the act of a session on its
+/// key. If memory runs out nothing has changed.
 fn sweep<K: Keeper, N: Name>(
     key: Key,
     session: SessionNo,

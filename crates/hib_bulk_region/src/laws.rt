@@ -1,5 +1,5 @@
-//! What a region does that bulk lines may lock is what the definitions say over a journal with bulk lines. Each function has an
-//! empty body; its clauses are the laws, for those who keep a region beside such a journal.
+//! What a region does that bulk lines may lock is what the definitions say over a journal with bulk lines. Each
+//! function has an empty body; its clauses are the laws, for those who keep a region beside such a journal.
 ghost use Rattle.hib_bulk_region.specs.Laws.{Gets, Puts, Locks, Unlocks, Updates, Inserts, LocksAll, UnlocksAll, FindsOld, GetGrows, PutGrows, LockGrows, UnlockGrows, UpdateGrows, InsertGrows, SweepGrows, LockAllGrows, UnlockAllGrows, Stays, Begins};
 
 /// The region answers as is due, and finds the items that are old.

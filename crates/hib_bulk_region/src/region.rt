@@ -14,9 +14,10 @@ use hib_rw_region::RwRegion;
 use std::alloc::{AllocError, Global};
 use std::marker::Model;
 
-/// The region of a read-write entity whose rows bulk lines change. While lines hold it, it neither gives nor takes rows; what dates
-/// from before it was last given back is shut out of it. Contracts see how many lines hold it, when it was last given back, and
-/// the read-write region inside. Each `now` is greater than every tick that the region was given before. No call asks this.
+/// The region of a read-write entity whose rows bulk lines change. While lines hold it, it neither gives nor takes
+/// rows; what dates from before it was last given back is shut out of it. Contracts see how many lines hold it, when it
+/// was last given back, and the read-write region inside. Each `now` is greater than every tick that the region was
+/// given before. No call asks this.
 #[derive(Drop)]
 pub struct BulkRegion {
     inner: RwRegion,
@@ -47,8 +48,8 @@ fn given_back(unlocked: Unlocked) -> Updated
 }
 
 impl BulkRegion {
-    /// An empty region that nobody holds, for `capacity` keys, from 1 to 100000, whose soft locks are good for `timeout` ticks. It
-    /// takes no memory.
+    /// An empty region that nobody holds, for `capacity` keys, from 1 to 100000, whose soft locks are good for
+    /// `timeout` ticks. It takes no memory.
     pub fn open(alloc: Global, capacity: u32, timeout: u32) -> BulkRegion
         ensures { result ≡ unheld capacity timeout }
     {
@@ -80,7 +81,8 @@ impl BulkRegion {
         self.holders
     }
 
-    /// Whether what dates from this tick is shut out: lines hold the region, or it was given back at that tick or later.
+    /// Whether what dates from this tick is shut out: lines hold the region, or it was given back at that tick or
+    /// later.
     fn is_shut(&self, tick: Tick) -> bool
         ensures { result ≡ shuts self.now tick }
     {
@@ -118,8 +120,8 @@ impl BulkRegion {
         BulkGot::Plain(self.inner.get(id, time))
     }
 
-    /// Puts a row that a reader which began at `time` has loaded, on a key that has no old item; `floor` is the least time of the
-    /// open sessions. At an error nothing has changed; there is none if the row is shut out.
+    /// Puts a row that a reader which began at `time` has loaded, on a key that has no old item; `floor` is the least
+    /// time of the open sessions. At an error nothing has changed; there is none if the row is shut out.
     pub fn put(
         &mut self,
         id: u64,
@@ -148,8 +150,8 @@ impl BulkRegion {
         Ok(BulkPut::Plain(put))
     }
 
-    /// Stores a row whose insert was committed by a session that began at `time`, on a key without slot, if there is room. At an
-    /// error nothing has changed; there is none if the row is shut out.
+    /// Stores a row whose insert was committed by a session that began at `time`, on a key without slot, if there is
+    /// room. At an error nothing has changed; there is none if the row is shut out.
     pub fn after_insert(
         &mut self,
         id: u64,
@@ -177,8 +179,9 @@ impl BulkRegion {
         Ok(BulkInserted::Plain(inserted))
     }
 
-    /// Stores a row whose update was committed under a lock, unless others have locked the key too, and gives the lock back. A lock
-    /// that is shut out is given back without its row. At an error nothing has changed; there is none if the key has a slot.
+    /// Stores a row whose update was committed under a lock, unless others have locked the key too, and gives the lock
+    /// back. A lock that is shut out is given back without its row. At an error nothing has changed; there is none if
+    /// the key has a slot.
     pub fn after_update(
         &mut self,
         id: u64,
@@ -199,8 +202,9 @@ impl BulkRegion {
         self.inner.after_update(id, lock, row, now)
     }
 
-    /// Takes the soft lock of a key that has no old item, for a session whose base has this version. At an error nothing has
-    /// changed. A lock that has as many holders as `now` has ticks is answered as if memory ran out; if ticks rise there is none.
+    /// Takes the soft lock of a key that has no old item, for a session whose base has this version. At an error
+    /// nothing has changed. A lock that has as many holders as `now` has ticks is answered as if memory ran out; if
+    /// ticks rise there is none.
     pub fn lock(
         &mut self,
         id: u64,

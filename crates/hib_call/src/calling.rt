@@ -80,8 +80,9 @@ fn input_of<T: Task, S: Source>(alloc: Global, task: &T, source: &mut S) -> Resu
     }
 }
 
-/// Reads the input of a command to the source's end, runs it over what is lent and tells the run. The run is of any input that is
-/// read; the listeners hear of it. Whatever the status, the keeper is handed back, with the listeners that stayed.
+/// Reads the input of a command to the source's end, runs it over what is lent and tells the run. The run is of any
+/// input that is read; the listeners hear of it. Whatever the status, the keeper is handed back, with the listeners
+/// that stayed.
 pub fn call<
     T: Task,
     S: Source,

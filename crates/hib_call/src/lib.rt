@@ -1,7 +1,7 @@
 //! A call of a command, whatever the command is: its input is read, it is run over a keeper, and the run is told.
 //!
-//! A command is a `Task`. What it reads, runs and writes is its own; how a call ends, in which order and by which causes is said
-//! here, once for all of them.
+//! A command is a `Task`. What it reads, runs and writes is its own; how a call ends, in which order and by which
+//! causes is said here, once for all of them.
 #![tactic(auto)]
 
 mod calling;

@@ -30,8 +30,8 @@ pub enum Status {
     WriteFault,
     /// The input is longer than 1,048,576 bytes.
     TooLong,
-    /// A run over parts under locks of their own: a lock gave another region than the one that was asked for, or lists or ticks don't
-    /// fit together.
+    /// A run over parts under locks of their own: a lock gave another region than the one that was asked for, or lists
+    /// or ticks don't fit together.
     Torn(Torn),
     /// Memory ran out.
     NoMemory,

@@ -28,10 +28,11 @@ impl Source for NothingLeft {
     }
 }
 
-/// All that the source has left, up to the limit. Then the source is at its end, and has not failed. Each turn takes a byte at least,
-/// meets the end or fails. At most one piece beyond the limit is read.
+/// All that the source has left, up to the limit. Then the source is at its end, and has not failed. Each turn takes a
+/// byte at least, meets the end or fails. At most one piece beyond the limit is read.
 ///
-/// Errors: `TooLong` if there is more than the limit; `ReadFault` if the source failed; `NoMemory` if there is none left.
+/// Errors: `TooLong` if there is more than the limit; `ReadFault` if the source failed; `NoMemory` if there is none
+/// left.
 #[tactic(auto, using(crate::proofs::Taken::reads_more, crate::proofs::Taken::reads_still))]
 pub fn read_all<S: Source>(alloc: Global, source: &mut S, limit: usize) -> Result<Vec<u8>, Status>
     requires { limit ≤ max_journal }

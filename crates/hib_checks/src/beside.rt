@@ -1,4 +1,5 @@
-// A keeper and a gate that wait for each other: a read waits until another session goes on, and that session until a read has begun.
+// A keeper and a gate that wait for each other: a read waits until another session goes on, and that session until a
+// read has begun.
 ghost use Rattle.std.specs.Prelude.{None};
 
 use hib_base::{Change, EntityNo, Key, Mapping, Row, Rows, Seq, SessionNo};

@@ -65,7 +65,8 @@ fn end<R: Threads + Wait + Sync>(
     left_by(alloc, &called, sink)
 }
 
-/// Runs the top call with these words on an input, over objects in memory that fail as a row says, and a sink with this room.
+/// Runs the top call with these words on an input, over objects in memory that fail as a row says, and a sink with this
+/// room.
 fn play<R: Threads + Wait + Sync>(
     rt: &R,
     alloc: Global,

@@ -89,7 +89,8 @@ fn evict_all<N: Name, K: Keeper, L: Listener>(
     Ok(())
 }
 
-/// Whether each of the evictions of a hundred thousand books, five times over, finds no entry, in the factory of this name.
+/// Whether each of the evictions of a hundred thousand books, five times over, finds no entry, in the factory of this
+/// name.
 fn evicts<N: Name, K: Keeper + Drop, L: Listener>(
     alloc: Global,
     script: Script,
@@ -135,8 +136,8 @@ pub fn finds_none(alloc: Global) -> Result<bool, AllocError> {
     evicts_absent(alloc, script, keeper, listeners)
 }
 
-/// Whether a hundred thousand evictions of keys that have no entry find none, and as many rows then leave room for the first
-/// thousand alone.
+/// Whether a hundred thousand evictions of keys that have no entry find none, and as many rows then leave room for the
+/// first thousand alone.
 pub fn leaves_in_turn(alloc: Global) -> Result<bool, AllocError> {
     let mut region = RwRegion::open(alloc, CAPACITY, 1000);
     let found = found(&mut region);

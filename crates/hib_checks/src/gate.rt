@@ -35,8 +35,8 @@ impl Course {
     }
 }
 
-/// Watches each pass. It may hold session 0 at place 2 until session 1 has passed place 3, and session 1 at place 1 until session 0
-/// has passed place 1; sessions that run one after the other are held in vain.
+/// Watches each pass. It may hold session 0 at place 2 until session 1 has passed place 3, and session 1 at place 1
+/// until session 0 has passed place 1; sessions that run one after the other are held in vain.
 #[derive(Drop)]
 pub struct Turnstile {
     holds: bool,

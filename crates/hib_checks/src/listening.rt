@@ -69,7 +69,8 @@ impl Listener for Forgetful {
     }
 }
 
-/// Whether of a recorder and one limited to three entries, which are told eight, the recorder alone is left and has heard all.
+/// Whether of a recorder and one limited to three entries, which are told eight, the recorder alone is left and has
+/// heard all.
 pub fn drops_the_limited(alloc: Global) -> Result<bool, AllocError> {
     let mut several: Several = Vec::new(alloc);
     several.push(Box::new(alloc, Recorder::new(alloc))?)?;
@@ -175,8 +176,8 @@ fn hears_eight(
     called.status.is_done() && left.len() == 1 && left.iter().all(|one| heard_to(one, 8))
 }
 
-/// Whether of a recorder and one limited to three entries, which hear a run of eight, the recorder alone comes back, and has
-/// heard all.
+/// Whether of a recorder and one limited to three entries, which hear a run of eight, the recorder alone comes back,
+/// and has heard all.
 pub fn hears_a_run(alloc: Global) -> Result<bool, AllocError> {
     let words = play_word(alloc)?;
     let mut source = persists(alloc)?;

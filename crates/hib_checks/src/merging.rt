@@ -1,4 +1,5 @@
-// The lists of two sessions that only commit, by direct calls: merged, with one of them cut, and with ticks that aren't due.
+// The lists of two sessions that only commit, by direct calls: merged, with one of them cut, and with ticks that aren't
+// due.
 ghost use Rattle.std.specs.Prelude.{◌≡◌, ◌<◌, map, true, IfOk, IfSome};
 ghost use Rattle.hib_base.specs.declared.entries.Part.{Part};
 ghost use Rattle.hib_base.specs.Valid.{is_valid};
@@ -249,7 +250,8 @@ fn finding(alloc: Global, script: &Script, torn: &Option<Torn>) -> Result<Found,
     }
 }
 
-/// What is found of a list and those of the sessions, with the ticks of b's commit and of its end. The list of a may be cut.
+/// What is found of a list and those of the sessions, with the ticks of b's commit and of its end. The list of a may be
+/// cut.
 fn compared(
     alloc: Global,
     script: &Script,

@@ -1,5 +1,5 @@
-// Sessions on workers, through the top call: made scripts on several numbers of workers, and two workers that must run beside each
-// other.
+// Sessions on workers, through the top call: made scripts on several numbers of workers, and two workers that must run
+// beside each other.
 use crate::beside::{Meeting, Waiting};
 use crate::gate::Turnstile;
 use crate::words::words_of;
@@ -166,8 +166,8 @@ fn work<R: Threads + Wait + Sync, K: Keeper + Drop, G: Gate>(
     listened(rt, alloc, words, &mut source, &mut sink, keeper, gate)
 }
 
-/// How often the sessions of a run pass the gate: before each step, and once more before there is none. With one worker and `--split`
-/// the gate isn't asked.
+/// How often the sessions of a run pass the gate: before each step, and once more before there is none. With one worker
+/// and `--split` the gate isn't asked.
 fn passes(came: &Came, sessions: usize, workers: u32, split: bool) -> usize {
     if split && workers == 1 {
         return 0;

@@ -30,8 +30,8 @@ pub fn empty_keeper(alloc: Global) -> MemKeeper {
     MemKeeper::new(alloc, Seq::new(alloc))
 }
 
-/// A keeper that fails as a row says, with the rows that it has at first. A row may say that even the call that places them fails; then
-/// the keeper has nothing.
+/// A keeper that fails as a row says, with the rows that it has at first. A row may say that even the call that places
+/// them fails; then the keeper has nothing.
 pub fn keeper_of(alloc: Global, row: &Row) -> Result<MemKeeper, AllocError> {
     let mut keeper = MemKeeper::new(alloc, row.numbers(alloc, "keeper-fails")?);
     let rows = row.kept(alloc)?;

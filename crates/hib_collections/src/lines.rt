@@ -68,7 +68,8 @@ fn put_act(
     }
 }
 
-/// What a region answered, with the list of members in place of a row.
+/// What the region of a collection answered. Its rows have the members of an owner as cells, so a row is told as a
+/// list.
 fn put_answer(
     alloc: Global,
     out: &mut Vec<u8>,

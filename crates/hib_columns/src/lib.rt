@@ -1,4 +1,5 @@
-//! The columns that words name.
+//! The columns that words name. It is short, and a crate of its own so that an edit here proves none of hib_mapping
+//! anew.
 #![tactic(auto)]
 
 mod columns;

@@ -290,9 +290,9 @@ fn keys_completed(
     }
 }
 
-/// What completes a transaction that wrote these changes, but for its End: key by key in order of first change, a row is
-/// put back or a lock is given back; and then the changed tables are stamped, if there are any. The locks are by key, and may be of
-/// more keys than were changed. Fails for want of memory alone.
+/// What completes a transaction that wrote these changes, but for its End: key by key in order of first change, a row
+/// is put back or a lock is given back; and then the changed tables are stamped, if there are any. The locks are by
+/// key, and may be of more keys than were changed. Fails for want of memory alone.
 pub fn acts(
     alloc: Global,
     mapping: &Mapping,

@@ -11,8 +11,8 @@ use hib_base::Script;
 use hib_law::steps_are_in_order;
 use hib_session::entries_are_few;
 
-/// A legal journal has few entries beside the kills, evictions and restarts. So a run of a script within the limits is short, if no more
-/// of these came than its schedule has orders.
+/// A legal journal has few entries beside the kills, evictions and restarts. So a run of a script within the limits is
+/// short, if no more of these came than its schedule has orders.
 pub fn runs_are_short()
     ensures short { (script : Script) (told : Option Tables) (h : Journal) → IsLegal script told h
         → length h ≤ most_in script.sessions + outside_count h }

@@ -35,9 +35,9 @@ use hib_outside::{Keeper, Listener};
 use std::alloc::{AllocError, Global};
 use std::marker::Model;
 
-/// Sessions over shared engines, with the journal of their steps, which is legal for the name's script from the name's rows, and
-/// the listeners that are told each entry in the step that adds it. After a listener had no memory for an entry, which stands, no
-/// call adds one more: it answers want of memory and changes nothing.
+/// Sessions over shared engines, with the journal of their steps, which is legal for the name's script from the name's
+/// rows, and the listeners that are told each entry in the step that adds it. After a listener had no memory for an
+/// entry, which stands, no call adds one more: it answers want of memory and changes nothing.
 pub struct Factory<K: Keeper, N: Name, L: Listener> {
     core: Core<K, N>,
     listeners: Listeners<L>,
@@ -67,9 +67,9 @@ impl<K: Keeper, N: Name, L: Listener> Model for Factory<K, N, L> {
 }
 
 impl<K: Keeper, N: Name, L: Listener> Factory<K, N, L> {
-    /// Opens the factory of this name, in which no session has begun. The keeper is seeded with the script's mapping and rows, each of
-    /// which it takes if its key has none. At an error the keeper is handed back with the rows that it had, and the listeners
-    /// untold.
+    /// Opens the factory of this name, in which no session has begun. The keeper is seeded with the script's mapping
+    /// and rows, each of which it takes if its key has none. At an error the keeper is handed back with the rows that
+    /// it had, and the listeners untold.
     pub fn open(
         alloc: Global,
         script: Script,
@@ -102,10 +102,11 @@ impl<K: Keeper, N: Name, L: Listener> Factory<K, N, L> {
         }
     }
 
-    /// One step of a session: the act that is due in it, if one is, and then the listeners hear of its entry. The other sessions stay
-    /// as they are. The keeper is asked once at most, and only if the act asks for rows. If memory runs out no entry is added and
-    /// nothing has changed, but the answer of `refused` and, if the act that was due calls the keeper, its counts; so a later call may
-    /// succeed. Only if a listener had none does the entry stand, and no call adds another.
+    /// One step of a session: the act that is due in it, if one is, and then the listeners hear of its entry. The other
+    /// sessions stay as they are. The keeper is asked once at most, and only if the act asks for rows. If memory runs
+    /// out no entry is added and nothing has changed, but the answer of `refused` and, if the act that was due calls
+    /// the keeper, its counts; so a later call may succeed. Only if a listener had none does the entry stand, and no
+    /// call adds another.
     pub fn step(&mut self, alloc: Global, number: SessionNo) -> Result<Stepped, AllocError>
         requires known { number < length N.script.sessions }
         ensures did { result ≡ Ok Stepped.Did
@@ -244,8 +245,8 @@ impl<K: Keeper, N: Name, L: Listener> Factory<K, N, L> {
         Ok(())
     }
 
-    /// Kills a session, if it is open: no act of it is due from then on, and its locks stay until their time is over. What
-    /// want of memory leaves is as after `step`.
+    /// Kills a session, if it is open: no act of it is due from then on, and its locks stay until their time is over.
+    /// What want of memory leaves is as after `step`.
     pub fn kill(&mut self, alloc: Global, number: SessionNo) -> Result<(), AllocError>
         ensures obeyed { IsObeyed N.script N.from (Order.Kill number) result self.old self.new }
         ensures closed { is_open number (past self.old.journal) ≡ false → IsOk result }
@@ -283,8 +284,8 @@ impl<K: Keeper, N: Name, L: Listener> Factory<K, N, L> {
         )
     }
 
-    /// A restart: the sessions that are open are killed, and nothing is cached, locked, stamped or kept any more. What want of
-    /// memory leaves is as after `step`.
+    /// A restart: the sessions that are open are killed, and nothing is cached, locked, stamped or kept any more. What
+    /// want of memory leaves is as after `step`.
     pub fn restart(&mut self, alloc: Global) -> Result<(), AllocError>
         ensures { IsObeyed N.script N.from Order.Restart result self.old self.new }
     {
@@ -341,9 +342,9 @@ impl<K: Keeper, N: Name, L: Listener> Factory<K, N, L> {
         Ok(())
     }
 
-    /// Plays the script: the orders of its schedule, one after the other, and then each session to its end, the first one
-    /// first. If memory runs out it stops there, and the steps so far stand. If memory ran out in no call before, the keeper was
-    /// asked once more than the journal says at most. What it evicts has an identifier.
+    /// Plays the script: the orders of its schedule, one after the other, and then each session to its end, the first
+    /// one first. If memory runs out it stops there, and the steps so far stand. If memory ran out in no call before,
+    /// the keeper was asked once more than the journal says at most. What it evicts has an identifier.
     pub fn play(&mut self, alloc: Global) -> Result<(), AllocError>
         ensures played { OnOk result (past self.old.journal ≡ []
             → is_played N.script (past self.new.journal) ≡ true) }

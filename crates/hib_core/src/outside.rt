@@ -109,8 +109,8 @@ pub fn evict<K: Keeper, N: Name>(
     Ok(())
 }
 
-/// A restart: the sessions that are open are killed, and nothing is cached, locked or stamped any more. If memory runs out
-/// nothing has changed.
+/// A restart: the sessions that are open are killed, and nothing is cached, locked or stamped any more. If memory runs
+/// out nothing has changed.
 pub fn restart<K: Keeper, N: Name>(
     sessions: &mut Vec<Session>,
     engines: &mut Engines<K>,

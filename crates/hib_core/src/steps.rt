@@ -34,8 +34,8 @@ use hib_store::OpenFault;
 use std::alloc::{AllocError, Global};
 use std::marker::{Model, PhantomData};
 
-/// Sessions over shared engines, with the journal of their steps, which tells nobody of them. The journal is legal for the name's
-/// script from the name's rows.
+/// Sessions over shared engines, with the journal of their steps, which tells nobody of them. The journal is legal for
+/// the name's script from the name's rows.
 pub struct Core<K: Keeper, N: Name> {
     script: Script,
     engines: Engines<K>,
@@ -69,8 +69,9 @@ impl<K: Keeper, N: Name> Model for Core<K, N> {
 }
 
 impl<K: Keeper, N: Name> Core<K, N> {
-    /// Opens the core of the factory of this name, in which no session has begun. The rows that the keeper keeps are widened to the
-    /// script's mapping, and each of the script's rows whose key has none is added. At an error the keeper is handed back, with the rows that it had.
+    /// Opens the core of the factory of this name, in which no session has begun. The rows that the keeper keeps are
+    /// widened to the script's mapping, and each of the script's rows whose key has none is added. At an error the
+    /// keeper is handed back, with the rows that it had.
     pub fn open(alloc: Global, script: Script, keeper: K) -> Result<Core<K, N>, OpenFault<K>>
         requires script { script ≡ N.script }
         requires valid { is_valid N.script ≡ true }
@@ -250,8 +251,8 @@ impl<K: Keeper, N: Name> Core<K, N> {
         let _ = &self.journal;
     }
 
-    /// Kills a session, if it is open: no act of it is due from then on, and its locks stay until their time is over. If
-    /// memory runs out nothing has changed but the answer of `refused`.
+    /// Kills a session, if it is open: no act of it is due from then on, and its locks stay until their time is over.
+    /// If memory runs out nothing has changed but the answer of `refused`.
     pub fn kill(&mut self, number: SessionNo) -> Result<(), AllocError>
         ensures carried { IsCarriedOut N.script N.from (Order.Kill number) result self.old self.new }
         ensures closed { is_open number (past self.old.journal) ≡ false → (IsOk result)
@@ -271,7 +272,8 @@ impl<K: Keeper, N: Name> Core<K, N> {
         killed
     }
 
-    /// Evicts a row of a cached entity from its region. If memory runs out nothing has changed but the answer of `refused`.
+    /// Evicts a row of a cached entity from its region. If memory runs out nothing has changed but the answer of
+    /// `refused`.
     pub fn evict(&mut self, alloc: Global, key: Key) -> Result<(), AllocError>
         requires cached { is_cached N.script key.entity ≡ true }
         ensures carried { IsCarriedOut N.script N.from (Order.Evict key) result self.old self.new }
@@ -284,8 +286,8 @@ impl<K: Keeper, N: Name> Core<K, N> {
         evicted
     }
 
-    /// A restart: the sessions that are open are killed, and nothing is cached, locked, stamped or kept any more. If memory
-    /// runs out nothing has changed but the answer of `refused`.
+    /// A restart: the sessions that are open are killed, and nothing is cached, locked, stamped or kept any more. If
+    /// memory runs out nothing has changed but the answer of `refused`.
     pub fn restart(&mut self) -> Result<(), AllocError>
         ensures carried { IsCarriedOut N.script N.from Order.Restart result self.old self.new }
         ensures grown { OnOk result (HasGrown (past self.old.journal) (past self.new.journal)) }

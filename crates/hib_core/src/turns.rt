@@ -77,8 +77,8 @@ pub fn has_turn<N: Name>(
     is_due(alloc, script, &sessions[number.0 as usize])
 }
 
-/// The tick of the next entry. All parts stand under one lock, so that they share their last tick, and so do the sessions: it is
-/// the number of entries.
+/// The tick of the next entry. All parts stand under one lock, so that they share their last tick, and so do the
+/// sessions: it is the number of entries.
 pub fn next_tick(journal: &Journal) -> Result<Tick, AllocError>
     ensures tick { IfOk result (λ t. t ≡ length (past journal.now) + 1) }
     ensures few { OnOk result (length (past journal.now) < 2 ^ 62) }
@@ -109,8 +109,8 @@ pub fn add(journal: &mut Journal, entry: Entry)
     let _ = journal.push(entry);
 }
 
-/// The tick and the reply of the act that is due, which the session or an engine has answered. The journal has room for its entry.
-/// If memory runs out nothing has changed, but for the keeper's counts.
+/// The tick and the reply of the act that is due, which the session or an engine has answered. The journal has room for
+/// its entry. If memory runs out nothing has changed, but for the keeper's counts.
 fn answered<K: Keeper, N: Name>(
     alloc: Global,
     script: &Script,
@@ -139,8 +139,8 @@ fn answered<K: Keeper, N: Name>(
     Ok((tick, reply))
 }
 
-/// The session takes the entry of its act, and then the journal, which has room for it: both, or if memory runs out neither.
-/// Of a session that is ready it runs out only if the act brings something to it.
+/// The session takes the entry of its act, and then the journal, which has room for it: both, or if memory runs out
+/// neither. Of a session that is ready it runs out only if the act brings something to it.
 fn enter(
     alloc: Global,
     script: &Script,
@@ -170,7 +170,8 @@ fn enter(
     Ok(())
 }
 
-/// The act that is due is answered, taken by its session, and its entry added: all of it, or if memory runs out nothing.
+/// The act that is due is answered, taken by its session, and its entry added: all of it, or if memory runs out
+/// nothing.
 fn serve<K: Keeper, N: Name>(
     alloc: Global,
     script: &Script,
@@ -239,7 +240,8 @@ fn take_turn<K: Keeper, N: Name>(
     Ok(Stepped::Did)
 }
 
-/// One act of the session of this number, if one is due. If memory runs out nothing has changed, but for the keeper's counts.
+/// One act of the session of this number, if one is due. If memory runs out nothing has changed, but for the keeper's
+/// counts.
 pub fn turn<K: Keeper, N: Name>(
     alloc: Global,
     script: &Script,

@@ -87,8 +87,8 @@ fn judged(alloc: Global, form: Form) -> Result<Cond, CriteriaError>
 
 /// The condition that tokens are, over the rows of an entity of a mapping. Of an entity that isn't known no column is.
 ///
-/// Errors: `Fault` exactly if they are none, with the first kind that they have of words, unknown, type and depth, each looked for
-/// over the whole condition. `NoMemory` if there is none left. Nothing is changed.
+/// Errors: `Fault` exactly if they are none, with the first kind that they have of words, unknown, type and depth, each
+/// looked for over the whole condition. `NoMemory` if there is none left. Nothing is changed.
 pub fn check_condition(
     alloc: Global,
     mapping: &Mapping,

@@ -71,8 +71,8 @@ pub fn delete(key: Key, held: &Held) -> Option<Change>
     }
 }
 
-/// The change that is pending of an instance, or none: the row is new, its cells differ from those of its base, or it is
-/// to be deleted. Fails for want of memory alone.
+/// The change that is pending of an instance, or none: the row is new, its cells differ from those of its base, or it
+/// is to be deleted. Fails for want of memory alone.
 pub fn change(alloc: Global, key: Key, held: &Held) -> Result<Option<Change>, AllocError>
     ensures { IfOk result (λ c. c ≡ change_of key held.now) }
 {

@@ -35,9 +35,9 @@ use hib_store::OpenFault;
 use std::alloc::{AllocError, Global};
 use std::marker::Model;
 
-/// The store over a keeper, the open sessions, the stamps of tables, the regions, one for each entity, and the results of queries.
-/// What they promise they promise for all entries that they stand for, from the rows that are told or from any, and for every tick
-/// that is late enough for the part of the act.
+/// The store over a keeper, the open sessions, the stamps of tables, the regions, one for each entity, and the results
+/// of queries. What they promise they promise for all entries that they stand for, from the rows that are told or from
+/// any, and for every tick that is late enough for the part of the act.
 pub struct Engines<K: Keeper> {
     store: StoreEngine<K>,
     registry: Registry,
@@ -61,9 +61,9 @@ impl<K: Keeper> Model for Engines<K> {
 }
 
 impl<K: Keeper> Engines<K> {
-    /// The engines of a valid script, before any act. The rows that the keeper keeps are widened to the script's mapping, and each
-    /// of the script's rows whose key has none is added. Lists of the script's entities are answered from an index. At an error the
-    /// keeper is handed back, with the rows that it had.
+    /// The engines of a valid script, before any act. The rows that the keeper keeps are widened to the script's
+    /// mapping, and each of the script's rows whose key has none is added. Lists of the script's entities are answered
+    /// from an index. At an error the keeper is handed back, with the rows that it had.
     pub fn open(alloc: Global, script: &Script, keeper: K) -> Result<Engines<K>, OpenFault<K>>
         requires { is_valid script.now ≡ true }
         ensures standing { IfOk result (λ e. AreStanding script.now
@@ -99,7 +99,8 @@ impl<K: Keeper> Engines<K> {
         })
     }
 
-    /// The engines are let go, and the keeper is handed back. What it tells is what the commits among the entries leave.
+    /// The engines are let go, and the keeper is handed back. What it tells is what the commits among the entries
+    /// leave.
     pub fn close(self) -> K
         ensures rows { (script : Said) (told : Option Tables) (h : Journal)
             → AreStanding script told h self → K.tables result ≡ told_committed told h }
@@ -124,8 +125,8 @@ impl<K: Keeper> Engines<K> {
         &self.registry
     }
 
-    /// A session was killed: it isn't open any more, and what it has written and not committed is dropped. It takes no memory, and
-    /// asks no keeper.
+    /// A session was killed: it isn't open any more, and what it has written and not committed is dropped. It takes no
+    /// memory, and asks no keeper.
     pub fn kill(&mut self, session: SessionNo)
         ensures answered { (script : Said) (told : Option Tables) (h : Journal) (now : ℕ)
             → AreStanding script told h self.old → IsLate Part.Registry now h
@@ -139,8 +140,8 @@ impl<K: Keeper> Engines<K> {
         self.store.kill(session);
     }
 
-    /// A restart: no session is open, no table has a stamp, no region holds anything, no result is kept, and what sessions have
-    /// written and not committed is dropped. It takes no memory, and asks no keeper.
+    /// A restart: no session is open, no table has a stamp, no region holds anything, no result is kept, and what
+    /// sessions have written and not committed is dropped. It takes no memory, and asks no keeper.
     pub fn restart(&mut self)
         ensures answered { (script : Said) (told : Option Tables) (h : Journal) (now : ℕ)
             → AreStanding script told h self.old → IsLate Part.Registry now h
@@ -157,7 +158,8 @@ impl<K: Keeper> Engines<K> {
         self.results.restart();
     }
 
-    /// The answer to the eviction of a row of a cached entity from its region, which is no fault. At an error nothing has changed.
+    /// The answer to the eviction of a row of a cached entity from its region, which is no fault. At an error nothing
+    /// has changed.
     pub fn evict(&mut self, alloc: Global, key: Key, now: Tick) -> Result<Reply, AllocError>
         requires { now ≤ 2 ^ 62 }
         ensures answered { IfOk result (λ r. (script : Said) (told : Option Tables) (h : Journal)
@@ -174,8 +176,9 @@ impl<K: Keeper> Engines<K> {
         serve_region(alloc, &mut self.regions, entity, &act, now)
     }
 
-    /// An act of a session was answered by a fault, as the entries say, and not by these engines. Of a commit the store drops what
-    /// the session has written, as at a kill. A load and a list leave it as it is. It takes no memory, and asks no keeper.
+    /// An act of a session was answered by a fault, as the entries say, and not by these engines. Of a commit the store
+    /// drops what the session has written, as at a kill. A load and a list leave it as it is. It takes no memory, and
+    /// asks no keeper.
     pub fn fail(&mut self, session: SessionNo, act: &Act)
         ensures answered { (script : Said) (told : Option Tables) (h : Journal) (now : ℕ)
             (r : Reply) → IsReady script told h session now act.now self.old
@@ -202,8 +205,8 @@ impl<K: Keeper> Engines<K> {
         }
     }
 
-    /// The answer of an engine to an act of a session at this tick, which isn't the session's own. A fault is answered only if the
-    /// keeper failed in this call. At an error the engines are as before, but for the keeper's counts.
+    /// The answer of an engine to an act of a session at this tick, which isn't the session's own. A fault is answered
+    /// only if the keeper failed in this call. At an error the engines are as before, but for the keeper's counts.
     fn serve(
         &mut self,
         alloc: Global,
@@ -248,10 +251,10 @@ impl<K: Keeper> Engines<K> {
         }
     }
 
-    /// The answer to an act that is due in a session, at this tick: the session's own, or that of an engine. A fault is answered only
-    /// if the keeper failed in this call, and the keeper is asked once at most. At an error the engines are as before, but for the
-    /// keeper's counts, and so they are if the act brings something to the session; the counts stay too if the act doesn't call the
-    /// keeper.
+    /// The answer to an act that is due in a session, at this tick: the session's own, or that of an engine. A fault is
+    /// answered only if the keeper failed in this call, and the keeper is asked once at most. At an error the engines
+    /// are as before, but for the keeper's counts, and so they are if the act brings something to the session; the
+    /// counts stay too if the act doesn't call the keeper.
     pub fn answer(
         &mut self,
         alloc: Global,

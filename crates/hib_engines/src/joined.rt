@@ -29,7 +29,8 @@ pub fn laws()
     results_name_the_dropped();
 }
 
-/// An entry of another part leaves each engine standing. Of a kill the registry and the store hear, and of a restart all.
+/// An entry of another part leaves each engine standing. Of a kill the registry and the store hear, and of a restart
+/// all.
 pub fn entries_elsewhere()
     ensures registry { RegistryStays }
     ensures store { StoreStays }
@@ -40,8 +41,8 @@ pub fn entries_elsewhere()
     laws();
 }
 
-/// A list that is due leaves all engines as they are, whatever it is answered: so they stand for the entries with one that none
-/// of them was asked.
+/// A list that is due leaves all engines as they are, whatever it is answered: so they stand for the entries with one
+/// that none of them was asked.
 pub fn lists_leave()
     ensures { ListsLeave }
 {

@@ -1,8 +1,9 @@
 //! The parts that sessions share, each an engine that answers the acts which are asked of it.
 //!
-//! What an engine promises it promises for every list that it stands for, the whole journal or the part's own entries, and for
-//! every tick after those of the part's entries. `Engines` are all five of a script, over any keeper: they answer each act of the
-//! script's sessions, and those from outside. What names a run of these, `Name`, and what a step of one did, stand here too.
+//! What an engine promises it promises for every list that it stands for, the whole journal or the part's own entries,
+//! and for every tick after those of the part's entries. `Engines` are all five of a script, over any keeper: they
+//! answer each act of the script's sessions, and those from outside. What names a run of these, `Name`, and what a step
+//! of one did, stand here too.
 #![tactic(auto)]
 
 mod engines;

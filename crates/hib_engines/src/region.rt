@@ -114,7 +114,7 @@ impl Region {
         }
     }
 
-    /// A lock is given back. It takes no memory if the key has a slot.
+    /// A lock is given back, or `Expired` if the key has no such lock. It takes no memory if the key has a slot.
     fn unlock(&mut self, id: u64, lock: Tick, now: Tick) -> Result<Unlocked, AllocError>
         requires { now ≤ 2 ^ 62 }
         ensures answer { IfOk result (λ u. u
@@ -236,8 +236,8 @@ impl Region {
         }
     }
 
-    /// What an act of a region comes to at this tick. An act that isn't a region's is answered Done, and changes nothing. At an
-    /// error nothing has changed.
+    /// What an act of a region comes to at this tick. An act that isn't a region's is answered Done, and changes
+    /// nothing. At an error nothing has changed.
     fn act_on(&mut self, alloc: Global, act: &Act, now: Tick) -> Result<Reply, AllocError>
         requires { now ≤ 2 ^ 62 }
         ensures answer { IfOk result (λ r. r ≡ answer_in self.old now act.now) }
@@ -300,8 +300,8 @@ impl Region {
         self.act_on(alloc, act, now)
     }
 
-    /// A fence of a key: its lock is taken at this tick for no session, and given back at the next one. It takes its memory with
-    /// the lock, so that both are done or neither. At an error nothing has changed.
+    /// A fence of a key: its lock is taken at this tick for no session, and given back at the next one. It takes its
+    /// memory with the lock, so that both are done or neither. At an error nothing has changed.
     pub fn fence(
         &mut self,
         key: Key,

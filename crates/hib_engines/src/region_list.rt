@@ -36,8 +36,8 @@ pub fn restart_regions(regions: &mut Vec<Region>)
     }
 }
 
-/// The answer of the region of an entity; one that has no region is uncached. A read leaves the regions as they are, and so does
-/// want of memory.
+/// The answer of the region of an entity; one that has no region is uncached. A read leaves the regions as they are,
+/// and so does want of memory.
 pub fn serve_region(
     alloc: Global,
     regions: &mut Vec<Region>,
@@ -65,8 +65,8 @@ pub fn serve_region(
     Ok(Reply::Done)
 }
 
-/// A fence of a key in the region of its entity, at this tick and the next one. One that has no region isn't fenced: that is answered
-/// as if memory ran out. At an error nothing has changed.
+/// A fence of a key in the region of its entity, at this tick and the next one. One that has no region isn't fenced:
+/// that is answered as if memory ran out. At an error nothing has changed.
 pub fn fence_region(
     regions: &mut Vec<Region>,
     key: Key,

@@ -118,8 +118,8 @@ impl Registry {
         Ok(Reply::Began { floor })
     }
 
-    /// Answers the Begin of a session at this tick. Another act is answered Done and changes nothing, since none is asked of the
-    /// registry. At an error nothing has changed.
+    /// Answers the Begin of a session at this tick. Another act is answered Done and changes nothing, since none is
+    /// asked of the registry. At an error nothing has changed.
     pub fn serve(&mut self, session: SessionNo, act: &Act, now: Tick) -> Result<Reply, AllocError>
         ensures answered { IfOk result (λ r. (script : Said) (l : Journal) → IsRegistry self.old l
             → IsLate Part.Registry now l → act.now ≡ Act.Begin

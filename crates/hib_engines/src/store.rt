@@ -59,9 +59,9 @@ impl<K: Keeper> Model for StoreEngine<K> {
 }
 
 impl<K: Keeper> StoreEngine<K> {
-    /// The store over a keeper that is seeded by one call: the rows that it keeps are widened to the columns of this mapping,
-    /// and each of these rows whose key has none is added. No session has written. At an error the keeper is handed back, with the
-    /// rows that it had. Lists of the first `entities` entities are answered from an index.
+    /// The store over a keeper that is seeded by one call: the rows that it keeps are widened to the columns of this
+    /// mapping, and each of these rows whose key has none is added. No session has written. At an error the keeper is
+    /// handed back, with the rows that it had. Lists of the first `entities` entities are answered from an index.
     pub fn open(
         alloc: Global,
         keeper: K,
@@ -198,9 +198,9 @@ impl<K: Keeper> StoreEngine<K> {
         Reply::Done
     }
 
-    /// Answers an act of a session that is asked of the store. The keeper is asked once at most, and only if the act asks. A
-    /// fault is answered only if the keeper failed in this call. At an error all is as before but for the keeper's counts, and they
-    /// stay too if the act doesn't call the keeper.
+    /// Answers an act of a session that is asked of the store. The keeper is asked once at most, and only if the act
+    /// asks. A fault is answered only if the keeper failed in this call. At an error all is as before but for the
+    /// keeper's counts, and they stay too if the act doesn't call the keeper.
     pub fn serve(
         &mut self,
         alloc: Global,
@@ -238,8 +238,8 @@ impl<K: Keeper> StoreEngine<K> {
         }
     }
 
-    /// Makes the index of the committed rows of the first entities, unless it stands. False only if the keeper failed; if the answer
-    /// is true the index stands. Nothing else changes, but for the keeper's counts.
+    /// Makes the index of the committed rows of the first entities, unless it stands. False only if the keeper failed;
+    /// if the answer is true the index stands. Nothing else changes, but for the keeper's counts.
     pub fn ready_index(&mut self, alloc: Global) -> Result<bool, AllocError>
         ensures indexed { IfOk result (λ b. b ≡ self.new.indexed) }
         ensures fault { result ≡ Ok false → Rose self.old.faults self.new.faults }
@@ -249,8 +249,9 @@ impl<K: Keeper> StoreEngine<K> {
         self.store.ready_index(alloc)
     }
 
-    /// The committed rows of an entity that meet a condition, if there is one, in order of keys. The entity, and those to which the
-    /// condition steps, are among the first. None exactly if the index of their rows doesn't stand. Fails for want of memory alone.
+    /// The committed rows of an entity that meet a condition, if there is one, in order of keys. The entity, and those
+    /// to which the condition steps, are among the first. None exactly if the index of their rows doesn't stand. Fails
+    /// for want of memory alone.
     pub fn rows_met(
         &self,
         alloc: Global,
@@ -266,8 +267,9 @@ impl<K: Keeper> StoreEngine<K> {
         self.store.rows_met(alloc, entity, condition)
     }
 
-    /// Applies changes that no session has written to the committed rows, all of them or none. What sessions have written stays.
-    /// Committed changes the rows, and any other answer leaves them. A fault is answered only if the keeper failed in this call.
+    /// Applies changes that no session has written to the committed rows, all of them or none. What sessions have
+    /// written stays. Committed changes the rows, and any other answer leaves them. A fault is answered only if the
+    /// keeper failed in this call.
     pub fn apply(&mut self, alloc: Global, changes: &[Change]) -> Result<Commit, AllocError>
         ensures answer { IfOk result (λ answer. answer ≢ Commit.Fault → IfSome self.old.tables
             (λ m. answer ≡ commit_answer changes.now m)) }

@@ -59,6 +59,7 @@ pub fn is_version(version: Option<u32>) -> bool
     }
 }
 
+/// Whether all bytes of a text may be printed.
 fn is_printable(bytes: &[u8]) -> bool
     ensures { result ≡ list_all fits.is_printable bytes.now }
 {

@@ -7,8 +7,8 @@ use hib_base::{Script, SessionDef, SessionNo};
 use indexmap::IndexMap;
 use std::alloc::{AllocError, Global};
 
-/// Where the sessions of a script stand, by their names: one is found without a look at all of them. No contract rests on
-/// what it holds, since `session_of` tries what is found.
+/// Where the sessions of a script stand, by their names: one is found without a look at all of them. No contract rests
+/// on what it holds, since `session_of` tries what is found.
 #[derive(Drop)]
 pub struct SessionNames<'a> {
     places: IndexMap<&'a [u8], usize>,

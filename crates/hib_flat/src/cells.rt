@@ -102,6 +102,7 @@ pub fn put_cells(
 
 // ---- comma-separated values
 
+/// The cell of a row in the column of this name, which another entity may have at another place.
 fn row_cell<'a>(columns: &[ColumnDef], row: &'a [Cell], name: &[u8]) -> Option<&'a Cell>
     ensures { option_copied result ≡ cell_at name.now (cells_from columns.now 0 row.now) }
 {

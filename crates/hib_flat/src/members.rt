@@ -92,6 +92,7 @@ fn put_results(
     put_number_member(alloc, out, form, b"stamp", stamp_in(&entry.reply))
 }
 
+/// The ticks and locks that an entry names.
 fn put_times(alloc: Global, out: &mut Vec<u8>, form: Form, entry: &Entry) -> Result<(), AllocError>
     ensures { OnOk result (out.new.items ≡ out.old.items ++ pieces form (times entry.now)) }
 {
@@ -106,6 +107,7 @@ fn put_times(alloc: Global, out: &mut Vec<u8>, form: Form, entry: &Entry) -> Res
     put_number_member(alloc, out, form, b"stored", stored_in(&entry.reply))
 }
 
+/// How many hold a lock, which key was evicted, and whether a put was late.
 fn put_marks(alloc: Global, out: &mut Vec<u8>, form: Form, entry: &Entry) -> Result<(), AllocError>
     ensures { OnOk result (out.new.items ≡ out.old.items ++ pieces form (marks entry.now)) }
 {

@@ -41,9 +41,10 @@ fn send_lines<W: Sink>(
     Ok(())
 }
 
-/// Writes an object for each entry to a sink, each on a line, piece by piece: no more of them is in memory at a time than a piece
-/// and a line. What a member is called and when it is there is said in docs/DATA.md. A number that the script doesn't know
-/// is written as an empty name. If the sink fails or memory runs out a front of the lines was taken.
+/// Writes an object for each entry to a sink, each on a line, piece by piece: no more of them is in memory at a time
+/// than a piece and a line. What a member is called and when it is there is said in docs/DATA.md. A number that the
+/// script doesn't know is written as an empty name. If the sink fails or memory runs out a front of the lines was
+/// taken.
 pub fn write<W: Sink>(
     alloc: Global,
     script: &Script,
@@ -62,8 +63,8 @@ pub fn write<W: Sink>(
     Ok(())
 }
 
-/// Writes the same as comma-separated values: a line of names, then one for each entry, in which a value that an object hasn't is
-/// empty. It stops as `write` does.
+/// Writes the same as comma-separated values: a line of names, then one for each entry, in which a value that an object
+/// hasn't is empty. It stops as `write` does.
 pub fn write_csv<W: Sink>(
     alloc: Global,
     script: &Script,

@@ -1,4 +1,5 @@
-// Members, each with its name as a form wants it, appended to bytes. Of one that has no value a form with places keeps the place.
+// Members, each with its name as a form wants it, appended to bytes. Of one that has no value a form with places keeps
+// the place.
 ghost use Rattle.std.specs.Prelude.{◌≡◌, ◌++◌, OnOk, Some, option_map, option_copied};
 ghost use Rattle.hib_flat.specs.Forms.{piece, label, word_as};
 ghost use Rattle.hib_flat.specs.Members.{word, boolean, numbered, named};

@@ -16,8 +16,8 @@ ghost use Rattle.serde_json.specs.Written.{outline};
 ghost use Rattle.std.specs.List.{AllZip};
 ghost use Rattle.std.specs.Prelude.{◌≡◌, List, Some, true};
 
-/// The line of a well-formed entry is the JSON of an object with exactly the members that `members` and `cells` say, each of its
-/// type, in their order.
+/// The line of a well-formed entry is the JSON of an object with exactly the members that `members` and `cells` say,
+/// each of its type, in their order.
 #[tactic(auto, using(crate::proofs::Whole::object_read))]
 pub fn lines_are_objects()
     ensures object { (script : Script) (e : Entry) → is_valid script ≡ true → IsEntry script e

@@ -20,6 +20,7 @@ pub fn plan(alloc: Global, map: &IdentityMap) -> Result<Changes, AllocError>
     Ok(changes)
 }
 
+/// Adds a change to a plan, if an instance asks for one.
 fn add(changes: &mut Changes, change: Option<Change>) -> Result<(), AllocError>
     ensures { OnOk result (changes.new ≡ changes.old ++ listed change) }
 {

@@ -1,4 +1,5 @@
-//! A journal that is followed entry by entry: what is known of each key of a region, of each table, of each query and of each session.
+//! A journal that is followed entry by entry: what is known of each key of a region, of each table, of each query and
+//! of each session.
 #![tactic(auto)]
 
 mod deleted;

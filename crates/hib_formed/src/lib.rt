@@ -1,8 +1,8 @@
 //! The law behind what is written of a run: the entries of a legal journal are well formed.
 //!
-//! The crate has no code. Each function has an empty body, and its `ensures` is a theorem over all scripts, all rows at the
-//! start and all journals. `specs/Fitting` says which rows it speaks of, `specs/Early` which journals, and `proofs/` has the
-//! proofs.
+//! The crate has no code. Each function has an empty body, and its `ensures` is a theorem over all scripts, all rows at
+//! the start and all journals. `specs/Fitting` says which rows it speaks of, `specs/Early` which journals, and
+//! `proofs/` has the proofs.
 #![tactic(auto)]
 
 ghost use Rattle.hib_base.specs.Start.{start as start_with, widened};
@@ -17,8 +17,8 @@ ghost use Rattle.hib_journal.specs.Sessions.{Journal};
 ghost use Rattle.hib_journal.specs.Types.{Script};
 ghost use Rattle.std.specs.Prelude.{◌≡◌, ◌≤◌, ◌^◌, Some, length, reverse, true};
 
-/// Over rows that fit a valid script's mapping, each entry of a legal journal is well formed, if the ticks are early enough
-/// that a timeout can be added to each, and what is evicted from outside has an identifier.
+/// Over rows that fit a valid script's mapping, each entry of a legal journal is well formed, if the ticks are early
+/// enough that a timeout can be added to each, and what is evicted from outside has an identifier.
 pub fn entries_are_formed()
     ensures formed { (script : Script) (start : Tables) (h : Journal)
         → is_valid script ≡ true → AreFit script start → length h ≤ 2 ^ 61 → AreEarly h
@@ -31,7 +31,8 @@ pub fn ticks_are_early()
     ensures early { (h : Journal) → IsNumbered h → length h ≤ 2 ^ 61 → AreEarly h }
 {}
 
-/// If the rows that a keeper kept, widened, fit a valid script's mapping, so do those at the start: they and the script's.
+/// If the rows that a keeper kept, widened, fit a valid script's mapping, so do those at the start: they and the
+/// script's.
 pub fn starts_fit()
     ensures start { (script : Script) (kept : Tables) → is_valid script ≡ true
         → AreFit script (widened script.mapping kept)

@@ -1,4 +1,5 @@
-//! What each program's main does around its call: the words of the command line, its texts, and the line on standard error.
+//! What each program's main does around its call: the words of the command line, its texts, and the line on standard
+//! error.
 #![tactic(auto)]
 
 mod printing;

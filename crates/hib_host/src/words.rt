@@ -2,8 +2,8 @@
 use hib_call::Status;
 use std::{env, io};
 
-/// The words of the command line after the program's name; or how the program ends if they can't be had: a word that isn't
-/// UTF-8 is no word of a command. Another failure of the host is handed on.
+/// The words of the command line after the program's name; or how the program ends if they can't be had: a word that
+/// isn't UTF-8 is no word of a command. Another failure of the host is handed on.
 pub fn words_given(host: &HostRuntime) -> io::Result<Result<Vec<String>, Status>> {
     let mut words = Vec::new(host.alloc());
     match env::args(host) {

@@ -9,7 +9,8 @@ use std::alloc::{AllocError, Global};
 use std::marker::Model;
 
 /// The instances of one session, one for each key, in order of arrival; and which keys were removed, in order of their
-/// last removals. So that many leave in order of arrival without moving the others, they may stand from the last to the first.
+/// last removals. So that many leave in order of arrival without moving the others, they may stand from the last to the
+/// first.
 #[derive(Drop)]
 pub struct IdentityMap {
     entries: IndexMap<Key, Held>,
@@ -59,7 +60,8 @@ impl IdentityMap {
         insert_new(&mut self.entries, key, held)
     }
 
-    /// The instance of a key comes after the others, and the one that the key had leaves. At an error nothing has changed.
+    /// The instance of a key comes after the others, and the one that the key had leaves. At an error nothing has
+    /// changed.
     pub fn arrive(&mut self, key: &Key, held: Held) -> Result<(), AllocError>
         ensures ok { OnOk result (self.new
             ≡ record self.old { held = add_in key.now held (drop_in key.now self.old.held) }) }
@@ -101,8 +103,8 @@ impl IdentityMap {
         base_at(&mut self.entries, key, base);
     }
 
-    /// Sets cells of the instance of a key, if there is one. It takes memory if others share the cells. At an error nothing
-    /// has changed.
+    /// Sets cells of the instance of a key, if there is one. It takes memory if others share the cells. At an error
+    /// nothing has changed.
     pub fn set_cells(&mut self, alloc: Global, key: Key, sets: Sets) -> Result<(), AllocError>
         ensures ok { OnOk result (self.new
             ≡ record self.old { held = change_in key (with_sets sets) self.old.held }) }

@@ -1,4 +1,5 @@
-//! What comes after a script in a text: the line `journal` and a journal as JSON lines, or a word and the lines of a section.
+//! What comes after a script in a text: the line `journal` and a journal as JSON lines, or a word and the lines of a
+//! section.
 #![tactic(auto)]
 
 mod cutting;

@@ -7,8 +7,8 @@ use hib_base::{Kind, Refused};
 use hib_script::ScriptError;
 use std::alloc::Global;
 
-/// Why a text of so many lines is refused in which the line after the script is missing: its first bad line as a script, or else
-/// this kind at the number of lines.
+/// Why a text of so many lines is refused in which the line after the script is missing: its first bad line as a
+/// script, or else this kind at the number of lines.
 pub fn without_mark(alloc: Global, text: &[u8], lines: usize, kind: Kind) -> ScriptError
     requires small { length text.now < 2 ^ 31 }
     requires few { lines ≤ length text.now + 1 }

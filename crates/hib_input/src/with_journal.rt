@@ -64,11 +64,11 @@ fn read_cut(
     read_behind(alloc, script, behind, lines as u32 + 2)
 }
 
-/// The script and the journal of a text: the lines before the first line that is exactly `journal` are the script, those after
-/// it JSON lines, one for each entry.
+/// The script and the journal of a text: the lines before the first line that is exactly `journal` are the script,
+/// those after it JSON lines, one for each entry.
 ///
-/// Errors: `Refused` exactly if the text has not this form, with its first bad line by the rules of a script, and else the
-/// first line after it that is no entry's; `NoMemory` if there is none left.
+/// Errors: `Refused` exactly if the text has not this form, with its first bad line by the rules of a script, and else
+/// the first line after it that is no entry's; `NoMemory` if there is none left.
 pub fn read_with_journal(alloc: Global, text: &[u8]) -> Result<WithJournal, ScriptError>
     requires { length text.now < 2 ^ 31 }
     ensures input { IfOk result (λ i. IsInput text.now i.script i.journal.list) }

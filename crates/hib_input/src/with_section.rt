@@ -62,11 +62,12 @@ fn read_cut(
     })
 }
 
-/// The script and the section of a text: the lines before the first line that is exactly this word are the script, those after it the
-/// section. A section may have no line that says something.
+/// The script and the section of a text: the lines before the first line that is exactly this word are the script,
+/// those after it the section. A section may have no line that says something.
 ///
-/// Errors: `Refused` exactly if the text has not this form. The first line is named with which bytes, length or tokens are wrong; else
-/// the script's first bad line; else `Section` at the number of lines, if no line is the word. `NoMemory` if there is none left.
+/// Errors: `Refused` exactly if the text has not this form. The first line is named with which bytes, length or tokens
+/// are wrong; else the script's first bad line; else `Section` at the number of lines, if no line is the word.
+/// `NoMemory` if there is none left.
 pub fn read_with_section(
     alloc: Global,
     text: &[u8],

@@ -220,7 +220,8 @@ fn read_entry(
     entry_of(alloc, script, names, &line)
 }
 
-/// The entry whose JSON line some bytes are, or none if they are no well-formed entry's. Fails for want of memory alone.
+/// The entry whose JSON line some bytes are, or none if they are no well-formed entry's. Fails for want of memory
+/// alone.
 pub fn line_entry(
     alloc: Global,
     script: &Script,

@@ -88,8 +88,8 @@ pub fn are_entries(script: &Script, journal: &Journal) -> bool
 /// The journal whose entries' JSON lines a text has, one entry for each line to the end of the text. The line feed of
 /// the last line may be missing; no line is skipped. The first line has the number `first`.
 ///
-/// Errors: `Refused` exactly if a line is no well-formed entry's, with the number of the first such line; `NoMemory` if there
-/// is none left. Nothing else is changed.
+/// Errors: `Refused` exactly if a line is no well-formed entry's, with the number of the first such line; `NoMemory` if
+/// there is none left. Nothing else is changed.
 pub fn read(
     alloc: Global,
     script: &Script,

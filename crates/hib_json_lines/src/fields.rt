@@ -59,8 +59,9 @@ fn object(alloc: Global, line: &Line) -> Result<Value, AllocError>
     }
 }
 
-/// The five members of the object that a text is, or none if it is no object with exactly these, of their forms. They may
-/// stand in any order and with any spacing; of one that stands twice the later counts. Fails for want of memory alone.
+/// The five members of the object that a text is, or none if it is no object with exactly these, of their forms. They
+/// may stand in any order and with any spacing; of one that stands twice the later counts. Fails for want of memory
+/// alone.
 pub fn read_line(alloc: Global, text: &str) -> Result<Option<Line>, AllocError>
     ensures found { IfOk result (λ o. IfSome o (λ l. read text.now ≡ Some (object_of l))) }
     ensures none { IfOk result (λ o. IfNone o ((l : LineText) → read text.now ≡ Some (object_of l)

@@ -52,6 +52,7 @@ fn put_reply_member(
     put_quoted(out, text.as_slice())
 }
 
+/// The name of a session, in quotation marks.
 fn put_name(
     alloc: Global,
     out: &mut Vec<u8>,

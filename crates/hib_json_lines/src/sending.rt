@@ -36,8 +36,8 @@ fn send_lines<W: Sink>(
     Ok(())
 }
 
-/// Writes the JSON lines of a journal to a sink, as `write` gives them, piece by piece: no more of them is in memory at a time
-/// than a piece and a line. If the sink fails or memory runs out a front of them was taken.
+/// Writes the JSON lines of a journal to a sink, as `write` gives them, piece by piece: no more of them is in memory at
+/// a time than a piece and a line. If the sink fails or memory runs out a front of them was taken.
 pub fn send<W: Sink>(
     alloc: Global,
     script: &Script,

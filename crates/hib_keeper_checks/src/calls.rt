@@ -99,7 +99,8 @@ fn is_skipped(line: &str) -> bool {
     line.is_empty() || line.starts_with("#")
 }
 
-/// Opens a keeper in memory if a line says so, and does over it what those after it say. Answers how many of these were taken.
+/// Opens a keeper in memory if a line says so, and does over it what those after it say. Answers how many of these were
+/// taken.
 pub fn open(
     rt: &HostRuntime,
     call: &mut NextCall,
@@ -129,7 +130,8 @@ impl NextCall {
         }
     }
 
-    /// Does what a line says over a keeper, and prints the line with what came of it, unless it only adds to the next call.
+    /// Does what a line says over a keeper, and prints the line with what came of it, unless it only adds to the next
+    /// call.
     fn take_line<K: Keeper>(
         &mut self,
         rt: &HostRuntime,

@@ -223,9 +223,9 @@ fn seed_within<T: RowTable>(
     table.commit()
 }
 
-/// In one transaction gives each row of an entity of this mapping the defaults of the columns that it lacks, if each of these
-/// has one, and adds each of these rows whose key has none. It does all of this, or nothing if a call fails or a row has no
-/// body.
+/// In one transaction gives each row of an entity of this mapping the defaults of the columns that it lacks, if each of
+/// these has one, and adds each of these rows whose key has none. It does all of this, or nothing if a call fails or a
+/// row has no body.
 pub fn seed<T: RowTable>(
     table: &mut T,
     alloc: Global,

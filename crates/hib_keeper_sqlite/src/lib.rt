@@ -1,4 +1,5 @@
-//! Keepers over SQLite: one in memory that tells its tables, and one over any store, such as a file, that tells nothing.
+//! Keepers over SQLite: one in memory that tells its tables, and one over any store, such as a file, that tells
+//! nothing.
 #![tactic(auto)]
 
 mod batch;

@@ -24,8 +24,8 @@ pub fn in_memory(alloc: Global) -> Result<SqliteTables, KeepFault>
 }
 
 /// Takes an open connection over any store, and makes the table `hib_rows` if it isn't there. It is refused for want of
-/// memory alone. If the table can't be made, or the connection has begun a transaction, the connection is closed and each
-/// later call fails.
+/// memory alone. If the table can't be made, or the connection has begun a transaction, the connection is closed and
+/// each later call fails.
 pub fn adopt<S: Alter + Drop>(connection: Connection<S>) -> Result<SqliteKeeper<S>, KeepFault>
     ensures free { (state S.Store connection).in_transaction ≡ true
         → IfOk result (λ k. k.table ≡ None) }
@@ -38,9 +38,9 @@ pub fn adopt<S: Alter + Drop>(connection: Connection<S>) -> Result<SqliteKeeper<
     }
 }
 
-/// Opens the file at a path, or makes it, and the table `hib_rows` in it. It is refused for want of memory alone. If the
-/// file can't be opened, as one that another program has open, or the table can't be made, each later call fails; so it
-/// does at the path `:memory:`, which names no file.
+/// Opens the file at a path, or makes it, and the table `hib_rows` in it. It is refused for want of memory alone. If
+/// the file can't be opened, as one that another program has open, or the table can't be made, each later call fails;
+/// so it does at the path `:memory:`, which names no file.
 pub fn open_file(rt: &HostRuntime, path: &str) -> Result<SqliteKeeper<FileStore<File>>, KeepFault>
     ensures memory { path.now ≡ codes ":memory:" → IfOk result (λ k. k.table ≡ None) }
     ensures counts { IfOk result (λ k. (k.faults ≡ 0) × (k.asked ≡ 0)) }

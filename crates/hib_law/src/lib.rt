@@ -1,8 +1,8 @@
 //! The law: what holds of every legal journal.
 //!
-//! The crate has no code. Each function has an empty body, and its `ensures` is a theorem over all scripts, all rows at the
-//! start and all legal journals. The files of `specs/` say each claim, `specs/Law` joins them, and `proofs/` has the proofs.
-//! A caller that hands out a legal journal calls `law` once, and may then ensure all of it.
+//! The crate has no code. Each function has an empty body, and its `ensures` is a theorem over all scripts, all rows at
+//! the start and all legal journals. The files of `specs/` say each claim, `specs/Law` joins them, and `proofs/` has
+//! the proofs. A caller that hands out a legal journal calls `law` once, and may then ensure all of it.
 #![tactic(auto)]
 
 ghost use Rattle.hib_base.specs.Tables.{Tables};
@@ -22,29 +22,30 @@ ghost use Rattle.hib_law.specs.Rows.{IsFindAnswered, IsKeyCoherent};
 ghost use Rattle.hib_law.specs.Seen.{AreFloorsLow, AreSeenSafe};
 ghost use Rattle.std.specs.Prelude.{◌≡◌, ℕ, IfSome, Option, Some, true};
 
-/// Each session's entries are the acts of its plan, each once and in order, whether the rows at the start are told or not.
+/// Each session's entries are the acts of its plan, each once and in order, whether the rows at the start are told or
+/// not.
 pub fn steps_are_in_order()
     ensures steps { (script : Script) (told : Option Tables) (s : ℕ) (h : Journal)
         → IsLegal script told h → InOrder (plan_of script s) (own s h) }
 {}
 
-/// At every entry, of a read-write key that is sound there: the cached item is the committed row, and a hit answers it to a
-/// session that has no change on the key.
+/// At every entry, of a read-write key that is sound there: the cached item is the committed row, and a hit answers it
+/// to a session that has no change on the key.
 pub fn rows_cohere()
     ensures rows { (script : Script) (start : Tables) (k : Key)
         → strategy script k.entity ≡ Strategy.ReadWrite → (h : Journal)
         → IsLegal script (Some start) h → IsKeyCoherent script start k h }
 {}
 
-/// At every entry, of any key: a hit answers a row that was committed since the restart, a load what the session has written,
-/// else the committed row, and a find of what the session holds just that.
+/// At every entry, of any key: a hit answers a row that was committed since the restart, a load what the session has
+/// written, else the committed row, and a find of what the session holds just that.
 pub fn finds_are_answered()
     ensures finds { (script : Script) (start : Tables) (h : Journal)
         → IsLegal script (Some start) h → AtEachEntry (IsFindAnswered start) h }
 {}
 
-/// A list from the cache is what its query gave over the committed rows at a moment since which only commits that are not
-/// stamped yet have changed its tables.
+/// A list from the cache is what its query gave over the committed rows at a moment since which only commits that are
+/// not stamped yet have changed its tables.
 pub fn hits_are_true()
     ensures hits { (script : Script) (start : Tables) (h : Journal)
         → IsLegal script (Some start) h → AreHitsTrue script start h }
@@ -69,23 +70,24 @@ pub fn items_were_committed()
         → IsLegal script (Some start) h → AtEachPrefix (IsItemOld script start k) h }
 {}
 
-/// At every entry the item of a key of a read-only region is the row that the rows at the start or a committed insert gave it.
+/// At every entry the item of a key of a read-only region is the row that the rows at the start or a committed insert
+/// gave it.
 pub fn read_only_items_were_given()
     ensures given { (script : Script) (start : Tables) (k : Key)
         → strategy script k.entity ≡ Strategy.ReadOnly
         → (h : Journal) → IsLegal script (Some start) h → AtEachPrefix (IsItemGiven start k) h }
 {}
 
-/// At every entry at which a read-write key is sound, its lock counts the sessions that hold it, each of which knows its id;
-/// and a session that gives back its lock is not refused.
+/// At every entry at which a read-write key is sound, its lock counts the sessions that hold it, each of which knows
+/// its id; and a session that gives back its lock is not refused.
 pub fn locks_are_kept()
     ensures locks { (script : Script) (start : Tables) (k : Key)
         → strategy script k.entity ≡ Strategy.ReadWrite
         → (h : Journal) → IsLegal script (Some start) h → AreLocksKept script k h }
 {}
 
-/// At every entry, of a read-write key that is sound there: what an open session has seen of it is committed still, or the key's
-/// slot will refuse a put of it. The claims on rows follow from this.
+/// At every entry, of a read-write key that is sound there: what an open session has seen of it is committed still, or
+/// the key's slot will refuse a put of it. The claims on rows follow from this.
 pub fn seen_rows_are_safe()
     ensures safe { (script : Script) (start : Tables) (k : Key)
         → strategy script k.entity ≡ Strategy.ReadWrite
@@ -99,8 +101,8 @@ pub fn floors_are_low()
         → IsLegal script (Some start) h → AtEachPrefix AreFloorsLow h }
 {}
 
-/// The whole law: all of the above, of every legal journal over told rows. If the rows at the start aren't told, the order
-/// of the acts alone.
+/// The whole law: all of the above, of every legal journal over told rows. If the rows at the start aren't told, the
+/// order of the acts alone.
 pub fn law()
     ensures law { (script : Script) (start : Tables) (h : Journal)
         → IsLegal script (Some start) h → Coheres script start h }

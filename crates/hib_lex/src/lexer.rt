@@ -91,8 +91,8 @@ pub(crate) fn tokens_of_lexical(alloc: Global, line: &[u8]) -> Result<Option<Tok
     Ok(Some(tokens))
 }
 
-/// Adds the token at the front of some bytes, or passes a space. Gives how many bytes that takes; none if they begin with no
-/// token.
+/// Adds the token at the front of some bytes, or passes a space. Gives how many bytes that takes; none if they begin
+/// with no token.
 fn add_part(alloc: Global, tokens: &mut Tokens, bytes: &[u8]) -> Result<Option<usize>, AllocError>
     requires { 0 < length bytes.now }
     ensures { IfOk result (parts.ReadsPart tokens.old tokens.new bytes.now) }
@@ -169,8 +169,8 @@ fn may_close(bytes: &[u8]) -> bool
     }
 }
 
-/// The text of these bytes up to its closing mark, and how many bytes that takes with the mark; none if nothing closes it, or if
-/// a backslash stands before another byte than a mark or a backslash.
+/// The text of these bytes up to its closing mark, and how many bytes that takes with the mark; none if nothing closes
+/// it, or if a backslash stands before another byte than a mark or a backslash.
 fn quoted(alloc: Global, bytes: &[u8]) -> Result<Option<(Text, usize)>, AllocError>
     ensures { IfOk result (parts.ReadsQuoted bytes.now) }
 {

@@ -49,8 +49,8 @@ pub fn lex(alloc: Global, text: &[u8]) -> Result<Lines, LexError>
     lex_after(alloc, 0, text)
 }
 
-/// The lines of a text that has `before` lines before it: the first one has the next number, and their count is that of all
-/// lines so far. Else it is as `lex` says.
+/// The lines of a text that has `before` lines before it: the first one has the next number, and their count is that of
+/// all lines so far. Else it is as `lex` says.
 #[tactic(auto, using(crate::proofs::Texts::lexing_done, crate::proofs::Texts::length_fits))]
 pub fn lex_after(alloc: Global, before: u32, text: &[u8]) -> Result<Lines, LexError>
     requires { before + length text.now < 2 ^ 31 }
@@ -87,8 +87,8 @@ fn with_line(alloc: Global, done: Lines, line: &[u8]) -> Result<Lines, LexError>
 
 /// The line of this number that has these bytes, or none if it is skipped.
 ///
-/// Errors: `Refused` exactly if the line breaks a rule, with the first of the kinds byte, long and token that it has; `NoMemory` if
-/// there is none left.
+/// Errors: `Refused` exactly if the line breaks a rule, with the first of the kinds byte, long and token that it has;
+/// `NoMemory` if there is none left.
 pub fn line_of(alloc: Global, number: u32, bytes: &[u8]) -> Result<Option<Line>, LexError>
     ensures line { IfOk result (λ l. format.line_of number bytes.now ≡ Ok l) }
     ensures refused { IfErr result (format.IsWhere (format.line_of number bytes.now)) }

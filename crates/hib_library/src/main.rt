@@ -1,5 +1,5 @@
-//! The factory as a library: two clerks sell the same book in turns, and a listener counts the sales that came too late. The
-//! journal's lines are printed, and then that count.
+//! The factory as a library: two clerks sell the same book in turns, and a listener counts the sales that came too
+//! late. The journal's lines are printed, and then that count.
 #![tactic(auto)]
 
 ghost use Rattle.std.specs.Prelude.{◌≡◌, true};

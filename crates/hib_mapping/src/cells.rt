@@ -7,7 +7,8 @@ use hib_base::{Cell, ColumnType, Seq};
 use hib_lex::{Token, is_the_word};
 use std::alloc::{AllocError, Global};
 
-/// The cell that a token is: a number, a text, `true` or `false`; none of another token. Fails for want of memory alone.
+/// The cell that a token is: a number, a text, `true` or `false`; none of another token. Fails for want of memory
+/// alone.
 pub fn cell(alloc: Global, token: &Token) -> Result<Option<Cell>, AllocError>
     ensures { IfOk result (λ c. c ≡ cells.cell_of token.now) }
 {

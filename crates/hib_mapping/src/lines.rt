@@ -93,6 +93,7 @@ pub fn entity_kind(mapping: &[EntityDef], followed: bool, tokens: &[Token]) -> O
     }
 }
 
+/// What is wrong with an entity line that has its form, `followed` or not by a line of a column.
 fn parts_kind(
     mapping: &[EntityDef],
     followed: bool,
@@ -139,8 +140,8 @@ pub fn entity(alloc: Global, tokens: &[Token]) -> Result<Option<EntityDef>, Allo
     }))
 }
 
-/// Whether a line that begins with `column` is `column NAME TYPE`, where TYPE is a word, or `ref` and an entity's name, or has
-/// this and after it `default` and a cell.
+/// Whether a line that begins with `column` is `column NAME TYPE`, where TYPE is a word, or `ref` and an entity's name,
+/// or has this and after it `default` and a cell.
 pub fn is_column_line(tokens: &[Token]) -> bool
     ensures { result ≡ lines.is_column_line tokens.now }
 {
@@ -193,7 +194,8 @@ fn is_default(word: &Token, cell: &Token) -> bool
     is_the_word(word, b"default") && is_a_cell(cell)
 }
 
-/// Of the tokens after a column's name, those of its type.
+/// Of the tokens after a column's name, those of its type: one, or `ref` and an entity. The word `default` and a cell
+/// may follow.
 #[tactic(auto, using(crate::proofs::Columns::type_of_three, crate::proofs::Columns::type_of_four, crate::proofs::Columns::type_of_others))]
 fn type_tokens(tokens: &[Token]) -> &[Token]
     ensures { result.now ≡ lines.type_in tokens.now }
@@ -257,6 +259,7 @@ fn type_kind(mapping: &[EntityDef], entity: &EntityDef, tokens: &[Token]) -> Opt
     }
 }
 
+/// What is wrong with a column line, if no type was found.
 fn kind_unless_type(found: Option<ColumnType>) -> Option<Kind>
     ensures { result ≡ lines.kind_unless Kind.ColumnType found }
 {
@@ -266,6 +269,7 @@ fn kind_unless_type(found: Option<ColumnType>) -> Option<Kind>
     }
 }
 
+/// What is wrong with a column line, if the entity to which it refers was not found.
 fn kind_unless_target(found: Option<EntityNo>) -> Option<Kind>
     ensures { result ≡ lines.kind_unless Kind.RefUnknown found }
 {

@@ -77,10 +77,10 @@ fn first_torn(alloc: Global, merged: &Journal, mine: &Lists) -> Result<Option<To
     torn_tick(alloc, entries)
 }
 
-/// None if the list of each session, at the place of its number, is its entries in the merged list, each entry is of one of these
-/// sessions, and each tick is the one that is due. Else where the lists part: the first place of the first session, or the first
-/// entry of none of the sessions. If the lists don't part, it is the first entry with another tick.
-/// Fails for want of memory alone.
+/// None if the list of each session, at the place of its number, is its entries in the merged list, each entry is of
+/// one of these sessions, and each tick is the one that is due. Else where the lists part: the first place of the first
+/// session, or the first entry of none of the sessions. If the lists don't part, it is the first entry with another
+/// tick. Fails for want of memory alone.
 pub fn agree(alloc: Global, merged: &Journal, mine: &Lists) -> Result<Option<Torn>, AllocError>
     ensures torn { IfOk result (λ o. MatchOption o (IsWhole mine.now merged.now)
         (IsTorn mine.now merged.now)) }

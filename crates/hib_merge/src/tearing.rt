@@ -4,7 +4,8 @@ use hib_base::{EntityNo, Entry, Tick};
 /// Lists or ticks that don't fit together.
 #[derive(Drop)]
 pub enum Torn {
-    /// A session's list and its entries in the merged list differ at a place. None stands for the end of the one or of the other.
+    /// A session's list and its entries in the merged list differ at a place. None stands for the end of the one or of
+    /// the other.
     Lists {
         /// The entry of the session's list.
         mine: Option<Entry>,

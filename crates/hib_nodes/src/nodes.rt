@@ -274,7 +274,7 @@ impl<K: Keeper, N: Name> Nodes<K, N> {
         *self.places.orders.at(at)
     }
 
-    /// The journal is short. It does nothing.
+    /// The journal is short, so that no tick runs over. It does nothing.
     pub fn short(&self)
         ensures { length (past self.now.journal) ≤ 2 ^ 62 }
     {

@@ -22,10 +22,10 @@ ghost use Rattle.std.specs.Prelude.{◌≡◌, ◌∷◌, ℕ, Option, Some};
 
 pub use nodes::{NodeEntry, NodeOrder, NodeOrders, Nodings, Places};
 
-/// At every entry, for each node and each read-write key that is sound there: the node's item, if there is one, is the row
-/// that was committed just after the entry that gave it, and a hit answers it; each later commit on the key is behind or
-/// comes after one that is, and there are no more of them than are behind; and once the node's queue is empty the item is the
-/// committed row.
+/// At every entry, for each node and each read-write key that is sound there: the node's item, if there is one, is the
+/// row that was committed just after the entry that gave it, and a hit answers it; each later commit on the key is
+/// behind or comes after one that is, and there are no more of them than are behind; and once the node's queue is empty
+/// the item is the committed row.
 pub fn nodes_cohere()
     ensures items { (script : Script) (start : Tables) (places : Nodings) (n : ℕ) (k : Key)
         → strategy script k.entity ≡ Strategy.ReadWrite → (h : Noded)
@@ -38,14 +38,16 @@ pub fn steps_are_in_order()
         → AreNodesLegal script told places h → InOrder (plan_of script s) (own s (entries h)) }
 {}
 
-/// A journal is legal if each entry comes in its turn, and the list of each part and that of each session is legal by itself.
+/// A journal is legal if each entry comes in its turn, and the list of each part and that of each session is legal by
+/// itself.
 pub fn apart_is_legal()
     ensures legal { (script : Script) (told : Option Tables) (places : Nodings) (h : Noded)
         → AreInTurn script places h → AreNodesApart script told h
         → AreNodesLegal script told places h }
 {}
 
-/// Of a legal journal each entry comes in its turn, and the list of each part and that of each session is legal by itself.
+/// Of a legal journal each entry comes in its turn, and the list of each part and that of each session is legal by
+/// itself.
 pub fn legal_is_apart()
     ensures turns { (script : Script) (told : Option Tables) (places : Nodings) (h : Noded)
         → AreNodesLegal script told places h → AreInTurn script places h }
@@ -53,8 +55,8 @@ pub fn legal_is_apart()
         → AreNodesLegal script told places h → AreNodesApart script told h }
 {}
 
-/// The committed rows and the counts of a legal journal are those of the store's list, and a node's floor is that of the list
-/// of its registry.
+/// The committed rows and the counts of a legal journal are those of the store's list, and a node's floor is that of
+/// the list of its registry.
 pub fn parts_tell()
     ensures told { (script : Script) (told : Option Tables) (places : Nodings) (h : Noded)
         → AreNodesLegal script told places h → AreOfParts h }

@@ -1,4 +1,5 @@
-//! The law of orders: what an order of steps makes of a script, and that a search of orders misses none and tries none twice.
+//! The law of orders: what an order of steps makes of a script, and that a search of orders misses none and tries none
+//! twice.
 //!
 //! Beside `Step`, `Turn` and `Verdicts` the crate has no code. Each other function has an empty body, and its `ensures` is a theorem over
 //! all scripts, all rows at the start and all journals. `specs/Orders` says what an order is, what its switches are and what its kills,
@@ -20,8 +21,8 @@ mod verdicts;
 pub use step::{Step, Turn};
 pub use verdicts::Verdicts;
 
-/// A legal journal of sessions and kills alone, without faults, is the one that its order makes of the script and the rows at the start:
-/// who makes each step, and who is killed when, decides all of it.
+/// A legal journal of sessions and kills alone, without faults, is the one that its order makes of the script and the
+/// rows at the start: who makes each step, and who is killed when, decides all of it.
 pub fn orders_decide()
     ensures makes { (script : Script) (start : Tables) (h : Journal)
         → IsUndisturbed script start h → h ≡ made script start (steps_in h) }
@@ -30,9 +31,10 @@ pub fn orders_decide()
         → h ≡ g }
 {}
 
-/// Of two runs that begin with the same steps, and of which the first kills no session after these, one is the other, or it begins as
-/// another order of that one does, and leaves it at a step after these. So whoever has played one, and will play an order for each of those
-/// beginnings, misses none; nor does he miss one with few switches and few kills if he plays those beginnings alone that have as few.
+/// Of two runs that begin with the same steps, and of which the first kills no session after these, one is the other,
+/// or it begins as another order of that one does, and leaves it at a step after these. So whoever has played one, and
+/// will play an order for each of those beginnings, misses none; nor does he miss one with few switches and few kills
+/// if he plays those beginnings alone that have as few.
 pub fn others_cover()
     ensures covered { (script : Script) (start : Tables) (most_kills : ℕ) (begun : List Step)
         (es ds : List Entry) → IsRun script start most_kills es → IsRun script start most_kills ds
@@ -43,8 +45,8 @@ pub fn others_cover()
         × (cost (steps_in es) other ≤ switches (steps_in ds))) }
 {}
 
-/// An order doesn't begin as another order of it does, no order begins as two of these do, and each of these goes on from the
-/// steps that all share.
+/// An order doesn't begin as another order of it does, no order begins as two of these do, and each of these goes on
+/// from the steps that all share.
 pub fn others_are_apart()
     ensures differ { (script : Script) (n : ℕ) (es : List Entry) (other : List Step)
         → IsOther script [] n es other → begins other (steps_in es) ≡ true → ⊥ }
@@ -63,11 +65,12 @@ pub fn others_can_begin()
         → can_begin script start [] other ≡ true }
 {}
 
-/// A search in which the empty beginning waits at first, which plays at each step a run that begins as one that waits and kills no session
-/// after that, and then lets those beginnings of its other orders wait that cost no more switches than its level and have no more kills than
-/// are let, and tries those runs that make just as many switches, misses no run within its level, and tries none twice; what waits can
-/// begin, and has no more kills than are let. If nothing waits any more, and it goes on to the next level with the empty beginning, then it
-/// has tried all within the levels before. If it was never told of an order that makes more, then it has tried all that there are.
+/// A search in which the empty beginning waits at first, which plays at each step a run that begins as one that waits
+/// and kills no session after that, and then lets those beginnings of its other orders wait that cost no more switches
+/// than its level and have no more kills than are let, and tries those runs that make just as many switches, misses no
+/// run within its level, and tries none twice; what waits can begin, and has no more kills than are let. If nothing
+/// waits any more, and it goes on to the next level with the empty beginning, then it has tried all within the levels
+/// before. If it was never told of an order that makes more, then it has tried all that there are.
 pub fn searches_are_complete()
     ensures begins { (script : Script) (start : Tables) (most_kills most : ℕ)
         → IsSearch script start most_kills most 0 [] [] ([] ∷ []) false }

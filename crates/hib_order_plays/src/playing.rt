@@ -89,8 +89,8 @@ fn run_last<N: Name, K: Keeper, L: Listener>(
     }
 }
 
-/// Makes these steps, which are due, and then runs the session of the last one to its end, and then each. After these steps no session
-/// is killed.
+/// Makes these steps, which are due, and then runs the session of the last one to its end, and then each. After these
+/// steps no session is killed.
 fn follow<N: Name, K: Keeper, L: Listener>(
     alloc: Global,
     factory: &mut Factory<K, N, L>,
@@ -153,9 +153,9 @@ fn play_over<N: Name, L: Listener + Drop>(
     })
 }
 
-/// Plays a run that begins with these steps, each of which may come at its turn, in the factory of this name, over a new keeper in
-/// memory. After them the session of the last one goes on to its end, and then each, and no session is killed. Fails for want of
-/// memory alone.
+/// Plays a run that begins with these steps, each of which may come at its turn, in the factory of this name, over a
+/// new keeper in memory. After them the session of the last one goes on to its end, and then each, and no session is
+/// killed. Fails for want of memory alone.
 pub fn play_in<N: Name, L: Listener + Drop>(
     alloc: Global,
     script: Script,

@@ -14,16 +14,16 @@ ghost use Rattle.hib_order_schedule.specs.Schedules.{is_run_or_kill, may_be_sche
 ghost use Rattle.std.specs.List.{list_all};
 ghost use Rattle.std.specs.Prelude.{◌≡◌, ◌≤◌, ◌++◌, ℕ, List, [], Some, length, true};
 
-/// A run of a script is one of the script with another schedule: what a session does next and what it is answered doesn't depend on
-/// the schedule.
+/// A run of a script is one of the script with another schedule: what a session does next and what it is answered
+/// doesn't depend on the schedule.
 pub fn schedules_change_no_run()
     ensures same { (script : Script) (start : Tables) (most_kills : ℕ) (os : List Order)
         (es : List Entry) → IsRun script start most_kills es
         → IsRun (with_schedule script os) start most_kills es }
 {}
 
-/// A run is played by its script with any runs and kills as schedule that are its first steps, if the steps after them rise: so with
-/// all its runs and kills, and with those that a schedule has to say.
+/// A run is played by its script with any runs and kills as schedule that are its first steps, if the steps after them
+/// rise: so with all its runs and kills, and with those that a schedule has to say.
 pub fn schedules_play_orders()
     ensures plays { (script : Script) (start : Tables) (most_kills : ℕ) (os : List Order)
         (tail : List Step) (es : List Entry) → IsRun script start most_kills es
@@ -38,8 +38,8 @@ pub fn schedules_play_orders()
         → is_played (with_schedule script (shown (steps_in es))) (onto es []) ≡ true }
 {}
 
-/// Two journals of sessions and kills alone, without faults, that one script plays are the same: its schedule decides what it plays.
-/// If the schedule has runs and kills alone, then whatever it plays without faults is such a journal.
+/// Two journals of sessions and kills alone, without faults, that one script plays are the same: its schedule decides
+/// what it plays. If the schedule has runs and kills alone, then whatever it plays without faults is such a journal.
 pub fn schedules_decide()
     ensures once { (script : Script) (start : Tables) (h g : Journal)
         → IsUndisturbed script start h → IsUndisturbed script start g
@@ -70,8 +70,8 @@ pub fn whole_runs_come_again()
         → h ≡ onto es [] }
 {}
 
-/// The runs and kills that a schedule has to say of a run may be the schedule of its script, if there are 20,000 at most and the run
-/// has 1,000,000 steps at most.
+/// The runs and kills that a schedule has to say of a run may be the schedule of its script, if there are 20,000 at
+/// most and the run has 1,000,000 steps at most.
 pub fn shown_runs_fit()
     ensures fits { (script : Script) (start : Tables) (most_kills : ℕ) (es : List Entry)
         → IsRun script start most_kills es

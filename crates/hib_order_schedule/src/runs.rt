@@ -73,8 +73,8 @@ fn tail_place(order: &[Step]) -> usize
     0
 }
 
-/// The runs and kills that a schedule has to say to play an order: those before the longest tail that brings each session to its
-/// end in order of number. Fails for want of memory alone.
+/// The runs and kills that a schedule has to say to play an order: those before the longest tail that brings each
+/// session to its end in order of number. Fails for want of memory alone.
 pub fn schedule_of(alloc: Global, order: &[Step]) -> Result<Vec<Order>, AllocError>
     requires { length order.now < 2 ^ 32 }
     ensures { IfOk result (λ v. v.items ≡ shown order.now) }

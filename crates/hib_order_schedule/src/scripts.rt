@@ -24,8 +24,8 @@ fn may_be_run_or_kill(sessions: usize, order: Order) -> bool
     }
 }
 
-/// Whether a script may have these orders as its schedule: each is a run of one of its sessions, of 1 to 1,000,000 steps, or kills
-/// one of them, and there are 20,000 at most.
+/// Whether a script may have these orders as its schedule: each is a run of one of its sessions, of 1 to 1,000,000
+/// steps, or kills one of them, and there are 20,000 at most.
 pub fn may_have_schedule(script: &Script, schedule: &[Order]) -> bool
     ensures { result ≡ may_be_schedule (length script.now.sessions) schedule.now }
 {

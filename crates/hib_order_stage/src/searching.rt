@@ -51,9 +51,9 @@ fn search_in<N: Name, W: Watcher + Drop>(
     }
 }
 
-/// Tries the orders of a script's sessions within a number of switches and a number of kills, those with the fewest switches first, and
-/// so many of them at most, each by a new factory from the script's rows. Each order is tried once. The watcher hears of each run
-/// that is played. Fails for want of memory alone.
+/// Tries the orders of a script's sessions within a number of switches and a number of kills, those with the fewest
+/// switches first, and so many of them at most, each by a new factory from the script's rows. Each order is tried once.
+/// The watcher hears of each run that is played. Fails for want of memory alone.
 pub fn search_orders<W: Watcher + Drop>(
     alloc: Global,
     script: Script,

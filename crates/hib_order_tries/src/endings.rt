@@ -51,6 +51,7 @@ fn mark_of(outcome: Outcome) -> u8
     }
 }
 
+/// A byte for each outcome: the key by which endings are found.
 fn marks_of(alloc: Global, outcomes: &[Outcome]) -> Result<Vec<u8>, AllocError>
     ensures { IfOk result (λ v. v.items ≡ marks_of outcomes.now) }
 {

@@ -8,7 +8,7 @@ ghost use Rattle.std.specs.Prelude.{length, drop};
 use hib_order_law::Step;
 use std::alloc::{AllocError, Global};
 
-/// Whether a step of a session is among these.
+/// Whether a step of a session is among these, so that it comes again.
 pub fn is_among(steps: &[Step], session: u32) -> bool
     ensures { result ≡ comes session steps.now }
 {

@@ -11,8 +11,9 @@ use std::alloc::{AllocError, Global};
 use std::marker::Model;
 use std::mem::swap;
 
-/// Rows with their stamps by identifier, in order of insertion, and how many there may be. So that the oldest leaves without moving
-/// the others, those that were there when one had to leave are kept in the order from the newest to the oldest.
+/// Rows with their stamps by identifier, in order of insertion, and how many there may be. So that the oldest leaves
+/// without moving the others, those that were there when one had to leave are kept in the order from the newest to the
+/// oldest.
 #[derive(Drop)]
 pub struct Items {
     // The older ones, the oldest last.

@@ -1,6 +1,6 @@
-//! The law that what a script says decides what may be told of it: which journals are legal, and the texts of them. A text
-//! is read as a script in memory, whose conditions stand at some places there; so what holds of one holds of each that
-//! says the same. The crate has no code: each function has an empty body, and its `ensures` is the theorem.
+//! The law that what a script says decides what may be told of it: which journals are legal, and the texts of them. A
+//! text is read as a script in memory, whose conditions stand at some places there; so what holds of one holds of each
+//! that says the same. The crate has no code: each function has an empty body, and its `ensures` is the theorem.
 #![tactic(auto)]
 
 ghost use Rattle.hib_base.specs.Tables.{Tables};

@@ -7,8 +7,9 @@ pub trait Gate: Sync {
     /// are more. It promises nothing.
     fn pass(&self, session: SessionNo, place: u32);
 
-    /// For gates that never hold a worker: whether a gate has to be passed before each step, as one that may hold has to be. If it
-    /// answers that it hasn't, a worker that keeps a lock for several steps passes it once for all of them. It promises nothing.
+    /// For gates that never hold a worker: whether a gate has to be passed before each step, as one that may hold has
+    /// to be. If it answers that it hasn't, a worker that keeps a lock for several steps passes it once for all of
+    /// them. It promises nothing.
     fn may_hold(&self) -> bool {
         true
     }

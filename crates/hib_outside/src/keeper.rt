@@ -70,9 +70,9 @@ pub trait Keeper: Send {
     /// How often it was asked for rows.
     ghost asked: { Self → ℕ };
 
-    /// Gives each row that it keeps of an entity of this mapping, if the row lacks columns, the defaults of the columns that
-    /// it lacks, if each of these has one. Then it adds in order each of these rows whose key has none. It does all of this,
-    /// or at an error nothing.
+    /// Gives each row that it keeps of an entity of this mapping, if the row lacks columns, the defaults of the columns
+    /// that it lacks, if each of these has one. Then it adds in order each of these rows whose key has none. It does
+    /// all of this, or at an error nothing.
     fn seed(
         &mut self,
         alloc: Global,

@@ -1,5 +1,5 @@
-//! Rows in order of keys, parted at a place: those behind it stand in a list of their own, the last one first. Near the place rows
-//! come and go without moving others.
+//! Rows in order of keys, parted at a place: those behind it stand in a list of their own, the last one first. Near the
+//! place rows come and go without moving others.
 ghost use Rattle.std.specs.Prelude.{◌≡◌, ◌+◌, ◌≤◌, ◌<◌, true, false, length, reverse, Err, vec_len, vec_capacity};
 ghost use Rattle.hib_base.specs.declared.numbers.Key.{Key as KeyOf};
 ghost use Rattle.hib_base.specs.Tables.{in_order, tables_with};
@@ -99,7 +99,8 @@ fn drop_same(back: &mut Vec<(Key, Row)>, key: &Key)
     }
 }
 
-/// Gives a key this row, or takes its row out if there is none; then the rows are parted there. There is room for one row more.
+/// Gives a key this row, or takes its row out if there is none; then the rows are parted there. There is room for one
+/// row more.
 pub fn set(front: &mut Vec<(Key, Row)>, back: &mut Vec<(Key, Row)>, key: Key, row: Option<Row>)
     requires ordered { in_order (joined front.old.items back.old.items) ≡ true }
     requires front_room { vec_len front.old + vec_len back.old < vec_capacity front.old }

@@ -142,8 +142,8 @@ fn widened_entry(
     Ok((entry.0, entry.1.widened(alloc, columns)?))
 }
 
-/// Equal rows, except that a row of an entity of this mapping that lacks columns has their defaults at its end, if each of these
-/// columns has one.
+/// Equal rows, except that a row of an entity of this mapping that lacks columns has their defaults at its end, if each
+/// of these columns has one.
 pub fn widened(
     alloc: Global,
     mapping: &[EntityDef],
@@ -236,7 +236,8 @@ fn is_sweep(changes: &[Change], rows: usize) -> bool {
     rises || falls
 }
 
-/// Does changes one after another, each where the rows were parted for it. There is room for as many rows more, also behind the place.
+/// Does changes one after another, each where the rows were parted for it. There is room for as many rows more, also
+/// behind the place.
 #[tactic(auto, using(crate::proofs::Commits::after_changes_push, crate::proofs::Orders::in_order_change))]
 fn sweep(rows: &mut Vec<(Key, Row)>, back: &mut Vec<(Key, Row)>, changes: Vec<Change>)
     requires ordered { in_order rows.old.items ≡ true }

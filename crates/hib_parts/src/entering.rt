@@ -14,7 +14,8 @@ use hib_engines::Name;
 use hib_journal::Journal;
 use std::alloc::{AllocError, Global};
 
-/// The act that is due, twice. Both lists have room for its entry then, and the session is ready for it. The lists stay as they are.
+/// The act that is due, twice. Both lists have room for its entry then, and the session is ready for it. The lists stay
+/// as they are.
 pub fn prepared<N: Name>(
     alloc: Global,
     script: &Script,
@@ -39,8 +40,8 @@ pub fn prepared<N: Name>(
     Ok((act, twin))
 }
 
-/// Adds the entry of the act that is due to both lists, which have room for it, or to neither. Of a session that is ready it
-/// answers Ok, unless the act brings something to the session.
+/// Adds the entry of the act that is due to both lists, which have room for it, or to neither. Of a session that is
+/// ready it answers Ok, unless the act brings something to the session.
 pub fn enter_both<N: Name>(
     alloc: Global,
     script: &Script,
@@ -75,8 +76,8 @@ pub fn enter_both<N: Name>(
     Ok(())
 }
 
-/// The same, with the reply once. Of a session that is ready it answers Ok for a reply that owns no memory, unless the act brings
-/// something to the session.
+/// The same, with the reply once. Of a session that is ready it answers Ok for a reply that owns no memory, unless the
+/// act brings something to the session.
 pub fn enter_answer<N: Name>(
     alloc: Global,
     script: &Script,

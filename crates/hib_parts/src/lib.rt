@@ -1,7 +1,7 @@
 //! Parts under locks of their own: each part by itself and each session by itself, with the list of its own entries.
 //!
-//! A part's type keeps that its list is legal by itself, and a worker's type keeps that of its session's. What holds of the one
-//! list into which they are merged is said by `hib_split_law`.
+//! A part's type keeps that its list is legal by itself, and a worker's type keeps that of its session's. What holds of
+//! the one list into which they are merged is said by `hib_split_law`.
 #![tactic(auto)]
 
 mod copied;

@@ -58,8 +58,9 @@ fn open_regions<N: Name>(alloc: Global, script: &Script) -> Result<Vec<RegionPar
 }
 
 impl<K: Keeper, N: Name> Parts<K, N> {
-    /// The parts of the factory of this name, in which no session has begun. The keeper is seeded with the script's rows, each of which
-    /// it takes if its key has none. At an error the keeper is handed back, with the rows that it had.
+    /// The parts of the factory of this name, in which no session has begun. The keeper is seeded with the script's
+    /// rows, each of which it takes if its key has none. At an error the keeper is handed back, with the rows that it
+    /// had.
     pub fn open(alloc: Global, script: &Script, keeper: K) -> Result<Parts<K, N>, OpenFault<K>>
         requires script { script.now ≡ N.script }
         requires valid { is_valid N.script ≡ true }

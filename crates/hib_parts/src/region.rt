@@ -85,8 +85,8 @@ impl<N: Name> RegionPart<N> {
         &self.list
     }
 
-    /// One act of a session: the act that is due in it, which is on this region, is answered at this tick, which is after the last
-    /// ticks of both. Its entry goes to both lists. If memory runs out both lists are as before.
+    /// One act of a session: the act that is due in it, which is on this region, is answered at this tick, which is
+    /// after the last ticks of both. Its entry goes to both lists. If memory runs out both lists are as before.
     pub fn serve(
         &mut self,
         alloc: Global,
@@ -111,8 +111,8 @@ impl<N: Name> RegionPart<N> {
         Ok(())
     }
 
-    /// A fence of a key of this region: its lock is taken at this tick, which is after the last one, for no session, and given back at
-    /// the next one. Both entries are added, or if memory runs out none is, and nothing has changed.
+    /// A fence of a key of this region: its lock is taken at this tick, which is after the last one, for no session,
+    /// and given back at the next one. Both entries are added, or if memory runs out none is, and nothing has changed.
     pub fn fence(&mut self, key: Key, floor: Tick, now: Tick) -> Result<(), AllocError>
         requires entity { key.entity ≡ self.old.entity }
         requires strategy { strategy N.script key.entity ≡ Strategy.ReadWrite }

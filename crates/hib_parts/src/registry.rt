@@ -87,9 +87,9 @@ impl<N: Name> RegistryPart<N> {
         let _ = &self.list;
     }
 
-    /// One act of a session: the Begin or the End that is due in it is answered at this tick, which is after the last ticks of both.
-    /// Its entry goes to both lists. A session that is open in the list, by another worker of its number, begins anew. If memory
-    /// runs out both lists are as before.
+    /// One act of a session: the Begin or the End that is due in it is answered at this tick, which is after the last
+    /// ticks of both. Its entry goes to both lists. A session that is open in the list, by another worker of its
+    /// number, begins anew. If memory runs out both lists are as before.
     pub fn serve(
         &mut self,
         alloc: Global,

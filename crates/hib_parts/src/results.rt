@@ -22,8 +22,8 @@ use hib_query_cache::Results;
 use std::alloc::{AllocError, Global};
 use std::marker::{Model, PhantomData};
 
-/// The results of queries, with the list of their entries, which is legal by itself. They are kept here and not in their engine: a
-/// look changes the order of use, so its reply has to be there for both lists before that.
+/// The results of queries, with the list of their entries, which is legal by itself. They are kept here and not in
+/// their engine: a look changes the order of use, so its reply has to be there for both lists before that.
 #[derive(Drop)]
 pub struct ResultsPart<N: Name> {
     results: Results,
@@ -70,7 +70,7 @@ fn use_result(results: &mut Results, query: QueryNo)
     let _ = results.look(query);
 }
 
-/// A look, with its reply twice.
+/// A look for a kept result, with its reply twice: for the list of the part and for that of the session.
 fn look_twice(
     alloc: Global,
     results: &mut Results,
@@ -171,8 +171,8 @@ impl<N: Name> ResultsPart<N> {
         &self.list
     }
 
-    /// One act of a session: the act that is due in it, which is on the results, is answered at this tick, which is after the last
-    /// ticks of both. Its entry goes to both lists. If memory runs out both lists are as before.
+    /// One act of a session: the act that is due in it, which is on the results, is answered at this tick, which is
+    /// after the last ticks of both. Its entry goes to both lists. If memory runs out both lists are as before.
     pub fn serve(
         &mut self,
         alloc: Global,

@@ -73,8 +73,8 @@ impl<N: Name> StampsPart<N> {
         &self.list
     }
 
-    /// One act of a session: the act that is due in it, which is on the stamps, is answered at this tick, which is after the last
-    /// ticks of both. Its entry goes to both lists. If memory runs out both lists are as before.
+    /// One act of a session: the act that is due in it, which is on the stamps, is answered at this tick, which is
+    /// after the last ticks of both. Its entry goes to both lists. If memory runs out both lists are as before.
     pub fn serve(
         &mut self,
         alloc: Global,

@@ -87,8 +87,8 @@ fn serve_store<K: Keeper, N: Name>(
 }
 
 impl<K: Keeper, N: Name> StorePart<K, N> {
-    /// The store over a keeper whose rows are widened to the script's mapping, and which takes each of the script's rows if its key
-    /// has none. At an error the keeper is handed back, with the rows that it had.
+    /// The store over a keeper whose rows are widened to the script's mapping, and which takes each of the script's
+    /// rows if its key has none. At an error the keeper is handed back, with the rows that it had.
     pub fn open(alloc: Global, script: &Script, keeper: K) -> Result<StorePart<K, N>, OpenFault<K>>
         requires script { script.now ≡ N.script }
         requires built { IsBuilt N.script }
@@ -142,9 +142,9 @@ impl<K: Keeper, N: Name> StorePart<K, N> {
         self.refused
     }
 
-    /// One act of a session: the act that is due in it, which is on the store, is answered at this tick, which is after the last
-    /// ticks of both. Its entry goes to both lists, with a fault only if the keeper failed. If memory runs out both lists are as before, the keeper was asked once at
-    /// most, and `refused` says so from then on.
+    /// One act of a session: the act that is due in it, which is on the store, is answered at this tick, which is after
+    /// the last ticks of both. Its entry goes to both lists, with a fault only if the keeper failed. If memory runs out
+    /// both lists are as before, the keeper was asked once at most, and `refused` says so from then on.
     pub fn serve(
         &mut self,
         alloc: Global,
@@ -178,8 +178,8 @@ impl<K: Keeper, N: Name> StorePart<K, N> {
         }
     }
 
-    /// The keeper, and the entries, which are legal by themselves. What the keeper tells is what the entries leave, it has failed as
-    /// often as they say, and unless memory ran out in a call it was asked no more often than they say.
+    /// The keeper, and the entries, which are legal by themselves. What the keeper tells is what the entries leave, it
+    /// has failed as often as they say, and unless memory ran out in a call it was asked no more often than they say.
     pub fn close(self) -> (K, Journal)
         ensures list { past result.1 ≡ self.list }
         ensures legal { IsPartLegal N.script N.from.tables (past result.1) }

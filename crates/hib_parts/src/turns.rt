@@ -23,8 +23,8 @@ use hib_journal::part_of;
 use hib_outside::Keeper;
 use std::alloc::{AllocError, Global};
 
-/// The tick of a step: one more than the greater of the last ticks of its part and of its session. If there is none after that,
-/// want of memory is answered: no memory holds as many entries as that.
+/// The tick of a step: one more than the greater of the last ticks of its part and of its session. If there is none
+/// after that, want of memory is answered: no memory holds as many entries as that.
 fn tick_of(part: Tick, session: Tick) -> Result<Tick, AllocError>
     requires part { part ≤ 2 ^ 62 }
     requires session { session ≤ 2 ^ 62 }
@@ -37,8 +37,9 @@ fn tick_of(part: Tick, session: Tick) -> Result<Tick, AllocError>
     }
 }
 
-/// One act of a session on the registry: the act that is due in it is answered at the tick that is due, one more than the greater of
-/// the last ticks of both, and its entry goes to both lists. If memory runs out, or no tick is left, both lists are as before.
+/// One act of a session on the registry: the act that is due in it is answered at the tick that is due, one more than
+/// the greater of the last ticks of both, and its entry goes to both lists. If memory runs out, or no tick is left,
+/// both lists are as before.
 pub fn step_registry<N: Name>(
     alloc: Global,
     script: &Script,
@@ -144,7 +145,8 @@ pub fn step_region<N: Name>(
     Ok(())
 }
 
-/// One act of a session that is its own: the session answers it at the tick after its last one. At an error its list is as before.
+/// One act of a session that is its own: the session answers it at the tick after its last one. At an error its list is
+/// as before.
 pub fn step_own<N: Name>(
     alloc: Global,
     script: &Script,
@@ -234,9 +236,9 @@ impl<K: Keeper, N: Name> Parts<K, N> {
         }
     }
 
-    /// One step of a session, which is made ready first: the act that is due in it, if one is, at the tick that is due. If memory
-    /// runs out no list has an entry more. The lists of parts and of sessions are those of one journal, if they were before; and if
-    /// sessions came one after the other in it, they still do.
+    /// One step of a session, which is made ready first: the act that is due in it, if one is, at the tick that is due.
+    /// If memory runs out no list has an entry more. The lists of parts and of sessions are those of one journal, if
+    /// they were before; and if sessions came one after the other in it, they still do.
     pub fn step(
         &mut self,
         alloc: Global,
@@ -264,8 +266,8 @@ impl<K: Keeper, N: Name> Parts<K, N> {
         Ok(Stepped::Did)
     }
 
-    /// Steps a session to its end. If memory runs out the steps so far stand. Else the lists of parts and of sessions are those of one
-    /// journal, if they were before; and if sessions came one after the other in it, they still do.
+    /// Steps a session to its end. If memory runs out the steps so far stand. Else the lists of parts and of sessions
+    /// are those of one journal, if they were before; and if sessions came one after the other in it, they still do.
     pub fn finish(
         &mut self,
         alloc: Global,

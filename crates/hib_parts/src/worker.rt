@@ -162,8 +162,8 @@ impl<N: Name> Worker<N> {
         Ok(reply)
     }
 
-    /// Makes the session ready for its next act, with room for one more entry. Then `enter` takes memory for an entry alone that
-    /// brings something to the session. Its entries stay as they are.
+    /// Makes the session ready for its next act, with room for one more entry. Then `enter` takes memory for an entry
+    /// alone that brings something to the session. Its entries stay as they are.
     pub fn ready(&mut self, alloc: Global, script: &Script) -> Result<(), AllocError>
         requires { script.now ≡ N.script }
         ensures kept { IsKept self.old self.new }
@@ -176,8 +176,8 @@ impl<N: Name> Worker<N> {
         Ok(())
     }
 
-    /// Takes the entry of the act that is due, for which there is room. Of a session that is ready it answers Ok, unless the
-    /// act brings something to the session. At an error its entries are as before.
+    /// Takes the entry of the act that is due, for which there is room. Of a session that is ready it answers Ok,
+    /// unless the act brings something to the session. At an error its entries are as before.
     pub fn enter(&mut self, alloc: Global, script: &Script, entry: Entry) -> Result<(), AllocError>
         requires script { script.now ≡ N.script }
         requires room { 0 < self.old.spare }
@@ -220,8 +220,8 @@ impl<N: Name> Worker<N> {
         }
     }
 
-    /// The act that is due, which is the session's own, is answered by the session at this tick, which is after its last one. If
-    /// memory runs out its entries are as before.
+    /// The act that is due, which is the session's own, is answered by the session at this tick, which is after its
+    /// last one. If memory runs out its entries are as before.
     pub fn own(&mut self, alloc: Global, script: &Script, now: Tick) -> Result<(), AllocError>
         requires script { script.now ≡ N.script }
         requires due { IsDueOn N.script (Part.Own self.old.number) self.old }

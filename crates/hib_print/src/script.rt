@@ -34,9 +34,10 @@ fn print_head(alloc: Global, printer: &mut Printer, script: &Script) -> Result<(
     print_counted(alloc, printer, b"results", u64::from(script.results))
 }
 
-/// The text of a script: each line with single spaces between tokens, none after an opening parenthesis and none before a
-/// closing one. `timeout` and `results` are printed always, and `offset` and `limit` of each query but a count; a schedule
-/// is if it has orders. A number that the script doesn't know prints as nothing. Fails for want of memory alone.
+/// The text of a script: each line with single spaces between tokens, none after an opening parenthesis and none before
+/// a closing one. `timeout` and `results` are printed always, and `offset` and `limit` of each query but a count; a
+/// schedule is if it has orders. A number that the script doesn't know prints as nothing. Fails for want of memory
+/// alone.
 #[tactic(auto, unfolding(crate::specs::Printed::printed))]
 pub fn print(alloc: Global, script: &Script) -> Result<Bytes, AllocError>
     ensures { IfOk result (λ b. b ≡ printed script.now) }

@@ -268,8 +268,8 @@ fn among_at(
     referring(alloc, places, found.as_slice())
 }
 
-/// The identifiers of the rows of an entity that meet a condition, and perhaps of others, in any order. None if the columns
-/// don't narrow the condition.
+/// The identifiers of the rows of an entity that meet a condition, and perhaps of others, in any order. None if the
+/// columns don't narrow the condition.
 pub fn candidates(
     alloc: Global,
     columns: &[Column],
@@ -298,8 +298,8 @@ pub fn candidates(
     }
 }
 
-/// Whether the columns find more rows of an entity for a condition than this, as far as that is quickly told. What is listed doesn't
-/// depend on it.
+/// Whether the columns find more rows of an entity for a condition than this, as far as that is quickly told. What is
+/// listed doesn't depend on it.
 pub fn is_wide(
     alloc: Global,
     columns: &[Column],

@@ -78,8 +78,8 @@ fn is_passed_here(row: &Row, column: u16, op: Op, cell: &Cell) -> bool
     }
 }
 
-/// Whether a row meets a query's condition, if it has one. A comparison of a cell of its own, which most rows are tested by, comes
-/// first.
+/// Whether a row meets a query's condition, if it has one. A comparison of a cell of its own, which most rows are
+/// tested by, comes first.
 #[inline]
 pub fn meets<'a>(view: &'a View<'_>, row: &'a Row, cond: &Option<Cond>) -> bool
     ensures { result ≡ option_map_or (holds view.now row.now) cond.now true }

@@ -121,8 +121,8 @@ fn start(alloc: Global, query: &Query, sort: &Sort) -> Result<Option<Value>, All
     }
 }
 
-/// How far a walk along a column goes: to a number of rows that a query lists, in at most a number of steps. If it is sure, the
-/// query lists each row from the first one on that it lists.
+/// How far a walk along a column goes: to a number of rows that a query lists, in at most a number of steps. If it is
+/// sure, the query lists each row from the first one on that it lists.
 #[derive(Clone, Copy)]
 struct Reach {
     most: usize,

@@ -74,8 +74,8 @@ impl Index {
         self.columns.as_slice()
     }
 
-    /// Makes ready for a query: rows are found from then on by the cells of the columns that its condition asks for. Fails for
-    /// want of memory alone.
+    /// Makes ready for a query: rows are found from then on by the cells of the columns that its condition asks for.
+    /// Fails for want of memory alone.
     pub fn ready(&mut self, alloc: Global, query: &Query) -> Result<(), AllocError>
         ensures { self.new ≡ self.old }
     {
@@ -103,8 +103,8 @@ impl Index {
         Ok(Index { rows, columns })
     }
 
-    /// The index after changes one after the other; none exactly if they don't apply so. At none and at an error the index
-    /// is dropped.
+    /// The index after changes one after the other; none exactly if they don't apply so. At none and at an error the
+    /// index is dropped.
     pub fn apply(self, alloc: Global, changes: &[Change]) -> Result<Option<Index>, AllocError>
         ensures { IfOk result (λ applied. MatchOption applied
             (commit_answer changes.now self ≢ Commit.Committed)

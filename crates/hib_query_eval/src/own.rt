@@ -20,8 +20,8 @@ pub struct Laid {
     pub left: Index,
 }
 
-/// A session's changes in the order in which they were written. Once a query was asked that reads what they touch, the rows that
-/// they leave are found by their cells, too. Contracts see the changes.
+/// A session's changes in the order in which they were written. Once a query was asked that reads what they touch, the
+/// rows that they leave are found by their cells, too. Contracts see the changes.
 #[derive(Drop)]
 pub struct Own {
     changes: Vec<Change>,
@@ -69,8 +69,8 @@ impl Own {
         Ok(())
     }
 
-    /// Makes ready for a query, if it reads a table that the changes touch: the rows that they leave are then found by their cells.
-    /// Fails for want of memory alone.
+    /// Makes ready for a query, if it reads a table that the changes touch: the rows that they leave are then found by
+    /// their cells. Fails for want of memory alone.
     pub fn lay(&mut self, alloc: Global, query: &Query) -> Result<(), AllocError>
         ensures { self.new ≡ self.old }
     {

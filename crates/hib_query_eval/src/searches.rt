@@ -84,7 +84,8 @@ fn rising(mut ids: Vec<u64>) -> Vec<u64>
     ids
 }
 
-/// Identifiers among which are those of all rows that meet a query's condition. None if the places don't narrow it much.
+/// Identifiers among which are those of all rows that meet a query's condition. None if the places don't narrow it
+/// much.
 fn narrowed(
     alloc: Global,
     query: &Query,
@@ -100,7 +101,8 @@ fn narrowed(
     }
 }
 
-/// Adds the identifiers of the rows that changes leave and that meet a query's condition, and perhaps of others whose keys are changed.
+/// Adds the identifiers of the rows that changes leave and that meet a query's condition, and perhaps of others whose
+/// keys are changed.
 fn add_left(
     alloc: Global,
     ids: &mut Vec<u64>,
@@ -123,8 +125,8 @@ fn add_left(
     add_changed(ids, query.entity, changes)
 }
 
-/// Identifiers among which are those of all rows that meet a query's condition once changes are laid over the rows of these places.
-/// None if the places don't narrow it much, or if the changes touch a table to which the condition steps.
+/// Identifiers among which are those of all rows that meet a query's condition once changes are laid over the rows of
+/// these places. None if the places don't narrow it much, or if the changes touch a table to which the condition steps.
 fn narrowed_over(
     alloc: Global,
     query: &Query,
@@ -147,8 +149,8 @@ fn narrowed_over(
     Ok(Some(ids))
 }
 
-/// As many rows as are enough, if the first rows have them. None if they don't, or if the places tell that few rows meet the
-/// condition.
+/// As many rows as are enough, if the first rows have them. None if they don't, or if the places tell that few rows
+/// meet the condition.
 fn listed_early<'a>(
     alloc: Global,
     query: &Query,
@@ -263,8 +265,8 @@ fn is_second(rows: &[(Key, Row)], at: usize, left: &[(Key, Row)], behind: usize)
     keyed::comes_before(&left[behind].0, &rows[at].0)
 }
 
-/// The rows that a query lists of a view, in order: of some rows, but those of changed keys, and of the rows that changes leave. Where
-/// a number is enough, no more than that.
+/// The rows that a query lists of a view, in order: of some rows, but those of changed keys, and of the rows that
+/// changes leave. Where a number is enough, no more than that.
 fn walked<'a>(
     alloc: Global,
     query: &Query,
@@ -310,8 +312,8 @@ fn many(rows: usize, most: Option<usize>) -> usize {
     }
 }
 
-/// The rows that a query lists of a view, which is that of rows with changes laid over them. Where a number is enough, perhaps no more
-/// than that.
+/// The rows that a query lists of a view, which is that of rows with changes laid over them. Where a number is enough,
+/// perhaps no more than that.
 pub fn listed_over<'a>(
     alloc: Global,
     query: &Query,

@@ -98,8 +98,8 @@ fn send_lines<W: Sink>(
     Ok(())
 }
 
-/// Writes the report of a journal, as `text` gives it, piece by piece: no more of it is in memory at a time than a piece and
-/// what comes after the entries. If the sink fails or memory runs out a front of it was taken.
+/// Writes the report of a journal, as `text` gives it, piece by piece: no more of it is in memory at a time than a
+/// piece and what comes after the entries. If the sink fails or memory runs out a front of it was taken.
 pub fn write<W: Sink>(
     alloc: Global,
     script: &Script,

@@ -90,8 +90,8 @@ fn unsound_named(
     Ok(keys)
 }
 
-/// The read-write keys that are not sound after these entries, in order. Where nothing was noted of any key, the entries are gone over
-/// once.
+/// The read-write keys that are not sound after these entries, in order. Where nothing was noted of any key, the
+/// entries are gone over once.
 pub fn unsound_keys(
     alloc: Global,
     script: &Script,

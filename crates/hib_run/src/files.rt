@@ -27,8 +27,8 @@ pub fn serve_file<R: Threads + Wait + Sync>(
     }
 }
 
-/// Does what the words say over a file, and closes it, so that it stands alone. Where closing fails, what was committed is in
-/// the log beside it.
+/// Does what the words say over a file, and closes it, so that it stands alone. Where closing fails, what was committed
+/// is in the log beside it.
 fn over_file<R: Threads + Wait + Sync>(
     rt: &R,
     host: &HostRuntime,

@@ -1,5 +1,6 @@
-//! Slots by identifier, in order of insertion, in two parts: those that were there when one had to leave stand from the newest to the
-//! oldest, so that the oldest leaves without moving the others; those that came since stand from the oldest to the newest.
+//! Slots by identifier, in order of insertion, in two parts: those that were there when one had to leave stand from the
+//! newest to the oldest, so that the oldest leaves without moving the others; those that came since stand from the
+//! oldest to the newest.
 ghost use Rattle.std.specs.Prelude.{◌≡◌, ◌≤◌, ◌<◌, ◌^◌, ℕ, None, Some, true, [], IsOk, OnOk, OnErr, nat_eq, is_some, option_copied};
 ghost use Rattle.std.specs.List.{IsDistinct};
 ghost use Rattle.std.specs.Map.{keys_of, lookup, remove_entry};

@@ -16,8 +16,8 @@ use std::alloc::{AllocError, Global};
 use std::marker::Model;
 
 /// The region of a read-write entity. Contracts see the capacity, the timeout, and the slots in order of insertion.
-/// Each `now` is greater than every tick that the region was given before. No call asks this: if it doesn't hold, a lock
-/// that has as many holders as `now` has ticks takes no more.
+/// Each `now` is greater than every tick that the region was given before. No call asks this: if it doesn't hold, a
+/// lock that has as many holders as `now` has ticks takes no more.
 #[derive(Drop)]
 pub struct RwRegion {
     front: IndexMap<u64, Slot>,

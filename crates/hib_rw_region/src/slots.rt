@@ -14,7 +14,8 @@ use hib_soft_lock::Slot;
 use indexmap::IndexMap;
 use std::alloc::AllocError;
 
-/// A lock that nobody holds and whose time is over at `until`.
+/// A lock that nobody holds, which bars rows of sessions that began up to `until`: what an eviction leaves, and an
+/// unlock that didn't find its lock.
 pub fn bar(now: Tick, until: Tick) -> Slot
     ensures { result ≡ barred now until }
 {

@@ -45,7 +45,7 @@ pub fn header_line(draft: &mut Draft, tokens: &[Token]) -> Result<(), LineError>
     }
 }
 
-/// `timeout N`.
+/// `timeout N`: how many ticks a lock is good, and how far a stamp lies ahead.
 pub fn timeout_line(draft: &mut Draft, tokens: &[Token]) -> Result<(), LineError>
     ensures step { OnOk result (lines.timeout_line (reader_of draft.old) tokens.now
         ≡ Ok (reader_of draft.new)) }

@@ -18,8 +18,8 @@ use hib_base::{Kind, Refused, Script};
 use hib_lex::{LexError, Line, Lines, begins, lex_after, line_length, line_of};
 use std::alloc::{AllocError, Global};
 
-/// The script that a text is. It keeps the rules of scripts: its limits at both ends, each session ends its last transaction, what
-/// it names is there, and more. It holds the tokens of two lines at a time.
+/// The script that a text is. It keeps the rules of scripts: its limits at both ends, each session ends its last
+/// transaction, what it names is there, and more. It holds the tokens of two lines at a time.
 ///
 /// Errors: `Refused` exactly if the text is no script, with its first bad line and the first kind that this has, those
 /// of bytes, length and tokens over the whole text before all others; if the text ends too early, the line is the
@@ -86,7 +86,8 @@ fn pass(
     }
 }
 
-/// Takes the line before this one into a draft, if there is one, and gives this one. It has this number, and a text is left after it.
+/// Takes the line before this one into a draft, if there is one, and gives this one. It has this number, and a text is
+/// left after it.
 fn follow(
     alloc: Global,
     draft: &mut Draft,

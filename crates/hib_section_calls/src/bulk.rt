@@ -75,8 +75,9 @@ fn bulk_named<N: Name, K: Keeper, L: Listener>(
     }
 }
 
-/// Runs a script with bulk changes over what is lent: the orders of the section's schedule, and then each session and each bulk line to
-/// its end, the first one first. If memory runs out the journal so far stands. The listeners hear of nothing.
+/// Runs a script with bulk changes over what is lent: the orders of the section's schedule, and then each session and
+/// each bulk line to its end, the first one first. If memory runs out the journal so far stands. The listeners hear of
+/// nothing.
 fn bulk_script<K: Keeper, L: Listener>(
     alloc: Global,
     input: Bulking,
@@ -127,7 +128,8 @@ impl Task for Bulk {
     }
 }
 
-/// Calls `bulk`: reads a script, the line `bulk`, bulk lines and their schedule, runs the script with them and writes its journal.
+/// Calls `bulk`: reads a script, the line `bulk`, bulk lines and their schedule, runs the script with them and writes
+/// its journal.
 pub fn call_bulk<S: Source, W: Sink, K: Keeper, L: Listener>(
     alloc: Global,
     source: &mut S,

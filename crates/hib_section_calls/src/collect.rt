@@ -75,9 +75,9 @@ fn collect_named<N: Name, K: Keeper, L: Listener>(
     }
 }
 
-/// Runs a script with collections over what is lent: the orders of its schedule, and then each session to its end, the first one first.
-/// If memory runs out the journal so far stands. The listeners hear of each entry of a session's plan, a hit as the list that it
-/// stands for.
+/// Runs a script with collections over what is lent: the orders of its schedule, and then each session to its end, the
+/// first one first. If memory runs out the journal so far stands. The listeners hear of each entry of a session's plan,
+/// a hit as the list that it stands for.
 fn collect_script<K: Keeper, L: Listener>(
     alloc: Global,
     input: Gathering,

@@ -1,5 +1,5 @@
-//! The calls of the commands that read a section after the script: `collect`, `bulk` and `nodes`. The script is run with collections,
-//! with bulk changes or at two nodes, and the journal of that is written.
+//! The calls of the commands that read a section after the script: `collect`, `bulk` and `nodes`. The script is run
+//! with collections, with bulk changes or at two nodes, and the journal of that is written.
 #![tactic(auto)]
 
 mod bulk;

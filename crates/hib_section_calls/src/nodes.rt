@@ -75,9 +75,9 @@ fn nodes_named<N: Name, K: Keeper, L: Listener>(
     }
 }
 
-/// Runs a script at two nodes over what is lent: the orders of the section's schedule, then each session to its end, the first one
-/// first, and then all that waits is delivered, to node 1 and to node 2. If memory runs out the journal so far stands. The listeners
-/// hear of nothing.
+/// Runs a script at two nodes over what is lent: the orders of the section's schedule, then each session to its end,
+/// the first one first, and then all that waits is delivered, to node 1 and to node 2. If memory runs out the journal
+/// so far stands. The listeners hear of nothing.
 fn nodes_script<K: Keeper, L: Listener>(
     alloc: Global,
     input: Placing,
@@ -90,7 +90,8 @@ fn nodes_script<K: Keeper, L: Listener>(
     nodes_named::<Brand, K, L>(alloc, input, lent)
 }
 
-/// Reads a script, the line `nodes`, places of sessions and a schedule, runs the script at two nodes and writes its journal.
+/// Reads a script, the line `nodes`, places of sessions and a schedule, runs the script at two nodes and writes its
+/// journal.
 #[derive(Clone, Copy)]
 struct AtNodes;
 
@@ -128,8 +129,8 @@ impl Task for AtNodes {
     }
 }
 
-/// Calls `nodes`: reads a script, the line `nodes`, places of sessions and a schedule, runs the script at two nodes and writes its
-/// journal.
+/// Calls `nodes`: reads a script, the line `nodes`, places of sessions and a schedule, runs the script at two nodes and
+/// writes its journal.
 pub fn call_nodes<S: Source, W: Sink, K: Keeper, L: Listener>(
     alloc: Global,
     source: &mut S,

@@ -237,7 +237,8 @@ fn with_parts(
     })
 }
 
-/// A bulk line over the rows of this entity, or the first thing that is wrong with it of unknown, type and what comes after these.
+/// A bulk line over the rows of this entity, or the first thing that is wrong with it of unknown, type and what comes
+/// after these.
 fn of_entity(
     alloc: Global,
     mapping: &[EntityDef],
@@ -386,10 +387,11 @@ fn of_words(
     }
 }
 
-/// The bulk line of a line that begins with `update` or else `delete`, after `count` bulk lines and with these names taken.
+/// The bulk line of a line that begins with `update` or else `delete`, after `count` bulk lines and with these names
+/// taken.
 ///
-/// Errors: `Fault` exactly if it is none, with the first kind that it has of words, taken, unknown, type, depth and many. `NoMemory`
-/// if there is none left. Nothing is changed.
+/// Errors: `Fault` exactly if it is none, with the first kind that it has of words, taken, unknown, type, depth and
+/// many. `NoMemory` if there is none left. Nothing is changed.
 pub fn bulk_line(
     alloc: Global,
     sets: bool,

@@ -233,15 +233,16 @@ fn ended(count: u32, reading: Reading) -> Result<Bulks, ScriptError>
     }
 }
 
-/// The bulk lines and the schedule of a section, over a script's mapping and sessions; the lines of the script stand before them.
+/// The bulk lines and the schedule of a section, over a script's mapping and sessions; the lines of the script stand
+/// before them.
 ///
-/// There are at most 100 lines. Each changes rows of an entity of the mapping, and steps to entities of it alone. Entities that are
-/// cached are read-write.
+/// There are at most 100 lines. Each changes rows of an entity of the mapping, and steps to entities of it alone.
+/// Entities that are cached are read-write.
 ///
-/// Errors: `Refused` exactly if the lines are no such section, with the first bad line of both and the first kind that it has of
-/// order, strategy, cached, line, words, taken, unknown, number, type, depth, many and no-end. A schedule, an entity of another strategy
-/// than `none` and `read-write` and a cached query stand in the script's own lines. `NoMemory` if there is none left. Nothing is
-/// changed.
+/// Errors: `Refused` exactly if the lines are no such section, with the first bad line of both and the first kind that
+/// it has of order, strategy, cached, line, words, taken, unknown, number, type, depth, many and no-end. A schedule, an
+/// entity of another strategy than `none` and `read-write` and a cached query stand in the script's own lines.
+/// `NoMemory` if there is none left. Nothing is changed.
 pub fn read_bulks(
     alloc: Global,
     mapping: &Mapping,

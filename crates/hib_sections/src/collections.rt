@@ -217,7 +217,8 @@ fn take_line(
     }
 }
 
-/// The collections that the lines of a section declare, over a script's mapping; the lines of the script stand before them.
+/// The collections that the lines of a section declare, over a script's mapping; the lines of the script stand before
+/// them.
 ///
 /// There are at most 64, each of an entity whose rows have versions.
 ///

@@ -1,4 +1,5 @@
-//! The lines of the sections that come after a script: the collections that they declare, the bulk changes, or the places of sessions.
+//! The lines of the sections that come after a script: the collections that they declare, the bulk changes, or the
+//! places of sessions.
 #![tactic(auto)]
 
 mod before;

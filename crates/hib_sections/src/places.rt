@@ -280,11 +280,11 @@ fn ended(count: u32, reading: Reading) -> Result<Places, ScriptError>
     }
 }
 
-/// The places of sessions and the schedule of a section, over a script's mapping and sessions; the lines of the script stand before
-/// them.
+/// The places of sessions and the schedule of a section, over a script's mapping and sessions; the lines of the script
+/// stand before them.
 ///
-/// Each place is of a session of the script, no session has two, and each node is 1 or 2. There are at most 20,000 orders. Entities
-/// that are cached are read-write.
+/// Each place is of a session of the script, no session has two, and each node is 1 or 2. There are at most 20,000
+/// orders. Entities that are cached are read-write.
 ///
 /// Errors: `Refused` exactly if the lines are no such section, with the first bad line of both and the first kind that it has of
 /// order, strategy, cached, line, words, taken, unknown, number, many and no-end. A schedule, an entity of another strategy than

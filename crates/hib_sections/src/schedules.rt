@@ -12,7 +12,8 @@ fn is_other(line: &Line) -> bool
     !(begins(tokens, b"run") || begins(tokens, b"end"))
 }
 
-/// The number of the first line of a script's schedule that is an order other than `run`, if there is one. The lines are the script's.
+/// The number of the first line of a script's schedule that is an order other than `run`, if there is one. The lines
+/// are the script's.
 #[tactic(auto, using(crate::proofs::Scheduled::here, crate::proofs::Scheduled::next, crate::proofs::Scheduled::over))]
 pub fn other_order(lines: &[Line]) -> Option<u32>
     ensures { result ≡ orders.other_order lines.now }

@@ -11,8 +11,8 @@ pub struct Ending {
     pub acts: Acts,
 }
 
-/// What is done in place of an act after a commit that was applied, if the transaction ends otherwise: a lock is given back
-/// without a row.
+/// What is done in place of an act after a commit that was applied, if the transaction ends otherwise: a lock is given
+/// back without a row.
 fn refuse(act: &mut Act)
     ensures { act.new ≡ refused_act act.old }
 {
@@ -30,7 +30,8 @@ fn refuse_all(acts: &mut [Act])
     }
 }
 
-/// Whether an act after a commit that was applied has one in its place if the transaction ends otherwise: no new row is put.
+/// Whether an act after a commit that was applied has one in its place if the transaction ends otherwise: no new row is
+/// put.
 fn is_kept_act(act: &Act) -> bool
     ensures { result ≡ is_kept act.now }
 {

@@ -9,8 +9,8 @@ use indexmap::IndexSet;
 use std::alloc::{AllocError, Global};
 use std::marker::Model;
 
-/// The changes that a transaction has written, in order, and the keys that they are of: whether a key is among them is asked of a
-/// set, however many there are.
+/// The changes that a transaction has written, in order, and the keys that they are of: whether a key is among them is
+/// asked of a set, however many there are.
 #[derive(Drop)]
 pub struct Changed {
     list: Vec<Change>,

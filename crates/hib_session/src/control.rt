@@ -318,7 +318,8 @@ impl Control {
         Ok(act_of(memory, self.stage))
     }
 
-    /// An equal control, of one that has no act queued. It takes no memory.
+    /// An equal control, of one that has no act queued: a statement is expanded in it to see what is due, and this one
+    /// stays as it is. It takes no memory.
     pub fn reopened(&self, alloc: Global) -> Control
         requires { self.now.queue ≡ [] }
         ensures { result ≡ self.now }
@@ -340,8 +341,8 @@ impl Control {
         !self.queue.is_empty() && takes_room(self.queue.first())
     }
 
-    /// Whether what the entry of the next act needs is there: copies for a write, and for an end of the transaction the acts
-    /// that follow.
+    /// Whether what the entry of the next act needs is there: copies for a write, and for an end of the transaction the
+    /// acts that follow.
     pub fn is_made(&self, copies: &Option<Written>, ending: &Option<Ending>) -> bool
         ensures { result ≡ Rattle.hib_session.specs.Ahead.is_made self.now.queue self.now.stage
             copies.now ending.now }
@@ -391,9 +392,9 @@ impl Control {
         }
     }
 
-    /// The acts and the stage that follow an entry of the act of the stage, by what is remembered without that entry. Of an
-    /// end of the transaction the acts may be there. It takes no memory but for rows and lists that were answered, and for an
-    /// end whose acts aren't there.
+    /// The acts and the stage that follow an entry of the act of the stage, by what is remembered without that entry.
+    /// Of an end of the transaction the acts may be there. It takes no memory but for rows and lists that were
+    /// answered, and for an end whose acts aren't there.
     pub fn prepared(
         &self,
         alloc: Global,

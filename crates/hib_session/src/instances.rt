@@ -17,9 +17,10 @@ use indexmap::IndexSet;
 use std::alloc::{AllocError, Global};
 use std::marker::Model;
 
-/// The instances of a session. Contracts see the identity map alone. Beside it stand the keys of those of which a change may
-/// be pending, so that nothing is asked of the others. The write of another row than the one that was pending may leave a key
-/// for which there is no room among them; from then on they say nothing, until all instances leave. No plan has such a write.
+/// The instances of a session. Contracts see the identity map alone. Beside it stand the keys of those of which a
+/// change may be pending, so that nothing is asked of the others. The write of another row than the one that was
+/// pending may leave a key for which there is no room among them; from then on they say nothing, until all instances
+/// leave. No plan has such a write.
 #[derive(Drop)]
 pub struct Instances {
     map: IdentityMap,
@@ -111,7 +112,8 @@ impl Instances {
         &self.map
     }
 
-    /// An instance of which nothing is pending arrives, in the place of one of the same key. At an error nothing has changed.
+    /// An instance of which nothing is pending arrives, in the place of one of the same key. At an error nothing has
+    /// changed.
     pub fn arrive(&mut self, key: &Key, held: Held) -> Result<(), AllocError>
         requires clean { is_pending (Some held) ≡ false }
         requires there { is_gone (Some held) ≡ false }
@@ -160,8 +162,8 @@ impl Instances {
         Ok(())
     }
 
-    /// The row of a key was removed: its instance leaves if it was never written, and else is marked. At an error nothing has
-    /// changed.
+    /// The row of a key was removed: its instance leaves if it was never written, and else is marked. At an error
+    /// nothing has changed.
     pub fn remove(&mut self, key: &Key, unwritten: bool) -> Result<(), AllocError>
         ensures ok { OnOk result (self.new
             ≡ record {

@@ -47,7 +47,8 @@ fn made_held(alloc: Global, row: &Row) -> Result<Held, AllocError>
 }
 
 impl Memory {
-    /// A row that was read arrives, in the place of an instance of the same key. At an error nothing has changed but the room.
+    /// A row that was read arrives, in the place of an instance of the same key. At an error nothing has changed but
+    /// the room.
     fn read(&mut self, alloc: Global, key: &Key, row: &Row) -> Result<(), AllocError>
         ensures ok { OnOk result (self.new
             ≡ record self.old {
@@ -330,8 +331,8 @@ impl Memory {
         }
     }
 
-    /// Takes one more entry, which may be that of a write of which there are copies. If there is room, or the entry needs none, it
-    /// takes memory for what the entry brings alone. At an error nothing has changed but the room.
+    /// Takes one more entry, which may be that of a write of which there are copies. If there is room, or the entry
+    /// needs none, it takes memory for what the entry brings alone. At an error nothing has changed but the room.
     pub fn note(
         &mut self,
         alloc: Global,

@@ -158,10 +158,10 @@ impl Session {
             && self.control.is_made(&self.copies, &self.ending)
     }
 
-    /// Makes the session ready for its next act: what is to be done next is expanded, and the memory is taken that `advance`
-    /// needs for the entry of the act that is due. From then on `advance` answers Ok for that entry, unless the act is Persist,
-    /// Load, List, Get, Set or Remove. A session that is ready stays as it is, without memory. If memory runs out the session
-    /// follows the same entries as before.
+    /// Makes the session ready for its next act: what is to be done next is expanded, and the memory is taken that
+    /// `advance` needs for the entry of the act that is due. From then on `advance` answers Ok for that entry, unless
+    /// the act is Persist, Load, List, Get, Set or Remove. A session that is ready stays as it is, without memory. If
+    /// memory runs out the session follows the same entries as before.
     pub fn ready(&mut self, alloc: Global, script: &Script) -> Result<(), AllocError>
         ensures number { number_of self.new ≡ number_of self.old }
         ensures killed { is_killed self.new ≡ is_killed self.old }
@@ -207,7 +207,8 @@ impl Session {
             → a ≡ next script.now (number_of self.now) mine) }
         ensures killed { IfOk result (λ a. is_killed self.now ≡ true → a ≡ None) }
 
-        // What is known of the act, and that no transaction is open at the end of a session whose last statement ends one.
+        // What is known of the act, and that no transaction is open at the end of a session whose last statement ends
+        // one.
         ensures allowed { IfOk result (λ a. (mine : Journal) → Follows script.now self.now mine
             → IfSome a (IsAllowed script.now (number_of self.now) mine)) }
         ensures ended { IfOk result (λ a. (mine : Journal) → Follows script.now self.now mine
@@ -321,9 +322,9 @@ impl Session {
         }
     }
 
-    /// Takes the entry of the act that was due. It makes the session ready first. Of a session that is ready it answers Ok,
-    /// unless the act is Persist, Load, List, Get, Set or Remove. If memory runs out the session follows the same entries as
-    /// before.
+    /// Takes the entry of the act that was due. It makes the session ready first. Of a session that is ready it answers
+    /// Ok, unless the act is Persist, Load, List, Get, Set or Remove. If memory runs out the session follows the same
+    /// entries as before.
     pub fn advance(
         &mut self,
         alloc: Global,

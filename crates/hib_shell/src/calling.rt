@@ -38,8 +38,8 @@ pub fn listeners_asked(
     Ok(listeners)
 }
 
-/// Calls the top call with the words, over this keeper: the script comes by standard input, the text goes to standard output. It ends
-/// as the top call does, and leaves the keeper as that does.
+/// Calls the top call with the words, over this keeper: the script comes by standard input, the text goes to standard
+/// output. It ends as the top call does, and leaves the keeper as that does.
 #[tactic(auto, using(hib_top::proofs::Calls::none_tables, hib_top::proofs::Calls::store_if, crate::proofs::Came::idle_call))]
 pub fn call<R: Threads + Wait + Sync, K: Keeper>(
     rt: &R,

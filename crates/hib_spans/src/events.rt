@@ -194,9 +194,9 @@ fn put_entry(
     put_ends(alloc, out, ended.as_slice(), tick)
 }
 
-/// A journal as trace events in JSON, which Perfetto opens. Each session is a track, and the orders of the schedule are one more; a
-/// transaction is a span, a lock one from when it is taken to when it is given back, and each step a mark with its reply. What isn't
-/// over at the end of the journal has no end. Fails for want of memory alone.
+/// A journal as trace events in JSON, which Perfetto opens. Each session is a track, and the orders of the schedule are
+/// one more; a transaction is a span, a lock one from when it is taken to when it is given back, and each step a mark
+/// with its reply. What isn't over at the end of the journal has no end. Fails for want of memory alone.
 pub fn perfetto(alloc: Global, script: &Script, journal: &Journal) -> Result<Bytes, AllocError> {
     let mut out = Vec::new(alloc);
     out.extend_from_slice(b"{\"displayTimeUnit\":\"ns\",\"traceEvents\":[\n")?;

@@ -1,5 +1,5 @@
-//! A journal as a trace, for viewers of traces: sessions as tracks, transactions and locks as spans, steps as marks. A tick is a
-//! microsecond. That what is written is the journal's is tested, and not proved.
+//! A journal as a trace, for viewers of traces: sessions as tracks, transactions and locks as spans, steps as marks. A
+//! tick is a microsecond. That what is written is the journal's is tested, and not proved.
 #![tactic(auto)]
 
 mod events;

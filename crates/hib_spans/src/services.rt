@@ -207,9 +207,9 @@ fn put_tracks(alloc: Global, out: &mut Vec<u8>, script: &Script) -> Result<(), A
     out.extend_from_slice(b"\n}}]}\n")
 }
 
-/// A journal in the JSON that Jaeger opens. Each session is a service, and the orders of the schedule are one more; a transaction is a
-/// span, and within it each of its steps, with its reply, and each lock that was given back. A transaction that isn't over at the end of
-/// the journal ends there. Fails for want of memory alone.
+/// A journal in the JSON that Jaeger opens. Each session is a service, and the orders of the schedule are one more; a
+/// transaction is a span, and within it each of its steps, with its reply, and each lock that was given back. A
+/// transaction that isn't over at the end of the journal ends there. Fails for want of memory alone.
 pub fn jaeger(alloc: Global, script: &Script, journal: &Journal) -> Result<Bytes, AllocError> {
     let to = match journal.last() {
         Some(entry) => entry.tick.0,

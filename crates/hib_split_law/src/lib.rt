@@ -20,8 +20,8 @@ pub fn apart_is_legal()
         → HaveSessions h → AreLater h → IsLegalApart script told h → IsLegal script told h }
 {}
 
-/// The list of each part, and that of each session, of a legal journal is legal by itself, if each entry is a session's; and
-/// its ticks never fall.
+/// The list of each part, and that of each session, of a legal journal is legal by itself, if each entry is a
+/// session's; and its ticks never fall.
 pub fn legal_is_apart()
     ensures apart { (script : Script) (told : Option Tables) (h : Journal)
         → HaveSessions h → IsLegal script told h → IsLegalApart script told h }
@@ -36,8 +36,8 @@ pub fn replies_are_parts()
         → IsStoreReply script told (seen_by e.part h) e }
 {}
 
-/// The committed rows of a legal journal, how often its store may have asked the keeper, and how often that failed, are what
-/// the store's list alone says of them.
+/// The committed rows of a legal journal, how often its store may have asked the keeper, and how often that failed, are
+/// what the store's list alone says of them.
 pub fn store_stands_alone()
     ensures seen { (script : Script) (told : Option Tables) (h : Journal)
         → IsLegal script told h → IsStoreAlone h (seen_by Part.Store h) }
@@ -45,8 +45,8 @@ pub fn store_stands_alone()
         → HaveSessions h → IsLegal script told h → IsStoreAlone h (of_part Part.Store h) }
 {}
 
-/// The list that the parts' lists are merged into is legal, if each of them and of the sessions' lists is legal by itself
-/// and the sessions' lists agree with it.
+/// The list that the parts' lists are merged into is legal, if each of them and of the sessions' lists is legal by
+/// itself and the sessions' lists agree with it.
 pub fn merged_is_legal()
     ensures legal { (script : Script) (told : Option Tables) (lists mine : List Journal)
         (h : Journal) → ArePartsLegal script told lists → AreOwnLegal script mine

@@ -13,8 +13,9 @@ use hib_base::{EntityNo, Key, Row};
 use sqlite::{Alter, Connection, Error, ErrorCode, Row as SqlRow};
 use std::alloc::Global;
 
-/// The table of a connection over any store, such as a file. It tells nothing. Of each statement that went well a clause says
-/// which text ran, with which values: what it did is then what SQL makes of it, if the disk gave back what was written.
+/// The table of a connection over any store, such as a file. It tells nothing. Of each statement that went well a
+/// clause says which text ran, with which values: what it did is then what SQL makes of it, if the disk gave back what
+/// was written.
 #[derive(Drop)]
 pub struct StoreTable<S: Alter> {
     conn: Connection<S>,

@@ -7,8 +7,8 @@ use indexmap::IndexSet;
 use std::alloc::{AllocError, Global};
 use std::marker::Model;
 
-/// The rows that a script gives, in order, with the keys that they have: whether a key has a row is asked of a set, however many
-/// there are.
+/// The rows that a script gives, in order, with the keys that they have: whether a key has a row is asked of a set,
+/// however many there are.
 #[derive(Drop)]
 pub struct Given {
     rows: Rows,

@@ -67,9 +67,9 @@ fn tell_all(alloc: Global, script: &Script, entries: &[Entry]) -> Result<Vec<u8>
     Ok(out)
 }
 
-/// The state after each entry, told by what may differ from the state before it, and the cause of each refusal, of a journal that is legal
-/// for the script from some rows. Of another journal it is a text too, of which nothing is known. Want of memory alone is an error. A
-/// number that is too large is answered as that: a legal journal has none.
+/// The state after each entry, told by what may differ from the state before it, and the cause of each refusal, of a
+/// journal that is legal for the script from some rows. Of another journal it is a text too, of which nothing is known.
+/// Want of memory alone is an error. A number that is too large is answered as that: a legal journal has none.
 #[tactic(auto, unfolding(hib_journal::specs::Kept::past))]
 pub fn tell(alloc: Global, script: &Script, journal: &Journal) -> Result<Vec<u8>, AllocError>
     ensures { IfOk result (λ text. (start : Tables) → IsLegal script.now (Some start) (past journal.now)

@@ -85,8 +85,8 @@ fn index<K: Keeper>(
     }
 }
 
-/// Makes an index of the rows of the first entities, unless it stands. The keeper isn't asked if it stands. There is none
-/// only if the keeper failed.
+/// Makes an index of the rows of the first entities, unless it stands. The keeper isn't asked if it stands. There is
+/// none only if the keeper failed.
 pub fn make_index<K: Keeper>(
     alloc: Global,
     keeper: &mut K,

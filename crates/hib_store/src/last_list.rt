@@ -44,7 +44,7 @@ fn is_same_path(a: &Path, b: &Path) -> bool
     a == b
 }
 
-/// Whether a query asks the same.
+/// Whether a query asks the same as the one whose list is kept. It may say no though it does.
 fn asks(bare: &BareQuery, query: &Query) -> bool
     ensures { result ≡ true → Asks bare.now query.now }
 {

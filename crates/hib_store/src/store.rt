@@ -95,9 +95,9 @@ impl<K: Keeper> Store<K> {
         }
     }
 
-    /// The store over a keeper that is seeded by one call: the rows that it keeps are widened to the columns of this mapping,
-    /// and each of these rows whose key has none is added. No session has written. At an error the keeper is handed back, with the
-    /// rows that it had. A list of the first `entities` entities is answered from an index.
+    /// The store over a keeper that is seeded by one call: the rows that it keeps are widened to the columns of this
+    /// mapping, and each of these rows whose key has none is added. No session has written. At an error the keeper is
+    /// handed back, with the rows that it had. A list of the first `entities` entities is answered from an index.
     pub fn open(
         alloc: Global,
         mut keeper: K,
@@ -183,11 +183,11 @@ impl<K: Keeper> Store<K> {
         asking::read(alloc, &mut self.keeper, key)
     }
 
-    /// What a query gives over a session's view of all keys: the committed rows with the session's changes done to them. The
-    /// keeper is asked at most once. If the query reads only the first entities, it is asked for the rows of all of them, and
-    /// not at all while the index of these rows stands. The index stands from then on, unless the answer is Fault or an
-    /// error. Else the keeper is asked for the tables that the query reads. At every answer and error the rows and the changes
-    /// stay; the keeper's counts may have risen.
+    /// What a query gives over a session's view of all keys: the committed rows with the session's changes done to
+    /// them. The keeper is asked at most once. If the query reads only the first entities, it is asked for the rows of
+    /// all of them, and not at all while the index of these rows stands. The index stands from then on, unless the
+    /// answer is Fault or an error. Else the keeper is asked for the tables that the query reads. At every answer and
+    /// error the rows and the changes stay; the keeper's counts may have risen.
     pub fn list(
         &mut self,
         alloc: Global,
@@ -233,8 +233,9 @@ impl<K: Keeper> Store<K> {
         Ok(listed)
     }
 
-    /// Makes the index of the committed rows of the first entities, unless it stands. False only if the keeper failed; if the answer
-    /// is true the index stands. The keeper is asked at most once. At every answer and error the rows and the changes stay.
+    /// Makes the index of the committed rows of the first entities, unless it stands. False only if the keeper failed;
+    /// if the answer is true the index stands. The keeper is asked at most once. At every answer and error the rows and
+    /// the changes stay.
     pub fn ready_index(&mut self, alloc: Global) -> Result<bool, AllocError>
         ensures indexed { IfOk result (λ b. b ≡ self.new.indexed) }
         ensures fault { result ≡ Ok false → Rose self.old.faults self.new.faults }
@@ -249,8 +250,9 @@ impl<K: Keeper> Store<K> {
         Ok(self.index.is_some())
     }
 
-    /// The committed rows of an entity that meet a condition, if there is one, in order of keys. The entity, and those to which the
-    /// condition steps, are among the first. None exactly if the index of their rows doesn't stand. Fails for want of memory alone.
+    /// The committed rows of an entity that meet a condition, if there is one, in order of keys. The entity, and those
+    /// to which the condition steps, are among the first. None exactly if the index of their rows doesn't stand. Fails
+    /// for want of memory alone.
     pub fn rows_met(
         &self,
         alloc: Global,
@@ -346,9 +348,9 @@ impl<K: Keeper> Store<K> {
         Ok(commit)
     }
 
-    /// Applies changes that no session has written to the committed rows, all of them or none. The first change that doesn't apply
-    /// decides. What sessions have written stays, and at an error the rows stay, too. The index is dropped after Fault; after
-    /// Committed it may be, for want of memory.
+    /// Applies changes that no session has written to the committed rows, all of them or none. The first change that
+    /// doesn't apply decides. What sessions have written stays, and at an error the rows stay, too. The index is
+    /// dropped after Fault; after Committed it may be, for want of memory.
     pub fn apply(&mut self, alloc: Global, changes: &[Change]) -> Result<Commit, AllocError>
         ensures answer { IfOk result (λ answer. answer ≢ Commit.Fault → IfSome self.old.tables
             (λ m. answer ≡ commit_answer changes.now m)) }

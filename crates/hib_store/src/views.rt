@@ -75,7 +75,8 @@ pub fn rows_met<'a>(
     }
 }
 
-/// An index after an answer to a commit of changes. None after a fault, and if its rows don't have what the changes change.
+/// An index after an answer to a commit of changes. None after a fault, and if its rows don't have what the changes
+/// change.
 fn after(
     alloc: Global,
     index: Index,
@@ -92,8 +93,8 @@ fn after(
     }
 }
 
-/// The index after an answer to a commit of changes. It is dropped after a fault, if there is no memory to change it, and
-/// if its rows don't have what the changes change.
+/// The index after an answer to a commit of changes. It is dropped after a fault, if there is no memory to change it,
+/// and if its rows don't have what the changes change.
 pub fn left(
     alloc: Global,
     index: Option<Index>,

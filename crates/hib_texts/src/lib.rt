@@ -1,5 +1,5 @@
-//! The texts of cells, rows, names and keys, appended to bytes: what reports and printed scripts share. Each `put_` function
-//! fails for want of memory alone, and then a part of its text may be appended.
+//! The texts of cells, rows, names and keys, appended to bytes: what reports and printed scripts share. Each `put_`
+//! function fails for want of memory alone, and then a part of its text may be appended.
 #![tactic(auto)]
 
 mod names;

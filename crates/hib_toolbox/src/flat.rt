@@ -40,8 +40,8 @@ fn tell_columns<W: Sink>(alloc: Global, run: &WithJournal, out: &mut W) -> Statu
     }
 }
 
-/// Reads a script, the line `journal` and a journal as JSON lines, and writes the journal with a member for each thing. Nothing is run
-/// or judged.
+/// Reads a script, the line `journal` and a journal as JSON lines, and writes the journal with a member for each thing.
+/// Nothing is run or judged.
 #[derive(Clone, Copy)]
 pub struct Flat {
     /// As columns, and not as objects.

@@ -1,5 +1,6 @@
-//! The tools' top call: what the words ask for is the call of a command. The orders of a script's sessions are tried, a journal is written
-//! as its report, as data, as its states, as the script that repeats it or as a trace, or the rows of a keeper are.
+//! The tools' top call: what the words ask for is the call of a command. The orders of a script's sessions are tried, a
+//! journal is written as its report, as data, as its states, as the script that repeats it or as a trace, or the rows
+//! of a keeper are.
 #![tactic(auto)]
 
 mod calls;

@@ -35,7 +35,7 @@ fn limit_of(at_most: Option<u32>) -> u64
     }
 }
 
-/// Whether something was found.
+/// Whether a search found a run that shows this.
 pub fn is_there(run: &Explored, finding: Finding) -> bool
     ensures { result ≡ is_there run.now.told.findings finding }
 {
@@ -64,7 +64,8 @@ pub struct Orders {
     pub at_most: Option<u32>,
 }
 
-/// Tries the orders of a script's sessions. Nothing that is lent is touched. The watcher hears of each run that is played.
+/// Tries the orders of a script's sessions. Nothing that is lent is touched. The watcher hears of each run that is
+/// played.
 pub fn tried<W: Watcher + Drop>(
     alloc: Global,
     orders: Orders,

@@ -113,8 +113,8 @@ pub fn repeat_run<K: Keeper, L: Listener>(
     Ran { outcome, lent }
 }
 
-/// Reads a script, the line `journal` and a journal as JSON lines, and writes the script with the schedule that repeats the journal, if
-/// one does. Nothing is run or judged.
+/// Reads a script, the line `journal` and a journal as JSON lines, and writes the script with the schedule that repeats
+/// the journal, if one does. Nothing is run or judged.
 #[derive(Clone, Copy)]
 pub struct Repeat;
 

@@ -24,7 +24,8 @@ pub fn as_read<K: Keeper, L: Listener>(
     }
 }
 
-/// Reads a script, the line `journal` and a journal as JSON lines, and writes the report of the journal. Nothing is run or judged.
+/// Reads a script, the line `journal` and a journal as JSON lines, and writes the report of the journal. Nothing is run
+/// or judged.
 #[derive(Clone, Copy)]
 pub struct Report;
 

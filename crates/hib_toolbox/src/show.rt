@@ -31,8 +31,8 @@ pub fn finding_numbered(number: u32) -> Finding
     }
 }
 
-/// Reads a script, tries the orders of its sessions and writes the script with the schedule of one that has a finding, if one was
-/// found.
+/// Reads a script, tries the orders of its sessions and writes the script with the schedule of one that has a finding,
+/// if one was found.
 #[derive(Clone, Copy, Debug, PartialEq, Eq)]
 pub struct Show {
     /// Which orders are tried.

@@ -5,7 +5,8 @@ use hib_outside::Sink;
 use hib_script::ScriptError;
 use std::alloc::Global;
 
-/// Reads a script, the line `journal` and a journal as JSON lines, and writes the journal as a trace. Nothing is run or judged.
+/// Reads a script, the line `journal` and a journal as JSON lines, and writes the journal as a trace. Nothing is run or
+/// judged.
 #[derive(Clone, Copy)]
 pub struct Trace {
     /// For Jaeger, and not for Perfetto.

@@ -65,8 +65,8 @@ pub fn state_journal<K: Keeper, L: Listener>(
     Ran { outcome, lent }
 }
 
-/// Reads a script, the line `journal` and a journal as JSON lines, and writes the state after each entry and the cause of each refusal, if
-/// the journal is legal for the script from the script's rows. Nothing is run.
+/// Reads a script, the line `journal` and a journal as JSON lines, and writes the state after each entry and the cause
+/// of each refusal, if the journal is legal for the script from the script's rows. Nothing is run.
 #[derive(Clone, Copy)]
 pub struct Stating;
 

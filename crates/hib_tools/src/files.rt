@@ -1,4 +1,5 @@
-// The rows of a SQLite file. `./hib` puts a few lines in the place of this file for a trial, which then needs no SQLite.
+// The rows of a SQLite file. `./hib` puts a few lines in the place of this file for a trial, which then needs no
+// SQLite.
 use crate::serve;
 use hib_call::Status;
 use hib_keeper_sqlite::open_file;

@@ -70,8 +70,8 @@ fn status_of(audit: Audit) -> Status
     }
 }
 
-/// Reads a script, the line `journal` and a journal as JSON lines, and writes whether the journal is legal for the script from
-/// the script's rows, or its first entry that isn't, and the point that it breaks. Nothing is run.
+/// Reads a script, the line `journal` and a journal as JSON lines, and writes whether the journal is legal for the
+/// script from the script's rows, or its first entry that isn't, and the point that it breaks. Nothing is run.
 #[derive(Clone, Copy)]
 pub struct Judge;
 

@@ -137,14 +137,15 @@ fn serve<R: Threads + Wait + Sync, S: Source, W: Sink, K: Keeper, G: Gate, L: Li
     }
 }
 
-/// Does what the words say, except for `work`, of which the words have no form here; so it takes no lock, and returns. `play` reads
-/// a script from the source, runs it over the keeper by its schedule and writes the report of its journal to the sink. `make` makes
-/// the script of a number, and runs it and writes that number and the summary; or it writes the script. `audit` reads a script and a
-/// journal after it, and says whether the journal is legal. `collect` reads a script and collections after it, runs the script by its
-/// schedule and writes the journal with the entries at collections. `bulk` reads a script, and bulk changes and their schedule after
-/// it, runs the script with them and writes the journal of both. `nodes` reads a script, and places of its sessions and their
-/// schedule after it, runs the script at two nodes and writes its journal. If the words have no form, nothing is read. What was run
-/// is handed back with its journal.
+/// Does what the words say, except for `work`, of which the words have no form here; so it takes no lock, and returns.
+/// `play` reads a script from the source, runs it over the keeper by its schedule and writes the report of its journal
+/// to the sink. `make` makes the script of a number, and runs it and writes that number and the summary; or it writes
+/// the script. `audit` reads a script and a journal after it, and says whether the journal is legal. `collect` reads a
+/// script and collections after it, runs the script by its schedule and writes the journal with the entries at
+/// collections. `bulk` reads a script, and bulk changes and their schedule after it, runs the script with them and
+/// writes the journal of both. `nodes` reads a script, and places of its sessions and their schedule after it, runs the
+/// script at two nodes and writes its journal. If the words have no form, nothing is read. What was run is handed back
+/// with its journal.
 ///
 /// Whatever the status, the journal of a run is legal for the script, from the keeper's tables as they were handed in and the
 /// script's rows beside them; its k-th entry has tick k, and the keeper's tables are those that its commits and its bulk changes gave.
@@ -172,11 +173,11 @@ pub fn play_words<S: Source, W: Sink, K: Keeper, L: Listener>(
     }
 }
 
-/// Does what the words say. What `play_words` does it does too; and for `work` it runs the script on workers, who pass the gate
-/// before each step. Then it may wait for others, and all that it promises it promises of a return. With `--split` each part stands
-/// behind a lock of its own: a tick is the one that is due, by the last ones of its part and of its session, and the listeners hear of
-/// the entries after the run. If memory runs out in the run, or it is torn, no run is handed back, and nothing is said of the keeper's
-/// rows, of how often it was asked and of the listeners.
+/// Does what the words say. What `play_words` does it does too; and for `work` it runs the script on workers, who pass
+/// the gate before each step. Then it may wait for others, and all that it promises it promises of a return. With
+/// `--split` each part stands behind a lock of its own: a tick is the one that is due, by the last ones of its part and
+/// of its session, and the listeners hear of the entries after the run. If memory runs out in the run, or it is torn,
+/// no run is handed back, and nothing is said of the keeper's rows, of how often it was asked and of the listeners.
 pub fn top<R: Threads + Wait + Sync, S: Source, W: Sink, K: Keeper, G: Gate, L: Listener>(
     rt: &R,
     alloc: Global,

@@ -1,5 +1,6 @@
-//! The top call: what the words ask for is the call of a command. A script is read or made, run over a keeper, by its schedule, on
-//! workers, with collections, with bulk changes or at two nodes, and told; or a journal that comes after its script is judged.
+//! The top call: what the words ask for is the call of a command. A script is read or made, run over a keeper, by its
+//! schedule, on workers, with collections, with bulk changes or at two nodes, and told; or a journal that comes after
+//! its script is judged.
 #![tactic(auto)]
 
 mod any_run;

@@ -52,8 +52,8 @@ fn play_named<N: Name, K: Keeper, L: Listener>(
     }
 }
 
-/// Runs a script over what is lent: the orders of its schedule, and then each session to its end, the first one first. If memory
-/// runs out the journal so far stands. The listeners hear of each entry.
+/// Runs a script over what is lent: the orders of its schedule, and then each session to its end, the first one first.
+/// If memory runs out the journal so far stands. The listeners hear of each entry.
 pub fn play_script<K: Keeper, L: Listener>(
     alloc: Global,
     script: Script,

@@ -141,8 +141,8 @@ fn split_named<N: Name + Send + Sync, R: Threads + Wait + Sync, K: Keeper, L: Li
     }
 }
 
-/// Runs a script over parts under locks of their own, each session to its end. The listeners hear of the entries after the run. If
-/// memory runs out, or the run is torn, there is no journal.
+/// Runs a script over parts under locks of their own, each session to its end. The listeners hear of the entries after
+/// the run. If memory runs out, or the run is torn, there is no journal.
 pub fn split_script<R: Threads + Wait + Sync, K: Keeper, L: Listener, G: Gate>(
     rt: &R,
     alloc: Global,

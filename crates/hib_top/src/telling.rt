@@ -75,8 +75,8 @@ fn tell_report<W: Sink>(alloc: Global, run: &Played, out: &mut W) -> Status
     }
 }
 
-/// Writes the journal of a run as JSON lines, piece by piece. Each entry is tested before the first is written, so that what is
-/// written is read back as the journal; an entry that isn't well formed is answered as want of memory.
+/// Writes the journal of a run as JSON lines, piece by piece. Each entry is tested before the first is written, so that
+/// what is written is read back as the journal; an entry that isn't well formed is answered as want of memory.
 fn tell_lines<W: Sink>(alloc: Global, run: &Played, out: &mut W) -> Status
     ensures told { Tells Telling.JsonLines run.now result (W.taken out.old) (W.taken out.new) }
     ensures write { result ≡ Status.WriteFault → Rose (W.faults out.old) (W.faults out.new) }

@@ -64,8 +64,8 @@ fn work_named<N: Name + Send + Sync, R: Threads + Wait + Sync, K: Keeper, L: Lis
     }
 }
 
-/// Runs a script over what is lent on workers, each session to its end. If memory runs out the journal so far stands. The listeners
-/// hear of each entry.
+/// Runs a script over what is lent on workers, each session to its end. If memory runs out the journal so far stands.
+/// The listeners hear of each entry.
 pub fn work_script<R: Threads + Wait + Sync, K: Keeper, L: Listener, G: Gate>(
     rt: &R,
     alloc: Global,

@@ -128,7 +128,7 @@ fn on_threads<
     desk.into_inner()
 }
 
-/// What may go from thread to thread, proofs may say so of.
+/// Lets proofs say of a type that its values may go from thread to thread. It does nothing.
 fn may_be_sent<T: Send>()
     ensures { IsSend T.row }
 {}
