@@ -454,9 +454,7 @@ block_few script m Statement.Commit done go n s f = more (Next.flush script done
     (flush_few script done (λ d. Next.commit script m d go) (n + 2 + 0 + 1) s (λ d t. commit_few script m d go n t f))
 block_few script m Statement.Rollback done go n s f = more (Next.rollback script m done go) (owed done + (n + 2 + 0 + 1)) (owed done + (n + 3)) (omega arith) (rollback_few script m done go n s f)
 
--- ---- sessions
-
--- a Begin is due
+-- ---- sessions: a Begin is due
 abbrev one_if : Bool → ℕ
 one_if true = 1
 one_if false = 0
