@@ -12,20 +12,31 @@ use std::alloc::{AllocError, Global};
 /// A query in no order whose condition is one comparison, as far as its answer depends on it.
 #[derive(Drop)]
 pub struct BareQuery {
+    /// The entity whose rows it lists.
     pub entity: EntityNo,
+    /// How the row's cell compares with the other.
     pub op: Op,
+    /// Where the row's cell is.
     pub path: Path,
+    /// The other cell.
     pub cell: Cell,
+    /// How many of the first are left out.
     pub offset: u32,
+    /// How many are listed at most.
     pub limit: u32,
+    /// What is listed of them.
     pub select: Select,
 }
 
-/// The last list that a session with changes of its own was given. It stands until something is written or committed.
+/// The last list that a session with changes of its own was given. It stands until changes are written, dropped or
+/// committed, whichever session's they are.
 #[derive(Drop)]
 pub struct LastList {
+    /// The session that asked.
     pub session: SessionNo,
+    /// What it asked.
     pub query: BareQuery,
+    /// What it was given.
     pub listing: Listing,
 }
 
@@ -79,7 +90,7 @@ fn bare(alloc: Global, query: &Query) -> Result<Option<BareQuery>, AllocError>
     }
 }
 
-/// The list that a session was given last, if it asks for the same again.
+/// The list that was given last, if the same session asks the same again. Fails only if there is no memory.
 pub fn again(
     alloc: Global,
     last: &Option<LastList>,
@@ -99,7 +110,7 @@ pub fn again(
     }
 }
 
-/// What is kept of a list that a session is given.
+/// What is kept of a list that a session is given. None after a fault, and if the query isn't bare.
 #[tactic(auto, using(crate::proofs::Last::listed_alike))]
 pub fn kept(
     alloc: Global,

@@ -42,7 +42,7 @@ pub struct Store<K: Keeper> {
     entities: u16,
     // The committed rows of the first entities, once a list was asked of them.
     index: Option<Index>,
-    // The last list that a session with changes was given. None once something is written or committed.
+    // The last list that a session with changes was given. None after changes were written, dropped or committed.
     last: Option<LastList>,
 }
 
