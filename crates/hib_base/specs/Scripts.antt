@@ -1,13 +1,13 @@
 -- What a script says of its entities, queries, sessions and orders.
 use Rattle.std.specs.Prelude.{ℕ, Bool, true, false, ◌&&◌, nat_lt, sum_by, List, [], ◌∷◌, length, slice_get, Some, None, Option}
 use Rattle.std.specs.List.{list_all}
+use Rattle.std.specs.Option.{option_map_or}
 use Rattle.hib_base.specs.Types.{Strategy, ColumnType, EntityDef, Mode, Key, Row, Target, Cond, Query, Statement, SessionDef, Order, Script}
 
 -- ---- entities
 -- what the mapping says of an entity
 abbrev pub strategy_in : Option EntityDef → Strategy
-strategy_in None = Strategy.Uncached
-strategy_in (Some d) = d.strategy
+strategy_in def = option_map_or (λ d. d.strategy) def Strategy.Uncached
 
 abbrev pub is_cached_by : Strategy → Bool
 is_cached_by Strategy.Uncached = false
@@ -41,8 +41,7 @@ is_row_below n x = nat_lt x.0.entity n
 -- ---- queries
 -- the target of a step, if a path has one, is below n
 abbrev pub is_target_below : ℕ → Option Target → Bool
-is_target_below n None = true
-is_target_below n (Some g) = nat_lt g.entity n
+is_target_below n target = option_map_or (λ g. nat_lt g.entity n) target true
 
 abbrev pub are_targets_below : ℕ → Cond → Bool
 are_targets_below n (Cond.And' p a q b) = are_targets_below n a && are_targets_below n b
@@ -52,8 +51,7 @@ are_targets_below n (Cond.Test op p c) = is_target_below n p.target
 are_targets_below n (Cond.Among p cs) = is_target_below n p.target
 
 abbrev pub are_targets_in : ℕ → Option Cond → Bool
-are_targets_in n None = true
-are_targets_in n (Some c) = are_targets_below n c
+are_targets_in n condition = option_map_or (are_targets_below n) condition true
 
 -- each table that a query reads is one of the mapping's entities
 abbrev pub is_declared : Script → Query → Bool

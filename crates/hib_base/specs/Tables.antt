@@ -1,5 +1,6 @@
 -- Tables: a finite map from keys to rows, as its entries in order of keys. What a change does to them.
-use Rattle.std.specs.Prelude.{ℕ, Bool, true, false, if◌then◌else◌, ◌&&◌, ◌==◌, List, [], ◌∷◌, Some, None, Option}
+use Rattle.std.specs.Prelude.{ℕ, Bool, true, false, if◌then◌else◌, ◌&&◌, nat_eq, List, [], ◌∷◌, Some, None, Option, unwrap_or, option_map}
+use Rattle.std.specs.Option.{option_eq, option_map_or, option_or}
 use Rattle.hib_base.specs.Types.{Key, Row, Change, Commit}
 use Rattle.hib_base.specs.Keys.{same_key, is_before}
 
@@ -43,8 +44,7 @@ row_left (Change.Update k v r) = Some r
 row_left (Change.Delete k v) = None
 
 abbrev pub tables_with : Tables → Key → Option Row → Tables
-tables_with t k (Some r) = with_row t k r
-tables_with t k None = without_row t k
+tables_with t k row = option_map_or (λ r. with_row t k r) row (without_row t k)
 
 -- the tables after one change, and after a list of changes
 abbrev pub after_change : Change → Tables → Tables
@@ -55,10 +55,7 @@ after_changes [] t = t
 after_changes (c ∷ cs) t = after_changes cs (after_change c t)
 
 abbrev pub same_version : Option ℕ → Option ℕ → Bool
-same_version None None = true
-same_version None (Some n) = false
-same_version (Some n) None = false
-same_version (Some n) (Some m) = n == m
+same_version v w = option_eq nat_eq v w
 
 abbrev pub version_in : Option Row → Option ℕ
 version_in None = None
@@ -68,33 +65,21 @@ abbrev pub unless_expected : Key → Option ℕ → Option Row → Option Commit
 unless_expected k v None = Some (Commit.Stale k None)
 unless_expected k v (Some r) = if same_version v r.version then None else Some (Commit.Stale k r.version)
 
-abbrev pub unless_absent : Key → Option Row → Option Commit
-unless_absent k None = None
-unless_absent k (Some r) = Some (Commit.Duplicate k)
-
 -- the answer to a change that does not apply, or none if it does
 abbrev pub refusal : Change → Tables → Option Commit
-refusal (Change.Insert k r) t = unless_absent k (row_at t k)
+refusal (Change.Insert k r) t = option_map (λ _. Commit.Duplicate k) (row_at t k)
 refusal (Change.Update k v r) t = unless_expected k v (row_at t k)
 refusal (Change.Delete k v) t = unless_expected k v (row_at t k)
-
-abbrev pub or_answer : Option Commit → Commit → Commit
-or_answer None a = a
-or_answer (Some b) a = b
 
 -- the answer to a whole list: the first change that does not apply decides
 abbrev pub commit_answer : List Change → Tables → Commit
 commit_answer [] t = Commit.Committed
-commit_answer (c ∷ cs) t = or_answer (refusal c t) (commit_answer cs (after_change c t))
-
-abbrev pub or_change : Option Change → Option Change → Option Change
-or_change (Some d) c = Some d
-or_change None c = c
+commit_answer (c ∷ cs) t = unwrap_or (refusal c t) (commit_answer cs (after_change c t))
 
 -- the last change on k in a list
 abbrev pub last_on : Key → List Change → Option Change
 last_on k [] = None
-last_on k (c ∷ cs) = or_change (last_on k cs) (if same_key (key_of c) k then Some c else None)
+last_on k (c ∷ cs) = option_or (last_on k cs) (if same_key (key_of c) k then Some c else None)
 
 abbrev pub first_on : Key → List Change → Option Change
 first_on k [] = None

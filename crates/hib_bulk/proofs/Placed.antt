@@ -1,10 +1,10 @@
 -- What a region answers an act of a session is due, and afterwards it stands for the entries with that one.
 use Rattle.std.specs.Prelude.{option_map}
-use Rattle.std.proofs.Common.{◌≡◌, ◌⊎◌, inl, inr, ℕ, ◌+◌, ◌==◌, Bool, true, false, cond, not, List, [], ◌∷◌, Some, None, Option, length, eq-eqb, refl, sym, ◌∙◌, subst}
+use Rattle.std.proofs.Common.{◌≡◌, ◌⊎◌, inl, inr, ℕ, ◌+◌, ◌==◌, Bool, true, false, cond, not, List, [], ◌∷◌, Some, None, Option, length, eq-eqb, refl, sym, ◌∙◌, subst, nat_lt}
 use Rattle.std.proofs.lemmas.Bool.{true≢false, false≢true, eqb-true, ne_eqb}
 use Rattle.std.proofs.lemmas.Option.{none-some, same_Some}
 use Rattle.hib_base.specs.Tables.{Tables}
-use Rattle.hib_journal.specs.Types.{Key, Row, Strategy, Script, Part, Act, Reply, Put, Unlocked, Inserted, Updated}
+use Rattle.hib_journal.specs.Types.{Key, Row, Strategy, Script, Part, Act, Reply, Put, Unlocked, Inserted, Updated, Miss}
 use Rattle.hib_journal.specs.Sessions.{same_part, time, is_restart}
 use Rattle.hib_journal.specs.Slot.{Slot, key_in, is_positive}
 use Rattle.hib_journal.specs.Next.{strategy}
@@ -216,13 +216,13 @@ regional w g script lines told h s now n begun a r (EntityRegion.ReadWrite x) y 
 -- ---- no region answers a fault
 
 calm_got : (s : Slot) (time : ℕ) → Runs.is_fault (Regions.got s time) ≡ false
-calm_got s time = by_test (Regions.readable s time) s
+calm_got Slot.Vacant time = refl
+calm_got (Slot.Item r stamp) time = by_test (nat_lt stamp time)
   where
-    by_test : (b : Bool) (s : Slot) → Runs.is_fault (cond b (Regions.row_in s) (Reply.Miss (Regions.miss s))) ≡ false
-    by_test true Slot.Vacant = refl
-    by_test true (Slot.Item r t) = refl
-    by_test true (Slot.Lock l) = refl
-    by_test false s = refl
+    by_test : (b : Bool) → Runs.is_fault (cond b (Reply.Hit r) (Reply.Miss (Miss.Young stamp))) ≡ false
+    by_test true = refl
+    by_test false = refl
+calm_got (Slot.Lock l) time = refl
 
 calm_wide : (b : Bool) (n : ℕ) (r : Reply) → Runs.is_fault r ≡ false → is_fault (cond b (BulkReply.Wide n) (BulkReply.Plain r)) ≡ false
 calm_wide true n r p = refl

@@ -1,10 +1,10 @@
 -- What is noted of keys, one change after another.
+use Rattle.std.specs.Option.{option_or}
 use Rattle.std.proofs.Common.{◌≡◌, ℕ, zero, suc, ◌+◌, ◌<◌, length, get_or, add-one, arith, Bool, true, false, cond, ◌||◌, List, [], ◌∷◌, ◌++◌, Some, None, Option, is_some, slice_get, drop, refl, sym, ap, ◌∙◌, append_assoc}
 use Rattle.std.specs.List.{flat_map}
 use Rattle.std.specs.Map.{keys_of as keys_in, lookup}
 use Rattle.indexmap.specs.IndexMap.{insert_entry}
 use Rattle.hib_base.specs.Keys.{same_key}
-use Rattle.hib_base.specs.Tables.{or_change}
 use Rattle.hib_journal.specs.Types.{Key, Change, Act}
 use Rattle.hib_journal.specs.Next.{add_key}
 use Rattle.hib_completion.specs.Completed.{is_key_in}
@@ -51,10 +51,10 @@ there_more cs None false i c e t = refl
 
 -- the first of so far, of one more, and of the rest
 pub first_more : (cs : List Change) (a : Option ℕ) (b : Bool) (i : ℕ) (c : Change) (rest whole : Option Change) → slice_get cs i ≡ Some c → is_some (at_place cs a) ≡ is_some a →
-    or_change (at_place cs a) (cond b (Some c) rest) ≡ whole → or_change (at_place cs (or_place a (cond b (Some i) None))) rest ≡ whole
+    option_or (at_place cs a) (cond b (Some c) rest) ≡ whole → option_or (at_place cs (or_place a (cond b (Some i) None))) rest ≡ whole
 first_more cs (Some p) b i c rest whole e t h = by (slice_get cs p) t h
   where
-    by : (o : Option Change) → is_some o ≡ true → or_change o (cond b (Some c) rest) ≡ whole → or_change o rest ≡ whole
+    by : (o : Option Change) → is_some o ≡ true → option_or o (cond b (Some c) rest) ≡ whole → option_or o rest ≡ whole
     by (Some d) t h = h
     by None t h = absurd (cc)
 first_more cs None true i c rest whole e t h = rw e h
@@ -62,7 +62,7 @@ first_more cs None false i c rest whole e t h = h
 
 -- and the last
 pub last_more : (cs : List Change) (a : Option ℕ) (rest : Option Change) (b : Bool) (i : ℕ) (c : Change) (whole : Option Change) → slice_get cs i ≡ Some c →
-    or_change (or_change rest (cond b (Some c) None)) (at_place cs a) ≡ whole → or_change rest (at_place cs (cond b (Some i) a)) ≡ whole
+    option_or (option_or rest (cond b (Some c) None)) (at_place cs a) ≡ whole → option_or rest (at_place cs (cond b (Some i) a)) ≡ whole
 last_more cs a (Some d) b i c whole e h = h
 last_more cs a None true i c whole e h = rw e h
 last_more cs a None false i c whole e h = h

@@ -1,10 +1,11 @@
 -- Changes whose keys rise are of one key each.
+use Rattle.std.specs.Option.{option_or}
 use Rattle.std.proofs.Common.{◌≡◌, ℕ, zero, suc, ◌+◌, ◌-◌, ◌<◌, ◌≤◌, Bool, true, false, cond, ◌||◌, List, [], ◌∷◌, Some, None, length, get_or, slice_get, take, drop, refl, sym, ap, ◌∙◌, subst, arith}
 use Rattle.std.specs.List.{list_any}
 use Rattle.std.proofs.lemmas.List.{drop_more, length-drop}
 use Rattle.std.proofs.lemmas.Bool.{and_parts, and_from}
 use Rattle.hib_base.specs.Keys.{same_key, is_before}
-use Rattle.hib_base.specs.Tables.{key_of, first_on, last_on, or_change}
+use Rattle.hib_base.specs.Tables.{key_of, first_on, last_on}
 use Rattle.hib_base.proofs.Tables.{same_key_refl}
 use Rattle.hib_outside.proofs.Orders.{is_before_trans, before_differs}
 use Rattle.hib_journal.specs.Types.{Key, Change, EntityDef, Act}
@@ -46,7 +47,7 @@ none_last k [] h = refl
 none_last k (c ∷ cs) h = by (same_key (key_of c) k) h (λ x. none_last k cs x)
   where
     by : (b : Bool) → (b || list_any (λ d. same_key (key_of d) k) cs) ≡ false → (list_any (λ d. same_key (key_of d) k) cs ≡ false → last_on k cs ≡ None)
-        → or_change (last_on k cs) (cond b (Some c) None) ≡ None
+        → option_or (last_on k cs) (cond b (Some c) None) ≡ None
     by true h i = absurd (cc)
     by false h i = rw (i h) refl
 

@@ -19,17 +19,14 @@ got_item_calm b t (Some p) = by_test (b && Rattle.std.specs.Prelude.nat_le t p.1
     by_test true = refl
     by_test false = refl
 
-row_calm : (x : Slot) → is_fault (Regions.row_in x) ≡ false
-row_calm (Slot.Item r t) = refl
-row_calm Slot.Vacant = refl
-row_calm (Slot.Lock y) = refl
-
 got_calm : (x : Slot) (t : ℕ) → is_fault (Regions.got x t) ≡ false
-got_calm x t = by_test (Regions.readable x t)
+got_calm Slot.Vacant t = refl
+got_calm (Slot.Item r u) t = by_test (Rattle.std.specs.Prelude.nat_lt u t)
   where
-    by_test : (c : Bool) → is_fault (cond c (Regions.row_in x) (Reply.Miss (Regions.miss x))) ≡ false
-    by_test true = row_calm x
+    by_test : (c : Bool) → is_fault (cond c (Reply.Hit r) (Reply.Miss (Miss.Young u))) ≡ false
+    by_test true = refl
     by_test false = refl
+got_calm (Slot.Lock y) t = refl
 
 remove_calm : (o : Option (Row × ℕ)) → is_fault (cond (is_some o) Reply.Dropped Reply.Absent) ≡ false
 remove_calm None = refl

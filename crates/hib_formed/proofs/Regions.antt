@@ -6,7 +6,7 @@ use Rattle.std.proofs.lemmas.Bool.{and_parts, and_from, lt-ltb}
 use Rattle.hib_journal.specs.Types.{Row, Reply, Put, Unlocked, Updated, Miss, Inserted}
 use Rattle.hib_journal.specs.Slot.{LockState, Slot, is_positive}
 use Rattle.hib_journal.specs.Regions
-use Rattle.hib_journal.specs.Regions.{is_below, readable}
+use Rattle.hib_journal.specs.Regions.{is_below}
 use Rattle.hib_entry_fields.specs.Known.{is_tick, is_version, are_cells, is_row}
 use Rattle.hib_entry_texts.specs.WellFormed.{is_count, is_miss, is_got, is_put, is_lock, is_unlock, is_insert, is_update, is_evicted_id, is_dropped}
 use Rattle.hib_formed.proofs.Goods.{early_tick}
@@ -38,16 +38,13 @@ module _ (n : ℕ) (few : n < 2 ^ 64) where
       by false = early_tick l.unlock h.unlock
 
   pub got_good : (s : Slot) (time : ℕ) → IsSlot n s → is_got (Regions.got s time) ≡ true
-  got_good s time h = by (readable s time)
+  got_good Slot.Vacant time h = refl
+  got_good (Slot.Item r t) time h = by (nat_lt t time)
     where
-      row : (s : Slot) → IsSlot n s → is_got (Regions.row_in s) ≡ true
-      row Slot.Vacant h = refl
-      row (Slot.Item r t) h = h.0
-      row (Slot.Lock l) h = miss_good (Slot.Lock l) h
-
-      by : (b : Bool) → is_got (cond b (Regions.row_in s) (Reply.Miss (Regions.miss s))) ≡ true
-      by true = row s h
-      by false = miss_good s h
+      by : (b : Bool) → is_got (cond b (Reply.Hit r) (Reply.Miss (Miss.Young t))) ≡ true
+      by true = h.0
+      by false = miss_good (Slot.Item r t) h
+  got_good (Slot.Lock l) time h = miss_good (Slot.Lock l) h
 
   unlocked_good : (l : LockState) (time : ℕ) → IsLockState n l → is_put (cond (nat_lt l.unlock time) (Put.Stored None false) (Put.Early l.unlock)) ≡ true
   unlocked_good l time h = by (nat_lt l.unlock time)
@@ -73,20 +70,15 @@ module _ (n : ℕ) (few : n < 2 ^ 64) where
       by false true = count_of l.holders h.holders
       by false false = free_good l l.version l.shared time w h h.version
 
-  writable_good : (s : Slot) (time : ℕ) (w : Option ℕ) → IsSlot n s → is_put (Regions.writable s time w) ≡ true
-  writable_good Slot.Vacant time w h = refl
-  writable_good (Slot.Item r t) time w h = by (is_below r.version w)
-    where
-      by : (b : Bool) → is_put (cond b (Put.Stored None false) (Put.Present r.version)) ≡ true
-      by true = refl
-      by false = row_version r h.0
-  writable_good (Slot.Lock l) time w h = lock_good l time w h
-
   pub put_good : (s : Slot) (o : Option (Option ℕ)) (time : ℕ) (w : Option ℕ) → IsSlot n s → IsRoom o → is_put (Regions.put s o time w) ≡ true
   put_good Slot.Vacant None time w h r = refl
   put_good Slot.Vacant (Some v) time w h r = r
-  put_good (Slot.Item x t) o time w h r = writable_good (Slot.Item x t) time w h
-  put_good (Slot.Lock l) o time w h r = writable_good (Slot.Lock l) time w h
+  put_good (Slot.Item x t) o time w h r = by (is_below x.version w)
+    where
+      by : (b : Bool) → is_put (cond b (Put.Stored None false) (Put.Present x.version)) ≡ true
+      by true = refl
+      by false = row_version x h.0
+  put_good (Slot.Lock l) o time w h r = lock_good l time w h
 
   locked : (id until : ℕ) (v : Option ℕ) → id ≤ 2 ^ 61 → until ≤ 2 ^ 62 → is_evicted_id v ≡ true → is_lock (record { id = id; until = until; evicted = v }) ≡ true
   locked id until v h g r = and_from (is_tick id) (is_tick until && is_evicted_id v) (tick_of id h) (and_from (is_tick until) (is_evicted_id v) (early_tick until g) r)

@@ -1,5 +1,5 @@
 -- Rows of entities of the mapping are well formed, at the start and after each commit.
-use Rattle.std.specs.Prelude.{pos, negsuc}
+use Rattle.std.specs.Prelude.{pos, negsuc, unwrap_or, option_map}
 use Rattle.std.specs.Option.{option_map_or}
 use Rattle.std.proofs.Common.{◌≡◌, ℕ, ◌<◌, ◌^◌, Bool, true, false, cond, ◌&&◌, List, [], ◌∷◌, length, slice_get, Some, None, Option, IfSome, refl, sym, subst, inl, inr, arith}
 use Rattle.std.proofs.lemmas.Bool.{false≢true, and_parts, and_from, ltb-true, lt-ltb}
@@ -8,7 +8,7 @@ use Rattle.hib_base.specs.Fits
 use Rattle.hib_base.specs.Fits.{is_identifier, is_of_type, are_of_types, fits, fits_entity}
 use Rattle.hib_base.specs.Keys.{same_key, is_before}
 use Rattle.hib_base.specs.Start.{start, widened}
-use Rattle.hib_base.specs.Tables.{Tables, row_at, with_row, without_row, unless_there, with_absent, after_change, after_changes, same_version, unless_expected, unless_absent, refusal, or_answer, commit_answer, in_order}
+use Rattle.hib_base.specs.Tables.{Tables, row_at, with_row, without_row, unless_there, with_absent, after_change, after_changes, same_version, unless_expected, refusal, commit_answer, in_order}
 use Rattle.hib_base.proofs.Tables.{Tested, tested, same_key_eq}
 use Rattle.hib_base.proofs.Valid.{Rules, rules}
 use Rattle.hib_base.specs.Valid.{is_valid}
@@ -90,7 +90,7 @@ module _ (script : Script) where
       by true = tt
       by false = and_from (is_key script k) (is_version x.version) h (and_parts (is_version x.version) (are_cells x.cells) r).0
 
-  absent_good : (k : Key) (o : Option Row) → is_key script k ≡ true → IfSome (unless_absent k o) (λ a. is_commit script a ≡ true)
+  absent_good : (k : Key) (o : Option Row) → is_key script k ≡ true → IfSome (option_map (λ _. Commit.Duplicate k) o) (λ a. is_commit script a ≡ true)
   absent_good k None h = tt
   absent_good k (Some r) h = h
 
@@ -108,7 +108,7 @@ module _ (script : Script) where
   commit_good (c ∷ cs) t g h = by (refusal c t) (refusal_good c t g.0 h) (commit_good cs (after_change c t) g.1 (change_placed c t g.0 h))
     where
       by : (o : Option Commit) → IfSome o (λ a. is_commit script a ≡ true) → is_commit script (commit_answer cs (after_change c t)) ≡ true →
-          is_commit script (or_answer o (commit_answer cs (after_change c t))) ≡ true
+          is_commit script (unwrap_or o (commit_answer cs (after_change c t))) ≡ true
       by None p i = i
       by (Some a) p i = p
 

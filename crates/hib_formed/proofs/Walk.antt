@@ -1,11 +1,11 @@
 -- Each act that is due is well formed, if a session's entries so far are good.
 use Rattle.std.specs.Prelude.{is_some, option_and_then}
-use Rattle.std.specs.Option.{option_map_or}
+use Rattle.std.specs.Option.{option_map_or, option_or}
 use Rattle.std.proofs.Common.{◌≡◌, ℕ, zero, suc, ◌+◌, ◌<◌, ◌≤◌, Bool, true, false, cond, not, ◌&&◌, ◌==◌, List, [], ◌∷◌, ◌++◌, length, nat_le, slice_get, Some, None, Option, IfSome, refl, sym, ap, ◌∙◌, subst, inl, inr, arith}
 use Rattle.std.proofs.lemmas.Bool.{false≢true, and_parts, and_from, or_left, ltb-true, eq-eqb, le-leb}
 use Rattle.std.specs.List.{AllByRecursion, filter, flat_map, list_all, list_any, range_with_len}
 use Rattle.hib_base.specs.Keys.{same_key}
-use Rattle.hib_base.specs.Tables.{key_of, first_on, last_on, or_change, row_left}
+use Rattle.hib_base.specs.Tables.{key_of, first_on, last_on, row_left}
 use Rattle.hib_base.proofs.Tables.{Tested, tested}
 use Rattle.hib_journal.specs.Types.{Key, Row, Cell, Change, Strategy, Mode, Statement, Script, Act, Reply, Checked, Entry}
 use Rattle.hib_journal.specs.Sessions.{Journal, time_in, floor_in, changes_in}
@@ -229,7 +229,7 @@ module _ (script : Script) where
   last_change k [] h = tt
   last_change k (c ∷ cs) h = by (last_on k cs) (same_key (key_of c) k) (last_change k cs h.1)
     where
-      by : (o : Option Change) (b : Bool) → IfSome o (λ c. is_change script c ≡ true) → IfSome (or_change o (cond b (Some c) None)) (λ c. is_change script c ≡ true)
+      by : (o : Option Change) (b : Bool) → IfSome o (λ c. is_change script c ≡ true) → IfSome (option_or o (cond b (Some c) None)) (λ c. is_change script c ≡ true)
       by (Some d) b i = i
       by None true i = h.0
       by None false i = tt

@@ -7,3 +7,4 @@ pub mod Slots
 pub mod Due
 pub mod Shapes
 pub mod Untouched
+pub mod Words

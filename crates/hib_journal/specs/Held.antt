@@ -68,9 +68,6 @@ abbrev pub removes : Key → Act → Reply → Bool
 removes k (Act.Remove j) Reply.Removed = same_key j k
 removes k _ _ = false
 
-abbrev pub is_removed : Key → Journal → Bool
-is_removed k m = list_any (λ e. removes k e.act e.reply) m
-
 abbrev pub is_inserted : Key → Journal → Bool
 is_inserted k m = list_any (λ e. inserts k e.act) m
 
@@ -115,7 +112,7 @@ pub record Instance : Type 0 where
 abbrev pub instance_of : Key → Stay → Instance
 instance_of k s = record {
   key = k;
-  state = state_of (base_of k s) (is_removed k s.1);
+  state = state_of (base_of k s) (list_any (λ e. removes k e.act e.reply) s.1);
   base = base_of k s;
   row = record { version = (unwrap_or (base_of k s) (arrived_row s.0)).version; cells = cells_set k s.1 (arrived_row s.0).cells };
 }
@@ -186,8 +183,5 @@ gives_row k a (Some r) = true
 gives_row k (Some (Arrival.Read j r)) None = same_key j k
 gives_row k _ None = false
 
-abbrev pub gives_base : Key → Entry → Bool
-gives_base k e = gives_row k (arrival e.act e.reply) (row_written k e.act)
-
 abbrev pub is_fresh : Key → Journal → Bool
-is_fresh k m = list_any (λ e. gives_base k e) (since_begin m)
+is_fresh k m = list_any (λ e. gives_row k (arrival e.act e.reply) (row_written k e.act)) (since_begin m)

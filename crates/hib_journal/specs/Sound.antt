@@ -63,9 +63,13 @@ abbrev pub keeps_by : ℕ → Act → Bool
 keeps_by q (Act.Keep p t l) = p == q
 keeps_by q _ = false
 
+-- the journal up to the List whose list was kept last of q
+abbrev pub kept_moment : ℕ → Journal → Journal
+kept_moment q h =
+    let kept = up_to (λ e. keeps_by q e.act) h in
+    up_to (λ e. same_session (option_and_then (λ d. d.session) (slice_get kept 0)) e.session) (drop 1 kept)
+
 -- the moment of a hit by session s of query q: the journal up to the List whose list was kept by the Keep that the
 -- session's Look found
 abbrev pub moment : ℕ → ℕ → Journal → Journal
-moment s q h =
-    let kept = up_to (λ e. keeps_by q e.act) (drop 1 (up_to (is_by s) h)) in
-    up_to (λ e. same_session (option_and_then (λ d. d.session) (slice_get kept 0)) e.session) (drop 1 kept)
+moment s q h = kept_moment q (drop 1 (up_to (is_by s) h))

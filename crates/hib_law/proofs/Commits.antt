@@ -1,10 +1,11 @@
 -- What a list of changes that applies does to the row of one key.
+use Rattle.std.specs.Prelude.{unwrap_or, option_map}
 use Rattle.std.proofs.Common.{◌≡◌, ℕ, ◌+◌, inl, inr, Bool, true, false, cond, ◌||◌, ◌==◌, ltb, List, [], ◌∷◌, Some, None, Option, refl, ap, sym, ◌∙◌, subst, arith}
 use Rattle.std.proofs.lemmas.Bool.{true≢false, false≢true, eqb-true, ltb-false, le-ltb, or_right, or_left}
 use Rattle.std.specs.List.{list_any}
 use Rattle.hib_journal.specs.Types.{Key, Row, Change, Commit}
 use Rattle.hib_base.specs.Keys.{same_key}
-use Rattle.hib_base.specs.Tables.{Tables, row_at, key_of, after_change, after_changes, refusal, unless_absent, unless_expected, same_version, commit_answer, or_answer, first_on}
+use Rattle.hib_base.specs.Tables.{Tables, row_at, key_of, after_change, after_changes, refusal, unless_expected, same_version, commit_answer, first_on}
 use Rattle.hib_journal.specs.Regions.{is_below}
 use Rattle.hib_journal.specs.Held.{next_version}
 use Rattle.hib_journal.specs.Sound.{deletes_key}
@@ -18,7 +19,7 @@ applies_first c cs t e = by_answer (refusal c t) refl e
     not_refused : (d : Change) (u : Tables) → refusal d u ≡ Some Commit.Committed → ⊥
     not_refused (Change.Insert k r) u f = absent (row_at u k) f
       where
-        absent : (o : Option Row) → unless_absent k o ≡ Some Commit.Committed → ⊥
+        absent : (o : Option Row) → option_map (λ _. Commit.Duplicate k) o ≡ Some Commit.Committed → ⊥
         absent None f = none_some f
         absent (Some x) f = let g : Commit.Duplicate k ≡ Commit.Committed = some_same f in absurd (cc)
     not_refused (Change.Update k v r) u f = expected (row_at u k) f
@@ -42,7 +43,7 @@ applies_first c cs t e = by_answer (refusal c t) refl e
             by_test (inr p) f = let g : Some (Commit.Stale k x.version) ≡ Some Commit.Committed = rw p at f in
                 let w : Commit.Stale k x.version ≡ Commit.Committed = some_same g in absurd (cc)
 
-    by_answer : (o : Option Commit) → refusal c t ≡ o → or_answer (refusal c t) (commit_answer cs (after_change c t)) ≡ Commit.Committed → refusal c t ≡ None
+    by_answer : (o : Option Commit) → refusal c t ≡ o → unwrap_or (refusal c t) (commit_answer cs (after_change c t)) ≡ Commit.Committed → refusal c t ≡ None
     by_answer None p f = p
     by_answer (Some a) p f = let g : a ≡ Commit.Committed = rw p at f in absurd (not_refused c t (p ∙ ap Some g))
 
@@ -50,7 +51,7 @@ pub applies_rest : (c : Change) (cs : List Change) (t : Tables) → commit_answe
     commit_answer cs (after_change c t) ≡ Commit.Committed
 applies_rest c cs t e = let p : refusal c t ≡ None = applies_first c cs t e in rw p at e
 
-pub absent_none : (k : Key) (o : Option Row) → unless_absent k o ≡ None → o ≡ None
+pub absent_none : (k : Key) (o : Option Row) → option_map (λ _. Commit.Duplicate k) o ≡ None → o ≡ None
 absent_none k None e = refl
 absent_none k (Some r) e = none_some (sym e)
 

@@ -1,6 +1,6 @@
 -- What a legal entry that touches a read-write key does to it.
 use Rattle.std.specs.Prelude.{option_and_then}
-use Rattle.std.proofs.Common.{◌≡◌, ℕ, suc, ◌⊎◌, inl, inr, Bool, true, false, cond, ◌&&◌, nat_le, Some, None, Option, refl, sym, ◌∙◌, subst}
+use Rattle.std.proofs.Common.{◌≡◌, ℕ, suc, ◌⊎◌, inl, inr, Bool, true, false, cond, ◌&&◌, nat_le, Some, None, Option, refl, sym, ◌∙◌, subst, nat_lt}
 use Rattle.std.proofs.lemmas.Bool.{true≢false}
 use Rattle.hib_journal.specs.Types.{Key, Row, Strategy, Script, Act, Reply, Put, Locked, Unlocked, Inserted, Updated, Evicted, Miss}
 use Rattle.hib_base.specs.Keys.{same_key}
@@ -87,19 +87,17 @@ none_if : (b : Bool) (p q : Reply) → evicted_in p ≡ None → evicted_in q �
 none_if true p q x y = x
 none_if false p q x y = y
 
-row_none : (s : Slot) → evicted_in (Regions.row_in s) ≡ None
-row_none Slot.Vacant = refl
-row_none (Slot.Item r t) = refl
-row_none (Slot.Lock l) = refl
+got_none : (s : Slot) (t : ℕ) → evicted_in (Regions.got s t) ≡ None
+got_none Slot.Vacant t = refl
+got_none (Slot.Item r u) t = none_if (nat_lt u t) (Reply.Hit r) (Reply.Miss (Miss.Young u)) refl refl
+got_none (Slot.Lock l) t = refl
 
 item_none : (b : Bool) (t : ℕ) (o : Option (Row × ℕ)) → evicted_in (Regions.got_item b t o) ≡ None
 item_none b t None = refl
 item_none b t (Some p) = none_if (b && nat_le t p.1) (Reply.Miss (Miss.Young p.1)) (Reply.Hit p.0) refl refl
 
 get_none : (script : Script) (h : Journal) (g : Strategy) (j : Key) (t : ℕ) → evicted_in (get_reply g script h j t) ≡ None
-get_none script h Strategy.ReadWrite j t =
-    none_if (Regions.readable (slot script.timeout j h) t) (Regions.row_in (slot script.timeout j h)) (Reply.Miss (Regions.miss (slot script.timeout j h)))
-    (row_none (slot script.timeout j h)) refl
+get_none script h Strategy.ReadWrite j t = got_none (slot script.timeout j h) t
 get_none script h Strategy.ReadOnly j t = item_none true t (item (history j h))
 get_none script h Strategy.Nonstrict j t = item_none false t (item (history j h))
 get_none script h Strategy.Uncached j t = item_none false t (item (history j h))

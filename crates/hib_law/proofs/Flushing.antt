@@ -6,13 +6,14 @@ use Rattle.hib_journal.specs.Types.{State, Key, Row, Change, Act, Entry}
 use Rattle.hib_base.specs.Keys.{same_key}
 use Rattle.hib_base.specs.Tables.{key_of, first_on}
 use Rattle.hib_journal.specs.Sessions.{Journal, floor_in, changes_in}
-use Rattle.hib_journal.specs.Held.{Arrival, is_begin, held, stay, Stay, base_of, has_left, instance_of, is_removed, state_of, Instance}
+use Rattle.hib_journal.specs.Held.{Arrival, is_begin, held, stay, Stay, base_of, has_left, instance_of, state_of, Instance}
 use Rattle.hib_journal.specs.Next.{is_in}
 use Rattle.hib_base.proofs.Tables.{Tested, tested, same_key_eq}
 use Rattle.hib_law.proofs.Commits.{AreSteps, IsStep}
 use Rattle.hib_law.proofs.HeldRows.{HasRead, reads_on}
 use Rattle.hib_law.proofs.Pending.{PendingBy}
 use Rattle.hib_law.proofs.Working.{IsWorking, IsReadyIn, IsFreeIn, IsNoUpdate, MayWrite, free_same, Right, holds, holds_after}
+use Rattle.hib_journal.proofs.Words.{is_removed}
 use Rattle.hib_law.proofs.Basics.{none_some, some_same}
 
 -- one more change at the end of a list

@@ -9,9 +9,13 @@ use Rattle.hib_journal.specs.Room.{may_leave}
 use Rattle.hib_journal.specs.Regions.{is_below, free_answer, put}
 use Rattle.hib_journal.specs.Coherence.{remove}
 use Rattle.hib_law.specs.Locks.{holder_count}
-use Rattle.hib_law.specs.Seen.{IsGuarded, IsNotBelow, IsSafe}
+use Rattle.hib_law.specs.Seen.{IsGuarded, IsNotBelow}
 use Rattle.hib_law.specs.Lone.{IsAlone}
 use Rattle.hib_journal.proofs.Slots.{touched, freed}
+
+-- a row that a session of this time has seen: it is committed still, or a put of it will be refused
+abbrev pub IsSafe : ℕ → Row → Slot → Option Row → Type 0
+IsSafe t b slot row = (row ≡ Some b) ⊎ (IsGuarded t slot × IsNotBelow b.version slot)
 
 -- lists of sessions
 

@@ -6,10 +6,11 @@ use Rattle.hib_journal.specs.Types.{Key, Row, Change, Act, Entry}
 use Rattle.hib_base.specs.Keys.{same_key}
 use Rattle.hib_base.specs.Tables.{key_of}
 use Rattle.hib_journal.specs.Sessions.{Journal, changes_in, changes_after}
-use Rattle.hib_journal.specs.Held.{Arrival, arrival, arrived_key, Stay, stay, stay_after, longer, is_break, row_written, base_of, gives_base, gives_row, is_begin, since_begin}
+use Rattle.hib_journal.specs.Held.{Arrival, arrival, arrived_key, Stay, stay, stay_after, longer, is_break, row_written, base_of, gives_row, is_begin, since_begin}
 use Rattle.hib_journal.specs.Next.{is_in}
 use Rattle.hib_journal.specs.Coherence.{Unless}
 use Rattle.hib_base.proofs.Tables.{Tested, tested, same_key_eq}
+use Rattle.hib_journal.proofs.Words.{gives_base}
 use Rattle.hib_law.proofs.Basics.{none_some, some_same}
 
 -- a Hit or a Load of k gave b, since the last Begin

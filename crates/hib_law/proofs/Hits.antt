@@ -1,5 +1,5 @@
 -- A hit of a query lists what the query gave at its moment, and each commit since then on its tables is unstamped.
-use Rattle.std.specs.Prelude.{unwrap_or}
+use Rattle.std.specs.Prelude.{unwrap_or, option_map}
 use Rattle.std.specs.Option.{option_map_or}
 use Rattle.std.proofs.Common.{◌≡◌, ℕ, ◌<◌, ◌≤◌, ◌⊎◌, inl, inr, Bool, true, false, cond, not, ◌&&◌, ◌==◌, nat_lt, List, [], ◌∷◌, length, slice_get, Some, None, Option, refl, ap, sym, ◌∙◌, subst, arith, eq-eqb}
 use Rattle.std.proofs.lemmas.Bool.{true≢false, false≢true, and_parts, or_right, eqb-true, ltb-true}
@@ -11,26 +11,29 @@ use Rattle.hib_journal.specs.Stamps.{stamp, names, check, check_one}
 use Rattle.hib_journal.specs.Results.{Result, others, result, last_kept, kept_after}
 use Rattle.hib_journal.specs.Query
 use Rattle.hib_journal.specs.Next.{tables_in, tables_of, is_in_tables}
-use Rattle.hib_law.specs.Prefixes.{last_reply}
 use Rattle.hib_journal.specs.Legal.{IsLegal, IsStep, IsReply, reply_of, fault_of, is_outside}
-use Rattle.hib_journal.specs.Sound.{commits, unstamped, with_commit, stamped_by, up_to, moment, keeps_by}
+use Rattle.hib_journal.specs.Sound.{commits, unstamped, with_commit, stamped_by, up_to, kept_moment, moment, keeps_by}
 use Rattle.hib_journal.specs.Query.{gives}
 use Rattle.hib_law.specs.Prefixes.{AtEachEntry}
 use Rattle.hib_base.specs.Scripts.{is_declared}
-use Rattle.hib_law.specs.Hits.{is_listed, IsHitTrue, AreHitsTrue}
+use Rattle.hib_law.specs.Hits.{IsHitTrue, AreHitsTrue}
 use Rattle.hib_base.proofs.Tables.{Tested, tested}
 use Rattle.hib_journal.proofs.Sessions.{by, is_some_session, time_le_tick}
 use Rattle.hib_law.proofs.Guarded.{In}
 use Rattle.hib_law.proofs.Coherent.{ordered}
 use Rattle.hib_journal.proofs.Open.{begun_open}
-use Rattle.hib_law.specs.Standing.{IsAtLeast, AreResultsTrue, kept_moment}
-use Rattle.hib_law.proofs.Stamped.{stamp_last, stamp_kept}
+use Rattle.hib_law.specs.Standing.{AreResultsTrue}
+use Rattle.hib_law.proofs.Stamped.{IsAtLeast, stamp_last, stamp_kept}
 use Rattle.hib_law.proofs.Orderly.{Doer, doer}
 use Rattle.hib_law.proofs.QueryRules.{owed, owed_by, MayKeep, MayCheck, AllowedQuery, allowed_query}
 use Rattle.hib_journal.proofs.Untouched.{touches, gives_same}
 use Rattle.hib_law.proofs.Given.{untouched, touched_one, in_tables, in_changed, declared_reads}
 use Rattle.hib_law.proofs.Basics.{none_some, some_same}
 use Rattle.hib_law.proofs.Past.{later_in_session, nil_cons, IsPast, past_refl, past_step, past_trans, legal_past, past_tick, at_each_since, up_own}
+
+-- an entry stands in a list of sessions and ticks
+abbrev is_listed : Entry → List (ℕ × ℕ) → Bool
+is_listed c us = list_any (λ u. is_session u.0 c.session && (u.1 == c.tick)) us
 
 -- the last Keep of a query
 pub up_keep : (q t : ℕ) (l : List Cell) (h : Journal) → last_kept q h ≡ Some (t, l) →
@@ -366,7 +369,7 @@ module _ (script : Script) (start : Tables) where
       not_restart : (d : Entry) (x : Act) → d.act ≡ x → is_restart x ≡ false → is_restart d.act ≡ false
       not_restart d x p n = rw p n
 
-      from_keep : (w : Entry) (g1 : Journal) (x : List Cell) → last_reply (own s h) ≡ Reply.Found t x → up_to (is_by s) h ≡ w ∷ g1 → IsPast g1 h →
+      from_keep : (w : Entry) (g1 : Journal) (x : List Cell) → option_map (λ e. e.reply) (slice_get (own s h) 0) ≡ Some (Reply.Found t x) → up_to (is_by s) h ≡ w ∷ g1 → IsPast g1 h →
           (d : Entry) (g2 : Journal) → up_to (λ x. keeps_by q x.act) g1 ≡ d ∷ g2 → d.act ≡ Act.Keep q t x → IsPast (d ∷ g2) g1 → IsKeptFrom d g2 q t x → IsHitTrue script start s q t h
       from_keep w g1 x fo u1 p1 d g2 u2 k p2 f =
           let lv : IsLegal script (Some start) (f.entry ∷ f.journal) = legal_past script start (f.entry ∷ f.journal) h whole l in
@@ -409,7 +412,7 @@ module _ (script : Script) (start : Tables) where
           let kept : last_kept q u.0 ≡ Some (t, x.1.0) = look_says u.0 w q t x.1.0 lw.1.reply x.0 x.1.1 in
           let v : (d : Entry) × (f : Journal) × (up_to (λ x. keeps_by q x.act) u.0 ≡ d ∷ f) × (d.act ≡ Act.Keep q t x.1.0) × IsPast (d ∷ f) u.0 = up_keep q t x.1.0 u.0 kept in
           let ld : IsLegal script (Some start) (v.0 ∷ v.1) = legal_past script start (v.0 ∷ v.1) u.0 v.4 lw.0 in
-          from_keep w u.0 x.1.0 (rw o (x.1.1)) u.1 (past_step w u.0 h (not_restart w (Act.Look q) x.0 refl) u.3) v.0 v.1 v.2 v.3 v.4
+          from_keep w u.0 x.1.0 (rw o (ap (λ r. Some r) x.1.1)) u.1 (past_step w u.0 h (not_restart w (Act.Look q) x.0 refl) u.3) v.0 v.1 v.2 v.3 v.4
           (keep_from v.1 v.0 q t x.1.0 ld.0 ld.1 v.3)
 
       by_doer : Doer script h e → IsHitTrue script start s q t h

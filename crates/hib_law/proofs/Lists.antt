@@ -12,7 +12,7 @@ use Rattle.hib_journal.specs.Sessions.{Journal}
 use Rattle.hib_law.specs.Hits.{IsHitTrue, AreHitsTrue, IsListGiven, AreListsGiven}
 use Rattle.hib_law.proofs.Hits.{hits_true}
 
-same_list : (t u : ℕ) (k l : List Cell) → Reply.Found t k ≡ Reply.Found u l → k ≡ l
+same_list : (t u : ℕ) (k l : List Cell) → Some (Reply.Found t k) ≡ Some (Reply.Found u l) → k ≡ l
 same_list t u k l e = cc
 
 given_one : (script : Script) (start : Tables) (s q t : ℕ) (h : Journal) → is_valid script ≡ true → IsHitTrue script start s q t h → IsListGiven script start s q t h

@@ -8,10 +8,10 @@ use Rattle.hib_journal.specs.Room.{may_leave}
 use Rattle.hib_journal.specs.Regions.{is_below, put}
 use Rattle.hib_journal.specs.Coherence.{remove}
 use Rattle.hib_law.specs.Locks.{holder_count}
-use Rattle.hib_law.specs.Seen.{IsGuarded, IsNotBelow, IsSafe}
+use Rattle.hib_law.specs.Seen.{IsGuarded, IsNotBelow}
 use Rattle.hib_journal.proofs.Slots.{touched}
 use Rattle.hib_law.specs.Lone.{IsAlone}
-use Rattle.hib_law.proofs.Guarded.{In, IsGrown, IsRowOf, IsLone, IsHolding, View, IsCoherent, Follows, IsQuiet, Move, Commits, IsCommit, in_remove, length_remove, in_none, in_one, safe_store, safe_lock, safe_release, below_none, safe_evict, safe_leave, put_committed, put_no_holder, leave_no_holder}
+use Rattle.hib_law.proofs.Guarded.{IsSafe, In, IsGrown, IsRowOf, IsLone, IsHolding, View, IsCoherent, Follows, IsQuiet, Move, Commits, IsCommit, in_remove, length_remove, in_none, in_one, safe_store, safe_lock, safe_release, below_none, safe_evict, safe_leave, put_committed, put_no_holder, leave_no_holder}
 
 -- how each kind of entry keeps what holds of the slot
 

@@ -1,6 +1,7 @@
 -- The item of a key of a read-only region is the row that the start tables or a committed insert gave to it.
 use Rattle.std.specs.Prelude.{IsSomeAnd}
-use Rattle.std.proofs.Common.{◌≡◌, ℕ, ◌⊎◌, inl, inr, true, false, List, [], ◌∷◌, ◌++◌, Some, None, Option, refl, ap, sym, ◌∙◌}
+use Rattle.std.specs.List.{IsAmong}
+use Rattle.std.proofs.Common.{◌≡◌, ℕ, suc, ◌+◌, ◌<◌, ◌⊎◌, arith, length, inl, inr, true, false, List, [], ◌∷◌, ◌++◌, Some, None, Option, refl, ap, sym, ◌∙◌}
 use Rattle.std.proofs.lemmas.Bool.{true≢false}
 use Rattle.hib_journal.specs.Types.{Key, Row, Change, Strategy, Script, Act}
 use Rattle.hib_base.specs.Keys.{same_key}
@@ -10,7 +11,7 @@ use Rattle.hib_journal.specs.Next.{strategy}
 use Rattle.hib_journal.specs.Legal.{IsLegal}
 use Rattle.hib_law.specs.Prefixes.{AtEachPrefix}
 use Rattle.hib_law.specs.Rows.{WasCommitted}
-use Rattle.hib_law.specs.Items.{Inserts, WasGiven, IsItemGiven}
+use Rattle.hib_law.specs.Items.{WasGiven, IsItemGiven}
 use Rattle.hib_base.proofs.Tables.{Tested, tested, same_key_eq, left_by, row_at_changes}
 use Rattle.hib_law.proofs.ReadOnlyRules.{AllowedOnly, allowed_only}
 use Rattle.hib_law.proofs.Stored.{is_item_old}
@@ -30,8 +31,15 @@ none_append : (k : Key) (cs : List Change) (c : Change) → AreNoUpdates k cs �
 none_append k [] c a b = (b, tt)
 none_append k (d ∷ cs) c a b = (a.0, none_append k cs c a.1 b)
 
+-- a value is the first of a list, or among the others
+among_here : (c : Change) (cs : List Change) (d : Change) → c ≡ d → IsAmong (c ∷ cs) d
+among_here c cs d e = (0, omega arith, sym e)
+
+among_later : (c : Change) (cs : List Change) (d : Change) → IsAmong cs d → IsAmong (c ∷ cs) d
+among_later c cs d a = (suc a.0, omega (arith, a.1.0), a.1.1)
+
 -- then the row that its last change left was inserted
-last_inserts : (k : Key) (cs : List Change) (z : Change) (r : Row) → AreNoUpdates k cs → last_on k cs ≡ Some z → row_left z ≡ Some r → Inserts k r cs
+last_inserts : (k : Key) (cs : List Change) (z : Change) (r : Row) → AreNoUpdates k cs → last_on k cs ≡ Some z → row_left z ≡ Some r → IsAmong cs (Change.Insert k r)
 last_inserts k [] z r a e f = none_some e
 last_inserts k (c ∷ cs) z r a e f = by_last (last_on k cs) refl (λ p. last_inserts k cs z r a.1 p f) (tested (same_key (key_of c) k))
   where
@@ -40,11 +48,11 @@ last_inserts k (c ∷ cs) z r a e f = by_last (last_on k cs) refl (λ p. last_in
     here (Change.Update j v x) n s p = absurd (true≢false (sym s ∙ n))
     here (Change.Delete j v) n s p = none_some p
 
-    by_last : (o : Option Change) → last_on k cs ≡ o → (last_on k cs ≡ Some z → Inserts k r cs) → Tested (same_key (key_of c) k) → Inserts k r (c ∷ cs)
-    by_last (Some d) p i t = let g : Some d ≡ Some z = rw p at e in inr (i (p ∙ g))
+    by_last : (o : Option Change) → last_on k cs ≡ o → (last_on k cs ≡ Some z → IsAmong cs (Change.Insert k r)) → Tested (same_key (key_of c) k) → IsAmong (c ∷ cs) (Change.Insert k r)
+    by_last (Some d) p i t = let g : Some d ≡ Some z = rw p at e in among_later c cs (Change.Insert k r) (i (p ∙ g))
     by_last None p i (inl s) =
         let g : Some c ≡ Some z = rw (p, s) at e in
-        inl (here c a.0 s (ap row_left (some_same g) ∙ f))
+        among_here c cs (Change.Insert k r) (here c a.0 s (ap row_left (some_same g) ∙ f))
     by_last None p i (inr s) = let g : ◌≡◌ {A = Option Change} None (Some z) = rw (p, s) at e in none_some g
 
 module _ (script : Script) (start : Tables) (k : Key) (only : strategy script k.entity ≡ Strategy.ReadOnly) where
@@ -69,7 +77,7 @@ module _ (script : Script) (start : Tables) (k : Key) (only : strategy script k.
   committed_given r (e ∷ h) l p = by_committer (committer e.act e.reply e.session) refl (committed_given r h l.0)
     where
       by_last : (s : ℕ) (o : Option Change) → last_on k (changes s h) ≡ o → left_by o (row_at (committed start h) k) ≡ Some r →
-          (row_at (committed start h) k ≡ Some r → WasGiven start k r h) → IsSomeAnd (Some s) (λ x. Inserts k r (changes x h)) ⊎ WasGiven start k r h
+          (row_at (committed start h) k ≡ Some r → WasGiven start k r h) → IsSomeAnd (Some s) (λ x. IsAmong (changes x h) (Change.Insert k r)) ⊎ WasGiven start k r h
       by_last s None q f i = inr (i f)
       by_last s (Some z) q f i = inl (last_inserts k (changes s h) z r (no_updates s h l.0) q f)
 

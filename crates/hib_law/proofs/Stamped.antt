@@ -1,4 +1,5 @@
 -- The stamp of a table is no earlier than any entry since the restart that stamped it.
+use Rattle.std.specs.Prelude.{IsSomeAnd}
 use Rattle.std.proofs.Common.{◌≡◌, ℕ, ◌+◌, ◌≤◌, ◌⊎◌, inl, inr, Bool, true, false, cond, [], ◌∷◌, Some, None, Option, refl, arith}
 use Rattle.std.proofs.lemmas.Bool.{false≢true, true≢false}
 use Rattle.hib_base.specs.Tables.{Tables}
@@ -7,8 +8,11 @@ use Rattle.hib_journal.specs.Types.{Script, Act, Entry}
 use Rattle.hib_journal.specs.Sessions.{Journal, is_restart, last_tick}
 use Rattle.hib_journal.specs.Legal.{IsLegal}
 use Rattle.hib_journal.specs.Stamps.{stamp, stamp_after, names}
-use Rattle.hib_law.specs.Standing.{stamps, stamped_at, IsAtLeast, AreStampsLate}
+use Rattle.hib_law.specs.Standing.{stamps, stamped_at, AreStampsLate}
 use Rattle.hib_law.proofs.Guarded.{In, listed_in}
+
+abbrev pub IsAtLeast : ℕ → Option ℕ → Type 0
+IsAtLeast n v = IsSomeAnd v (λ m. n ≤ m)
 
 -- the stamp of a table is no earlier than any entry since the restart that stamped it: here, than the last one
 pub stamp_last : (timeout t : ℕ) (e : Entry) (h : Journal) → stamps t e.act ≡ true → IsAtLeast e.tick (stamp timeout t (e ∷ h))

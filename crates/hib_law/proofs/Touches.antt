@@ -85,10 +85,8 @@ none_by : (b : Bool) (p q : Put) → evicted_in (Reply.Put p) ≡ None → evict
 none_by true p q x y = x
 none_by false p q x y = y
 
-writable_none : (s : Slot) (t : ℕ) (w : Option ℕ) → evicted_in (Reply.Put (Regions.writable s t w)) ≡ None
-writable_none Slot.Vacant t w = refl
-writable_none (Slot.Item r u) t w = none_by (Regions.is_below r.version w) (Put.Stored None false) (Put.Present r.version) refl refl
-writable_none (Slot.Lock l) t w =
+over_none : (l : LockState) (t : ℕ) (w : Option ℕ) → evicted_in (Reply.Put (Regions.lock_answer l t w)) ≡ None
+over_none l t w =
     none_by (nat_lt l.timeout t) (Put.Stored None (is_positive l.holders || nat_le t l.unlock))
     (cond (is_positive l.holders) (Put.Held l.holders) (Regions.free_answer l l.version l.shared t w)) refl
     (none_by (is_positive l.holders) (Put.Held l.holders) (Regions.free_answer l l.version l.shared t w) refl (free_none l.version l.shared))
@@ -101,8 +99,9 @@ writable_none (Slot.Lock l) t w =
 pub put_victim : (s : Slot) (r : Option (Option ℕ)) (t : ℕ) (w : Option ℕ) (i : ℕ) → evicted_in (Reply.Put (Regions.put s r t w)) ≡ Some i → r ≡ Some (Some i)
 put_victim Slot.Vacant None t w i e = none_some e
 put_victim Slot.Vacant (Some v) t w i e = ap Some e
-put_victim (Slot.Item x u) r t w i e = none_some (sym (writable_none (Slot.Item x u) t w) ∙ e)
-put_victim (Slot.Lock l) r t w i e = none_some (sym (writable_none (Slot.Lock l) t w) ∙ e)
+put_victim (Slot.Item x u) r t w i e =
+    none_some (sym (none_by (Regions.is_below x.version w) (Put.Stored None false) (Put.Present x.version) refl refl) ∙ e)
+put_victim (Slot.Lock l) r t w i e = none_some (sym (over_none l t w) ∙ e)
 
 pub insert_victim : (s : Slot) (r : Option (Option ℕ)) (i : ℕ) → evicted_in (Reply.Inserted (Regions.after_insert s r)) ≡ Some i → r ≡ Some (Some i)
 insert_victim Slot.Vacant None i e = none_some e

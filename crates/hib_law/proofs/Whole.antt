@@ -1,5 +1,5 @@
 -- A sound read-write key is coherent at every entry of every legal journal; and what its sessions read, they have seen.
-use Rattle.std.specs.Prelude.{unwrap_or, cond}
+use Rattle.std.specs.Prelude.{unwrap_or, cond, nat_lt}
 use Rattle.std.proofs.Common.{◌≡◌, ℕ, ◌<◌, ◌⊎◌, inl, inr, Bool, true, false, List, [], ◌∷◌, Some, None, Option, refl, ap, sym, ◌∙◌, subst}
 use Rattle.std.proofs.lemmas.Bool.{true≢false, false≢true, ltb-true}
 use Rattle.hib_journal.specs.Types.{Key, Row, Change, Strategy, Miss, Script, Act, Reply, Entry}
@@ -59,9 +59,9 @@ view_unchanged start h s k n =
 pub hit_item : (z : Slot) (t : ℕ) (b : Row) → Regions.got z t ≡ Reply.Hit b → (u : ℕ) × (z ≡ Slot.Item b u) × (u < t)
 hit_item Slot.Vacant t b e = absurd (cc)
 hit_item (Slot.Lock l) t b e = absurd (cc)
-hit_item (Slot.Item r u) t b e = by_time (tested (Regions.readable (Slot.Item r u) t)) e
+hit_item (Slot.Item r u) t b e = by_time (tested (nat_lt u t)) e
   where
-    by_time : Tested (Regions.readable (Slot.Item r u) t) → Regions.got (Slot.Item r u) t ≡ Reply.Hit b → (v : ℕ) × (Slot.Item r u ≡ Slot.Item b v) × (v < t)
+    by_time : Tested (nat_lt u t) → Regions.got (Slot.Item r u) t ≡ Reply.Hit b → (v : ℕ) × (Slot.Item r u ≡ Slot.Item b v) × (v < t)
     by_time (inl p) e =
         let g : Reply.Hit r ≡ Reply.Hit b = rw p at e in
         let q : r ≡ b = cc in (u, ap (λ x. Slot.Item x u) q, ltb-true u t p)

@@ -9,7 +9,8 @@ use Rattle.hib_journal.specs.Held.{is_begin}
 use Rattle.hib_journal.specs.Next.{strategy}
 use Rattle.hib_journal.specs.Coherence.{gives_back, holders}
 use Rattle.hib_journal.specs.Legal.{IsLegal}
-use Rattle.hib_law.specs.Writers.{is_insert, gave_back, AreWritersHolders}
+use Rattle.hib_journal.specs.Sound.{inserts_key}
+use Rattle.hib_law.specs.Writers.{gave_back, AreWritersHolders}
 use Rattle.hib_base.proofs.Tables.{Tested, tested}
 use Rattle.hib_law.proofs.Basics.{none_some, some_same}
 use Rattle.hib_law.proofs.Working.{Allowed, MayWrite, holds, holds_after}
@@ -20,7 +21,7 @@ use Rattle.hib_law.proofs.Ids.{in_holder}
 
 -- of changes, whether the lock is held, and whether it was given back
 abbrev IsWriter : Key → List Change → Bool → Bool → Type 0
-IsWriter k cs held back = (c : Change) → first_on k cs ≡ Some c → is_insert c ≡ false → back ≡ false → held ≡ true
+IsWriter k cs held back = (c : Change) → first_on k cs ≡ Some c → inserts_key k c ≡ false → back ≡ false → held ≡ true
 
 abbrev back_after : Key → Act → Bool → Bool
 back_after k a x = cond (is_begin a) false (gives_back k a || x)
@@ -34,15 +35,15 @@ writer_write : (k : Key) (m : Journal) (d : Change) → MayWrite k m d → IsWri
     IsWriter k (changes_in m ++ d ∷ []) (holds k m) (gave_back k m)
 writer_write k m d w i c p n b = by_first (first_on k (changes_in m)) refl
   where
-    under : (d : Change) → MayWrite k m d → same_key (key_of d) k ≡ true → first_on k (changes_in m) ≡ None → is_insert d ≡ false → holds k m ≡ true
-    under (Change.Insert j r) w s u n = absurd (true≢false n)
+    under : (d : Change) → MayWrite k m d → same_key (key_of d) k ≡ true → first_on k (changes_in m) ≡ None → inserts_key k d ≡ false → holds k m ≡ true
+    under (Change.Insert j r) w s u n = absurd (true≢false (sym s ∙ n))
     under (Change.Update j v r) w s u n = (w s).1 u
     under (Change.Delete j v) w s u n = w s u
 
     by_key : first_on k (changes_in m) ≡ None → Tested (same_key (key_of d) k) → holds k m ≡ true
     by_key u (inl s) =
         let g : d ≡ c = some_same (sym (first_append_none k (changes_in m) d u s) ∙ p) in
-        under d w s u (subst (λ x. is_insert x ≡ false) (sym g) n)
+        under d w s u (subst (λ x. inserts_key k x ≡ false) (sym g) n)
     by_key u (inr s) = none_some (sym u ∙ (sym (first_append_other k (changes_in m) d s) ∙ p))
 
     by_first : (o : Option Change) → first_on k (changes_in m) ≡ o → holds k m ≡ true

@@ -1,5 +1,6 @@
 -- What is claimed of the items of keys that need not be sound, and of the weaker regions.
-use Rattle.std.specs.Prelude.{◌≡◌, ℕ, ◌⊎◌, List, [], ◌∷◌, Some, IsSomeAnd}
+use Rattle.std.specs.Prelude.{◌≡◌, ℕ, ◌⊎◌, [], ◌∷◌, Some, IsSomeAnd}
+use Rattle.std.specs.List.{IsAmong}
 use Rattle.hib_journal.specs.Types.{Key, Row, Change, Script}
 use Rattle.hib_base.specs.Tables.{Tables, row_at}
 use Rattle.hib_journal.specs.Sessions.{Journal, changes, committer}
@@ -12,15 +13,10 @@ pub record IsItemOld (script : Script) (start : Tables) (k : Key) (h : Journal) 
   pub slot : (r : Row) (t : ℕ) → slot script.timeout k h ≡ Slot.Item r t → WasCommitted start k r h
   pub item : (r : Row) (t : ℕ) → item (history k h) ≡ Some (r, t) → WasCommitted start k r h
 
--- an Insert of k with row r is among these changes
-abbrev pub Inserts : Key → Row → List Change → Type 0
-Inserts k r [] = ⊥
-Inserts k r (c ∷ cs) = (c ≡ Change.Insert k r) ⊎ Inserts k r cs
-
 -- the rows at the start or a Committed Insert gave row r to k
 abbrev pub WasGiven : Tables → Key → Row → Journal → Type 0
 WasGiven start k r [] = row_at start k ≡ Some r
-WasGiven start k r (e ∷ h) = IsSomeAnd (committer e.act e.reply e.session) (λ s. Inserts k r (changes s h)) ⊎ WasGiven start k r h
+WasGiven start k r (e ∷ h) = IsSomeAnd (committer e.act e.reply e.session) (λ s. IsAmong (changes s h) (Change.Insert k r)) ⊎ WasGiven start k r h
 
 -- the item of a key of a read-only region is the row that it was given
 abbrev pub IsItemGiven : Tables → Key → Journal → Type 0

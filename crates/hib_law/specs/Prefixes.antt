@@ -1,6 +1,6 @@
 -- At each point of a journal.
 use Rattle.std.specs.Prelude.{[], ◌∷◌}
-use Rattle.hib_journal.specs.Types.{Reply, Entry}
+use Rattle.hib_journal.specs.Types.{Entry}
 use Rattle.hib_journal.specs.Sessions.{Journal}
 
 -- at each prefix of a journal, the empty one and the whole among them
@@ -12,8 +12,3 @@ AtEachPrefix P (e ∷ h) = P (e ∷ h) × AtEachPrefix P h
 abbrev pub AtEachEntry : (Journal → Entry → Type 0) → Journal → Type 0
 AtEachEntry P [] = Unit {0}
 AtEachEntry P (e ∷ h) = P h e × AtEachEntry P h
-
--- the reply of the newest entry
-abbrev pub last_reply : Journal → Reply
-last_reply [] = Reply.Done
-last_reply (e ∷ m) = e.reply

@@ -21,15 +21,11 @@ IsNotBelow w Slot.Vacant = Unit {0}
 IsNotBelow w (Slot.Item r stamp) = is_below r.version w ≡ false
 IsNotBelow w (Slot.Lock l) = l.shared ≡ false → is_below l.version w ≡ false
 
--- a row that a session of this time has seen: it is committed still, or a put of it will be refused
-abbrev pub IsSafe : ℕ → Row → Slot → Option Row → Type 0
-IsSafe t b slot row = (row ≡ Some b) ⊎ (IsGuarded t slot × IsNotBelow b.version slot)
-
--- each row of a sound key that an open session has seen is committed still, or guarded from it
+-- each row of a sound key that an open session has seen is committed still, or a put of it will be refused
 abbrev pub AreSeenSafe : Script → Tables → Key → Journal → Type 0
 AreSeenSafe script start k h =
     is_sound k h ≡ true → (s : ℕ) (b : Row) → is_open s h ≡ true → Seen start k s b h
-    → IsSafe (time s h) b (slot script.timeout k h) (row_at (committed start h) k)
+    → (row_at (committed start h) k ≡ Some b) ⊎ (IsGuarded (time s h) (slot script.timeout k h) × IsNotBelow b.version (slot script.timeout k h))
 
 -- the floor that an open session was told is no later than the time of any open session
 abbrev pub AreFloorsLow : Journal → Type 0

@@ -1,14 +1,14 @@
 -- What is claimed of stamps and of results for as long as they stand.
-use Rattle.std.specs.Prelude.{◌≡◌, ℕ, ◌≤◌, ◌<◌, Bool, true, false, if◌then◌else◌, ◌==◌, List, [], ◌∷◌, drop, slice_get, Some, None, Option, option_and_then}
+use Rattle.std.specs.Prelude.{◌≡◌, ℕ, ◌≤◌, ◌<◌, Bool, true, false, if◌then◌else◌, ◌==◌, List, [], ◌∷◌, slice_get, Some, IsSomeAnd}
 use Rattle.std.specs.List.{list_any}
 use Rattle.hib_base.specs.Tables.{Tables}
 use Rattle.hib_base.specs.Scripts.{is_declared}
 use Rattle.hib_journal.specs.Types.{Cell, Query, Script, Act, Reply, Entry}
-use Rattle.hib_journal.specs.Sessions.{Journal, same_session, is_restart, committed}
+use Rattle.hib_journal.specs.Sessions.{Journal, is_restart, committed}
 use Rattle.hib_journal.specs.Stamps.{stamp, names}
 use Rattle.hib_journal.specs.Results.{last_kept}
 use Rattle.hib_journal.specs.Query.{gives}
-use Rattle.hib_journal.specs.Sound.{keeps_by, up_to}
+use Rattle.hib_journal.specs.Sound.{kept_moment}
 
 -- whether an act stamps t
 abbrev pub stamps : ℕ → Act → Bool
@@ -21,19 +21,9 @@ abbrev pub stamped_at : ℕ → Journal → List ℕ
 stamped_at t [] = []
 stamped_at t (e ∷ h) = if is_restart e.act then [] else (if stamps t e.act then e.tick ∷ stamped_at t h else stamped_at t h)
 
-abbrev pub IsAtLeast : ℕ → Option ℕ → Type 0
-IsAtLeast n None = ⊥
-IsAtLeast n (Some v) = n ≤ v
-
 -- the stamp of each table is at least each of these ticks
 abbrev pub AreStampsLate : Script → Journal → Type 0
-AreStampsLate script h = (t n : ℕ) → list_any (λ m. m == n) (stamped_at t h) ≡ true → IsAtLeast n (stamp script.timeout t h)
-
--- the journal up to the List whose list was kept last of q
-abbrev pub kept_moment : ℕ → Journal → Journal
-kept_moment q h =
-    let kept = up_to (λ e. keeps_by q e.act) h in
-    up_to (λ e. same_session (option_and_then (λ d. d.session) (slice_get kept 0)) e.session) (drop 1 kept)
+AreStampsLate script h = (t n : ℕ) → list_any (λ m. m == n) (stamped_at t h) ≡ true → IsSomeAnd (stamp script.timeout t h) (λ v. n ≤ v)
 
 -- a result that is kept: it is what a List has answered, later than the result's time; and it is what the query gave over the
 -- committed rows there, if its tables are declared

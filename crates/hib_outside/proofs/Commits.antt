@@ -1,10 +1,12 @@
 -- A keeper's verdict on a batch is the store's answer to a commit.
+use Rattle.std.specs.Option.{option_or}
+use Rattle.std.specs.Prelude.{unwrap_or, option_map}
 use Rattle.std.proofs.Common.{◌≡◌, ℕ, zero, suc, ◌+◌, ◌-◌, ◌<◌, ◌≤◌, Bool, true, false, cond, List, [], ◌∷◌, ◌++◌, length, take, drop, get_or, Some, None, Option, refl, sym, ap, ◌∙◌, subst, arith, slice_get, append_assoc, length-append}
 use Rattle.std.proofs.lemmas.List.{take_more, drop_more}
 use Rattle.std.specs.Map.{lookup}
 use Rattle.hib_base.specs.Keys.{same_key}
 use Rattle.hib_base.proofs.Tables.{left_by, row_at_changes}
-use Rattle.hib_base.specs.Tables.{Tables, row_at, with_absent, unless_there, last_on, or_change, after_change, after_changes, key_of, same_version, unless_expected, unless_absent, refusal, or_answer, commit_answer}
+use Rattle.hib_base.specs.Tables.{Tables, row_at, with_absent, unless_there, last_on, after_change, after_changes, key_of, same_version, unless_expected, refusal, commit_answer}
 use Rattle.hib_outside.specs.Types.{Key, Row, Change, Commit}
 use Rattle.hib_outside.specs.Lasts.{change_at, HasLasts}
 use Rattle.hib_outside.specs.Verdicts.{unless_as_expected, unless_free, refused_at, or_verdict, verdict, commit_of}
@@ -19,7 +21,7 @@ get_at : (pre cs : List Change) (c : Change) → slice_get (pre ++ c ∷ cs) (le
 get_at [] cs c = refl
 get_at (p ∷ ps) cs c = get_at ps cs c
 
-free_answer : (w : List Change) (at : ℕ) (c : Change) (o : Option Row) → slice_get w at ≡ Some c → answered w (unless_free at o) ≡ unless_absent (key_of c) o
+free_answer : (w : List Change) (at : ℕ) (c : Change) (o : Option Row) → slice_get w at ≡ Some c → answered w (unless_free at o) ≡ option_map (λ _. Commit.Duplicate (key_of c)) o
 free_answer w at c None h = refl
 free_answer w at c (Some r) h = rw h refl
 
@@ -36,7 +38,7 @@ refusal_answer w at (Change.Insert k r) t h = free_answer w at (Change.Insert k 
 refusal_answer w at (Change.Update k v r) t h = expected_answer w at (Change.Update k v r) v (row_at t k) h
 refusal_answer w at (Change.Delete k v) t h = expected_answer w at (Change.Delete k v) v (row_at t k) h
 
-or_answered : (w : List Change) (o : Option Applied) (a : Applied) → commit_of w (or_verdict o a) ≡ or_answer (answered w o) (commit_of w a)
+or_answered : (w : List Change) (o : Option Applied) (a : Applied) → commit_of w (or_verdict o a) ≡ unwrap_or (answered w o) (commit_of w a)
 or_answered w None a = refl
 or_answered w (Some b) a = refl
 
@@ -51,8 +53,8 @@ commit_of_rest pre (c ∷ cs) t n e =
     subst (λ w. commit_of w (verdict (after_change c t) cs (n + 1)) ≡ commit_answer cs (after_change c t)) joined
     (commit_of_rest (pre ++ c ∷ []) cs (after_change c t) (n + 1) longer) in
     or_answered (pre ++ c ∷ cs) (refused_at n c (row_at t (key_of c))) (verdict (after_change c t) cs (n + 1))
-    ∙ ap (λ o. or_answer o (commit_of (pre ++ c ∷ cs) (verdict (after_change c t) cs (n + 1)))) (refusal_answer (pre ++ c ∷ cs) n c t found)
-    ∙ ap (or_answer (refusal c t)) rest
+    ∙ ap (λ o. unwrap_or o (commit_of (pre ++ c ∷ cs) (verdict (after_change c t) cs (n + 1)))) (refusal_answer (pre ++ c ∷ cs) n c t found)
+    ∙ ap (unwrap_or (refusal c t)) rest
 
 pub commit_of_verdict : (cs : List Change) (t : Tables) → commit_of cs (verdict t cs 0) ≡ commit_answer cs t
 commit_of_verdict cs t = commit_of_rest [] cs t 0 refl
@@ -66,17 +68,17 @@ pub with_absent_push : (t es : Tables) (e : Key × Row) → with_absent t (es ++
 with_absent_push t [] e = refl
 with_absent_push t (d ∷ es) e = with_absent_push (unless_there t d.0 d.1 (row_at t d.0)) es e
 
-pub last_on_push : (k : Key) (cs : List Change) (c : Change) → last_on k (cs ++ c ∷ []) ≡ or_change (cond (same_key (key_of c) k) (Some c) None) (last_on k cs)
+pub last_on_push : (k : Key) (cs : List Change) (c : Change) → last_on k (cs ++ c ∷ []) ≡ option_or (cond (same_key (key_of c) k) (Some c) None) (last_on k cs)
 last_on_push k [] c = by_key (cond (same_key (key_of c) k) (Some c) None)
   where
-    by_key : (o : Option Change) → or_change None o ≡ or_change o None
+    by_key : (o : Option Change) → option_or None o ≡ option_or o None
     by_key None = refl
     by_key (Some d) = refl
 last_on_push k (d ∷ cs) c =
-    ap (λ o. or_change o (cond (same_key (key_of d) k) (Some d) None)) (last_on_push k cs c)
+    ap (λ o. option_or o (cond (same_key (key_of d) k) (Some d) None)) (last_on_push k cs c)
     ∙ by_key (cond (same_key (key_of c) k) (Some c) None) (last_on k cs) (cond (same_key (key_of d) k) (Some d) None)
   where
-    by_key : (a b o : Option Change) → or_change (or_change a b) o ≡ or_change a (or_change b o)
+    by_key : (a b o : Option Change) → option_or (option_or a b) o ≡ option_or a (option_or b o)
     by_key None b o = refl
     by_key (Some x) b o = refl
 
@@ -91,13 +93,13 @@ pub last_on_found : (cs : List Change) (k : Key) (n : ℕ) (c : Change) → 0 < 
     → same_key (key_of c) k ≡ true → last_on k cs ≡ Some c
 last_on_found cs k n c h l r e s =
     e ∙ ap (last_on k) (take_last cs n c h l r) ∙ last_on_push k (take (n - 1) cs) c
-    ∙ ap (λ b. or_change (cond b (Some c) None) (last_on k (take (n - 1) cs))) s
+    ∙ ap (λ b. option_or (cond b (Some c) None) (last_on k (take (n - 1) cs))) s
 
 pub row_after_next : (cs : List Change) (k : Key) (n : ℕ) (c : Change) → 0 < n → n ≤ length cs → c ≡ get_or cs (n - 1) c
     → last_on k cs ≡ last_on k (take n cs) → same_key (key_of c) k ≡ false → last_on k cs ≡ last_on k (take (n - 1) cs)
 row_after_next cs k n c h l r e s =
     e ∙ ap (last_on k) (take_last cs n c h l r) ∙ last_on_push k (take (n - 1) cs) c
-    ∙ ap (λ b. or_change (cond b (Some c) None) (last_on k (take (n - 1) cs))) s
+    ∙ ap (λ b. option_or (cond b (Some c) None) (last_on k (take (n - 1) cs))) s
 
 -- the row of a key after the first changes is what the last of them on the key leaves, or else the row before
 pub row_after_last : (cs : List Change) (n : ℕ) (t : Tables) (k : Key) (ps : List (Key × ℕ)) → HasLasts cs n ps
@@ -116,7 +118,7 @@ lasts_next cs n c k o l r h =
     let past : take (n + 1) cs ≡ take n cs ++ c ∷ [] = take_more cs n c l ∙ ap (λ d. take n cs ++ d ∷ []) (sym r) in
     by (same_key (key_of c) k) ∙ sym (ap (last_on k) past ∙ last_on_push k (take n cs) c)
   where
-    by : (b : Bool) → change_at cs (cond b (Some n) o) ≡ or_change (cond b (Some c) None) (last_on k (take n cs))
+    by : (b : Bool) → change_at cs (cond b (Some n) o) ≡ option_or (cond b (Some c) None) (last_on k (take n cs))
     by true = got_at cs n c l r
     by false = h
 

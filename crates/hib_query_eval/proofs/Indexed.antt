@@ -1,9 +1,10 @@
 -- The places of the cells of tables, as rows come and go.
+use Rattle.std.specs.Prelude.{unwrap_or}
 use Rattle.std.proofs.Common.{◌≡◌, ℕ, zero, suc, ◌+◌, ◌^◌, ◌<◌, Bool, true, false, cond, not, ◌&&◌, ◌||◌, ◌==◌, List, [], ◌∷◌, length, take, drop, get_or, is_some, is_none, Some, None, Option, refl, ap, sym, ◌∙◌, subst, inl, inr, add-one, arith}
 use Rattle.std.proofs.lemmas.Bool.{true≢false, and_parts, eqb-true}
 use Rattle.std.proofs.lemmas.List.{drop_more}
 use Rattle.hib_base.specs.Keys.{same_key, is_before}
-use Rattle.hib_base.specs.Tables.{Tables, row_at, is_first, in_order, key_of, row_left, after_change, after_changes, refusal, or_answer, commit_answer}
+use Rattle.hib_base.specs.Tables.{Tables, row_at, is_first, in_order, key_of, row_left, after_change, after_changes, refusal, commit_answer}
 use Rattle.hib_base.proofs.Tables.{Tested, tested, same_key_eq, same_key_refl, row_at_change, row_at_other_change}
 use Rattle.hib_outside.proofs.Orders.{rest_in_order}
 use Rattle.hib_outside.proofs.Searches.{first_before, earlier}
@@ -186,7 +187,7 @@ next_answer cs i c t u v l e h n a =
     h ∙ ap (λ xs. commit_answer xs u) (drop_more cs i c l ∙ ap (λ x. x ∷ drop (i + 1) cs) (sym e))
     ∙ at (refusal c u) a ∙ sym (ap (commit_answer (drop (i + 1) cs)) n)
   where
-    at : (o : Option Commit) → is_none o ≡ true → or_answer o (commit_answer (drop (i + 1) cs) (after_change c u)) ≡ commit_answer (drop (i + 1) cs) (after_change c u)
+    at : (o : Option Commit) → is_none o ≡ true → unwrap_or o (commit_answer (drop (i + 1) cs) (after_change c u)) ≡ commit_answer (drop (i + 1) cs) (after_change c u)
     at None h = refl
     at (Some b) h = absurd (true≢false (sym h))
 

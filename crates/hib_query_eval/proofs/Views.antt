@@ -1,4 +1,5 @@
 -- Which keys changes change, and the rows that stand there.
+use Rattle.std.specs.Option.{option_or}
 use Rattle.std.proofs.Common.{◌≡◌, ℕ, ◌+◌, ◌<◌, ◌≤◌, Bool, true, false, cond, ◌&&◌, ◌||◌, List, [], ◌∷◌, ◌++◌, length, take, get_or, Some, None, Option, is_some, refl, ap, sym, ◌∙◌, subst, inl, inr}
 use Rattle.std.specs.List.{list_any}
 use Rattle.std.specs.Cmp.{unsigned_tied, nat_eq_equiv}
@@ -9,7 +10,7 @@ use Rattle.std.proofs.lemmas.Bool.{true≢false}
 use Rattle.std.proofs.lemmas.List.{take_more, take_all}
 use Rattle.std.proofs.lemmas.List.Folds.{list_any-append}
 use Rattle.hib_base.specs.Keys.{same_key}
-use Rattle.hib_base.specs.Tables.{Tables, row_at, row_left, key_of, after_change, after_changes, last_on, or_change}
+use Rattle.hib_base.specs.Tables.{Tables, row_at, row_left, key_of, after_change, after_changes, last_on}
 use Rattle.hib_outside.proofs.Commits.{after_changes_push}
 use Rattle.hib_base.proofs.Tables.{Tested, tested, same_key_eq, left_by, row_at_changes, row_at_change, row_at_other_change}
 use Rattle.hib_journal.specs.Types.{Key, Row, Change}
@@ -107,7 +108,7 @@ changed_last : (k : Key) (cs : List Change) → is_changed k cs ≡ is_some (las
 changed_last k [] = refl
 changed_last k (c ∷ cs) = ap (λ b. same_key (key_of c) k || b) (changed_last k cs) ∙ at (last_on k cs) (same_key (key_of c) k)
   where
-    at : (o : Option Change) (b : Bool) → (b || is_some o) ≡ is_some (or_change o (cond b (Some c) None))
+    at : (o : Option Change) (b : Bool) → (b || is_some o) ≡ is_some (option_or o (cond b (Some c) None))
     at (Some d) true = refl
     at (Some d) false = refl
     at None true = refl

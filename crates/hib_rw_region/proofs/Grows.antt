@@ -137,10 +137,8 @@ free_leaves l (Some v) false time w = cond_leaves (Regions.is_below (Some v) w) 
 free_leaves l (Some v) true time w = cond_leaves (nat_lt l.unlock time) false (Put.Early l.unlock) tt
 free_leaves l None x time w = cond_leaves (nat_lt l.unlock time) false (Put.Early l.unlock) tt
 
-writable_leaves : (s : Slot) (time : ℕ) (w : Option ℕ) → NoneLeaves (Regions.writable s time w)
-writable_leaves Slot.Vacant time w = refl
-writable_leaves (Slot.Item r t) time w = cond_leaves (Regions.is_below r.version w) false (Put.Present r.version) tt
-writable_leaves (Slot.Lock l) time w = cond_leaves (nat_lt l.timeout time) (is_positive l.holders || nat_le time l.unlock)
+lock_leaves : (l : LockState) (time : ℕ) (w : Option ℕ) → NoneLeaves (Regions.lock_answer l time w)
+lock_leaves l time w = cond_leaves (nat_lt l.timeout time) (is_positive l.holders || nat_le time l.unlock)
     (cond (is_positive l.holders) (Put.Held l.holders) (Regions.free_answer l l.version l.shared time w)) (by (is_positive l.holders))
   where
     by : (b : Bool) → NoneLeaves (cond b (Put.Held l.holders) (Regions.free_answer l l.version l.shared time w))
@@ -148,8 +146,9 @@ writable_leaves (Slot.Lock l) time w = cond_leaves (nat_lt l.timeout time) (is_p
     by false = free_leaves l l.version l.shared time w
 
 put_over : (s : Kept) (room : Option (Option ℕ)) (time : ℕ) (w : Option ℕ) → NoneLeaves (Regions.put (shown s) room time w)
-put_over (Kept.Item r t) room time w = writable_leaves (Slot.Item r t) time w
-put_over (Kept.Lock i v t n x u) room time w = writable_leaves (shown (Kept.Lock i v t n x u)) time w
+put_over (Kept.Item r t) room time w = cond_leaves (Regions.is_below r.version w) false (Put.Present r.version) tt
+put_over (Kept.Lock i v t n x u) room time w =
+    lock_leaves (record { id = i; version = v; timeout = t; holders = n; shared = x; unlock = u }) time w
 
 put_apart : (state : RegionState) (id time floor : ℕ) (w v : Option ℕ) (late : Bool) → Regions.put (slot_in state id) (room_in state floor) time w ≡ Put.Stored v late → option_map_or (λ x. x == id) v false ≡ false
 put_apart state id time floor w v late is = by (kept_in state id) refl

@@ -8,8 +8,9 @@ use Rattle.hib_base.specs.Keys.{same_key}
 use Rattle.hib_journal.specs.Types.{Key, Row, Cell, Change, State, Act, Reply, Entry}
 use Rattle.hib_journal.specs.Sessions.{Journal}
 use Rattle.hib_journal.specs.Held as held
-use Rattle.hib_journal.specs.Held.{Instance, Stay, Arrival, arrival, arrived_key, arrived_row, is_break, stay, stay_after, longer, has_left, base_of, last_written, row_written, state_of, cells_set, cells_after, is_removed, is_inserted, is_undone, removes, deletes, inserts, instance_of, with_cells}
+use Rattle.hib_journal.specs.Held.{Instance, Stay, Arrival, arrival, arrived_key, arrived_row, is_break, stay, stay_after, longer, has_left, base_of, last_written, row_written, state_of, cells_set, cells_after, is_inserted, is_undone, removes, deletes, inserts, instance_of, with_cells}
 use Rattle.hib_identity_map.specs.Identity.{state_written}
+use Rattle.hib_journal.proofs.Words.{is_removed}
 use Rattle.hib_session.specs.Memory.{is_unwritten}
 
 -- what an entry makes of the instance of its key

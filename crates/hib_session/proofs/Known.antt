@@ -8,7 +8,7 @@ use Rattle.hib_base.proofs.Tables.{same_key_eq, same_key_refl, Tested, tested}
 use Rattle.hib_journal.specs.Types.{Key, Row, Change, Held, Act, Reply, Entry}
 use Rattle.hib_journal.specs.Sessions.{Journal, time_after, floor_after, changes_after}
 use Rattle.hib_journal.specs.Held as held
-use Rattle.hib_journal.specs.Held.{Instance, Stay, Arrival, arrival, arrived, arrived_key, is_break, row_written, without_key, stay, longer, inserts, is_inserted, gives_row, gives_base, is_begin, since_begin, is_fresh, key_removed}
+use Rattle.hib_journal.specs.Held.{Instance, Stay, Arrival, arrival, arrived, arrived_key, is_break, row_written, without_key, stay, longer, inserts, is_inserted, gives_row, is_begin, since_begin, is_fresh, key_removed}
 use Rattle.hib_journal.specs.Next.{lock_in, lock_id}
 use Rattle.hib_journal.specs.Legal.{outcome_after}
 use Rattle.hib_completion.specs.Completed.{is_key_in, or_zero, lock_of}
@@ -17,6 +17,7 @@ use Rattle.hib_identity_map.specs.Holds.{shown_of, shown_by, Holds}
 use Rattle.hib_session.specs.Memory.{Remembered, with_room, is_unwritten, or_false, marked_in, with_value, with_key, Knows, made, managed, arrive_in, remove_in, unless_broken, map_after, marks_after, fresh_after, locks_after, noted}
 use Rattle.hib_session.proofs.KeyMaps.{value_more, key_more}
 use Rattle.hib_session.proofs.Kept.{after_write, after_removal, after_sets, unless_unwritten, later, fresh, arrives_other, held_later, held_arrives, held_broken}
+use Rattle.hib_journal.proofs.Words.{gives_base}
 use Rattle.hib_session.proofs.Orders.{held_key, none_map, later_map, same_map, without_none, without_same, others, dropped_map, join_map, look_changed, look_dropped, look_added, distinct_changed, distinct_dropped, distinct_added, change_at, shown_changed, shown_dropped, shown_added}
 
 -- the instances after an entry, by what it does to those that are held

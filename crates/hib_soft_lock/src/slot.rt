@@ -1,5 +1,5 @@
 // What a key of a read-write region holds.
-ghost use Rattle.std.specs.Prelude.{◌≡◌, ◌≤◌, ◌<◌, ◌^◌, None, true};
+ghost use Rattle.std.specs.Prelude.{◌≡◌, ◌≤◌, ◌<◌, ◌^◌, ℕ, None, Option, true};
 ghost use Rattle.hib_journal.specs.Regions as Regions;
 ghost use Rattle.hib_soft_lock.specs.Shown.{shown, verdict_put};
 ghost use Rattle.hib_soft_lock.specs.Steps.{new_lock, locked, released, holders_in, is_held};
@@ -88,16 +88,6 @@ impl Slot {
         }
     }
 
-    /// Whether a reader that began at this time may read it: an item that was stored before.
-    pub fn readable(&self, time: Tick) -> bool
-        ensures { result ≡ Regions.readable (shown self.now) time }
-    {
-        match self {
-            Slot::Item { stamp, .. } => *stamp < time,
-            Slot::Lock { .. } => false,
-        }
-    }
-
     /// Why it isn't read, if it isn't.
     pub fn miss(&self) -> Miss
         ensures { result ≡ Regions.miss (shown self.now) }
@@ -120,7 +110,8 @@ impl Slot {
 
     /// Whether a row of this version, loaded by a reader that began at this time, may be put here.
     pub fn writable(&self, time: Tick, version: Option<u32>) -> Verdict
-        ensures { verdict_put result ≡ Regions.writable (shown self.now) time version }
+        ensures { (room : Option (Option ℕ))
+            → verdict_put result ≡ Regions.put (shown self.now) room time version }
     {
         match self {
             Slot::Item { row, .. } if is_below(row.version, version) => Verdict::Yes {

@@ -1,7 +1,7 @@
 -- The committed rows and the counts of a journal are those of the store's list.
 use Rattle.std.specs.Prelude.{is_some, unwrap_or}
 use Rattle.std.specs.Option.{option_map_or}
-use Rattle.std.proofs.Common.{◌≡◌, ℕ, ◌+◌, ◌&&◌, ◌||◌, nat_le, inl, inr, Bool, true, false, cond, List, [], ◌∷◌, Some, None, Option, refl, sym, ap, ◌∙◌, subst, arith}
+use Rattle.std.proofs.Common.{◌≡◌, ℕ, ◌+◌, ◌&&◌, ◌||◌, nat_le, inl, inr, Bool, true, false, cond, List, [], ◌∷◌, Some, None, Option, refl, sym, ap, ◌∙◌, subst, arith, nat_lt}
 use Rattle.std.proofs.lemmas.Bool.{true≢false, or_parts}
 use Rattle.hib_base.specs.Tables.{Tables}
 use Rattle.hib_journal.specs.Types.{Key, Row, Change, Miss, Strategy, Script, Part, Act, Reply, Entry}
@@ -67,17 +67,14 @@ calm_found : (r : Option Result) → is_fault (option_map_or (λ x. Reply.Found 
 calm_found None = refl
 calm_found (Some r) = refl
 
-calm_row : (s : Slot) → is_fault (Regions.row_in s) ≡ false
-calm_row Slot.Vacant = refl
-calm_row (Slot.Item r t) = refl
-calm_row (Slot.Lock l) = refl
-
 calm_got : (s : Slot) (t : ℕ) → is_fault (Regions.got s t) ≡ false
-calm_got s t = by (Regions.readable s t)
+calm_got Slot.Vacant t = refl
+calm_got (Slot.Item r u) t = by (nat_lt u t)
   where
-    by : (b : Bool) → is_fault (cond b (Regions.row_in s) (Reply.Miss (Regions.miss s))) ≡ false
-    by true = calm_row s
+    by : (b : Bool) → is_fault (cond b (Reply.Hit r) (Reply.Miss (Miss.Young u))) ≡ false
+    by true = refl
     by false = refl
+calm_got (Slot.Lock l) t = refl
 
 calm_item : (b : Bool) (t : ℕ) (o : Option (Row × ℕ)) → is_fault (Regions.got_item b t o) ≡ false
 calm_item b t None = refl

@@ -9,13 +9,14 @@ use Rattle.hib_base.specs.Keys.{same_key}
 use Rattle.hib_base.specs.Tables.{key_of}
 use Rattle.hib_base.proofs.Tables.{Tested, tested}
 use Rattle.hib_journal.specs.Types.{Key, Row, Cell, Change, Act, Reply, Entry}
-use Rattle.hib_journal.specs.Held.{Arrival, arrival, arrived_key, arrived_row, Stay, stay, stay_after, longer, held, has_left, is_undone, is_inserted, is_removed, instance_of, base_of, last_written, row_written, deletes, removes, cells_after, cells_set, with_cells, is_break}
+use Rattle.hib_journal.specs.Held.{Arrival, arrival, arrived_key, arrived_row, Stay, stay, stay_after, longer, held, has_left, is_undone, is_inserted, instance_of, base_of, last_written, row_written, deletes, removes, cells_after, cells_set, with_cells, is_break}
 use Rattle.hib_journal.specs.Held.{state_of as state_of_base}
 use Rattle.hib_journal.specs.Legal.{row_of}
 use Rattle.hib_journal.specs.Sessions.{Journal, own}
 use Rattle.hib_journal.proofs.Sessions.{own_self, own_other}
 use Rattle.hib_states.specs.States.{copied_in}
 use Rattle.hib_states.proofs.Choices.{and_true}
+use Rattle.hib_journal.proofs.Words.{is_removed}
 use Rattle.hib_states.proofs.Taken.{copy_after, has_key}
 
 -- of another key nothing is written, deleted, removed or set

@@ -23,9 +23,8 @@ DoesCall {I} {R} command kind old new answer handed = (run : Option R) × IsCall
 abbrev pub unread : Outside → Outside
 unread o = record o { left = Some []; read_faults = 0 }
 
-pub record IsUnread (old new : Outside) : Type 0 where
-  pub left : new.left ≡ old.left
-  pub faults : new.read_faults ≡ old.read_faults
+abbrev pub IsUnread : Outside → Outside → Type 0
+IsUnread old new = (new.left ≡ old.left) × (new.read_faults ≡ old.read_faults)
 
 -- what is asked for is done by the call of a command
 abbrev pub Does : Asked → Outside → Outside → Status → Option AnyRun → Type 0
