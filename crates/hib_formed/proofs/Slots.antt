@@ -8,7 +8,7 @@ use Rattle.hib_base.specs.Fits.{is_identifier}
 use Rattle.hib_base.specs.Keys.{same_key}
 use Rattle.hib_journal.specs.Types.{Key, Script, Act, Reply, Entry, Put, Unlocked, Inserted, Updated, Evicted}
 use Rattle.hib_journal.specs.Sessions.{Journal, is_restart}
-use Rattle.hib_journal.specs.Slot.{Touch, touch_here, key_in, evicted_in, touch, History, history, Base, base, stretch, locks, first_lock, last_free, LockState, Slot, bar_end, slot_of, slot_from, slot, touch_at}
+use Rattle.hib_journal.specs.Slot.{Touch, touch_here, key_in, evicted_in, touch, History, history, Base, base, stretch, locks, is_positive, first_lock, last_free, LockState, Slot, bar_end, slot_of, slot_from, slot, touch_at}
 use Rattle.hib_journal.specs.Room.{key, add_once, add_key, named, place, may_leave, kept, is_earlier, earlier_of, first_placed, victim, room, item, items, oldest}
 use Rattle.hib_entry_fields.specs.Known.{is_key, is_tick, is_version, are_cells, is_row}
 use Rattle.hib_entry_texts.specs.WellFormed.{is_act, is_evicted_id}
@@ -118,13 +118,13 @@ pub record IsFirst (x : ℕ × Option ℕ) : Type 0 where
   pub tick : x.0 ≤ 2 ^ 61
   pub version : is_version x.1 ≡ true
 
-first_by : (c : Bool) (a b : ℕ × Option ℕ) → IsFirst a → IsFirst b → IsFirst (cond c a b)
-first_by true a b h g = h
-first_by false a b h g = g
+first_by : (c : Bool) (a b : ℕ × Option ℕ) → IsFirst a → IsFirst b → IsFirst (cond c b a)
+first_by true a b h g = g
+first_by false a b h g = h
 
 first_good : (s : History) → AreMarks s → IsFirst (first_lock s)
 first_good [] m = record { tick = omega arith; version = refl }
-first_good ((Touch.Locks v, now) ∷ s) m = first_by (locks s == 0) (now, v) (first_lock s) (record { tick = m.0.tick; version = m.0.touch }) (first_good s m.1)
+first_good ((Touch.Locks v, now) ∷ s) m = first_by (is_positive (locks s)) (now, v) (first_lock s) (record { tick = m.0.tick; version = m.0.touch }) (first_good s m.1)
 first_good ((Touch.Stores r late, now) ∷ s) m = first_good s m.1
 first_good ((Touch.Releases n, now) ∷ s) m = first_good s m.1
 first_good ((Touch.Evicts, now) ∷ s) m = first_good s m.1

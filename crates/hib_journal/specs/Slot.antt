@@ -1,5 +1,5 @@
 -- A key of a read-write region, by counting entries.
-use Rattle.std.specs.Prelude.{ℕ, zero, suc, ◌+◌, ◌-◌, Bool, true, false, if◌then◌else◌, ◌&&◌, ◌==◌, nat_lt, List, [], ◌∷◌, Some, None, Option, option_and_then}
+use Rattle.std.specs.Prelude.{ℕ, zero, suc, ◌+◌, ◌-◌, Bool, true, false, if◌then◌else◌, ◌&&◌, ◌==◌, List, [], ◌∷◌, Some, None, Option, option_and_then}
 use Rattle.std.specs.Option.{option_map_or}
 use Rattle.hib_journal.specs.Types.{Key, Row, Act, Reply, Entry, Put, Unlocked, Inserted, Updated, Evicted}
 use Rattle.hib_base.specs.Keys.{same_key}
@@ -104,10 +104,14 @@ releases [] = 0
 releases ((Releases n, now) ∷ s) = suc (releases s)
 releases ((_, now) ∷ s) = releases s
 
+abbrev pub is_positive : ℕ → Bool
+is_positive zero = false
+is_positive (suc n) = true
+
 -- of the first lock its tick and the version that it names
 abbrev pub first_lock : History → ℕ × Option ℕ
 first_lock [] = (0, None)
-first_lock ((Locks v, now) ∷ s) = if locks s == 0 then (now, v) else first_lock s
+first_lock ((Locks v, now) ∷ s) = if is_positive (locks s) then first_lock s else (now, v)
 first_lock ((_, now) ∷ s) = first_lock s
 
 -- the tick of the last lock
@@ -134,9 +138,6 @@ pub data Slot : Type 0 where
   Vacant : Slot
   Item : Row → ℕ → Slot
   Lock : LockState → Slot
-
-abbrev pub is_positive : ℕ → Bool
-is_positive n = nat_lt 0 n
 
 -- when a lock without holder ends
 abbrev pub bar_end : Bool → ℕ → ℕ → ℕ

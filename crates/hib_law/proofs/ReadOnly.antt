@@ -33,10 +33,10 @@ none_append k (d ∷ cs) c a b = (a.0, none_append k cs c a.1 b)
 
 -- a value is the first of a list, or among the others
 among_here : (c : Change) (cs : List Change) (d : Change) → c ≡ d → IsAmong (c ∷ cs) d
-among_here c cs d e = (0, omega arith, sym e)
+among_here c cs d e = (0, (omega arith, sym e))
 
 among_later : (c : Change) (cs : List Change) (d : Change) → IsAmong cs d → IsAmong (c ∷ cs) d
-among_later c cs d a = (suc a.0, omega (arith, a.1.0), a.1.1)
+among_later c cs d a = (suc a.0, (omega (arith, a.1.0), a.1.1))
 
 -- then the row that its last change left was inserted
 last_inserts : (k : Key) (cs : List Change) (z : Change) (r : Row) → AreNoUpdates k cs → last_on k cs ≡ Some z → row_left z ≡ Some r → IsAmong cs (Change.Insert k r)

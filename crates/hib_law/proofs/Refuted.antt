@@ -43,7 +43,7 @@ loaded c = let p : ◌≡◌ {A = Option Row} (Some row) None = c.finds.0.load 0
 
 -- a list is fresh that was never found
 fresh : Coheres (cached Strategy.ReadWrite) [] (done (Act.Check 0 0) (Reply.Check Checked.Fresh)) → ⊥
-fresh c = let h = c.hits.0 0 0 0 refl refl refl in let p : Reply.Done ≡ Reply.Found 0 h.list = h.found in cc
+fresh c = let h = c.hits.0 0 0 0 refl refl refl in none_some h.found
 
 -- a key is said to be locked that nobody has locked
 locked : Coheres (cached Strategy.ReadWrite) [] (done (Act.Get (key 0 1) 0) (Reply.Miss (Miss.Locked 1))) → ⊥

@@ -177,7 +177,11 @@ fn end_line(
 fn with_session(alloc: Global, draft: &mut Draft, session: SessionDef) -> Result<(), AllocError>
     ensures { OnOk result (reader_of draft.new ≡ lines.with_session (reader_of draft.old) session) }
 {
-    draft.sessions.push(alloc, session)?;
+    let SessionDef { name, statements } = session;
+    let mut statements = statements.into_vec();
+    statements.shrink_to_fit();
+    let statements = Seq::from_vec(statements);
+    draft.sessions.push(alloc, SessionDef { name, statements })?;
     behind(Part::Sessions, draft);
     Ok(())
 }

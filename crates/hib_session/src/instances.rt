@@ -9,7 +9,7 @@ ghost use Rattle.hib_session.specs.Instances.{is_changed, is_pending, is_gone};
 ghost use Rattle.hib_session.specs.Memory.{arrive_in, remove_in, with_pairs};
 ghost use Rattle.hib_session.specs.Queries.{touches as touching};
 
-use crate::keyed::is_among;
+use crate::keyed::{give_back, is_among};
 use crate::queries::reads;
 use hib_base::{Cells, Held, Key, Query, Row, Sets, State};
 use hib_identity_map::IdentityMap;
@@ -148,6 +148,7 @@ impl Instances {
             }
         } else {
             self.touched.swap_remove(key);
+            give_back(&mut self.touched);
         }
     }
 

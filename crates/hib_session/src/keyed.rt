@@ -44,3 +44,12 @@ pub fn add(keys: &mut IndexSet<Key>, key: Key)
 {
     keys.insert(key).unwrap();
 }
+
+/// Gives the memory of a set back, if it is empty.
+pub fn give_back(keys: &mut IndexSet<Key>)
+    ensures { keys.new.keys ≡ keys.old.keys }
+{
+    if keys.is_empty() {
+        keys.shrink_to_fit();
+    }
+}

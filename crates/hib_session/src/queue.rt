@@ -62,11 +62,15 @@ impl Queue {
         &self.acts[0]
     }
 
-    /// Takes the first act out. It takes no memory.
+    /// Takes the first act out. After the last one the memory of all is given back. It takes no memory.
     pub fn take_first(&mut self) -> Act
         requires { 0 < length self.old }
         ensures { self.old ≡ result ∷ self.new }
     {
-        self.acts.pop_front().unwrap()
+        let act = self.acts.pop_front().unwrap();
+        if self.acts.is_empty() {
+            self.acts.shrink_to_fit();
+        }
+        act
     }
 }

@@ -47,7 +47,7 @@ fn size(token: &Token) -> u64
 pub fn cells(alloc: Global, tokens: &[Token]) -> Result<Option<Cells>, AllocError>
     ensures { IfOk result (λ c. c ≡ parts.cells_of tokens.now) }
 {
-    let mut cells = Vec::new(alloc);
+    let mut cells = Vec::with_capacity(alloc, tokens.len())?;
     for token in tokens {
         match cell(alloc, token)? {
             Some(cell) => cells.push(cell)?,
@@ -114,7 +114,7 @@ pub fn read_pairs(
     ensures { IfOk result (λ p. p ≡ parts.pairs_of columns.now tokens.now) }
 {
     let mut draft = Draft {
-        pairs: no_pairs(alloc),
+        pairs: no_pairs(alloc, tokens.len() / 2)?,
         awaited: Awaited::Name,
     };
     for token in tokens {
@@ -126,16 +126,17 @@ pub fn read_pairs(
     Ok(ended(draft))
 }
 
-fn no_pairs(alloc: Global) -> Pairs
-    ensures { result ≡ parts.no_pairs }
+/// No pairs, with room for so many.
+fn no_pairs(alloc: Global, count: usize) -> Result<Pairs, AllocError>
+    ensures { IfOk result (λ p. p ≡ parts.no_pairs) }
 {
-    Pairs {
-        sets: Seq::new(alloc),
+    Ok(Pairs {
+        sets: Seq::from_vec(Vec::with_capacity(alloc, count)?),
         names: Seq::new(alloc),
         taken: false,
         unknown: false,
         mistyped: false,
-    }
+    })
 }
 
 fn ended(draft: Draft) -> Option<Pairs>

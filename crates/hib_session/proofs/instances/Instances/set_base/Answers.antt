@@ -14,7 +14,7 @@ invariant_of-self-else-is_dirty_at c = λ s.
     let f = written c.args.base in
     let clean : is_pending (look_in c.set_base.new.self.held k) ≡ false = search rules in
     let now : is_pending (look_in (change_in k f m.held) k) ≡ false = rw c.set_base.ensures at clean in
-    rw c.set_base.ensures (covers_changed ks c.swap_remove.new.self.keys m.removals m.removals m.held k f (c.self.invariant s)
+    rw (c.set_base.ensures, c.give_back.ensures) (covers_changed ks c.swap_remove.new.self.keys m.removals m.removals m.held k f (c.self.invariant s)
     (left k ks c.swap_remove.new.self.keys c.swap_remove.ensures.updates.2) (kept_all k m.removals) (λ e. absurd (true≢false (sym e ∙ now)))
     (λ e. (c.self.invariant s).gone k (gone_before m.held k f (written_stays c.args.base) e)))
 
