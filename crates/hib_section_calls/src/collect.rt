@@ -38,7 +38,7 @@ pub struct Collected {
     pub journal: Gathered,
 }
 
-/// Runs a script with collections over what is lent, in the run of this name.
+/// Plays a script's sessions, with its collections, over what is lent to the end; `N` names the run.
 fn collect_named<N: Name, K: Keeper, L: Listener>(
     alloc: Global,
     input: Gathering,

@@ -1,4 +1,5 @@
-// What an entry has changed, by what is known after it.
+// What an entry has changed, by what is known after it (`Known` of hib_follow): each thing that it may have changed is
+// a function of its own, which adds no line if another act came.
 ghost use Rattle.std.specs.Prelude.{◌≡◌, ◌++◌, true, None, OnOk, flat_map, map, option_and_then, option_to_list};
 ghost use Rattle.std.specs.Borrow.{Bor};
 ghost use Rattle.hib_base.specs.Tables.{key_of, row_left};
@@ -222,7 +223,7 @@ fn put_left(
     }
 }
 
-/// The results that an entry changes, where some may be kept.
+/// The results that an entry changes: the one that it keeps, and the one that left for it.
 fn put_keeping(
     alloc: Global,
     out: &mut Vec<u8>,

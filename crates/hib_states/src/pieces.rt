@@ -1,4 +1,5 @@
-// Members of a line, in groups.
+// Members of a line, in groups: what a line says of one key, change, row or slot. An entry's place is its index among
+// the entries, from 0.
 ghost use Rattle.std.specs.Prelude.{◌≡◌, ◌∷◌, ◌++◌, None, OnOk, Some, option_copied, codes, map, flat_map};
 ghost use Rattle.std.specs.List.{join_by};
 ghost use Rattle.std.specs.Fmt.{decimal};
@@ -154,7 +155,7 @@ fn put_item(alloc: Global, out: &mut Vec<u8>, row: &Row, stored: Tick) -> Result
     Ok(())
 }
 
-/// The item that the entry at a place has stored.
+/// A slot with the item that the entry at a place has stored: the row, and when it was stored.
 fn put_stored(
     alloc: Global,
     out: &mut Vec<u8>,
