@@ -1,4 +1,5 @@
-// The cells of a row under their columns' names.
+// The cells of a row under their columns' names: an object has those that are there, a line of values has a place for
+// each name of a column, of whichever entity.
 ghost use Rattle.std.specs.Prelude.{◌≡◌, ◌++◌, OnOk, codes, flat_map, slice_get, option_copied};
 ghost use Rattle.hib_texts.specs.Texts as texts;
 ghost use Rattle.hib_flat.specs.Members.{cells_from, set_cells, row_cells, cells};

@@ -1,4 +1,4 @@
-// When keys were deleted.
+// When keys were deleted: one that is inserted after that is unsound.
 ghost use Rattle.std.specs.Prelude.{◌≡◌, if◌then◌else◌, [], None, Some, OnOk};
 ghost use Rattle.std.specs.List.{list_any};
 ghost use Rattle.std.specs.Map.{lookup};

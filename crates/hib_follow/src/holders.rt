@@ -1,4 +1,4 @@
-// Who holds the lock of each key.
+// Who holds the lock of each key: a line of sessions.
 ghost use Rattle.std.specs.Prelude.{◌≡◌, ◌∷◌, if◌then◌else◌, [], OnOk};
 ghost use Rattle.hib_base.specs.Keys.{same_key};
 ghost use Rattle.hib_journal.specs.Coherence.{remove};

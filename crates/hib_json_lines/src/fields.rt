@@ -1,4 +1,4 @@
-// The five members of an entry's object.
+// The five members of an entry's object, read from a text.
 ghost use Rattle.hib_json_lines.specs.Line.{object_of, LineText};
 ghost use Rattle.hib_json_lines.specs.Members.{fields_of, text_at, session_at, tick_at};
 ghost use Rattle.serde_json.specs.Data.{depth};

@@ -1,4 +1,4 @@
-// The kills that may come at the places of an order.
+// The kills that may come at the places of an order: those of the sessions that are open there.
 ghost use Rattle.hib_order_law.specs.Orders.{comes, is_kill_step, kills, whose};
 ghost use Rattle.hib_order_tries.specs.Found.{IsBelow};
 ghost use Rattle.hib_order_tries.specs.Left.{AreOpenings, open_with, turn_of};

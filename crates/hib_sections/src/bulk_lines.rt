@@ -1,4 +1,5 @@
-// A section line of bulk changes.
+// A bulk line of a section, token by token: `update` (it `sets` columns) or `delete`, a name, an entity, and a
+// condition after `where`.
 ghost use Rattle.std.specs.Prelude.{◌≡◌, ◌<◌, Ok, IfOk, IfErr, IfSome, length, option_map};
 ghost use Rattle.std.specs.List.{list_all};
 ghost use Rattle.hib_base.specs.Queries.{parts_in, parts_of};

@@ -1,4 +1,4 @@
-// The section of bulk changes.
+// The section of bulk changes, line by line: bulk lines, and then their schedule with the sessions.
 ghost use Rattle.std.specs.Prelude.{◌≡◌, ◌≤◌, Ok, IfOk, IfErr, OnOk, map, length};
 ghost use Rattle.hib_sections.specs.BulkLines.{said_of};
 ghost use Rattle.hib_sections.specs.Bulks as section;

@@ -1,4 +1,5 @@
-// The section of places.
+// The section of places, line by line: the node of each session, which is its place, and then the schedule of both
+// nodes.
 ghost use Rattle.std.specs.Prelude.{◌≡◌, Ok, IfOk, IfErr, OnOk};
 ghost use Rattle.hib_sections.specs.Places as section;
 ghost use Rattle.hib_sections.specs.Places.{AreFit, read_of};

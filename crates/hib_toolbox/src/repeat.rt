@@ -1,5 +1,5 @@
-// The script whose schedule repeats a journal: played by it, the sessions make the steps of the journal, and the same
-// ones are killed.
+// The script whose schedule repeats a journal (the word `schedule`): played by it, the sessions make the steps of the
+// journal, and the same ones are killed.
 ghost use Rattle.std.specs.Prelude.{◌≡◌, IfOk, position};
 ghost use Rattle.hib_call.specs.Ends.{Comes};
 ghost use Rattle.hib_call.specs.Outside.{Shared, shared_of};
