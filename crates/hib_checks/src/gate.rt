@@ -1,4 +1,5 @@
-// A gate that watches which places sessions pass, and may hold two of them until each sees the other run beside it.
+// A gate that watches which places sessions pass, and may hold two of them until each sees the other run beside it. A
+// place is the number of steps that a session has made.
 use hib_base::SessionNo;
 use hib_outside::Gate;
 use std::sync::atomic::{AtomicU64, Ordering};

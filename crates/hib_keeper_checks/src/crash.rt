@@ -1,4 +1,5 @@
-// A disk that stops at a call. Step by step a keeper is given rows, the disk stops, and is opened again.
+// A disk that stops at a call. Step by step a keeper is given rows, the disk stops, and is opened again. A row's cell
+// shows the step that wrote it.
 use hib_base::{Cell, Cells, Change, EntityNo, Key, Mapping, Row, Seq};
 use hib_keeper_sqlite::adopt;
 use hib_outside::{Applied, Keeper};
