@@ -72,6 +72,7 @@ impl Turnstile {
         self.first.held.load(Ordering::SeqCst) == 1 && self.second.held.load(Ordering::SeqCst) == 1
     }
 
+    /// Counts what went astray.
     fn note(&self, is_right: bool) {
         if !is_right {
             self.astray.fetch_add(1, Ordering::SeqCst);

@@ -149,6 +149,7 @@ fn row_cell_of<'a>(
     }
 }
 
+/// The cell of an entry in the column of this name, if it has one.
 fn cell_named<'a>(script: &Script, entry: &'a Entry, name: &[u8]) -> Option<&'a Cell>
     ensures { option_copied result ≡ cell_at name.now (cells script.now entry.now) }
 {

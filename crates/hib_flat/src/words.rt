@@ -80,6 +80,7 @@ fn outcome_word(outcome: Outcome) -> &'static [u8]
     }
 }
 
+/// Whether a find or a load gave a row.
 fn read_word(row: &Option<Row>) -> &'static [u8]
     ensures { result.now ≡ words.read_word row.now }
 {

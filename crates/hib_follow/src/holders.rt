@@ -41,6 +41,7 @@ fn put_line(lines: &mut Lines, key: &Key, line: Line) -> Result<(), AllocError>
     Ok(())
 }
 
+/// A session comes first in a line.
 fn enter(sessions: &mut Vec<SessionNo>, session: SessionNo) -> Result<(), AllocError>
     ensures { OnOk result (sessions.new.items ≡ session ∷ sessions.old.items) }
 {

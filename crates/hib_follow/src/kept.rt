@@ -59,6 +59,7 @@ fn later(now: Tick, ticks: u32) -> Result<u64, AllocError>
     }
 }
 
+/// A lock that is taken now where there was none.
 fn new_lock(timeout: u32, now: Tick, version: Option<u32>) -> Result<Kept, AllocError>
     ensures { IfOk result (λ k. (es : List Entry) → kept_slot es k ≡ new_lock timeout now version) }
 {

@@ -125,6 +125,7 @@ fn text_in(alloc: Global, value: &Value, key: &str) -> Result<Option<String>, Al
     }
 }
 
+// The name of the session, or that there is none if the member is null; nothing if the member is no such one.
 fn session_in(alloc: Global, value: &Value) -> Result<Option<Option<String>>, AllocError>
     ensures { IfOk result (λ o. option_map (λ s. option_map string_bytes s) o
         ≡ session_at (view value.now)) }

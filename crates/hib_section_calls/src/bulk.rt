@@ -38,7 +38,7 @@ pub struct BulkRun {
     pub journal: Bulked,
 }
 
-/// Plays a script's sessions, with its bulk changes, over what is lent to the end; `N` names the run.
+/// Plays a script's sessions, with its bulk changes, to the end, over what is lent; `N` names the run.
 fn bulk_named<N: Name, K: Keeper, L: Listener>(
     alloc: Global,
     input: Bulking,

@@ -38,7 +38,7 @@ pub struct Collected {
     pub journal: Gathered,
 }
 
-/// Plays a script's sessions, with its collections, over what is lent to the end; `N` names the run.
+/// Plays a script's sessions, with its collections, to the end, over what is lent; `N` names the run.
 fn collect_named<N: Name, K: Keeper, L: Listener>(
     alloc: Global,
     input: Gathering,

@@ -38,7 +38,7 @@ pub struct NodeRun {
     pub journal: Noded,
 }
 
-/// Plays a script's sessions at two nodes over what is lent to the end; `N` names the run.
+/// Plays a script's sessions at two nodes to the end, over what is lent; `N` names the run.
 fn nodes_named<N: Name, K: Keeper, L: Listener>(
     alloc: Global,
     input: Placing,

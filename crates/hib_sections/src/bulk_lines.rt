@@ -81,6 +81,7 @@ fn condition_in(
     }
 }
 
+/// Whether what stands behind `where` has no form.
 fn is_words(condition: &Behind) -> bool
     ensures { result ≡ lines.is_words (lines.parts_or condition.now) }
 {
@@ -133,6 +134,7 @@ fn are_within(count: usize, condition: &Option<Cond>) -> bool
     }
 }
 
+/// What pairs of columns and cells do with each row.
 fn set_by(pairs: Pairs) -> Changing
     ensures { result ≡ lines.set_by pairs }
 {
@@ -174,6 +176,7 @@ fn set_pairs(
     Ok(pairs.map(set_by))
 }
 
+/// What `delete` does with each row; none if a token stands between the entity and `where`.
 fn delete_in(tokens: &[Token]) -> Option<Changing>
     ensures { result ≡ lines.delete_in tokens.now }
 {

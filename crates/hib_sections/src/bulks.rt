@@ -79,7 +79,7 @@ fn take_bulk(
     Ok(())
 }
 
-/// The line has one token alone, and the next line stands there.
+/// Goes on at a place with the next line, if this one has one token alone.
 fn move_to(place: Place, reading: &mut Reading, tokens: &[Token]) -> Result<(), LineError>
     ensures line { OnOk result (alone tokens.now
         (record (read_of reading.old) { place = place }) ≡ Ok (read_of reading.new)) }

@@ -37,6 +37,7 @@ pub fn session(named: &NamedSessions, name: &[u8]) -> Option<SessionNo>
     session_no(named.place(name)?)
 }
 
+/// The number of the session at a place, if numbers reach so far.
 fn session_no(place: usize) -> Option<SessionNo>
     ensures { result ≡ small32 place }
 {

@@ -80,7 +80,7 @@ fn put_commit(
 
 // ---- keys of regions
 
-/// What a key has, if there is one.
+/// What a key has in its region, if a key is given.
 fn put_key(
     alloc: Global,
     out: &mut Vec<u8>,
@@ -102,7 +102,7 @@ fn put_key(
     }
 }
 
-/// What each key has that an entry has touched.
+/// What each key has that an entry has touched: its own, and the one that left for it.
 #[tactic(auto, using(crate::proofs::Told::touched_put))]
 fn put_touched(
     alloc: Global,
@@ -186,7 +186,7 @@ fn put_stamping(
 
 // ---- queries
 
-/// The result that is kept, if any may be kept.
+/// The result that an entry keeps; that there is none, if there is room for none.
 fn put_kept_if(
     alloc: Global,
     out: &mut Vec<u8>,

@@ -39,7 +39,7 @@ fn is_break(entry: &Entry) -> bool
     }
 }
 
-/// What a session has of a key, if there is one.
+/// What a session has of a key, if a key is given.
 fn put_copied(
     alloc: Global,
     out: &mut Vec<u8>,

@@ -38,8 +38,8 @@ pub struct Repeated {
     pub repeatable: Repeatable,
 }
 
-/// Whether an entry is no session's own step, and kills none: it is an eviction or a restart. The schedule that repeats
-/// a journal has runs and kills alone, so a journal with such an entry has none.
+/// Whether an entry is no session's own step, and kills none, as an eviction or a restart. The schedule that repeats a
+/// journal has runs and kills alone, so there is none for a journal with such an entry.
 fn is_foreign(entry: &Entry) -> bool
     ensures { result ≡ is_foreign entry.now }
 {
