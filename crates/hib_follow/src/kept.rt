@@ -312,7 +312,7 @@ pub fn is_touched(entry: &Entry) -> bool
     }
 }
 
-/// The identifier that leaves a region.
+/// The identifier that leaves a full region, if one does.
 pub fn evicted_in(reply: &Reply) -> Option<u64>
     ensures { result ≡ evicted_in reply.now }
 {

@@ -101,7 +101,7 @@ pub fn openings(
     Ok(places)
 }
 
-/// Those at one place.
+/// The kills that may come at one place.
 pub fn kills_at(openings: &[Vec<Step>], place: usize) -> &[Step]
     ensures { result.now ≡ slice_index_or (map (λ v. v.items) openings.now) place [] }
 {

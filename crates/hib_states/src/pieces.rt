@@ -125,6 +125,7 @@ fn put_nothing(out: &mut Vec<u8>) -> Result<(), AllocError>
     Ok(())
 }
 
+/// A row that is there, but for its cells.
 fn put_row_there(alloc: Global, out: &mut Vec<u8>, row: &Row) -> Result<(), AllocError>
     ensures { OnOk result (out.new.items
         ≡ out.old.items ++ flat_map member (row_members (Some row.now))) }
@@ -145,6 +146,7 @@ pub fn put_row(alloc: Global, out: &mut Vec<u8>, row: Option<&Row>) -> Result<()
     }
 }
 
+/// An item in a slot, but for the cells of its row.
 fn put_item(alloc: Global, out: &mut Vec<u8>, row: &Row, stored: Tick) -> Result<(), AllocError>
     ensures { OnOk result (out.new.items
         ≡ out.old.items ++ flat_map member (slot_members (Slot.Item row.now stored))) }
@@ -178,7 +180,7 @@ fn put_stored(
     }
 }
 
-/// The row that a key has.
+/// The row of the item that a key has, if it has one.
 #[tactic(auto, using(crate::proofs::Rowed::item_row))]
 pub fn kept_row<'a>(entries: &'a [Entry], kept: &Kept) -> Option<&'a Row>
     ensures { option_copied result ≡ slot_row (kept_slot entries.now kept.now) }
@@ -190,6 +192,7 @@ pub fn kept_row<'a>(entries: &'a [Entry], kept: &Kept) -> Option<&'a Row>
     }
 }
 
+/// A lock in a slot.
 fn put_lock(
     alloc: Global,
     out: &mut Vec<u8>,
