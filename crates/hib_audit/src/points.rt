@@ -94,7 +94,8 @@ fn comes(script: &Script, registry: &Registry, act: &Act) -> bool
     }
 }
 
-/// What an entry names otherwise than the act that is due: first its part, then the act.
+/// The point in which an entry differs from the act that is due: its part, or else its act, which differs too if the
+/// act that is due may not come.
 pub fn difference(
     script: &Script,
     registry: &Registry,

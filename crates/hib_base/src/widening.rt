@@ -45,7 +45,7 @@ pub fn is_narrow(columns: &[ColumnDef], cells: &Cells) -> bool
     cells.len() < columns.len() && have_defaults(&columns[cells.len()..])
 }
 
-/// Adds the default of a column at the end of cells, if it has one.
+/// Adds the default of a column, which the row of these cells lacks yet, at their end, if it has one.
 fn add_default(alloc: Global, cells: &mut Vec<Cell>, column: &ColumnDef) -> Result<(), AllocError>
     ensures { OnOk result (cells.new.items
         ≡ cells.old.items ++ start.before_default column.now.default []) }

@@ -1,4 +1,4 @@
-// What comes of a row.
+// What comes of a row of the checks, by the top call, and what of it isn't as the row says (a fault).
 use crate::row::Row;
 use crate::words::words_of;
 use crate::world::{keeper_of, sink_with, source_with};

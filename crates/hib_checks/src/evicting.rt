@@ -29,10 +29,10 @@ column stock int
 
 const BOOK: EntityNo = EntityNo(0);
 
-/// How many entries the region has room for.
+/// For how many keys the region has room.
 const CAPACITY: u32 = 1000;
 
-/// How many of the evictions of keys without an entry found one.
+/// How many evictions of keys, of which the region has nothing, found something.
 fn found(region: &mut RwRegion) -> u64 {
     let mut found = 0u64;
     for id in 1..KEYS + 1 {
@@ -63,12 +63,12 @@ fn left(alloc: Global, region: &mut RwRegion) -> Result<u64, AllocError> {
     Ok(left)
 }
 
-/// Whether it is the eviction of a key that had no entry.
+/// Whether it is the eviction of a key of which the region had nothing.
 fn is_absent(entry: &Entry) -> bool {
     matches!(&entry.reply, Reply::Evicted(Evicted::Absent))
 }
 
-/// Whether these are half a million evictions of keys that had no entry.
+/// Whether these are half a million evictions of keys of which the region had nothing.
 fn are_absent(entries: &[Entry]) -> bool {
     entries.len() == 500_000 && entries.iter().all(is_absent)
 }
@@ -89,7 +89,7 @@ fn evict_all<N: Name, K: Keeper, L: Listener>(
     Ok(())
 }
 
-/// Whether each of the evictions of a hundred thousand books, five times over, finds no entry, in the factory of this
+/// Whether each of the evictions of a hundred thousand books, five times over, finds nothing, in the factory of this
 /// name.
 fn evicts<N: Name, K: Keeper + Drop, L: Listener>(
     alloc: Global,
@@ -114,7 +114,7 @@ fn evicts<N: Name, K: Keeper + Drop, L: Listener>(
     }
 }
 
-/// Whether each of these evictions finds no entry, in a factory.
+/// Whether each of these evictions finds nothing, in a factory.
 fn evicts_absent<K: Keeper + Drop, L: Listener>(
     alloc: Global,
     script: Script,
@@ -136,8 +136,8 @@ pub fn finds_none(alloc: Global) -> Result<bool, AllocError> {
     evicts_absent(alloc, script, keeper, listeners)
 }
 
-/// Whether a hundred thousand evictions of keys that have no entry find none, and as many rows then leave room for the
-/// first thousand alone.
+/// Whether a hundred thousand evictions of absent keys find nothing, and an older row leaves for each of as many rows
+/// that are put then, but for the first thousand.
 pub fn leaves_in_turn(alloc: Global) -> Result<bool, AllocError> {
     let mut region = RwRegion::open(alloc, CAPACITY, 1000);
     let found = found(&mut region);

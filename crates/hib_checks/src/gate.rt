@@ -1,4 +1,5 @@
-// A gate that watches which places sessions pass, and may hold two of them until each sees the other run beside it.
+// A gate that watches which places sessions pass, and may hold two of them until each sees the other run beside it. A
+// place is the number of steps that a session has made.
 use hib_base::SessionNo;
 use hib_outside::Gate;
 use std::sync::atomic::{AtomicU64, Ordering};
@@ -71,6 +72,7 @@ impl Turnstile {
         self.first.held.load(Ordering::SeqCst) == 1 && self.second.held.load(Ordering::SeqCst) == 1
     }
 
+    /// Counts what went astray.
     fn note(&self, is_right: bool) {
         if !is_right {
             self.astray.fetch_add(1, Ordering::SeqCst);

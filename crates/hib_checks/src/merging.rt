@@ -137,7 +137,7 @@ fn unended(
     Ok(list)
 }
 
-/// The list of a, which ends if it isn't cut.
+/// The list of session a, without its end if it is cut, so that it doesn't agree with the merged list.
 fn list_of_a(alloc: Global, is_cut: bool) -> Result<Journal, AllocError> {
     let mut list = unended(alloc, A, 1, 2)?;
     if !is_cut {

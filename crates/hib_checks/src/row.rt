@@ -1,4 +1,5 @@
-// A row: its name, and the lines that describe it.
+// A row of the checks, which is none of a table: its name, and the lines that describe it, in the form that the head of
+// the file `stdin` says.
 use hib_base::{EntityNo, Key, Rows, Seq};
 use hib_entry_fields::{number_of, piece, row_at};
 use std::alloc::{AllocError, Global};

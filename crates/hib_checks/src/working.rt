@@ -79,7 +79,7 @@ fn made(alloc: Global, seed: &str) -> Result<Vec<u8>, AllocError> {
     output_alone(alloc, words.as_slice())
 }
 
-/// What a call without input, without a lock and without listeners writes.
+/// What the call that takes no lock writes, without input and without listeners.
 fn output_alone(alloc: Global, words: &[String]) -> Result<Vec<u8>, AllocError> {
     let mut source = source_of(alloc, b"")?;
     let mut sink = sink_of(alloc, ROOM)?;
@@ -92,7 +92,7 @@ fn is_usage(status: &Status) -> bool {
     matches!(status, Status::Usage)
 }
 
-/// Makes a call without a lock and without listeners, and says whether its words have no form.
+/// Makes the call that takes no lock (`play_words`), without listeners, and says whether its words have no form.
 fn has_no_form(
     alloc: Global,
     words: &[String],

@@ -134,7 +134,7 @@ impl<K: Keeper, N: Name> GatherCore<K, N> {
         }
     }
 
-    /// A step that adds no entry: if anything is due, it answers want of memory.
+    /// The step of a run that is deaf, which adds no entry: if anything is due, it answers want of memory.
     pub fn idle_step(&self, alloc: Global, number: SessionNo) -> Result<Stepped, AllocError>
         requires known { number < length N.script.sessions }
         ensures none { result ≢ Ok Stepped.Did }

@@ -1,4 +1,4 @@
-// The acts that complete a transaction.
+// The acts that complete a transaction: what a session sends to regions, key by key, and then to the stamps.
 ghost use Rattle.std.specs.Prelude.{◌≡◌, ◌≤◌, ◌∷◌, ◌++◌, [], true, IfOk, OnOk, length, option_copied, option_and_then, if◌then◌else◌, take, None};
 ghost use Rattle.std.specs.List.{list_any};
 ghost use Rattle.hib_base.specs.Keys.{same_key};
@@ -29,7 +29,8 @@ fn put_back(done: bool, last: Option<&Change>) -> Option<&Row>
     last?.row_left()
 }
 
-/// What completes a key that was inserted first.
+/// What completes a key whose first change was an insert: its row is put into its region, if one may be put. A
+/// nonstrict region is sent nothing.
 fn insert_completed(
     alloc: Global,
     strategy: Strategy,
@@ -62,7 +63,7 @@ fn released(alloc: Global, key: Key, lock: Tick, row: Option<&Row>) -> Result<Ac
     }
 }
 
-/// What completes a key that was updated or deleted first.
+/// What completes a key whose first change was an update or a delete.
 fn update_completed(
     alloc: Global,
     strategy: Strategy,

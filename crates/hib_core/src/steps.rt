@@ -199,7 +199,7 @@ impl<K: Keeper, N: Name> Core<K, N> {
         *self.script.schedule.at(at)
     }
 
-    /// A step that adds no entry: if an act is due, it answers want of memory.
+    /// The step of a factory that is deaf, which adds no entry: if an act is due, it answers want of memory.
     pub fn idle_step(&self, alloc: Global, number: SessionNo) -> Result<Stepped, AllocError>
         requires known { number < length N.script.sessions }
         ensures none { result ≢ Ok Stepped.Did }

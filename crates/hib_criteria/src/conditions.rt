@@ -1,4 +1,4 @@
-// The condition of some parts.
+// The condition of some parts, of which each stands before the conditions that it joins.
 ghost use Rattle.hib_criteria.specs.Query.{IsBuilt, IsJoined, IsOnly};
 ghost use Rattle.std.specs.Prelude.{IfOk};
 ghost use Rattle.hib_base.specs.declared.scripts.Node.{Node};
@@ -25,7 +25,7 @@ pub fn condition(alloc: Global, nodes: Nodes) -> Result<Option<Cond>, AllocError
     Ok(only(conds))
 }
 
-/// The condition that stands alone, if one does.
+/// The condition, if it is the only one: the parts are then joined to one whole, with nothing left beside it.
 fn only(conds: Conds) -> Option<Cond>
     ensures { IsOnly conds result }
 {

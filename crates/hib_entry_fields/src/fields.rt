@@ -1,4 +1,5 @@
-// Pieces of bytes between spaces, and the numbers and versions that they look like.
+// Pieces of bytes between spaces, and the numbers and versions that they look like. Bytes that are none look like some
+// all the same; an entry that was guessed so is written again, and refused if its text is another one.
 ghost use Rattle.hib_entry_fields.specs.Fields as format;
 ghost use Rattle.hib_lex.specs.Tokens.{size_of};
 ghost use Rattle.std.specs.Prelude.{◌≡◌, ◌^◌, ◌<◌, SomeIff, drop, bytes_eq, codes};
@@ -62,7 +63,7 @@ fn size(digits: &[u8]) -> Option<u64>
     Some(size)
 }
 
-/// The number that a piece looks like.
+/// The number that a piece looks like; 0 if it is too large.
 #[tactic(auto, unfolding(crate::specs::Fields::number_of))]
 pub fn number_of(piece: &[u8]) -> u64
     ensures { result ≡ format.number_of piece.now }

@@ -1,4 +1,5 @@
-// The cells of a row under their columns' names.
+// The cells of a row under their columns' names: an object has those that are there, a line of values has a place for
+// each name of a column, of whichever entity.
 ghost use Rattle.std.specs.Prelude.{◌≡◌, ◌++◌, OnOk, codes, flat_map, slice_get, option_copied};
 ghost use Rattle.hib_texts.specs.Texts as texts;
 ghost use Rattle.hib_flat.specs.Members.{cells_from, set_cells, row_cells, cells};
@@ -148,6 +149,7 @@ fn row_cell_of<'a>(
     }
 }
 
+/// The cell of an entry in the column of this name, if it has one.
 fn cell_named<'a>(script: &Script, entry: &'a Entry, name: &[u8]) -> Option<&'a Cell>
     ensures { option_copied result ≡ cell_at name.now (cells script.now entry.now) }
 {

@@ -1,4 +1,4 @@
-// The names of the columns of all entities, each once.
+// The names of the columns of all entities, each once: they head the cells among comma-separated values.
 ghost use Rattle.std.specs.Prelude.{◌≡◌, OnOk, IfOk};
 ghost use Rattle.hib_base.specs.Words as words;
 ghost use Rattle.hib_flat.specs.Columns.{with_name, with_columns, columns};

@@ -19,6 +19,7 @@ use crate::words::{act_word, cause_word, part_word, reply_word};
 use hib_base::{EntityNo, Entry, Key, Script};
 use std::alloc::{AllocError, Global};
 
+/// Who did what at which part, and the word of the reply.
 fn put_headings(
     out: &mut Vec<u8>,
     form: Form,
@@ -54,6 +55,7 @@ fn key_id(key: &Option<Key>) -> Option<u64>
     }
 }
 
+/// The key of the row that an entry is about, and versions of the row.
 fn put_subjects(
     alloc: Global,
     out: &mut Vec<u8>,
@@ -73,6 +75,7 @@ fn put_subjects(
     put_number_member(alloc, out, form, b"found", found_in(&entry.reply))
 }
 
+/// What an entry says of queries, of kept results and of the stamps by which these are fresh.
 fn put_results(
     alloc: Global,
     out: &mut Vec<u8>,

@@ -1,4 +1,5 @@
-// What an act and its reply have, each under one name in all of them; none where they don't have it.
+// What an act and its reply have, each under one name in all of them (docs/DATA.md); none where they don't have it. If
+// both have it, the act's is taken.
 ghost use Rattle.std.specs.Prelude.{◌≡◌, option_copied};
 ghost use Rattle.hib_flat.specs.Parts as parts;
 

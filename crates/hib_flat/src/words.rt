@@ -1,4 +1,4 @@
-// The words of acts and replies.
+// The words of acts and replies, without what stands with them: key, row, tick.
 ghost use Rattle.std.specs.Prelude.{◌≡◌, option_copied};
 ghost use Rattle.hib_report.specs.Lines as report;
 ghost use Rattle.hib_flat.specs.Words as words;
@@ -80,6 +80,7 @@ fn outcome_word(outcome: Outcome) -> &'static [u8]
     }
 }
 
+/// Whether a find or a load gave a row.
 fn read_word(row: &Option<Row>) -> &'static [u8]
     ensures { result.now ≡ words.read_word row.now }
 {

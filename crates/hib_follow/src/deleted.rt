@@ -1,4 +1,4 @@
-// When keys were deleted.
+// When keys were deleted: one that is inserted after that is unsound.
 ghost use Rattle.std.specs.Prelude.{◌≡◌, if◌then◌else◌, [], None, Some, OnOk};
 ghost use Rattle.std.specs.List.{list_any};
 ghost use Rattle.std.specs.Map.{lookup};
@@ -31,7 +31,7 @@ pub fn committer(entry: &Entry) -> Option<SessionNo>
     }
 }
 
-/// A change that is committed.
+/// Notes the key of a change that is committed, if it deletes it.
 fn note_change(numbers: &mut Numbers, since: u64, change: &Change) -> Result<(), AllocError>
     ensures { OnOk result ((k : Key) → lookup (same_key k) numbers.new.entries
         ≡ (if deletes_key k change.now then Some since else lookup (same_key k) numbers.old.entries)) }
@@ -45,7 +45,7 @@ fn note_change(numbers: &mut Numbers, since: u64, change: &Change) -> Result<(),
     }
 }
 
-/// The changes of a session are committed.
+/// Notes the keys that a session's committed changes delete.
 #[tactic(auto, using(crate::proofs::Buried::delete_step))]
 fn note_changes(numbers: &mut Numbers, since: u64, desk: &Desk<'_>) -> Result<(), AllocError>
     ensures { OnOk result ((k : Key) → lookup (same_key k) numbers.new.entries
@@ -57,7 +57,7 @@ fn note_changes(numbers: &mut Numbers, since: u64, desk: &Desk<'_>) -> Result<()
     Ok(())
 }
 
-/// An entry that isn't a restart.
+/// Notes the keys that an entry's commit deletes. The entry is no restart.
 fn note_commit(
     numbers: &mut Numbers,
     since: u64,

@@ -1,4 +1,4 @@
-// What is known of a session.
+// What is known of a session, which is its desk.
 ghost use Rattle.hib_base.specs.Keys.{same_key};
 ghost use Rattle.hib_base.specs.Tables.{key_of, row_left};
 ghost use Rattle.hib_journal.specs.Held.{is_begin};

@@ -1,4 +1,4 @@
-// Who holds the lock of each key.
+// Who holds the lock of each key: a line of sessions.
 ghost use Rattle.std.specs.Prelude.{◌≡◌, ◌∷◌, if◌then◌else◌, [], OnOk};
 ghost use Rattle.hib_base.specs.Keys.{same_key};
 ghost use Rattle.hib_journal.specs.Coherence.{remove};
@@ -41,6 +41,7 @@ fn put_line(lines: &mut Lines, key: &Key, line: Line) -> Result<(), AllocError>
     Ok(())
 }
 
+/// A session comes first in a line.
 fn enter(sessions: &mut Vec<SessionNo>, session: SessionNo) -> Result<(), AllocError>
     ensures { OnOk result (sessions.new.items ≡ session ∷ sessions.old.items) }
 {

@@ -1,4 +1,4 @@
-// What an entry does to a key of a region.
+// What a key has in its region after an entry, by what it had before (`Kept`): nothing, an item or a lock.
 ghost use Rattle.std.specs.Prelude.{◌≡◌, ◌+◌, suc, if◌then◌else◌, List, None, Some, IfOk, is_some, option_copied, slice_get, true};
 ghost use Rattle.hib_journal.specs.Next.{strategy};
 ghost use Rattle.hib_journal.specs.Slot.{Slot, evicted_in, key_in, touch_here};
@@ -59,6 +59,7 @@ fn later(now: Tick, ticks: u32) -> Result<u64, AllocError>
     }
 }
 
+/// A lock that is taken now where there was none.
 fn new_lock(timeout: u32, now: Tick, version: Option<u32>) -> Result<Kept, AllocError>
     ensures { IfOk result (λ k. (es : List Entry) → kept_slot es k ≡ new_lock timeout now version) }
 {
@@ -243,7 +244,7 @@ fn slot_after(
     }
 }
 
-/// After the entry at a place, which names the key of a weaker region.
+/// After the entry at a place, which names the key of a region without locks.
 fn item_after(place: usize, entry: &Entry, old: Kept) -> Kept
     ensures { (es : List Entry) → slice_get es place ≡ Some entry.now → kept_slot es result
         ≡ item_if entry.now.tick (touch_here entry.now.act entry.now.reply) (kept_slot es old) }
@@ -295,7 +296,7 @@ pub fn after(
     }
 }
 
-/// Whether an entry touches the key that it names.
+/// Whether an entry touches the key that it names, so that it may have something else after it.
 pub fn is_touched(entry: &Entry) -> bool
     ensures { result ≡ is_some (touch_here entry.now.act entry.now.reply) }
 {
@@ -311,7 +312,7 @@ pub fn is_touched(entry: &Entry) -> bool
     }
 }
 
-/// The identifier that leaves a region.
+/// The identifier that leaves a full region, if one does.
 pub fn evicted_in(reply: &Reply) -> Option<u64>
     ensures { result ≡ evicted_in reply.now }
 {

@@ -1,4 +1,4 @@
-// What is known of tables and of queries.
+// What is known of tables and of queries: which entry stamped a table last, and which one kept a result last.
 ghost use Rattle.std.specs.Prelude.{◌≡◌, ◌+◌, ℕ, nat_eq, if◌then◌else◌, [], None, Some, OnOk, IfOk, option_copied, option_map};
 ghost use Rattle.std.specs.Map.{lookup};
 ghost use Rattle.hib_journal.specs.Sessions.{is_restart};

@@ -139,7 +139,7 @@ impl Shelf {
         }
     }
 
-    /// What a key has.
+    /// What a key has in its region.
     pub fn kept(&self, key: &Key) -> Kept
         ensures { result ≡ kept_at self.now.shelves.entries key.now }
     {

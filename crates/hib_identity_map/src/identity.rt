@@ -223,7 +223,8 @@ fn replace(entries: &mut IndexMap<Key, Held>, key: Key, held: Held)
     entries[index] = held;
 }
 
-// Whether many more instances stand behind that of a key than before it.
+// Whether many more instances stand behind that of a key than before it. They are turned round then: it leaves near the
+// end, where few move, and so do the next ones.
 fn is_early(entries: &IndexMap<Key, Held>, key: &Key) -> bool {
     let count = entries.len();
     match entries.get_index_of(key) {

@@ -1,4 +1,4 @@
-// The five members of an entry's object.
+// The five members of an entry's object, read from a text.
 ghost use Rattle.hib_json_lines.specs.Line.{object_of, LineText};
 ghost use Rattle.hib_json_lines.specs.Members.{fields_of, text_at, session_at, tick_at};
 ghost use Rattle.serde_json.specs.Data.{depth};
@@ -125,6 +125,7 @@ fn text_in(alloc: Global, value: &Value, key: &str) -> Result<Option<String>, Al
     }
 }
 
+// The name of the session, or that there is none if the member is null; nothing if the member is no such one.
 fn session_in(alloc: Global, value: &Value) -> Result<Option<Option<String>>, AllocError>
     ensures { IfOk result (λ o. option_map (λ s. option_map string_bytes s) o
         ≡ session_at (view value.now)) }

@@ -1,4 +1,5 @@
-// A disk that stops at a call. Step by step a keeper is given rows, the disk stops, and is opened again.
+// A disk that stops at a call. Step by step a keeper is given rows, the disk stops, and is opened again. A row's cell
+// shows the step that wrote it.
 use hib_base::{Cell, Cells, Change, EntityNo, Key, Mapping, Row, Seq};
 use hib_keeper_sqlite::adopt;
 use hib_outside::{Applied, Keeper};
@@ -28,6 +29,7 @@ fn row(alloc: Global, step: i64) -> Option<Row> {
     })
 }
 
+/// Gives a keeper two rows, which is step 1.
 fn seed<K: Keeper>(alloc: Global, keeper: &mut K) -> Option<()> {
     let mut rows = Vec::new(alloc);
     rows.push((key(1), row(alloc, 1)?)).ok()?;
@@ -167,6 +169,7 @@ fn after_stop<D: Crash + Drop + Send>(alloc: Global, files: Files<D>) -> Left {
 /// A disk in memory, which counts its calls and stops at one of them.
 type Disk = Fuse<Memory>;
 
+/// An empty disk that stops after so many calls.
 fn fused(alloc: Global, calls: u64) -> Disk {
     Fuse::new(Memory::new(alloc), calls)
 }

@@ -1,4 +1,4 @@
-// What the words of a line say.
+// What the words of a line say, in the forms of the head of the file `stdin`.
 use hib_base::{Cell, Change, ColumnDef, ColumnType, EntityDef, EntityNo, Key, Seq, Strategy};
 use hib_entry_fields::{cells_at, next, number_of, row_at, version_of};
 use std::alloc::{AllocError, Global};

@@ -1,4 +1,4 @@
-// What SQL can keep.
+// What SQL can keep: identifiers that are its integers, and rows whose cells have a body.
 ghost use Rattle.std.specs.Prelude.{◌<◌, ◌^◌, ◌↔◌, All, IsTrue};
 ghost use Rattle.hib_sqlite_rows.specs.Shown.{IsInRange};
 ghost use Rattle.hib_keeper_sqlite.specs.Batches.{IsKeepable, IsKeepableEntry};

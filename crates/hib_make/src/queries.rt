@@ -1,4 +1,5 @@
-// The queries of a made script.
+// The queries of a made script, by columns that are numbered as `entities` declares them. The third argument of `query`
+// says whether results are kept.
 ghost use Rattle.std.specs.Prelude.{◌≡◌, IfOk};
 ghost use Rattle.hib_make.specs.Queries.{own, query, low, rich, first, orders, made_queries};
 

@@ -1,4 +1,4 @@
-// What is known of a session.
+// What is known of a session, by which its lists and commits are judged.
 ghost use Rattle.hib_base.specs.Tables.{in_order};
 ghost use Rattle.hib_journal.specs.Sessions.{Journal, changes_after};
 ghost use Rattle.hib_journal.specs.Types.{Entry};

@@ -1,4 +1,5 @@
-// On what the instances of a session rest, by key.
+// On what the instances of a session rest, by key: the row that it read or wrote last. If another row is committed when
+// it commits a change that rests on it, an update is lost.
 ghost use Rattle.hib_base.specs.Keys.{same_key};
 ghost use Rattle.hib_journal.specs.Held.{is_break};
 ghost use Rattle.hib_journal.specs.Types.{Entry, Key};

@@ -1,4 +1,5 @@
-// One pass over the entries of a run.
+// One pass over the entries of a run, which says what is wrong with it. Unsound keys are found as the report finds
+// them, in a pass of their own.
 ghost use Rattle.hib_base.specs.Tables.{Tables, in_order};
 ghost use Rattle.hib_base.specs.declared.scripts.Script.{Script};
 ghost use Rattle.hib_journal.specs.Sessions.{Journal, committed, is_empty};
@@ -16,7 +17,7 @@ use hib_report::unsound_keys;
 use std::alloc::{AllocError, Global};
 use std::collections::BTreeSet;
 
-/// Of no entry.
+/// The verdicts of no entry: nothing is wrong.
 fn none() -> Verdicts
     ensures { (script : Script) (start : Tables)
         → result ≡ record (verdicts script start []) { unsound_key = false } }

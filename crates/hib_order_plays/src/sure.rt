@@ -1,4 +1,4 @@
-// A keeper that never fails.
+// A keeper that never fails, so that the steps of an order alone decide its run.
 ghost use Rattle.std.specs.Prelude.{◌≡◌, []};
 ghost use Rattle.std.specs.declared.option.Option.TheVariants.{Some};
 

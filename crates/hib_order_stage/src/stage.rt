@@ -58,7 +58,7 @@ fn rows_at_start(alloc: Global, script: &Script) -> Result<Rows, AllocError>
     }
 }
 
-/// Equal rows.
+/// Equal rows, for a judge, who changes those that he is given.
 fn copy_rows(alloc: Global, rows: &Rows) -> Result<Rows, AllocError>
     ensures { IfOk result (λ r. r ≡ rows.now) }
 {

@@ -1,4 +1,5 @@
-// The first steps of the other orders of one.
+// The first steps of the other orders of one that was played: they leave it at a place, by another step than its own. A
+// level is how many switches an order may make.
 ghost use Rattle.hib_order_law.specs.Orders.{comes, cost, same_step, switches};
 ghost use Rattle.hib_order_law.specs.declared.step.Step.{Step};
 ghost use Rattle.hib_order_tries.specs.Left.{AreBeside, AreLeft, AreOpen, IsAdded, IsBefore, cost_left, first_of};

@@ -1,4 +1,4 @@
-// What the orders that were tried have come to.
+// What the orders that were tried have come to: of each finding, how many have it and one that has it.
 ghost use Rattle.hib_base.specs.declared.entries.Entry.{Entry};
 ghost use Rattle.hib_base.specs.declared.replies.Outcome.{Outcome};
 ghost use Rattle.hib_order_law.specs.Orders.{steps_in, switches};

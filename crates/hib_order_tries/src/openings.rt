@@ -1,4 +1,4 @@
-// The kills that may come at the places of an order.
+// The kills that may come at the places of an order: those of the sessions that are open there.
 ghost use Rattle.hib_order_law.specs.Orders.{comes, is_kill_step, kills, whose};
 ghost use Rattle.hib_order_tries.specs.Found.{IsBelow};
 ghost use Rattle.hib_order_tries.specs.Left.{AreOpenings, open_with, turn_of};
@@ -101,7 +101,7 @@ pub fn openings(
     Ok(places)
 }
 
-/// Those at one place.
+/// The kills that may come at one place.
 pub fn kills_at(openings: &[Vec<Step>], place: usize) -> &[Step]
     ensures { result.now ≡ slice_index_or (map (λ v. v.items) openings.now) place [] }
 {

@@ -1,4 +1,4 @@
-// The first steps that wait to be tried.
+// The first steps that wait to be tried: a run is played that begins with them.
 ghost use Rattle.hib_base.specs.Tables.{Tables};
 ghost use Rattle.hib_base.specs.declared.entries.Entry.{Entry};
 ghost use Rattle.hib_base.specs.declared.scripts.Script.{Script};

@@ -1,4 +1,5 @@
-// What is done to rows in order of keys: changes, one by one and in batches, and copies.
+// What is done to a shelf, which is rows in order of keys, as a keeper in memory has them: changes, one by one and in
+// batches, and copies. A batch is the changes of a commit.
 ghost use Rattle.std.specs.Map.{lookup};
 ghost use Rattle.std.specs.Prelude.{◌≡◌, ◌+◌, ◌≤◌, ◌<◌, ℕ, true, length, take, [], if◌then◌else◌, Some, None, IfOk, IfSome, OnOk, OnErr, vec_len, vec_capacity, option_copied};
 ghost use Rattle.hib_base.specs.Keys.{same_key};
@@ -36,7 +37,8 @@ fn note_last(lasts: &mut IndexMap<Key, usize>, key: Key, at: usize) -> Result<()
     Ok(())
 }
 
-/// The row of a key once the first changes of a batch are done, whose last ones are known.
+/// The row that a key would have after the first changes of a batch, to judge the next one. By key, `lasts` has the
+/// place of its last change among them.
 fn row_after<'a>(
     rows: &'a [(Key, Row)],
     batch: &'a [Change],
@@ -288,7 +290,8 @@ fn add_one(rows: &mut Vec<(Key, Row)>, key: Key, row: Row)
     }
 }
 
-/// Adds each row whose key has none, one after another. There is room for as many rows more.
+/// Adds each row whose key has none, one after another, as a keeper takes the first rows of a script. There is room for
+/// as many rows more.
 #[tactic(auto, using(crate::proofs::Commits::with_absent_push, crate::proofs::Orders::in_order_unless_there))]
 pub fn add_all(rows: &mut Vec<(Key, Row)>, more: Vec<(Key, Row)>)
     requires ordered { in_order rows.old.items ≡ true }

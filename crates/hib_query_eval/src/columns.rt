@@ -1,4 +1,5 @@
-// The columns by whose cells rows are found, as rows come and go.
+// The columns by whose cells rows are found, as rows come and go. The place of a cell is where it stands among all
+// cells of its column, in order of values and then of identifiers.
 ghost use Rattle.std.specs.Prelude.{◌≡◌, ◌<◌, ◌^◌, ℕ, ◌&&◌, ◌||◌, not, true, false, IfOk, IfSome, OnOk, option_copied};
 ghost use Rattle.std.specs.Option.{option_map_or};
 ghost use Rattle.hib_base.specs.Keys.{same_key};
@@ -113,7 +114,8 @@ fn add_cell(
     }
 }
 
-/// Lays a change over the places of a column's cells. The row that is there before the change is given.
+/// Does a change to the places of a column's cells: the cell that its key had leaves, and the one that it has then
+/// comes. The row that is there before the change is given.
 fn lay_over(
     alloc: Global,
     one: &mut Column,
@@ -130,7 +132,7 @@ fn lay_over(
     add_cell(alloc, &mut one.places, one.entity, one.column, &key, left)
 }
 
-/// Lays a change over the places of columns' cells. The row that is there before the change is given.
+/// Does a change to the places of the cells of each column.
 pub fn lay_over_all(
     alloc: Global,
     columns: &mut Vec<Column>,

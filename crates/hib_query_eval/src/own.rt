@@ -94,7 +94,8 @@ impl Own {
     }
 }
 
-/// What changes leave once there is one more; none if it isn't known, or if there is no memory for it.
+/// What changes leave once there is one more; none if it isn't known, or if there is no memory for it. It is then made
+/// of all changes by the next query that needs it.
 fn with_change(alloc: Global, laid: Option<Laid>, change: &Change) -> Option<Laid>
     ensures { (cs : List ChangeSpec) → IfSome laid (Lays cs)
         → IfSome result (Lays (cs ++ change.now ∷ [])) }

@@ -1,4 +1,5 @@
-// What became of the sessions, found in one pass over the entries.
+// What became of the sessions, found in one pass over the entries: who was killed, by name or as one that was open at a
+// restart, and with which outcome each ended.
 ghost use Rattle.std.specs.Prelude.{◌≡◌, ◌||◌, ◌<◌, ℕ, if◌then◌else◌, true, length, slice_get, IfOk, Some, reverse};
 ghost use Rattle.std.specs.Option.{option_map};
 ghost use Rattle.hib_journal.specs.Sessions.{is_by};

@@ -8,6 +8,7 @@ use hib_base::{Bytes, Entry, Script, Seq, SessionNo};
 use hib_texts::{put_number, put_session};
 use std::alloc::{AllocError, Global};
 
+/// Who acts: a session, or `-` for what comes from outside.
 fn put_actor(
     out: &mut Vec<u8>,
     script: &Script,

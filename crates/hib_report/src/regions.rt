@@ -1,4 +1,4 @@
-// What the regions, the store and the results did, in numbers.
+// What the regions, the store and the results did, in numbers: the last lines of a report.
 ghost use Rattle.std.specs.Prelude.{◌≡◌, ◌++◌, OnOk};
 ghost use Rattle.hib_listeners.specs.Statistics.{counted};
 ghost use Rattle.hib_report.specs.Report.{reads_text, puts_text, locks_text, region_text, regions_text, asked_text, ends_text, store_text, looks_text, keeps_text, queries_text, counts_text};

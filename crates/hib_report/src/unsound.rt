@@ -1,4 +1,4 @@
-// The keys of which the claims on the cache don't speak.
+// The keys of which the claims on the cache don't speak, which a report lists: they are unsound.
 
 ghost use Rattle.std.specs.Prelude.{◌≡◌, ◌++◌, not, OnOk, IfOk, reverse, codes, flat_map};
 ghost use Rattle.std.specs.List.{filter};

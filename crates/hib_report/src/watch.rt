@@ -1,4 +1,5 @@
-// What is known of keys after the entries that were noted, since the last restart. Each entry is noted once.
+// Which keys are unsound after the entries that were noted, by what is known of each key since the last restart:
+// whether a lock on it ran out, and whether a commit inserted it after one had deleted it. Each entry is noted once.
 
 ghost use Rattle.std.specs.Prelude.{◌≡◌, ◌∷◌, [], ℕ, if◌then◌else◌, ◌&&◌, ◌==◌, OnOk, Some, true, false};
 ghost use Rattle.hib_base.specs.Keys.{same_key};
@@ -263,7 +264,7 @@ fn note_change(
     Ok(())
 }
 
-/// Notes what an act of a session writes. With a Begin it has written nothing.
+/// Notes what an act of a session writes, for its commit. With a Begin it has written nothing.
 fn note_act(
     alloc: Global,
     written: &mut Writers,

@@ -38,7 +38,7 @@ pub struct BulkRun {
     pub journal: Bulked,
 }
 
-/// Runs a script with bulk changes over what is lent, in the run of this name.
+/// Plays a script's sessions, with its bulk changes, to the end, over what is lent; `N` names the run.
 fn bulk_named<N: Name, K: Keeper, L: Listener>(
     alloc: Global,
     input: Bulking,

@@ -38,7 +38,7 @@ pub struct Collected {
     pub journal: Gathered,
 }
 
-/// Runs a script with collections over what is lent, in the run of this name.
+/// Plays a script's sessions, with its collections, to the end, over what is lent; `N` names the run.
 fn collect_named<N: Name, K: Keeper, L: Listener>(
     alloc: Global,
     input: Gathering,

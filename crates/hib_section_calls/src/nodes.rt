@@ -38,7 +38,7 @@ pub struct NodeRun {
     pub journal: Noded,
 }
 
-/// Runs a script at two nodes over what is lent, in the run of this name.
+/// Plays a script's sessions at two nodes to the end, over what is lent; `N` names the run.
 fn nodes_named<N: Name, K: Keeper, L: Listener>(
     alloc: Global,
     input: Placing,

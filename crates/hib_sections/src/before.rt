@@ -77,9 +77,9 @@ fn schedule_line(lines: &[Line]) -> Option<u32>
     Some(found.line)
 }
 
-/// What may not stand in a script before a section of `collect`, `bulk` or `nodes`, with the first line of its kind: an
-/// entity that is cached without soft locks; else a query whose results are kept; else a schedule. The lines are the
-/// script's, the mapping is its own.
+/// What may not stand in a script before a section of `bulk` or `nodes`, with the first line of its kind: an entity
+/// that is cached without soft locks; else a query whose results are kept; else a schedule. The lines are the script's,
+/// the mapping is its own.
 pub fn fault_before(mapping: &[EntityDef], lines: &[Line]) -> Option<Refused>
     ensures { result ≡ before.fault_before mapping.now lines.now }
 {

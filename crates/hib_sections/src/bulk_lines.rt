@@ -1,4 +1,5 @@
-// A section line of bulk changes.
+// A bulk line of a section, token by token: `update` (it `sets` columns) or `delete`, a name, an entity, and a
+// condition after `where`.
 ghost use Rattle.std.specs.Prelude.{◌≡◌, ◌<◌, Ok, IfOk, IfErr, IfSome, length, option_map};
 ghost use Rattle.std.specs.List.{list_all};
 ghost use Rattle.hib_base.specs.Queries.{parts_in, parts_of};
@@ -80,6 +81,7 @@ fn condition_in(
     }
 }
 
+/// Whether what stands behind `where` has no form.
 fn is_words(condition: &Behind) -> bool
     ensures { result ≡ lines.is_words (lines.parts_or condition.now) }
 {
@@ -132,6 +134,7 @@ fn are_within(count: usize, condition: &Option<Cond>) -> bool
     }
 }
 
+/// What pairs of columns and cells do with each row.
 fn set_by(pairs: Pairs) -> Changing
     ensures { result ≡ lines.set_by pairs }
 {
@@ -173,6 +176,7 @@ fn set_pairs(
     Ok(pairs.map(set_by))
 }
 
+/// What `delete` does with each row; none if a token stands between the entity and `where`.
 fn delete_in(tokens: &[Token]) -> Option<Changing>
     ensures { result ≡ lines.delete_in tokens.now }
 {

@@ -1,4 +1,4 @@
-// The section of bulk changes.
+// The section of bulk changes, line by line: bulk lines, and then their schedule with the sessions.
 ghost use Rattle.std.specs.Prelude.{◌≡◌, ◌≤◌, Ok, IfOk, IfErr, OnOk, map, length};
 ghost use Rattle.hib_sections.specs.BulkLines.{said_of};
 ghost use Rattle.hib_sections.specs.Bulks as section;
@@ -79,7 +79,7 @@ fn take_bulk(
     Ok(())
 }
 
-/// The line has one token alone, and the next line stands there.
+/// Goes on at a place with the next line, if this one has one token alone.
 fn move_to(place: Place, reading: &mut Reading, tokens: &[Token]) -> Result<(), LineError>
     ensures line { OnOk result (alone tokens.now
         (record (read_of reading.old) { place = place }) ≡ Ok (read_of reading.new)) }

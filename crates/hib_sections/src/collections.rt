@@ -1,4 +1,4 @@
-// The section lines of collections.
+// The section lines of collections: each names an entity's column that refers to owners.
 ghost use Rattle.std.specs.Prelude.{◌≡◌, ◌∷◌, ◌++◌, [], IfOk, IfErr, OnOk, OnErr, Ok};
 ghost use Rattle.hib_script.specs.Script.{IsWhere};
 ghost use Rattle.hib_sections.specs.Collections as lines;

@@ -1,4 +1,4 @@
-// Who is named in a section.
+// Who is named in a section: sessions, and bulk lines, which stand for it as sessions without statements.
 ghost use Rattle.std.specs.Prelude.{◌≡◌, IfOk};
 ghost use Rattle.hib_statements.specs.Orders.{session_at, small32};
 ghost use Rattle.hib_sections.specs.Sections.{actor as actor_of, names as names_of};
@@ -37,6 +37,7 @@ pub fn session(named: &NamedSessions, name: &[u8]) -> Option<SessionNo>
     session_no(named.place(name)?)
 }
 
+/// The number of the session at a place, if numbers reach so far.
 fn session_no(place: usize) -> Option<SessionNo>
     ensures { result ≡ small32 place }
 {

@@ -1,4 +1,5 @@
-// The section of places.
+// The section of places, line by line: the node of each session, which is its place, and then the schedule of both
+// nodes.
 ghost use Rattle.std.specs.Prelude.{◌≡◌, Ok, IfOk, IfErr, OnOk};
 ghost use Rattle.hib_sections.specs.Places as section;
 ghost use Rattle.hib_sections.specs.Places.{AreFit, read_of};
@@ -101,7 +102,7 @@ fn with_place(reading: &mut Reading, place: Result<(SessionNo, u8), Kind>) -> Re
     }
 }
 
-/// The line has one token alone, and the next line stands there.
+/// Goes on at a place with the next line, if this one has one token alone.
 fn move_to(place: Place, reading: &mut Reading, tokens: &[Token]) -> Result<(), LineError>
     ensures line { OnOk result (alone tokens.now (record (read_of reading.old) { place = place })
         ≡ Ok (read_of reading.new)) }

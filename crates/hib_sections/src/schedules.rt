@@ -1,4 +1,4 @@
-// The orders that stand in a script before a section.
+// The orders that stand in a script before the section of collections: there may be runs alone.
 ghost use Rattle.std.specs.Prelude.{◌≡◌};
 ghost use Rattle.hib_sections.specs.Schedules as orders;
 

@@ -1,4 +1,5 @@
-// The trace that Perfetto opens: trace events as JSON.
+// The trace that Perfetto opens: trace events as JSON. An event's phase says what it is: `B` and `E` begin and end a
+// transaction, `b` and `e` a lock, `i` is a mark and `M` a name.
 ghost use Rattle.hib_spans.specs.Events.{answer_text, holder_text, lock_text, mark_text, named_lock, place_text, step_text, track_text, transaction_text};
 ghost use Rattle.std.specs.Prelude.{◌≡◌, ◌++◌, OnOk};
 

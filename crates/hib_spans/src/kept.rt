@@ -1,4 +1,4 @@
-// What is known at an entry of the entries before it.
+// What is known at an entry of the entries before it: the transactions that are open, and the locks that are held.
 use hib_base::{Act, Entry, Key, SessionNo};
 use std::alloc::{AllocError, Global};
 use std::collections::BTreeMap;

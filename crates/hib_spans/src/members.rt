@@ -1,4 +1,4 @@
-// Members of an object, appended to bytes.
+// What both traces say: acts, replies, parts, locks and tracks, appended to bytes.
 ghost use Rattle.hib_report.specs.Lines.{act_text, part_text, reply_text};
 ghost use Rattle.hib_spans.specs.Events.{track_name, track_of};
 ghost use Rattle.hib_texts.specs.Texts.{key_text};

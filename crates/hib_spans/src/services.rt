@@ -1,4 +1,5 @@
-// The trace that Jaeger opens: its own JSON.
+// The trace that Jaeger opens: its own JSON. A span's identifier is 1 for the run; `a` and `b` with the track and the
+// begin of a transaction; `c` for a step, or `d` for a lock, with the number of the entry, from 1 (its place here).
 use crate::kept::{Begun, Kept, unlocked_by};
 use crate::members::{
     put_quoted_act, put_quoted_lock, put_quoted_part, put_quoted_reply, track_name, track_of,

@@ -20,8 +20,8 @@ pub fn apart_is_legal()
         → HaveSessions h → AreLater h → IsLegalApart script told h → IsLegal script told h }
 {}
 
-/// The list of each part, and that of each session, of a legal journal is legal by itself, if each entry is a
-/// session's; and its ticks never fall.
+/// The other way round: if each entry of a legal journal is a session's, the list of each part and that of each session
+/// is legal by itself. The ticks of any legal journal never fall.
 pub fn legal_is_apart()
     ensures apart { (script : Script) (told : Option Tables) (h : Journal)
         → HaveSessions h → IsLegal script told h → IsLegalApart script told h }

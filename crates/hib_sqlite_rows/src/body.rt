@@ -1,4 +1,4 @@
-// Cells, and their bytes.
+// The body of a row: the bytes by which its cells stand in one column of SQL.
 ghost use Rattle.std.specs.Prelude.{◌≡◌, ◌≤◌, ◌↔◌, ◌+◌, ◌++◌, length, drop, Some, None, IsTrue, IsSome, IfOk, IfSome, OnOk, MatchOption};
 ghost use Rattle.hib_sqlite_rows.specs.Body.{packed_cell, packed, taken, unpacked, IsPackableCell, IsPackable, IsBody};
 

@@ -40,7 +40,7 @@ pub fn select<S: Alter>(conn: &mut Connection<S>, key: Key) -> Result<Vec<Row>, 
     )
 }
 
-/// Reads number, version and body of each row of an entity, in order of numbers.
+/// Reads identifier, version and body of each row of an entity, in order of identifiers.
 pub fn select_entity<S: Alter>(
     conn: &mut Connection<S>,
     entity: EntityNo,

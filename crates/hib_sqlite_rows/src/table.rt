@@ -25,7 +25,7 @@ pub trait RowTable {
         ensures same { OnOk result (told self.new ≡ told self.old) }
         ensures err { OnErr result (LeavesOrUndoes (told self.old) (told self.new)) };
 
-    /// Number, version and body of each row of an entity, in order of numbers.
+    /// Identifier, version and body of each row of an entity, in order of identifiers.
     fn select_entity(&mut self, entity: EntityNo) -> Result<Vec<SqlRow>, Error>
         ensures rows { IfOk result (λ rows. IfSome (told self.old)
             (λ t. ShowsEntity rows.items t.now entity)) }

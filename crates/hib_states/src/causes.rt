@@ -1,4 +1,5 @@
-// Why an entry was refused.
+// Why an entry was refused, by what was known before it of its key, of a table or of its query. In a line, `since` is
+// the number of the entry to which that goes back.
 ghost use Rattle.std.specs.Prelude.{◌≡◌, ◌++◌, nat_eq, OnOk};
 ghost use Rattle.std.specs.Map.{lookup};
 ghost use Rattle.hib_follow.specs.Marks.{stamped_since, value_at};
@@ -66,7 +67,7 @@ fn put_table_known(
     }
 }
 
-/// Since when no result of a query is kept.
+/// That no result of a query is kept, and which entry kept one last.
 fn put_query_known(
     alloc: Global,
     out: &mut Vec<u8>,

@@ -1,4 +1,5 @@
-// What an entry has changed, by what is known after it.
+// What an entry has changed, by what is known after it (`Known` of hib_follow): each thing that it may have changed is
+// a function of its own, which adds no line if another act came.
 ghost use Rattle.std.specs.Prelude.{◌≡◌, ◌++◌, true, None, OnOk, flat_map, map, option_and_then, option_to_list};
 ghost use Rattle.std.specs.Borrow.{Bor};
 ghost use Rattle.hib_base.specs.Tables.{key_of, row_left};
@@ -79,7 +80,7 @@ fn put_commit(
 
 // ---- keys of regions
 
-/// What a key has, if there is one.
+/// What a key has in its region, if a key is given.
 fn put_key(
     alloc: Global,
     out: &mut Vec<u8>,
@@ -101,7 +102,7 @@ fn put_key(
     }
 }
 
-/// What each key has that an entry has touched.
+/// What each key has that an entry has touched: its own, and the one that left for it.
 #[tactic(auto, using(crate::proofs::Told::touched_put))]
 fn put_touched(
     alloc: Global,
@@ -185,7 +186,7 @@ fn put_stamping(
 
 // ---- queries
 
-/// The result that is kept, if any may be kept.
+/// The result that an entry keeps; that there is none, if there is room for none.
 fn put_kept_if(
     alloc: Global,
     out: &mut Vec<u8>,
@@ -222,7 +223,7 @@ fn put_left(
     }
 }
 
-/// The results that an entry changes, where some may be kept.
+/// The results that an entry changes: the one that it keeps, and the one that left for it.
 fn put_keeping(
     alloc: Global,
     out: &mut Vec<u8>,

@@ -1,4 +1,4 @@
-// What sessions hold of keys.
+// The sessions' own copies of keys, which are their instances: the one that an entry has changed, or that all are gone.
 ghost use Rattle.std.specs.Prelude.{◌≡◌, ◌∷◌, ◌++◌, ◌<◌, false, Some, OnOk, length};
 ghost use Rattle.hib_base.specs.Tables.{Tables};
 ghost use Rattle.hib_journal.specs.Held.{is_break};
@@ -39,7 +39,7 @@ fn is_break(entry: &Entry) -> bool
     }
 }
 
-/// What a session has of a key, if there is one.
+/// What a session has of a key, if a key is given.
 fn put_copied(
     alloc: Global,
     out: &mut Vec<u8>,

@@ -1,4 +1,5 @@
-// The line of each fact.
+// The line of each fact: a JSON object with the number of an entry, from 1, what is told, and what is so after it (or
+// was before it, if that is why it was refused).
 ghost use Rattle.std.specs.Prelude.{◌≡◌, ◌++◌, ℕ, true, false, None, Some, OnOk, option_copied};
 ghost use Rattle.hib_follow.specs.Shelves.{kept_slot};
 ghost use Rattle.hib_journal.specs.Types.{Script};

@@ -1,4 +1,5 @@
-// Members of a line, in groups.
+// Members of a line, in groups: what a line says of one key, change, row or slot. An entry's place is its index among
+// the entries, from 0.
 ghost use Rattle.std.specs.Prelude.{◌≡◌, ◌∷◌, ◌++◌, None, OnOk, Some, option_copied, codes, map, flat_map};
 ghost use Rattle.std.specs.List.{join_by};
 ghost use Rattle.std.specs.Fmt.{decimal};
@@ -124,6 +125,7 @@ fn put_nothing(out: &mut Vec<u8>) -> Result<(), AllocError>
     Ok(())
 }
 
+/// A row that is there, but for its cells.
 fn put_row_there(alloc: Global, out: &mut Vec<u8>, row: &Row) -> Result<(), AllocError>
     ensures { OnOk result (out.new.items
         ≡ out.old.items ++ flat_map member (row_members (Some row.now))) }
@@ -144,6 +146,7 @@ pub fn put_row(alloc: Global, out: &mut Vec<u8>, row: Option<&Row>) -> Result<()
     }
 }
 
+/// An item in a slot, but for the cells of its row.
 fn put_item(alloc: Global, out: &mut Vec<u8>, row: &Row, stored: Tick) -> Result<(), AllocError>
     ensures { OnOk result (out.new.items
         ≡ out.old.items ++ flat_map member (slot_members (Slot.Item row.now stored))) }
@@ -154,7 +157,7 @@ fn put_item(alloc: Global, out: &mut Vec<u8>, row: &Row, stored: Tick) -> Result
     Ok(())
 }
 
-/// The item that the entry at a place has stored.
+/// A slot with the item that the entry at a place has stored: the row, and when it was stored.
 fn put_stored(
     alloc: Global,
     out: &mut Vec<u8>,
@@ -177,7 +180,7 @@ fn put_stored(
     }
 }
 
-/// The row that a key has.
+/// The row of the item that a key has, if it has one.
 #[tactic(auto, using(crate::proofs::Rowed::item_row))]
 pub fn kept_row<'a>(entries: &'a [Entry], kept: &Kept) -> Option<&'a Row>
     ensures { option_copied result ≡ slot_row (kept_slot entries.now kept.now) }
@@ -189,6 +192,7 @@ pub fn kept_row<'a>(entries: &'a [Entry], kept: &Kept) -> Option<&'a Row>
     }
 }
 
+/// A lock in a slot.
 fn put_lock(
     alloc: Global,
     out: &mut Vec<u8>,

@@ -1,4 +1,5 @@
-// The sessions with which a journal is followed.
+// The sessions with which a journal is followed: each takes the entries of its own as if it had made them, and then
+// says what copies it has.
 ghost use Rattle.std.specs.Prelude.{◌≡◌, ◌∷◌, ◌<◌, [], false, Some, IfOk, OnOk, length};
 ghost use Rattle.hib_base.specs.Tables.{Tables};
 ghost use Rattle.hib_journal.specs.Held.{held};

@@ -1,4 +1,4 @@
-// The states of a journal.
+// The states of a journal: of each entry, why it was refused by what was known before it, and then what it has changed.
 ghost use Rattle.std.specs.Prelude.{◌≡◌, ◌∷◌, ◌++◌, Some, IfOk, OnOk, length, reverse, slice_get};
 ghost use Rattle.hib_base.specs.Tables.{Tables};
 ghost use Rattle.hib_follow.specs.Known.{Knows};

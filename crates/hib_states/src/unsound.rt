@@ -17,7 +17,7 @@ use hib_base::{
 use hib_follow::{Deleted, Desk, Desks, Known, committer, key_in};
 use std::alloc::{AllocError, Global};
 
-/// Whether a key is of a read-write entity.
+/// Whether a key is of a read-write entity, as each unsound key is.
 fn is_guarded(script: &Script, key: &Key) -> bool
     ensures { result ≡ is_guarded script.now key.now }
 {
@@ -59,7 +59,7 @@ fn put_expired(
     }
 }
 
-/// The key that a commit inserts, if one had deleted it.
+/// The key that a commit inserts, if an earlier one had deleted it.
 fn put_reused(
     alloc: Global,
     out: &mut Vec<u8>,
@@ -102,7 +102,7 @@ fn put_all_reused(
     Ok(())
 }
 
-/// The keys that a commit inserts after one had deleted them.
+/// The keys that a commit inserts after earlier ones had deleted them.
 fn put_committed(
     alloc: Global,
     out: &mut Vec<u8>,

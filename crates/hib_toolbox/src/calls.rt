@@ -1,4 +1,4 @@
-// The call of each word.
+// The call of each word of the tools: what its task reads, what is done with that, and what is said beside the status.
 ghost use Rattle.std.specs.Prelude.{◌≡◌, ◌≤◌, ℕ, None, Some, length, true};
 ghost use Rattle.hib_base.specs.Valid.{is_valid};
 ghost use Rattle.hib_call.specs.Limits.{max_journal};

@@ -1,4 +1,4 @@
-// A journal as flat objects or columns.
+// A journal as flat objects or as columns, which are comma-separated values (the word `flat`).
 ghost use Rattle.std.specs.Prelude.{◌≡◌};
 ghost use Rattle.hib_call.specs.Ends.{IsWritten};
 ghost use Rattle.hib_flat.specs.Lines.{flat, flat_csv};

@@ -1,4 +1,4 @@
-// The orders of a script's sessions, tried and told.
+// The orders of a script's sessions, tried and told (the word `orders`).
 ghost use Rattle.std.specs.Prelude.{◌≡◌, true};
 ghost use Rattle.hib_base.specs.Valid.{is_valid};
 ghost use Rattle.hib_call.specs.Ends.{Comes};

@@ -1,4 +1,5 @@
-// The script whose schedule repeats a journal.
+// The script whose schedule repeats a journal (the word `schedule`): played by it, the sessions make the steps of the
+// journal, and the same ones are killed.
 ghost use Rattle.std.specs.Prelude.{◌≡◌, IfOk, position};
 ghost use Rattle.hib_call.specs.Ends.{Comes};
 ghost use Rattle.hib_call.specs.Outside.{Shared, shared_of};
@@ -37,7 +38,8 @@ pub struct Repeated {
     pub repeatable: Repeatable,
 }
 
-/// Whether an entry is no session's own step, and kills none.
+/// Whether an entry is no session's own step, and kills none, as an eviction or a restart. The schedule that repeats a
+/// journal has runs and kills alone, so there is none for a journal with such an entry.
 fn is_foreign(entry: &Entry) -> bool
     ensures { result ≡ is_foreign entry.now }
 {

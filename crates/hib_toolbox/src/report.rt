@@ -1,4 +1,4 @@
-// The report of a journal that comes after its script.
+// The report of a journal that comes after its script (the word `report`).
 ghost use Rattle.hib_call.specs.Ends.{Comes};
 ghost use Rattle.hib_call.specs.Outside.{shared_of};
 ghost use Rattle.hib_toolbox.specs.Reporting.{reporting};

@@ -1,4 +1,4 @@
-// The rows that a keeper has of a script's entities.
+// The rows that a keeper has of a script's entities (the word `rows`).
 ghost use Rattle.std.specs.Prelude.{◌≡◌, IfOk, IfSome};
 ghost use Rattle.std.specs.List.{range_with_len};
 ghost use Rattle.hib_outside.specs.Causes.{FailsByCause};
@@ -13,7 +13,7 @@ use hib_outside::{KeepFault, Keeper, Listener, Sink};
 use hib_script::ScriptError;
 use std::alloc::{AllocError, Global};
 
-/// So many entities, from the first.
+/// The numbers of so many entities, from the first.
 #[tactic(auto, using(crate::proofs::Ranges::one_more, crate::proofs::Ranges::none_left))]
 fn entities(alloc: Global, count: u16) -> Result<Vec<EntityNo>, AllocError>
     ensures { IfOk result (λ v. v.items ≡ range_with_len 0 count) }

@@ -1,4 +1,4 @@
-// The script with the schedule of a finding.
+// The script with the schedule of an order that has a finding (the word `orders` with `--show`).
 ghost use Rattle.std.specs.Prelude.{◌≡◌, IfOk, true};
 ghost use Rattle.hib_base.specs.Valid.{is_valid};
 ghost use Rattle.hib_call.specs.Ends.{Comes};

@@ -1,4 +1,4 @@
-// A journal as a trace.
+// A journal as a trace (the word `spans`).
 use hib_call::{JOURNAL_BYTES, Status, Task, tell_text};
 use hib_input::{WithJournal, read_with_journal};
 use hib_outside::Sink;

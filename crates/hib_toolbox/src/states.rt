@@ -1,4 +1,4 @@
-// The states of a journal that comes after its script.
+// The states of a journal that comes after its script, if it is legal (the word `states`).
 ghost use Rattle.std.specs.Prelude.{◌≡◌, ◌≤◌, ◌<◌, ◌^◌, IfOk, length, true};
 ghost use Rattle.hib_audit.specs.Breaks.{start_rows};
 ghost use Rattle.hib_base.specs.Valid.{is_valid};

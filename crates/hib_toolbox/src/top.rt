@@ -17,7 +17,7 @@ use hib_outside::{Keeper, Listener, Sink, Source};
 use hib_words::{Tool, read_tool};
 use std::alloc::Global;
 
-/// Does what is asked.
+/// Does what a word of the tools asks.
 fn serve<S: Source, W: Sink, K: Keeper, L: Listener, H: Watcher + Drop>(
     alloc: Global,
     tool: Tool,

@@ -1,4 +1,4 @@
-// The audit of a journal that comes after its script.
+// The audit of a journal that comes after its script (`audit`).
 ghost use Rattle.std.specs.Prelude.{◌≡◌, ◌≤◌, length, true, IfOk};
 ghost use Rattle.hib_base.specs.Valid.{is_valid};
 ghost use Rattle.hib_call.specs.Limits.{max_journal};

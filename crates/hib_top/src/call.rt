@@ -1,4 +1,4 @@
-// The calls that a program makes with its words.
+// The calls that a program makes with its words: the words say which command is asked for, and it gets its call.
 ghost use Rattle.std.specs.Prelude.{◌≡◌, ◌≢◌, ◌≤◌, IfOk, IfSome, length, map, option_map, string_bytes, true};
 ghost use Rattle.hib_base.specs.Valid.{is_valid};
 ghost use Rattle.hib_call.specs.Limits.{max_journal};
@@ -46,7 +46,7 @@ fn command_in(alloc: Global, words: &[String]) -> Result<Option<Command>, AllocE
     hib_words::read(alloc, words)
 }
 
-/// Does what takes no threads.
+/// Does what a command other than `work` asks, which takes no threads.
 fn serve_alone<S: Source, W: Sink, K: Keeper, L: Listener>(
     alloc: Global,
     command: &Command,
@@ -95,7 +95,7 @@ fn serve_alone<S: Source, W: Sink, K: Keeper, L: Listener>(
     }
 }
 
-/// Does what is asked.
+/// Does what a command asks, `work` on threads.
 fn serve<R: Threads + Wait + Sync, S: Source, W: Sink, K: Keeper, G: Gate, L: Listener>(
     rt: &R,
     alloc: Global,

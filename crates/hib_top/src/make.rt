@@ -1,4 +1,4 @@
-// Made scripts: their runs, and their texts.
+// Made scripts: their runs, and their texts (`make`).
 use crate::telling::{Played, Telling, tell_run};
 use hib_base::Script;
 use hib_call::{Status, Task, tell_text};

@@ -1,4 +1,4 @@
-// A script that is read, run and told.
+// The task of `play` and `work`: a script is read, run and told.
 use crate::telling::{Played, Telling, tell_run};
 use crate::turns::Turns;
 use hib_base::Script;

@@ -1,4 +1,4 @@
-// The run of a script over parts under locks of their own.
+// The run of a script over parts under locks of their own (`work --split`).
 ghost use Rattle.std.specs.Prelude.{◌≡◌, ◌⊎◌, ◌≤◌, true, false, None, Option};
 ghost use Rattle.hib_base.specs.Valid.{is_valid};
 ghost use Rattle.hib_base.specs.Tables.{Tables};
@@ -57,7 +57,7 @@ fn hear_run<L: Listener>(alloc: Global, run: Played, listeners: Vec<L>) -> (Outc
     }
 }
 
-/// What the lists of a run came to. Of one journal the listeners hear each entry.
+/// What such a run comes to, by what its lists were joined to. Of one journal the listeners hear each entry.
 fn hear_joined<N: Name, K: Keeper, L: Listener>(
     alloc: Global,
     script: Script,
@@ -99,7 +99,7 @@ fn hear_joined<N: Name, K: Keeper, L: Listener>(
     }
 }
 
-/// What the lists of a run came to, and the keeper. The lists are let go.
+/// What the lists of a run were joined to, and the keeper. The lists are let go.
 fn without_lists<K: Keeper>(run: JoinedRun<K>) -> (Joined, K)
     ensures joined { result.0 ≡ run.joined }
     ensures keeper { result.1 ≡ run.keeper }

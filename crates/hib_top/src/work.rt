@@ -1,4 +1,4 @@
-// The run of a script on workers.
+// The run of a script on workers over one lock (`work`).
 ghost use Rattle.std.specs.Prelude.{◌≡◌, ◌≤◌, true};
 ghost use Rattle.hib_base.specs.Valid.{is_valid};
 ghost use Rattle.hib_call.specs.Ends.{Comes};
