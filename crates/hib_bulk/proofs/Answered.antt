@@ -7,10 +7,10 @@ use Rattle.hib_base.specs.Tables.{Tables, after_changes}
 use Rattle.hib_base.proofs.Tables.{Tested, tested}
 use Rattle.hib_journal.specs.Types.{Commit, Script, Part, Act, Reply}
 use Rattle.hib_journal.specs.Sessions as Sessions
-use Rattle.hib_journal.specs.Sessions.{Journal, own, changes, deferred, same_part, time}
+use Rattle.hib_journal.specs.Sessions.{own, changes, deferred, same_part, time}
 use Rattle.hib_journal.specs.Legal as Legal
 use Rattle.hib_journal.specs.Lists as Lists
-use Rattle.hib_journal.specs.Lists.{unsaved, stored, stored_by, IsReplyOf}
+use Rattle.hib_journal.specs.Lists.{unsaved, stored, stored_by}
 use Rattle.hib_journal.specs.Slot.{key_in}
 use Rattle.hib_journal.specs.Held.{is_begin}
 use Rattle.hib_journal.proofs.Open.{begun_open}

@@ -1,7 +1,7 @@
 -- What is due in sessions and lines, and what a step of one leaves of it in the others.
 use Rattle.std.specs.Prelude.{option_map, option_and_then, slice_get}
 use Rattle.std.specs.Option.{option_or}
-use Rattle.std.proofs.Common.{◌≡◌, ◌≢◌, ℕ, ◌+◌, ◌-◌, ◌≤◌, ◌<◌, ◌==◌, Bool, true, false, nat_lt, List, [], ◌∷◌, length, is_some, Result, Ok, Err, Some, None, Option, refl, sym, ap, ◌∙◌, arith, eq-eqb, le-ltb}
+use Rattle.std.proofs.Common.{◌≡◌, ◌≢◌, ℕ, ◌+◌, ◌-◌, ◌≤◌, ◌<◌, ◌==◌, true, false, nat_lt, List, [], ◌∷◌, length, is_some, Result, Ok, Err, Some, None, Option, refl, sym, ap, ◌∙◌, arith, eq-eqb, le-ltb}
 use Rattle.std.proofs.lemmas.Option.{slice_get_past}
 use Rattle.std.specs.declared.alloc.AllocError.{AllocError}
 use Rattle.hib_journal.specs.Types.{Act, Order, Script}

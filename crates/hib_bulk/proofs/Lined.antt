@@ -7,7 +7,6 @@ use Rattle.hib_base.specs.Tables.{Tables}
 use Rattle.hib_journal.specs.Types.{Key, Script, Part, Act, Reply, Outcome}
 use Rattle.hib_journal.specs.Sessions.{Journal, own, same_part}
 use Rattle.hib_journal.specs.Lists as Lists
-use Rattle.hib_journal.specs.Lists.{IsReplyOf}
 use Rattle.hib_journal.specs.Next.{strategy, is_cached}
 use Rattle.hib_engines.specs.Laws.{Laws}
 use Rattle.hib_engines.specs.Registry.{IsRegistry}

@@ -7,7 +7,7 @@ use Rattle.std.specs.Option.{option_map as mapped}
 use Rattle.hib_base.specs.Tables.{Tables}
 use Rattle.hib_journal.specs.Types.{Change, Script, Part, Act, Reply}
 use Rattle.hib_journal.specs.Sessions as Sessions
-use Rattle.hib_journal.specs.Sessions.{Journal, own, changes, changes_in, deferred}
+use Rattle.hib_journal.specs.Sessions.{Journal, own, changes, deferred}
 use Rattle.hib_journal.specs.Legal as Legal
 use Rattle.hib_journal.specs.Lists.{entry_at, unsaved, unsaved_after, stored, stored_by, IsReplyOf, IsStoreReply}
 use Rattle.hib_engines.specs.Served.{is_for}

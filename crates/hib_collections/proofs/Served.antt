@@ -12,7 +12,6 @@ use Rattle.hib_journal.proofs.Open.{killed_same}
 use Rattle.hib_law.proofs.Basics.{none_some, some_same}
 use Rattle.hib_session.specs.Session.{Follows, IsTaken, number_of, own_reply}
 use Rattle.hib_engines.specs.declared.region.Region.{Region}
-use Rattle.hib_engines.specs.Counts.{RoseWithin}
 use Rattle.hib_engines.specs.Engines.{EnginesState, AreStanding, IsReady, IsTold}
 use Rattle.hib_engines.specs.Origin.{Origin}
 use Rattle.hib_engines.specs.Stays.{ListsLeave}
@@ -24,7 +23,7 @@ use Rattle.hib_collections_law.specs.declared.entries.MemberEntry.{MemberEntry}
 use Rattle.hib_collections_law.specs.declared.entries.GatherEntry.{GatherEntry}
 use Rattle.hib_collections_law.specs.Types.{Gathered}
 use Rattle.hib_collections_law.specs.Gathered
-use Rattle.hib_collections_law.specs.Gathered.{Due, Held, IsGathered, IsMemberStep, IsPlainStep, due_in, hit_in, is_by, listed, listed_by, locks_after, locks_in, mine, missed, plain, unless_begun}
+use Rattle.hib_collections_law.specs.Gathered.{Due, Held, due_in, hit_in, listed, listed_by, locks_after, mine, missed, plain, unless_begun}
 use Rattle.hib_collections_law.proofs.Apart.{are_plain}
 use Rattle.hib_collections_law.proofs.Dues.{Cause, after_member}
 use Rattle.hib_collections.specs.declared.members.Gatherer.{Gatherer}

@@ -1,5 +1,5 @@
 -- Keys that a commit deletes, one change after another; and when a key was deleted, with one entry more.
-use Rattle.std.specs.Prelude.{map, slice_get}
+use Rattle.std.specs.Prelude.{slice_get}
 use Rattle.std.specs.Borrow.{Bor}
 use Rattle.std.specs.List.{list_any}
 use Rattle.std.specs.Map.{lookup}
@@ -9,10 +9,10 @@ use Rattle.std.proofs.Math.Bool.{or-false}
 use Rattle.std.proofs.lemmas.List.{take_more, map-append}
 use Rattle.std.proofs.lemmas.List.Folds.{list_any-append}
 use Rattle.hib_base.specs.Keys.{same_key}
-use Rattle.hib_journal.specs.Types.{Key, Change, Act, Reply, Commit, Entry}
+use Rattle.hib_journal.specs.Types.{Key, Change, Entry}
 use Rattle.hib_journal.specs.Sessions.{Journal, own, changes, changes_in, committer, is_restart}
 use Rattle.hib_journal.specs.Sound.{commits, deletes_key}
-use Rattle.hib_follow.specs.Deleted.{last_deleted, AreDeleted, changes_of, committed_at}
+use Rattle.hib_follow.specs.Deleted.{AreDeleted, changes_of, committed_at}
 use Rattle.hib_follow.specs.Desks.{changes_at, IsKnown, AreDesks}
 use Rattle.hib_follow.specs.declared.desk.Desk.{Desk}
 

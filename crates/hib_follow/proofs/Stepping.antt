@@ -2,7 +2,7 @@
 use Rattle.std.specs.Prelude.{nat_eq}
 use Rattle.std.specs.Map.{lookup}
 use Rattle.std.specs.Option.{option_map_or}
-use Rattle.std.proofs.Common.{◌≡◌, ℕ, zero, suc, ◌+◌, Bool, true, false, cond, List, [], ◌∷◌, length, Some, None, Option, is_some, refl, sym, ap, ◌∙◌, subst, inl, inr}
+use Rattle.std.proofs.Common.{◌≡◌, ℕ, zero, suc, ◌+◌, false, cond, List, [], ◌∷◌, length, Some, None, Option, is_some, refl, sym, ap, ◌∙◌, subst, inl, inr}
 use Rattle.hib_base.specs.Tables.{Tables}
 use Rattle.hib_base.proofs.Tables.{Tested, tested}
 use Rattle.hib_journal.specs.Types.{Key, Strategy, Script, Entry}
@@ -18,7 +18,7 @@ use Rattle.hib_law.proofs.Views.{history_step, slot_touched, slot_rests}
 use Rattle.hib_law.proofs.Coherent.{vacant_at_first}
 use Rattle.hib_law.proofs.Whole.{is_kept}
 use Rattle.hib_follow.specs.Cached.{item_slot, cached_by, cached}
-use Rattle.hib_follow.specs.Newest.{newest, tables_in, last_touch}
+use Rattle.hib_follow.specs.Newest.{tables_in}
 use Rattle.hib_follow.specs.Steps.{slot_after, slot_if, item_after, item_if, after}
 use Rattle.hib_follow.specs.Shelves.{Shelves, kept_slot, kept_at, since_at, AreShelves}
 use Rattle.hib_follow.specs.Marks.{Stamps, value_at, stamped_since, AreStamps, AreKeeps}

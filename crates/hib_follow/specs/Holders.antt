@@ -1,5 +1,5 @@
 -- Who holds the lock of each key, and what is kept of that.
-use Rattle.std.specs.Prelude.{◌≡◌, if◌then◌else◌, nat_eq, ℕ, List, [], ◌++◌, Some, None, Option, option_to_list}
+use Rattle.std.specs.Prelude.{◌≡◌, if◌then◌else◌, ℕ, List, [], ◌++◌, Some, None, Option, option_to_list}
 use Rattle.std.specs.Map.{lookup}
 use Rattle.std.specs.Option.{option_map_or}
 use Rattle.hib_base.specs.Keys.{same_key}

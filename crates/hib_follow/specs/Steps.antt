@@ -1,7 +1,7 @@
 -- How one entry changes what a key has.
-use Rattle.std.specs.Prelude.{ℕ, zero, suc, ◌+◌, Bool, true, false, if◌then◌else◌, Some, None, Option}
-use Rattle.hib_journal.specs.Types.{Row, Strategy}
-use Rattle.hib_journal.specs.Slot.{Touch, LockState, Slot}
+use Rattle.std.specs.Prelude.{ℕ, zero, suc, ◌+◌, true, false, Some, None, Option}
+use Rattle.hib_journal.specs.Types.{Strategy}
+use Rattle.hib_journal.specs.Slot.{Touch, Slot}
 
 -- a lock that one has just taken, for a row of this version
 abbrev pub new_lock : ℕ → ℕ → Option ℕ → Slot

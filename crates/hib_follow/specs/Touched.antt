@@ -1,5 +1,5 @@
 -- The keys that an entry touches.
-use Rattle.std.specs.Prelude.{ℕ, Bool, false, if◌then◌else◌, ◌==◌, List, [], ◌∷◌, ◌++◌, Some, None, Option, is_some, option_to_list}
+use Rattle.std.specs.Prelude.{ℕ, Bool, false, if◌then◌else◌, ◌==◌, List, [], ◌++◌, Some, None, Option, is_some, option_to_list}
 use Rattle.std.specs.Option.{option_map_or}
 use Rattle.hib_base.specs.Keys.{same_key}
 use Rattle.hib_journal.specs.Types.{Key, Act, Reply, Entry}

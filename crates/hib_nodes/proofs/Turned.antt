@@ -1,8 +1,8 @@
 -- What one turn of a session leaves: the run goes on, and so do the queues.
 use Rattle.std.proofs.Common.{◌≡◌, ℕ, Bool, true, false, cond, ◌==◌, List, [], ◌∷◌, ◌++◌, Some, refl, sym, ap, ◌∙◌, subst, arith, inl, inr, eq-eqb}
-use Rattle.std.proofs.lemmas.Bool.{true≢false, false≢true, eqb-true}
+use Rattle.std.proofs.lemmas.Bool.{true≢false, eqb-true}
 use Rattle.hib_base.proofs.Tables.{Tested, tested}
-use Rattle.hib_journal.specs.Types.{Key, Script, Part, Act, Reply, Commit, Entry}
+use Rattle.hib_journal.specs.Types.{Key, Script, Part, Act, Reply, Commit}
 use Rattle.hib_journal.specs.Sessions.{own, same_part}
 use Rattle.hib_journal.specs.Legal.{part_of}
 use Rattle.hib_journal.specs.Lists.{entry_at, of_part, unsaved}

@@ -9,9 +9,9 @@ use Rattle.hib_journal.specs.Sessions.{Journal, own, changes, committed, time_in
 use Rattle.hib_journal.specs.Held.{held, pending}
 use Rattle.hib_journal.specs.Plan.{Plan, each, one, left_of, first_act}
 use Rattle.hib_journal.specs.Next as next_act
-use Rattle.hib_journal.specs.Next.{next, plan_of, block, blocks}
+use Rattle.hib_journal.specs.Next.{next, block, blocks}
 use Rattle.hib_journal.specs.Legal as legal
-use Rattle.hib_journal.specs.Legal.{IsLegal, IsStep, IsReplyBy, due, due_by, may_come, reply_by, reply_of, part_of}
+use Rattle.hib_journal.specs.Legal.{IsLegal, IsStep, IsReplyBy, due, due_by, may_come, reply_by, part_of}
 use Rattle.hib_journal.specs.Played.{has_next}
 use Rattle.hib_order_law.specs.Orders.{IsUndisturbed, IsRun, onto}
 use Rattle.hib_order_schedule.specs.Schedules.{with_schedule}

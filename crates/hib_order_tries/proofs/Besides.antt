@@ -1,7 +1,6 @@
 -- What leaves an order at a place is how another order of its run may begin.
 use Rattle.std.specs.Prelude.{length, drop, take, is_some, not, ◌&&◌, ◌||◌, ◌==◌}
-use Rattle.std.specs.List.{Contains, list_all}
-use Rattle.std.proofs.Common.{◌≡◌, ◌++◌, ◌+◌, ◌<◌, ◌≤◌, ◌⊎◌, ℕ, zero, suc, inl, inr, Bool, true, false, cond, List, [], ◌∷◌, Some, None, Option, refl, sym, ap, ◌∙◌, subst, arith}
+use Rattle.std.proofs.Common.{◌≡◌, ◌++◌, ◌+◌, ◌<◌, ◌≤◌, ◌⊎◌, ℕ, zero, suc, inl, inr, Bool, true, false, cond, List, [], ◌∷◌, Some, None, refl, sym, ap, ◌∙◌, subst, arith}
 use Rattle.std.proofs.lemmas.Bool.{false≢true, true≢false}
 use Rattle.hib_base.specs.Tables.{Tables}
 use Rattle.hib_journal.specs.Types.{Script, Act, Entry}
@@ -9,7 +8,7 @@ use Rattle.hib_journal.specs.Sessions.{Journal, is_open, open_after, own, was_ki
 use Rattle.hib_journal.specs.Legal.{is_outside}
 use Rattle.hib_journal.specs.Next.{next}
 use Rattle.hib_journal.specs.Played.{has_next}
-use Rattle.hib_order_law.specs.Orders.{IsOther, IsRun, IsUndisturbed, comes, cost, is_due, is_kill_step, is_unkilled, kills, onto, same_step, step_of, steps_in, turn_by, turns_in, whose}
+use Rattle.hib_order_law.specs.Orders.{IsOther, IsRun, IsUndisturbed, comes, is_due, is_kill_step, is_unkilled, kills, onto, step_of, steps_in, turn_by, turns_in}
 use Rattle.hib_order_law.specs.Search.{AreOthers}
 use Rattle.hib_order_law.specs.declared.step.Step.{Step}
 use Rattle.hib_order_law.specs.declared.step.Turn.{Turn}

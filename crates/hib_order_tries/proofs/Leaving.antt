@@ -1,20 +1,20 @@
 -- What leaves an order at a place, and at each from one on.
-use Rattle.std.specs.Prelude.{length, drop, take, map, slice_get, not, ◌&&◌, ◌||◌, ◌==◌}
+use Rattle.std.specs.Prelude.{length, drop, take, map, not, ◌&&◌, ◌||◌, ◌==◌}
 use Rattle.std.specs.List.{Contains, list_all}
 use Rattle.std.proofs.Common.{◌≡◌, ◌++◌, ◌+◌, ◌<◌, ◌≤◌, ◌⊎◌, ℕ, zero, suc, inl, inr, Bool, true, false, cond, List, [], ◌∷◌, Option, refl, sym, ap, ◌∙◌, subst, arith, append_assoc, append-nil}
-use Rattle.std.proofs.lemmas.Bool.{false≢true, true≢false}
+use Rattle.std.proofs.lemmas.Bool.{false≢true}
 use Rattle.std.proofs.lemmas.List.{map-append}
 use Rattle.std.proofs.lemmas.List.Folds.{list_any-append}
 use Rattle.std.proofs.lemmas.List.Elements.{Contains-append_left, Contains-append_right, Contains-append_cases, Contains-push, Contains-push_cases}
 use Rattle.hib_base.proofs.Tables.{Tested, tested}
-use Rattle.hib_order_law.specs.Orders.{begins, comes, cost, is_kill_step, same_step, whose}
+use Rattle.hib_order_law.specs.Orders.{begins, comes, cost, is_kill_step, same_step}
 use Rattle.hib_order_law.specs.Search.{begun_by}
 use Rattle.hib_order_law.specs.declared.step.Step.{Step}
 use Rattle.hib_order_law.specs.declared.step.Turn.{Turn}
-use Rattle.hib_order_law.proofs.Begun.{Begins, and_left, and_right, begins_so, is_step, so_begins, step_is}
+use Rattle.hib_order_law.proofs.Begun.{Begins, begins_so, is_step, so_begins, step_is}
 use Rattle.hib_order_law.proofs.Tally.{Contains-none, begun_by-append, begun_by-none}
-use Rattle.hib_order_tries.specs.Tail.{AreKills, AreOwn, IsTail, count_of}
-use Rattle.hib_order_tries.specs.Left.{AreBeside, AreLeft, AreLeftBy, AreOpen, IsAdded, IsBeside, IsLeft, first_of, has_step, is_at, may_come, opens}
+use Rattle.hib_order_tries.specs.Tail.{AreOwn, IsTail, count_of}
+use Rattle.hib_order_tries.specs.Left.{AreBeside, AreLeft, AreLeftBy, AreOpen, IsAdded, IsBeside, IsLeft, first_of, has_step, is_at, may_come}
 
 or_true : (a : Bool) → (a || (true || false)) ≡ true
 or_true true = refl

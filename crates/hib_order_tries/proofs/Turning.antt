@@ -4,7 +4,7 @@ use Rattle.std.proofs.Common.{◌≡◌, ◌++◌, ◌+◌, ◌<◌, ◌≤◌, 
 use Rattle.std.proofs.lemmas.Bool.{false≢true}
 use Rattle.hib_base.specs.Tables.{Tables}
 use Rattle.hib_journal.specs.Types.{Script, Entry, Outcome}
-use Rattle.hib_order_law.specs.Orders.{IsRun, begins, can_begin, is_unkilled, kills, steps_in, switches, turns_in}
+use Rattle.hib_order_law.specs.Orders.{IsRun, begins, can_begin, kills, steps_in, switches, turns_in}
 use Rattle.hib_order_law.specs.declared.step.Step.{Step}
 use Rattle.hib_order_law.specs.declared.step.Turn.{Turn}
 use Rattle.hib_order_law.specs.Search.{AreOthers, AreTried, IsSearch, IsTest, with_run}

@@ -2,7 +2,7 @@
 use Rattle.std.specs.Prelude.{◌≡◌, ◌==◌, ◌+◌, ◌++◌, ◌∷◌, ◌<◌, ◌≤◌, ◌⊎◌, ◌&&◌, ◌||◌, ℕ, Bool, false, true, if◌then◌else◌, List, [], drop, length, map, slice_get, slice_index_or, take, Option, Some, None}
 use Rattle.std.specs.List.{Contains, list_any}
 use Rattle.std.specs.Option.{option_map_or}
-use Rattle.hib_order_law.specs.Orders.{comes, cost, is_kill_step, kills, same_step, switches, whose}
+use Rattle.hib_order_law.specs.Orders.{comes, cost, kills, same_step, switches, whose}
 use Rattle.hib_order_law.specs.Search.{begun_by}
 use Rattle.hib_order_law.specs.declared.step.Step.{Step}
 use Rattle.hib_order_law.specs.declared.step.Turn.{Turn}

@@ -1,5 +1,5 @@
 -- What is known of the rest of an order.
-use Rattle.std.specs.Prelude.{◌≡◌, ℕ, ◌+◌, ◌≤◌, ◌==◌, Bool, true, if◌then◌else◌, not, List, [], ◌∷◌, map, slice_get, Option}
+use Rattle.std.specs.Prelude.{◌≡◌, ℕ, ◌+◌, ◌≤◌, ◌==◌, true, if◌then◌else◌, not, List, [], ◌∷◌, map, slice_get, Option}
 use Rattle.std.specs.List.{list_all}
 use Rattle.hib_order_law.specs.Orders.{comes, is_kill_step, switches, whose}
 use Rattle.hib_order_law.specs.declared.step.Step.{Step}

@@ -1,5 +1,5 @@
 -- The list of a region with a fence is legal by itself.
-use Rattle.std.proofs.Common.{◌≡◌, ◌<◌, ◌≤◌, ◌^◌, ◌+◌, ℕ, [], ◌∷◌, Some, None, Option, refl, sym, ap, ◌∙◌, subst, arith, inl}
+use Rattle.std.proofs.Common.{◌≡◌, ◌<◌, ◌≤◌, ◌^◌, ◌+◌, ℕ, [], ◌∷◌, Some, None, Option, refl, ap, ◌∙◌, arith, inl}
 use Rattle.hib_base.specs.Tables.{Tables}
 use Rattle.hib_journal.specs.Types.{Key, Strategy, Script, Act, Reply, Part, Locked, Unlocked}
 use Rattle.hib_journal.specs.Sessions.{Journal}
@@ -9,7 +9,7 @@ use Rattle.hib_engines.specs.declared.region.Region.{Region}
 use Rattle.hib_engines.specs.Region.{IsPlaced}
 use Rattle.hib_engines.specs.Built.{IsBuilt}
 use Rattle.hib_engines.specs.Fenced.{fence_lock, fence_unlock, with_fence, IsFenced}
-use Rattle.hib_parts.specs.Listed.{IsPartList, RegionState, last_of}
+use Rattle.hib_parts.specs.Listed.{IsPartList, last_of}
 use Rattle.hib_parts.proofs.Lists.{late_in, part_more}
 
 lock_reply : (script : Script) (told : Option Tables) (l : Journal) (now : ℕ) (k : Key) (f : ℕ) (r : Reply) → IsReplyOf script l None now (Act.Lock k None f) r →

@@ -1,5 +1,4 @@
 pub mod Rowed
-pub mod Membered
 pub mod Named
 pub mod Seated
 pub mod Told

@@ -1,8 +1,8 @@
 -- The sessions of a legal journal follow it.
 use Rattle.std.specs.Prelude.{nat_lt, slice_get, slice_set, unwrap_or}
 use Rattle.std.specs.Option.{option_map_or}
-use Rattle.std.proofs.Common.{◌≡◌, ◌⊎◌, ℕ, ◌<◌, ◌≤◌, ◌==◌, Bool, true, false, cond, List, [], ◌∷◌, ◌++◌, length, get_or, IsSome, Some, None, Option, refl, sym, ap, ◌∙◌, subst, arith, inl, inr, eq-eqb, flat_map}
-use Rattle.std.proofs.lemmas.Bool.{false≢true, eqb-true, or_parts}
+use Rattle.std.proofs.Common.{◌≡◌, ◌⊎◌, ℕ, ◌<◌, ◌≤◌, ◌==◌, Bool, true, false, cond, List, [], ◌∷◌, length, get_or, Some, None, Option, refl, sym, ap, ◌∙◌, subst, arith, inl, inr, eq-eqb}
+use Rattle.std.proofs.lemmas.Bool.{eqb-true, or_parts}
 use Rattle.std.proofs.lemmas.Bool.Decides.{nat_tests}
 use Rattle.std.proofs.lemmas.List.{length-set}
 use Rattle.std.proofs.lemmas.Option.{none-some, same_Some, slice_get-get_or, slice_get_past}
@@ -12,7 +12,7 @@ use Rattle.hib_journal.specs.Types.{SessionDef, Script, Act, Reply, Entry, Mode}
 use Rattle.hib_journal.specs.Sessions.{Journal, changes, own, is_open, was_killed, killed_by}
 use Rattle.hib_journal.specs.Plan.{Plan, left_of, after, first_act}
 use Rattle.hib_journal.specs.Next.{next, blocks, is_cached}
-use Rattle.hib_journal.specs.Legal.{IsLegal, IsStep, IsReply, due_by, fault_of, is_outside, may_come, reply_of}
+use Rattle.hib_journal.specs.Legal.{IsLegal, due_by, fault_of, is_outside, may_come, reply_of}
 use Rattle.hib_journal.proofs.Inside.{inside}
 use Rattle.hib_journal.proofs.Open.{killed_same}
 use Rattle.hib_journal.proofs.Steps.{steps_in_order}

@@ -1,10 +1,10 @@
 -- What is known of a legal journal gives the facts of its next entry.
-use Rattle.std.specs.Prelude.{nat_eq, nat_lt, map, drop, slice_get, flat_map, option_and_then, option_map, option_to_list, unwrap_or}
+use Rattle.std.specs.Prelude.{nat_lt, map, drop, slice_get, flat_map, option_and_then, option_map, option_to_list, unwrap_or}
 use Rattle.std.specs.List.{find, range_with_len}
 use Rattle.std.specs.Map.{lookup}
 use Rattle.std.specs.Option.{option_map_or}
 use Rattle.std.specs.Borrow.{Bor}
-use Rattle.std.proofs.Common.{◌≡◌, ℕ, zero, suc, ◌+◌, ◌==◌, Bool, true, false, cond, not, ◌&&◌, ◌||◌, List, [], ◌∷◌, ◌++◌, length, Some, None, Option, is_some, refl, sym, ap, ◌∙◌, subst, ◌⊎◌, inl, inr, eq-eqb, append_assoc, append-nil, arith}
+use Rattle.std.proofs.Common.{◌≡◌, ℕ, zero, suc, ◌+◌, Bool, true, false, cond, not, ◌&&◌, List, [], ◌∷◌, ◌++◌, length, Some, None, Option, is_some, refl, sym, ap, ◌∙◌, subst, ◌⊎◌, inl, inr, eq-eqb, append_assoc, append-nil, arith}
 use Rattle.std.proofs.lemmas.Bool.{false≢true, and_parts}
 use Rattle.std.proofs.lemmas.Grind.{flat_map-append}
 use Rattle.std.proofs.lemmas.List.{drop_all, map-append}
@@ -13,14 +13,13 @@ use Rattle.hib_base.specs.Keys.{same_key}
 use Rattle.hib_base.proofs.Tables.{Tested, tested, same_key_refl, row_at_changes, left_by}
 use Rattle.hib_journal.specs.Types.{Key, Cell, Change, Commit, Checked, Put, Inserted, Script, Act, Reply, Entry}
 use Rattle.hib_journal.specs.Sessions.{Journal, is_by, own, time, time_in, floor_in, changes, changes_in, changes_after, committer, committed, is_open}
-use Rattle.hib_journal.specs.Legal.{IsLegal, IsStep, reply_of, fault_of}
+use Rattle.hib_journal.specs.Legal.{IsLegal, reply_of, fault_of}
 use Rattle.hib_journal.specs.Results.{Result, result, dropped, stays, others, others_after}
 use Rattle.hib_journal.proofs.Sessions.{own_self}
 use Rattle.hib_journal.specs.Coherence.{holders}
-use Rattle.hib_follow.specs.Cached.{cached}
 use Rattle.hib_follow.specs.Deleted.{last_deleted, changes_of, committed_at}
-use Rattle.hib_follow.specs.Holders.{line_at, locked_in}
-use Rattle.hib_follow.specs.Desks.{change_in, changes_at, last_at, IsDesk, IsKnown, AreDesks}
+use Rattle.hib_follow.specs.Holders.{locked_in}
+use Rattle.hib_follow.specs.Desks.{change_in, changes_at, last_at, IsKnown, AreDesks}
 use Rattle.hib_follow.specs.Known.{Knows}
 use Rattle.hib_follow.specs.Marks.{Stamps, value_at}
 use Rattle.hib_follow.specs.Shelves.{Shelves, kept_slot, kept_at}
@@ -30,9 +29,9 @@ use Rattle.hib_journal.specs.Slot.{key_in, touch_here, evicted_in}
 use Rattle.hib_follow.specs.declared.desk.Desk.{Desk}
 use Rattle.hib_follow.specs.declared.known.Known.{Known}
 use Rattle.hib_states.specs.Facts.{Fact}
-use Rattle.hib_states.specs.States.{committed_facts, cached_facts, stamped_facts, kept_facts, session_facts, session_fact, sessions_in, queries_in, written_facts, facts_after, entry_text, restart_facts, expired_facts, is_guarded, reused_by, reused_facts, unsound_facts, holders_facts, copied_by, copied_facts, copied_in, emptied_by, cause_in, key_cause, put_cause, insert_cause, check_cause}
+use Rattle.hib_states.specs.States.{committed_facts, kept_facts, session_facts, session_fact, sessions_in, queries_in, written_facts, facts_after, entry_text, restart_facts, expired_facts, is_guarded, reused_by, reused_facts, unsound_facts, copied_by, copied_facts, copied_in, emptied_by, cause_in, key_cause, put_cause, insert_cause, check_cause}
 use Rattle.hib_states.specs.Texts.{fact_line, fact_text}
-use Rattle.hib_states.specs.Here.{committed_of, committed_here, cached_here, stamped_here, kept_now, kept_here, time_at, floor_at, session_here, written_here, facts_here, holders_here, reused_here, unsound_here, key_here, put_here, insert_here, check_here, cause_here}
+use Rattle.hib_states.specs.Here.{committed_of, committed_here, cached_here, stamped_here, kept_now, kept_here, time_at, floor_at, session_here, written_here, facts_here, reused_here, unsound_here, key_here, put_here, insert_here, check_here, cause_here}
 
 -- ---- lists
 

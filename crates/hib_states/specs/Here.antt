@@ -10,7 +10,7 @@ use Rattle.hib_journal.specs.Sessions.{committer}
 use Rattle.hib_follow.specs.Deleted.{committed_at}
 use Rattle.hib_follow.specs.Holders.{line_at, locked_in}
 use Rattle.hib_follow.specs.declared.holders.Line.{Line}
-use Rattle.hib_follow.specs.Desks.{change_in, changes_at, last_at}
+use Rattle.hib_follow.specs.Desks.{changes_at, last_at}
 use Rattle.hib_follow.specs.Marks.{Stamps, value_at, stamped_since}
 use Rattle.hib_follow.specs.Newest.{tables_in}
 use Rattle.hib_follow.specs.Shelves.{Shelves, kept_at, kept_slot, since_at}

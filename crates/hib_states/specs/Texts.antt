@@ -1,9 +1,9 @@
 -- The line of a fact: a JSON object whose members have the names and the types of a journal's flat objects.
-use Rattle.std.specs.Prelude.{ℕ, Bool, true, false, List, [], ◌∷◌, ◌++◌, codes, map, flat_map, Some, None, Option, option_map}
+use Rattle.std.specs.Prelude.{ℕ, Bool, true, false, List, [], ◌∷◌, ◌++◌, codes, map, flat_map, Some, None, Option}
 use Rattle.std.specs.Fmt.{decimal}
 use Rattle.hib_base.specs.Tables.{key_of, row_left}
-use Rattle.hib_journal.specs.Types.{Key, Row, Cell, Change, Script}
-use Rattle.hib_journal.specs.Slot.{LockState, Slot}
+use Rattle.hib_journal.specs.Types.{Key, Row, Cell, Script}
+use Rattle.hib_journal.specs.Slot.{Slot}
 use Rattle.hib_journal.specs.Results.{Result}
 use Rattle.hib_texts.specs.Texts.{entity_text, query_text, session_text}
 use Rattle.hib_flat.specs.Members.{Member, number, word, words, boolean, list, numbered, row_cells}

@@ -1,5 +1,5 @@
 -- The call of a command is what the words have the tools do.
-use Rattle.std.proofs.Common.{◌≡◌, ◌≢◌, ◌+◌, ◌∙◌, ℕ, List, Option, Some, None, refl, sym, subst, inl, inr}
+use Rattle.std.proofs.Common.{◌≡◌, ◌≢◌, ◌+◌, ◌∙◌, Option, Some, None, refl, sym, subst, inl, inr}
 use Rattle.std.specs.Prelude.{◌↔◌}
 use Rattle.hib_call.proofs.Taken.{reads_none}
 use Rattle.hib_call.specs.declared.status.Status.{Status}

@@ -1,5 +1,5 @@
 -- What is told of the orders of a script is so.
-use Rattle.std.proofs.Common.{◌≡◌, ◌≤◌, ◌+◌, ℕ, Bool, true, false, cond, List, [], Option, Some, None, refl, sym, subst}
+use Rattle.std.proofs.Common.{◌≡◌, ◌≤◌, ◌+◌, ℕ, Bool, true, false, cond, List, [], Option, Some, None, sym, subst}
 use Rattle.std.specs.Prelude.{IfNone, IfSome}
 use Rattle.hib_base.specs.Tables.{Tables}
 use Rattle.hib_journal.specs.Types.{Script, Entry}
@@ -18,7 +18,7 @@ use Rattle.hib_order_tries.specs.Found.{AreFindings, IsFound, IsTold}
 use Rattle.hib_order_tries.specs.declared.found.First.{First}
 use Rattle.hib_order_tries.specs.declared.found.Found.{Found}
 use Rattle.hib_order_tries.specs.declared.found.Findings.{Findings}
-use Rattle.hib_toolbox.specs.Exploring.{IsShown, has_in, has_of}
+use Rattle.hib_toolbox.specs.Exploring.{IsShown, has_in}
 
 -- what is found of each kind is so
 found_is : (script : Script) (runs : List (List Entry)) (findings : Findings) (finding : Finding) →

@@ -1,6 +1,5 @@
 -- The orders of a script's sessions, tried and told.
 use Rattle.std.specs.Prelude.{◌≡◌, ◌⊎◌, ◌≤◌, ◌^◌, ◌-◌, ◌||◌, ◌==◌, ℕ, Bool, true, false, if◌then◌else◌, List, [], is_some, IfSome, Some, None, Option, Ok, Err}
-use Rattle.std.specs.Option.{option_map_or}
 use Rattle.hib_journal.specs.Types.{Key, Strategy, Script, Entry}
 use Rattle.hib_journal.specs.Next.{strategy}
 use Rattle.hib_journal.specs.Played.{is_played}
@@ -17,7 +16,6 @@ use Rattle.hib_order_text.specs.declared.findings.Finding.{Finding}
 use Rattle.hib_order_tries.specs.Found.{IsTold}
 use Rattle.hib_order_tries.specs.declared.found.Findings.{Findings}
 use Rattle.hib_order_tries.specs.declared.found.First.{First}
-use Rattle.hib_order_tries.specs.declared.trying.Told.{Told}
 use Rattle.hib_print.specs.Printed.{printed}
 use Rattle.hib_script.specs.Outline.{Outline, outline_of}
 use Rattle.hib_script.specs.Script.{script_of}

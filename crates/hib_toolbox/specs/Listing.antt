@@ -1,5 +1,5 @@
 -- The rows that a keeper has of a script's entities.
-use Rattle.std.specs.Prelude.{◌≡◌, ℕ, List, length, IfSome, Option, Some, None, Ok, Err}
+use Rattle.std.specs.Prelude.{◌≡◌, length, IfSome, Option, None, Ok, Err}
 use Rattle.std.specs.List.{range_with_len}
 use Rattle.hib_journal.specs.Types.{Script}
 use Rattle.hib_outside.specs.Keeps.{rows_of}

@@ -9,7 +9,7 @@ use Rattle.hib_collections_law.specs.declared.entries.GatherEntry.{GatherEntry}
 use Rattle.hib_collections_law.specs.Gathered.{plain}
 use Rattle.hib_collections.specs.declared.members.Gatherer.{Gatherer}
 use Rattle.hib_collections.specs.Kept.{past}
-use Rattle.hib_collections.specs.Run.{IsRun, IsTurn, IsKept, IsAnsweredAt, Leaves, Serves}
+use Rattle.hib_collections.specs.Run.{IsAnsweredAt}
 use Rattle.hib_collections.proofs.Left.{kept_by, leaves_same}
 use Rattle.hib_collections.proofs.Served.{entry_is, hit_serves, some_of}
 use Rattle.hib_collections.proofs.at_owners.serve_hit.Goals as goal

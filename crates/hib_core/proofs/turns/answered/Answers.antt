@@ -3,7 +3,6 @@ use Rattle.hib_journal.specs.Kept.{past}
 use Rattle.hib_session.specs.Session.{number_of}
 use Rattle.hib_core.specs.Standing.{entry_of}
 use Rattle.hib_core.specs.Factory.{IsRun, IsTurn, Answers}
-use Rattle.hib_engines.specs.Engines.{IsRefused}
 use Rattle.hib_engines.proofs.Left.{refused_same}
 use Rattle.hib_engines.proofs.Outcomes.{err_all}
 use Rattle.hib_core.proofs.Going.{answers_of, ready}

@@ -1,4 +1,4 @@
-use Rattle.std.proofs.Common.{◌<◌, sym, subst, ◌∙◌}
+use Rattle.std.proofs.Common.{◌<◌, subst, ◌∙◌}
 use Rattle.hib_core.proofs.Going.{at_place, member_of, due_in}
 use Rattle.hib_core.proofs.turns.has_turn.Goals as goal
 

@@ -1,9 +1,8 @@
 use Rattle.std.specs.List.{range_with_len}
-use Rattle.std.proofs.Common.{◌≡◌, ◌∙◌, ℕ, List, [], map, length, sym, ap, zero-add, arith}
+use Rattle.std.proofs.Common.{◌≡◌, ◌∙◌, List, [], map, length, sym, ap, zero-add, arith}
 use Rattle.std.proofs.lemmas.List.{take_all}
 use Rattle.hib_journal.specs.Legal.{outcome}
 use Rattle.hib_journal.specs.Sessions.{Journal, own}
-use Rattle.hib_journal.specs.Types.{Outcome}
 use Rattle.hib_order_judge.proofs.Noted.{ended, onto_reverse}
 use Rattle.hib_order_law.specs.Orders.{onto}
 use Rattle.hib_report.specs.declared.fates.Fate.{Fate}

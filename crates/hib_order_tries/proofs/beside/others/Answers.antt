@@ -1,5 +1,5 @@
 use Rattle.std.specs.Prelude.{slice_index_or}
-use Rattle.std.proofs.Common.{◌≡◌, ◌+◌, ◌++◌, ◌-◌, ◌<◌, ◌≤◌, ℕ, suc, Bool, false, List, [], ◌∷◌, sym, ap, ◌∙◌, subst, arith, drop, length, map, refl}
+use Rattle.std.proofs.Common.{◌≡◌, ◌+◌, ◌++◌, ◌-◌, ◌<◌, ◌≤◌, ℕ, suc, false, List, [], ◌∷◌, sym, ap, ◌∙◌, subst, arith, drop, length, map, refl}
 use Rattle.hib_order_law.specs.declared.step.Step.{Step}
 use Rattle.hib_order_law.specs.declared.step.Turn.{Turn}
 use Rattle.hib_order_tries.specs.Tail.{IsTail}

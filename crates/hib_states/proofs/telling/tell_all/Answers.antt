@@ -1,7 +1,6 @@
 use Rattle.std.proofs.Common.{◌≡◌, ◌+◌, ◌<◌, ◌≤◌, ◌∷◌, ◌++◌, ◌∙◌, ℕ, List, Some, take, reverse, length, refl, sym, ap, subst, arith}
 use Rattle.std.proofs.lemmas.List.{take_all}
 use Rattle.std.proofs.lemmas.Option.{slice_get_read}
-use Rattle.hib_base.specs.Tables.{Tables}
 use Rattle.hib_follow.specs.Known.{Knows}
 use Rattle.hib_journal.specs.Legal.{IsLegal}
 use Rattle.hib_journal.specs.Sessions.{Journal}

@@ -1,5 +1,4 @@
 use Rattle.std.proofs.Common.{◌≡◌, ◌<◌, ◌+◌, ℕ, ◌∷◌, sym, subst, ap, ◌∙◌}
-use Rattle.hib_journal.specs.Types.{Part}
 use Rattle.hib_journal.specs.Kept.{past}
 use Rattle.hib_journal.specs.Sessions.{Journal}
 use Rattle.hib_engines.specs.Fenced.{with_fence}
