@@ -287,7 +287,7 @@ fn deeper_fault<R: Threads + Wait + Sync>(
     Ok(None)
 }
 
-/// The first thing that differs of a row, if anything does.
+/// Makes the call of a row of the checks, and gives the first thing that isn't as the row says. None if all is.
 pub fn first_fault<R: Threads + Wait + Sync>(
     rt: &R,
     alloc: Global,

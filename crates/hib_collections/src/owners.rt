@@ -113,7 +113,7 @@ fn free(locks: &Locks, collection: u16, owner: Option<u64>) -> Option<OwnerPlace
     if locks.has(place) { None } else { Some(place) }
 }
 
-/// The first of two owners of a collection that isn't locked.
+/// The first of these owners of a collection that the session hasn't locked yet; none if it has locked them all.
 fn first_free(
     locks: &Locks,
     collection: u16,

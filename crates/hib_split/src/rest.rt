@@ -86,8 +86,9 @@ fn step_to_end<K: Keeper, N: Name>(
     }
 }
 
-/// Steps a session to its end, unless memory had run out before. Its list is added to those of the sessions before it.
-/// There is room for it. Whether memory has run out.
+/// Steps a session to its end, unless memory had run out before. Its worker is the one that was left aside, or begins
+/// now. In any case its list is added to those of the sessions before it, where there must be room. Answers whether
+/// memory has run out.
 fn end_session<K: Keeper, N: Name>(
     alloc: Global,
     script: &Script,
