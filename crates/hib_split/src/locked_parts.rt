@@ -1,8 +1,10 @@
 // What workers share: each part behind a lock of its own.
-ghost use Rattle.std.specs.Prelude.{◌≡◌, ◌<◌, ◌≤◌, ◌+◌, ◌^◌, [], map, vec_len, vec_capacity, IfNone, IfOk, IsOk};
+ghost use Rattle.std.specs.Prelude.{◌≡◌, ◌<◌, ◌≤◌, ◌+◌, ◌^◌, [], map, vec_len, vec_capacity, None, Ok, IfNone, IfOk, IsOk};
+ghost use Rattle.hib_journal.specs.Next.{next};
 ghost use Rattle.hib_parts.specs.Listed.{IsDueOn};
 ghost use Rattle.hib_parts.specs.Run.{entities_of};
 
+use crate::ended::Ended;
 use crate::halt::Halt;
 use crate::locks::{LockedRegion, lock_regions, step_under_lock, unlock_regions};
 use crate::strange::Strange;
@@ -30,6 +32,8 @@ pub struct LockedParts<K: Keeper, N: Name> {
     sessions: usize,
     /// The workers that were put aside, each at the place of its session.
     aside: Mutex<Vec<Option<Worker<N>>>>,
+    /// What is left of the sessions that are at their ends, each at its place.
+    ended: Mutex<Vec<Option<Ended<N>>>>,
     strange: Mutex<Option<Strange>>,
     /// Whether memory ran out in a worker.
     refused: AtomicBool,
@@ -40,8 +44,10 @@ pub struct LockedParts<K: Keeper, N: Name> {
 pub struct Left<K: Keeper, N: Name> {
     /// The parts, out of their locks.
     pub parts: Parts<K, N>,
-    /// The workers, each at the place of its session.
+    /// The workers whose sessions aren't at their ends, each at the place of its session.
     pub aside: Vec<Option<Worker<N>>>,
+    /// What is left of the sessions that are at their ends, each at its place.
+    pub ended: Vec<Option<Ended<N>>>,
     /// The entity that was asked for and the one that was found, if a lock gave another region. Then regions may be
     /// missing.
     pub strange: Option<Strange>,
@@ -57,13 +63,12 @@ pub struct Room<N: Name> {
     pub regions: Vec<RegionPart<N>>,
     /// A place for the worker of each session.
     pub aside: Vec<Option<Worker<N>>>,
+    /// A place for what is left of each session.
+    pub ended: Vec<Option<Ended<N>>>,
 }
 
-/// A place for the worker of each session, and none is there.
-fn places_for<N: Name>(
-    alloc: Global,
-    sessions: usize,
-) -> Result<Vec<Option<Worker<N>>>, AllocError> {
+/// A place for each session, and nothing is there.
+fn places_for<T: Drop>(alloc: Global, sessions: usize) -> Result<Vec<Option<T>>, AllocError> {
     let mut places = Vec::with_capacity(alloc, sessions)?;
     for _ in 0..sessions {
         places.push(None)?;
@@ -85,10 +90,12 @@ pub fn room_for_threads<N: Name>(
     let locks = Vec::with_capacity(alloc, regions)?;
     let back = Vec::with_capacity(alloc, regions)?;
     let aside = places_for(alloc, sessions)?;
+    let ended = places_for(alloc, sessions)?;
     Ok(Room {
         locks,
         regions: back,
         aside,
+        ended,
     })
 }
 
@@ -109,6 +116,7 @@ impl<K: Keeper, N: Name> LockedParts<K, N> {
         script: &Script,
         locks: Vec<LockedRegion<N>>,
         aside: Vec<Option<Worker<N>>>,
+        ended: Vec<Option<Ended<N>>>,
     ) -> LockedParts<K, N>
         requires script { script.now ≡ N.script }
         requires empty { locks.items ≡ [] }
@@ -136,6 +144,7 @@ impl<K: Keeper, N: Name> LockedParts<K, N> {
             next: AtomicUsize::new(0),
             sessions: script.sessions.len(),
             aside: Mutex::new(aside),
+            ended: Mutex::new(ended),
             strange: Mutex::new(None),
             refused: AtomicBool::new(false),
         }
@@ -160,6 +169,7 @@ impl<K: Keeper, N: Name> LockedParts<K, N> {
             next: _,
             sessions: _,
             aside,
+            ended,
             strange,
             refused,
         } = self;
@@ -174,6 +184,7 @@ impl<K: Keeper, N: Name> LockedParts<K, N> {
                 regions,
             },
             aside: aside.into_inner(),
+            ended: ended.into_inner(),
             strange: first_strange(unlocked, strange.into_inner()),
             refused: refused.into_inner(),
         }
@@ -215,6 +226,17 @@ impl<K: Keeper, N: Name> LockedParts<K, N> {
         }
     }
 
+    /// Puts what is left of a session that is at its end at its place.
+    pub fn put_ended<R: Wait>(&self, rt: &R, left: Ended<N>) {
+        let mut held = lock_soon(rt, &self.ended);
+        let ended = &mut *held;
+        let place = left.number().0 as usize;
+        // Each session has a place.
+        if place < ended.len() {
+            ended[place] = Some(left);
+        }
+    }
+
     /// One step of a session: the act that is due in it, if one is, under the lock of the part that it is on. An act of
     /// its own is made under no lock. The session is made ready before the lock is taken.
     pub fn step<R: Wait>(
@@ -225,6 +247,8 @@ impl<K: Keeper, N: Name> LockedParts<K, N> {
         worker: &mut Worker<N>,
     ) -> Result<Stepped, Halt>
         requires { script.now ≡ N.script }
+        ensures done { result ≡ Ok Stepped.Done
+            → next N.script worker.new.number worker.new.list ≡ None }
     {
         worker.ready(alloc, script)?;
         let Some(act) = worker.next(alloc, script)? else {
