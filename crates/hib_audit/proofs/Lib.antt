@@ -5,4 +5,5 @@ pub mod Kept
 pub mod Ticking
 pub mod Taking
 pub mod Passing
+pub mod AtCall
 pub mod Verdicts

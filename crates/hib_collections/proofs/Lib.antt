@@ -13,3 +13,4 @@ pub mod Left
 pub mod Taken
 pub mod Hearing
 pub mod Texts
+pub mod AtTurn

@@ -4,27 +4,26 @@ use Rattle.hib_journal.specs.Types.{Act}
 use Rattle.hib_journal.specs.Sessions.{changes}
 use Rattle.hib_audit.specs.Breaks.{start_rows}
 use Rattle.hib_engines.specs.Engines.{IsAnswered}
-use Rattle.hib_audit.specs.Standing.{AuditorState, IsNext}
+use Rattle.hib_audit.specs.Standing.{AuditorState}
+use Rattle.hib_audit.proofs.AtCall.{next_of}
 use Rattle.hib_audit.proofs.Taking.{judged_true, judged_false, not_taken, evict_cached, evict_late, evict_sure, knows_evict}
 use Rattle.hib_audit.proofs.auditor.Auditor.take_evict.Goals as goal
 
 pub returns : goal.returns
 returns c = λ script h p.
     let e = c.args.entry.now in
-    let x : AuditorState = record { engines = c.self.inside.engines; sessions = c.self.inside.sessions.items; written = c.self.inside.written.items; ticks = c.self.inside.ticks } in
-    let n : IsNext script h e x = subst (λ (v : AuditorState). IsNext script h e v) (sym c.self.view_is) p in
+    let n = next_of c.self.view_is p in
     let y : AuditorState = record { engines = c.evict.new.self; sessions = c.self.inside.sessions.items; written = c.self.inside.written.items; ticks = c.note.new.self } in
     let v : IsAnswered script (Some (start_rows script)) h None e.tick e.act c.in_ok-reply.reply c.evict.new.self =
     subst (λ (a : Act). IsAnswered script (Some (start_rows script)) h None e.tick a c.in_ok-reply.reply c.evict.new.self) (sym c.requires.act)
     (c.in_ok-reply.ensures.answered script (Some (start_rows script)) h n.known.engines (evict_cached script h c.args.key e.act c.requires.act n.coming.comes) (evict_late script h c.args.key e n.coming c.requires.act)) in
-    knows_evict script (start_rows script) h c.args.key e x y n.known n.coming c.requires.by c.requires.act
+    knows_evict script (start_rows script) h c.args.key e _ y n.known n.coming c.requires.by c.requires.act
     (judged_true script (start_rows script) h None e.tick e.act c.in_ok-reply.reply e.reply c.evict.new.self v (c.is_same_reply.ensures.0 c.if-not-is_same_reply.false)) refl refl c.note.ensures
 
 pub returns-then-not-is_same_reply : goal.returns-then-not-is_same_reply
 returns-then-not-is_same_reply c = λ script h p z.
     let e = c.args.entry.now in
-    let x : AuditorState = record { engines = c.self.inside.engines; sessions = c.self.inside.sessions.items; written = c.self.inside.written.items; ticks = c.self.inside.ticks } in
-    let n : IsNext script h e x = subst (λ (v : AuditorState). IsNext script h e v) (sym c.self.view_is) p in
+    let n = next_of c.self.view_is p in
     let v : IsAnswered script (Some (start_rows script)) h None e.tick e.act c.in_ok-reply.reply c.evict.new.self =
     subst (λ (a : Act). IsAnswered script (Some (start_rows script)) h None e.tick a c.in_ok-reply.reply c.evict.new.self) (sym c.requires.act)
     (c.in_ok-reply.ensures.answered script (Some (start_rows script)) h n.known.engines (evict_cached script h c.args.key e.act c.requires.act n.coming.comes) (evict_late script h c.args.key e n.coming c.requires.act)) in
