@@ -1,4 +1,5 @@
-// The last ticks of the parts and of the sessions, and the first entry whose tick isn't the one that is due.
+// The last ticks of the parts and of the sessions, by which `agree` finds the first entry whose tick isn't the one that
+// is due: one more than the greater of the last ticks of its part and of its session.
 ghost use Rattle.std.specs.Prelude.{◌≡◌, ◌∷◌, ◌≤◌, ◌<◌, ◌^◌, [], if◌then◌else◌, length, reverse, IfOk, OnOk, MatchOption, Option, ℕ};
 ghost use Rattle.hib_base.specs.declared.entries.Part.{Part as AnyPart};
 ghost use Rattle.hib_clock.specs.Due.{due};
@@ -123,7 +124,7 @@ impl Ticks {
         }
     }
 
-    /// Takes the tick of an entry.
+    /// Notes the tick of an entry as the last one of its part and of its session.
     fn note(&mut self, entry: &Entry) -> Result<(), AllocError>
         ensures { OnOk result ((h : Journal) → AreLast self.old h
             → AreLast self.new (entry.now ∷ h)) }

@@ -1,4 +1,5 @@
-// What workers share: each part behind a lock of its own.
+// What the threads of a run share: each part behind a lock of its own. A worker is here a session with its list, as in
+// hib_parts.
 ghost use Rattle.std.specs.Prelude.{◌≡◌, ◌<◌, ◌≤◌, ◌+◌, ◌^◌, [], map, vec_len, vec_capacity, IfNone, IfOk, IsOk};
 ghost use Rattle.hib_parts.specs.Listed.{IsDueOn};
 ghost use Rattle.hib_parts.specs.Run.{entities_of};
@@ -18,7 +19,7 @@ use std::alloc::{AllocError, Global};
 use std::sync::atomic::{AtomicBool, AtomicUsize, Ordering};
 use std::sync::{Mutex, Wait};
 
-/// What workers share: each part behind a lock of its own, the number of the next session that nobody has taken, and
+/// What threads share: each part behind a lock of its own, the number of the next session that nobody has taken, and
 /// what they leave.
 pub struct LockedParts<K: Keeper, N: Name> {
     registry: Mutex<RegistryPart<N>>,
@@ -36,30 +37,30 @@ pub struct LockedParts<K: Keeper, N: Name> {
     ghost few: { sessions < 2 ^ 32 },
 }
 
-/// What workers leave, when they have ended.
+/// What threads leave, when they have ended.
 pub struct Left<K: Keeper, N: Name> {
     /// The parts, out of their locks.
     pub parts: Parts<K, N>,
-    /// The workers, each at the place of its session.
+    /// The workers that were put aside, each at the place of its session.
     pub aside: Vec<Option<Worker<N>>>,
-    /// The entity that was asked for and the one that was found, if a lock gave another region. Then regions may be
+    /// If a lock gave another region: the entity that was asked for, and the one that was found. Then regions may be
     /// missing.
     pub strange: Option<Strange>,
-    /// Whether memory ran out in a worker.
+    /// Whether memory ran out in a thread.
     pub refused: bool,
 }
 
-/// Room for what a run on threads needs beside the lists.
+/// Room for what a run on threads needs beside the lists. It is taken before the run.
 pub struct Room<N: Name> {
     /// For the locks of regions.
     pub locks: Vec<LockedRegion<N>>,
     /// For the regions, when they come out of their locks.
     pub regions: Vec<RegionPart<N>>,
-    /// A place for the worker of each session.
+    /// A place for the worker of each session that is put aside.
     pub aside: Vec<Option<Worker<N>>>,
 }
 
-/// A place for the worker of each session, and none is there.
+/// Empty places, one for the worker of each session.
 fn places_for<N: Name>(
     alloc: Global,
     sessions: usize,
@@ -92,7 +93,8 @@ pub fn room_for_threads<N: Name>(
     })
 }
 
-/// The region that isn't the one that was asked for, if there is one: found by the caller, or before by a worker.
+/// What `Left` says of strange regions: the one that was found while regions were unlocked, or else the one that a
+/// thread noted.
 fn first_strange(unlocked: Result<(), Strange>, found: Option<Strange>) -> Option<Strange>
     ensures { IfNone result (IsOk unlocked) }
 {
@@ -103,7 +105,7 @@ fn first_strange(unlocked: Result<(), Strange>, found: Option<Strange>) -> Optio
 }
 
 impl<K: Keeper, N: Name> LockedParts<K, N> {
-    /// Each part behind a lock of its own. There is room for the locks of regions.
+    /// Puts each part behind a lock of its own. There must be room for the locks of regions.
     pub fn open(
         parts: Parts<K, N>,
         script: &Script,
@@ -141,7 +143,7 @@ impl<K: Keeper, N: Name> LockedParts<K, N> {
         }
     }
 
-    /// What workers leave, when they have ended. There is room for the regions.
+    /// Takes the parts out of their locks, when the threads have ended. There must be room for the regions.
     pub fn close(self, room: Vec<RegionPart<N>>) -> Left<K, N>
         requires empty { room.items ≡ [] }
         requires room { vec_len room + vec_len self.regions ≤ vec_capacity room }
@@ -188,12 +190,12 @@ impl<K: Keeper, N: Name> LockedParts<K, N> {
         Some(SessionNo(number as u32))
     }
 
-    /// Whether memory ran out in a worker.
+    /// Whether memory ran out in a thread.
     pub fn refused(&self) -> bool {
         self.refused.load(Ordering::SeqCst)
     }
 
-    /// Notes why a worker stopped.
+    /// Notes why a thread stopped.
     pub fn note<R: Wait>(&self, rt: &R, halt: Halt) {
         match halt {
             Halt::NoMemory => self.refused.store(true, Ordering::SeqCst),
@@ -204,7 +206,7 @@ impl<K: Keeper, N: Name> LockedParts<K, N> {
         }
     }
 
-    /// Puts a worker at the place of its session, for the caller to go on with.
+    /// Puts a worker at the place of its session, where the caller finds it when the threads have ended.
     pub fn put_aside<R: Wait>(&self, rt: &R, worker: Worker<N>) {
         let mut held = lock_soon(rt, &self.aside);
         let aside = &mut *held;
@@ -235,7 +237,7 @@ impl<K: Keeper, N: Name> LockedParts<K, N> {
         Ok(Stepped::Did)
     }
 
-    /// The act that is due in a session, which is on this part, is answered under the part's lock.
+    /// Answers the act that is due in a session under the lock of this part. The act must be on it.
     fn step_on<R: Wait>(
         &self,
         rt: &R,

@@ -1,5 +1,5 @@
-// What comes of a run: the caller steps the sessions to their ends from where workers left them, and puts the lists
-// together.
+// The end of a run, on the caller's thread: it steps the sessions to their ends from where threads left them, if there
+// were any, and puts the lists together. A worker is a session with its list.
 ghost use Rattle.std.specs.Prelude.{◌≡◌, ◌≢◌, ◌<◌, ◌≤◌, ◌+◌, [], length, map, true, false, None, vec_len, vec_capacity};
 ghost use Rattle.std.specs.Prelude.{IfSome, IsSome};
 ghost use Rattle.hib_base.specs.Valid.{is_valid};
@@ -38,7 +38,7 @@ pub struct Split<K: Keeper> {
     pub out_of_memory: bool,
 }
 
-/// The worker of a session, or if none was put aside one that has done nothing.
+/// The worker of a session: the one that was put aside, or if none was, one that has done nothing.
 fn taken<N: Name>(alloc: Global, aside: &mut Vec<Option<Worker<N>>>, number: SessionNo) -> Worker<N>
     ensures number { result.number ≡ number }
     ensures none { aside.old.items ≡ [] → aside.new.items ≡ [] }
@@ -59,7 +59,7 @@ fn taken<N: Name>(alloc: Global, aside: &mut Vec<Option<Worker<N>>>, number: Ses
     }
 }
 
-/// Steps a session to its end, unless memory had run out before. Whether it has run out.
+/// Steps a session to its end, unless memory had run out before. Answers whether it has run out.
 fn step_to_end<K: Keeper, N: Name>(
     alloc: Global,
     script: &Script,
@@ -126,8 +126,8 @@ fn end_session<K: Keeper, N: Name>(
     refused
 }
 
-/// Steps each session to its end, the first one first, unless memory runs out or had run out before. The list of each
-/// session is added to `mine`, where there is room for them. Whether memory has run out.
+/// Steps each session to its end, the first one first, unless memory runs out or had run out before. Adds the list of
+/// each session to `mine`, which must have room for them. Answers whether memory has run out.
 fn end_sessions<K: Keeper, N: Name>(
     alloc: Global,
     script: &Script,
@@ -161,15 +161,15 @@ fn end_sessions<K: Keeper, N: Name>(
     refused
 }
 
-/// Whether memory ran out in a worker, or in a call of the store.
+/// Whether memory ran out in a thread, or in a call of the store.
 fn has_run_out<K: Keeper, N: Name>(refused: bool, store: &StorePart<K, N>) -> bool
     ensures { result ≡ false → store.now.refused ≡ false }
 {
     refused || store.refused()
 }
 
-/// Steps the sessions to their ends, from where the workers that were put aside left them, unless memory ran out in
-/// one. The lists are put together. There is room for them.
+/// Steps the sessions to their ends, from where the workers that were put aside left them, unless memory has run out.
+/// Puts the lists together. There must be room for them.
 pub fn go_on<K: Keeper, N: Name>(
     alloc: Global,
     script: &Script,
@@ -219,7 +219,7 @@ pub fn go_on<K: Keeper, N: Name>(
     }
 }
 
-/// The keeper, and no list: a lock gave another region than the one that was asked for.
+/// What comes of a run in which a lock gave another region than the one that was asked for: the keeper, and no list.
 #[tactic(auto, using(crate::proofs::Failed::none_fewer))]
 pub fn stop<K: Keeper, N: Name>(
     alloc: Global,
