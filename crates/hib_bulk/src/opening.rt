@@ -33,7 +33,7 @@ fn open_regions(alloc: Global, script: &Script) -> Result<Vec<EntityRegion>, All
     Ok(regions)
 }
 
-/// How far each line has come that has done nothing. Fails for want of memory alone.
+/// Says of each line that it has done nothing. Fails for want of memory alone.
 pub fn open_lines(alloc: Global, lines: &[BulkDef]) -> Result<Vec<LineProgress>, AllocError>
     ensures { IfOk result (λ v. v.items ≡ map fresh lines.now) }
 {

@@ -1,4 +1,4 @@
-// The text of a journal with bulk lines.
+// The text of a journal with bulk lines, which `bulk` prints.
 ghost use Rattle.std.specs.Prelude.{◌≡◌, ◌++◌, OnOk, IfOk, codes, flat_map};
 ghost use Rattle.hib_texts.specs.Texts.{entity_text};
 ghost use Rattle.std.specs.Fmt.{decimal};
@@ -12,7 +12,7 @@ use hib_report::{put_act, put_part, put_reply};
 use hib_texts::{put_entity, put_keyed, put_labelled, put_number, put_session};
 use std::alloc::{AllocError, Global};
 
-/// The name of a session or of a line: lines are numbered after the sessions.
+/// Adds the name of a session or of a bulk line: these are numbered after the sessions.
 fn put_name(
     out: &mut Vec<u8>,
     script: &Script,
@@ -32,7 +32,7 @@ fn put_name(
     }
 }
 
-/// A word, and the entity that it is for.
+/// Adds a word, and the entity that it is for.
 fn put_on(
     out: &mut Vec<u8>,
     script: &Script,
@@ -86,7 +86,7 @@ fn put_done(
     }
 }
 
-/// A refusal by a region that lines hold, with their number: to a get it is a miss.
+/// Adds the refusal by a region that lines hold, with how many do: to a get it is a miss.
 fn put_wide(alloc: Global, out: &mut Vec<u8>, act: &BulkAct, holders: u64) -> Result<(), AllocError>
     ensures { OnOk result (out.new.items ≡ out.old.items ++ wide_text act.now holders) }
 {
@@ -124,7 +124,7 @@ fn put_answer(
     }
 }
 
-/// Who did it, and where.
+/// Adds when it was, who did it, and where.
 fn put_head(
     alloc: Global,
     out: &mut Vec<u8>,
@@ -143,7 +143,7 @@ fn put_head(
     out.extend_from_slice(b" ")
 }
 
-/// What was done and answered.
+/// Adds what was done and answered.
 fn put_body(
     alloc: Global,
     out: &mut Vec<u8>,
@@ -160,7 +160,7 @@ fn put_body(
     put_answer(alloc, out, script, act, reply)
 }
 
-/// The line of an entry, and its end.
+/// Adds the line of an entry, and its end.
 fn put_entry(
     alloc: Global,
     out: &mut Vec<u8>,

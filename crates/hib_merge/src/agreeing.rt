@@ -79,11 +79,11 @@ fn first_torn(alloc: Global, merged: &Journal, mine: &Lists) -> Result<Option<To
     torn_tick(alloc, entries)
 }
 
-/// Checks a merged list against the lists that came out of the sessions' locks, of which only the type is known. None if
-/// all is well: each session's list, at the place of its number, is its entries in the merged list, each entry is of one
-/// of these sessions, and each tick is the one that is due. Else the first thing that is wrong: of the first session
-/// that differs, what each list has at the first place where they do; or the first entry of none of the sessions; or
-/// the first entry with another tick. Fails for want of memory alone.
+/// Checks a merged list against the lists of the sessions. These came out of locks, of which only the type is known.
+/// None if all is well: each session's list, which stands at the place of its number, is its entries in the merged
+/// list; each entry is of one of these sessions; each tick is the one that is due. Else the first thing that is wrong,
+/// looked for in this order: in the first session whose list differs, what each has at the first place where they do;
+/// the first entry of none of the sessions; the first entry with another tick. Fails for want of memory alone.
 pub fn agree(alloc: Global, merged: &Journal, mine: &Lists) -> Result<Option<Torn>, AllocError>
     ensures torn { IfOk result (λ o. MatchOption o (IsWhole mine.now merged.now)
         (IsTorn mine.now merged.now)) }

@@ -59,7 +59,7 @@ impl<K: Keeper> NodesParts<K> {
         })
     }
 
-    /// The parts are let go, and the keeper is handed back.
+    /// Lets the parts go, and hands back the keeper.
     pub fn close(self) -> K
         ensures tables { K.tables result ≡ self.store.tables }
         ensures faults { K.faults result ≡ self.store.faults }

@@ -1,4 +1,4 @@
-// The text of a journal of two nodes.
+// The text of a journal of two nodes, which `nodes` prints.
 ghost use Rattle.std.specs.Prelude.{◌≡◌, ◌++◌, OnOk, IfOk, flat_map};
 ghost use Rattle.hib_report.specs.Lines.{actor_text};
 ghost use Rattle.hib_nodes.specs.Text.{body_text, entry_text, head_text, noded_text};
@@ -23,7 +23,7 @@ fn put_actor(
     }
 }
 
-/// When it was, at which node, who did it, and where.
+/// Adds when it was, at which node, who did it, and where.
 fn put_head(
     alloc: Global,
     out: &mut Vec<u8>,
@@ -43,7 +43,7 @@ fn put_head(
     out.extend_from_slice(b" ")
 }
 
-/// What was done and answered.
+/// Adds what was done and answered.
 fn put_body(
     alloc: Global,
     out: &mut Vec<u8>,
@@ -57,7 +57,7 @@ fn put_body(
     put_reply(alloc, out, script, &entry.reply)
 }
 
-/// The line of an entry, and its end.
+/// Adds the line of an entry, and its end.
 #[tactic(auto, unfolding(crate::specs::Text::entry_text))]
 fn put_entry(
     alloc: Global,

@@ -113,7 +113,7 @@ impl<N: Name> RegionPart<N> {
 
     /// A fence of a key of this region: its lock is taken at this tick, which must be after the last one, for no
     /// session, and given back at the next one. Both entries are added, or if memory runs out none is, and nothing has
-    /// changed. Runs over parts fence nothing yet.
+    /// changed. It is there for whoever runs parts at nodes; `nodes` itself stands on the engines.
     pub fn fence(&mut self, key: Key, floor: Tick, now: Tick) -> Result<(), AllocError>
         requires entity { key.entity ≡ self.old.entity }
         requires strategy { strategy N.script key.entity ≡ Strategy.ReadWrite }

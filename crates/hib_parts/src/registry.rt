@@ -74,7 +74,7 @@ impl<N: Name> RegistryPart<N> {
         &self.list
     }
 
-    /// The least time of its open sessions, which is the floor; none if and only if none is open.
+    /// The least time of its open sessions, which a fence needs as its floor; none if and only if none is open.
     pub fn least(&self) -> Option<Tick>
         ensures { IsLeast result self.now }
     {
