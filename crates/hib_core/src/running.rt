@@ -1,4 +1,4 @@
-// Sessions of a factory run to their ends.
+// Sessions of a factory run to their ends, when the schedule is over or when threads have left them.
 ghost use Rattle.std.specs.Prelude.{◌≡◌, ◌<◌, ◌==◌, ℕ, length, OnOk, false};
 ghost use Rattle.std.specs.List.{range_with_len};
 ghost use Rattle.hib_journal.specs.Kept.{past};

@@ -1,4 +1,5 @@
-// Which tables a query reads.
+// Which tables a query reads, to know whether a session's own changes matter to it. A condition steps to a table if it
+// follows a reference to it.
 ghost use Rattle.std.specs.Prelude.{◌≡◌, ◌||◌, ◌==◌, ℕ, false};
 ghost use Rattle.std.specs.Option.{option_map_or};
 ghost use Rattle.std.specs.List.{list_any};

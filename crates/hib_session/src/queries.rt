@@ -1,4 +1,4 @@
-// Which tables a query reads.
+// Which tables a query reads, to know whether it must be preceded by a flush, and whether kept results may answer it.
 ghost use Rattle.std.specs.Prelude.{◌≡◌, length, slice_get, ◌==◌, false, option_copied};
 ghost use Rattle.std.specs.Option.{option_map_or};
 ghost use Rattle.hib_journal.specs.Query.{mentions as mentioned, reads as is_read, mentions};
@@ -64,7 +64,7 @@ pub fn query_of(script: &Script, query: QueryNo) -> Option<&Query>
     script.queries.as_slice().get(query.0 as usize)
 }
 
-// By a test of each change.
+// For `is_touched`, by a test of each change.
 fn touches_named(script: &Script, query: QueryNo, changes: &[Change]) -> bool
     ensures { result ≡ touching_in (length script.now.mapping)
         (slice_get script.now.queries query) changes.now }

@@ -1,4 +1,5 @@
-// Which tables a query reads.
+// Which tables a query reads, for the keeper and for the index. A condition steps to an entity if it follows a
+// reference to it.
 ghost use Rattle.std.specs.Prelude.{◌≡◌, ◌<◌, ◌||◌, ℕ, true, nat_lt, IfOk, OnOk, ◌==◌, false};
 ghost use Rattle.std.specs.Option.{option_map_or};
 ghost use Rattle.hib_journal.specs.Query.{mentions, reads};
@@ -77,7 +78,7 @@ fn mentions_below(condition: &Cond, entities: u16) -> bool
     }
 }
 
-/// Whether a query reads only the first entities.
+/// Whether a query reads only the first entities. Then it is answered from the index.
 pub fn reads_below(query: &Query, entities: u16) -> bool
     ensures only { result ≡ true → ReadsBelow entities query.now }
     ensures others { ReadsBelow entities query.now → result ≡ true }
@@ -89,7 +90,7 @@ pub fn reads_below(query: &Query, entities: u16) -> bool
         }
 }
 
-/// The first entities.
+/// The first entities, as a list for the keeper.
 pub fn entities_below(alloc: Global, entities: u16) -> Result<Vec<EntityNo>, AllocError>
     ensures { IfOk result (λ v. (n : ℕ) → is_listed n v.items ≡ nat_lt n entities) }
 {
