@@ -1,4 +1,5 @@
-// The conditions of a query line, token by token.
+// The conditions of a query line, token by token. A `step_...` takes one token at its place and answers where the line
+// goes on; none if the token can't stand there. Frames are the open parentheses.
 ghost use Rattle.hib_criteria.specs.Form as lines;
 ghost use Rattle.std.specs.Prelude.{◌≡◌, ◌∷◌, IfOk};
 
@@ -17,7 +18,7 @@ const MOST_DEPTH: usize = 16;
 /// The most cells of `in`.
 const MOST_CELLS: usize = 64;
 
-/// A parenthesis of a condition.
+/// Takes a parenthesis of a condition.
 pub fn step_condition(
     alloc: Global,
     form: Form,
@@ -53,7 +54,7 @@ fn deeper(mut form: Form, frames: &[Frame]) -> Form
     form
 }
 
-/// Some frames within one more.
+/// These frames, with one more inside them.
 fn onto(alloc: Global, frame: Frame, frames: &[Frame]) -> Result<Frames, AllocError>
     ensures { IfOk result (λ s. s ≡ frame ∷ frames.now) }
 {
@@ -85,7 +86,7 @@ fn behind(frames: &[Frame]) -> Place
     }
 }
 
-/// An operator, after an opening parenthesis.
+/// Takes an operator, after an opening parenthesis.
 pub fn step_operator(
     alloc: Global,
     form: Form,
@@ -153,7 +154,7 @@ fn compared(form: Form, frames: Frames, op: Option<Op>) -> Option<Draft>
     }
 }
 
-/// A path, after an operator.
+/// Takes a path, after an operator.
 pub fn step_subject(
     alloc: Global,
     mapping: &[EntityDef],
@@ -188,7 +189,7 @@ fn subject(
     }
 }
 
-/// The form, with the note that a column isn't known if this one is missing.
+/// Notes that a column isn't known, if this one is missing.
 pub fn known(mut form: Form, is_missing: bool) -> Form
     ensures { result ≡ lines.known form is_missing }
 {
@@ -196,7 +197,7 @@ pub fn known(mut form: Form, is_missing: bool) -> Form
     form
 }
 
-/// The cell that a column is compared with.
+/// Takes the cell that a column is compared with.
 pub fn step_operand(
     alloc: Global,
     form: Form,
@@ -228,7 +229,7 @@ fn with_test(mut form: Form, op: Op, column: Option<Column>, cell: Cell) -> Resu
     Ok(form)
 }
 
-/// One more cell of `in`, or its end.
+/// Takes one more cell of `in`, or its end.
 pub fn step_operands(
     alloc: Global,
     form: Form,

@@ -1,4 +1,4 @@
-// The entity and column lines: their forms, the first thing that is wrong with one, and what it declares.
+// The entity and column lines: their forms, the first thing that is wrong with one (`..._kind`), and what it declares.
 ghost use Rattle.hib_mapping.specs.Declarations as lines;
 ghost use Rattle.hib_mapping.specs.Parts.{word_of};
 ghost use Rattle.hib_mapping.specs.Cells.{cell_of};
@@ -93,7 +93,8 @@ pub fn entity_kind(mapping: &[EntityDef], followed: bool, tokens: &[Token]) -> O
     }
 }
 
-/// What is wrong with an entity line that has its form, `followed` or not by a line of a column.
+/// The first thing that is wrong with an entity line that has its form; `followed` says whether a column's line
+/// follows.
 fn parts_kind(
     mapping: &[EntityDef],
     followed: bool,
@@ -194,8 +195,8 @@ fn is_default(word: &Token, cell: &Token) -> bool
     is_the_word(word, b"default") && is_a_cell(cell)
 }
 
-/// Of the tokens after a column's name, those of its type: one, or `ref` and an entity. The word `default` and a cell
-/// may follow.
+/// The tokens of a column's type, among those after its name: one, or `ref` and an entity. The word `default` and a
+/// cell may follow.
 #[tactic(auto, using(crate::proofs::Columns::type_of_three, crate::proofs::Columns::type_of_four, crate::proofs::Columns::type_of_others))]
 fn type_tokens(tokens: &[Token]) -> &[Token]
     ensures { result.now ≡ lines.type_in tokens.now }
@@ -207,7 +208,7 @@ fn type_tokens(tokens: &[Token]) -> &[Token]
     }
 }
 
-/// Of the tokens after a column's name, the one that is its default, if it has one.
+/// The token that is a column's default, among those after its name, if it has one.
 fn default_token(tokens: &[Token]) -> Option<&Token>
     ensures { option_copied result ≡ lines.default_in tokens.now }
 {
@@ -259,7 +260,7 @@ fn type_kind(mapping: &[EntityDef], entity: &EntityDef, tokens: &[Token]) -> Opt
     }
 }
 
-/// What is wrong with a column line, if no type was found.
+/// The fault of a column line in which no type was found.
 fn kind_unless_type(found: Option<ColumnType>) -> Option<Kind>
     ensures { result ≡ lines.kind_unless Kind.ColumnType found }
 {
@@ -269,7 +270,7 @@ fn kind_unless_type(found: Option<ColumnType>) -> Option<Kind>
     }
 }
 
-/// What is wrong with a column line, if the entity to which it refers was not found.
+/// The fault of a column line in which the entity that it refers to wasn't found.
 fn kind_unless_target(found: Option<EntityNo>) -> Option<Kind>
     ensures { result ≡ lines.kind_unless Kind.RefUnknown found }
 {
@@ -304,7 +305,8 @@ fn default_kind(columns: &[ColumnDef], kind: ColumnType, default: Option<&Token>
     }
 }
 
-/// The first thing that is wrong with a column line of this form after these entities, for the columns of this one.
+/// The first thing that is wrong with a column line of this form, for one more column of this entity, after the
+/// entities of `mapping`.
 pub fn column_kind(mapping: &[EntityDef], entity: &EntityDef, tokens: &[Token]) -> Option<Kind>
     ensures { result ≡ lines.column_kind mapping.now entity.now tokens.now }
 {
@@ -360,7 +362,7 @@ fn column(
     })
 }
 
-/// The entity with the column of a column line. Fails for want of memory alone.
+/// The entity with the column of this line. Fails for want of memory alone.
 pub fn with_column(
     alloc: Global,
     mapping: &[EntityDef],

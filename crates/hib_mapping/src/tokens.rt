@@ -1,4 +1,4 @@
-// What single tokens are.
+// What single tokens are, for all readers of lines.
 ghost use Rattle.hib_mapping.specs.Parts as parts;
 ghost use Rattle.std.specs.Prelude.{◌≡◌, IfOk};
 

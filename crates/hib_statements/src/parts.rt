@@ -1,4 +1,4 @@
-// Keys, cells and pairs of columns and cells, from tokens.
+// What several kinds of lines have: keys, cells, and pairs of a column and a cell, from their tokens.
 ghost use Rattle.hib_statements.specs.Parts as parts;
 ghost use Rattle.std.specs.Prelude.{◌≡◌, IfOk, length};
 
@@ -32,7 +32,7 @@ pub fn key(mapping: &[EntityDef], name: &Token, id: &Token) -> Result<Key, Kind>
     }
 }
 
-/// The number that a token is, if it is none below 0; else 0.
+/// The identifier that a token is; 0 if it is none.
 fn size(token: &Token) -> u64
     ensures { result ≡ parts.size_in token.now }
 {
@@ -71,7 +71,7 @@ pub fn are_typed(columns: &[ColumnDef], cells: &[Cell]) -> bool
     true
 }
 
-/// Pairs of a column and a cell.
+/// Pairs of a column and a cell, as `set` and a bulk line have them, with what is wrong with them.
 #[derive(Drop)]
 pub struct Pairs {
     /// The cells by the places of their columns.
@@ -95,7 +95,7 @@ pub enum Awaited {
     Value(Option<Found>),
 }
 
-/// Pairs as far as they were read.
+/// Pairs as far as they were read. The draft is of pairs, not of a script.
 #[derive(Drop)]
 pub struct Draft {
     /// The pairs so far, with their faults.
@@ -104,7 +104,7 @@ pub struct Draft {
     pub awaited: Awaited,
 }
 
-/// The pairs that tokens are; none if they are no pairs, or if there is none.
+/// The pairs that tokens are; none if their form isn't that of pairs, or if there is no pair.
 #[tactic(auto, using(crate::proofs::Cells::pairs_next, crate::proofs::Cells::pairs_done))]
 pub fn read_pairs(
     alloc: Global,
@@ -126,7 +126,7 @@ pub fn read_pairs(
     Ok(ended(draft))
 }
 
-/// No pairs, with room for so many.
+/// No pairs yet, with room for so many.
 fn no_pairs(alloc: Global, count: usize) -> Result<Pairs, AllocError>
     ensures { IfOk result (λ p. p ≡ parts.no_pairs) }
 {

@@ -1,4 +1,4 @@
-// The row that a line gives.
+// The row that a line gives, or its first fault. What is told of a row is what stands after its key.
 ghost use Rattle.hib_lex.specs.Tokens as digits_of;
 ghost use Rattle.hib_mapping.specs.Parts.{entity_at, word_of};
 ghost use Rattle.hib_statements.specs.Rows as told_rows;
@@ -77,7 +77,7 @@ fn judged(row: Result<(Key, Row), Kind>) -> Result<(Key, Row), StatementError>
     }
 }
 
-/// Whether the entity of a name is versioned, if there is one.
+/// Whether the entity of this name is versioned; none if there is no such entity.
 fn versioning(mapping: &[EntityDef], name: &Token) -> Option<bool>
     ensures { result ≡ told_rows.versioning_in mapping.now
         (entity_at mapping.now (word_of name.now)) }
@@ -97,7 +97,7 @@ fn entity_versioning(mapping: &[EntityDef], entity: EntityNo) -> Option<bool>
     }
 }
 
-/// What these tokens tell of a row of a versioned entity, of a plain one, or of one that isn't known.
+/// What these tokens tell of a row, by whether its entity is versioned; if the entity isn't known, either form will do.
 fn told_in(
     alloc: Global,
     versioned: Option<bool>,
@@ -159,7 +159,7 @@ fn with_version(version: Option<u32>, cells: Option<Cells>) -> Option<Told>
     }
 }
 
-/// The version of a word `vN`.
+/// The version that a word `vN` is.
 fn version(token: &Token) -> Option<u32>
     ensures { result ≡ told_rows.version_of token.now }
 {
@@ -210,7 +210,7 @@ fn are_digits(bytes: &[u8]) -> bool
     bytes.iter().all(|byte| byte.is_ascii_digit())
 }
 
-/// What digits come to; what is above the greatest version counts as the number after that.
+/// The version that digits are; one above the greatest counts as the number after that.
 #[tactic(auto, using(crate::proofs::Digits::digit_next, crate::proofs::Digits::size_grows, crate::proofs::Digits::size_done, crate::proofs::Digits::capped_above, crate::proofs::Digits::capped_within))]
 fn size(digits: &[u8]) -> u32
     ensures { result ≡ told_rows.capped (digits_of.size_of digits.now) }
@@ -225,7 +225,7 @@ fn size(digits: &[u8]) -> u32
     size
 }
 
-/// The row of a key and what is told after it.
+/// The row of a key and of what is told after it, or the first thing that is wrong.
 fn row_told(
     columns: &[ColumnDef],
     rows: &Given,

@@ -1,4 +1,5 @@
-// The statement that a line is.
+// The statement that a line is, or its first fault. Each kind of line has a function that looks at its form, and one
+// that finds what it names.
 ghost use Rattle.hib_statements.specs.Statements as lines;
 ghost use Rattle.hib_mapping.specs.Parts as names;
 ghost use Rattle.std.specs.Prelude.{◌≡◌, IfOk, IfErr, position, bytes_eq};
@@ -173,7 +174,7 @@ fn named_mode(word: &Token) -> Result<Statement, Kind>
     }
 }
 
-/// A statement of one word.
+/// The statement, if the line has one word and no more.
 fn alone(statement: Statement, line: &[Token]) -> Result<Statement, Kind>
     ensures { result ≡ lines.alone statement line.now }
 {
