@@ -4,7 +4,7 @@ ghost use Rattle.hib_entry_fields.specs.Fields as format;
 ghost use Rattle.hib_lex.specs.Tokens.{size_of};
 ghost use Rattle.std.specs.Prelude.{◌≡◌, ◌^◌, ◌<◌, SomeIff, drop, bytes_eq, codes};
 
-/// The bytes but the first.
+/// The bytes without the first.
 pub fn after_one(bytes: &[u8]) -> &[u8]
     ensures { result.now ≡ drop 1 bytes.now }
 {
@@ -31,7 +31,7 @@ fn piece_len(bytes: &[u8]) -> usize
     len
 }
 
-/// The piece at the front, and what follows it.
+/// The piece at the front, up to a space or a bracket, and what follows it.
 #[tactic(auto, using(crate::proofs::Scans::piece_fits), unfolding(crate::specs::Fields::piece, crate::specs::Fields::behind))]
 pub fn piece(bytes: &[u8]) -> (&[u8], &[u8])
     ensures piece { result.0.now ≡ format.piece bytes.now }
@@ -74,7 +74,7 @@ pub fn number_of(piece: &[u8]) -> u64
     }
 }
 
-/// A number, if it has 32 bits; else 0.
+/// A number, if it has 32 bits at most; else 0.
 pub fn small(n: u64) -> u32
     ensures { result ≡ format.small (2 ^ 32) n }
 {
@@ -93,7 +93,7 @@ fn below_zero(n: u64) -> i64
     }
 }
 
-/// The number with its sign that a piece looks like.
+/// The number that a piece looks like, which may have a sign; 0 if it is too large.
 pub fn signed_of(piece: &[u8]) -> i64
     ensures { result ≡ format.signed_of piece.now }
 {
