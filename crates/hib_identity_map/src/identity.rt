@@ -1,4 +1,4 @@
-// Instances by key, in order of arrival.
+// The instances of a session by key, in order of arrival, which is the order in which a flush writes them.
 ghost use Rattle.std.specs.Prelude.{◌≡◌, ◌↔◌, ◌≢◌, ◌<◌, [], None, Some, false, IsTrue, OnOk, OnErr, length, slice_get, option_copied};
 ghost use Rattle.hib_identity_map.specs.Identity.{empty, faced, look_in, put_in, drop_in, add_in, change_in, written, as_removed, with_sets, remove_last};
 
@@ -60,8 +60,7 @@ impl IdentityMap {
         insert_new(&mut self.entries, key, held)
     }
 
-    /// The instance of a key comes after the others, and the one that the key had leaves. At an error nothing has
-    /// changed.
+    /// Puts the instance of a key after the others. The one that the key had leaves. At an error nothing has changed.
     pub fn arrive(&mut self, key: &Key, held: Held) -> Result<(), AllocError>
         ensures ok { OnOk result (self.new
             ≡ record self.old { held = add_in key.now held (drop_in key.now self.old.held) }) }
@@ -71,7 +70,7 @@ impl IdentityMap {
         arrive_at(&mut self.entries, key, held)
     }
 
-    /// Another instance in the place of that of a key. It takes no memory.
+    /// Puts another instance in the place of that of a key. It takes no memory.
     pub fn put(&mut self, key: Key, held: Held)
         requires { look_in self.old.held key ≢ None }
         ensures { self.new ≡ record self.old { held = put_in key held self.old.held } }
@@ -80,14 +79,14 @@ impl IdentityMap {
         replace(&mut self.entries, key, held);
     }
 
-    /// The instance of a key leaves, if there is one; the others keep their order. It takes no memory.
+    /// Drops the instance of a key, if there is one; the others keep their order. It takes no memory.
     pub fn drop(&mut self, key: Key)
         ensures { self.new ≡ record self.old { held = drop_in key self.old.held } }
     {
         leave(&mut self.entries, &mut self.turned, key);
     }
 
-    /// All instances leave. The removals stay. It takes no memory.
+    /// Drops all instances. The removals stay. It takes no memory.
     pub fn clear(&mut self)
         ensures { self.new ≡ record self.old { held = [] } }
     {
@@ -95,7 +94,7 @@ impl IdentityMap {
         self.turned = false;
     }
 
-    /// The instance of a key, if there is one, stands for a row that was written. It takes no memory.
+    /// Notes that the row of a key was written: its instance, if there is one, stands for that row. It takes no memory.
     pub fn set_base(&mut self, key: Key, base: Row)
         ensures { self.new ≡ record self.old { held = change_in key (written base) self.old.held } }
     {
@@ -161,7 +160,7 @@ impl IdentityMap {
     }
 }
 
-// The instances stand in order of arrival.
+// Brings the instances into the order of arrival, if they stand the other way round.
 fn straighten(entries: &mut IndexMap<Key, Held>, turned: &mut bool)
     ensures entries { entries.new.entries ≡ faced turned.old entries.old.entries }
     ensures turned { turned.new ≡ false }
@@ -173,7 +172,7 @@ fn straighten(entries: &mut IndexMap<Key, Held>, turned: &mut bool)
     *turned = false;
 }
 
-// The instances stand the other way round.
+// Turns the order of the instances round.
 #[tactic(auto, using(crate::proofs::Faced::faced_turned))]
 fn turn(entries: &mut IndexMap<Key, Held>, turned: &mut bool)
     ensures { faced turned.new entries.new.entries ≡ faced turned.old entries.old.entries }
@@ -200,7 +199,7 @@ fn insert_new(entries: &mut IndexMap<Key, Held>, key: Key, held: Held) -> Result
     Ok(())
 }
 
-// Puts a key at the end, in place of where it was.
+// Puts a key at the end, and takes it from where it was.
 fn arrive_at(entries: &mut IndexMap<Key, Held>, key: &Key, held: Held) -> Result<(), AllocError>
     ensures ok { OnOk result (entries.new.entries
         ≡ add_in key.now held (drop_in key.now entries.old.entries)) }
@@ -212,7 +211,7 @@ fn arrive_at(entries: &mut IndexMap<Key, Held>, key: &Key, held: Held) -> Result
     Ok(())
 }
 
-// Gives a key that is there another instance.
+// Gives a key another instance. It must have one.
 fn replace(entries: &mut IndexMap<Key, Held>, key: Key, held: Held)
     requires { look_in entries.old.entries key ≢ None }
     ensures { entries.new.entries ≡ put_in key held entries.old.entries }
@@ -241,7 +240,7 @@ fn remove_key(entries: &mut IndexMap<Key, Held>, turned: bool, key: Key)
     entries.shift_remove(&key);
 }
 
-// The instance of a key leaves; if many stand behind it, they are turned round before.
+// Drops the instance of a key; if many stand behind it, they are turned round before.
 fn leave(entries: &mut IndexMap<Key, Held>, turned: &mut bool, key: Key)
     ensures { faced turned.new entries.new.entries
         ≡ drop_in key (faced turned.old entries.old.entries) }
@@ -279,7 +278,7 @@ fn pair_at(entries: &IndexMap<Key, Held>, turned: bool, i: usize) -> (Key, &Held
     pair_in(entries, i)
 }
 
-// Puts a key after the others, in place of where it was.
+// Puts a key after the others, and takes it from where it was.
 fn move_last(keys: &mut IndexSet<Key>, key: Key) -> Result<(), AllocError>
     ensures ok { OnOk result (keys.new.keys ≡ remove_last key keys.old.keys) }
     ensures err { OnErr result (keys.new.keys ≡ keys.old.keys) }

@@ -1,4 +1,4 @@
-// A keeper of tables.
+// What a keeper of tables is. The store works on one; a batch is the changes of a commit.
 ghost use Rattle.std.specs.Prelude.{◌≡◌, ◌+◌, ◌≤◌, ◌<◌, ℕ, length, true, IfOk, IfSome};
 ghost use Rattle.std.specs.declared.option.Option.{Option};
 ghost use Rattle.hib_base.specs.Tables.{Tables, row_at, in_order};

@@ -1,4 +1,4 @@
-// What a key of a read-write region holds.
+// What a key of a read-write region holds. A soft lock is one on a key, and no lock of std's.
 ghost use Rattle.std.specs.Prelude.{◌≡◌, ◌≤◌, ◌<◌, ◌^◌, ℕ, None, Option, true};
 ghost use Rattle.hib_journal.specs.Regions as Regions;
 ghost use Rattle.hib_soft_lock.specs.Shown.{shown, verdict_put};
@@ -88,7 +88,7 @@ impl Slot {
         }
     }
 
-    /// Why it isn't read, if it isn't.
+    /// Why its row isn't given to a reader, if it isn't.
     pub fn miss(&self) -> Miss
         ensures { result ≡ Regions.miss (shown self.now) }
     {
@@ -174,7 +174,7 @@ impl Slot {
         }
     }
 
-    /// One holder lets go; if none is left, the lock is free from now on. Answers how many are left.
+    /// One holder lets go. There must be one. If none is left, the lock is free from now on. Answers how many are left.
     pub fn release(&mut self, now: Tick) -> u64
         requires { is_held (shown self.old) ≡ true }
         ensures slot { self.new ≡ released now self.old }
