@@ -1,4 +1,4 @@
-// The pending changes of all instances: inserts, then updates, then deletes.
+// The pending changes of all instances, in the order in which a flush writes them: inserts, then updates, then deletes.
 ghost use Rattle.std.specs.Prelude.{◌≡◌, ◌++◌, IfOk, OnOk};
 ghost use Rattle.hib_flush.specs.Planned.{listed, inserts_in, updates_in, delete_held, deletes_in, planned};
 ghost use Rattle.hib_identity_map.specs.Identity.{look_in};
@@ -20,7 +20,7 @@ pub fn plan(alloc: Global, map: &IdentityMap) -> Result<Changes, AllocError>
     Ok(changes)
 }
 
-/// Adds a change to a plan, if an instance asks for one.
+/// Adds a change to a plan, if there is one.
 fn add(changes: &mut Changes, change: Option<Change>) -> Result<(), AllocError>
     ensures { OnOk result (changes.new ≡ changes.old ++ listed change) }
 {

@@ -1,4 +1,5 @@
-// The entry whose JSON line a text is: it is guessed from the members, tested, and written again.
+// The entry whose JSON line a text is: it is guessed from the members, tested, and written again. A line is here a JSON
+// line of a journal, with five members.
 ghost use Rattle.hib_base.specs.Valid.{is_valid};
 ghost use Rattle.hib_entry_fields.specs.Fields as fields;
 ghost use Rattle.hib_journal.specs.Types.{Entry};
@@ -159,7 +160,7 @@ fn is_texts_of(
     )
 }
 
-// Whether an entry is the script's, and the members are its texts.
+// Whether an entry is well formed for the script, and the members of the line are its texts.
 fn is_entry_of(
     alloc: Global,
     script: &Script,
@@ -176,7 +177,7 @@ fn is_entry_of(
     }
 }
 
-// The entry whose object has these members, or none.
+// The entry whose line has these members; none if they are no well-formed entry's.
 fn entry_of(
     alloc: Global,
     script: &Script,
@@ -202,7 +203,7 @@ fn entry_of(
     }
 }
 
-// The entry whose JSON line a text is, or none.
+// The entry whose JSON line a text is; none if it is no well-formed entry's.
 #[tactic(auto, using(crate::proofs::Guesses::found_line, crate::proofs::Guesses::bad_members, crate::proofs::Guesses::bad_entry))]
 fn read_entry(
     alloc: Global,
@@ -220,8 +221,7 @@ fn read_entry(
     entry_of(alloc, script, names, &line)
 }
 
-/// The entry whose JSON line some bytes are, or none if they are no well-formed entry's. Fails for want of memory
-/// alone.
+/// The entry whose JSON line some bytes are; none if they are no well-formed entry's. Fails for want of memory alone.
 pub fn line_entry(
     alloc: Global,
     script: &Script,

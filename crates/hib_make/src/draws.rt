@@ -1,4 +1,4 @@
-// Numbers that are drawn one after another.
+// Numbers that are drawn one after another, by which a made script gets its rows, sessions and schedule.
 ghost use Rattle.std.specs.Prelude.{◌≡◌, ◌<◌};
 ghost use Rattle.hib_make.specs.Draws.{after_draw, drawn, seeded};
 

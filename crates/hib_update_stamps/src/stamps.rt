@@ -1,4 +1,4 @@
-// The stamps of tables.
+// The stamps of tables, for their engine in hib_engines.
 ghost use Rattle.std.specs.Prelude.{◌≡◌, ◌+◌, ◌<◌, ◌≤◌, ◌^◌, length, nat_lt, IfOk};
 ghost use Rattle.std.specs.List.{All};
 ghost use Rattle.hib_update_stamps.specs.Stamped.{unstamped, stamped, checked};
@@ -23,7 +23,7 @@ impl Model for Stamps {
 }
 
 impl Stamps {
-    /// No table has a stamp. It is the one call that takes memory.
+    /// The stamps before any update: no table has one. It is the one call that takes memory.
     pub fn open(alloc: Global, tables: u16) -> Result<Stamps, AllocError>
         ensures { IfOk result (λ s. s ≡ unstamped tables) }
     {
@@ -75,7 +75,7 @@ impl Stamps {
         Checked::Fresh
     }
 
-    /// No table has a stamp any more.
+    /// Takes the stamp from each table.
     pub fn clear(&mut self)
         ensures { self.new ≡ unstamped (length self.old) }
     {
