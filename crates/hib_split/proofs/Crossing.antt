@@ -22,6 +22,7 @@ use Rattle.hib_parts.specs.contracts.stamps.StampsPart as StampsPartT
 use Rattle.hib_parts.specs.contracts.results.ResultsPart as ResultsPartT
 use Rattle.hib_parts.specs.contracts.region.RegionPart as RegionPartT
 use Rattle.hib_parts.specs.contracts.worker.Worker as WorkerT
+use Rattle.hib_split.specs.contracts.ended.Ended as EndedT
 use Rattle.hib_split.specs.contracts.strange.Strange as StrangeT
 use Rattle.hib_split.specs.contracts.locks.LockedRegion as LockedRegionT
 use Rattle.hib_split.specs.contracts.locked_parts.LockedParts as LockedPartsT
@@ -81,11 +82,14 @@ module _ (K : RattleType) (k : keeper.Ghosts K.Denot) (sk : IsSend K) where
     worker_send : IsSend (WorkerT.the_field N n).row
     worker_send = search (sendable, crosses, session_send, journal_send) depth 100 fits 100000
 
+    ended_send : IsSend (EndedT.the_field N n).row
+    ended_send = search (sendable, crosses, journal_send) depth 100 fits 100000
+
     locked_sync : IsSync (LockedRegionT.the_field N n).row
     locked_sync = search (sendable, crosses, region_part_send) depth 100 fits 100000
 
     fields_sync : IsSync (LockedPartsT.the_field K N k n).row
-    fields_sync = search (sendable, crosses, registry_part_send, store_part_send, stamps_part_send, results_part_send, locked_sync, worker_send, strange_send) depth 100 fits 100000
+    fields_sync = search (sendable, crosses, registry_part_send, store_part_send, stamps_part_send, results_part_send, locked_sync, worker_send, ended_send, strange_send) depth 100 fits 100000
 
     pub locked_parts_sync : IsSync (LockedPartsT.the_row K N k n)
     locked_parts_sync = search (sendable, fields_sync) depth 20

@@ -96,5 +96,6 @@ pub fn run_alone<K: Keeper, N: Name>(alloc: Global, parts: Parts<K, N>, script: 
     let Ok((lists, mine)) = rooms(alloc, regions, script.sessions.len()) else {
         return without_room(alloc, parts);
     };
-    go_on(alloc, script, parts, Vec::new(alloc), false, lists, mine)
+    let (aside, ended) = (Vec::new(alloc), Vec::new(alloc));
+    go_on(alloc, script, parts, aside, ended, false, lists, mine)
 }

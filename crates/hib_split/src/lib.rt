@@ -3,6 +3,7 @@
 #![tactic(auto)]
 
 mod alone;
+mod ended;
 mod gathering;
 mod halt;
 mod locked_parts;

@@ -1,9 +1,11 @@
 // What the threads of a run share: each part behind a lock of its own. A worker is here a session with its list, as in
 // hib_parts.
-ghost use Rattle.std.specs.Prelude.{◌≡◌, ◌<◌, ◌≤◌, ◌+◌, ◌^◌, [], map, vec_len, vec_capacity, IfNone, IfOk, IsOk};
+ghost use Rattle.std.specs.Prelude.{◌≡◌, ◌<◌, ◌≤◌, ◌+◌, ◌^◌, [], map, vec_len, vec_capacity, None, Ok, IfNone, IfOk, IsOk};
+ghost use Rattle.hib_journal.specs.Next.{next};
 ghost use Rattle.hib_parts.specs.Listed.{IsDueOn};
 ghost use Rattle.hib_parts.specs.Run.{entities_of};
 
+use crate::ended::Ended;
 use crate::halt::Halt;
 use crate::locks::{LockedRegion, lock_regions, step_under_lock, unlock_regions};
 use crate::strange::Strange;
@@ -29,10 +31,12 @@ pub struct LockedParts<K: Keeper, N: Name> {
     regions: Vec<LockedRegion<N>>,
     next: AtomicUsize,
     sessions: usize,
-    /// The workers that were put aside, each at the place of its session.
+    /// The workers whose sessions aren't at their ends, each at the place of its session.
     aside: Mutex<Vec<Option<Worker<N>>>>,
+    /// What is left of the sessions that are at their ends, each at its place.
+    ended: Mutex<Vec<Option<Ended<N>>>>,
     strange: Mutex<Option<Strange>>,
-    /// Whether memory ran out in a worker.
+    /// Whether memory ran out in a thread.
     refused: AtomicBool,
     ghost few: { sessions < 2 ^ 32 },
 }
@@ -41,8 +45,10 @@ pub struct LockedParts<K: Keeper, N: Name> {
 pub struct Left<K: Keeper, N: Name> {
     /// The parts, out of their locks.
     pub parts: Parts<K, N>,
-    /// The workers that were put aside, each at the place of its session.
+    /// The workers whose sessions aren't at their ends, each at the place of its session.
     pub aside: Vec<Option<Worker<N>>>,
+    /// What is left of the sessions that are at their ends, each at its place.
+    pub ended: Vec<Option<Ended<N>>>,
     /// If a lock gave another region: the entity that was asked for, and the one that was found. Then regions may be
     /// missing.
     pub strange: Option<Strange>,
@@ -56,15 +62,14 @@ pub struct Room<N: Name> {
     pub locks: Vec<LockedRegion<N>>,
     /// For the regions, when they come out of their locks.
     pub regions: Vec<RegionPart<N>>,
-    /// A place for the worker of each session that is put aside.
+    /// A place for the worker of each session whose end isn't reached.
     pub aside: Vec<Option<Worker<N>>>,
+    /// A place for what is left of each session that is at its end.
+    pub ended: Vec<Option<Ended<N>>>,
 }
 
-/// Empty places, one for the worker of each session.
-fn places_for<N: Name>(
-    alloc: Global,
-    sessions: usize,
-) -> Result<Vec<Option<Worker<N>>>, AllocError> {
+/// A place for each session, and nothing is there yet.
+fn places_for<T: Drop>(alloc: Global, sessions: usize) -> Result<Vec<Option<T>>, AllocError> {
     let mut places = Vec::with_capacity(alloc, sessions)?;
     for _ in 0..sessions {
         places.push(None)?;
@@ -86,10 +91,12 @@ pub fn room_for_threads<N: Name>(
     let locks = Vec::with_capacity(alloc, regions)?;
     let back = Vec::with_capacity(alloc, regions)?;
     let aside = places_for(alloc, sessions)?;
+    let ended = places_for(alloc, sessions)?;
     Ok(Room {
         locks,
         regions: back,
         aside,
+        ended,
     })
 }
 
@@ -111,6 +118,7 @@ impl<K: Keeper, N: Name> LockedParts<K, N> {
         script: &Script,
         locks: Vec<LockedRegion<N>>,
         aside: Vec<Option<Worker<N>>>,
+        ended: Vec<Option<Ended<N>>>,
     ) -> LockedParts<K, N>
         requires script { script.now ≡ N.script }
         requires empty { locks.items ≡ [] }
@@ -138,6 +146,7 @@ impl<K: Keeper, N: Name> LockedParts<K, N> {
             next: AtomicUsize::new(0),
             sessions: script.sessions.len(),
             aside: Mutex::new(aside),
+            ended: Mutex::new(ended),
             strange: Mutex::new(None),
             refused: AtomicBool::new(false),
         }
@@ -162,6 +171,7 @@ impl<K: Keeper, N: Name> LockedParts<K, N> {
             next: _,
             sessions: _,
             aside,
+            ended,
             strange,
             refused,
         } = self;
@@ -176,6 +186,7 @@ impl<K: Keeper, N: Name> LockedParts<K, N> {
                 regions,
             },
             aside: aside.into_inner(),
+            ended: ended.into_inner(),
             strange: first_strange(unlocked, strange.into_inner()),
             refused: refused.into_inner(),
         }
@@ -206,7 +217,8 @@ impl<K: Keeper, N: Name> LockedParts<K, N> {
         }
     }
 
-    /// Puts a worker at the place of its session, where the caller finds it when the threads have ended.
+    /// Puts a worker whose session isn't at its end at the session's place, where the caller finds it when the threads
+    /// have ended.
     pub fn put_aside<R: Wait>(&self, rt: &R, worker: Worker<N>) {
         let mut held = lock_soon(rt, &self.aside);
         let aside = &mut *held;
@@ -214,6 +226,17 @@ impl<K: Keeper, N: Name> LockedParts<K, N> {
         // Each session has a place.
         if place < aside.len() {
             aside[place] = Some(worker);
+        }
+    }
+
+    /// Puts what is left of a session that is at its end at its place.
+    pub fn put_ended<R: Wait>(&self, rt: &R, left: Ended<N>) {
+        let mut held = lock_soon(rt, &self.ended);
+        let ended = &mut *held;
+        let place = left.number().0 as usize;
+        // Each session has a place.
+        if place < ended.len() {
+            ended[place] = Some(left);
         }
     }
 
@@ -227,6 +250,8 @@ impl<K: Keeper, N: Name> LockedParts<K, N> {
         worker: &mut Worker<N>,
     ) -> Result<Stepped, Halt>
         requires { script.now ≡ N.script }
+        ensures done { result ≡ Ok Stepped.Done
+            → next N.script worker.new.number worker.new.list ≡ None }
     {
         worker.ready(alloc, script)?;
         let Some(act) = worker.next(alloc, script)? else {

@@ -13,6 +13,7 @@ ghost use Rattle.hib_parts.specs.Run.{GoesOn, cached_entities, entities_of, part
 ghost use Rattle.hib_split.specs.Alone.{AreAtEnds, AreListed, AreOfOne, AreOneByOne, AreOwnListed, AreSoFar, AreWhole};
 ghost use Rattle.hib_split.specs.Alone.{IsToldBy};
 
+use crate::ended::{Ended, list_at};
 use crate::gathering::{add_own_lists, add_shared};
 use crate::strange::Strange;
 use hib_base::{EntityNo, Script, Seq, SessionNo};
@@ -126,6 +127,50 @@ fn end_session<K: Keeper, N: Name>(
     refused
 }
 
+/// Brings a session to its end, unless memory had run out before: a thread may have done so already. Its list is added
+/// to those of the sessions before it, where there must be room. Answers whether memory has run out.
+fn end_next<K: Keeper, N: Name>(
+    alloc: Global,
+    script: &Script,
+    parts: &mut Parts<K, N>,
+    aside: &mut Vec<Option<Worker<N>>>,
+    ended: &mut Vec<Option<Ended<N>>>,
+    mine: &mut Vec<Journal>,
+    number: SessionNo,
+    before: bool,
+) -> bool
+    requires script { script.now ≡ N.script }
+    requires room { vec_len mine.old < vec_capacity mine.old }
+    requires place { number ≡ length mine.old.items }
+    requires going { before ≡ false → parts.old.store.refused ≡ false }
+    requires legal { AreOwnLegal N.script (map past mine.old.items) }
+    requires over { before ≡ false → AreAtEnds N.script number (map past mine.old.items) }
+    ensures going { result ≡ false → parts.new.store.refused ≡ false }
+    ensures entities { entities_of parts.new.regions.items ≡ entities_of parts.old.regions.items }
+    ensures legal { AreOwnLegal N.script (map past mine.new.items) }
+    ensures over { result ≡ false → AreAtEnds N.script (number + 1) (map past mine.new.items) }
+    ensures place { length mine.new.items ≡ number + 1 }
+    ensures len { vec_len mine.new ≡ vec_len mine.old + 1 }
+    ensures capacity { vec_capacity mine.new ≡ vec_capacity mine.old }
+    ensures none { aside.old.items ≡ [] → aside.new.items ≡ [] }
+    ensures none_ended { ended.old.items ≡ [] → ended.new.items ≡ [] }
+    ensures run { result ≡ false → aside.old.items ≡ [] → ended.old.items ≡ []
+        → (before ≡ false → AreOfOne (part_lists parts.old) (map past mine.old.items))
+        → AreOfOne (part_lists parts.new) (map past mine.new.items) }
+    ensures order { result ≡ false → aside.old.items ≡ [] → ended.old.items ≡ []
+        → is_valid N.script ≡ true
+        → (before ≡ false → AreSoFar (part_lists parts.old) (map past mine.old.items))
+        → AreSoFar (part_lists parts.new) (map past mine.new.items) }
+{
+    match list_at(ended, number) {
+        Some(list) => {
+            mine.push_reserved(list);
+            before
+        }
+        None => end_session(alloc, script, parts, aside, mine, number, before),
+    }
+}
+
 /// Steps each session to its end, the first one first, unless memory runs out or had run out before. Adds the list of
 /// each session to `mine`, which must have room for them. Answers whether memory has run out.
 fn end_sessions<K: Keeper, N: Name>(
@@ -133,6 +178,7 @@ fn end_sessions<K: Keeper, N: Name>(
     script: &Script,
     parts: &mut Parts<K, N>,
     aside: &mut Vec<Option<Worker<N>>>,
+    ended: &mut Vec<Option<Ended<N>>>,
     mine: &mut Vec<Journal>,
     before: bool,
 ) -> bool
@@ -145,10 +191,10 @@ fn end_sessions<K: Keeper, N: Name>(
     ensures legal { AreOwnLegal N.script (map past mine.new.items) }
     ensures over { result ≡ false
         → AreAtEnds N.script (length N.script.sessions) (map past mine.new.items) }
-    ensures run { result ≡ false → aside.old.items ≡ []
+    ensures run { result ≡ false → aside.old.items ≡ [] → ended.old.items ≡ []
         → AreOfOne (part_lists parts.old) (map past mine.old.items)
         → AreOfOne (part_lists parts.new) (map past mine.new.items) }
-    ensures order { result ≡ false → aside.old.items ≡ [] → is_valid N.script ≡ true
+    ensures order { result ≡ false → aside.old.items ≡ [] → ended.old.items ≡ [] → is_valid N.script ≡ true
         → AreSoFar (part_lists parts.old) (map past mine.old.items)
         → AreSoFar (part_lists parts.new) (map past mine.new.items) }
 {
@@ -156,7 +202,7 @@ fn end_sessions<K: Keeper, N: Name>(
     let mut refused = before;
     for number in 0..script.sessions.len() {
         let session = SessionNo(number as u32);
-        refused = end_session(alloc, script, parts, aside, mine, session, refused);
+        refused = end_next(alloc, script, parts, aside, ended, mine, session, refused);
     }
     refused
 }
@@ -168,13 +214,14 @@ fn has_run_out<K: Keeper, N: Name>(refused: bool, store: &StorePart<K, N>) -> bo
     refused || store.refused()
 }
 
-/// Steps the sessions to their ends, from where the workers that were put aside left them, unless memory has run out.
-/// Puts the lists together. There must be room for them.
+/// Steps the sessions that aren't at their ends to these, from where the workers that were put aside left them, unless
+/// memory has run out. Puts the lists together. There must be room for them.
 pub fn go_on<K: Keeper, N: Name>(
     alloc: Global,
     script: &Script,
     parts: Parts<K, N>,
     aside: Vec<Option<Worker<N>>>,
+    ended: Vec<Option<Ended<N>>>,
     refused: bool,
     lists: Vec<Journal>,
     mine: Vec<Journal>,
@@ -196,18 +243,21 @@ pub fn go_on<K: Keeper, N: Name>(
         (K.asked result.keeper) }
     ensures own { result.out_of_memory ≡ false
         → AreOwnListed (map past result.lists) (map past result.mine) }
-    ensures whole { result.out_of_memory ≡ false → aside.items ≡ []
+    ensures whole { result.out_of_memory ≡ false → aside.items ≡ [] → ended.items ≡ []
         → AreOfOne (part_lists parts) [] → AreWhole (map past result.lists) (map past result.mine) }
-    ensures order { result.out_of_memory ≡ false → aside.items ≡ [] → is_valid N.script ≡ true
+    ensures order { result.out_of_memory ≡ false → aside.items ≡ [] → ended.items ≡ [] → is_valid N.script ≡ true
         → AreSoFar (part_lists parts) [] → AreOneByOne (map past result.lists) }
     ensures strange { result.strange ≡ None }
 {
     let mut parts = parts;
     let mut aside = aside;
+    let mut ended = ended;
     let mut lists = lists;
     let mut mine = mine;
     let before = has_run_out(refused, &parts.store);
-    let ran_out = end_sessions(alloc, script, &mut parts, &mut aside, &mut mine, before);
+    let ran_out = end_sessions(
+        alloc, script, &mut parts, &mut aside, &mut ended, &mut mine, before,
+    );
     let keeper = add_shared(&mut lists, parts);
     let own = add_own_lists::<N>(alloc, &mut lists, mine.as_slice());
     Split {

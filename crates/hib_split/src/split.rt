@@ -84,11 +84,12 @@ pub fn work_split<R: Threads + Wait + Sync, K: Keeper, N: Name + Send + Sync, G:
     let Left {
         parts,
         aside,
+        ended,
         strange,
         refused,
     } = on_threads(rt, alloc, parts, script, room, workers, gate);
     match strange {
         Some(strange) => stop(alloc, parts, &strange, refused),
-        None => go_on(alloc, script, parts, aside, refused, lists, mine),
+        None => go_on(alloc, script, parts, aside, ended, refused, lists, mine),
     }
 }

@@ -1,8 +1,10 @@
 // Threads that step sessions over parts behind locks, each a session at a time. A `Worker` is a session with its list.
-ghost use Rattle.std.specs.Prelude.{◌≡◌, ◌≤◌, ◌+◌, [], vec_len, vec_capacity, IfNone};
+ghost use Rattle.std.specs.Prelude.{◌≡◌, ◌≤◌, ◌+◌, [], vec_len, vec_capacity, None, IfNone, OnOk};
 ghost use denote.Param.Send.{IsSync};
+ghost use Rattle.hib_journal.specs.Next.{next};
 ghost use Rattle.hib_parts.specs.Run.{entities_of};
 
+use crate::ended::Ended;
 use crate::halt::Halt;
 use crate::locked_parts::{Left, LockedParts, Room};
 use hib_base::{Query, Script};
@@ -38,8 +40,9 @@ pub fn on_threads<R: Threads + Wait + Sync, K: Keeper, N: Name + Send + Sync, G:
         locks,
         regions,
         aside,
+        ended,
     } = room;
-    let locked = LockedParts::open(parts, script, locks, aside);
+    let locked = LockedParts::open(parts, script, locks, aside, ended);
     take_turns(rt, alloc, &locked, script, workers, gate);
     locked.close(regions)
 }
@@ -80,7 +83,8 @@ fn spread<R: Threads + Wait + Sync, F: Fn() + Sync>(rt: &R, workers: u32, work: 
     });
 }
 
-/// What a thread does: it takes sessions until none is left, or it has to stop.
+/// What a thread does: it takes sessions until none is left, or it has to stop. Of a session at its end it leaves the
+/// entries alone.
 fn serve<R: Wait, K: Keeper, N: Name, G: Gate>(
     rt: &R,
     alloc: Global,
@@ -95,11 +99,13 @@ fn serve<R: Wait, K: Keeper, N: Name, G: Gate>(
             break;
         };
         let mut worker = Worker::begin(alloc, number);
-        let ran = run_session(rt, alloc, locked, script, &mut worker, gate);
-        locked.put_aside(rt, worker);
-        if let Err(halt) = ran {
-            locked.note(rt, halt);
-            break;
+        match run_session(rt, alloc, locked, script, &mut worker, gate) {
+            Ok(()) => locked.put_ended(rt, Ended::of(worker)),
+            Err(halt) => {
+                locked.put_aside(rt, worker);
+                locked.note(rt, halt);
+                break;
+            }
         }
     }
 }
@@ -115,6 +121,7 @@ fn run_session<R: Wait, K: Keeper, N: Name, G: Gate>(
     gate: &G,
 ) -> Result<(), Halt>
     requires { script.now ≡ N.script }
+    ensures { OnOk result (next N.script worker.new.number worker.new.list ≡ None) }
 {
     let number = worker.number();
     let mut place: u32 = 0;
@@ -125,8 +132,8 @@ fn run_session<R: Wait, K: Keeper, N: Name, G: Gate>(
         }
         match locked.step(rt, alloc, script, worker)? {
             Stepped::Did => place = place.saturating_add(1),
-            Stepped::Done => break,
+            Stepped::Done => return Ok(()),
         }
     }
-    Ok(())
+    unreachable!()
 }

@@ -8,8 +8,9 @@ loop-number-preserved g c = record {
   legal = search rules;
   over = search rules;
   none = search rules;
-  run = λ f a x. c.end_session-refused.ensures.run f (c.loop-number.invariant.none a) (λ b. c.loop-number.invariant.run b a x);
-  order = λ f a v x. c.end_session-refused.ensures.order f (c.loop-number.invariant.none a) v (λ b. c.loop-number.invariant.order b a v x);
+  none_ended = search rules;
+  run = λ f a e x. c.end_next-refused.ensures.run f (c.loop-number.invariant.none a) (c.loop-number.invariant.none_ended e) (λ b. c.loop-number.invariant.run b a e x);
+  order = λ f a e v x. c.end_next-refused.ensures.order f (c.loop-number.invariant.none a) (c.loop-number.invariant.none_ended e) v (λ b. c.loop-number.invariant.order b a e v x);
   place = search rules;
   room = search rules;
 }

@@ -14,8 +14,9 @@ invariant-loop-number g l = record {
   legal : AreOwnLegal g.N.Name.script (map past l.mine.items);
   over : l.refused ≡ false → AreAtEnds g.N.Name.script l.number (map past l.mine.items);
   none : l.fn.aside.items ≡ [] → l.aside.items ≡ [];
-  run : l.refused ≡ false → l.fn.aside.items ≡ [] → AreOfOne (part_lists l.fn.parts) (map past l.fn.mine.items) → AreOfOne (part_lists l.parts) (map past l.mine.items);
-  order : l.refused ≡ false → l.fn.aside.items ≡ [] → is_valid g.N.Name.script ≡ true → AreSoFar (part_lists l.fn.parts) (map past l.fn.mine.items) → AreSoFar (part_lists l.parts) (map past l.mine.items);
+  none_ended : l.fn.ended.items ≡ [] → l.ended.items ≡ [];
+  run : l.refused ≡ false → l.fn.aside.items ≡ [] → l.fn.ended.items ≡ [] → AreOfOne (part_lists l.fn.parts) (map past l.fn.mine.items) → AreOfOne (part_lists l.parts) (map past l.mine.items);
+  order : l.refused ≡ false → l.fn.aside.items ≡ [] → l.fn.ended.items ≡ [] → is_valid g.N.Name.script ≡ true → AreSoFar (part_lists l.fn.parts) (map past l.fn.mine.items) → AreSoFar (part_lists l.parts) (map past l.mine.items);
   place : length l.mine.items ≡ l.number;
   room : vec_len l.mine + (length l.script.sessions - l.number) ≤ vec_capacity l.mine;
 }

@@ -63,13 +63,13 @@ added g c f = elim c.if-ran_out.branch [
 ]
 
 pub returns-clause-whole : goal.returns-clause-whole
-returns-clause-whole g c = λ f a x.
+returns-clause-whole g c = λ f a e x.
     let old = (part_lists c.args.parts) in
     lists_whole (part_lists c.end_sessions-ran_out.new.parts) c.from_vec.result c.add_own_lists-own.new.lists.items c.from_vec-2.result c.end_sessions-ran_out.new.mine.items c.as_slice.result.now (map past c.add_shared-keeper.new.lists.items)
-    c.from_vec.ensures c.from_vec-2.ensures c.as_slice.ensures.value (c.end_sessions-ran_out.ensures.run (ended g c f) a (none_yet old c.args.mine.items c.requires.mine x)) c.add_shared-keeper.ensures.parts c.add_own_lists-own.ensures.shared (ok_then c.add_own_lists-own.result _ (added g c f) c.add_own_lists-own.ensures.own)
+    c.from_vec.ensures c.from_vec-2.ensures c.as_slice.ensures.value (c.end_sessions-ran_out.ensures.run (ended g c f) a e (none_yet old c.args.mine.items c.requires.mine x)) c.add_shared-keeper.ensures.parts c.add_own_lists-own.ensures.shared (ok_then c.add_own_lists-own.result _ (added g c f) c.add_own_lists-own.ensures.own)
 
 pub returns-clause-order : goal.returns-clause-order
-returns-clause-order g c = λ f a v x.
+returns-clause-order g c = λ f a e v x.
     let old = (part_lists c.args.parts) in
     lists_one_by_one (part_lists c.end_sessions-ran_out.new.parts) c.from_vec.result c.add_own_lists-own.new.lists.items c.end_sessions-ran_out.new.mine.items c.as_slice.result.now (map past c.add_shared-keeper.new.lists.items)
-    c.from_vec.ensures c.as_slice.ensures.value (c.end_sessions-ran_out.ensures.order (ended g c f) a v (none_so_far old c.args.mine.items c.requires.mine x)) c.add_shared-keeper.ensures.parts c.add_own_lists-own.ensures.shared (ok_then c.add_own_lists-own.result _ (added g c f) c.add_own_lists-own.ensures.own)
+    c.from_vec.ensures c.as_slice.ensures.value (c.end_sessions-ran_out.ensures.order (ended g c f) a e v (none_so_far old c.args.mine.items c.requires.mine x)) c.add_shared-keeper.ensures.parts c.add_own_lists-own.ensures.shared (ok_then c.add_own_lists-own.result _ (added g c f) c.add_own_lists-own.ensures.own)
