@@ -216,6 +216,7 @@ impl Auditor {
     }
 }
 
+/// Whether a reply is the one that a kill and a restart have.
 fn is_done(reply: &Reply) -> bool
     ensures { IsTrue result ↔ (reply.now ≡ Reply.Done) }
 {

@@ -83,6 +83,7 @@ impl Ticks {
         })
     }
 
+    /// The last tick of a part, or 0.
     fn of_part(&self, part: Part) -> Tick
         ensures { result ≡ part_tick self.now part }
     {
@@ -96,6 +97,7 @@ impl Ticks {
         }
     }
 
+    /// The last tick of a session, or 0.
     fn of_session(&self, session: Option<SessionNo>) -> Tick
         ensures { result ≡ session_tick self.now session }
     {
@@ -118,6 +120,7 @@ impl Ticks {
             && self.of_session(entry.session).0 < now
     }
 
+    /// Notes a tick as the last one of a part.
     fn note_part(&mut self, part: Part, tick: Tick)
         ensures { self.new ≡ with_part part tick self.old }
     {
@@ -131,6 +134,7 @@ impl Ticks {
         }
     }
 
+    /// Notes a tick as the last one of a session, if there is one.
     fn note_session(&mut self, session: Option<SessionNo>, tick: Tick)
         ensures { self.new ≡ with_session session tick self.old }
     {

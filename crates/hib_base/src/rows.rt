@@ -103,6 +103,7 @@ pub fn copy_cells(alloc: Global, cells: &Cells) -> Result<Cells, AllocError>
     }
 }
 
+/// Puts a cell at its place, if there is such a place.
 fn put_cell(cells: &mut [Cell], place: usize, cell: Cell)
     ensures { cells.new ≡ set cells.old place cell }
 {
@@ -111,6 +112,7 @@ fn put_cell(cells: &mut [Cell], place: usize, cell: Cell)
     }
 }
 
+/// Puts each cell at its place, if there is such a place.
 fn put_cells(cells: &mut [Cell], sets: Sets)
     ensures { cells.new ≡ with_cells sets cells.old }
 {

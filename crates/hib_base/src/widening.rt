@@ -32,6 +32,7 @@ pub fn has_defaults(columns: &[ColumnDef]) -> bool
     columns.iter().any(has_default)
 }
 
+/// Whether each of these columns has a default.
 fn have_defaults(columns: &[ColumnDef]) -> bool
     ensures { result ≡ list_all fits.has_default columns.now }
 {

@@ -46,6 +46,7 @@ fn put_on(
     put_entity(out, script, entity)
 }
 
+/// Adds that a line changes its rows.
 fn put_bulk(
     out: &mut Vec<u8>,
     script: &Script,
@@ -59,6 +60,7 @@ fn put_bulk(
     put_name(out, script, lines, line)
 }
 
+/// Adds that a line gives the region of its entity back.
 fn put_unlock_all(out: &mut Vec<u8>, script: &Script, entity: EntityNo) -> Result<(), AllocError>
     ensures { OnOk result (out.new.items
         ≡ out.old.items ++ codes "unlock-all " ++ entity_text script.now entity) }
@@ -67,6 +69,7 @@ fn put_unlock_all(out: &mut Vec<u8>, script: &Script, entity: EntityNo) -> Resul
     put_entity(out, script, entity)
 }
 
+/// Adds what was done.
 fn put_done(
     alloc: Global,
     out: &mut Vec<u8>,
@@ -96,6 +99,7 @@ fn put_wide(alloc: Global, out: &mut Vec<u8>, act: &BulkAct, holders: u64) -> Re
     }
 }
 
+/// Adds the refusal of a row that may have been read before the region was given back, with when that was.
 fn put_wide_early(alloc: Global, out: &mut Vec<u8>, unlock: u64) -> Result<(), AllocError>
     ensures { OnOk result (out.new.items ≡ out.old.items ++ codes "wide-early " ++ decimal unlock) }
 {
@@ -103,6 +107,7 @@ fn put_wide_early(alloc: Global, out: &mut Vec<u8>, unlock: u64) -> Result<(), A
     put_number(alloc, out, unlock)
 }
 
+/// Adds what was answered. To some acts the same answer is told by another word.
 fn put_answer(
     alloc: Global,
     out: &mut Vec<u8>,
@@ -176,6 +181,7 @@ fn put_entry(
     out.extend_from_slice(b"\n")
 }
 
+/// Adds a line for each entry.
 fn put_entries(
     alloc: Global,
     out: &mut Vec<u8>,

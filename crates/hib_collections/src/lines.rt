@@ -150,6 +150,7 @@ fn put_count(alloc: Global, out: &mut Vec<u8>, def: &Def, counts: &Counts) -> Re
     put_numbers(alloc, out, counts)
 }
 
+/// Adds a line for each collection, with what the entries come to for it.
 fn put_counts(
     alloc: Global,
     out: &mut Vec<u8>,
@@ -165,6 +166,7 @@ fn put_counts(
     Ok(())
 }
 
+/// Adds a line for each entry.
 fn put_entries(
     alloc: Global,
     out: &mut Vec<u8>,

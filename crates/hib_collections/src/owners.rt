@@ -164,6 +164,7 @@ pub fn to_lock(defs: &Defs, change: &Change, old: Option<&Row>, locks: &Locks) -
     None
 }
 
+/// Whether a query lists identifiers, as one that asks for members must.
 fn lists_ids(select: Select) -> bool
     ensures { result ≡ Members.lists_ids select }
 {

@@ -46,6 +46,7 @@ pub fn plain_column(columns: &[ColumnDef], name: &[u8]) -> Option<Found>
     }
 }
 
+/// The column at a place, with its type.
 fn at_place(columns: &[ColumnDef], place: u16) -> Option<Found>
     ensures { result ≡ named.at_place columns.now place }
 {
@@ -83,6 +84,7 @@ pub fn named_column(mapping: &[EntityDef], columns: &[ColumnDef], token: &Token)
     }
 }
 
+/// The path and the type of a column in the row itself.
 fn own(found: Option<Found>) -> Option<Column>
     ensures { result ≡ named.own found }
 {
@@ -108,6 +110,7 @@ fn through(mapping: &[EntityDef], reference: Option<Found>, name: &[u8]) -> Opti
     }
 }
 
+/// The column of this name in the entity to which a column of this type refers; none if it doesn't refer.
 fn through_type(mapping: &[EntityDef], place: u16, kind: ColumnType, name: &[u8]) -> Option<Column>
     ensures { result ≡ named.through_type mapping.now place kind name.now }
 {
@@ -121,6 +124,7 @@ fn through_type(mapping: &[EntityDef], place: u16, kind: ColumnType, name: &[u8]
     }
 }
 
+/// The path and the type of a column that is found by a reference.
 fn led_to(place: u16, entity: EntityNo, found: Option<Found>) -> Option<Column>
     ensures { result ≡ named.led_to place entity found }
 {
@@ -179,6 +183,7 @@ pub fn is_comparable(op: Op, column: &Option<Column>) -> bool
     }
 }
 
+/// Whether a comparison asks for an order.
 fn is_order(op: Op) -> bool
     ensures { result ≡ named.is_order op }
 {

@@ -39,6 +39,7 @@ fn due_act(alloc: Global, script: &Script, session: &Session) -> Result<Option<A
     Ok(act)
 }
 
+/// Whether there is an act; for `is_due`.
 fn is_some(act: Option<Act>) -> bool
     ensures { result ≡ is_some act }
 {

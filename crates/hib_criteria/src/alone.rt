@@ -58,6 +58,7 @@ fn read_alone(
     Ok(if_whole(draft))
 }
 
+/// What was read, if the condition is over.
 fn if_whole(draft: Draft) -> Option<Form>
     ensures { result ≡ alone.if_whole draft.form draft.place }
 {

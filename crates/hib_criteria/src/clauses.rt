@@ -14,6 +14,7 @@ use std::alloc::AllocError;
 /// The most rows that a query passes over.
 const MOST_OFFSET: u32 = 1_000_000;
 
+/// Whether an offset or a limit has come.
 fn has_pages(form: &Form) -> bool
     ensures { result ≡ lines.has_pages form.now }
 {
@@ -36,6 +37,7 @@ pub fn step_clauses(form: Form, frames: Frames, token: &Token) -> Option<Draft>
     unless(!is_the_word(token, b"select"), form, frames, Place::Select)
 }
 
+/// The line, going on at this place, unless a clause is there that may not come before it.
 fn unless(is_there: bool, form: Form, frames: Frames, place: Place) -> Option<Draft>
     ensures { result ≡ lines.unless is_there (lines.at form frames place) }
 {
@@ -76,6 +78,7 @@ pub fn step_order(mapping: &[EntityDef], form: Form, frames: Frames, token: &Tok
     sorted(form, frames, found)
 }
 
+/// The line after this column of an order; if it isn't known, that is noted.
 fn sorted(form: Form, frames: Frames, found: Option<Found>) -> Option<Draft>
     ensures { result ≡ lines.sorted form frames found }
 {
@@ -117,6 +120,7 @@ pub fn step_sorted(
     Ok(step_sorting(mapping, form, frames, token))
 }
 
+/// Adds a column to the order.
 fn with_sort(mut form: Form, column: u16, desc: bool) -> Result<Form, AllocError>
     ensures { IfOk result (λ f. f ≡ lines.with_sort form column desc) }
 {
@@ -178,6 +182,7 @@ pub fn step_select(
     select_column(form, frames, found)
 }
 
+/// The line after this column was selected; if it isn't known, that is noted.
 fn select_column(mut form: Form, frames: Frames, found: Option<Found>) -> Option<Draft>
     ensures { result ≡ lines.select_column form frames found }
 {
@@ -186,6 +191,7 @@ fn select_column(mut form: Form, frames: Frames, found: Option<Found>) -> Option
     at(form, frames, Place::Over)
 }
 
+/// Whether the line has an order.
 fn is_sorted(form: &Form) -> bool
     ensures { result ≡ lines.is_sorted form.now }
 {

@@ -49,6 +49,7 @@ fn with_node(alloc: Global, node: Node, conds: Conds) -> Result<Option<Conds>, A
     }
 }
 
+/// Adds a comparison to the conditions.
 #[tactic(auto, using(crate::proofs::Parts::parts_more))]
 fn with_test(op: Op, path: Path, cell: Cell, mut conds: Conds) -> Result<Option<Conds>, AllocError>
     ensures { IfOk result (IsJoined (Node.Test op path cell) conds) }
@@ -57,6 +58,7 @@ fn with_test(op: Op, path: Path, cell: Cell, mut conds: Conds) -> Result<Option<
     Ok(Some(conds))
 }
 
+/// Adds to the conditions that a cell is one of some.
 #[tactic(auto, using(crate::proofs::Parts::parts_more))]
 fn with_among(path: Path, cells: Cells, mut conds: Conds) -> Result<Option<Conds>, AllocError>
     ensures { IfOk result (IsJoined (Node.Among path cells) conds) }
@@ -65,6 +67,7 @@ fn with_among(path: Path, cells: Cells, mut conds: Conds) -> Result<Option<Conds
     Ok(Some(conds))
 }
 
+/// Joins the first two conditions by `and`; none if there aren't two.
 #[tactic(auto, using(crate::proofs::Parts::parts_more))]
 fn with_and(alloc: Global, conds: Conds) -> Result<Option<Conds>, AllocError>
     ensures { IfOk result (IsJoined Node.And conds) }
@@ -80,6 +83,7 @@ fn with_and(alloc: Global, conds: Conds) -> Result<Option<Conds>, AllocError>
     Ok(Some(Seq::from_vec(all)))
 }
 
+/// Joins the first two conditions by `or`; none if there aren't two.
 #[tactic(auto, using(crate::proofs::Parts::parts_more))]
 fn with_or(alloc: Global, conds: Conds) -> Result<Option<Conds>, AllocError>
     ensures { IfOk result (IsJoined Node.Or conds) }
@@ -95,6 +99,7 @@ fn with_or(alloc: Global, conds: Conds) -> Result<Option<Conds>, AllocError>
     Ok(Some(Seq::from_vec(all)))
 }
 
+/// Turns the first condition round; none if there is none.
 #[tactic(auto, using(crate::proofs::Parts::parts_more))]
 fn with_not(alloc: Global, conds: Conds) -> Result<Option<Conds>, AllocError>
     ensures { IfOk result (IsJoined Node.Not conds) }

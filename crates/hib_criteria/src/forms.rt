@@ -169,6 +169,7 @@ pub fn empty(alloc: Global) -> Form
     }
 }
 
+/// What was said, if the line has come to its end.
 fn ended(draft: Draft) -> Option<Form>
     ensures { result ≡ lines.ended_at draft.form draft.place }
 {

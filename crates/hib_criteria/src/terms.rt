@@ -34,6 +34,7 @@ pub fn step_condition(
     }
 }
 
+/// Takes an opening parenthesis, if a condition may begin here.
 fn opened(alloc: Global, form: Form, frames: &[Frame]) -> Result<Option<Draft>, AllocError>
     ensures { IfOk result (λ d. d ≡ lines.opened form frames.now) }
 {
@@ -47,6 +48,7 @@ fn opened(alloc: Global, form: Form, frames: &[Frame]) -> Result<Option<Draft>, 
     Ok(at(form, frames, Place::Operator))
 }
 
+/// Notes that a condition is nested too deeply, if one more parenthesis makes it so.
 fn deeper(mut form: Form, frames: &[Frame]) -> Form
     ensures { result ≡ lines.deeper form frames.now }
 {
@@ -64,6 +66,7 @@ fn onto(alloc: Global, frame: Frame, frames: &[Frame]) -> Result<Frames, AllocEr
     Ok(all)
 }
 
+/// Takes a closing parenthesis, if the innermost one that is open awaits it.
 fn closed(alloc: Global, form: Form, frames: &[Frame]) -> Result<Option<Draft>, AllocError>
     ensures { IfOk result (λ d. d ≡ lines.closed form frames.now) }
 {
@@ -77,6 +80,7 @@ fn closed(alloc: Global, form: Form, frames: &[Frame]) -> Result<Option<Draft>, 
     }
 }
 
+/// Where the line goes on after a closing parenthesis.
 fn behind(frames: &[Frame]) -> Place
     ensures { result ≡ lines.behind frames.now }
 {
@@ -110,6 +114,7 @@ pub fn step_operator(
     Ok(compared(form, frames, op(token)))
 }
 
+/// Takes an operator that joins conditions, of which the frame says how many.
 fn joined(
     alloc: Global,
     mut form: Form,
@@ -125,6 +130,7 @@ fn joined(
     Ok(at(form, frames, Place::Condition))
 }
 
+/// The operator of a comparison that a word is.
 fn op(token: &Token) -> Option<Op>
     ensures { result ≡ lines.op_of token.now }
 {
@@ -145,6 +151,7 @@ fn op(token: &Token) -> Option<Op>
     }
 }
 
+/// Takes the operator of a comparison, if there is one.
 fn compared(form: Form, frames: Frames, op: Option<Op>) -> Option<Draft>
     ensures { result ≡ lines.compared form frames op }
 {
@@ -173,6 +180,7 @@ pub fn step_subject(
     subject(alloc, form, frames, test, column)
 }
 
+/// Takes the column that is tested; if it isn't known, that is noted.
 fn subject(
     alloc: Global,
     form: Form,
@@ -216,6 +224,7 @@ pub fn step_operand(
     Ok(at(form, frames, Place::Condition))
 }
 
+/// Adds a comparison to the parts. If the cell can't be compared so with the column's, that is noted.
 fn with_test(mut form: Form, op: Op, column: Option<Column>, cell: Cell) -> Result<Form, AllocError>
     ensures { IfOk result (λ f. f ≡ lines.with_test form op column cell) }
 {
@@ -246,6 +255,7 @@ pub fn step_operands(
     }
 }
 
+/// Takes the end of `in`, if it has a cell.
 fn among(
     form: Form,
     frames: Frames,
@@ -262,6 +272,7 @@ fn among(
     Ok(at(form, frames, place))
 }
 
+/// Whether there is no cell.
 fn is_none_of(cells: &[Cell]) -> bool
     ensures { result ≡ lines.is_empty cells.now }
 {
@@ -271,6 +282,7 @@ fn is_none_of(cells: &[Cell]) -> bool
     }
 }
 
+/// Adds to the parts that a column's cell is one of these. If these are too many, that is noted.
 fn with_among(mut form: Form, column: Option<Column>, cells: Seq<Cell>) -> Result<Form, AllocError>
     ensures { IfOk result (λ f. f ≡ lines.with_among form column cells) }
 {
@@ -282,6 +294,7 @@ fn with_among(mut form: Form, column: Option<Column>, cells: Seq<Cell>) -> Resul
     Ok(form)
 }
 
+/// Takes one more cell of `in`; none if the token was no cell.
 fn one_more(
     form: Form,
     frames: Frames,
@@ -297,6 +310,7 @@ fn one_more(
     }
 }
 
+/// Takes one more cell of `in`. If it isn't of the column's type, that is noted.
 fn with_operand(
     mut form: Form,
     frames: Frames,

@@ -43,6 +43,7 @@ pub fn update(alloc: Global, key: Key, held: &Held) -> Result<Option<Change>, Al
     }
 }
 
+/// The update that brings this base to this row; none if their cells are equal.
 fn update_from(alloc: Global, key: Key, base: &Row, row: &Row) -> Result<Option<Change>, AllocError>
     ensures { IfOk result (λ c. c ≡ update_by State.Managed key row.now (Some base.now)) }
 {

@@ -29,6 +29,7 @@ fn quoted(alloc: Global, bytes: &[u8]) -> Result<(Text, &[u8]), AllocError>
     Ok((Seq::from_vec(text), &bytes[bytes.len()..]))
 }
 
+/// Whether a piece begins as a number does.
 fn begins_number(piece: &[u8]) -> bool
     ensures { result ≡ format.begins_number piece.now }
 {

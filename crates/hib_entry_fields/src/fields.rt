@@ -14,12 +14,14 @@ pub fn after_one(bytes: &[u8]) -> &[u8]
     }
 }
 
+/// Whether a byte ends a piece.
 fn is_stop(byte: u8) -> bool
     ensures { result ≡ format.is_stop byte }
 {
     byte == b' ' || byte == b']'
 }
 
+/// How many bytes the piece at the front has.
 #[tactic(auto, using(crate::proofs::Scans::piece_next, crate::proofs::Scans::piece_done, crate::proofs::Scans::piece_fits))]
 fn piece_len(bytes: &[u8]) -> usize
     ensures { result ≡ format.piece_len bytes.now }
@@ -81,6 +83,7 @@ pub fn small(n: u64) -> u32
     if n < 1 << 32 { n as u32 } else { 0 }
 }
 
+/// The number of this size below 0; 0 if there is none.
 fn below_zero(n: u64) -> i64
     ensures { result ≡ format.below_zero n }
 {

@@ -6,6 +6,7 @@ use crate::fields::{next, number_of};
 use hib_base::{ColumnDef, EntityDef, EntityNo, Key, Names, Query, QueryNo, Script, Seq};
 use std::alloc::{AllocError, Global};
 
+/// A place, if it has 16 bits at most; else 0.
 fn small16(place: Option<usize>) -> u16
     ensures { result ≡ format.place (2 ^ 16) place }
 {

@@ -30,6 +30,7 @@ fn add(changes: &mut Changes, change: Option<Change>) -> Result<(), AllocError>
     }
 }
 
+/// Adds the inserts that are pending, in order of arrival.
 fn add_inserts(alloc: Global, map: &IdentityMap, changes: &mut Changes) -> Result<(), AllocError>
     ensures { OnOk result (changes.new ≡ changes.old ++ inserts_in map.now.held) }
 {
@@ -41,6 +42,7 @@ fn add_inserts(alloc: Global, map: &IdentityMap, changes: &mut Changes) -> Resul
     Ok(())
 }
 
+/// Adds the updates that are pending, in order of arrival.
 fn add_updates(alloc: Global, map: &IdentityMap, changes: &mut Changes) -> Result<(), AllocError>
     ensures { OnOk result (changes.new ≡ changes.old ++ updates_in map.now.held) }
 {
@@ -52,12 +54,14 @@ fn add_updates(alloc: Global, map: &IdentityMap, changes: &mut Changes) -> Resul
     Ok(())
 }
 
+/// The delete that is pending of a key, if there is one.
 fn delete_at(map: &IdentityMap, key: Key) -> Option<Change>
     ensures { result ≡ delete_held key (look_in map.now.held key) }
 {
     delete(key, map.look(key)?)
 }
 
+/// Adds the deletes that are pending, in order of removal.
 fn add_deletes(map: &IdentityMap, changes: &mut Changes) -> Result<(), AllocError>
     ensures { OnOk result (changes.new ≡ changes.old ++ deletes_in map.now.held map.now.removals) }
 {

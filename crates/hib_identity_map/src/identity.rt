@@ -181,6 +181,7 @@ fn turn(entries: &mut IndexMap<Key, Held>, turned: &mut bool)
     *turned = !*turned;
 }
 
+/// The instance of a key.
 #[tactic(auto, using(crate::proofs::Faced::look_faced))]
 fn look_at(entries: &IndexMap<Key, Held>, turned: bool, key: Key) -> Option<&Held>
     ensures { option_copied result ≡ look_in (faced turned entries.now.entries) key }
@@ -259,6 +260,7 @@ fn clear_all(entries: &mut IndexMap<Key, Held>)
     entries.clear();
 }
 
+/// The key and the instance at a place, as they stand.
 fn pair_in(entries: &IndexMap<Key, Held>, i: usize) -> (Key, &Held)
     requires { i < length entries.now.entries }
     ensures { slice_get entries.now.entries i ≡ Some (result.0, result.1.now) }
@@ -267,6 +269,7 @@ fn pair_in(entries: &IndexMap<Key, Held>, i: usize) -> (Key, &Held)
     (*key, held)
 }
 
+/// The key and the instance at a place in the order of arrival.
 #[tactic(auto, using(crate::proofs::Faced::length_faced, crate::proofs::Faced::got_turned))]
 fn pair_at(entries: &IndexMap<Key, Held>, turned: bool, i: usize) -> (Key, &Held)
     requires { i < length (faced turned entries.now.entries) }
@@ -289,6 +292,7 @@ fn move_last(keys: &mut IndexSet<Key>, key: Key) -> Result<(), AllocError>
     Ok(())
 }
 
+/// Lets the instance of a key, if there is one, stand for a row that was written.
 fn base_at(entries: &mut IndexMap<Key, Held>, key: Key, base: Row)
     ensures { entries.new.entries ≡ change_in key (written base) entries.old.entries }
 {
@@ -299,6 +303,7 @@ fn base_at(entries: &mut IndexMap<Key, Held>, key: Key, base: Row)
     set_base(held, base);
 }
 
+/// Sets cells of the instance of a key, if there is one.
 fn cells_at(
     alloc: Global,
     entries: &mut IndexMap<Key, Held>,
@@ -316,6 +321,7 @@ fn cells_at(
     set_cells(alloc, held, sets)
 }
 
+/// Marks the instance of a key, if there is one, as removed.
 fn mark_at(entries: &mut IndexMap<Key, Held>, key: Key)
     ensures { entries.new.entries ≡ change_in key as_removed entries.old.entries }
 {

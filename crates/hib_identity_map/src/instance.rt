@@ -5,6 +5,7 @@ ghost use Rattle.hib_identity_map.specs.Identity.{state_written, written, as_rem
 use hib_base::{Held, Row, Sets, State};
 use std::alloc::{AllocError, Global};
 
+/// The state of an instance whose row was written: one that is marked stays so.
 fn after_write(state: State) -> State
     ensures { result ≡ state_written state }
 {

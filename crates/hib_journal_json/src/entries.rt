@@ -20,6 +20,7 @@ use hib_texts::put_session;
 use std::alloc::{AllocError, Global};
 use std::str;
 
+/// Whether the session of an entry, if it has one, is the script's.
 fn is_actor(script: &Script, session: Option<SessionNo>) -> bool
     ensures { result ≡ entries.is_actor script.now session }
 {
@@ -29,6 +30,7 @@ fn is_actor(script: &Script, session: Option<SessionNo>) -> bool
     }
 }
 
+/// Whether an entry is well formed, but for its part.
 fn is_known(script: &Script, entry: &Entry) -> bool
     ensures { result ≡ entries.is_known script.now entry.now }
 {
@@ -45,6 +47,7 @@ pub fn is_entry(script: &Script, entry: &Entry) -> bool
     is_known(script, entry) && part_of(&entry.act, entry.session) == Some(entry.part)
 }
 
+/// The session that a name looks like, if there is a name.
 fn session_named(script: &Script, names: &SessionNames, name: &Option<String>) -> Option<SessionNo>
     requires { is_valid script.now ≡ true }
     ensures { result ≡ option_map (fields.session_of script.now)
@@ -56,6 +59,7 @@ fn session_named(script: &Script, names: &SessionNames, name: &Option<String>) -
     }
 }
 
+/// The entry of this act, with the reply that the line's text looks like.
 fn entry_with(
     alloc: Global,
     script: &Script,
@@ -76,6 +80,7 @@ fn entry_with(
     })
 }
 
+/// The entry that the texts of a line look like; none if it would have no part.
 fn guess(
     alloc: Global,
     script: &Script,
@@ -94,6 +99,7 @@ fn guess(
     Ok(Some(entry_with(alloc, script, line, session, part, act)?))
 }
 
+/// Whether an act's text is this one.
 fn is_act_text(alloc: Global, script: &Script, act: &Act, bytes: &[u8]) -> Result<bool, AllocError>
     ensures { IfOk result (λ b. b ≡ bytes_eq (act_text script.now act.now) bytes.now) }
 {
@@ -102,6 +108,7 @@ fn is_act_text(alloc: Global, script: &Script, act: &Act, bytes: &[u8]) -> Resul
     Ok(text.as_slice() == bytes)
 }
 
+/// Whether a reply's text is this one.
 fn is_reply_text(
     alloc: Global,
     script: &Script,
@@ -115,6 +122,7 @@ fn is_reply_text(
     Ok(text.as_slice() == bytes)
 }
 
+/// Whether a part's word is this one.
 fn is_part_text(alloc: Global, part: Part, bytes: &[u8]) -> Result<bool, AllocError>
     ensures { IfOk result (λ b. b ≡ bytes_eq (part_text part) bytes.now) }
 {
@@ -123,6 +131,7 @@ fn is_part_text(alloc: Global, part: Part, bytes: &[u8]) -> Result<bool, AllocEr
     Ok(text.as_slice() == bytes)
 }
 
+/// Whether a session's name is this one; none has none.
 fn is_session_name(
     alloc: Global,
     script: &Script,
@@ -143,6 +152,7 @@ fn is_session_name(
     }
 }
 
+/// Whether the members of a line are the texts of an entry.
 fn is_texts_of(
     alloc: Global,
     script: &Script,

@@ -40,6 +40,7 @@ impl Draws {
     }
 }
 
+/// The state after one more draw, by shifts and exclusive ors.
 #[tactic(auto, unfolding(crate::specs::Draws::after_draw))]
 fn after_draw(state: u64) -> u64
     ensures { result ≡ after_draw state }

@@ -47,6 +47,7 @@ fn is_versioning(token: &Token) -> bool
     is_versioned(token) || is_the_word(token, b"plain")
 }
 
+/// The strategy that a word names.
 fn strategy(token: &Token) -> Option<Strategy>
     ensures { result ≡ lines.strategy_of token.now }
 {
@@ -63,6 +64,7 @@ fn strategy(token: &Token) -> Option<Strategy>
     }
 }
 
+/// Whether a token is a capacity that an entity of this strategy may have.
 fn is_capacity(strategy: Strategy, token: &Token) -> bool
     ensures { result ≡ lines.is_capacity strategy token.now }
 {
@@ -72,6 +74,7 @@ fn is_capacity(strategy: Strategy, token: &Token) -> bool
     }
 }
 
+/// What is wrong with the strategy or the capacity of an entity line.
 fn strategy_kind(strategy: Option<Strategy>, capacity: &Token) -> Option<Kind>
     ensures { result ≡ lines.strategy_kind strategy capacity.now }
 {
@@ -114,6 +117,7 @@ fn parts_kind(
     or_no_columns(followed, strategy_kind(strategy(strategy_word), capacity))
 }
 
+/// This fault of an entity line, or else that no column's line follows.
 fn or_no_columns(followed: bool, kind: Option<Kind>) -> Option<Kind>
     ensures { result ≡ lines.or_no_columns followed kind }
 {
@@ -152,6 +156,7 @@ pub fn is_column_line(tokens: &[Token]) -> bool
     }
 }
 
+/// Whether tokens have the form of what stands after a column's name.
 fn is_described(tokens: &[Token]) -> bool
     ensures { result ≡ lines.is_described tokens.now }
 {
@@ -189,6 +194,7 @@ fn is_reference(kind: &Token, target: &Token) -> bool
     is_the_word(kind, b"ref") && is_word(target)
 }
 
+/// Whether two tokens have the form of a default: its word and a cell.
 fn is_default(word: &Token, cell: &Token) -> bool
     ensures { result ≡ lines.is_default word.now cell.now }
 {
@@ -219,6 +225,7 @@ fn default_token(tokens: &[Token]) -> Option<&Token>
     }
 }
 
+/// The type that a word names, if it isn't a reference.
 fn plain_type(token: &Token) -> Option<ColumnType>
     ensures { result ≡ lines.type_of token.now }
 {
@@ -250,6 +257,7 @@ fn is_name_of(entity: &EntityDef, token: &Token) -> bool
     entity.name.as_slice() == word_bytes(token)
 }
 
+/// What is wrong with the tokens of a column's type.
 fn type_kind(mapping: &[EntityDef], entity: &EntityDef, tokens: &[Token]) -> Option<Kind>
     ensures { result ≡ lines.type_kind mapping.now entity.now tokens.now }
 {
@@ -280,6 +288,7 @@ fn kind_unless_target(found: Option<EntityNo>) -> Option<Kind>
     }
 }
 
+/// The type that tokens name. If they name none, the line has a fault, and this is any type.
 fn type_from(mapping: &[EntityDef], entity: &EntityDef, tokens: &[Token]) -> ColumnType
     ensures { result ≡ lines.type_from mapping.now entity.now tokens.now }
 {
@@ -290,12 +299,14 @@ fn type_from(mapping: &[EntityDef], entity: &EntityDef, tokens: &[Token]) -> Col
     }
 }
 
+/// The fault of a column's default, unless it is fine.
 fn default_unless(fine: bool) -> Option<Kind>
     ensures { result ≡ lines.default_unless fine }
 {
     if fine { None } else { Some(Kind::Default) }
 }
 
+/// What is wrong with a column's default: it must have the column's type, and may not be missing behind another.
 fn default_kind(columns: &[ColumnDef], kind: ColumnType, default: Option<&Token>) -> Option<Kind>
     ensures { result ≡ lines.default_kind columns.now kind (option_copied default.entry) }
 {
@@ -337,6 +348,7 @@ fn rest_kind(mapping: &[EntityDef], entity: &EntityDef, tokens: &[Token]) -> Opt
     }
 }
 
+/// The cell that is a column's default, if it has one.
 fn default_cell(alloc: Global, token: Option<&Token>) -> Result<Option<Cell>, AllocError>
     ensures { IfOk result (λ c. c ≡ option_and_then cell_of (option_copied token.entry)) }
 {
@@ -346,6 +358,7 @@ fn default_cell(alloc: Global, token: Option<&Token>) -> Result<Option<Cell>, Al
     }
 }
 
+/// The column that a line declares.
 fn column(
     alloc: Global,
     mapping: &[EntityDef],

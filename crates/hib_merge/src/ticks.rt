@@ -59,6 +59,7 @@ impl Ticks {
         }
     }
 
+    /// The last tick of a part, or 0.
     fn of_part(&self, part: Part) -> Tick
         ensures { result ≡ part_last self.now part }
     {
@@ -72,6 +73,7 @@ impl Ticks {
         }
     }
 
+    /// The last tick of a session, or 0.
     fn of_session(&self, session: Option<SessionNo>) -> Tick
         ensures { result ≡ session_last self.now session }
     {
@@ -95,6 +97,7 @@ impl Ticks {
         }
     }
 
+    /// Notes a tick as the last one of a part.
     fn note_part(&mut self, part: Part, tick: Tick) -> Result<(), AllocError>
         ensures parts { OnOk result ((p : AnyPart)
             → part_last self.new p ≡ (if same_part p part then tick else part_last self.old p)) }
@@ -111,6 +114,7 @@ impl Ticks {
         Ok(())
     }
 
+    /// Notes a tick as the last one of a session, if there is one.
     fn note_session(&mut self, session: Option<SessionNo>, tick: Tick) -> Result<(), AllocError>
         ensures parts { (p : AnyPart) → part_last self.new p ≡ part_last self.old p }
         ensures sessions { OnOk result ((s : Option ℕ)

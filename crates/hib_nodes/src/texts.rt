@@ -10,6 +10,7 @@ use hib_report::{put_act, put_part, put_reply};
 use hib_texts::{put_labelled, put_number, put_session};
 use std::alloc::{AllocError, Global};
 
+/// Adds the session that did it, or a dash for a fence, which is no session's.
 fn put_actor(
     out: &mut Vec<u8>,
     script: &Script,
@@ -72,6 +73,7 @@ fn put_entry(
     out.extend_from_slice(b"\n")
 }
 
+/// Adds a line for each entry.
 fn put_entries(
     alloc: Global,
     out: &mut Vec<u8>,

@@ -64,6 +64,7 @@ pub fn found_of<'a>(findings: &'a Findings, finding: Finding) -> &'a Found
     }
 }
 
+/// Adds with how many switches the first order comes, and its schedule, if there is such an order.
 fn put_first(
     alloc: Global,
     out: &mut Vec<u8>,

@@ -40,6 +40,7 @@ fn put_tried(
     out.extend_from_slice(b"\n")
 }
 
+/// Adds how many orders make this number of switches.
 fn put_level(
     alloc: Global,
     out: &mut Vec<u8>,
@@ -132,6 +133,7 @@ fn put_outcomes(
     Ok(())
 }
 
+/// Adds in how many orders the sessions end so, and how each has ended.
 fn put_ending(
     alloc: Global,
     out: &mut Vec<u8>,
@@ -197,6 +199,7 @@ fn put_findings(
     put_finding(alloc, out, script, findings, Finding::RefusedCommit)
 }
 
+/// Adds that no sound key of an entity has a stale hit, if it is a read-write one.
 fn put_never(out: &mut Vec<u8>, entity: &EntityDef) -> Result<(), AllocError>
     ensures { OnOk result (out.new.items ≡ out.old.items ++ never_text entity.now) }
 {

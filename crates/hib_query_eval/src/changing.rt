@@ -9,6 +9,7 @@ use hib_base::{Change, Key, Row};
 use hib_outside::keyed;
 use std::alloc::{AllocError, Global};
 
+/// Whether the version that a change expects is the one that was found.
 fn is_same_version(expected: Option<u32>, found: Option<u32>) -> bool
     ensures { result ≡ same_version expected found }
 {

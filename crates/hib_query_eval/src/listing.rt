@@ -126,6 +126,7 @@ fn cut<'a, 'b>(rows: &'a [&'b (Key, Row)], offset: u32, limit: u32) -> &'a [&'b 
     &rest[..rest.len().min(limit as usize)]
 }
 
+/// What a query that counts gives: one cell.
 fn count(alloc: Global, rows: usize) -> Result<Listing, AllocError>
     ensures { rows < 2 ^ 63 → IfOk result (λ l. l ≡ Cell.Int (pos rows) ∷ []) }
 {
@@ -134,6 +135,7 @@ fn count(alloc: Global, rows: usize) -> Result<Listing, AllocError>
     Listing::from_vec(list)
 }
 
+/// The identifiers of rows, as cells.
 fn identifiers(alloc: Global, rows: &[&(Key, Row)]) -> Result<Listing, AllocError>
     ensures { IfOk result (λ l. l ≡ map (λ a. Cell.Int (pos a.now.0.id)) rows.now) }
 {

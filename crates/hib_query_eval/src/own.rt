@@ -168,6 +168,7 @@ fn note_gone(keys: &mut BTreeSet<Key>, change: &Change) -> Result<(), AllocError
     }
 }
 
+/// Adds a key to a set.
 fn add_key(keys: &mut BTreeSet<Key>, key: Key) -> Result<(), AllocError>
     ensures { OnOk result ((k : KeySpec)
         → has_key keys.new.keys k ≡ has_key (key ∷ keys.old.keys) k) }

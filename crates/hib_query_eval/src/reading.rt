@@ -8,6 +8,7 @@ ghost use Rattle.hib_journal.specs.Query.{mentions, reads, gives};
 
 use hib_base::{Change, Cond, EntityNo, Query, Target};
 
+/// Whether a path steps to an entity.
 fn steps_to(entity: EntityNo, target: Option<Target>) -> bool
     ensures { result ≡ option_map_or (λ g. g.entity == entity) target false }
 {

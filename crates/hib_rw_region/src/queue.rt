@@ -92,6 +92,7 @@ fn turn(front: &mut Part, back: &mut Part)
     front.reverse();
 }
 
+/// Takes a key out of the part that has it.
 #[tactic(auto, using(hib_room_laws::proofs::Queued::removed_front, hib_room_laws::proofs::Queued::removed_back))]
 fn remove_in(front: &mut Part, back: &mut Part, id: u64)
     ensures { queued front.new.entries back.new.entries

@@ -30,6 +30,8 @@ pub fn bar(now: Tick, until: Tick) -> Slot
     }
 }
 
+/// Whether a key with this slot may leave: no open session, of which the oldest began at `floor`, can miss what it
+/// bars.
 fn may_leave(slot: &Slot, floor: Tick) -> bool
     ensures { result ≡ may_go floor (shown slot.now) }
 {

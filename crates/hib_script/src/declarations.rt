@@ -128,6 +128,7 @@ pub fn entity_line(
     new_entity(alloc, draft, tokens, or_reserved(name_in(tokens), kind))
 }
 
+/// Begins an entity, whose columns come next, unless its line has this fault.
 fn new_entity(
     alloc: Global,
     draft: &mut Draft,
@@ -250,6 +251,7 @@ fn or_taken(is_taken: bool, kind: Kind) -> Kind
     }
 }
 
+/// Whether a fault is one of a line's form, which is told before that its name is taken.
 fn is_of_form(kind: Kind) -> bool
     ensures { result ≡ lines.is_of_form kind }
 {

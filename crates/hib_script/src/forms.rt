@@ -43,6 +43,7 @@ pub fn number_line(most: u32, tokens: &[Token]) -> Result<u32, Kind>
     }
 }
 
+/// The number that a token is, from 1 to `most`.
 fn number_within(most: u32, token: &Token) -> Result<u32, Kind>
     ensures { result ≡ lines.number_within most token.now }
 {

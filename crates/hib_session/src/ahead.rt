@@ -22,6 +22,7 @@ fn refuse(act: &mut Act)
     }
 }
 
+/// Turns all acts for a commit that was applied into those for another end.
 fn refuse_all(acts: &mut [Act])
     ensures { acts.new ≡ map refused_act acts.old }
 {
@@ -37,6 +38,7 @@ fn is_kept_act(act: &Act) -> bool
     !matches!(act, Act::AfterInsert { .. })
 }
 
+/// Takes out the acts that have none in their place at another end.
 fn retain_kept(acts: &mut Vec<Act>)
     ensures { acts.new.items ≡ filter is_kept acts.old.items }
 {

@@ -63,6 +63,7 @@ pub struct Control {
     pub stage: Stage,
 }
 
+/// The mode after a statement.
 fn mode_from(statement: &Statement, mode: Mode) -> Mode
     ensures { result ≡ mode_after statement.now mode }
 {
@@ -72,6 +73,7 @@ fn mode_from(statement: &Statement, mode: Mode) -> Mode
     }
 }
 
+/// Whether a statement ends the transaction: then another one begins before the next statement.
 fn is_end(statement: &Statement) -> bool
     ensures { result ≡ ends statement.now }
 {
@@ -102,6 +104,7 @@ fn is_over(list: &[Statement], place: usize) -> bool
     }
 }
 
+/// The stage in which a query is answered: the results are looked through if it may use them, else the store is asked.
 fn answering(script: &Script, memory: &Memory, mode: Mode, stage: Stage) -> Stage
     ensures decided { (mine : Journal) → Recalls memory.now mine
         → result ≡ decided script.now mode mine stage }
@@ -119,6 +122,7 @@ fn answering(script: &Script, memory: &Memory, mode: Mode, stage: Stage) -> Stag
     }
 }
 
+/// Whether it isn't decided yet how a query is answered.
 fn is_answering_stage(stage: Stage) -> bool
     ensures { result ≡ is_answering stage }
 {
@@ -128,6 +132,7 @@ fn is_answering_stage(stage: Stage) -> bool
     }
 }
 
+/// Whether nothing is left of a block but the acts that are queued.
 fn is_idle(stage: Stage) -> bool
     ensures { result ≡ is_resting stage }
 {

@@ -7,6 +7,7 @@ ghost use Rattle.hib_session.specs.Queries.{touches as touching, touching_in};
 
 use hib_base::{Change, Cond, EntityNo, Query, QueryNo, Script, Target};
 
+/// Whether a reference leads to an entity.
 fn is_target(target: Option<Target>, entity: EntityNo) -> bool
     ensures { result ≡ option_map_or (λ g. g.entity == entity) target false }
 {
@@ -28,6 +29,7 @@ fn mentions(condition: &Cond, entity: EntityNo) -> bool
     }
 }
 
+/// Whether a query's condition, if it has one, follows a reference to an entity.
 fn conditions_on(condition: &Option<Cond>, entity: EntityNo) -> bool
     ensures { result ≡ option_map_or (mentions entity) condition.now false }
 {

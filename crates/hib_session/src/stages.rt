@@ -217,6 +217,7 @@ fn is_versioned(script: &Script, entity: EntityNo) -> bool
     }
 }
 
+/// The version that a new row of an entity has, if its rows have versions.
 fn version_at_first(script: &Script, entity: EntityNo) -> Option<u32>
     ensures { result ≡ first_version script.now entity }
 {

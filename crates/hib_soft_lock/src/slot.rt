@@ -63,6 +63,7 @@ pub enum Verdict {
     },
 }
 
+/// Whether a version is older than another, if there are both.
 fn is_below(old: Option<u32>, new: Option<u32>) -> bool
     ensures { result ≡ Regions.is_below old new }
 {

@@ -139,6 +139,7 @@ fn no_pairs(alloc: Global, count: usize) -> Result<Pairs, AllocError>
     })
 }
 
+/// The pairs, if there is one and each column has its cell.
 fn ended(draft: Draft) -> Option<Pairs>
     ensures { result ≡ parts.ended draft }
 {
@@ -150,12 +151,14 @@ fn ended(draft: Draft) -> Option<Pairs>
     }
 }
 
+/// Whether a column's name may come next, so that no pair is half read.
 fn is_name(awaited: Awaited) -> bool
     ensures { result ≡ parts.is_name awaited }
 {
     matches!(awaited, Awaited::Name)
 }
 
+/// What was read of pairs after one more token; none if it can't stand there.
 fn with_token(
     alloc: Global,
     columns: &[ColumnDef],
@@ -171,6 +174,7 @@ fn with_token(
     }
 }
 
+/// What was read of pairs after a column's name, whose cell comes next.
 fn with_column(
     alloc: Global,
     columns: &[ColumnDef],
@@ -191,12 +195,14 @@ fn with_column(
     Ok(Some(Draft { pairs, awaited }))
 }
 
+/// Whether a name is among those that have come.
 fn has_name(names: &[Text], name: &[u8]) -> bool
     ensures { result ≡ parts.has_name names.now name.now }
 {
     names.iter().any(|other| other.as_slice() == name)
 }
 
+/// What was read of pairs after the cell of this column; none if the token was no cell.
 fn with_cell(
     pairs: Pairs,
     found: Option<Found>,
@@ -216,6 +222,7 @@ fn with_cell(
     }
 }
 
+/// The pairs with one more. If the cell isn't of its column's type, that is noted.
 fn with_pair(mut pairs: Pairs, found: Option<Found>, cell: Cell) -> Result<Pairs, AllocError>
     ensures { IfOk result (λ p. p ≡ parts.with_pair pairs found cell) }
 {
@@ -225,6 +232,7 @@ fn with_pair(mut pairs: Pairs, found: Option<Found>, cell: Cell) -> Result<Pairs
     Ok(pairs)
 }
 
+/// Whether a cell has the type of its column. If the column isn't known, any cell will do.
 fn is_found(found: &Option<Found>, cell: &Cell) -> bool
     ensures { result ≡ parts.is_found found.now cell.now }
 {

@@ -52,6 +52,7 @@ fn add_target(tables: &mut Vec<EntityNo>, target: Option<Target>) -> Result<(), 
     Ok(())
 }
 
+/// Whether a path steps to no other entity than the first ones.
 fn steps_below(target: Option<Target>, entities: u16) -> bool
     ensures only { result ≡ true → (n : ℕ) → option_map_or (λ g. g.entity == n) target false ≡ true
         → n < entities }

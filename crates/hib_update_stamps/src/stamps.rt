@@ -82,6 +82,7 @@ impl Stamps {
         self.stamps.fill(None);
     }
 
+    /// Gives tables this stamp.
     fn set(&mut self, tables: &[EntityNo], time: Tick)
         requires { All (λ t. t < length self.old) tables.now }
         ensures { self.new ≡ stamped tables.now time self.old }

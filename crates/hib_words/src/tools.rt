@@ -61,6 +61,7 @@ fn number_if_any(text: Option<&str>, low: u32, high: u32) -> Option<Option<u32>>
     }
 }
 
+/// The search of orders that the options ask for; none if a number is out of its range.
 fn orders(found: &Found<'_>) -> Option<Tool>
     ensures { result ≡ tool_asked Verb.Orders (chosen_of found.now) }
 {
@@ -99,6 +100,7 @@ fn rows(found: &Found<'_>) -> Option<Tool>
     }
 }
 
+/// What a command with these options asks of the tools; none if it is one of the program.
 fn tool_from(verb: Verb, found: &Found<'_>) -> Option<Tool>
     ensures { result ≡ tool_asked verb (chosen_of found.now) }
 {

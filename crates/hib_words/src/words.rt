@@ -150,6 +150,7 @@ fn in_range(number: u32, low: u32, high: u32) -> Option<u32>
     }
 }
 
+/// The options of `play` and `work`; none if the path of a file can't be one.
 fn options_from(alloc: Global, found: &Found<'_>) -> Result<Option<Options>, AllocError>
     ensures { IfOk result (λ r. option_map settings_of r ≡ settings_in (chosen_of found.now)) }
 {
@@ -207,6 +208,7 @@ fn play(alloc: Global, found: &Found<'_>) -> Result<Option<Command>, AllocError>
     Ok(Some(Command::Play { options }))
 }
 
+/// The command that a verb with these options is; none if it is a tool's, or if an option is wrong or missing.
 fn command_from(alloc: Global, verb: Verb, found: &Found<'_>) -> Result<Option<Command>, AllocError>
     ensures { IfOk result (λ r. option_map asked_of r ≡ asked verb (chosen_of found.now)) }
 {
