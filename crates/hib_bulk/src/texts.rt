@@ -107,7 +107,7 @@ fn put_wide_early(alloc: Global, out: &mut Vec<u8>, unlock: u64) -> Result<(), A
     put_number(alloc, out, unlock)
 }
 
-/// Adds what was answered. To some acts the same answer is told by another word.
+/// Adds what was answered.
 fn put_answer(
     alloc: Global,
     out: &mut Vec<u8>,

@@ -37,7 +37,7 @@ pub fn step_clauses(form: Form, frames: Frames, token: &Token) -> Option<Draft>
     unless(!is_the_word(token, b"select"), form, frames, Place::Select)
 }
 
-/// The line, going on at this place, unless a clause is there that may not come before it.
+/// The line, going on at this place; none if `is_there` says that something stands against it.
 fn unless(is_there: bool, form: Form, frames: Frames, place: Place) -> Option<Draft>
     ensures { result ≡ lines.unless is_there (lines.at form frames place) }
 {

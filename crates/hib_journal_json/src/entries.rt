@@ -131,7 +131,7 @@ fn is_part_text(alloc: Global, part: Part, bytes: &[u8]) -> Result<bool, AllocEr
     Ok(text.as_slice() == bytes)
 }
 
-/// Whether a session's name is this one; none has none.
+/// Whether a session's name is this one; without a session there must be no name.
 fn is_session_name(
     alloc: Global,
     script: &Script,

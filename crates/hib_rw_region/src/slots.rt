@@ -30,8 +30,8 @@ pub fn bar(now: Tick, until: Tick) -> Slot
     }
 }
 
-/// Whether a key with this slot may leave: no open session, of which the oldest began at `floor`, can miss what it
-/// bars.
+/// Whether a key with this slot may leave: nobody holds it, and it was stored or let go before the oldest open session
+/// began, which was at `floor`.
 fn may_leave(slot: &Slot, floor: Tick) -> bool
     ensures { result ≡ may_go floor (shown slot.now) }
 {
