@@ -1,4 +1,5 @@
-// What a factory with bulk lines begins with.
+// What a factory with bulk lines begins with: empty regions, the engines of the other parts, and lines that have done
+// nothing.
 ghost use Rattle.std.specs.Prelude.{◌≡◌, ◌≤◌, ◌<◌, ◌^◌, [], true, map, length, ℕ, List, IfOk, IfErr, IfSome};
 ghost use Rattle.hib_base.specs.Tables.{in_order};
 ghost use Rattle.hib_outside.specs.Causes.{Rose};

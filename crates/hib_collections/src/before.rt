@@ -1,5 +1,4 @@
-// What comes before an act that is due in a session by its plan: an act at an owner of a collection, or nothing. The
-// plan is the acts that its statements come to, as without collections.
+// What comes before an act that is due in a session by its plan: an act at an owner of a collection, or nothing.
 ghost use Rattle.std.specs.Prelude.{◌≡◌, ◌≤◌, ◌∷◌, [], length};
 ghost use Rattle.hib_base.specs.declared.entries.Act.{Act};
 ghost use Rattle.hib_base.specs.declared.scripts.Script.{Script as Said};

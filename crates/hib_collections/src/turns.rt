@@ -1,5 +1,5 @@
 // One turn of a session, which is a step of it: an act of its plan is answered, or one at a collection's region that
-// comes before or after it. The plan is the acts that its statements come to, as without collections.
+// comes before or after it.
 ghost use Rattle.std.specs.Prelude.{◌≡◌, ◌+◌, ◌<◌, ◌^◌, Option, length, IfOk, IfSome, OnOk, OnErr, Some, None, true};
 ghost use Rattle.std.specs.Prelude.{false, is_some};
 ghost use Rattle.hib_base.specs.declared.entries.Act.{Act};

@@ -1,4 +1,4 @@
-// Where two lists of entries differ.
+// Where a session's list and its entries in the merged list differ.
 ghost use Rattle.std.specs.Prelude.{◌≡◌, ◌↔◌, IsTrue, slice_get, IfOk, MatchOption};
 ghost use Rattle.hib_merge.specs.Tearing.{PartAt};
 

@@ -1,5 +1,4 @@
-// Items by identifier, in order of insertion: what read-only and nonstrict regions are made of. A stamp is the tick at
-// which an item was stored.
+// Items by identifier, in order of insertion: what read-only and nonstrict regions are made of.
 ghost use Rattle.std.specs.Prelude.{◌≡◌, ◌++◌, [], ◌∷◌, None, IfOk, OnOk, OnErr, drop, nat_eq, option_copied, is_some};
 ghost use Rattle.std.specs.Map.{lookup, remove_entry};
 ghost use Rattle.hib_room_laws.specs.Order.{first_key};

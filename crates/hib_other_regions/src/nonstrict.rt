@@ -1,5 +1,4 @@
-// Regions of nonstrict entities, which may answer a stale row now and then. A stamp is the tick at which an item was
-// stored.
+// Regions of nonstrict entities, which may answer a stale row now and then.
 ghost use Rattle.std.specs.Prelude.{◌≡◌, IfOk, OnOk, OnErr, false, is_some, if◌then◌else◌};
 ghost use Rattle.hib_journal.specs.Regions.{got_item, put_item};
 ghost use Rattle.hib_journal.specs.Types.{Reply, Evicted};

@@ -1,4 +1,4 @@
-// Regions of read-only entities, whose rows never change. A stamp is the tick at which an item was stored.
+// Regions of read-only entities, whose rows never change.
 ghost use Rattle.std.specs.Prelude.{◌≡◌, IfOk, OnOk, OnErr, true, is_some, if◌then◌else◌};
 ghost use Rattle.hib_journal.specs.Regions.{got_item, put_item};
 ghost use Rattle.hib_journal.specs.Types.{Inserted, Reply, Evicted};

@@ -1,4 +1,4 @@
-// A worker is here a session with the list of its own entries. A thread, or the caller alone, steps it over the parts.
+// A session with the list of its own entries, which a thread, or the caller alone, steps over the parts.
 ghost use Rattle.std.specs.Prelude.{◌≡◌, ◌+◌, ◌<◌, ◌≤◌, ◌^◌, [], ◌∷◌, Some, true, false, IfOk, IfSome, IsSome, IsOk, OnOk, OnErr};
 ghost use Rattle.std.specs.Option.{option_map};
 ghost use Rattle.hib_base.specs.declared.entries.Part.{Part};

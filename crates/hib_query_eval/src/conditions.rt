@@ -1,4 +1,4 @@
-// Whether a row meets a condition. A condition steps to a table if it follows a reference to it.
+// Whether a row meets a condition, which is tested over a view.
 ghost use Rattle.std.specs.Prelude.{◌≡◌, option_copied, slice_get, true, false};
 ghost use Rattle.std.specs.Option.{option_map_or};
 ghost use Rattle.std.specs.List.{list_any};

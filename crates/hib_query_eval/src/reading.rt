@@ -1,5 +1,4 @@
-// Which tables a query reads, to know whether a session's own changes matter to it. A condition steps to a table if it
-// follows a reference to it.
+// Which tables a query reads, to know whether a session's own changes matter to it.
 ghost use Rattle.std.specs.Prelude.{◌≡◌, ◌||◌, ◌==◌, ℕ, false};
 ghost use Rattle.std.specs.Option.{option_map_or};
 ghost use Rattle.std.specs.List.{list_any};

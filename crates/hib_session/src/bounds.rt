@@ -1,4 +1,4 @@
-// How many entries a session has at most.
+// How many entries a session has at most, so that runs are short.
 ghost use Rattle.std.specs.Prelude.{◌≤◌, ℕ, length, slice_get, []};
 ghost use Rattle.std.specs.Option.{option_map_or};
 ghost use Rattle.hib_journal.specs.Types.{Script};

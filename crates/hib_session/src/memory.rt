@@ -1,5 +1,4 @@
 // What a session remembers of its own entries: its transaction's time, floor and changes, its locks and its instances.
-// The base of an instance is its row as it was read or written last.
 ghost use Rattle.std.specs.Prelude.{◌≡◌, ◌||◌, ◌∷◌, [], ◌++◌, IfOk, IfSome, IsOk, OnOk, true, not, Some, None, MatchOption, is_some, if◌then◌else◌};
 ghost use Rattle.hib_journal.specs.Sessions.{Journal};
 ghost use Rattle.hib_journal.specs.Held.{pending};

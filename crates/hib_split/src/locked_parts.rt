@@ -1,5 +1,4 @@
-// What the threads of a run share: each part behind a lock of its own. A worker is here a session with its list, as in
-// hib_parts.
+// What the threads of a run share: each part behind a lock of its own, and what they leave for the caller.
 ghost use Rattle.std.specs.Prelude.{◌≡◌, ◌<◌, ◌≤◌, ◌+◌, ◌^◌, [], map, vec_len, vec_capacity, None, Ok, IfNone, IfOk, IsOk};
 ghost use Rattle.hib_journal.specs.Next.{next};
 ghost use Rattle.hib_parts.specs.Listed.{IsDueOn};

@@ -1,5 +1,5 @@
 // The end of a run, on the caller's thread: it steps the sessions to their ends from where threads left them, if there
-// were any, and puts the lists together. A worker is a session with its list.
+// were any, and puts the lists together.
 ghost use Rattle.std.specs.Prelude.{◌≡◌, ◌≢◌, ◌<◌, ◌≤◌, ◌+◌, [], length, map, true, false, None, vec_len, vec_capacity};
 ghost use Rattle.std.specs.Prelude.{IfSome, IsSome};
 ghost use Rattle.hib_base.specs.Valid.{is_valid};

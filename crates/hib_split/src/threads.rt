@@ -1,4 +1,4 @@
-// Threads that step sessions over parts behind locks, each a session at a time. A `Worker` is a session with its list.
+// Threads that step sessions over parts behind locks, each a session at a time.
 ghost use Rattle.std.specs.Prelude.{◌≡◌, ◌≤◌, ◌+◌, [], vec_len, vec_capacity, None, IfNone, OnOk};
 ghost use denote.Param.Send.{IsSync};
 ghost use Rattle.hib_journal.specs.Next.{next};

@@ -1,5 +1,4 @@
-// Which tables a query reads, for the keeper and for the index. A condition steps to an entity if it follows a
-// reference to it.
+// Which tables a query reads, for the keeper and for the index.
 ghost use Rattle.std.specs.Prelude.{◌≡◌, ◌<◌, ◌||◌, ℕ, true, nat_lt, IfOk, OnOk, ◌==◌, false};
 ghost use Rattle.std.specs.Option.{option_map_or};
 ghost use Rattle.hib_journal.specs.Query.{mentions, reads};

@@ -1,4 +1,4 @@
-// Workers are here threads, each of which steps a session at a time. It is what `work` does.
+// Workers step the sessions of a factory, each a session at a time. It is what `work` does.
 ghost use Rattle.std.specs.Prelude.{◌≡◌, ◌≤◌, ◌<◌, ◌^◌, false, length, IfSome};
 ghost use denote.Param.Send.{IsSend};
 ghost use Rattle.hib_journal.specs.Kept.{past};
