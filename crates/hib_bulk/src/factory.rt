@@ -138,7 +138,7 @@ impl<K: Keeper, N: Name> BulkFactory<K, N> {
     }
 
     /// One step of a session or a line: the act that is due in it, if one is. If memory runs out no entry is added, and
-    /// nothing has changed but the keeper's counts; so a later call may succeed.
+    /// nothing has changed but the keeper's counts; so a later call may succeed. There must be one of this number.
     pub fn step(&mut self, alloc: Global, number: SessionNo) -> Result<Stepped, AllocError>
         requires known { number < length N.script.sessions + length N.lines }
         ensures did { result ≡ Ok Stepped.Did

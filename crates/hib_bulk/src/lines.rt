@@ -118,7 +118,7 @@ impl<K: Keeper> BulkParts<K> {
         BulkReply::Held { holders: 0 }
     }
 
-    /// Gives the region of an entity back for a line. It takes no memory.
+    /// Gives the region of an entity back for a line. A line must hold it. It takes no memory.
     fn unlock_all(&mut self, entity: EntityNo, now: Tick) -> BulkReply
         requires { 1 ≤ held_by (region_of self.old.regions entity) }
         ensures reply { result ≡ Replied.Released (held_by (region_of self.new.regions entity)) }

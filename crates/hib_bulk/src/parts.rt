@@ -85,7 +85,7 @@ impl<K: Keeper> BulkParts<K> {
         }
     }
 
-    /// Evicts an old item from the region of its key. It takes no memory.
+    /// Evicts an old item from the region of its key. There must be one. It takes no memory.
     pub fn sweep(&mut self, key: Key, now: Tick)
         requires { has_old_in (region_of self.old.regions key.entity) key.id ≡ true }
         ensures here { region_of self.new.regions key.entity

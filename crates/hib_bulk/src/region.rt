@@ -143,7 +143,7 @@ impl EntityRegion {
         }
     }
 
-    /// Evicts an old item, which is a sweep. It takes no memory.
+    /// Evicts an old item, which is a sweep. There must be one. It takes no memory.
     pub fn sweep(&mut self, id: u64, now: Tick)
         requires { has_old_in self.old id ≡ true }
         ensures { self.new ≡ swept self.old id now }
@@ -166,7 +166,7 @@ impl EntityRegion {
         }
     }
 
-    /// Gives the region back for a line. Answers how many hold it still. It takes no memory.
+    /// Gives the region back for a line. A line must hold it. Answers how many hold it still. It takes no memory.
     pub fn unlock_all(&mut self, now: Tick) -> u64
         requires { 1 ≤ held_by self.old }
         ensures answer { result ≡ held_by self.new }

@@ -36,7 +36,8 @@ impl<K: Keeper, N: Name> BulkFactory<K, N> {
         Ok(())
     }
 
-    /// Runs a session or a line to its end. If memory runs out the steps so far stand.
+    /// Runs a session or a line to its end. There must be one of this number. If memory runs out the steps so far
+    /// stand.
     pub fn run_session(&mut self, alloc: Global, number: SessionNo) -> Result<(), AllocError>
         requires known { number < number_count N.script N.lines }
         ensures played { OnOk result (Leads (play_all (has_next N.script N.lines) is_by number)

@@ -220,7 +220,8 @@ fn sweep_entry(key: &Key, session: SessionNo, tick: Tick) -> BulkEntry
     }
 }
 
-/// Sweeps an old item away that an act of a session on its key would meet. If memory runs out nothing has changed.
+/// Sweeps an item away that an act of a session on its key would meet. It must be old. If memory runs out nothing has
+/// changed.
 fn sweep<K: Keeper, N: Name>(
     key: Key,
     session: SessionNo,

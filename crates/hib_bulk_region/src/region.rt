@@ -99,7 +99,7 @@ impl BulkRegion {
         }
     }
 
-    /// Evicts an old item. It takes no memory.
+    /// Evicts an old item. There must be one. It takes no memory.
     pub fn sweep(&mut self, id: u64, now: Tick)
         requires { has_old self.old id ≡ true }
         ensures { self.new ≡ swept id now self.old }

@@ -64,7 +64,7 @@ fn locks(entry: &MemberEntry) -> bool
 }
 
 impl Counts {
-    // Counts an entry on this region.
+    // Counts an entry, which is on this region.
     fn note(&mut self, entry: &MemberEntry)
         requires { AreBelow (2 ^ 64 - 1) self.old }
         ensures { self.new ≡ noted entry.now self.old }

@@ -113,7 +113,7 @@ impl<K: Keeper, N: Name, L: Listener> Gather<K, N, L> {
     /// One step of a session: what is due in it, if anything is, and then the listeners hear of its entry. The other
     /// sessions stay as they are. If memory runs out no entry is added and nothing has changed, but the answer of
     /// `refused` and the keeper's counts; so a later call may succeed. Only if a listener had none does the entry
-    /// stand, and no call adds another.
+    /// stand, and no call adds another. The session must be the script's.
     pub fn step(&mut self, alloc: Global, number: SessionNo) -> Result<Stepped, AllocError>
         requires known { number < length N.script.sessions }
         ensures did { result ≡ Ok Stepped.Did → HasStepped N.script N.defs number

@@ -84,7 +84,8 @@ impl Notes {
         }
     }
 
-    /// Takes that list out, when it is offered to the region. Only locks stay noted. It takes no memory.
+    /// Takes that list out, when it is offered to the region. There must be one. Only locks stay noted. It takes no
+    /// memory.
     pub fn take_listed(&mut self) -> Listing
         requires { IsSome self.old.listed }
         ensures list { IfSome self.old.listed (λ l. l.1 ≡ result) }
@@ -164,7 +165,7 @@ impl Notes {
         self.locks.reserve()
     }
 
-    /// Notes what was answered to a lock of an owner. It takes no memory.
+    /// Notes what was answered to a lock of an owner. There must be room for one more. It takes no memory.
     pub fn lock(&mut self, place: OwnerPlace, reply: &Reply)
         requires { self.old.room ≡ true }
         ensures locks { self.new.locks ≡ locks_with place reply.now self.old.locks }

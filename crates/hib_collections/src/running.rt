@@ -40,7 +40,7 @@ impl<K: Keeper, N: Name, L: Listener> Gather<K, N, L> {
         Ok(())
     }
 
-    /// Runs a session to its end. If memory runs out the steps so far stand.
+    /// Runs a session to its end. It must be the script's. If memory runs out the steps so far stand.
     pub fn run_session(&mut self, alloc: Global, number: SessionNo) -> Result<(), AllocError>
         requires known { number < length N.script.sessions }
         ensures played { OnOk result (Leads (play_all N.script N.defs number) played

@@ -105,7 +105,8 @@ impl<K: Keeper, N: Name> GatherCore<K, N> {
     }
 
     /// One step of a session: what is due in it, if anything is. If memory runs out no entry is added and nothing has
-    /// changed, but the answer of `refused` and the keeper's counts; so a later call may succeed.
+    /// changed, but the answer of `refused` and the keeper's counts; so a later call may succeed. The session must be
+    /// the script's.
     pub fn step(&mut self, alloc: Global, number: SessionNo) -> Result<Turned, AllocError>
         requires known { number < length N.script.sessions }
         ensures does { IfOk result (Does N.script N.defs number (past self.old.journal)

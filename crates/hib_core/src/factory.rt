@@ -107,7 +107,7 @@ impl<K: Keeper, N: Name, L: Listener> Factory<K, N, L> {
     /// sessions stay as they are. The keeper is asked once at most, and only if the act asks for rows. If memory runs
     /// out no entry is added and nothing has changed, but the answer of `refused` and, if the act that was due calls
     /// the keeper, its counts; so a later call may succeed. Only if a listener had none does the entry stand, and no
-    /// call adds another.
+    /// call adds another. The session must be the script's.
     pub fn step(&mut self, alloc: Global, number: SessionNo) -> Result<Stepped, AllocError>
         requires known { number < length N.script.sessions }
         ensures did { result ≡ Ok Stepped.Did
@@ -268,7 +268,7 @@ impl<K: Keeper, N: Name, L: Listener> Factory<K, N, L> {
         )
     }
 
-    /// Evicts a row of a cached entity from its region. What want of memory leaves is as after `step`.
+    /// Evicts a row from its region. Its entity must be cached. What want of memory leaves is as after `step`.
     pub fn evict(&mut self, alloc: Global, key: Key) -> Result<(), AllocError>
         requires cached { is_cached N.script key.entity ≡ true }
         ensures { IsObeyed N.script N.from (Order.Evict key) result self.old self.new }

@@ -81,7 +81,7 @@ pub fn kill<K: Keeper, N: Name>(
     Ok(())
 }
 
-/// Evicts a row of a cached entity from its region. If memory runs out nothing has changed.
+/// Evicts a row from its region. Its entity must be cached. If memory runs out nothing has changed.
 pub fn evict<K: Keeper, N: Name>(
     alloc: Global,
     key: Key,

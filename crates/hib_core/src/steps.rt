@@ -105,7 +105,7 @@ impl<K: Keeper, N: Name> Core<K, N> {
     /// One step of a session: the act that is due in it, if one is. The other sessions stay as they are. The keeper is
     /// asked once at most, and only if the act asks for rows. If memory runs out no entry is added and nothing has
     /// changed, but the answer of `refused` and, if the act that was due calls the keeper, its counts; so a later call
-    /// may succeed.
+    /// may succeed. The session must be the script's.
     pub fn step(&mut self, alloc: Global, number: SessionNo) -> Result<Stepped, AllocError>
         requires known { number < length N.script.sessions }
         ensures did { result ≡ Ok Stepped.Did
@@ -275,8 +275,8 @@ impl<K: Keeper, N: Name> Core<K, N> {
         killed
     }
 
-    /// Evicts a row of a cached entity from its region. If memory runs out nothing has changed but the answer of
-    /// `refused`.
+    /// Evicts a row from its region. Its entity must be cached. If memory runs out nothing has changed but the answer
+    /// of `refused`.
     pub fn evict(&mut self, alloc: Global, key: Key) -> Result<(), AllocError>
         requires cached { is_cached N.script key.entity ≡ true }
         ensures carried { IsCarriedOut N.script N.from (Order.Evict key) result self.old self.new }

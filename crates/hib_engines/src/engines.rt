@@ -61,9 +61,9 @@ impl<K: Keeper> Model for Engines<K> {
 }
 
 impl<K: Keeper> Engines<K> {
-    /// The engines of a valid script, before any act. The rows that the keeper keeps are widened to the script's
-    /// mapping, and each of the script's rows whose key has none is added. Lists of the script's entities are answered
-    /// from an index. At an error the keeper is handed back, with the rows that it had.
+    /// The engines of a script, which must be valid, before any act. The rows that the keeper keeps are widened to the
+    /// script's mapping, and each of the script's rows whose key has none is added. Lists of the script's entities are
+    /// answered from an index. At an error the keeper is handed back, with the rows that it had.
     pub fn open(alloc: Global, script: &Script, keeper: K) -> Result<Engines<K>, OpenFault<K>>
         requires { is_valid script.now ≡ true }
         ensures standing { IfOk result (λ e. AreStanding script.now

@@ -86,8 +86,8 @@ impl Registry {
         }
     }
 
-    /// Notes that a session is open from this tick on, and no more from an earlier one. At an error nothing has
-    /// changed.
+    /// Notes that a session is open from this tick on, and no more from an earlier one. All open sessions must have
+    /// begun before it. At an error nothing has changed.
     fn open_at(&mut self, session: SessionNo, now: Tick) -> Result<(), AllocError>
         requires { Each (λ t. t < now) self.old }
         ensures ok { OnOk result (self.new ≡ without session self.old ++ (session, now) ∷ []) }

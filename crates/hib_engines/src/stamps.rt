@@ -43,7 +43,8 @@ impl StampsEngine {
         Ok(StampsEngine { stamps })
     }
 
-    /// Stamps tables that are about to change, with a tick ahead, so that no result of them is fresh meanwhile.
+    /// Stamps tables that are about to change, with a tick ahead, so that no result of them is fresh meanwhile. The
+    /// tables must be the script's.
     fn pre(&mut self, tables: &Names, timeout: u32, now: Tick) -> Reply
         requires tables { All (λ t. t < length self.old) tables.now }
         requires now { now ≤ 2 ^ 62 }
@@ -54,7 +55,7 @@ impl StampsEngine {
         Reply::Stamped { value }
     }
 
-    /// Stamps tables that have changed.
+    /// Stamps tables that have changed. They must be the script's.
     fn stamp(&mut self, tables: &Names, now: Tick) -> Reply
         requires tables { All (λ t. t < length self.old) tables.now }
         requires now { now ≤ 2 ^ 62 }

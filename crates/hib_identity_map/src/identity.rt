@@ -49,7 +49,7 @@ impl IdentityMap {
         look_at(&self.entries, self.turned, key)
     }
 
-    /// Adds the instance of a key that has none, after the others. At an error nothing has changed.
+    /// Adds the instance of a key, after the others. The key must have none. At an error nothing has changed.
     pub fn add(&mut self, key: Key, held: Held) -> Result<(), AllocError>
         requires { look_in self.old.held key ≡ None }
         ensures ok { OnOk result (self.new
@@ -70,7 +70,7 @@ impl IdentityMap {
         arrive_at(&mut self.entries, key, held)
     }
 
-    /// Puts another instance in the place of that of a key. It takes no memory.
+    /// Puts another instance in the place of that of a key. The key must have one. It takes no memory.
     pub fn put(&mut self, key: Key, held: Held)
         requires { look_in self.old.held key ≢ None }
         ensures { self.new ≡ record self.old { held = put_in key held self.old.held } }

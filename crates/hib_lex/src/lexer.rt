@@ -113,7 +113,7 @@ fn add_part(alloc: Global, tokens: &mut Tokens, bytes: &[u8]) -> Result<Option<u
     }
 }
 
-/// Adds the word, path or number at the front of some bytes; none if there is no such token.
+/// Adds the word, path or number at the front of some bytes; none if they begin with no such token.
 fn add_bare(alloc: Global, tokens: &mut Tokens, bytes: &[u8]) -> Result<Option<usize>, AllocError>
     requires { parts.begins_bare bytes.now ≡ true }
     ensures { IfOk result (parts.ReadsPart tokens.old tokens.new bytes.now) }

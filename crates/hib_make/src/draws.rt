@@ -28,7 +28,7 @@ impl Draws {
         }
     }
 
-    /// The next number, one of the first `count`, from 0.
+    /// The next number, one of the first `count`, from 0. There must be one.
     pub fn draw(&mut self, count: u32) -> u32
         requires { 0 < count }
         ensures below { result < count }

@@ -138,7 +138,7 @@ impl Ticks {
     }
 }
 
-/// The first entry whose tick isn't the one that is due, with that one; or none if each is.
+/// The first entry whose tick isn't the one that is due, with the tick that is; none if each tick is due.
 pub fn torn_tick(alloc: Global, entries: &[Entry]) -> Result<Option<Torn>, AllocError>
     requires { length entries.now ≤ 2 ^ 62 }
     ensures { IfOk result (λ o. MatchOption o (AreDue (reverse entries.now))

@@ -118,7 +118,7 @@ impl<K: Keeper, N: Name> Nodes<K, N> {
 
     /// One step of a session: the act that is due in it, if one is, at its node. A commit that applies comes into the
     /// other node's queue in the same step. If memory runs out no entry is added and nothing has changed, but the
-    /// answer of `refused` and the keeper's counts; so a later call may succeed.
+    /// answer of `refused` and the keeper's counts; so a later call may succeed. The session must be the script's.
     pub fn step(&mut self, alloc: Global, number: SessionNo) -> Result<Stepped, AllocError>
         requires known { number < length N.script.sessions }
         ensures did { result ≡ Ok Stepped.Did → HasStepped N.script N.places number

@@ -37,7 +37,7 @@ impl<K: Keeper, N: Name> Nodes<K, N> {
         Ok(())
     }
 
-    /// Runs a session to its end. If memory runs out the steps so far stand.
+    /// Runs a session to its end. It must be the script's. If memory runs out the steps so far stand.
     fn run_session(&mut self, alloc: Global, number: SessionNo) -> Result<(), AllocError>
         requires known { number < length N.script.sessions }
         ensures played { OnOk result (Leads (play_all (has_next N.script) is_by number) played

@@ -49,8 +49,8 @@ pub fn runs_of(alloc: Global, order: &[Step]) -> Result<Vec<Order>, AllocError>
     Ok(runs)
 }
 
-/// Whether a step may stand before a tail that rises: in such a tail each session goes on to its end, in order of
-/// number.
+/// Whether a step may stand before this tail, which must rise: in such a tail each session goes on to its end, in order
+/// of number.
 fn may_rise(step: Step, tail: &[Step]) -> bool
     requires { rises tail.now ≡ true }
     ensures { result ≡ rises (step ∷ tail.now) }

@@ -66,8 +66,8 @@ fn stands_at(rows: &[(Key, Row)], key: &Key, at: usize) -> bool
     at < rows.len() && is_same(&rows[at].0, key)
 }
 
-/// The place of a key's row, or else the place where it belongs. A search by halves, unless the key belongs before or
-/// behind all rows, or the identifiers of its entity follow one another.
+/// The place of a key's row, or else the place where it belongs. The rows must stand in order of keys. It is a search
+/// by halves, unless the key belongs before or behind all rows, or the identifiers of its entity follow one another.
 pub fn find(rows: &[(Key, Row)], key: &Key) -> Result<usize, usize>
     requires { in_order rows.now ≡ true }
     ensures place { result ≡ place_in rows.now key.now }

@@ -47,7 +47,8 @@ fn move_last(from: &mut Vec<(Key, Row)>, to: &mut Vec<(Key, Row)>)
     to.push_reserved(entry);
 }
 
-/// Moves the rows before the place whose keys come before this key, and that stand behind it.
+/// Moves the rows before the place whose keys come before this key, and that stand behind it. There must be room for
+/// them.
 fn gather_before(front: &mut Vec<(Key, Row)>, back: &mut Vec<(Key, Row)>, key: &Key)
     requires room { vec_len front.old + vec_len back.old ≤ vec_capacity front.old }
     ensures rows { joined front.new.items back.new.items ≡ joined front.old.items back.old.items }
@@ -61,7 +62,8 @@ fn gather_before(front: &mut Vec<(Key, Row)>, back: &mut Vec<(Key, Row)>, key: &
     }
 }
 
-/// Moves the rows behind the place whose keys don't come before this key, and that stand before it.
+/// Moves the rows behind the place whose keys don't come before this key, and that stand before it. There must be room
+/// for them.
 fn give_behind(front: &mut Vec<(Key, Row)>, back: &mut Vec<(Key, Row)>, key: &Key)
     requires ordered { in_order (joined front.old.items back.old.items) ≡ true }
     requires next { ends_before back.old.items key.now ≡ false }

@@ -15,8 +15,8 @@ use hib_engines::Name;
 use hib_journal::Journal;
 use std::alloc::{AllocError, Global};
 
-/// The act that is due, twice: once for each list. It makes room in both lists for its entry, and makes the session
-/// ready for it. What the lists have stays.
+/// The act that is due, twice: once for each list. An act must be due. Room is made in both lists for its entry, and
+/// the session is made ready for it. What the lists have stays.
 pub fn prepared<N: Name>(
     alloc: Global,
     script: &Script,

@@ -24,7 +24,7 @@ use hib_journal::part_of;
 use hib_outside::Keeper;
 use std::alloc::{AllocError, Global};
 
-/// The tick of a step: one more than the greater of the last ticks of its part and of its session. If there is no tick
+/// The tick of a step: one more than the greater of the last ticks of its part and of its session. If no tick comes
 /// after these, it fails as if memory had run out: no memory holds as many entries as that.
 fn tick_of(part: Tick, session: Tick) -> Result<Tick, AllocError>
     requires part { part ≤ 2 ^ 62 }
@@ -145,8 +145,8 @@ pub fn step_region<N: Name>(
     Ok(())
 }
 
-/// One act of a session that is its own: the session answers it at the tick after its last one. At an error its list is
-/// as before.
+/// One act of a session that it answers itself, at the tick after its last one. It must be due in it. At an error its
+/// list is as before.
 pub fn step_own<N: Name>(
     alloc: Global,
     script: &Script,
@@ -180,7 +180,7 @@ fn place_of<N: Name>(regions: &[RegionPart<N>], entity: EntityNo) -> Option<usiz
     None
 }
 
-/// One act of a session on the region of this entity; for `step_on`.
+/// One act of a session, which must be due on the region of this entity; for `step_on`.
 fn step_regions<N: Name>(
     alloc: Global,
     script: &Script,

@@ -194,7 +194,8 @@ impl<N: Name> Worker<N> {
         Ok(())
     }
 
-    /// Makes ready, and takes the entry of the act that is due. If memory runs out its entries are as before.
+    /// Makes ready, and takes the entry, which must be that of the act that is due. If memory runs out its entries are
+    /// as before.
     pub fn take(&mut self, alloc: Global, script: &Script, entry: Entry) -> Result<(), AllocError>
         requires script { script.now ≡ N.script }
         requires due { IsDueEntry N.script self.old.number self.old.list entry }

@@ -39,7 +39,7 @@ impl Model for Index {
 }
 
 impl Index {
-    /// The index of rows in order of keys. Fails for want of memory alone.
+    /// The index of these rows, which must stand in order of keys. Fails for want of memory alone.
     pub fn build(alloc: Global, rows: Rows) -> Result<Index, AllocError>
         requires { in_order rows ≡ true }
         ensures { IfOk result (λ index. index ≡ rows) }

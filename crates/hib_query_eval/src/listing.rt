@@ -11,9 +11,9 @@ use crate::{conditions, orders};
 use hib_base::{Cell, Key, Listing, Query, Row, Rows, Select};
 use std::alloc::{AllocError, Global};
 
-/// What a query gives over rows in order of keys: of the rows of its entity that meet its condition the count; or else,
-/// in its order and cut by its offset and limit, their identifiers or the cells of a column. An identifier of 2^63 or
-/// more, which no cell holds, finds no memory either.
+/// What a query gives over rows, which must stand in order of keys: of the rows of its entity that meet its condition
+/// the count; or else, in its order and cut by its offset and limit, their identifiers or the cells of a column. An
+/// identifier of 2^63 or more, which no cell holds, is answered as want of memory.
 #[tactic(auto, unfolding(hib_journal::specs::Query::gives))]
 pub fn gives(alloc: Global, query: &Query, rows: &Rows) -> Result<Listing, AllocError>
     requires { in_order rows.now ≡ true }

@@ -37,8 +37,8 @@ fn met_of<'a>(
     Ok(met)
 }
 
-/// The rows of an entity that meet a condition, if there is one, of rows in order of keys. Fails for want of memory
-/// alone.
+/// Of rows, which must stand in order of keys, those of an entity that meet a condition, if there is one. Fails for
+/// want of memory alone.
 pub fn rows_met<'a>(
     alloc: Global,
     entity: EntityNo,

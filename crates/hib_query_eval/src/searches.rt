@@ -177,7 +177,7 @@ fn listed_early<'a>(
     Ok(Some(met))
 }
 
-/// The place of a key's row among rows, or where it belongs.
+/// The place of a key's row, or where it belongs, among rows that must stand in order of keys.
 fn place(rows: &[(Key, Row)], key: Key) -> usize
     requires { in_order rows.now ≡ true }
     ensures within { result ≤ length rows.now }
@@ -222,7 +222,8 @@ pub fn of_entity(rows: &[(Key, Row)], entity: EntityNo) -> &[(Key, Row)]
     }
 }
 
-/// Of rows in order those that a query lists. If a number is enough, perhaps no more than that.
+/// Of rows, which must stand in order of keys, those that a query lists. If a number is enough, perhaps no more than
+/// that.
 pub fn listed<'a>(
     alloc: Global,
     query: &Query,

@@ -132,7 +132,7 @@ pub fn lock(front: &mut Part, back: &mut Part, id: u64, now: Tick, timeout: u32)
     }
 }
 
-/// Lets one holder of a held lock go.
+/// Lets one holder of a lock go. Somebody must hold it.
 pub fn release(front: &mut Part, back: &mut Part, id: u64, now: Tick)
     requires { is_held (shown_in (lookup (nat_eq id)
         (queued front.old.entries back.old.entries))) ≡ true }

@@ -98,7 +98,7 @@ impl RwRegion {
         Some(Some(victim))
     }
 
-    // Places a slot on a new key, and then lets the other leave, if one has to.
+    // Places a slot on a new key, and then lets the other leave, if one has to. That must be another key.
     fn place(&mut self, id: u64, slot: Slot, evicted: Option<u64>) -> Result<(), AllocError>
         requires { option_map_or (λ v. v == id) evicted false ≡ false }
         ensures ok { OnOk result (self.new ≡ with_slot id slot (without evicted self.old)) }
@@ -111,7 +111,7 @@ impl RwRegion {
         Ok(())
     }
 
-    // Places an item on a new key, if there is room. Answers the room.
+    // Places an item on a key, which must have no slot, if there is room. Answers the room.
     fn place_item(
         &mut self,
         id: u64,

@@ -129,7 +129,7 @@ pub fn lock(slots: &mut IndexMap<u64, Slot>, id: u64, now: Tick, timeout: u32) -
     Some(slot.lock(now, timeout))
 }
 
-/// Lets one holder of a held lock go.
+/// Lets one holder of a lock go. Somebody must hold it.
 pub fn release(slots: &mut IndexMap<u64, Slot>, id: u64, now: Tick)
     requires { is_held (shown_in (lookup (nat_eq id) slots.old.entries)) ≡ true }
     ensures { slots.new.entries ≡ changed id (released now) slots.old.entries }

@@ -112,8 +112,8 @@ impl Instances {
         &self.map
     }
 
-    /// An instance that has nothing pending arrives, in the place of one of the same key. At an error nothing has
-    /// changed.
+    /// An instance arrives, in the place of one of the same key. It must have nothing pending, and not be marked. At an
+    /// error nothing has changed.
     pub fn arrive(&mut self, key: &Key, held: Held) -> Result<(), AllocError>
         requires clean { is_pending (Some held) ≡ false }
         requires there { is_gone (Some held) ≡ false }
@@ -125,7 +125,8 @@ impl Instances {
         Ok(())
     }
 
-    /// An instance arrives, in the place of one of the same key. At an error nothing has changed.
+    /// An instance arrives, in the place of one of the same key. It must not be marked. At an error nothing has
+    /// changed.
     pub fn make(&mut self, key: &Key, held: Held) -> Result<(), AllocError>
         requires { is_gone (Some held) ≡ false }
         ensures ok { OnOk result (self.new

@@ -140,7 +140,8 @@ impl Memory {
         self.clear(alloc);
     }
 
-    /// An insert was written: the instance stands for the written row from now on. It takes no memory.
+    /// Notes an insert that was written: the instance stands for the written row from now on. There must be room for
+    /// it. It takes no memory.
     fn insert(&mut self, change: Change, key: &Key, base: Row)
         requires { self.old.room ≡ true }
         ensures { self.new ≡ record self.old {
@@ -158,7 +159,8 @@ impl Memory {
         self.instances.set_base(key, base);
     }
 
-    /// An update was written: the instance stands for the written row from now on. It takes no memory.
+    /// Notes an update that was written: the instance stands for the written row from now on. There must be room for
+    /// it. It takes no memory.
     fn update(&mut self, change: Change, key: &Key, base: Row)
         requires { self.old.room ≡ true }
         ensures { self.new ≡ record self.old {
@@ -174,7 +176,7 @@ impl Memory {
         self.instances.set_base(key, base);
     }
 
-    /// A delete was written: the instance leaves. It takes no memory.
+    /// Notes a delete that was written: the instance leaves. There must be room for it. It takes no memory.
     fn delete(&mut self, change: Change, key: &Key)
         requires { self.old.room ≡ true }
         ensures { self.new ≡ record self.old {
@@ -246,7 +248,7 @@ impl Memory {
         put(&mut self.locks, key, lock);
     }
 
-    /// Notes a change that was written. If the copies of it are there, it takes no memory.
+    /// Notes a change that was written. There must be room for it. If its copies are there, it takes no memory.
     fn write_copied(
         &mut self,
         alloc: Global,

@@ -38,7 +38,7 @@ impl<N: Name> Model for Ended<N> {
 }
 
 impl<N: Name> Ended<N> {
-    /// What is left of a worker whose session is at its end.
+    /// What is left of a worker. Its session must be at its end.
     pub fn of(worker: Worker<N>) -> Ended<N>
         requires { next N.script worker.number worker.list ≡ None }
         ensures number { result.number ≡ worker.number }

@@ -73,7 +73,7 @@ fn place_of<N: Name>(regions: &[LockedRegion<N>], entity: EntityNo) -> Option<us
     None
 }
 
-/// One act of a session on the region of this entity, under the region's lock.
+/// One act of a session, which must be due on the region of this entity, under the region's lock.
 pub fn step_under_lock<R: Wait, N: Name>(
     rt: &R,
     alloc: Global,

@@ -57,7 +57,7 @@ pub fn cells(alloc: Global, tokens: &[Token]) -> Result<Option<Cells>, AllocErro
     Ok(Some(Cells::from_vec(cells)?))
 }
 
-/// Whether each cell has the type of its column.
+/// Whether each cell has the type of its column. There must be as many cells as columns.
 #[tactic(auto, using(crate::proofs::Cells::typed_next, crate::proofs::Cells::typed_done))]
 pub fn are_typed(columns: &[ColumnDef], cells: &[Cell]) -> bool
     requires { length columns.now ≡ length cells.now }

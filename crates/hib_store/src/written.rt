@@ -44,7 +44,7 @@ pub fn lay(
     written[index].lay(alloc, query)
 }
 
-/// Adds the first change of a session that has none.
+/// Adds the first change of a session, which must have none.
 fn add_first(
     alloc: Global,
     written: &mut Written,

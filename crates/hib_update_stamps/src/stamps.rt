@@ -32,8 +32,8 @@ impl Stamps {
         })
     }
 
-    /// Stamps tables that are about to change with a time that the change will not outlast: the present tick and
-    /// the timeout. Answers that stamp.
+    /// Stamps tables that are about to change with a time that the change will not outlast: the present tick and the
+    /// timeout. The tables must be among those that it was opened for. Answers that stamp.
     pub fn pre(&mut self, tables: &[EntityNo], timeout: u32, now: Tick) -> Tick
         requires tables { All (λ t. t < length self.old) tables.now }
         requires now { now ≤ 2 ^ 62 }
@@ -45,7 +45,8 @@ impl Stamps {
         time
     }
 
-    /// Stamps tables that have changed with the present tick. Answers that stamp.
+    /// Stamps tables that have changed with the present tick. They must be among those that it was opened for. Answers
+    /// that stamp.
     pub fn stamp(&mut self, tables: &[EntityNo], now: Tick) -> Tick
         requires tables { All (λ t. t < length self.old) tables.now }
         requires now { now ≤ 2 ^ 62 }
