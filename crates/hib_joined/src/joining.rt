@@ -40,7 +40,8 @@ fn join(alloc: Global, lists: &Lists, mine: &Lists) -> Joined
     }
 }
 
-/// The same, unless a lock gave another region than the one that was asked for, or memory ran out in the run.
+/// Joins the lists of a run as `join` does, unless a lock gave another region than the one that was asked for, or
+/// memory ran out in the run.
 pub fn join_unless(
     alloc: Global,
     strange: &Option<(EntityNo, EntityNo)>,

@@ -58,7 +58,7 @@ fn read_named(
     Ok(())
 }
 
-// The same; the map of the script's session names is made here.
+// Adds an entry for each line to a journal, which must be empty. The map of the script's session names is made for it.
 fn read_lines(
     alloc: Global,
     script: &Script,

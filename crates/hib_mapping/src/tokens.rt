@@ -50,7 +50,7 @@ pub fn word_bytes(token: &Token) -> &[u8]
     }
 }
 
-/// The same as a text of its own. Fails for want of memory alone.
+/// The bytes of a word as a text of its own; no bytes of another token. Fails for want of memory alone.
 pub fn word(alloc: Global, token: &Token) -> Result<Text, AllocError>
     ensures { IfOk result (λ w. w ≡ parts.word_of token.now) }
 {

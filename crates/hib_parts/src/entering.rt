@@ -77,8 +77,9 @@ pub fn enter_both<N: Name>(
     Ok(())
 }
 
-/// The same, with the reply once. It answers Ok if the session is ready and the reply owns no memory, unless the act
-/// brings something to the session.
+/// Adds the entry of the act that is due to both lists, or to neither, and copies the reply for that. Both must have
+/// room for it. It answers Ok if the session is ready and the reply owns no memory, unless the act brings something to
+/// the session.
 pub fn enter_answer<N: Name>(
     alloc: Global,
     script: &Script,

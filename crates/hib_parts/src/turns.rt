@@ -59,7 +59,8 @@ pub fn step_registry<N: Name>(
     Ok(())
 }
 
-/// The same on the store. At an error the keeper may have been asked all the same.
+/// One act of a session on the store, which must be due in it, at the tick that is due; its entry goes to both lists.
+/// At an error both lists are as before, though the keeper may have been asked.
 pub fn step_store<K: Keeper, N: Name>(
     alloc: Global,
     script: &Script,
@@ -83,7 +84,8 @@ pub fn step_store<K: Keeper, N: Name>(
     Ok(())
 }
 
-/// The same on the stamps.
+/// One act of a session on the stamps, which must be due in it, at the tick that is due; its entry goes to both lists.
+/// At an error both lists are as before.
 pub fn step_stamps<N: Name>(
     alloc: Global,
     script: &Script,
@@ -103,7 +105,8 @@ pub fn step_stamps<N: Name>(
     Ok(())
 }
 
-/// The same on the results.
+/// One act of a session on the kept results, which must be due in it, at the tick that is due; its entry goes to both
+/// lists. At an error both lists are as before.
 pub fn step_results<N: Name>(
     alloc: Global,
     script: &Script,
@@ -123,7 +126,8 @@ pub fn step_results<N: Name>(
     Ok(())
 }
 
-/// The same on this region.
+/// One act of a session on this region, which must be due in it, at the tick that is due; its entry goes to both lists.
+/// At an error both lists are as before.
 pub fn step_region<N: Name>(
     alloc: Global,
     script: &Script,

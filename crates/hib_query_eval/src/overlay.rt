@@ -30,7 +30,7 @@ pub fn gives(
     given(alloc, query, rows, columns)
 }
 
-/// The same if the changes touch a table that the query reads.
+/// What a query gives over rows with changes laid over them, if the changes touch a table that it reads.
 fn given_laid(
     alloc: Global,
     query: &Query,
@@ -50,7 +50,7 @@ fn given_laid(
     given_over(alloc, query, rows, columns, changes, &laid)
 }
 
-/// The same if they don't: what a query gives over rows as they are.
+/// What a query gives over rows as they are: no change touches a table that it reads.
 fn given(
     alloc: Global,
     query: &Query,
@@ -69,7 +69,7 @@ fn given(
     }
 }
 
-/// The same by all rows that it lists, or by as many as are enough.
+/// What a query gives over rows as they are, by all rows that it lists, or by as many as are enough.
 fn given_of_all(
     alloc: Global,
     query: &Query,
