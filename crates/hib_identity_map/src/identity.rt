@@ -1,4 +1,4 @@
-// The instances of a session by key, in order of arrival, which is the order in which a flush writes them.
+// The instances of a session by key, in order of arrival, and the order of removals: a flush goes by these.
 ghost use Rattle.std.specs.Prelude.{◌≡◌, ◌↔◌, ◌≢◌, ◌<◌, [], None, Some, false, IsTrue, OnOk, OnErr, length, slice_get, option_copied};
 ghost use Rattle.hib_identity_map.specs.Identity.{empty, faced, look_in, put_in, drop_in, add_in, change_in, written, as_removed, with_sets, remove_last};
 

@@ -1,4 +1,4 @@
-// What a keeper of tables is. The store works on one; a batch is the changes of a commit.
+// What a keeper of tables is: the store asks one for rows, and has it apply batches of changes.
 ghost use Rattle.std.specs.Prelude.{◌≡◌, ◌+◌, ◌≤◌, ◌<◌, ℕ, length, true, IfOk, IfSome};
 ghost use Rattle.std.specs.declared.option.Option.{Option};
 ghost use Rattle.hib_base.specs.Tables.{Tables, row_at, in_order};

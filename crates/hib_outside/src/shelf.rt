@@ -1,5 +1,5 @@
 // What is done to a shelf, which is rows in order of keys, as a keeper in memory has them: changes, one by one and in
-// batches, and copies. A batch is the changes of a commit.
+// batches, and copies.
 ghost use Rattle.std.specs.Map.{lookup};
 ghost use Rattle.std.specs.Prelude.{◌≡◌, ◌+◌, ◌≤◌, ◌<◌, ℕ, true, length, take, [], if◌then◌else◌, Some, None, IfOk, IfSome, OnOk, OnErr, vec_len, vec_capacity, option_copied};
 ghost use Rattle.hib_base.specs.Keys.{same_key};

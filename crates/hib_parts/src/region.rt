@@ -1,4 +1,4 @@
-// The region of an entity, with the list of its entries. hib_split keeps it behind a lock of its own.
+// The region of an entity as a part, with the list of its entries.
 ghost use Rattle.std.specs.Prelude.{◌≡◌, ◌<◌, ◌≤◌, ◌^◌, [], length, OnOk, OnErr};
 ghost use Rattle.hib_base.specs.declared.entries.Part.{Part};
 ghost use Rattle.hib_base.specs.declared.scripts.Strategy.{Strategy};

@@ -1,5 +1,4 @@
-// The registry as a part: which sessions are open, with the list of its entries. hib_split keeps it behind a lock of
-// its own.
+// The registry as a part: which sessions are open, with the list of its entries.
 ghost use Rattle.std.specs.Prelude.{◌≡◌, ◌≤◌, ◌^◌, [], OnOk, OnErr, Some};
 ghost use Rattle.hib_base.specs.declared.entries.Act.{Act};
 ghost use Rattle.hib_base.specs.declared.entries.Part.{Part};

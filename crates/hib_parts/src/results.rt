@@ -1,4 +1,4 @@
-// The kept results of queries as a part, with the list of their entries. hib_split keeps it behind a lock of its own.
+// The kept results of queries as a part, with the list of their entries.
 ghost use Rattle.std.specs.Prelude.{◌≡◌, ◌≤◌, ◌^◌, ℕ, Option, [], true, IfOk, OnOk, OnErr, unwrap_or};
 ghost use Rattle.std.specs.Option.{option_map_or};
 ghost use Rattle.hib_base.specs.declared.entries.Part.{Part};

@@ -1,4 +1,4 @@
-// The stamps of tables as a part, with the list of their entries. hib_split keeps it behind a lock of its own.
+// The stamps of tables as a part, with the list of their entries.
 ghost use Rattle.std.specs.Prelude.{◌≡◌, ◌≤◌, ◌^◌, [], IfOk, OnOk, OnErr};
 ghost use Rattle.hib_base.specs.declared.entries.Part.{Part};
 ghost use Rattle.hib_journal.specs.Kept.{past};

@@ -1,4 +1,4 @@
-// The store as a part, with the list of its entries. hib_split keeps it behind a lock of its own.
+// The store as a part, with the list of its entries.
 ghost use Rattle.std.specs.Prelude.{◌≡◌, ◌≤◌, ◌^◌, [], ◌∷◌, true, false, IfOk, IfErr, OnOk, OnErr};
 ghost use Rattle.std.specs.Option.{option_map};
 ghost use Rattle.hib_base.specs.declared.entries.Entry.{Entry};

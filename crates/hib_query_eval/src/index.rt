@@ -1,5 +1,5 @@
-// Rows, found by their keys and by their cells. hib_store makes an index of the committed rows, and each session's own
-// changes have one.
+// Rows, found by their keys and by their cells. There is an index of the committed rows in hib_store, and one of the
+// rows that a session's own changes leave.
 ghost use Rattle.std.specs.Prelude.{◌≡◌, ◌≢◌, [], true, map, IfOk, MatchOption};
 ghost use Rattle.hib_base.specs.Tables.{in_order, after_change, after_changes, commit_answer};
 ghost use Rattle.hib_journal.specs.Query.{gives};

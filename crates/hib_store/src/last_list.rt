@@ -1,5 +1,5 @@
-// The last list that a session with changes of its own was given, kept so that the same query, asked again at once,
-// isn't looked up again.
+// The last list that a session with changes of its own was given, kept so that the same query isn't looked up again if
+// it is asked again before anything is written.
 ghost use Rattle.std.specs.Prelude.{◌≡◌, true, IfOk, IfSome, Option};
 ghost use Rattle.hib_base.specs.Tables.{Tables};
 ghost use Rattle.hib_store.specs.Last.{Asks, Stands};
