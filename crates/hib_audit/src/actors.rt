@@ -1,4 +1,4 @@
-// Which acts no session does.
+// Which acts no session does: they come from outside.
 ghost use Rattle.std.specs.Prelude.{◌≡◌};
 ghost use Rattle.hib_journal.specs.Legal;
 

@@ -1,4 +1,4 @@
-// The audit of a journal.
+// The audit of a journal, which hib_top asks for `audit`, and hib_toolbox before it tells states.
 ghost use Rattle.std.specs.Prelude.{◌≡◌, ◌↔◌, ◌<◌, ◌^◌, [], length, reverse, true, IfOk, Some};
 ghost use Rattle.hib_base.specs.Valid.{is_valid};
 ghost use Rattle.hib_journal.specs.Kept.{past};

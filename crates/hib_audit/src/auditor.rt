@@ -1,4 +1,5 @@
-// What is kept of the entries so far, and one entry more.
+// What is kept of the entries so far, and whether one entry more is legal over them. To take an entry is to follow it:
+// its session, the engines and the last ticks are brought to where it leaves them.
 ghost use Rattle.std.specs.Prelude.{◌≡◌, ◌↔◌, ◌≤◌, ◌<◌, ◌^◌, [], IsTrue, length, true, IfOk, Some, None};
 ghost use Rattle.hib_base.specs.Valid.{is_valid};
 ghost use Rattle.hib_base.specs.declared.entries.Act.{Act};
@@ -41,8 +42,8 @@ impl Model for Auditor {
     } };
 }
 
-/// Whether the reply of an entry of a session, whose act is due, is one that may be. If it is, the engines stand for
-/// the journal with the entry.
+/// Whether the reply of an entry of a session is one that may be: the one that is given, or a fault that may come. Its
+/// act must be due. If it is, the engines stand for the journal with the entry.
 fn answers(
     alloc: Global,
     script: &Script,
@@ -67,7 +68,7 @@ fn answers(
 }
 
 impl Auditor {
-    /// No entry came yet.
+    /// The auditor to which no entry came yet.
     pub fn open(alloc: Global, script: &Script) -> Result<Auditor, AllocError>
         requires { is_valid script.now ≡ true }
         ensures { IfOk result (λ a. Knows script.now (start_rows script.now) [] a) }
@@ -87,7 +88,7 @@ impl Auditor {
         })
     }
 
-    /// All is let go. The keeper of the engines has never failed.
+    /// Lets all go. The keeper of the engines has never failed.
     pub fn close(self)
         ensures { self.engines.store.faults ≡ 0 }
     {
@@ -100,7 +101,7 @@ impl Auditor {
         let _keeper = engines.close();
     }
 
-    /// Takes the entry of a session, whose act is due, if its reply may be.
+    /// Takes the entry of a session, if its reply may be. Its act must be due. Answers whether it was taken.
     fn take_session(
         &mut self,
         alloc: Global,
@@ -124,7 +125,8 @@ impl Auditor {
         Ok(true)
     }
 
-    /// Takes the entry of a kill, which may come, if its reply may be.
+    /// Takes the entry of a kill, if its reply may be. The kill must be one that may come. Answers whether it was
+    /// taken.
     fn take_kill(&mut self, session: SessionNo, entry: &Entry) -> bool
         requires by { entry.now.session ≡ None }
         requires act { entry.now.act ≡ Act.Kill session }
@@ -139,7 +141,7 @@ impl Auditor {
         true
     }
 
-    /// Takes the entry of a restart, if its reply may be.
+    /// Takes the entry of a restart, if its reply may be. Answers whether it was taken.
     fn take_restart(&mut self, entry: &Entry) -> bool
         requires by { entry.now.session ≡ None }
         requires act { entry.now.act ≡ Act.Restart }
@@ -154,7 +156,8 @@ impl Auditor {
         true
     }
 
-    /// Takes the entry of an eviction, which may come, if its reply may be.
+    /// Takes the entry of an eviction, if its reply may be. The eviction must be one that may come. Answers whether it
+    /// was taken.
     fn take_evict(&mut self, alloc: Global, key: Key, entry: &Entry) -> Result<bool, AllocError>
         requires late { entry.now.tick ≤ 2 ^ 62 }
         requires by { entry.now.session ≡ None }
@@ -169,7 +172,7 @@ impl Auditor {
         Ok(true)
     }
 
-    /// Takes an entry, whose act is due, if its reply may be.
+    /// Takes an entry, if its reply may be. Its act must be due. Answers whether it was taken.
     fn take(&mut self, alloc: Global, script: &Script, entry: &Entry) -> Result<bool, AllocError>
         requires { Comes script.now entry.now self.old }
         ensures { IfOk result (λ b. Takes b script.now entry.now self.old self.new) }
@@ -213,6 +216,7 @@ impl Auditor {
     }
 }
 
+/// Whether a reply is the one that a kill and a restart have.
 fn is_done(reply: &Reply) -> bool
     ensures { IsTrue result ↔ (reply.now ≡ Reply.Done) }
 {

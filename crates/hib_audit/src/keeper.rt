@@ -1,4 +1,4 @@
-// A keeper in memory that never fails.
+// A keeper in memory that never fails: the audit's engines stand over it, so that faults come from the journal alone.
 ghost use Rattle.std.specs.Prelude.{◌≡◌, [], Some};
 
 use hib_base::{Change, EntityNo, Key, Mapping, Row, Rows, Seq};

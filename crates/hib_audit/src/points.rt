@@ -1,4 +1,5 @@
-// The points of an entry, but for its tick and its reply.
+// The points of an entry, which an audit looks at one after the other, but for its tick and its reply, which stand in
+// `ticks` and `auditor`.
 ghost use Rattle.std.specs.Prelude.{◌≡◌, IfOk, IfSome, Some, None, if◌then◌else◌};
 ghost use Rattle.hib_base.specs.declared.entries.Act.{Act};
 ghost use Rattle.hib_journal.specs.Sessions.{Journal, own, is_open};
@@ -32,7 +33,7 @@ pub enum AuditKind {
     Reply,
 }
 
-/// The act that is due in a session of this number, if there is one and an act is due in it.
+/// The act that is due in the session of this number; none if there is no such session, or if nothing is due in it.
 fn session_act(
     alloc: Global,
     script: &Script,
@@ -63,8 +64,8 @@ fn outside_act(alloc: Global, act: &Act) -> Result<Option<Act>, AllocError>
     Ok(None)
 }
 
-/// The act that is due: of a session its next one, and without a session the entry's own, if no session does such an
-/// act.
+/// The act that is due: for an entry of a session its session's next one; for an entry without a session the entry's
+/// own, if no session does such an act.
 pub fn due_act(
     alloc: Global,
     script: &Script,
@@ -82,7 +83,7 @@ pub fn due_act(
     }
 }
 
-/// Whether an act may come: a kill is of an open session, and an eviction of a cached entity.
+/// Whether an act that is due may come: a kill must be of an open session, and an eviction of a cached entity.
 fn comes(script: &Script, registry: &Registry, act: &Act) -> bool
     ensures { (h : Journal) → IsRegistry registry.now h
         → may_come script.now h (Some act.now) ≡ (if result then Some act.now else None) }

@@ -1,4 +1,4 @@
-// When two acts, or two replies, are equal.
+// When two acts, or two replies, are equal: an entry's and the one that is due.
 ghost use Rattle.std.specs.Prelude.{◌≡◌, ◌↔◌, IsTrue};
 
 use hib_base::{Act, Reply};

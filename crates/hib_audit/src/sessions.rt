@@ -1,4 +1,4 @@
-// The sessions of an audit, and what each has written.
+// The sessions of an audit, and what each has written, as they follow the entries.
 ghost use Rattle.std.specs.Prelude.{◌≡◌, ◌∷◌, ◌<◌, [], length, IfOk, OnOk, Some, false};
 ghost use Rattle.hib_base.specs.declared.scripts.Script.{Script as Said};
 ghost use Rattle.hib_journal.specs.Sessions.{Journal, own, was_killed};
@@ -12,7 +12,7 @@ use hib_base::{Entry, Script, SessionNo};
 use hib_session::Session;
 use std::alloc::{AllocError, Global};
 
-/// What the sessions of a script have written: nothing.
+/// For each session of a script what it has written: nothing yet.
 pub fn open_written(alloc: Global, script: &Script) -> Result<Vec<Written>, AllocError>
     ensures { IfOk result (λ v. AreWritten script.now [] v.items) }
 {
@@ -23,7 +23,7 @@ pub fn open_written(alloc: Global, script: &Script) -> Result<Vec<Written>, Allo
     Ok(written)
 }
 
-/// The session of an entry takes it.
+/// Has the session of an entry take it. The entry must be its next one.
 pub fn advance(
     alloc: Global,
     script: &Script,
@@ -41,7 +41,7 @@ pub fn advance(
     sessions[number.0 as usize].advance(alloc, script, entry)
 }
 
-/// What the session of an entry has written, with the entry.
+/// Notes what the session of an entry has written with it.
 pub fn note_written(
     alloc: Global,
     written: &mut Vec<Written>,

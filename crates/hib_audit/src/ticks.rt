@@ -1,4 +1,4 @@
-// The last ticks of a journal, of its parts and of its sessions.
+// The last ticks of a journal, of its parts and of its sessions, by which an entry's tick is judged.
 ghost use Rattle.std.specs.Prelude.{◌≡◌, IfOk, length, slice_index, slice_set, replicate};
 ghost use Rattle.hib_audit.specs.Standing.{no_ticks, part_tick, session_tick, with_part, with_session, noted};
 
@@ -39,14 +39,14 @@ impl Model for Ticks {
     } };
 }
 
-/// The tick at a place, or 0.
+/// The tick at a place in a list, or 0.
 fn tick_at(ticks: &[Tick], at: usize) -> Tick
     ensures { result ≡ slice_index ticks.now at }
 {
     ticks.get(at).copied().unwrap_or(Tick(0))
 }
 
-/// Another tick at a place, if it is one.
+/// Puts another tick at a place of a list, if there is such a place.
 fn set_at(ticks: &mut Vec<Tick>, at: usize, tick: Tick)
     ensures { ticks.new.items ≡ slice_set ticks.old.items at tick }
 {
@@ -55,7 +55,7 @@ fn set_at(ticks: &mut Vec<Tick>, at: usize, tick: Tick)
     }
 }
 
-/// As many ticks, all of them 0.
+/// So many ticks, all of them 0.
 fn zeros(alloc: Global, count: usize) -> Result<Vec<Tick>, AllocError>
     ensures { IfOk result (λ v. v.items ≡ replicate count 0) }
 {
@@ -63,7 +63,7 @@ fn zeros(alloc: Global, count: usize) -> Result<Vec<Tick>, AllocError>
 }
 
 impl Ticks {
-    /// No entry came yet.
+    /// The last ticks before any entry.
     pub fn open(alloc: Global, script: &Script) -> Result<Ticks, AllocError>
         ensures { IfOk result (λ t. t ≡ no_ticks (length script.now.mapping)
             (length script.now.sessions)) }
@@ -83,6 +83,7 @@ impl Ticks {
         })
     }
 
+    /// The last tick of a part, or 0.
     fn of_part(&self, part: Part) -> Tick
         ensures { result ≡ part_tick self.now part }
     {
@@ -96,6 +97,7 @@ impl Ticks {
         }
     }
 
+    /// The last tick of a session, or 0.
     fn of_session(&self, session: Option<SessionNo>) -> Tick
         ensures { result ≡ session_tick self.now session }
     {
@@ -118,6 +120,7 @@ impl Ticks {
             && self.of_session(entry.session).0 < now
     }
 
+    /// Notes a tick as the last one of a part.
     fn note_part(&mut self, part: Part, tick: Tick)
         ensures { self.new ≡ with_part part tick self.old }
     {
@@ -131,6 +134,7 @@ impl Ticks {
         }
     }
 
+    /// Notes a tick as the last one of a session, if there is one.
     fn note_session(&mut self, session: Option<SessionNo>, tick: Tick)
         ensures { self.new ≡ with_session session tick self.old }
     {
@@ -139,7 +143,7 @@ impl Ticks {
         }
     }
 
-    /// Takes the tick of an entry, which is the last one now. It takes no memory.
+    /// Notes the tick of an entry as the last one. It takes no memory.
     pub fn note(&mut self, entry: &Entry)
         ensures { self.new ≡ noted entry.now self.old }
     {

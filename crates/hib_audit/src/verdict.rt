@@ -1,4 +1,4 @@
-// What an audit says.
+// What an audit says of a journal.
 use crate::points::AuditKind;
 
 /// What an audit says of a journal.

@@ -1,4 +1,4 @@
-// What a session has written.
+// What a session has written in its transaction, by which the audit knows where a fault may be answered.
 ghost use Rattle.std.specs.Prelude.{◌≡◌, ◌↔◌, IsTrue, [], Some, OnOk, List, if◌then◌else◌, true};
 ghost use Rattle.hib_base.specs.Keys.{same_key};
 ghost use Rattle.hib_base.specs.declared.replies.Reply.{Reply};
@@ -28,7 +28,7 @@ impl Model for Written {
     ghost view = { λ w. record { keys = w.keys.keys; any = w.any } };
 }
 
-/// Adds a key.
+/// Adds a key to those that are changed.
 fn add(keys: &mut HashSet<Key>, key: Key) -> Result<(), AllocError>
     ensures { OnOk result ((k : Rattle.hib_journal.specs.Types.Key)
         → has_key k keys.new.keys ≡ (if same_key key k then true else has_key k keys.old.keys)) }
@@ -54,8 +54,8 @@ impl Written {
         self.keys.contains(&key)
     }
 
-    /// Whether a fault may be the answer to an act: to a Load of a key that isn't changed, to a List, and to a Commit
-    /// of some changes.
+    /// Whether this reply to an act is a fault that may be: to a Load of a key that isn't changed, to a List, or to a
+    /// Commit of some changes.
     pub fn may_fail(&self, act: &Act, reply: &Reply) -> bool
         ensures { (cs : List Change) → HasWritten cs self.now → IsTrue result
             ↔ (fault_of cs act.now ≡ Some reply.now) }
@@ -68,7 +68,7 @@ impl Written {
         }
     }
 
-    /// Takes an act of the session.
+    /// Notes an act of the session.
     pub fn note(&mut self, alloc: Global, act: &Act) -> Result<(), AllocError>
         ensures { OnOk result ((cs : List Change) → HasWritten cs self.old
             → HasWritten (changes_after act.now cs) self.new) }

@@ -1,4 +1,4 @@
-// What a session holds of a row.
+// What a session holds of a row: an instance.
 use crate::rows::Row;
 
 /// What is to become of an instance.

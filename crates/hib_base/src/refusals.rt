@@ -1,4 +1,4 @@
-// Why a text is no script.
+// Why a text is no script, no section or no journal: what may be wrong with a line, and the first line with a fault.
 ghost use Rattle.std.specs.Prelude.{◌≡◌};
 ghost use Rattle.hib_base.specs.Kinds.{kind_word};
 

@@ -1,4 +1,4 @@
-// Cells, rows and changes.
+// Cells, rows and changes, and copies of them. Cells are shared: a copy takes no memory as a rule.
 ghost use Rattle.std.specs.Prelude.{◌≡◌, IfOk, IfErr, OnOk, OnErr, option_copied, set};
 ghost use Rattle.hib_base.specs.Sets.{with_cells};
 ghost use Rattle.hib_base.specs.Tables.{key_of, row_left};
@@ -103,6 +103,7 @@ pub fn copy_cells(alloc: Global, cells: &Cells) -> Result<Cells, AllocError>
     }
 }
 
+/// Puts a cell at its place, if there is such a place.
 fn put_cell(cells: &mut [Cell], place: usize, cell: Cell)
     ensures { cells.new ≡ set cells.old place cell }
 {
@@ -111,6 +112,7 @@ fn put_cell(cells: &mut [Cell], place: usize, cell: Cell)
     }
 }
 
+/// Puts each cell at its place, if there is such a place.
 fn put_cells(cells: &mut [Cell], sets: Sets)
     ensures { cells.new ≡ with_cells sets cells.old }
 {
@@ -119,7 +121,7 @@ fn put_cells(cells: &mut [Cell], sets: Sets)
     }
 }
 
-/// Sets cells of a list that has one owner. Of another list the sets are handed back.
+/// Sets cells of a list, if it has one owner. Else the sets are handed back.
 fn set_alone(cells: &mut Cells, sets: Sets) -> Result<(), Sets>
     ensures ok { OnOk result (cells.new ≡ with_cells sets cells.old) }
     ensures err { OnErr result (cells.new ≡ cells.old) }

@@ -1,4 +1,5 @@
-// A list with several owners, which contracts see as a list.
+// A list with several owners, which contracts see as a list. Cells and lists of queries are such, so a copy takes no
+// memory.
 ghost use Rattle.std.specs.Prelude.{◌≡◌, ◌↔◌, IsTrue, ◌<◌, [], length, slice_get, IfOk, Some};
 
 use std::alloc::{AllocError, Global};

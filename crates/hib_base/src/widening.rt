@@ -1,4 +1,5 @@
-// Rows that were kept before columns were added, and the cells that they get in these.
+// Rows that were kept before columns were added, and the cells that they get in these: keepers widen them so when they
+// are seeded.
 ghost use Rattle.std.specs.List.{list_all, list_any};
 ghost use Rattle.std.specs.Prelude.{◌≡◌, ◌++◌, [], IfOk, OnOk};
 ghost use Rattle.hib_base.specs.Fits as fits;
@@ -32,6 +33,7 @@ pub fn has_defaults(columns: &[ColumnDef]) -> bool
     columns.iter().any(has_default)
 }
 
+/// Whether each of these columns has a default.
 fn have_defaults(columns: &[ColumnDef]) -> bool
     ensures { result ≡ list_all fits.has_default columns.now }
 {

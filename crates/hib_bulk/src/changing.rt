@@ -1,4 +1,4 @@
-// What a line makes of the rows that it finds.
+// What a bulk line makes of the rows that meet its condition.
 ghost use Rattle.std.specs.Prelude.{◌≡◌, map, IfOk};
 ghost use Rattle.hib_journal.specs.Held.{next_version};
 ghost use Rattle.hib_bulk_law.specs.Rows.{row_after, change_to};
@@ -7,7 +7,7 @@ use hib_base::{Change, Changes, Key, Row, Seq, copy_cells, copy_sets, set_cells}
 use hib_bulk_law::{BulkChange, BulkDef};
 use std::alloc::{AllocError, Global};
 
-/// The version after one more change.
+/// The version of a row after one more change; it stays at the greatest.
 fn version_after(version: Option<u32>) -> Option<u32>
     ensures { result ≡ next_version version }
 {
@@ -18,7 +18,7 @@ fn version_after(version: Option<u32>) -> Option<u32>
     }
 }
 
-/// A row's change by a line: an update to the row with the cells set and the next version, or a delete.
+/// A row's change by a bulk line: an update to the row with the cells set and the next version, or a delete.
 fn change_of(alloc: Global, change: &BulkChange, key: Key, row: &Row) -> Result<Change, AllocError>
     ensures { IfOk result (λ c. c
         ≡ change_to (row_after change.now row.now) key row.now.version) }
@@ -43,7 +43,7 @@ fn change_of(alloc: Global, change: &BulkChange, key: Key, row: &Row) -> Result<
     }
 }
 
-/// The changes of rows by a line, in their order. Fails for want of memory alone.
+/// The changes of rows by a bulk line, in their order. Fails for want of memory alone.
 pub fn changes_of(
     alloc: Global,
     line: &BulkDef,

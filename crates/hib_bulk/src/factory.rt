@@ -1,4 +1,5 @@
-// The factory with bulk lines: sessions and lines over shared parts, with the journal of their steps.
+// The factory of `bulk`, which hib_section_calls opens and plays: sessions and bulk lines over shared parts, with the
+// journal of their steps. A line is here a bulk line, and is numbered after the sessions.
 ghost use Rattle.std.specs.Prelude.{◌≡◌, ◌≢◌, ◌≤◌, ◌+◌, ◌<◌, ◌^◌, [], ◌∷◌, ℕ, true, false, length, slice_get, Ok, Some};
 ghost use Rattle.std.specs.Prelude.{None, IfOk, IfErr};
 ghost use Rattle.hib_outside.specs.Causes.{Rose};
@@ -136,8 +137,8 @@ impl<K: Keeper, N: Name> BulkFactory<K, N> {
         }
     }
 
-    /// One step of a session or a line: the act that is due in it, if one is. Lines are numbered after the sessions. If
-    /// memory runs out no entry is added, and nothing has changed but the keeper's counts; so a later call may succeed.
+    /// One step of a session or a line: the act that is due in it, if one is. If memory runs out no entry is added, and
+    /// nothing has changed but the keeper's counts; so a later call may succeed. There must be one of this number.
     pub fn step(&mut self, alloc: Global, number: SessionNo) -> Result<Stepped, AllocError>
         requires known { number < length N.script.sessions + length N.lines }
         ensures did { result ≡ Ok Stepped.Did
@@ -157,7 +158,7 @@ impl<K: Keeper, N: Name> BulkFactory<K, N> {
         stepped
     }
 
-    /// The journal obeys the law.
+    /// Says to proofs that the journal obeys the law. It does nothing.
     pub fn lawful(&self)
         ensures legal { IsLegal N.script N.lines N.from.tables (past self.now.journal) }
         ensures law { Obeys N.script N.lines N.from.tables (past self.now.journal) }
@@ -214,14 +215,15 @@ impl<K: Keeper, N: Name> BulkFactory<K, N> {
         *self.bulks.orders.at(at)
     }
 
-    /// The journal is short. It does nothing.
+    /// Says to proofs that the journal is short. It does nothing.
     pub fn short(&self)
         ensures { length (past self.now.journal) ≤ 2 ^ 62 }
     {
         let _ = self.journal.len();
     }
 
-    /// The keeper, the script, the lines with their orders, and the journal, with what the factory promises of them.
+    /// Takes the factory apart: the keeper, the script, the lines with their orders, and the journal, with what the
+    /// factory promises of them.
     pub fn close(self) -> (K, Script, Bulks, Bulked)
         ensures script { result.1 ≡ N.script }
         ensures lines { result.2.lines ≡ N.lines }

@@ -5,7 +5,7 @@ use hib_bulk_law::BulkEntry;
 use std::alloc::{AllocError, Global};
 use std::marker::Model;
 
-/// No memory holds more entries.
+/// The greatest number of entries. No memory holds more; so no tick runs over.
 const MOST: usize = 1 << 62;
 
 /// The entries of a run with bulk lines, the oldest first. They are only added to. Room for the next one is made before
@@ -57,7 +57,7 @@ impl Bulked {
         self.entries.reserve(1)
     }
 
-    /// Adds an entry at the end, for which there is room. It takes no memory.
+    /// Adds an entry at the end. There must be room for it. It takes no memory.
     #[tactic(auto, unfolding(crate::specs::Kept::past))]
     pub fn push(&mut self, entry: BulkEntry)
         requires { 0 < self.old.spare }

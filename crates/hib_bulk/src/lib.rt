@@ -1,5 +1,5 @@
-//! Bulk changes: sessions over shared parts, and lines that change the rows which meet a condition under a lock on a
-//! whole region.
+//! Bulk changes: sessions over shared parts, and bulk lines, each of which changes the rows that meet a condition under
+//! a lock on a whole region.
 #![tactic(auto)]
 
 mod changing;

@@ -1,4 +1,5 @@
-// One turn of a bulk line: its next act is answered by a part, and the entry added.
+// One turn of a bulk line: its next act is answered by a part, and the entry added. Its acts are at most five: it
+// begins, locks the region, changes the rows, gives the region back, and ends.
 ghost use Rattle.std.specs.Prelude.{◌≡◌, ◌≢◌, ◌≤◌, ◌<◌, ◌+◌, ◌^◌, ◌||◌, ℕ, Bool, true, false, slice_get, length};
 ghost use Rattle.std.specs.Prelude.{nat_lt, Ok, None, Some, Option, List, IfOk, OnErr};
 ghost use Rattle.hib_base.specs.Tables.{Tables};
@@ -48,7 +49,7 @@ fn is_cached(script: &Script, entity: EntityNo) -> bool
     }
 }
 
-/// The act of a line that has done `steps` acts; none if it is at its end.
+/// The act that is next in a line which has done `steps` acts; none if it is at its end.
 fn act_of_line(script: &Script, line: &BulkDef, number: SessionNo, steps: u8) -> Option<BulkAct>
     ensures act { result ≡ slice_get (acts_of script.now number line.now) steps }
     ensures few { (a : Doing) → result ≡ Some a → steps < 5 }
@@ -65,7 +66,7 @@ fn act_of_line(script: &Script, line: &BulkDef, number: SessionNo, steps: u8) ->
     }
 }
 
-/// The part of an act of a line.
+/// The part that answers an act of a line.
 fn part_of(act: &BulkAct) -> Part
     ensures { (d : LineSpec) (script : Said) (s n : ℕ)
         → slice_get (acts_of script s d) n ≡ Some act.now → result ≡ part_by act.now s }
@@ -78,7 +79,7 @@ fn part_of(act: &BulkAct) -> Part
     }
 }
 
-/// Whether a change was answered by a fault.
+/// Whether this act is the change, and was answered by a fault.
 fn has_failed(act: &BulkAct, reply: &BulkReply) -> bool
     ensures { result ≡ fails act.now reply.now }
 {
@@ -88,7 +89,7 @@ fn has_failed(act: &BulkAct, reply: &BulkReply) -> bool
     }
 }
 
-/// With what a line ends.
+/// The outcome with which a line ends, by whether its change was answered by a fault.
 fn outcome(failed: bool) -> Outcome
     ensures { result ≡ outcome_of failed }
 {
@@ -100,7 +101,7 @@ fn outcome(failed: bool) -> Outcome
 }
 
 impl<K: Keeper> BulkParts<K> {
-    /// A line locks the region of an entity. It takes no memory.
+    /// Locks the region of an entity for a line. It takes no memory.
     fn lock_all(&mut self, entity: EntityNo) -> BulkReply
         requires { held_by (region_of self.old.regions entity) < 2 ^ 62 }
         ensures reply { result ≡ Replied.Held (held_by (region_of self.new.regions entity)) }
@@ -117,7 +118,7 @@ impl<K: Keeper> BulkParts<K> {
         BulkReply::Held { holders: 0 }
     }
 
-    /// A line gives the region of an entity back. It takes no memory.
+    /// Gives the region of an entity back for a line. A line must hold it. It takes no memory.
     fn unlock_all(&mut self, entity: EntityNo, now: Tick) -> BulkReply
         requires { 1 ≤ held_by (region_of self.old.regions entity) }
         ensures reply { result ≡ Replied.Released (held_by (region_of self.new.regions entity)) }
@@ -134,7 +135,7 @@ impl<K: Keeper> BulkParts<K> {
         BulkReply::Released { holders: 0 }
     }
 
-    /// The answer of the registry to the Begin of a line.
+    /// Has the registry answer the Begin of a line.
     fn begin_line(&mut self, number: SessionNo, now: Tick) -> Result<BulkReply, AllocError>
         ensures answered { IfOk result (λ r. (script : Said) (lines : List LineSpec)
             (told : Option Tables) (h : Past) (d : LineSpec) (steps : ℕ) (failed : Bool)
@@ -151,7 +152,7 @@ impl<K: Keeper> BulkParts<K> {
         Ok(BulkReply::Plain(reply))
     }
 
-    /// A line ends: with a fault if its change was answered by one. It takes no memory.
+    /// Ends a line: with a fault if its change was answered by one. It takes no memory.
     fn end_line(&mut self, number: SessionNo, failed: bool, now: Tick) -> BulkReply
         ensures answered { (script : Said) (lines : List LineSpec)
             (told : Option Tables) (h : Past) (d : LineSpec) (steps : ℕ)
@@ -169,7 +170,7 @@ impl<K: Keeper> BulkParts<K> {
         })
     }
 
-    /// The answer to the Begin or the End of a line.
+    /// Answers the Begin or the End of a line.
     fn own_line(
         &mut self,
         number: SessionNo,
@@ -194,7 +195,7 @@ impl<K: Keeper> BulkParts<K> {
         }
     }
 
-    /// The answer of a region to the lock of a line.
+    /// Has a region answer the lock of a line.
     fn lock_line(&mut self, entity: EntityNo, number: SessionNo, now: Tick) -> BulkReply
         requires { held_by (region_of self.old.regions entity) < 2 ^ 62 }
         ensures answered { (script : Said) (lines : List LineSpec)
@@ -211,7 +212,7 @@ impl<K: Keeper> BulkParts<K> {
         self.lock_all(entity)
     }
 
-    /// The answer of a region to a line that gives it back.
+    /// Has a region answer a line that gives it back.
     fn unlock_line(&mut self, entity: EntityNo, number: SessionNo, now: Tick) -> BulkReply
         requires { 1 ≤ held_by (region_of self.old.regions entity) }
         ensures answered { (script : Said) (lines : List LineSpec)
@@ -228,8 +229,8 @@ impl<K: Keeper> BulkParts<K> {
         self.unlock_all(entity, now)
     }
 
-    /// The answer of the store to the change of a line. A fault is answered only if the keeper failed in this call. At
-    /// an error the parts are as before, but for the keeper's counts.
+    /// Has the store answer the change of a line. A fault is answered only if the keeper failed in this call. At an
+    /// error the parts are as before, but for the keeper's counts.
     fn change_line(
         &mut self,
         alloc: Global,
@@ -254,8 +255,8 @@ impl<K: Keeper> BulkParts<K> {
         change_rows(alloc, &mut self.store, line)
     }
 
-    /// The answer to the act that is due in a line, at this tick. A fault is answered only if the keeper failed in this
-    /// call. At an error the parts are as before, but for the keeper's counts.
+    /// Answers the act that is due in a line, at this tick. A fault is answered only if the keeper failed in this call.
+    /// At an error the parts are as before, but for the keeper's counts.
     fn answer_line(
         &mut self,
         alloc: Global,

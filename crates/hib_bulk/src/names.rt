@@ -1,4 +1,4 @@
-// Which run with bulk lines it is.
+// What a run with bulk lines was opened with, for contracts.
 use std::marker::Brand;
 
 /// Which factory with bulk lines it is: what it was opened with. Contracts alone see it.

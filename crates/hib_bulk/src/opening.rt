@@ -1,4 +1,5 @@
-// What a factory with bulk lines begins with.
+// What a factory with bulk lines begins with: empty regions, the engines of the other parts, and lines that have done
+// nothing.
 ghost use Rattle.std.specs.Prelude.{◌≡◌, ◌≤◌, ◌<◌, ◌^◌, [], true, map, length, ℕ, List, IfOk, IfErr, IfSome};
 ghost use Rattle.hib_base.specs.Tables.{in_order};
 ghost use Rattle.hib_outside.specs.Causes.{Rose};
@@ -33,7 +34,7 @@ fn open_regions(alloc: Global, script: &Script) -> Result<Vec<EntityRegion>, All
     Ok(regions)
 }
 
-/// How far each line has come that has done nothing. Fails for want of memory alone.
+/// Says of each line that it has done nothing. Fails for want of memory alone.
 pub fn open_lines(alloc: Global, lines: &[BulkDef]) -> Result<Vec<LineProgress>, AllocError>
     ensures { IfOk result (λ v. v.items ≡ map fresh lines.now) }
 {

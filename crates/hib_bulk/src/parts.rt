@@ -1,4 +1,5 @@
-// The parts of a run with bulk lines, and what they answer.
+// The parts of a run with bulk lines, and what they answer to the acts of its sessions; what they answer to lines
+// stands in `lines`.
 ghost use Rattle.std.specs.Prelude.{◌≡◌, ◌≤◌, ◌<◌, ◌^◌, ◌∷◌, ◌+◌, [], ℕ, List, length, true, false, IfOk, IfSome, OnOk};
 ghost use Rattle.std.specs.Prelude.{OnErr, Option, Some, None};
 ghost use Rattle.hib_base.specs.Tables.{Tables};
@@ -59,7 +60,7 @@ impl<K: Keeper> Model for BulkParts<K> {
 }
 
 impl<K: Keeper> BulkParts<K> {
-    /// Whether a key has an old item.
+    /// Whether a key has an old item, which must be swept before an act meets it.
     fn old(&self, key: Key) -> bool
         ensures { result ≡ has_old_in (region_of self.now.regions key.entity) key.id }
     {
@@ -70,7 +71,7 @@ impl<K: Keeper> BulkParts<K> {
         false
     }
 
-    /// The key of the old item that an act would meet, if there is one.
+    /// The key of the old item that an act would meet, if there is one. It is swept first.
     pub fn old_for(&self, act: &Act) -> Option<Key>
         ensures some { IfSome result (λ k. (swept_for act.now ≡ Some k)
             × (has_old_in (region_of self.now.regions k.entity) k.id ≡ true)) }
@@ -84,7 +85,7 @@ impl<K: Keeper> BulkParts<K> {
         }
     }
 
-    /// Evicts an old item from the region of its key. It takes no memory.
+    /// Evicts an old item from the region of its key. There must be one. It takes no memory.
     pub fn sweep(&mut self, key: Key, now: Tick)
         requires { has_old_in (region_of self.old.regions key.entity) key.id ≡ true }
         ensures here { region_of self.new.regions key.entity
@@ -98,7 +99,7 @@ impl<K: Keeper> BulkParts<K> {
         }
     }
 
-    /// What an act of a session's own does to the parts: End closes the session.
+    /// What an act that a session answers itself does to the parts: End closes the session.
     fn note_own(&mut self, session: SessionNo, act: &Act)
         ensures { self.new ≡ record self.old
             { registry = own_after session act.now self.old.registry } }
@@ -109,7 +110,7 @@ impl<K: Keeper> BulkParts<K> {
         }
     }
 
-    /// The answer of the region of an entity to an act of a session. An item that the act would meet isn't old. At an
+    /// Has the region of an entity answer an act of a session. An item that the act would meet must not be old. At an
     /// error nothing has changed.
     fn serve_region(
         &mut self,
@@ -148,7 +149,7 @@ impl<K: Keeper> BulkParts<K> {
         Ok(BulkReply::Plain(Reply::Done))
     }
 
-    /// The answer of a part to an act of a session that is neither the session's own nor a region's. A fault is
+    /// Has a part answer an act of a session, which must be neither the session's own nor a region's. A fault is
     /// answered only if the keeper failed in this call. At an error the parts are as before, but for the keeper's
     /// counts.
     fn serve(
@@ -188,9 +189,9 @@ impl<K: Keeper> BulkParts<K> {
         }
     }
 
-    /// The answer to an act that is due in a session, at this tick: the session's own, or that of a part. A fault is
-    /// answered only if the keeper failed in this call. At an error the parts are as before, but for the keeper's
-    /// counts, and so they are if the act brings something to the session.
+    /// Answers the act that is due in a session, at this tick, by the session itself or by a part. A fault is answered
+    /// only if the keeper failed in this call. At an error the parts are as before, but for the keeper's counts. So
+    /// they are if the act brings something to the session.
     pub fn answer(
         &mut self,
         alloc: Global,

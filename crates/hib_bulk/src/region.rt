@@ -1,4 +1,4 @@
-// The region of an entity, which bulk lines may lock as a whole.
+// The region of an entity, which bulk lines may lock as a whole; it turns the answers of a `BulkRegion` into replies.
 ghost use Rattle.std.specs.Prelude.{◌≡◌, ◌≤◌, ◌<◌, ◌+◌, ◌-◌, ◌^◌, true, false, Some, IfOk, OnOk, OnErr};
 ghost use Rattle.hib_base.specs.declared.numbers.Key.{Key as KeySpec};
 ghost use Rattle.hib_bulk_law.specs.Acts.{swept_for};
@@ -23,7 +23,7 @@ fn hit(alloc: Global, row: &Row) -> Result<BulkReply, AllocError>
     Ok(BulkReply::Plain(Reply::Hit(row)))
 }
 
-/// The row of an identifier that has no old item, or why there is none, as a reply.
+/// The row at an identifier, or why there is none, as a reply. An item there must not be old.
 fn get(alloc: Global, region: &BulkRegion, id: u64, time: Tick) -> Result<BulkReply, AllocError>
     requires { has_old region.now id ≡ false }
     ensures { IfOk result (λ r. r ≡ got region.now id time) }
@@ -57,8 +57,8 @@ fn inserted_reply(inserted: BulkInserted) -> BulkReply
     }
 }
 
-/// What an act of a session that began at `begun` comes to, at this tick. An item that the act would meet isn't old. An
-/// act that isn't a region's is answered Done, and changes nothing. At an error nothing has changed.
+/// Has a region answer an act of a session that began at `begun`, at this tick. An item that the act would meet must
+/// not be old. An act that isn't a region's is answered Done, and changes nothing. At an error nothing has changed.
 fn act_on(
     alloc: Global,
     region: &mut BulkRegion,
@@ -133,7 +133,7 @@ impl EntityRegion {
         }
     }
 
-    /// Whether a key has an old item.
+    /// Whether a key has an old item, which must be swept before an act meets it.
     pub fn old(&self, id: u64) -> bool
         ensures { result ≡ has_old_in self.now id }
     {
@@ -143,7 +143,7 @@ impl EntityRegion {
         }
     }
 
-    /// Evicts an old item. It takes no memory.
+    /// Evicts an old item, which is a sweep. There must be one. It takes no memory.
     pub fn sweep(&mut self, id: u64, now: Tick)
         requires { has_old_in self.old id ≡ true }
         ensures { self.new ≡ swept self.old id now }
@@ -154,7 +154,7 @@ impl EntityRegion {
         }
     }
 
-    /// A line locks the region. Answers how many hold it now. It takes no memory.
+    /// Locks the region for a line. Answers how many hold it now. It takes no memory.
     pub fn lock_all(&mut self) -> u64
         requires { held_by self.old < 2 ^ 62 }
         ensures answer { result ≡ held_by self.new }
@@ -166,7 +166,7 @@ impl EntityRegion {
         }
     }
 
-    /// A line gives the region back. Answers how many hold it still. It takes no memory.
+    /// Gives the region back for a line. A line must hold it. Answers how many hold it still. It takes no memory.
     pub fn unlock_all(&mut self, now: Tick) -> u64
         requires { 1 ≤ held_by self.old }
         ensures answer { result ≡ held_by self.new }
@@ -178,8 +178,8 @@ impl EntityRegion {
         }
     }
 
-    /// Answers an act of a session that began at `begun`, at this tick. An item that the act would meet isn't old. At
-    /// an error nothing has changed.
+    /// Answers an act of a session that began at `begun`, at this tick. An item that the act would meet must not be
+    /// old. At an error nothing has changed.
     pub fn serve(
         &mut self,
         alloc: Global,

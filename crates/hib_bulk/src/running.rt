@@ -1,4 +1,4 @@
-// A run with bulk lines plays its orders, and then its sessions and lines run to their ends.
+// `bulk` plays the orders of its section, and then runs sessions and bulk lines to their ends.
 ghost use Rattle.std.specs.Prelude.{◌≡◌, ◌<◌, ◌==◌, ℕ, [], OnOk, OnErr, true, false};
 ghost use Rattle.hib_base.specs.declared.scripts.Order.{Order as Said};
 ghost use Rattle.hib_playing.specs.Playing.{Leads, play_all, play_each, play_steps, played};
@@ -16,7 +16,7 @@ use hib_outside::Keeper;
 use std::alloc::{AllocError, Global};
 
 impl<K: Keeper, N: Name> BulkFactory<K, N> {
-    /// Runs a session or a line for `steps` steps, or to its end if that comes before; one that isn't there has none.
+    /// Runs a session or a line for `steps` steps, or to its end if that comes before. One that isn't there has none.
     /// If memory runs out the steps so far stand.
     fn run_steps(&mut self, alloc: Global, number: SessionNo, steps: u32) -> Result<(), AllocError>
         ensures played { OnOk result (Leads
@@ -36,7 +36,8 @@ impl<K: Keeper, N: Name> BulkFactory<K, N> {
         Ok(())
     }
 
-    /// Runs a session or a line to its end. If memory runs out the steps so far stand.
+    /// Runs a session or a line to its end. There must be one of this number. If memory runs out the steps so far
+    /// stand.
     pub fn run_session(&mut self, alloc: Global, number: SessionNo) -> Result<(), AllocError>
         requires known { number < number_count N.script N.lines }
         ensures played { OnOk result (Leads (play_all (has_next N.script N.lines) is_by number)
@@ -70,7 +71,7 @@ impl<K: Keeper, N: Name> BulkFactory<K, N> {
         Ok(())
     }
 
-    /// Carries an order out, if it runs a session or a line; others do nothing here.
+    /// Carries an order out, if it runs a session or a line. Other orders do nothing here.
     fn obey(&mut self, alloc: Global, order: Order) -> Result<(), AllocError>
         ensures played { OnOk result (Leads (play_order N.script N.lines order) played
             (past self.old.journal) (past self.new.journal)) }
@@ -95,7 +96,7 @@ impl<K: Keeper, N: Name> BulkFactory<K, N> {
         Ok(())
     }
 
-    /// The orders, and then the rest.
+    /// Plays the orders, and then runs the rest to its end.
     fn run_all(&mut self, alloc: Global) -> Result<(), AllocError>
         ensures leads { OnOk result (Leads (play_script N.script N.lines N.orders) played
             (past self.old.journal) (past self.new.journal)) }

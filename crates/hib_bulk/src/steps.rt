@@ -1,4 +1,5 @@
-// A step of a run with bulk lines: one act of a session or of a line, if one is due.
+// A step of the factory of `bulk`: one act of a session or of a bulk line, if one is due. It finds the one of this
+// number, and `turns` or `lines` makes the step.
 ghost use Rattle.std.specs.Prelude.{◌≡◌, ◌+◌, ◌<◌, ◌^◌, List, length};
 ghost use Rattle.hib_session.specs.declared.session.Session.{Session as Actor};
 ghost use Rattle.hib_bulk.specs.declared.lines.LineProgress.{LineProgress as Come};
@@ -42,7 +43,7 @@ pub fn step_session<K: Keeper, N: Name>(
     take_turn::<K, N>(alloc, script, session, parts, journal)
 }
 
-/// The number of a line: they come after the sessions.
+/// The number of the line at this place among the lines: they come after the sessions.
 fn line_number(script: &Script, at: usize) -> SessionNo
     requires { length script.now.sessions + at < 2 ^ 32 }
     ensures { result ≡ length script.now.sessions + at }

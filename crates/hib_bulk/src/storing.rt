@@ -1,4 +1,4 @@
-// What a line changes of the committed rows.
+// What the store does for a bulk line: it changes the committed rows that meet the line's condition.
 ghost use Rattle.std.specs.Prelude.{◌≡◌, ◌≤◌, true, None, Ok, IfOk, IfSome, OnErr};
 ghost use Rattle.hib_base.specs.Tables.{in_order};
 ghost use Rattle.hib_outside.specs.Causes.{Rose};
@@ -14,8 +14,8 @@ use hib_engines::StoreEngine;
 use hib_outside::Keeper;
 use std::alloc::{AllocError, Global};
 
-/// The changes by which a line makes of the committed rows what it is to make of them, in order of keys; none only if
-/// the keeper failed. Nothing changes but the keeper's counts.
+/// The changes that a line makes to the committed rows, in order of keys. None only if the keeper failed. Nothing
+/// changes but the keeper's counts.
 fn changes_due<K: Keeper>(
     alloc: Global,
     store: &mut StoreEngine<K>,
@@ -38,7 +38,7 @@ fn changes_due<K: Keeper>(
     Ok(Some(changes))
 }
 
-/// The answer to a line that changes this many rows, by what the store has answered.
+/// The reply to a line whose changes are this many, by what the store has answered to them.
 fn answer(commit: Commit, rows: u64) -> BulkReply
     ensures { result ≡ Rattle.hib_bulk.specs.Changed.answer_of commit rows }
 {
@@ -50,8 +50,8 @@ fn answer(commit: Commit, rows: u64) -> BulkReply
 }
 
 /// Changes the committed rows that meet a line's condition, all of them or none, and answers how many they are. A fault
-/// is answered only if the keeper failed, and changes no row. Over a keeper that doesn't tell its rows the count may be
-/// 0, too, because the changes didn't apply. What sessions have written stays. At an error nothing has changed, but for
+/// is answered only if the keeper failed, and changes no row. If the keeper doesn't tell its rows, the count may also
+/// be 0 because the changes didn't apply. What sessions have written stays. At an error nothing has changed, but for
 /// the keeper's counts.
 pub fn change_rows<K: Keeper>(
     alloc: Global,

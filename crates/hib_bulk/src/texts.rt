@@ -1,4 +1,4 @@
-// The text of a journal with bulk lines.
+// The text of a journal with bulk lines, which `bulk` prints.
 ghost use Rattle.std.specs.Prelude.{◌≡◌, ◌++◌, OnOk, IfOk, codes, flat_map};
 ghost use Rattle.hib_texts.specs.Texts.{entity_text};
 ghost use Rattle.std.specs.Fmt.{decimal};
@@ -12,7 +12,7 @@ use hib_report::{put_act, put_part, put_reply};
 use hib_texts::{put_entity, put_keyed, put_labelled, put_number, put_session};
 use std::alloc::{AllocError, Global};
 
-/// The name of a session or of a line: lines are numbered after the sessions.
+/// Adds the name of a session or of a bulk line: these are numbered after the sessions.
 fn put_name(
     out: &mut Vec<u8>,
     script: &Script,
@@ -32,7 +32,7 @@ fn put_name(
     }
 }
 
-/// A word, and the entity that it is for.
+/// Adds a word, and the entity that it is for.
 fn put_on(
     out: &mut Vec<u8>,
     script: &Script,
@@ -46,6 +46,7 @@ fn put_on(
     put_entity(out, script, entity)
 }
 
+/// Adds that a line changes its rows.
 fn put_bulk(
     out: &mut Vec<u8>,
     script: &Script,
@@ -59,6 +60,7 @@ fn put_bulk(
     put_name(out, script, lines, line)
 }
 
+/// Adds that a line gives the region of its entity back.
 fn put_unlock_all(out: &mut Vec<u8>, script: &Script, entity: EntityNo) -> Result<(), AllocError>
     ensures { OnOk result (out.new.items
         ≡ out.old.items ++ codes "unlock-all " ++ entity_text script.now entity) }
@@ -67,6 +69,7 @@ fn put_unlock_all(out: &mut Vec<u8>, script: &Script, entity: EntityNo) -> Resul
     put_entity(out, script, entity)
 }
 
+/// Adds what was done.
 fn put_done(
     alloc: Global,
     out: &mut Vec<u8>,
@@ -86,7 +89,7 @@ fn put_done(
     }
 }
 
-/// A refusal by a region that lines hold, with their number: to a get it is a miss.
+/// Adds the refusal by a region that lines hold, with how many do: to a get it is a miss.
 fn put_wide(alloc: Global, out: &mut Vec<u8>, act: &BulkAct, holders: u64) -> Result<(), AllocError>
     ensures { OnOk result (out.new.items ≡ out.old.items ++ wide_text act.now holders) }
 {
@@ -96,6 +99,7 @@ fn put_wide(alloc: Global, out: &mut Vec<u8>, act: &BulkAct, holders: u64) -> Re
     }
 }
 
+/// Adds the refusal of a row that may have been read before the region was given back, with when that was.
 fn put_wide_early(alloc: Global, out: &mut Vec<u8>, unlock: u64) -> Result<(), AllocError>
     ensures { OnOk result (out.new.items ≡ out.old.items ++ codes "wide-early " ++ decimal unlock) }
 {
@@ -103,6 +107,7 @@ fn put_wide_early(alloc: Global, out: &mut Vec<u8>, unlock: u64) -> Result<(), A
     put_number(alloc, out, unlock)
 }
 
+/// Adds what was answered.
 fn put_answer(
     alloc: Global,
     out: &mut Vec<u8>,
@@ -124,7 +129,7 @@ fn put_answer(
     }
 }
 
-/// Who did it, and where.
+/// Adds when it was, who did it, and where.
 fn put_head(
     alloc: Global,
     out: &mut Vec<u8>,
@@ -143,7 +148,7 @@ fn put_head(
     out.extend_from_slice(b" ")
 }
 
-/// What was done and answered.
+/// Adds what was done and answered.
 fn put_body(
     alloc: Global,
     out: &mut Vec<u8>,
@@ -160,7 +165,7 @@ fn put_body(
     put_answer(alloc, out, script, act, reply)
 }
 
-/// The line of an entry, and its end.
+/// Adds the line of an entry, and its end.
 fn put_entry(
     alloc: Global,
     out: &mut Vec<u8>,
@@ -176,6 +181,7 @@ fn put_entry(
     out.extend_from_slice(b"\n")
 }
 
+/// Adds a line for each entry.
 fn put_entries(
     alloc: Global,
     out: &mut Vec<u8>,

@@ -1,4 +1,5 @@
-// One turn of a session: the act that is due is answered by the session or by a part, and its entry is added.
+// One turn of a session in `bulk`: the act that is due is answered by the session or by a part, and its entry is added.
+// If an old item is in its way, the turn sweeps that instead.
 ghost use Rattle.std.specs.Prelude.{ℕ, ◌≡◌, ◌≢◌, ◌∷◌, ◌<◌, ◌≤◌, ◌^◌, ◌+◌, length, IfOk, OnOk, OnErr, IfSome, IsOk, Ok};
 ghost use Rattle.std.specs.Prelude.{None, Some, Option, List, false, true};
 ghost use Rattle.hib_journal.specs.Sessions.{Journal as Plain, own};
@@ -29,7 +30,7 @@ use hib_outside::Keeper;
 use hib_session::Session;
 use std::alloc::{AllocError, Global};
 
-/// Makes room for one more entry, and gives its tick: all parts share the last one, which is the number of entries.
+/// Makes room for one more entry, and gives its tick: one more than there are entries.
 pub fn reserve_tick(journal: &mut Bulked) -> Result<Tick, AllocError>
     ensures tick { IfOk result (λ t. t ≡ length (past journal.old) + 1) }
     ensures few { OnOk result (length (past journal.old) < 2 ^ 62) }
@@ -44,7 +45,7 @@ pub fn reserve_tick(journal: &mut Bulked) -> Result<Tick, AllocError>
     }
 }
 
-/// A refusal of this act by its region, as it is to everybody but the bulk lines.
+/// The plain reply that stands for a refusal by a region that lines hold. Sessions know plain replies alone.
 fn refusal(act: &Act) -> Reply
     ensures { result ≡ refusal_of act.now }
 {
@@ -55,7 +56,7 @@ fn refusal(act: &Act) -> Reply
     }
 }
 
-/// A reply as it is to everybody but the bulk lines, and beside it the reply itself, if that is another.
+/// A reply in two: the plain one that the session takes, and the one that goes to the journal if that is another.
 fn split(act: &Act, reply: BulkReply) -> (Reply, Option<BulkReply>)
     ensures plain { result.0 ≡ plain_reply act.now reply }
     ensures whole { whole_of result.0 result.1 ≡ reply }
@@ -71,7 +72,7 @@ fn split(act: &Act, reply: BulkReply) -> (Reply, Option<BulkReply>)
     }
 }
 
-/// The reply that was split.
+/// Puts the two halves of a reply together again, for the journal.
 fn whole(reply: Reply, other: Option<BulkReply>) -> BulkReply
     ensures { result ≡ whole_of reply other }
 {
@@ -93,8 +94,8 @@ fn due_act(alloc: Global, script: &Script, session: &Session) -> Result<Option<A
     Ok(act)
 }
 
-/// The tick and the reply of the act that is due, which the session or a part has answered. The journal has room for
-/// its entry. If memory runs out nothing has changed, but for the keeper's counts.
+/// Has the session or a part answer the act that is due. Gives its tick and the reply, and makes room for its entry in
+/// the journal. If memory runs out nothing has changed, but for the keeper's counts.
 fn answered<K: Keeper, N: Name>(
     alloc: Global,
     script: &Script,
@@ -121,8 +122,8 @@ fn answered<K: Keeper, N: Name>(
     Ok((tick, reply))
 }
 
-/// The session takes the entry of its act, and then the journal, which has room for it: both, or if memory runs out
-/// neither. Of a session that is ready it runs out only if the act brings something to it.
+/// Lets the session take the entry of its act, and adds it to the journal, which must have room for it: both, or if
+/// memory runs out neither. If the session is ready, it runs out only if the act brings something to it.
 fn enter(
     alloc: Global,
     script: &Script,
@@ -168,8 +169,7 @@ fn enter(
     Ok(())
 }
 
-/// The act that is due is answered, taken by its session, and its entry added: all of it, or if memory runs out
-/// nothing.
+/// Answers the act that is due, lets its session take it, and adds its entry: all of it, or if memory runs out nothing.
 fn serve<K: Keeper, N: Name>(
     alloc: Global,
     script: &Script,
@@ -220,8 +220,8 @@ fn sweep_entry(key: &Key, session: SessionNo, tick: Tick) -> BulkEntry
     }
 }
 
-/// An item that was stored before a bulk line gave its region back is swept away, before the act of a session on its
-/// key. If memory runs out nothing has changed.
+/// Sweeps an item away that an act of a session on its key would meet. It must be old. If memory runs out nothing has
+/// changed.
 fn sweep<K: Keeper, N: Name>(
     key: Key,
     session: SessionNo,
@@ -247,8 +247,7 @@ fn sweep<K: Keeper, N: Name>(
     Ok(())
 }
 
-/// One act of a session, if one is due: first all is made ready, and only then is what is old swept away, or the act
-/// answered.
+/// One act of a session, if one is due, or the sweep that is due before it. First all is made ready.
 pub fn take_turn<K: Keeper, N: Name>(
     alloc: Global,
     script: &Script,

@@ -1,4 +1,4 @@
-// What a region answers that lines may lock as a whole.
+// What a region answers that bulk lines may lock as a whole.
 use hib_base::{Got, Inserted, Put, Tick};
 
 /// A region's answer to a reader.

@@ -1,4 +1,4 @@
-// The read-write region with its wide lock.
+// The read-write region with its wide lock, which bulk lines hold on the region as a whole.
 ghost use Rattle.std.specs.Prelude.{◌≡◌, ◌+◌, ◌-◌, ◌≤◌, ◌<◌, ◌^◌, true, false, cond, IsOk, IfOk, OnOk, OnErr};
 ghost use Rattle.hib_journal.specs.Regions as Regions;
 ghost use Rattle.hib_journal.specs.Room.{has_entry};
@@ -15,9 +15,9 @@ use std::alloc::{AllocError, Global};
 use std::marker::Model;
 
 /// The region of a read-write entity whose rows bulk lines change. While lines hold it, it neither gives nor takes
-/// rows; what dates from before it was last given back is shut out of it. Contracts see how many lines hold it, when it
-/// was last given back, and the read-write region inside. Each `now` is greater than every tick that the region was
-/// given before. No call asks this.
+/// rows. What dates from before it was last given back is shut out of it. Contracts see how many lines hold it, when it
+/// was last given back, and the read-write region inside. Each `now` should be greater than every tick that the region
+/// was given before, yet no call requires it.
 #[derive(Drop)]
 pub struct BulkRegion {
     inner: RwRegion,
@@ -37,7 +37,7 @@ impl Model for BulkRegion {
     } };
 }
 
-/// What is given back under a lock that is shut out: the row is left away.
+/// What a holder is answered who gives a lock back that is shut out: the row isn't stored.
 fn given_back(unlocked: Unlocked) -> Updated
     ensures { result ≡ given unlocked }
 {
@@ -60,7 +60,7 @@ impl BulkRegion {
         }
     }
 
-    /// A line locks the region. Answers how many hold it now.
+    /// Locks the region for a line. Answers how many hold it now.
     pub fn lock_all(&mut self) -> u64
         requires { self.old.holders < 2 ^ 62 }
         ensures answer { result ≡ self.old.holders + 1 }
@@ -70,7 +70,7 @@ impl BulkRegion {
         self.holders
     }
 
-    /// A line gives the region back. Answers how many hold it still.
+    /// Gives the region back for a line. Answers how many hold it still. A line must hold it.
     pub fn unlock_all(&mut self, now: Tick) -> u64
         requires { 1 ≤ self.old.holders }
         ensures answer { result ≡ self.old.holders - 1 }
@@ -89,7 +89,7 @@ impl BulkRegion {
         self.holders > 0 || tick <= self.unlock
     }
 
-    /// Whether a key has an old item, one that is shut out.
+    /// Whether the item of a key is old: it was stored when it is shut out now.
     pub fn old(&self, id: u64) -> bool
         ensures { result ≡ has_old self.now id }
     {
@@ -99,7 +99,7 @@ impl BulkRegion {
         }
     }
 
-    /// Evicts an old item. It takes no memory.
+    /// Evicts an old item. There must be one. It takes no memory.
     pub fn sweep(&mut self, id: u64, now: Tick)
         requires { has_old self.old id ≡ true }
         ensures { self.new ≡ swept id now self.old }
@@ -107,7 +107,8 @@ impl BulkRegion {
         self.inner.evict(id, now);
     }
 
-    /// The row of an identifier that has no old item, for a reader that began at `time`, or why there is none.
+    /// The row of an identifier, for a reader that began at `time`, or why there is none. An item there must not be
+    /// old.
     pub fn get(&self, id: u64, time: Tick) -> BulkGot<'_>
         requires { has_old self.now id ≡ false }
         ensures { got_reply result ≡ got self.now id time }
@@ -120,8 +121,9 @@ impl BulkRegion {
         BulkGot::Plain(self.inner.get(id, time))
     }
 
-    /// Puts a row that a reader which began at `time` has loaded, on a key that has no old item; `floor` is the least
-    /// time of the open sessions. At an error nothing has changed; there is none if the row is shut out.
+    /// Offers a row as the item, which a reader that began at `time` has loaded; `floor` is the least time of the open
+    /// sessions. An item there must not be old. At an error nothing has changed. If the row is shut out, there is no
+    /// error.
     pub fn put(
         &mut self,
         id: u64,
@@ -150,8 +152,8 @@ impl BulkRegion {
         Ok(BulkPut::Plain(put))
     }
 
-    /// Stores a row whose insert was committed by a session that began at `time`, on a key without slot, if there is
-    /// room. At an error nothing has changed; there is none if the row is shut out.
+    /// Stores a row whose insert was committed by a session that began at `time`, if its key has no slot and there is
+    /// room. At an error nothing has changed. If the row is shut out, there is no error.
     pub fn after_insert(
         &mut self,
         id: u64,
@@ -180,8 +182,8 @@ impl BulkRegion {
     }
 
     /// Stores a row whose update was committed under a lock, unless others have locked the key too, and gives the lock
-    /// back. A lock that is shut out is given back without its row. At an error nothing has changed; there is none if
-    /// the key has a slot.
+    /// back. If the lock is shut out, it is given back without the row. At an error nothing has changed. If the key has
+    /// a slot, there is no error.
     pub fn after_update(
         &mut self,
         id: u64,
@@ -202,9 +204,9 @@ impl BulkRegion {
         self.inner.after_update(id, lock, row, now)
     }
 
-    /// Takes the soft lock of a key that has no old item, for a session whose base has this version. At an error
-    /// nothing has changed. A lock that has as many holders as `now` has ticks is answered as if memory ran out; if
-    /// ticks rise there is none.
+    /// Takes the soft lock of a key, for a session whose base has this version. An item there must not be old. At an
+    /// error nothing has changed. If a lock has as many holders as `now` has ticks, it fails as if memory ran out; if
+    /// ticks rise there is no such lock.
     pub fn lock(
         &mut self,
         id: u64,
@@ -224,7 +226,7 @@ impl BulkRegion {
     }
 
     /// Gives a soft lock back. If the key has no lock of this number that is held, it gets one without holder that is
-    /// good for the timeout. At an error nothing has changed; there is none if the key has a slot.
+    /// good for the timeout. At an error nothing has changed. If the key has a slot, there is no error.
     pub fn unlock(&mut self, id: u64, lock: Tick, now: Tick) -> Result<Unlocked, AllocError>
         requires { now ≤ 2 ^ 62 }
         ensures answer { IfOk result (λ unlocked. unlocked

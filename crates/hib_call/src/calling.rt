@@ -1,4 +1,4 @@
-// A call, whatever its command is.
+// A call, whatever its command is. hib_top, hib_section_calls and hib_toolbox make theirs by it.
 ghost use Rattle.std.specs.Prelude.{◌≡◌, ◌<◌, ◌+◌, length, Err, IfOk, IfErr, IfSome};
 ghost use Rattle.hib_outside.specs.Causes.{Rose};
 ghost use Rattle.hib_call.specs.Called.{HasInput, HasNone, HasRead, IsCalled};
@@ -30,7 +30,7 @@ impl<R, K, L> Called<R, K, L> {
     ghost use Rattle.std.specs.Prelude.{◌≡◌, None, option_map};
     ghost use Rattle.std.specs.Option.{ForSome};
 
-    /// A call in which nothing was run.
+    /// The call in which nothing was run.
     pub fn idle(status: Status, lent: Lent<K, L>) -> Self
         ensures status { result.status ≡ status }
         ensures lent { result.lent ≡ lent }
@@ -40,7 +40,7 @@ impl<R, K, L> Called<R, K, L> {
         Called { status, lent, run }
     }
 
-    /// The same call, whose run is made into another.
+    /// The same call, with another run made of its run.
     pub fn map<Q, F: FnOnce(R) -> Q>(self, f: F) -> Called<Q, K, L>
         requires { ForSome self.run (F.pre f) }
         ensures status { result.status ≡ self.status }
@@ -55,7 +55,7 @@ impl<R, K, L> Called<R, K, L> {
     }
 }
 
-/// The input of a command that a source has; or how a call ends that finds none.
+/// The input of a command, read from a source; or how a call ends that finds none.
 fn input_of<T: Task, S: Source>(alloc: Global, task: &T, source: &mut S) -> Result<T::Input, Status>
     ensures input { IfOk result (HasRead (T.command task.now) (S.left source.old)
         (S.left source.new)) }

@@ -1,4 +1,4 @@
-// What a caller lends to a run.
+// What a caller lends to a call, and has back after it.
 
 /// What a caller lends to a run, and has back after it.
 #[derive(Drop)]

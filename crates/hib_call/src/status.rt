@@ -1,4 +1,4 @@
-// How a call of the program ends.
+// How a call of the program ends, the number of it, and the line on standard error.
 ghost use Rattle.hib_call.specs.Exits.{exit_number};
 ghost use Rattle.hib_call.specs.StatusLine.{status_text, refused_text, illegal_text, kind_text};
 ghost use Rattle.std.specs.Prelude.{◌≡◌, ◌↔◌, ◌++◌, IsTrue, IfOk, OnOk};
@@ -87,7 +87,7 @@ pub fn status_line(alloc: Global, status: &Status) -> Result<Bytes, AllocError>
     Ok(Seq::from_vec(line))
 }
 
-/// Where an input is refused, and why.
+/// Adds where an input is refused, and why.
 fn put_refused(alloc: Global, line: &mut Vec<u8>, refused: &Refused) -> Result<(), AllocError>
     ensures { OnOk result (line.new.items ≡ line.old.items ++ refused_text refused.now) }
 {
@@ -99,7 +99,7 @@ fn put_refused(alloc: Global, line: &mut Vec<u8>, refused: &Refused) -> Result<(
     Ok(())
 }
 
-/// The word of a point.
+/// The word of a point that an audited entry breaks.
 fn word_of<'a>(kind: AuditKind) -> &'a [u8]
     ensures { result.now ≡ kind_text kind }
 {
@@ -112,7 +112,7 @@ fn word_of<'a>(kind: AuditKind) -> &'a [u8]
     }
 }
 
-/// The first entry that isn't legal, and the point that it breaks.
+/// Adds which entry is the first that isn't legal, and the point that it breaks.
 pub fn put_illegal(
     alloc: Global,
     line: &mut Vec<u8>,

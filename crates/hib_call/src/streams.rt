@@ -1,4 +1,4 @@
-// Reading to the end.
+// A source is read to its end, up to the limit of a command.
 ghost use Rattle.std.specs.Prelude.{◌≡◌, ◌⊎◌, ◌+◌, ◌<◌, ◌≤◌, length, Err, IfErr, IfOk, OnOk, IfSome};
 ghost use Rattle.std.specs.Io.KnownBytes.{IsAtEnd};
 ghost use Rattle.hib_outside.specs.Causes.{Rose};

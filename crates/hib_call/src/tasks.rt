@@ -1,4 +1,4 @@
-// What a command is: how its input is read, and how a run of it is told.
+// What a command is: how its input is read, and how a run of it is told. To tell a run is here to write its text.
 ghost use Rattle.std.specs.Prelude.{◌≡◌, ◌⊎◌, ◌≤◌, ℕ, length, IfOk, IfErr};
 ghost use Rattle.hib_outside.specs.Causes.{Rose};
 ghost use Rattle.hib_call.specs.Command.{Command};

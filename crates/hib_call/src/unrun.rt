@@ -1,4 +1,4 @@
-// What a run comes to that doesn't begin.
+// What a run comes to that doesn't begin, since the keeper failed or memory ran out.
 ghost use Rattle.std.specs.Prelude.{◌≡◌, None};
 ghost use Rattle.hib_store.specs.Stores.{handed_back};
 ghost use Rattle.hib_call.specs.Runs.{opening_status};
@@ -9,7 +9,7 @@ use crate::tasks::{Outcome, Ran};
 use hib_outside::{Keeper, Listener};
 use hib_store::OpenFault;
 
-/// Nothing was run, since what was to run wasn't opened.
+/// The run of which nothing was run, since what was to run wasn't opened.
 pub fn not_run<R: Drop, K: Keeper, L: Listener>(
     fault: OpenFault<K>,
     listeners: Vec<L>,

@@ -1,5 +1,5 @@
 // What a session does at an owner of a collection, by the region of the collection: it asks for members, offers them,
-// locks and unlocks.
+// locks and unlocks. Each of these is a step with an entry of its own, which `turns` makes.
 ghost use Rattle.std.specs.Prelude.{◌≡◌, ◌+◌, ◌<◌, ◌≤◌, ◌^◌, ℕ, List, Option, length, IfOk, IfSome, OnOk, OnErr, Some};
 ghost use Rattle.std.specs.Prelude.{None, true, false, is_some};
 ghost use Rattle.hib_base.specs.Tables.{Tables};
@@ -33,8 +33,8 @@ use hib_journal::part_of;
 use hib_outside::Keeper;
 use std::alloc::{AllocError, Global};
 
-/// An act at an owner is answered by the region of its collection, at this tick. A read leaves the regions as they are,
-/// and so does want of memory.
+/// Has the region of the owner's collection answer an act at this tick. A read leaves the regions as they are, and so
+/// does want of memory.
 fn answer_at(
     alloc: Global,
     regions: &mut Vec<Region>,
@@ -58,7 +58,7 @@ fn answer_at(
     serve_region(alloc, regions, entity, act, tick)
 }
 
-/// A copy of the members that a hit answers.
+/// A copy of the members, if the reply to a get is a hit; else none.
 fn members_in(alloc: Global, reply: &Reply) -> Result<Option<Listing>, AllocError>
     ensures { IfOk result (λ l. l ≡ list_of_hit reply.now) }
 {
@@ -98,7 +98,7 @@ fn member_entry(
     }
 }
 
-/// The members of an owner were refused at this tick. It takes no memory.
+/// Notes and adds the entry of a get that the region refused at this tick. It takes no memory.
 fn serve_miss<K: Keeper, N: Name>(
     gatherer: &mut Gatherer,
     shared: &mut GatherShared<K>,
@@ -133,8 +133,8 @@ fn serve_miss<K: Keeper, N: Name>(
     Turned::Did
 }
 
-/// The members of an owner were answered at this tick: the session takes them as the list that is due. If memory runs
-/// out nothing has changed.
+/// Adds the entry of a get that was a hit at this tick: the session takes the members as the list that is due, so the
+/// store isn't asked. If memory runs out nothing has changed.
 fn serve_hit<K: Keeper, N: Name>(
     alloc: Global,
     script: &Script,
@@ -176,8 +176,8 @@ fn serve_hit<K: Keeper, N: Name>(
     Ok(Turned::Hit(entry))
 }
 
-/// A collection is asked for the members of an owner, before a list of them. A hit takes the place of the list. If
-/// memory runs out nothing has changed.
+/// Asks a collection for the members of an owner, before the session makes a list of them. A hit takes the place of the
+/// list. If memory runs out nothing has changed.
 pub fn serve_get<K: Keeper, N: Name>(
     alloc: Global,
     script: &Script,
@@ -222,7 +222,7 @@ pub fn serve_get<K: Keeper, N: Name>(
     }
 }
 
-/// Members that were listed after a miss are offered to the region of their collection. If memory runs out nothing has
+/// Offers members to the region of their collection, which were listed after a miss. If memory runs out nothing has
 /// changed.
 pub fn serve_put<K: Keeper, N: Name>(
     alloc: Global,
@@ -263,7 +263,7 @@ pub fn serve_put<K: Keeper, N: Name>(
     Ok(Turned::Did)
 }
 
-/// An owner is locked before a row is written whose owner it is or was. If memory runs out nothing has changed.
+/// Locks an owner before a change is written that may change its members. If memory runs out nothing has changed.
 pub fn serve_lock<K: Keeper, N: Name>(
     alloc: Global,
     gatherer: &mut Gatherer,
@@ -299,7 +299,7 @@ pub fn serve_lock<K: Keeper, N: Name>(
     Ok(Turned::Did)
 }
 
-/// A lock is given back before the end of the transaction. If memory runs out nothing has changed.
+/// Gives a lock on an owner back, before the end of the transaction. If memory runs out nothing has changed.
 pub fn serve_unlock<K: Keeper, N: Name>(
     alloc: Global,
     gatherer: &mut Gatherer,

@@ -1,4 +1,4 @@
-// What comes before an act that is due in a session.
+// What comes before an act that is due in a session by its plan: an act at an owner of a collection, or nothing.
 ghost use Rattle.std.specs.Prelude.{◌≡◌, ◌≤◌, ◌∷◌, [], length};
 ghost use Rattle.hib_base.specs.declared.entries.Act.{Act};
 ghost use Rattle.hib_base.specs.declared.scripts.Script.{Script as Said};
@@ -31,7 +31,7 @@ pub enum Before {
     Unlock(OwnerPlace, Tick),
 }
 
-/// Whether one of the changes is of an entity.
+/// Whether one of the changes is of this entity.
 fn is_touched(entity: EntityNo, changes: &[Change]) -> bool
     ensures { result ≡ is_in_tables (entity ∷ []) changes.now }
 {
@@ -43,7 +43,7 @@ fn is_touched(entity: EntityNo, changes: &[Change]) -> bool
     false
 }
 
-/// The collection and the owner of a query of the script.
+/// The collection and the owner that a query of the script asks for; none if it asks for no members of a collection.
 fn asked_by(script: &Script, defs: &Defs, query: QueryNo) -> Option<OwnerPlace>
     requires few { length defs.now ≤ max_collections }
     ensures { result ≡ Law.asked_by script.now defs.now query }
@@ -54,7 +54,8 @@ fn asked_by(script: &Script, defs: &Defs, query: QueryNo) -> Option<OwnerPlace>
     }
 }
 
-/// Whether the session has changed the entity of a collection.
+/// Whether the session has changed rows of the entity that the members of a collection are of. Then it asks the store
+/// itself.
 fn has_changed(defs: &Defs, session: &Session, place: OwnerPlace) -> bool
     ensures { (script : Said) (mine : Journal) → Follows script session.now mine
         → result ≡ is_changed defs.now mine place.0 }
@@ -65,8 +66,8 @@ fn has_changed(defs: &Defs, session: &Session, place: OwnerPlace) -> bool
     }
 }
 
-/// What comes before a list: the collection that it is of is asked, unless it has just refused, or the session has
-/// changed its entity.
+/// What comes before a list. If it is a list of members, their collection is asked first; not if it has just refused
+/// them, and not if the session has changed rows of their entity.
 fn before_list(
     script: &Script,
     defs: &Defs,
@@ -95,7 +96,7 @@ fn before_list(
     }
 }
 
-/// What comes before a write: each owner whose members it may change is locked.
+/// What comes before a write: a lock on each owner whose members it may change, one in each step.
 fn before_write(defs: &Defs, session: &Session, notes: &Notes, change: &Change) -> Before
     requires few { length defs.now ≤ max_collections }
     ensures { (script : Said) (mine : Journal) (own : Gathered) → Follows script session.now mine
@@ -110,7 +111,7 @@ fn before_write(defs: &Defs, session: &Session, notes: &Notes, change: &Change) 
     }
 }
 
-/// What comes before the end of a transaction: each lock is given back.
+/// What comes before the end of a transaction: each lock is given back, one in each step.
 fn before_end(notes: &Notes) -> Before
     ensures { (mine : Journal) (own : Gathered) → AreNoted notes.now own
         → due_end (locks_in own) ≡ due_by result Act.End mine }

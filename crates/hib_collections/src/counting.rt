@@ -1,4 +1,4 @@
-// What the entries come to on the regions of collections, in one pass.
+// What the entries at the regions of collections come to, counted in one pass for the last lines of a journal's text.
 ghost use Rattle.std.specs.Prelude.{◌≡◌, ◌+◌, ◌-◌, ◌<◌, ◌^◌, ℕ, IfOk, length, slice_index_or};
 ghost use Rattle.hib_collections.specs.Counted.{AreBelow, counts_on, noted, noted_on};
 ghost use Rattle.hib_listeners.specs.Statistics.{one_if};
@@ -29,7 +29,7 @@ const NONE: Counts = Counts {
     locks: 0,
 };
 
-// One more, if so.
+// Raises a count by one, if the entry counts.
 fn raise(count: &mut usize, counts: bool)
     requires { count.old < 2 ^ 64 - 1 }
     ensures { count.new ≡ count.old + one_if counts }
@@ -64,7 +64,7 @@ fn locks(entry: &MemberEntry) -> bool
 }
 
 impl Counts {
-    // An entry on this region is counted.
+    // Counts an entry, which is on this region.
     fn note(&mut self, entry: &MemberEntry)
         requires { AreBelow (2 ^ 64 - 1) self.old }
         ensures { self.new ≡ noted entry.now self.old }
@@ -76,7 +76,7 @@ impl Counts {
     }
 }
 
-// An entry is counted of the collection that it is on, if there is one.
+// Counts an entry for the collection that it is on, if it is on one.
 fn count_entry(counts: &mut [Counts], entry: &GatherEntry)
     requires { (c : ℕ) (d : Counts) → c < length counts.old
         → AreBelow (2 ^ 64 - 1) (slice_index_or counts.old c d) }
@@ -91,8 +91,8 @@ fn count_entry(counts: &mut [Counts], entry: &GatherEntry)
     }
 }
 
-/// The counts of the first `number` collections, in one pass over the entries. An entry on another is counted nowhere.
-/// Fails for want of memory alone.
+/// The counts of the first `number` collections, in one pass over the entries. An entry on any other is counted
+/// nowhere. Fails for want of memory alone.
 pub fn counts_of(
     alloc: Global,
     entries: &[GatherEntry],

@@ -1,5 +1,5 @@
-// A run with collections: sessions over engines and over the regions of collections, the journal of their steps, and
-// the listeners.
+// The factory of `collect`, which hib_section_calls opens and plays: sessions over engines and over the regions of
+// collections, the journal of their steps, and the listeners.
 ghost use Rattle.std.specs.Prelude.{◌≡◌, ◌<◌, ◌≤◌, ◌^◌, ℕ, [], ◌∷◌, length, slice_get, Some, is_ok, OnOk, OnErr, IfOk};
 ghost use Rattle.std.specs.Prelude.{IfErr, Ok, true, false};
 ghost use Rattle.hib_journal.specs.Runs.{told_committed, fault_count};
@@ -40,10 +40,10 @@ pub struct GatherRefused<K, L> {
     pub listeners: Vec<L>,
 }
 
-/// Sessions over shared engines and over the regions of collections, with the journal of their steps, which is legal
-/// for the name's script and collections from the name's rows, and the listeners that are told each entry of a
-/// session's plan, a hit as the list that it stands for, in the step that adds it. After a listener had no memory for
-/// an entry, which stands, no call adds one more: it answers want of memory and changes nothing.
+/// Sessions over shared engines and over the regions of collections, with the journal of their steps and the listeners.
+/// The journal is legal for the name's script and collections from the name's rows. The step that adds an entry of a
+/// session's plan tells it to the listeners; it tells a hit as the list that it stands for. If a listener has no memory
+/// for an entry, the entry stands, but no call adds one more: it answers want of memory and changes nothing.
 pub struct Gather<K: Keeper, N: Name, L: Listener> {
     core: GatherCore<K, N>,
     listeners: Listeners<L>,
@@ -73,9 +73,9 @@ impl<K: Keeper, N: Name, L: Listener> Model for Gather<K, N, L> {
 }
 
 impl<K: Keeper, N: Name, L: Listener> Gather<K, N, L> {
-    /// Opens the run of this name, in which no session has begun. The keeper is seeded with the script's mapping and
-    /// rows, each of which it takes if its key has none. At an error the keeper is handed back with the rows that it
-    /// had, and the listeners untold.
+    /// Opens the factory of this name, in which no session has begun. The keeper is seeded with the script's mapping
+    /// and rows, each of which it takes if its key has none. At an error the keeper is handed back with the rows that
+    /// it had, and the listeners untold.
     pub fn open(
         alloc: Global,
         script: Script,
@@ -113,7 +113,7 @@ impl<K: Keeper, N: Name, L: Listener> Gather<K, N, L> {
     /// One step of a session: what is due in it, if anything is, and then the listeners hear of its entry. The other
     /// sessions stay as they are. If memory runs out no entry is added and nothing has changed, but the answer of
     /// `refused` and the keeper's counts; so a later call may succeed. Only if a listener had none does the entry
-    /// stand, and no call adds another.
+    /// stand, and no call adds another. The session must be the script's.
     pub fn step(&mut self, alloc: Global, number: SessionNo) -> Result<Stepped, AllocError>
         requires known { number < length N.script.sessions }
         ensures did { result ≡ Ok Stepped.Did → HasStepped N.script N.defs number
@@ -206,7 +206,7 @@ impl<K: Keeper, N: Name, L: Listener> Gather<K, N, L> {
         self.core.order(at)
     }
 
-    /// The journal is short. It does nothing.
+    /// Says to proofs that the journal is short. It does nothing.
     pub fn short(&self)
         ensures { length (past self.now.journal) < 2 ^ 62 }
     {
@@ -220,15 +220,15 @@ impl<K: Keeper, N: Name, L: Listener> Gather<K, N, L> {
         self.core.refused() || self.deaf
     }
 
-    /// The journal obeys the law of collections.
+    /// Says to proofs that the journal obeys the law of collections. It does nothing.
     pub fn lawful(&self)
         ensures { Obeys N.script N.defs N.from.tables (past self.now.journal) }
     {
         self.core.lawful();
     }
 
-    /// The keeper, the script, the collections, the journal and the listeners that stayed, with what the run promises
-    /// of them.
+    /// Takes the factory apart: the keeper, the script, the collections, the journal and the listeners that stayed,
+    /// with what the run promises of them.
     pub fn close(self) -> (K, Script, Defs, Gathered, Vec<L>)
         ensures script { result.1 ≡ N.script }
         ensures defs { result.2 ≡ N.defs }

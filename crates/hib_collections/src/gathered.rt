@@ -6,7 +6,7 @@ use hib_collections_law::GatherEntry;
 use std::alloc::{AllocError, Global};
 use std::marker::Model;
 
-/// No memory holds as many entries.
+/// The greatest number of entries. No memory holds as many; so no tick runs over.
 const MOST: usize = 1 << 62;
 
 /// The entries of a run with collections, the oldest first. They are only added to. Room for the next one can be made
@@ -58,7 +58,7 @@ impl Gathered {
         self.entries.reserve(1)
     }
 
-    /// Adds an entry at the end. It takes no memory.
+    /// Adds an entry at the end. There must be room for it. It takes no memory.
     #[tactic(auto, unfolding(crate::specs::Kept::past))]
     pub fn push(&mut self, entry: GatherEntry)
         requires room { 0 < self.old.spare }

@@ -1,4 +1,4 @@
-// The text of a journal with collections.
+// The text of a journal with collections, which `collect` prints.
 ghost use Rattle.std.specs.Prelude.{◌≡◌, ◌≤◌, ◌++◌, OnOk, IfOk, flat_map, length};
 ghost use Rattle.hib_collections.specs.Counted.{total_text};
 ghost use Rattle.hib_collections.specs.Text.{counts_text, entry_text, gathered_text, member_act_text};
@@ -12,7 +12,7 @@ use hib_report::{line, put_reply};
 use hib_texts::{put_labelled, put_list, put_number, put_session};
 use std::alloc::{AllocError, Global};
 
-/// A collection's name and an owner.
+/// Adds a collection's name and an owner, as each act at an owner has them.
 fn put_owner(
     alloc: Global,
     out: &mut Vec<u8>,
@@ -30,7 +30,7 @@ fn put_owner(
     put_number(alloc, out, owner)
 }
 
-/// An act at an owner.
+/// Adds an act at an owner.
 fn put_act(
     alloc: Global,
     out: &mut Vec<u8>,
@@ -68,8 +68,8 @@ fn put_act(
     }
 }
 
-/// What the region of a collection answered. Its rows have the members of an owner as cells, so a row is told as a
-/// list.
+/// Adds what the region of a collection answered. Its rows have the members of an owner as cells, so a row is printed
+/// as a list.
 fn put_answer(
     alloc: Global,
     out: &mut Vec<u8>,
@@ -88,7 +88,7 @@ fn put_answer(
     }
 }
 
-/// The line of an entry on a region, without its end.
+/// Adds the line of an entry on a collection's region, without its end.
 fn put_member(
     alloc: Global,
     out: &mut Vec<u8>,
@@ -108,7 +108,7 @@ fn put_member(
     put_answer(alloc, out, script, &entry.reply)
 }
 
-/// The line of an entry, and its end.
+/// Adds the line of an entry, and its end.
 fn put_entry(
     alloc: Global,
     out: &mut Vec<u8>,
@@ -129,7 +129,7 @@ fn put_entry(
     out.extend_from_slice(b"\n")
 }
 
-/// The four numbers of a collection's line, and its end.
+/// Adds the four numbers of a collection's line, and its end.
 fn put_numbers(alloc: Global, out: &mut Vec<u8>, counts: &Counts) -> Result<(), AllocError>
     ensures { OnOk result (out.new.items ≡ out.old.items
         ++ numbers_text counts.now.hits counts.now.misses counts.now.puts counts.now.locks) }
@@ -141,7 +141,7 @@ fn put_numbers(alloc: Global, out: &mut Vec<u8>, counts: &Counts) -> Result<(), 
     out.extend_from_slice(b"\n")
 }
 
-/// The line of a collection, with what the entries come to for it.
+/// Adds the line of a collection, with what the entries come to for it.
 fn put_count(alloc: Global, out: &mut Vec<u8>, def: &Def, counts: &Counts) -> Result<(), AllocError>
     ensures { OnOk result (out.new.items ≡ out.old.items ++ total_text def.now counts.now) }
 {
@@ -150,6 +150,7 @@ fn put_count(alloc: Global, out: &mut Vec<u8>, def: &Def, counts: &Counts) -> Re
     put_numbers(alloc, out, counts)
 }
 
+/// Adds a line for each collection, with what the entries come to for it.
 fn put_counts(
     alloc: Global,
     out: &mut Vec<u8>,
@@ -165,6 +166,7 @@ fn put_counts(
     Ok(())
 }
 
+/// Adds a line for each entry.
 fn put_entries(
     alloc: Global,
     out: &mut Vec<u8>,

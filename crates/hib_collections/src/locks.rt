@@ -1,4 +1,5 @@
-// The locks that a session holds on owners of collections.
+// The locks that a session holds on owners of collections. By them it knows whom it still has to lock before a write,
+// and what to give back before the end of its transaction.
 ghost use Rattle.std.specs.Prelude.{◌≡◌, ◌∷◌, [], ◌++◌, drop, slice_get, OnOk, true};
 ghost use Rattle.hib_collections_law.specs.Gathered.{is_locked};
 
@@ -9,11 +10,11 @@ use std::alloc::{AllocError, Global};
 use std::marker::Model;
 
 /// The locks that a session has taken in its transaction and not given back, with their numbers, in the order in which
-/// they were taken. Whether an owner is locked is asked of a set, however many are, until the first lock is given back:
-/// that is at the transaction's end.
+/// they were taken. Whether an owner is locked is looked up in a set, so it takes no longer if many are; from the first
+/// lock given back on, which is at the transaction's end, it is searched for.
 #[derive(Drop)]
 pub struct Locks {
-    /// All that were taken.
+    /// All that were taken, those given back first.
     taken: Vec<(OwnerPlace, Tick)>,
     /// Their owners.
     places: IndexSet<OwnerPlace>,
@@ -38,7 +39,7 @@ impl Model for Locks {
         × ((p : ℕ × ℕ) → is_place_in p l.places.keys ≡ is_locked l.taken.items p) };
 }
 
-/// Whether one of some locks is on an owner.
+/// Whether one of these locks is on this owner.
 fn is_among(locks: &[(OwnerPlace, Tick)], place: OwnerPlace) -> bool
     ensures { result ≡ is_locked locks.now place }
 {
@@ -84,7 +85,7 @@ impl Locks {
         Ok(())
     }
 
-    /// A lock was taken. It takes no memory.
+    /// Notes that a lock was taken. There must be room for it. It takes no memory.
     pub fn take(&mut self, place: OwnerPlace, lock: Tick)
         requires { self.old.room ≡ true }
         ensures { self.new.held ≡ self.old.held ++ (place, lock) ∷ [] }
@@ -93,7 +94,7 @@ impl Locks {
         self.taken.push_reserved((place, lock));
     }
 
-    /// The first lock was given back, if there is one. It takes no memory.
+    /// Notes that the first lock was given back, if there is one. It takes no memory.
     pub fn give(&mut self)
         ensures { self.new.held ≡ drop 1 self.old.held }
     {
@@ -102,7 +103,7 @@ impl Locks {
         }
     }
 
-    /// None is held any more. It takes no memory.
+    /// Notes that none is held any more. It takes no memory.
     pub fn clear(&mut self)
         ensures { self.new.held ≡ [] }
     {

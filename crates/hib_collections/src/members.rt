@@ -1,4 +1,4 @@
-// The sessions of a script, each with what is noted of it.
+// The sessions of `collect`, each with its notes. Members of collections stand elsewhere, in `owners` and `at_owners`.
 ghost use Rattle.std.specs.Prelude.{◌<◌, ◌^◌, [], length, IfOk};
 ghost use Rattle.hib_collections.specs.Gatherers.{AreGatherers};
 

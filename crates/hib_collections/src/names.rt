@@ -1,4 +1,4 @@
-// Which run it is.
+// What a run with collections was opened with, for contracts.
 use std::marker::Brand;
 
 /// Which run it is: what it was opened with. Contracts alone see it.

@@ -1,4 +1,5 @@
-// What is noted of a session beside what it remembers itself.
+// What is noted of a session beside what it remembers itself. By it `turns` knows what is due at the regions of
+// collections.
 ghost use Rattle.std.specs.Prelude.{◌≡◌, [], drop, Some, None, IfOk, OnOk, OnErr, IfSome, IsSome, if◌then◌else◌, true};
 ghost use Rattle.std.specs.Prelude.{is_some};
 ghost use Rattle.hib_session.specs.Memory.{brings};
@@ -11,8 +12,9 @@ use hib_base::{Act, Listing, Reply, Tick, copy_cells};
 use std::alloc::{AllocError, Global};
 use std::marker::Model;
 
-/// What is noted of a session's last entries: the locks that it holds on owners of collections, the owner whose members
-/// it was refused, if it got nothing since, and the list that it was answered then.
+/// What is noted of a session's last entries: the locks that it holds on owners of collections; the owner whose members
+/// it asked for and was refused, unless it has got something since; and the list of them that it was answered after
+/// that.
 #[derive(Drop)]
 pub struct Notes {
     locks: Locks,
@@ -61,14 +63,15 @@ impl Notes {
         self.missed.is_some()
     }
 
-    /// Whether it was answered a list after it was refused the members, and has offered it to nobody.
+    /// Whether it was answered a list of members after they were refused, and hasn't offered it to the region yet.
     pub fn has_listed(&self) -> bool
         ensures { result ≡ is_some self.now.listed }
     {
         self.listed.is_some()
     }
 
-    /// The list that it was answered after it was refused the members of an owner: the owner, and a copy of the list.
+    /// What it is to offer to a region: the owner whose members were refused, and a copy of the list that was answered
+    /// then.
     pub fn copy_of_listed(&self, alloc: Global) -> Result<Option<(OwnerPlace, Listing)>, AllocError>
         ensures { IfOk result (λ l. l ≡ self.now.listed) }
     {
@@ -81,7 +84,8 @@ impl Notes {
         }
     }
 
-    /// Takes that list out: it was offered to the region, and nothing is noted but locks. It takes no memory.
+    /// Takes that list out, when it is offered to the region. There must be one. Only locks stay noted. It takes no
+    /// memory.
     pub fn take_listed(&mut self) -> Listing
         requires { IsSome self.old.listed }
         ensures list { IfSome self.old.listed (λ l. l.1 ≡ result) }
@@ -94,7 +98,8 @@ impl Notes {
         list
     }
 
-    /// A copy of a list that is answered after members were refused. It takes memory for a list alone.
+    /// What `note` is to be given for an act and its reply: if a list is answered after members were refused, the owner
+    /// and a copy of the list. It takes memory for a list alone.
     pub fn copy_listed(
         &self,
         alloc: Global,
@@ -113,7 +118,7 @@ impl Notes {
         }
     }
 
-    /// An entry of the session's plan came, with what was listed in it. It takes no memory.
+    /// Notes that an entry of the session's plan came, with what `copy_listed` gave for it. It takes no memory.
     pub fn note(&mut self, act: &Act, listed: Option<(OwnerPlace, Listing)>)
         ensures locks { self.new.locks ≡ unless_begun act.now self.old.locks }
         ensures missed { self.new.missed ≡ None }
@@ -126,7 +131,7 @@ impl Notes {
         self.listed = listed;
     }
 
-    /// The members of an owner were asked for, and this was answered, no hit. It takes no memory.
+    /// Notes what was answered, other than a hit, when the members of an owner were asked for. It takes no memory.
     pub fn miss(&mut self, place: OwnerPlace, reply: &Reply)
         ensures locks { self.new.locks ≡ self.old.locks }
         ensures missed { self.new.missed ≡ (if is_miss reply.now then Some place else None) }
@@ -139,7 +144,7 @@ impl Notes {
         self.listed = None;
     }
 
-    /// Another entry on a region came, after which nothing is noted but locks. It takes no memory.
+    /// Notes that another entry on a region came, after which only locks stay noted. It takes no memory.
     pub fn settle(&mut self)
         ensures locks { self.new.locks ≡ self.old.locks }
         ensures missed { self.new.missed ≡ None }
@@ -160,7 +165,7 @@ impl Notes {
         self.locks.reserve()
     }
 
-    /// A lock was answered. It takes no memory.
+    /// Notes what was answered to a lock of an owner. There must be room for one more. It takes no memory.
     pub fn lock(&mut self, place: OwnerPlace, reply: &Reply)
         requires { self.old.room ≡ true }
         ensures locks { self.new.locks ≡ locks_with place reply.now self.old.locks }
@@ -174,7 +179,7 @@ impl Notes {
         self.listed = None;
     }
 
-    /// The first lock was given back. It takes no memory.
+    /// Notes that the first lock was given back. It takes no memory.
     pub fn unlock(&mut self)
         ensures locks { self.new.locks ≡ drop 1 self.old.locks }
         ensures missed { self.new.missed ≡ None }

@@ -1,4 +1,5 @@
-// The collection and the owner that a query is of, and the owners whose members a change may change.
+// Which members a query asks for, and which owners' members a change may change. So `before` knows what to ask a
+// collection for, and whom to lock.
 ghost use Rattle.std.specs.Prelude.{◌≡◌, ◌≤◌, ◌++◌, ◌==◌, [], if◌then◌else◌, Some, None, find, not, map, length};
 ghost use Rattle.std.specs.Prelude.{option_copied, option_to_list};
 ghost use Rattle.hib_base.specs.Tables.{key_of};
@@ -14,7 +15,7 @@ use crate::places::OwnerPlace;
 use hib_base::{Cell, Change, Cond, Op, Path, Query, Row, Select};
 use hib_collections_law::{Def, Defs};
 
-/// The owner that a number is: none below 1.
+/// The owner that the number in a referring cell names; none below 1.
 fn owner_in(number: i64) -> Option<u64>
     ensures { option_to_list result ≡ Gathered.owner_by (Some (Cell.Int number)) }
 {
@@ -42,7 +43,7 @@ fn owner_of(def: &Def, row: &Row) -> Option<u64>
     owner_by(row.cells.as_slice().get(usize::from(def.column)))
 }
 
-/// The owner to which a row refers, if there is a row.
+/// The owner to which the old row refers, if there is one.
 fn old_owner(def: &Def, old: Option<&Row>) -> Option<u64>
     ensures { option_to_list result ≡ Gathered.old_owner def.now (option_copied old.entry) }
 {
@@ -83,7 +84,7 @@ fn leaves_column(def: &Def, old: Option<&Row>, row: &Row) -> bool
     }
 }
 
-/// The owners whose members a change may change, by the row that was there: that one's, and the new row's.
+/// The owners whose members a change may change: the one of the row that was there, and the one of the new row.
 fn owners(def: &Def, old: Option<&Row>, change: &Change) -> (Option<u64>, Option<u64>)
     ensures { option_to_list result.0 ++ option_to_list result.1
         ≡ Gathered.owners def.now (option_copied old.entry) change.now }
@@ -101,7 +102,7 @@ fn owners(def: &Def, old: Option<&Row>, change: &Change) -> (Option<u64>, Option
     }
 }
 
-/// An owner of a collection, if there is one and it isn't locked.
+/// This owner of a collection, if there is one and the session hasn't locked it.
 fn free(locks: &Locks, collection: u16, owner: Option<u64>) -> Option<OwnerPlace>
     ensures { result ≡ find (λ p. not (is_locked locks.now.held p))
         (map (λ o. (collection, o)) (option_to_list owner)) }
@@ -128,7 +129,7 @@ fn first_free(
     }
 }
 
-/// The first owner of a collection that is to be locked before a change is written.
+/// The first owner of one collection that is to be locked before a change is written.
 fn free_in(
     locks: &Locks,
     def: &Def,
@@ -148,8 +149,8 @@ fn free_in(
     }
 }
 
-/// The first owner that is to be locked before a change is written, by the row that was there; there is none if all are
-/// locked.
+/// The first owner, of any collection, that is to be locked before a change is written; `old` is the row that was
+/// there. None if all are locked.
 pub fn to_lock(defs: &Defs, change: &Change, old: Option<&Row>, locks: &Locks) -> Option<OwnerPlace>
     requires few { length defs.now ≤ max_collections }
     ensures { result ≡ find (λ p. not (is_locked locks.now.held p))
@@ -163,6 +164,7 @@ pub fn to_lock(defs: &Defs, change: &Change, old: Option<&Row>, locks: &Locks) -
     None
 }
 
+/// Whether a query lists identifiers, as one that asks for members must.
 fn lists_ids(select: Select) -> bool
     ensures { result ≡ Members.lists_ids select }
 {
@@ -172,7 +174,8 @@ fn lists_ids(select: Select) -> bool
     }
 }
 
-/// Whether a query says no more than a collection's may: it is uncached, unordered and uncut, and lists identifiers.
+/// Whether a query says no more than one that asks for members may: it is uncached, unordered and uncut, and lists
+/// identifiers.
 fn is_bare(def: &Def, query: &Query) -> bool
     ensures { result ≡ Members.is_bare def.now query.now }
 {
@@ -211,7 +214,7 @@ fn owner_said(def: &Def, condition: &Option<Cond>) -> Option<u64>
     }
 }
 
-/// The owner that a query asks of a collection.
+/// The owner whose members of this collection a query asks for; none if it asks for something else.
 fn owner_asked(def: &Def, query: &Query) -> Option<u64>
     ensures { result ≡ Members.owner_asked def.now query.now }
 {
@@ -222,7 +225,7 @@ fn owner_asked(def: &Def, query: &Query) -> Option<u64>
     }
 }
 
-/// The collection and the owner that a query is of, if it is of one.
+/// The collection and the owner whose members a query asks for; none if it asks for something else.
 pub fn asked(defs: &Defs, query: &Query) -> Option<OwnerPlace>
     requires few { length defs.now ≤ max_collections }
     ensures { result ≡ Members.asked defs.now query.now }

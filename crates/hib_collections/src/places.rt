@@ -1,4 +1,5 @@
-// Owners of collections.
+// An owner of a collection: where members are asked for, offered and locked. To the region of the collection it is a
+// key.
 ghost use Rattle.std.specs.Prelude.{◌≡◌};
 ghost use Rattle.hib_journal.specs.Room.{key};
 

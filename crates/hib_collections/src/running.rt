@@ -1,4 +1,4 @@
-// A run with collections plays its schedule, and its sessions run to their ends.
+// `collect` plays the schedule of its script, and runs the sessions to their ends.
 ghost use Rattle.std.specs.Prelude.{◌≡◌, ◌<◌, ◌==◌, ℕ, [], length, OnOk, OnErr, true, false};
 ghost use Rattle.std.specs.List.{range_with_len};
 ghost use Rattle.hib_base.specs.declared.scripts.Order.{Order};
@@ -17,8 +17,8 @@ use hib_outside::{Keeper, Listener};
 use std::alloc::{AllocError, Global};
 
 impl<K: Keeper, N: Name, L: Listener> Gather<K, N, L> {
-    /// Runs a session for `steps` steps, or to its end if that comes before; one that isn't there has none. If memory
-    /// runs out the steps so far stand.
+    /// Runs a session for `steps` steps, or to its end if that comes before. A session that isn't there has none. If
+    /// memory runs out the steps so far stand.
     fn run_steps(&mut self, alloc: Global, number: SessionNo, steps: u32) -> Result<(), AllocError>
         ensures played { OnOk result (Leads (play_steps N.script N.defs number steps) played
             (past self.old.journal) (past self.new.journal)) }
@@ -40,7 +40,7 @@ impl<K: Keeper, N: Name, L: Listener> Gather<K, N, L> {
         Ok(())
     }
 
-    /// Runs a session to its end. If memory runs out the steps so far stand.
+    /// Runs a session to its end. It must be the script's. If memory runs out the steps so far stand.
     pub fn run_session(&mut self, alloc: Global, number: SessionNo) -> Result<(), AllocError>
         requires known { number < length N.script.sessions }
         ensures played { OnOk result (Leads (play_all N.script N.defs number) played
@@ -80,7 +80,7 @@ impl<K: Keeper, N: Name, L: Listener> Gather<K, N, L> {
         Ok(())
     }
 
-    /// Carries an order of the schedule out, if it runs a session; others do nothing here.
+    /// Carries an order of the schedule out, if it runs a session. Other orders do nothing here.
     fn obey(&mut self, alloc: Global, order: Order) -> Result<(), AllocError>
         ensures played { OnOk result (Leads (play_order N.script N.defs order) played
             (past self.old.journal) (past self.new.journal)) }

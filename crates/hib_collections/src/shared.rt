@@ -1,4 +1,4 @@
-// What the sessions of a run with collections share.
+// What the sessions of `collect` share.
 ghost use Rattle.std.specs.Prelude.{◌≡◌, [], IfOk};
 ghost use Rattle.hib_collections.specs.Collected.{AreCollected};
 

@@ -1,4 +1,5 @@
-// The steps of a run with collections, each of which adds one entry to its journal, whoever hears of it.
+// The steps of `collect`, each of which adds one entry to its journal, whoever hears of it: a `Gather` without its
+// listeners.
 ghost use Rattle.std.specs.Prelude.{◌≡◌, ◌≢◌, ◌≤◌, ◌<◌, ◌^◌, ℕ, [], length, slice_get, Some, OnOk, OnErr, IfOk, IfErr};
 ghost use Rattle.std.specs.Prelude.{Ok, false, true};
 ghost use Rattle.hib_journal.specs.Runs.{told_committed, fault_count};
@@ -60,9 +61,9 @@ impl<K: Keeper, N: Name> Model for GatherCore<K, N> {
 }
 
 impl<K: Keeper, N: Name> GatherCore<K, N> {
-    /// Opens the core of the run of this name, in which no session has begun. The rows that the keeper keeps are
-    /// widened to the script's mapping, and each of the script's rows whose key has none is added. At an error the
-    /// keeper is handed back, with the rows that it had.
+    /// Opens the core of this name, in which no session has begun. The rows that the keeper keeps are widened to the
+    /// script's mapping, and each of the script's rows whose key has none is added. At an error the keeper is handed
+    /// back, with the rows that it had.
     pub fn open(
         alloc: Global,
         script: Script,
@@ -104,7 +105,8 @@ impl<K: Keeper, N: Name> GatherCore<K, N> {
     }
 
     /// One step of a session: what is due in it, if anything is. If memory runs out no entry is added and nothing has
-    /// changed, but the answer of `refused` and the keeper's counts; so a later call may succeed.
+    /// changed, but the answer of `refused` and the keeper's counts; so a later call may succeed. The session must be
+    /// the script's.
     pub fn step(&mut self, alloc: Global, number: SessionNo) -> Result<Turned, AllocError>
         requires known { number < length N.script.sessions }
         ensures does { IfOk result (Does N.script N.defs number (past self.old.journal)
@@ -201,7 +203,7 @@ impl<K: Keeper, N: Name> GatherCore<K, N> {
         *self.script.schedule.at(at)
     }
 
-    /// The journal is short. It does nothing.
+    /// Says to proofs that the journal is short. It does nothing.
     pub fn short(&self)
         ensures { length (past self.now.journal) < 2 ^ 62 }
     {
@@ -215,7 +217,7 @@ impl<K: Keeper, N: Name> GatherCore<K, N> {
         self.refused
     }
 
-    /// The journal obeys the law of collections. It does nothing.
+    /// Says to proofs that the journal obeys the law of collections. It does nothing.
     pub fn lawful(&self)
         ensures { Obeys N.script N.defs N.from.tables (past self.now.journal) }
     {
@@ -223,7 +225,7 @@ impl<K: Keeper, N: Name> GatherCore<K, N> {
         let _ = &self.shared;
     }
 
-    /// The keeper, the script, the collections and the journal.
+    /// Takes the core apart: the keeper, the script, the collections and the journal.
     pub fn close(self) -> (K, Script, Defs, Gathered)
         ensures script { result.1 ≡ N.script }
         ensures defs { result.2 ≡ N.defs }

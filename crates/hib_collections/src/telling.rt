@@ -1,4 +1,4 @@
-// The listeners hear of what a step did.
+// The listeners hear of what a step of `collect` did.
 ghost use Rattle.std.specs.Prelude.{◌≡◌, ◌∷◌, is_ok, not, false};
 ghost use Rattle.hib_listeners.specs.Told.{tells, AreTold};
 ghost use Rattle.hib_collections_law.specs.declared.entries.GatherEntry.{GatherEntry};
@@ -15,7 +15,7 @@ use hib_listeners::Listeners;
 use hib_outside::Listener;
 use std::alloc::{AllocError, Global};
 
-/// Tells an entry. If a listener has no memory for it, that is noted.
+/// Tells an entry to the listeners. If one has no memory for it, `deaf` notes that.
 fn tell_entry<L: Listener>(
     alloc: Global,
     entry: &Entry,
@@ -31,8 +31,8 @@ fn tell_entry<L: Listener>(
     told
 }
 
-/// Tells the entry of a session's plan that a turn added, or the one that its hit stands for; nothing, if it added
-/// another. If a listener has no memory for it, that is noted.
+/// Tells the entry of a session's plan that a turn added, or the one that its hit stands for. If it added any other,
+/// nothing is told. If a listener has no memory for it, `deaf` notes that.
 pub fn tell<L: Listener>(
     alloc: Global,
     turned: &Turned,

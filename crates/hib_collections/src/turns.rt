@@ -1,4 +1,5 @@
-// One turn of a session: an act of its plan is answered, or one at a collection's region that comes before or after it.
+// One turn of a session, which is a step of it: an act of its plan is answered, or one at a collection's region that
+// comes before or after it.
 ghost use Rattle.std.specs.Prelude.{◌≡◌, ◌+◌, ◌<◌, ◌^◌, Option, length, IfOk, IfSome, OnOk, OnErr, Some, None, true};
 ghost use Rattle.std.specs.Prelude.{false, is_some};
 ghost use Rattle.hib_base.specs.declared.entries.Act.{Act};
@@ -26,7 +27,7 @@ use hib_outside::Keeper;
 use hib_session::Session;
 use std::alloc::{AllocError, Global};
 
-/// What a turn did.
+/// What a turn came to. No list is turned here.
 #[derive(Drop)]
 pub enum Turned {
     /// One entry more, which is the newest of the journal.
@@ -83,8 +84,7 @@ fn prepare(
     Ok(Tick(journal.len() as u64 + 1))
 }
 
-/// The act of the plan is answered, taken by its session, and its entry added: all of it, or if memory runs out
-/// nothing.
+/// Answers the act of the plan, lets its session take it, and adds its entry: all of it, or if memory runs out nothing.
 fn serve_plain<K: Keeper, N: Name>(
     alloc: Global,
     script: &Script,
@@ -125,7 +125,7 @@ fn serve_plain<K: Keeper, N: Name>(
     Ok(Turned::Did)
 }
 
-/// The act that is due by the plan, or what comes before it.
+/// Answers the act that is due by the plan, or first what comes before it.
 fn serve<K: Keeper, N: Name>(
     alloc: Global,
     script: &Script,
@@ -159,7 +159,8 @@ fn serve<K: Keeper, N: Name>(
     }
 }
 
-/// One act of a session, if one is due. If memory runs out nothing has changed, but for the keeper's counts.
+/// One act of a session, if one is due: what was listed after a miss is offered first. If memory runs out nothing has
+/// changed, but for the keeper's counts.
 fn take_turn<K: Keeper, N: Name>(
     alloc: Global,
     script: &Script,
@@ -186,7 +187,7 @@ fn take_turn<K: Keeper, N: Name>(
     serve::<K, N>(alloc, script, defs, gatherer, shared, act, tick)
 }
 
-/// Whether anything is due in the session of this number. Fails for want of memory alone.
+/// Whether anything is due in the session of this number. A deaf factory asks it. Fails for want of memory alone.
 pub fn has_turn<N: Name>(
     alloc: Global,
     script: &Script,

@@ -1,4 +1,4 @@
-// The columns that the words of a query name, and what they may be compared with.
+// The columns that the words of a query or of a statement name, and what they may be compared with.
 ghost use Rattle.hib_columns.specs.Columns as named;
 ghost use Rattle.std.specs.Prelude.{◌≡◌};
 
@@ -36,7 +36,7 @@ pub fn columns_of(mapping: &[EntityDef], entity: Option<EntityNo>) -> &[ColumnDe
     }
 }
 
-/// The column of this name.
+/// The column of this name, if there is one.
 pub fn plain_column(columns: &[ColumnDef], name: &[u8]) -> Option<Found>
     ensures { result ≡ named.plain_column columns.now name.now }
 {
@@ -46,6 +46,7 @@ pub fn plain_column(columns: &[ColumnDef], name: &[u8]) -> Option<Found>
     }
 }
 
+/// The column at a place, with its type.
 fn at_place(columns: &[ColumnDef], place: u16) -> Option<Found>
     ensures { result ≡ named.at_place columns.now place }
 {
@@ -58,7 +59,7 @@ fn at_place(columns: &[ColumnDef], place: u16) -> Option<Found>
     }
 }
 
-/// The place of a column; if there is none, 0.
+/// The place of a column; 0 if there is none. The line has a fault then, which is told elsewhere.
 pub fn place_or_first(found: Option<Found>) -> u16
     ensures { result ≡ named.place_or_first found }
 {
@@ -68,7 +69,7 @@ pub fn place_or_first(found: Option<Found>) -> u16
     }
 }
 
-/// The column that a word or a path names: one of these columns, or by a reference one of its target.
+/// The column that a word or a path names, if there is one: one of these columns, or by a reference one of its target.
 pub fn named_column(mapping: &[EntityDef], columns: &[ColumnDef], token: &Token) -> Option<Column>
     ensures { result ≡ named.column_of mapping.now columns.now token.now }
 {
@@ -83,6 +84,7 @@ pub fn named_column(mapping: &[EntityDef], columns: &[ColumnDef], token: &Token)
     }
 }
 
+/// The path and the type of a column in the row itself.
 fn own(found: Option<Found>) -> Option<Column>
     ensures { result ≡ named.own found }
 {
@@ -98,7 +100,7 @@ fn own(found: Option<Found>) -> Option<Column>
     }
 }
 
-/// The column of this name in the entity that a reference leads to.
+/// The column of this name in the entity to which a reference leads.
 fn through(mapping: &[EntityDef], reference: Option<Found>, name: &[u8]) -> Option<Column>
     ensures { result ≡ named.through mapping.now reference name.now }
 {
@@ -108,6 +110,7 @@ fn through(mapping: &[EntityDef], reference: Option<Found>, name: &[u8]) -> Opti
     }
 }
 
+/// The column of this name in the entity to which a column of this type refers; none if it doesn't refer.
 fn through_type(mapping: &[EntityDef], place: u16, kind: ColumnType, name: &[u8]) -> Option<Column>
     ensures { result ≡ named.through_type mapping.now place kind name.now }
 {
@@ -121,6 +124,7 @@ fn through_type(mapping: &[EntityDef], place: u16, kind: ColumnType, name: &[u8]
     }
 }
 
+/// The path and the type of a column that is found by a reference.
 fn led_to(place: u16, entity: EntityNo, found: Option<Found>) -> Option<Column>
     ensures { result ≡ named.led_to place entity found }
 {
@@ -146,7 +150,7 @@ pub fn is_path(token: &Token) -> bool
     matches!(token, Token::Word(_) | Token::Path(_, _))
 }
 
-/// The path of a column; if there is none, that of the first one.
+/// The path of a column; that of the first one if there is none. The line has a fault then, which is told elsewhere.
 pub fn path_or_first(column: Option<Column>) -> Path
     ensures { result ≡ named.path_or_first column }
 {
@@ -159,7 +163,7 @@ pub fn path_or_first(column: Option<Column>) -> Path
     }
 }
 
-/// Whether a cell has a column's type, if the column is known.
+/// Whether a cell has a column's type. If the column isn't known, any cell will do.
 pub fn is_typed(column: &Option<Column>, cell: &Cell) -> bool
     ensures { result ≡ named.is_typed column.now cell.now }
 {
@@ -179,6 +183,7 @@ pub fn is_comparable(op: Op, column: &Option<Column>) -> bool
     }
 }
 
+/// Whether a comparison asks for an order.
 fn is_order(op: Op) -> bool
     ensures { result ≡ named.is_order op }
 {

@@ -1,4 +1,5 @@
 // The acts that complete a transaction: what a session sends to regions, key by key, and then to the stamps.
+// hib_session asks for them. `done` says that rows may be put back.
 ghost use Rattle.std.specs.Prelude.{◌≡◌, ◌≤◌, ◌∷◌, ◌++◌, [], true, IfOk, OnOk, length, option_copied, option_and_then, if◌then◌else◌, take, None};
 ghost use Rattle.std.specs.List.{list_any};
 ghost use Rattle.hib_base.specs.Keys.{same_key};
@@ -15,10 +16,10 @@ use hib_base::{Act, Acts, Change, Key, Mapping, Mode, Row, Seq, Strategy, Tick, 
 use indexmap::IndexMap;
 use std::alloc::{AllocError, Global};
 
-/// For how many changes at most going over them is cheaper than maps of their keys.
+/// If there are at most so many changes, going over them is quicker than maps of their keys.
 const FEW: usize = 8;
 
-/// The row that may be put back after a key's last change.
+/// The row that may be put back after a key's last change; none if no row may, or if that was a delete.
 fn put_back(done: bool, last: Option<&Change>) -> Option<&Row>
     ensures { option_copied result
         ≡ (if done then option_and_then row_left (option_copied last.entry) else None) }
@@ -50,7 +51,7 @@ fn insert_completed(
     }
 }
 
-/// What gives a lock back.
+/// The act that gives a lock back, with a row if there is one.
 fn released(alloc: Global, key: Key, lock: Tick, row: Option<&Row>) -> Result<Act, AllocError>
     ensures { IfOk result (λ a. a ∷ [] ≡ release_of key lock (option_copied row.entry)) }
 {
@@ -63,7 +64,7 @@ fn released(alloc: Global, key: Key, lock: Tick, row: Option<&Row>) -> Result<Ac
     }
 }
 
-/// What completes a key whose first change was an update or a delete.
+/// What completes a key whose first change was an update or a delete: its lock is given back, or its item removed.
 fn update_completed(
     alloc: Global,
     strategy: Strategy,
@@ -105,7 +106,7 @@ fn key_completed(
     }
 }
 
-/// What completes one of the changed keys, by the places of its changes and its lock.
+/// What completes one of the changed keys. Its changes are found by their places.
 fn completed(
     alloc: Global,
     mapping: &Mapping,
@@ -128,7 +129,7 @@ fn completed(
     Ok(act)
 }
 
-/// What completes each of the changed keys, in order of first change.
+/// What completes each of the changed keys, in order of first change. Changes are found by their places.
 fn all_completed(
     alloc: Global,
     mapping: &Mapping,
@@ -152,7 +153,7 @@ fn all_completed(
     Ok(acts)
 }
 
-/// What completes the key of a change, if no other is of its key.
+/// What completes the key of a change, which must be the only one of its key.
 fn alone_completed(
     alloc: Global,
     mapping: &Mapping,
@@ -172,7 +173,8 @@ fn alone_completed(
     Ok(act)
 }
 
-/// What completes each of the keys of changes whose keys rise, and of which each is therefore the only one of its key.
+/// What completes each of the keys of these changes. The keys must rise, so that each change is the only one of its
+/// key.
 fn risen_completed(
     alloc: Global,
     mapping: &Mapping,
@@ -193,7 +195,7 @@ fn risen_completed(
     Ok(acts)
 }
 
-/// What completes one of the keys of few changes: its first and its last one are found by going over them.
+/// What completes one of the keys of few changes. Its first and its last change are found by going over them.
 fn found_completed(
     alloc: Global,
     mapping: &Mapping,
@@ -224,7 +226,7 @@ fn add(acts: &mut Acts, act: Option<Act>) -> Result<(), AllocError>
     }
 }
 
-/// What completes the key of the change at a place, unless one before it is of this key.
+/// What completes the key of the change at a place; none if a change before it is of this key.
 fn new_completed(
     alloc: Global,
     mapping: &Mapping,
@@ -291,9 +293,9 @@ fn keys_completed(
     }
 }
 
-/// What completes a transaction that wrote these changes, but for its End: key by key in order of first change, a row
-/// is put back or a lock is given back; and then the changed tables are stamped, if there are any. The locks are by
-/// key, and may be of more keys than were changed. Fails for want of memory alone.
+/// What completes a transaction that wrote these changes, but for its End. Key by key, in order of first change, a row
+/// is put back or a lock is given back; then the changed tables are stamped, if there are any. The locks are by key,
+/// and may be of more keys than were changed. Fails for want of memory alone.
 pub fn acts(
     alloc: Global,
     mapping: &Mapping,

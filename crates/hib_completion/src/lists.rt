@@ -1,4 +1,4 @@
-// The tables that a completion stamps.
+// The tables that a completion stamps, and a flush before its writes.
 ghost use Rattle.std.specs.Prelude.{◌≡◌, ◌==◌, IfOk, MatchOption, false, true};
 ghost use Rattle.std.specs.List.{list_any};
 ghost use Rattle.hib_base.specs.Tables.{key_of};

@@ -1,4 +1,4 @@
-// The places of the first and the last change of each key, each found in one pass.
+// The first and the last change of each key that a transaction has changed, by their places among the changes.
 ghost use Rattle.std.specs.Prelude.{◌≡◌, ◌<◌, true, if◌then◌else◌, IfOk, OnOk, None, Some, length, option_copied, slice_get};
 ghost use Rattle.std.specs.List.{list_any};
 ghost use Rattle.std.specs.Map.{keys_of as keys_in, lookup};
@@ -14,7 +14,7 @@ use hib_outside::keyed;
 use indexmap::IndexMap;
 use std::alloc::{AllocError, Global};
 
-/// The change at the place that a key has, if it has one.
+/// The change of a key, whose place these places have, if they have one.
 pub fn change_of<'a>(
     changes: &'a [Change],
     places: &IndexMap<Key, usize>,
@@ -66,7 +66,7 @@ pub fn first_of<'a>(changes: &'a [Change], key: &Key) -> Option<&'a Change>
     None
 }
 
-/// A later place if it counts, else the one so far.
+/// A later place if it counts, else the last one so far.
 fn or_so_far(counts: bool, place: usize, last: Option<usize>) -> Option<usize>
     ensures { result ≡ (if counts then Some place else last) }
 {
@@ -92,7 +92,7 @@ pub fn last_of<'a>(changes: &'a [Change], key: &Key) -> Option<&'a Change>
     changes.get(last_place(changes, key)?)
 }
 
-/// A key has its first change at this place, unless it has one before.
+/// Notes that a key has its first change at this place, unless it has one before.
 fn note_first(firsts: &mut IndexMap<Key, usize>, key: Key, place: usize) -> Result<(), AllocError>
     ensures keys { OnOk result (keys_in firsts.new.entries
         ≡ with_key key (keys_in firsts.old.entries)) }
@@ -120,7 +120,7 @@ fn firsts_of(alloc: Global, changes: &[Change]) -> Result<IndexMap<Key, usize>, 
     Ok(firsts)
 }
 
-/// A key has its last change at this place, so far.
+/// Notes that a key has its last change at this place, so far.
 fn note_last(lasts: &mut IndexMap<Key, usize>, key: Key, place: usize) -> Result<(), AllocError>
     ensures { OnOk result ((k : KeyOf) → lookup (same_key k) lasts.new.entries
         ≡ (if same_key key k then Some place else lookup (same_key k) lasts.old.entries)) }
@@ -151,7 +151,7 @@ pub fn lock_number(locks: &IndexMap<Key, Tick>, key: &Key) -> Tick
     }
 }
 
-/// The key at a place.
+/// The key at a place in the order of first changes.
 pub fn key_at(firsts: &IndexMap<Key, usize>, place: usize) -> Key
     requires { place < length firsts.now.entries }
     ensures { slice_get (keys_in firsts.now.entries) place ≡ Some result }
@@ -170,7 +170,7 @@ pub struct Touched {
 }
 
 impl Touched {
-    /// Of these changes.
+    /// What is to be known of these changes.
     pub fn of(alloc: Global, changes: &[Change]) -> Result<Touched, AllocError>
         ensures { IfOk result (StandsFor changes.now) }
     {

@@ -1,4 +1,4 @@
-// How long a run is at most.
+// How long a run is at most, so that no tick runs over; and how long it is as a rule, so that room is made once.
 ghost use Rattle.std.specs.Prelude.{◌≡◌, ◌≤◌, ◌+◌, true, Option, length};
 ghost use Rattle.hib_base.specs.Tables.{Tables};
 ghost use Rattle.hib_base.specs.Valid.{is_valid};
@@ -23,7 +23,7 @@ pub fn runs_are_short()
     entries_are_few();
 }
 
-/// How many entries a run of a script has as a rule. A run may have more or fewer.
+/// How many entries a run of a script has as a rule; room for so many is made at once. A run may have more or fewer.
 pub fn usual_length(script: &Script) -> usize {
     let mut count = script.schedule.len();
     for session in script.sessions.as_slice() {

@@ -1,4 +1,5 @@
-// The factory: sessions over shared engines, the journal of their steps, and the listeners that hear of each.
+// The factory: sessions over shared engines, the journal of their steps, and the listeners that hear of each. The top
+// call opens and plays one for `play`; hib_workers has threads step one for `work`.
 ghost use Rattle.std.specs.Prelude.{◌≡◌, ◌+◌, ◌<◌, ◌≤◌, ◌^◌, ◌==◌, ℕ, [], ◌∷◌, length, slice_get, is_ok, OnOk, OnErr, IfOk, IfErr, IfSome, IsOk, Ok, Some, true, false};
 ghost use Rattle.hib_journal.specs.Kept.{past};
 ghost use Rattle.hib_base.specs.declared.scripts.Order.{Order};
@@ -35,9 +36,9 @@ use hib_outside::{Keeper, Listener};
 use std::alloc::{AllocError, Global};
 use std::marker::Model;
 
-/// Sessions over shared engines, with the journal of their steps, which is legal for the name's script from the name's
-/// rows, and the listeners that are told each entry in the step that adds it. After a listener had no memory for an
-/// entry, which stands, no call adds one more: it answers want of memory and changes nothing.
+/// Sessions over shared engines, with the journal of their steps and the listeners. The journal is legal for the name's
+/// script from the name's rows. The step that adds an entry tells it to the listeners. If a listener has no memory for
+/// an entry, the entry stands, but no call adds one more: it answers want of memory and changes nothing.
 pub struct Factory<K: Keeper, N: Name, L: Listener> {
     core: Core<K, N>,
     listeners: Listeners<L>,
@@ -106,7 +107,7 @@ impl<K: Keeper, N: Name, L: Listener> Factory<K, N, L> {
     /// sessions stay as they are. The keeper is asked once at most, and only if the act asks for rows. If memory runs
     /// out no entry is added and nothing has changed, but the answer of `refused` and, if the act that was due calls
     /// the keeper, its counts; so a later call may succeed. Only if a listener had none does the entry stand, and no
-    /// call adds another.
+    /// call adds another. The session must be the script's.
     pub fn step(&mut self, alloc: Global, number: SessionNo) -> Result<Stepped, AllocError>
         requires known { number < length N.script.sessions }
         ensures did { result ≡ Ok Stepped.Did
@@ -208,7 +209,8 @@ impl<K: Keeper, N: Name, L: Listener> Factory<K, N, L> {
         self.core.order(at)
     }
 
-    /// The journal obeys the law, and each list from the cache is what its query gave at the moment of the hit.
+    /// Says to proofs that the journal obeys the law, and that each list from the cache is what its query gave at the
+    /// moment of the hit. It does nothing.
     pub fn lawful(&self)
         ensures law { Obeys N.script N.from.tables (past self.now.journal) }
         ensures given { IfSome N.from.tables
@@ -217,8 +219,8 @@ impl<K: Keeper, N: Name, L: Listener> Factory<K, N, L> {
         self.core.lawful();
     }
 
-    /// Runs a session for `steps` steps, or to its end if that comes before; one that isn't there has none. If memory
-    /// runs out the steps so far stand.
+    /// Runs a session for `steps` steps, or to its end if that comes before. A session that isn't there has none. If
+    /// memory runs out the steps so far stand.
     pub fn run_steps(
         &mut self,
         alloc: Global,
@@ -266,7 +268,7 @@ impl<K: Keeper, N: Name, L: Listener> Factory<K, N, L> {
         )
     }
 
-    /// Evicts a row of a cached entity from its region. What want of memory leaves is as after `step`.
+    /// Evicts a row from its region. Its entity must be cached. What want of memory leaves is as after `step`.
     pub fn evict(&mut self, alloc: Global, key: Key) -> Result<(), AllocError>
         requires cached { is_cached N.script key.entity ≡ true }
         ensures { IsObeyed N.script N.from (Order.Evict key) result self.old self.new }
@@ -365,7 +367,8 @@ impl<K: Keeper, N: Name, L: Listener> Factory<K, N, L> {
         self.finish(alloc)
     }
 
-    /// The keeper, the script, the journal and the listeners that stayed, with what the factory promises of them.
+    /// Takes the factory apart: the keeper, the script, the journal and the listeners that stayed, with what the
+    /// factory promises of them.
     pub fn close(self) -> (K, Script, Journal, Vec<L>)
         ensures script { result.1 ≡ N.script }
         ensures journal { result.2 ≡ self.journal }

@@ -1,4 +1,4 @@
-// A factory that was not opened.
+// Why a factory wasn't opened.
 use hib_store::OpenFault;
 
 /// Why a factory wasn't opened, with the listeners that were handed in.

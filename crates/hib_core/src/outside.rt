@@ -1,4 +1,4 @@
-// What comes from outside of the sessions: kills, evictions and restarts.
+// What comes from outside of the sessions: kills, evictions and restarts, each an entry of no session.
 ghost use Rattle.std.specs.Prelude.{◌≡◌, ◌∷◌, ◌+◌, ◌<◌, ◌≤◌, List, length, OnOk, OnErr, IsOk, true, false};
 ghost use Rattle.hib_base.specs.declared.scripts.Order.{Order};
 ghost use Rattle.hib_journal.specs.Kept.{past};
@@ -21,7 +21,8 @@ use hib_outside::Keeper;
 use hib_session::{Session, kill_all, kill_at};
 use std::alloc::{AllocError, Global};
 
-/// Adds the entry of an act from outside, to a journal that has room for it. It takes no memory.
+/// Adds the entry of an act from outside to a journal, which must have room for it. It takes no memory. Listeners are
+/// told elsewhere, in `telling`.
 fn tell(journal: &mut Journal, tick: Tick, act: Act, reply: Reply)
     requires room { 0 < journal.old.spare }
     requires tick { tick ≡ length (past journal.old) + 1 }
@@ -80,7 +81,7 @@ pub fn kill<K: Keeper, N: Name>(
     Ok(())
 }
 
-/// Evicts a row of a cached entity from its region. If memory runs out nothing has changed.
+/// Evicts a row from its region. Its entity must be cached. If memory runs out nothing has changed.
 pub fn evict<K: Keeper, N: Name>(
     alloc: Global,
     key: Key,

@@ -1,4 +1,4 @@
-// Sessions of a factory run to their ends.
+// Sessions of a factory run to their ends, when the schedule is over or when threads have left them.
 ghost use Rattle.std.specs.Prelude.{◌≡◌, ◌<◌, ◌==◌, ℕ, length, OnOk, false};
 ghost use Rattle.std.specs.List.{range_with_len};
 ghost use Rattle.hib_journal.specs.Kept.{past};
@@ -16,7 +16,7 @@ use hib_outside::{Keeper, Listener};
 use std::alloc::{AllocError, Global};
 
 impl<K: Keeper, N: Name, L: Listener> Factory<K, N, L> {
-    /// Runs a session to its end. If memory runs out the steps so far stand.
+    /// Runs a session to its end. It must be the script's. If memory runs out the steps so far stand.
     pub fn run_session(&mut self, alloc: Global, number: SessionNo) -> Result<(), AllocError>
         requires known { number < length N.script.sessions }
         ensures played { OnOk result (Leads (play_all N.script number) played

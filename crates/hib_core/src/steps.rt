@@ -1,4 +1,5 @@
-// The steps of a factory, each of which adds one entry to its journal, whoever hears of it.
+// The steps of a factory, each of which adds one entry to its journal, whoever hears of it: a `Factory` is this with
+// listeners.
 ghost use Rattle.std.specs.Prelude.{◌≡◌, ◌≢◌, ◌+◌, ◌<◌, ◌≤◌, ◌^◌, ◌==◌, ℕ, [], ◌∷◌, length, slice_get, OnOk, OnErr, IfOk, IfErr, IfSome, IsOk, Ok, Some, true, false};
 ghost use Rattle.hib_journal.specs.Kept.{past};
 ghost use Rattle.hib_base.specs.declared.scripts.Order.{Order};
@@ -101,9 +102,10 @@ impl<K: Keeper, N: Name> Core<K, N> {
         })
     }
 
-    /// One step of a session: the act that is due in it, if one is. The other sessions stay as they are. The keeper is asked once at
-    /// most, and only if the act asks for rows. If memory runs out no entry is added and nothing has changed, but the answer of
-    /// `refused` and, if the act that was due calls the keeper, its counts; so a later call may succeed.
+    /// One step of a session: the act that is due in it, if one is. The other sessions stay as they are. The keeper is
+    /// asked once at most, and only if the act asks for rows. If memory runs out no entry is added and nothing has
+    /// changed, but the answer of `refused` and, if the act that was due calls the keeper, its counts; so a later call
+    /// may succeed. The session must be the script's.
     pub fn step(&mut self, alloc: Global, number: SessionNo) -> Result<Stepped, AllocError>
         requires known { number < length N.script.sessions }
         ensures did { result ≡ Ok Stepped.Did
@@ -220,7 +222,7 @@ impl<K: Keeper, N: Name> Core<K, N> {
         }
     }
 
-    /// A kill that adds no entry: if the session is open, it answers want of memory.
+    /// The kill in a factory that is deaf, which adds no entry: if the session is open, it answers want of memory.
     pub fn idle_kill(&self, number: SessionNo) -> Result<(), AllocError>
         ensures closed { is_open number (past self.now.journal) ≡ false → IsOk result }
         ensures open { IsOk result → is_open number (past self.now.journal) ≡ false }
@@ -241,7 +243,8 @@ impl<K: Keeper, N: Name> Core<K, N> {
         opened::<K, N>(number, &self.engines)
     }
 
-    /// The journal obeys the law, and each list from the cache is what its query gave at the moment of the hit.
+    /// Says to proofs that the journal obeys the law, and that each list from the cache is what its query gave at the
+    /// moment of the hit. It does nothing.
     pub fn lawful(&self)
         ensures law { Obeys N.script N.from.tables (past self.now.journal) }
         ensures given { IfSome N.from.tables
@@ -272,8 +275,8 @@ impl<K: Keeper, N: Name> Core<K, N> {
         killed
     }
 
-    /// Evicts a row of a cached entity from its region. If memory runs out nothing has changed but the answer of
-    /// `refused`.
+    /// Evicts a row from its region. Its entity must be cached. If memory runs out nothing has changed but the answer
+    /// of `refused`.
     pub fn evict(&mut self, alloc: Global, key: Key) -> Result<(), AllocError>
         requires cached { is_cached N.script key.entity ≡ true }
         ensures carried { IsCarriedOut N.script N.from (Order.Evict key) result self.old self.new }
@@ -303,7 +306,7 @@ impl<K: Keeper, N: Name> Core<K, N> {
         restarted
     }
 
-    /// The keeper, the script and the journal, with what holds of them.
+    /// Takes the core apart: the keeper, the script and the journal, with what holds of them.
     pub fn close(self) -> (K, Script, Journal)
         ensures script { result.1 ≡ N.script }
         ensures journal { result.2 ≡ self.journal }

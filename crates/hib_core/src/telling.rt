@@ -1,4 +1,4 @@
-// The listeners hear of the newest entry.
+// The listeners of a factory hear of its newest entry.
 ghost use Rattle.std.specs.Prelude.{◌≡◌, [], ◌∷◌, ◌++◌, List, is_ok, not, false};
 ghost use Rattle.hib_base.specs.declared.entries.Entry.{Entry};
 ghost use Rattle.hib_journal.specs.Kept.{past};
@@ -11,7 +11,7 @@ use hib_listeners::{Listeners, telling_goes_on};
 use hib_outside::Listener;
 use std::alloc::{AllocError, Global};
 
-/// Tells the newest entry of a journal. If a listener has no memory for it, that is noted.
+/// Tells the newest entry of a journal to the listeners. If one has no memory for it, `deaf` notes that.
 pub fn tell<L: Listener>(
     alloc: Global,
     journal: &Journal,

@@ -1,4 +1,5 @@
-// One turn of a session: the act that is due is answered by the session or by an engine, and its entry is added.
+// One turn of a session, which is a step of the factory: the act that is due is answered by the session or by an
+// engine, and its entry is added.
 ghost use Rattle.std.specs.Prelude.{ℕ, ◌≡◌, ◌≢◌, ◌∷◌, ◌<◌, ◌^◌, ◌+◌, ◌==◌, length, slice_get, is_some, IfOk, OnOk, OnErr, IsOk, Ok, None, false, true, IfSome};
 ghost use Rattle.hib_base.specs.declared.entries.Entry.{Entry};
 ghost use Rattle.hib_journal.specs.Kept.{past};
@@ -38,6 +39,7 @@ fn due_act(alloc: Global, script: &Script, session: &Session) -> Result<Option<A
     Ok(act)
 }
 
+/// Whether there is an act; for `is_due`.
 fn is_some(act: Option<Act>) -> bool
     ensures { result ≡ is_some act }
 {
@@ -59,7 +61,7 @@ fn is_due(alloc: Global, script: &Script, session: &Session) -> Result<bool, All
     Ok(is_some(due))
 }
 
-/// Whether an act is due in the session of this number.
+/// Whether an act is due in the session of this number. A deaf factory asks it.
 pub fn has_turn<N: Name>(
     alloc: Global,
     script: &Script,
@@ -77,8 +79,8 @@ pub fn has_turn<N: Name>(
     is_due(alloc, script, &sessions[number.0 as usize])
 }
 
-/// The tick of the next entry. All parts stand under one lock, so that they share their last tick, and so do the
-/// sessions: it is the number of entries.
+/// The tick of the next entry, one more than there are entries. All parts stand under one lock, so that they share
+/// their last tick, and so do the sessions.
 pub fn next_tick(journal: &Journal) -> Result<Tick, AllocError>
     ensures tick { IfOk result (λ t. t ≡ length (past journal.now) + 1) }
     ensures few { OnOk result (length (past journal.now) < 2 ^ 62) }
@@ -101,7 +103,7 @@ pub fn reserve_tick(journal: &mut Journal) -> Result<Tick, AllocError>
     next_tick(journal)
 }
 
-/// Adds an entry to a journal that has room for it. It takes no memory.
+/// Adds an entry to a journal, which must have room for it. It takes no memory.
 pub fn add(journal: &mut Journal, entry: Entry)
     requires { 0 < journal.old.spare }
     ensures { past journal.new ≡ entry ∷ past journal.old }
@@ -109,8 +111,8 @@ pub fn add(journal: &mut Journal, entry: Entry)
     let _ = journal.push(entry);
 }
 
-/// The tick and the reply of the act that is due, which the session or an engine has answered. The journal has room for
-/// its entry. If memory runs out nothing has changed, but for the keeper's counts.
+/// Has the session or an engine answer the act that is due. Gives its tick and the reply, and makes room for its entry
+/// in the journal. If memory runs out nothing has changed, but for the keeper's counts.
 fn answered<K: Keeper, N: Name>(
     alloc: Global,
     script: &Script,
@@ -139,8 +141,8 @@ fn answered<K: Keeper, N: Name>(
     Ok((tick, reply))
 }
 
-/// The session takes the entry of its act, and then the journal, which has room for it: both, or if memory runs out
-/// neither. Of a session that is ready it runs out only if the act brings something to it.
+/// Lets the session take the entry of its act, and adds it to the journal, which must have room for it: both, or if
+/// memory runs out neither. If the session is ready, it runs out only if the act brings something to it.
 fn enter(
     alloc: Global,
     script: &Script,
@@ -170,8 +172,7 @@ fn enter(
     Ok(())
 }
 
-/// The act that is due is answered, taken by its session, and its entry added: all of it, or if memory runs out
-/// nothing.
+/// Answers the act that is due, lets its session take it, and adds its entry: all of it, or if memory runs out nothing.
 fn serve<K: Keeper, N: Name>(
     alloc: Global,
     script: &Script,

@@ -1,4 +1,4 @@
-// A condition that stands alone.
+// A condition that stands alone, without a query: that of a bulk line.
 ghost use Rattle.hib_base.specs.Queries.{parts_of};
 ghost use Rattle.hib_criteria.specs.Alone as alone;
 ghost use Rattle.std.specs.Prelude.{◌≡◌, IfOk, IfErr, Ok};
@@ -11,14 +11,14 @@ use hib_base::{Cond, EntityDef, EntityNo, Kind, Mapping, Seq};
 use hib_lex::Token;
 use std::alloc::{AllocError, Global};
 
-/// Whether all parentheses are closed.
+/// Whether all parentheses are closed, so that the condition is over.
 fn is_whole(place: &Place) -> bool
     ensures { result ≡ alone.is_whole place.now }
 {
     matches!(place, Place::Clauses)
 }
 
-/// The condition after one more token, or none if that can't stand there.
+/// What was read after one more token; none if the token can't stand there, or the condition is over.
 fn step_in(
     alloc: Global,
     mapping: &[EntityDef],
@@ -33,7 +33,7 @@ fn step_in(
     step(alloc, mapping, draft, token)
 }
 
-/// What the tokens of a condition say, or none if they haven't the form of one.
+/// What the tokens of a condition say; none if they haven't the form of one.
 #[tactic(auto, using(crate::proofs::Lines::alone_next, crate::proofs::Lines::alone_done))]
 fn read_alone(
     alloc: Global,
@@ -58,6 +58,7 @@ fn read_alone(
     Ok(if_whole(draft))
 }
 
+/// What was read, if the condition is over.
 fn if_whole(draft: Draft) -> Option<Form>
     ensures { result ≡ alone.if_whole draft.form draft.place }
 {
@@ -69,7 +70,7 @@ fn if_whole(draft: Draft) -> Option<Form>
     if is_whole(&place) { Some(form) } else { None }
 }
 
-/// The condition of a form, or what is wrong with it.
+/// The condition of what was read, or the first thing that is wrong.
 fn judged(alloc: Global, form: Form) -> Result<Cond, CriteriaError>
     ensures condition { IfOk result (λ c. alone.judged_form form ≡ Ok (parts_of c)) }
     ensures fault { IfErr result (alone.IsWhy (alone.judged_form form)) }

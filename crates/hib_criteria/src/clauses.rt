@@ -1,4 +1,5 @@
-// What stands after the condition of a query line, token by token.
+// What stands after the condition of a query line, token by token. A `step_...` takes one token at its place and
+// answers where the line goes on; none if the token can't stand there.
 ghost use Rattle.hib_criteria.specs.Form as lines;
 ghost use Rattle.std.specs.Prelude.{◌≡◌, IfOk};
 
@@ -13,13 +14,14 @@ use std::alloc::AllocError;
 /// The most rows that a query passes over.
 const MOST_OFFSET: u32 = 1_000_000;
 
+/// Whether an offset or a limit has come.
 fn has_pages(form: &Form) -> bool
     ensures { result ≡ lines.has_pages form.now }
 {
     form.offset.is_some() || form.limit.is_some()
 }
 
-/// The first word of a clause after `where`.
+/// Takes the first word of a clause after `where`.
 pub fn step_clauses(form: Form, frames: Frames, token: &Token) -> Option<Draft>
     ensures { result ≡ lines.step_clauses form frames token.now }
 {
@@ -35,6 +37,7 @@ pub fn step_clauses(form: Form, frames: Frames, token: &Token) -> Option<Draft>
     unless(!is_the_word(token, b"select"), form, frames, Place::Select)
 }
 
+/// The line, going on at this place; none if `is_there` says that something stands against it.
 fn unless(is_there: bool, form: Form, frames: Frames, place: Place) -> Option<Draft>
     ensures { result ≡ lines.unless is_there (lines.at form frames place) }
 {
@@ -45,7 +48,7 @@ fn unless(is_there: bool, form: Form, frames: Frames, place: Place) -> Option<Dr
     }
 }
 
-/// What stands after the entity's name: `where`, or the first word of a clause.
+/// Takes what stands after the entity's name: `where`, or the first word of a clause.
 pub fn step_chosen(form: Form, frames: Frames, token: &Token) -> Option<Draft>
     ensures { result ≡ lines.step_chosen form frames token.now }
 {
@@ -56,14 +59,14 @@ pub fn step_chosen(form: Form, frames: Frames, token: &Token) -> Option<Draft>
     }
 }
 
-/// Whether a word begins a clause after an order.
+/// Whether a word begins a clause that may follow an order.
 fn is_clause(token: &Token) -> bool
     ensures { result ≡ lines.is_clause token.now }
 {
     is_the_word(token, b"offset") || is_the_word(token, b"limit") || is_the_word(token, b"select")
 }
 
-/// A column of an order.
+/// Takes a column of an order.
 pub fn step_order(mapping: &[EntityDef], form: Form, frames: Frames, token: &Token) -> Option<Draft>
     ensures { result ≡ lines.step_order mapping.now form frames token.now }
 {
@@ -75,6 +78,7 @@ pub fn step_order(mapping: &[EntityDef], form: Form, frames: Frames, token: &Tok
     sorted(form, frames, found)
 }
 
+/// The line after this column of an order; if it isn't known, that is noted.
 fn sorted(form: Form, frames: Frames, found: Option<Found>) -> Option<Draft>
     ensures { result ≡ lines.sorted form frames found }
 {
@@ -82,7 +86,7 @@ fn sorted(form: Form, frames: Frames, found: Option<Found>) -> Option<Draft>
     at(known(form, found.is_none()), frames, place)
 }
 
-/// A further column of an order, or the first word of a clause after it.
+/// Takes a further column of an order, or the first word of a clause after it.
 pub fn step_sorting(
     mapping: &[EntityDef],
     form: Form,
@@ -98,7 +102,7 @@ pub fn step_sorting(
     }
 }
 
-/// What stands after a column of an order.
+/// Takes what stands after a column of an order.
 pub fn step_sorted(
     mapping: &[EntityDef],
     form: Form,
@@ -116,6 +120,7 @@ pub fn step_sorted(
     Ok(step_sorting(mapping, form, frames, token))
 }
 
+/// Adds a column to the order.
 fn with_sort(mut form: Form, column: u16, desc: bool) -> Result<Form, AllocError>
     ensures { IfOk result (λ f. f ≡ lines.with_sort form column desc) }
 {
@@ -123,7 +128,7 @@ fn with_sort(mut form: Form, column: u16, desc: bool) -> Result<Form, AllocError
     Ok(form)
 }
 
-/// The number of an offset; one that is out of its range is noted.
+/// Takes the number of an offset. If it is out of its range, that is noted.
 pub fn step_offset(mut form: Form, frames: Frames, token: &Token) -> Option<Draft>
     ensures { result ≡ lines.step_offset form frames token.now }
 {
@@ -135,7 +140,7 @@ pub fn step_offset(mut form: Form, frames: Frames, token: &Token) -> Option<Draf
     at(form, frames, Place::Clauses)
 }
 
-/// The number of a limit; one that is out of its range is noted.
+/// Takes the number of a limit. If it is out of its range, that is noted.
 pub fn step_limit(mut form: Form, frames: Frames, token: &Token) -> Option<Draft>
     ensures { result ≡ lines.step_limit form frames token.now }
 {
@@ -147,7 +152,7 @@ pub fn step_limit(mut form: Form, frames: Frames, token: &Token) -> Option<Draft
     at(form, frames, Place::Clauses)
 }
 
-/// What is selected.
+/// Takes what is selected.
 pub fn step_select(
     mapping: &[EntityDef],
     mut form: Form,
@@ -177,6 +182,7 @@ pub fn step_select(
     select_column(form, frames, found)
 }
 
+/// The line after this column was selected; if it isn't known, that is noted.
 fn select_column(mut form: Form, frames: Frames, found: Option<Found>) -> Option<Draft>
     ensures { result ≡ lines.select_column form frames found }
 {
@@ -185,6 +191,7 @@ fn select_column(mut form: Form, frames: Frames, found: Option<Found>) -> Option
     at(form, frames, Place::Over)
 }
 
+/// Whether the line has an order.
 fn is_sorted(form: &Form) -> bool
     ensures { result ≡ lines.is_sorted form.now }
 {

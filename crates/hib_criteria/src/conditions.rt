@@ -1,4 +1,5 @@
-// The condition of some parts, of which each stands before the conditions that it joins.
+// The condition that was read as a list of parts, put together. A part is here a piece of a condition, each standing
+// before the conditions that it joins.
 ghost use Rattle.hib_criteria.specs.Query.{IsBuilt, IsJoined, IsOnly};
 ghost use Rattle.std.specs.Prelude.{IfOk};
 ghost use Rattle.hib_base.specs.declared.scripts.Node.{Node};
@@ -10,7 +11,7 @@ use std::alloc::{AllocError, Global};
 /// Conditions that stand side by side, the last one first.
 type Conds = Seq<Cond>;
 
-/// The condition of these parts, or none if they aren't those of exactly one.
+/// The condition of these parts; none if they aren't those of one condition.
 pub fn condition(alloc: Global, nodes: Nodes) -> Result<Option<Cond>, AllocError>
     ensures { IfOk result (IsBuilt nodes) }
 {
@@ -25,7 +26,7 @@ pub fn condition(alloc: Global, nodes: Nodes) -> Result<Option<Cond>, AllocError
     Ok(only(conds))
 }
 
-/// The condition, if it is the only one: the parts are then joined to one whole, with nothing left beside it.
+/// The condition, if it is the only one: then all parts are joined to one whole, and none is left beside it.
 fn only(conds: Conds) -> Option<Cond>
     ensures { IsOnly conds result }
 {
@@ -34,7 +35,8 @@ fn only(conds: Conds) -> Option<Cond>
     if all.is_empty() { Some(last) } else { None }
 }
 
-/// The conditions after one part more, read from the last part on; none if it joins more than there are.
+/// The conditions after one part more; none if it joins more conditions than there are. Parts are taken from the last
+/// one on.
 fn with_node(alloc: Global, node: Node, conds: Conds) -> Result<Option<Conds>, AllocError>
     ensures { IfOk result (IsJoined node conds) }
 {
@@ -47,6 +49,7 @@ fn with_node(alloc: Global, node: Node, conds: Conds) -> Result<Option<Conds>, A
     }
 }
 
+/// Adds a comparison to the conditions.
 #[tactic(auto, using(crate::proofs::Parts::parts_more))]
 fn with_test(op: Op, path: Path, cell: Cell, mut conds: Conds) -> Result<Option<Conds>, AllocError>
     ensures { IfOk result (IsJoined (Node.Test op path cell) conds) }
@@ -55,6 +58,7 @@ fn with_test(op: Op, path: Path, cell: Cell, mut conds: Conds) -> Result<Option<
     Ok(Some(conds))
 }
 
+/// Adds to the conditions that a cell is one of some.
 #[tactic(auto, using(crate::proofs::Parts::parts_more))]
 fn with_among(path: Path, cells: Cells, mut conds: Conds) -> Result<Option<Conds>, AllocError>
     ensures { IfOk result (IsJoined (Node.Among path cells) conds) }
@@ -63,6 +67,7 @@ fn with_among(path: Path, cells: Cells, mut conds: Conds) -> Result<Option<Conds
     Ok(Some(conds))
 }
 
+/// Joins the first two conditions by `and`; none if there aren't two.
 #[tactic(auto, using(crate::proofs::Parts::parts_more))]
 fn with_and(alloc: Global, conds: Conds) -> Result<Option<Conds>, AllocError>
     ensures { IfOk result (IsJoined Node.And conds) }
@@ -78,6 +83,7 @@ fn with_and(alloc: Global, conds: Conds) -> Result<Option<Conds>, AllocError>
     Ok(Some(Seq::from_vec(all)))
 }
 
+/// Joins the first two conditions by `or`; none if there aren't two.
 #[tactic(auto, using(crate::proofs::Parts::parts_more))]
 fn with_or(alloc: Global, conds: Conds) -> Result<Option<Conds>, AllocError>
     ensures { IfOk result (IsJoined Node.Or conds) }
@@ -93,6 +99,7 @@ fn with_or(alloc: Global, conds: Conds) -> Result<Option<Conds>, AllocError>
     Ok(Some(Seq::from_vec(all)))
 }
 
+/// Turns the first condition round; none if there is none.
 #[tactic(auto, using(crate::proofs::Parts::parts_more))]
 fn with_not(alloc: Global, conds: Conds) -> Result<Option<Conds>, AllocError>
     ensures { IfOk result (IsJoined Node.Not conds) }

@@ -1,4 +1,4 @@
-// Why a line is no query.
+// Why a line is no query, for the reader of scripts.
 ghost use Rattle.hib_criteria.specs.declared.errors.CriteriaError.TheVariants.{NoMemory};
 ghost use Rattle.std.specs.Prelude.{◌≡◌};
 

@@ -1,4 +1,5 @@
-// The form of a query line, token by token.
+// What a query line says, read token by token. Its `Form` collects what was said, and notes faults that are told only
+// if the whole line has the form of one. A `step_...` takes one token at its place.
 ghost use Rattle.hib_criteria.specs.Form as lines;
 ghost use Rattle.std.specs.Prelude.{◌≡◌, IfOk};
 
@@ -148,7 +149,7 @@ pub fn read_form(
     Ok(ended(draft))
 }
 
-/// The form of a line of which nothing is read.
+/// What a line says of which nothing is read.
 pub fn empty(alloc: Global) -> Form
     ensures { result ≡ lines.empty }
 {
@@ -168,6 +169,7 @@ pub fn empty(alloc: Global) -> Form
     }
 }
 
+/// What was said, if the line has come to its end.
 fn ended(draft: Draft) -> Option<Form>
     ensures { result ≡ lines.ended_at draft.form draft.place }
 {
@@ -182,7 +184,7 @@ fn ended(draft: Draft) -> Option<Form>
     }
 }
 
-/// The line after one more token, or none if it can't stand there.
+/// The line after one more token; none if the token can't stand there.
 pub fn step(
     alloc: Global,
     mapping: &[EntityDef],
@@ -219,7 +221,7 @@ pub fn step(
     }
 }
 
-/// The line goes on at this place.
+/// The line, going on at this place.
 pub fn at(form: Form, frames: Frames, place: Place) -> Option<Draft>
     ensures { result ≡ lines.at form frames place }
 {
@@ -285,7 +287,7 @@ fn step_from(mapping: &[EntityDef], form: Form, frames: Frames, token: &Token) -
     at(chosen(form, entity), frames, Place::Chosen)
 }
 
-/// The line reads this entity, if its name is known.
+/// Notes which entity the line reads, or that its name isn't known.
 pub fn chosen(mut form: Form, entity: Option<EntityNo>) -> Form
     ensures { result ≡ lines.chosen form entity }
 {

@@ -1,4 +1,4 @@
-// The query that a line is.
+// The query that a line is, or its first fault.
 ghost use Rattle.hib_criteria.specs.Query as query;
 ghost use Rattle.std.specs.Prelude.{◌≡◌, IfOk, IfErr};
 
@@ -25,7 +25,7 @@ pub fn check(alloc: Global, mapping: &Mapping, line: &[Token]) -> Result<Query, 
     }
 }
 
-/// The query of a form, or what is wrong with it.
+/// The query of what a line says, or the first thing that is wrong.
 fn judged(alloc: Global, form: Form) -> Result<Query, CriteriaError>
     ensures query { IfOk result (λ q. query.judged form ≡ Ok (query.said q)) }
     ensures fault { IfErr result (query.IsWhy (query.judged form)) }
@@ -61,7 +61,7 @@ fn judged(alloc: Global, form: Form) -> Result<Query, CriteriaError>
     })
 }
 
-/// No condition, or that of some parts.
+/// The condition of these parts; none if there are no parts.
 fn whole(alloc: Global, nodes: Nodes) -> Result<Option<Cond>, CriteriaError>
     ensures query { IfOk result (query.IsWhole nodes) }
     ensures fault { IfErr result (query.IsTorn nodes) }
@@ -75,7 +75,7 @@ fn whole(alloc: Global, nodes: Nodes) -> Result<Option<Cond>, CriteriaError>
     }
 }
 
-/// The first thing that is wrong with a line of this form, if anything.
+/// The first thing that was noted as wrong with a line, if anything.
 pub fn kind(form: &Form) -> Option<Kind>
     ensures { result ≡ query.kind_of form.now }
 {

@@ -1,4 +1,5 @@
-// The conditions of a query line, token by token.
+// The conditions of a query line, token by token. A `step_...` takes one token at its place and answers where the line
+// goes on; none if the token can't stand there. Frames are the open parentheses.
 ghost use Rattle.hib_criteria.specs.Form as lines;
 ghost use Rattle.std.specs.Prelude.{◌≡◌, ◌∷◌, IfOk};
 
@@ -17,7 +18,7 @@ const MOST_DEPTH: usize = 16;
 /// The most cells of `in`.
 const MOST_CELLS: usize = 64;
 
-/// A parenthesis of a condition.
+/// Takes a parenthesis of a condition.
 pub fn step_condition(
     alloc: Global,
     form: Form,
@@ -33,6 +34,7 @@ pub fn step_condition(
     }
 }
 
+/// Takes an opening parenthesis, if a condition may begin here.
 fn opened(alloc: Global, form: Form, frames: &[Frame]) -> Result<Option<Draft>, AllocError>
     ensures { IfOk result (λ d. d ≡ lines.opened form frames.now) }
 {
@@ -46,6 +48,7 @@ fn opened(alloc: Global, form: Form, frames: &[Frame]) -> Result<Option<Draft>, 
     Ok(at(form, frames, Place::Operator))
 }
 
+/// Notes that a condition is nested too deeply, if one more parenthesis makes it so.
 fn deeper(mut form: Form, frames: &[Frame]) -> Form
     ensures { result ≡ lines.deeper form frames.now }
 {
@@ -53,7 +56,7 @@ fn deeper(mut form: Form, frames: &[Frame]) -> Form
     form
 }
 
-/// Some frames within one more.
+/// These frames, with one more inside them.
 fn onto(alloc: Global, frame: Frame, frames: &[Frame]) -> Result<Frames, AllocError>
     ensures { IfOk result (λ s. s ≡ frame ∷ frames.now) }
 {
@@ -63,6 +66,7 @@ fn onto(alloc: Global, frame: Frame, frames: &[Frame]) -> Result<Frames, AllocEr
     Ok(all)
 }
 
+/// Takes a closing parenthesis, if the innermost one that is open awaits it.
 fn closed(alloc: Global, form: Form, frames: &[Frame]) -> Result<Option<Draft>, AllocError>
     ensures { IfOk result (λ d. d ≡ lines.closed form frames.now) }
 {
@@ -76,6 +80,7 @@ fn closed(alloc: Global, form: Form, frames: &[Frame]) -> Result<Option<Draft>, 
     }
 }
 
+/// Where the line goes on after a closing parenthesis.
 fn behind(frames: &[Frame]) -> Place
     ensures { result ≡ lines.behind frames.now }
 {
@@ -85,7 +90,7 @@ fn behind(frames: &[Frame]) -> Place
     }
 }
 
-/// An operator, after an opening parenthesis.
+/// Takes an operator, after an opening parenthesis.
 pub fn step_operator(
     alloc: Global,
     form: Form,
@@ -109,6 +114,7 @@ pub fn step_operator(
     Ok(compared(form, frames, op(token)))
 }
 
+/// Takes an operator that joins conditions, of which the frame says how many.
 fn joined(
     alloc: Global,
     mut form: Form,
@@ -124,6 +130,7 @@ fn joined(
     Ok(at(form, frames, Place::Condition))
 }
 
+/// The operator of a comparison that a word is.
 fn op(token: &Token) -> Option<Op>
     ensures { result ≡ lines.op_of token.now }
 {
@@ -144,6 +151,7 @@ fn op(token: &Token) -> Option<Op>
     }
 }
 
+/// Takes the operator of a comparison, if there is one.
 fn compared(form: Form, frames: Frames, op: Option<Op>) -> Option<Draft>
     ensures { result ≡ lines.compared form frames op }
 {
@@ -153,7 +161,7 @@ fn compared(form: Form, frames: Frames, op: Option<Op>) -> Option<Draft>
     }
 }
 
-/// A path, after an operator.
+/// Takes a path, after an operator.
 pub fn step_subject(
     alloc: Global,
     mapping: &[EntityDef],
@@ -172,6 +180,7 @@ pub fn step_subject(
     subject(alloc, form, frames, test, column)
 }
 
+/// Takes the column that is tested; if it isn't known, that is noted.
 fn subject(
     alloc: Global,
     form: Form,
@@ -188,7 +197,7 @@ fn subject(
     }
 }
 
-/// The form, with the note that a column isn't known if this one is missing.
+/// Notes that a column isn't known, if this one is missing.
 pub fn known(mut form: Form, is_missing: bool) -> Form
     ensures { result ≡ lines.known form is_missing }
 {
@@ -196,7 +205,7 @@ pub fn known(mut form: Form, is_missing: bool) -> Form
     form
 }
 
-/// The cell that a column is compared with.
+/// Takes the cell that a column is compared with.
 pub fn step_operand(
     alloc: Global,
     form: Form,
@@ -215,6 +224,7 @@ pub fn step_operand(
     Ok(at(form, frames, Place::Condition))
 }
 
+/// Adds a comparison to the parts. If the cell can't be compared so with the column's, that is noted.
 fn with_test(mut form: Form, op: Op, column: Option<Column>, cell: Cell) -> Result<Form, AllocError>
     ensures { IfOk result (λ f. f ≡ lines.with_test form op column cell) }
 {
@@ -228,7 +238,7 @@ fn with_test(mut form: Form, op: Op, column: Option<Column>, cell: Cell) -> Resu
     Ok(form)
 }
 
-/// One more cell of `in`, or its end.
+/// Takes one more cell of `in`, or its end.
 pub fn step_operands(
     alloc: Global,
     form: Form,
@@ -245,6 +255,7 @@ pub fn step_operands(
     }
 }
 
+/// Takes the end of `in`, if it has a cell.
 fn among(
     form: Form,
     frames: Frames,
@@ -261,6 +272,7 @@ fn among(
     Ok(at(form, frames, place))
 }
 
+/// Whether there is no cell.
 fn is_none_of(cells: &[Cell]) -> bool
     ensures { result ≡ lines.is_empty cells.now }
 {
@@ -270,6 +282,7 @@ fn is_none_of(cells: &[Cell]) -> bool
     }
 }
 
+/// Adds to the parts that a column's cell is one of these. If these are too many, that is noted.
 fn with_among(mut form: Form, column: Option<Column>, cells: Seq<Cell>) -> Result<Form, AllocError>
     ensures { IfOk result (λ f. f ≡ lines.with_among form column cells) }
 {
@@ -281,6 +294,7 @@ fn with_among(mut form: Form, column: Option<Column>, cells: Seq<Cell>) -> Resul
     Ok(form)
 }
 
+/// Takes one more cell of `in`; none if the token was no cell.
 fn one_more(
     form: Form,
     frames: Frames,
@@ -296,6 +310,7 @@ fn one_more(
     }
 }
 
+/// Takes one more cell of `in`. If it isn't of the column's type, that is noted.
 fn with_operand(
     mut form: Form,
     frames: Frames,

@@ -1,4 +1,4 @@
-// When two lists of cells are the same.
+// When two lists of cells are the same, so that an instance has no update pending.
 ghost use Rattle.std.specs.Prelude.{◌≡◌};
 ghost use Rattle.hib_journal.specs.Held.{same_cells};
 

@@ -1,4 +1,4 @@
-// The change that is pending of one instance, by its state.
+// The change that is pending of one instance, by its state. A flush writes it.
 ghost use Rattle.std.specs.Prelude.{◌≡◌, IfOk, Some};
 ghost use Rattle.hib_base.specs.declared.instances.State.{State};
 ghost use Rattle.hib_journal.specs.Held.{next_version, update_by};
@@ -19,7 +19,7 @@ fn version_after(version: Option<u32>) -> Option<u32>
     }
 }
 
-/// The insert of a new instance; none of another one. Fails for want of memory alone.
+/// The insert of a new instance; none if the instance isn't new. Fails for want of memory alone.
 pub fn insert(alloc: Global, key: Key, held: &Held) -> Result<Option<Change>, AllocError>
     ensures { IfOk result (λ c. c ≡ insert_of key held.now) }
 {
@@ -32,8 +32,8 @@ pub fn insert(alloc: Global, key: Key, held: &Held) -> Result<Option<Change>, Al
     }
 }
 
-/// The update of a managed instance whose cells differ from those of its base; none of another one.
-/// Fails for want of memory alone.
+/// The update of a managed instance whose cells differ from those of its base; none of any other instance. Fails for
+/// want of memory alone.
 pub fn update(alloc: Global, key: Key, held: &Held) -> Result<Option<Change>, AllocError>
     ensures { IfOk result (λ c. c ≡ update_of key held.now) }
 {
@@ -43,6 +43,7 @@ pub fn update(alloc: Global, key: Key, held: &Held) -> Result<Option<Change>, Al
     }
 }
 
+/// The update that brings this base to this row; none if their cells are equal.
 fn update_from(alloc: Global, key: Key, base: &Row, row: &Row) -> Result<Option<Change>, AllocError>
     ensures { IfOk result (λ c. c ≡ update_by State.Managed key row.now (Some base.now)) }
 {
@@ -58,7 +59,7 @@ fn update_from(alloc: Global, key: Key, base: &Row, row: &Row) -> Result<Option<
     }))
 }
 
-/// The delete of a removed instance, with the version of its base; none of another one.
+/// The delete of a removed instance, with the version of its base; none of any other instance.
 pub fn delete(key: Key, held: &Held) -> Option<Change>
     ensures { result ≡ delete_of key held.now }
 {

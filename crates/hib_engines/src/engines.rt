@@ -1,4 +1,4 @@
-// The five engines of a script together, over any keeper.
+// The engines of a script together, over any keeper: what a factory asks for the reply to each act.
 ghost use Rattle.std.specs.Prelude.{◌≡◌, ◌≤◌, ◌<◌, ◌^◌, ◌∷◌, [], ℕ, length, IfOk, IfErr, OnOk, OnErr, Option, Some, None, true, false};
 ghost use Rattle.hib_base.specs.Tables.{Tables};
 ghost use Rattle.hib_base.specs.Valid.{is_valid};
@@ -36,8 +36,8 @@ use std::alloc::{AllocError, Global};
 use std::marker::Model;
 
 /// The store over a keeper, the open sessions, the stamps of tables, the regions, one for each entity, and the results
-/// of queries. What they promise they promise for all entries that they stand for, from the rows that are told or from
-/// any, and for every tick that is late enough for the part of the act.
+/// of queries. What they promise holds for any entries that they stand for, from the rows that are told or from any,
+/// and for every tick that is late enough for the part of the act.
 pub struct Engines<K: Keeper> {
     store: StoreEngine<K>,
     registry: Registry,
@@ -61,9 +61,9 @@ impl<K: Keeper> Model for Engines<K> {
 }
 
 impl<K: Keeper> Engines<K> {
-    /// The engines of a valid script, before any act. The rows that the keeper keeps are widened to the script's
-    /// mapping, and each of the script's rows whose key has none is added. Lists of the script's entities are answered
-    /// from an index. At an error the keeper is handed back, with the rows that it had.
+    /// The engines of a script, which must be valid, before any act. The rows that the keeper keeps are widened to the
+    /// script's mapping, and each of the script's rows whose key has none is added. Lists of the script's entities are
+    /// answered from an index. At an error the keeper is handed back, with the rows that it had.
     pub fn open(alloc: Global, script: &Script, keeper: K) -> Result<Engines<K>, OpenFault<K>>
         requires { is_valid script.now ≡ true }
         ensures standing { IfOk result (λ e. AreStanding script.now
@@ -99,8 +99,7 @@ impl<K: Keeper> Engines<K> {
         })
     }
 
-    /// The engines are let go, and the keeper is handed back. What it tells is what the commits among the entries
-    /// leave.
+    /// Lets the engines go, and hands back the keeper. What it tells is what the commits among the entries leave.
     pub fn close(self) -> K
         ensures rows { (script : Said) (told : Option Tables) (h : Journal)
             → AreStanding script told h self → K.tables result ≡ told_committed told h }
@@ -125,7 +124,7 @@ impl<K: Keeper> Engines<K> {
         &self.registry
     }
 
-    /// A session was killed: it isn't open any more, and what it has written and not committed is dropped. It takes no
+    /// Does a kill: the session isn't open any more, and what it has written and not committed is dropped. It takes no
     /// memory, and asks no keeper.
     pub fn kill(&mut self, session: SessionNo)
         ensures answered { (script : Said) (told : Option Tables) (h : Journal) (now : ℕ)
@@ -140,7 +139,7 @@ impl<K: Keeper> Engines<K> {
         self.store.kill(session);
     }
 
-    /// A restart: no session is open, no table has a stamp, no region holds anything, no result is kept, and what
+    /// Does a restart: no session is open, no table has a stamp, no region holds anything, no result is kept, and what
     /// sessions have written and not committed is dropped. It takes no memory, and asks no keeper.
     pub fn restart(&mut self)
         ensures answered { (script : Said) (told : Option Tables) (h : Journal) (now : ℕ)
@@ -158,8 +157,8 @@ impl<K: Keeper> Engines<K> {
         self.results.restart();
     }
 
-    /// The answer to the eviction of a row of a cached entity from its region, which is no fault. At an error nothing
-    /// has changed.
+    /// Evicts a row of a cached entity from its region, at the wish of somebody outside. Answers the reply, which is no
+    /// fault. At an error nothing has changed.
     pub fn evict(&mut self, alloc: Global, key: Key, now: Tick) -> Result<Reply, AllocError>
         requires { now ≤ 2 ^ 62 }
         ensures answered { IfOk result (λ r. (script : Said) (told : Option Tables) (h : Journal)
@@ -176,9 +175,9 @@ impl<K: Keeper> Engines<K> {
         serve_region(alloc, &mut self.regions, entity, &act, now)
     }
 
-    /// An act of a session was answered by a fault, as the entries say, and not by these engines. Of a commit the store
-    /// drops what the session has written, as at a kill. A load and a list leave it as it is. It takes no memory, and
-    /// asks no keeper.
+    /// Follows an act of a session that was answered by a fault in a journal which is audited; these engines weren't
+    /// asked. At a commit the store drops what the session has written, as at a kill. A load and a list leave it as it
+    /// is. It takes no memory, and asks no keeper.
     pub fn fail(&mut self, session: SessionNo, act: &Act)
         ensures answered { (script : Said) (told : Option Tables) (h : Journal) (now : ℕ)
             (r : Reply) → IsReady script told h session now act.now self.old
@@ -194,7 +193,7 @@ impl<K: Keeper> Engines<K> {
         }
     }
 
-    /// What an act of a session's own does to the engines: End closes the session.
+    /// What an act that a session answers itself does to the engines: End closes the session.
     fn note_own(&mut self, session: SessionNo, act: &Act)
         ensures { self.new ≡ record self.old
             { registry = own_after session act.now self.old.registry } }
@@ -205,7 +204,7 @@ impl<K: Keeper> Engines<K> {
         }
     }
 
-    /// The answer of an engine to an act of a session at this tick, which isn't the session's own. A fault is answered
+    /// Has an engine answer an act of a session at this tick, which must not be the session's own. A fault is answered
     /// only if the keeper failed in this call. At an error the engines are as before, but for the keeper's counts.
     fn serve(
         &mut self,
@@ -251,10 +250,10 @@ impl<K: Keeper> Engines<K> {
         }
     }
 
-    /// The answer to an act that is due in a session, at this tick: the session's own, or that of an engine. A fault is
+    /// Answers the act that is due in a session, at this tick, by the session itself or by an engine. A fault is
     /// answered only if the keeper failed in this call, and the keeper is asked once at most. At an error the engines
-    /// are as before, but for the keeper's counts, and so they are if the act brings something to the session; the
-    /// counts stay too if the act doesn't call the keeper.
+    /// are as before, but for the keeper's counts. So they are if the act brings something to the session. The counts
+    /// stay too if the act doesn't call the keeper.
     pub fn answer(
         &mut self,
         alloc: Global,

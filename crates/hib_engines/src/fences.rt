@@ -1,10 +1,10 @@
-// The entries of a fence.
+// The two entries of a fence, for whoever keeps a journal of nodes or a list of a part.
 ghost use Rattle.std.specs.Prelude.{◌≡◌, ◌<◌, ◌^◌};
 ghost use Rattle.hib_engines.specs.Fenced.{fence_lock, fence_unlock};
 
 use hib_base::{Act, Entry, Key, Locked, Part, Reply, Tick, Unlocked};
 
-/// The first half: the lock is taken.
+/// The first half of a fence: the lock is taken.
 fn lock_entry(key: &Key, floor: Tick, now: Tick, locked: &Locked) -> Entry
     ensures { result ≡ fence_lock now key.now floor locked.now }
 {
@@ -23,7 +23,7 @@ fn lock_entry(key: &Key, floor: Tick, now: Tick, locked: &Locked) -> Entry
     }
 }
 
-/// The second half: it is given back at the next tick.
+/// The second half of a fence: the lock is given back at the next tick.
 fn unlock_entry(key: &Key, now: Tick, locked: &Locked, unlocked: &Unlocked) -> Entry
     requires { now < 2 ^ 62 }
     ensures { result ≡ fence_unlock now key.now locked.now unlocked.now }

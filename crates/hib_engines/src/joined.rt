@@ -1,4 +1,4 @@
-// The laws of the parts, in one place.
+// What the laws of the regions, the stamps and the results say to proofs, in one place. These functions do nothing.
 ghost use Rattle.hib_engines.specs.Laws.{Laws};
 ghost use Rattle.hib_engines.specs.Stays.{RegistryStays, StoreStays, StampsStay, ResultsStay, RegionStays, ListsLeave};
 
@@ -9,7 +9,7 @@ use hib_query_cache::{
 use hib_rw_region::laws as slots;
 use hib_update_stamps::{stamps_answer, stamps_follow, unstamped_stand_for_no_entry};
 
-/// What the regions, the stamps and the results promise over a journal.
+/// What the regions, the stamps and the results promise over a journal. Most functions over engines begin with it.
 pub fn laws()
     ensures { Laws }
 {
@@ -29,8 +29,8 @@ pub fn laws()
     results_name_the_dropped();
 }
 
-/// An entry of another part leaves each engine standing. Of a kill the registry and the store hear, and of a restart
-/// all.
+/// An entry of another part leaves each engine standing for the entries with it. Of a kill the registry and the store
+/// must hear, and of a restart all.
 pub fn entries_elsewhere()
     ensures registry { RegistryStays }
     ensures store { StoreStays }
@@ -41,8 +41,8 @@ pub fn entries_elsewhere()
     laws();
 }
 
-/// A list that is due leaves all engines as they are, whatever it is answered: so they stand for the entries with one
-/// that none of them was asked.
+/// A list that is due leaves all engines as they are, whatever it is answered. So they stand for the entries with one
+/// that none of them was asked, as a list that a collection answered.
 pub fn lists_leave()
     ensures { ListsLeave }
 {

@@ -1,4 +1,4 @@
-// Which run it is.
+// What a factory was opened with, for contracts. Sessions, parts and runs over them all are of such a name.
 use std::marker::Brand;
 
 /// Which factory, or which run over parts, it is: what it was opened with. Contracts alone see it.

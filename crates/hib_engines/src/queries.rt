@@ -1,4 +1,4 @@
-// The tables of a query.
+// The tables that a query reads, for the check of a kept result against their stamps.
 ghost use Rattle.std.specs.Prelude.{◌≡◌, ◌<◌, ◌^◌, length, IfOk};
 ghost use Rattle.hib_journal.specs.Next.{tables_of as tables_in};
 ghost use Rattle.hib_outside.specs.Keeps.{is_listed};
@@ -6,7 +6,7 @@ ghost use Rattle.hib_outside.specs.Keeps.{is_listed};
 use hib_base::{EntityNo, QueryNo, Script};
 use std::alloc::{AllocError, Global};
 
-/// Whether an entity is among these.
+/// Whether this entity is among these.
 fn is_among(entities: &[EntityNo], entity: EntityNo) -> bool
     ensures { result ≡ is_listed entity entities.now }
 {

@@ -1,4 +1,5 @@
-// The engine of a region of an entity, by its strategy.
+// The engine of a region of an entity, by its strategy: it has the region of that strategy answer, and makes a reply of
+// it.
 ghost use Rattle.std.specs.Prelude.{◌≡◌, ◌≤◌, ◌<◌, ◌^◌, ◌∷◌, ℕ, Option, Some, None, true, false, IsOk, IfOk, OnOk, OnErr};
 ghost use Rattle.hib_base.specs.declared.entries.Act.{Act};
 ghost use Rattle.hib_base.specs.declared.replies.Reply.{Reply};
@@ -45,7 +46,7 @@ fn hit(alloc: Global, row: &Row) -> Result<Reply, AllocError>
 impl Region {
     ghost use Rattle.hib_engines.specs.declared.region.Region.{Region};
 
-    /// The answer to a reader.
+    /// Answers a reader: the row at an identifier, or why there is none.
     fn get(&self, alloc: Global, id: u64, time: Tick) -> Result<Reply, AllocError>
         ensures { IfOk result (λ r. r ≡ Rattle.hib_engines.specs.Region.got self.now id time) }
     {
@@ -66,7 +67,7 @@ impl Region {
         }
     }
 
-    /// A row that was loaded is to be the item.
+    /// Offers a row that was loaded as the item.
     fn put(
         &mut self,
         id: u64,
@@ -89,7 +90,7 @@ impl Region {
         }
     }
 
-    /// A key is locked.
+    /// Locks a key, in a read-write region.
     fn lock(
         &mut self,
         id: u64,
@@ -114,7 +115,7 @@ impl Region {
         }
     }
 
-    /// A lock is given back, or `Expired` if the key has no such lock. It takes no memory if the key has a slot.
+    /// Gives a lock back, or answers `Expired` if the key has no such lock. It takes no memory if the key has a slot.
     fn unlock(&mut self, id: u64, lock: Tick, now: Tick) -> Result<Unlocked, AllocError>
         requires { now ≤ 2 ^ 62 }
         ensures answer { IfOk result (λ u. u
@@ -130,7 +131,7 @@ impl Region {
         }
     }
 
-    /// A row whose insert was committed is to be the item.
+    /// Offers a row whose insert was committed as the item.
     fn after_insert(
         &mut self,
         id: u64,
@@ -151,7 +152,7 @@ impl Region {
         }
     }
 
-    /// A row whose update was committed is to be the item, in the place of its lock.
+    /// Makes a row whose update was committed the item, in the place of its lock.
     fn after_update(
         &mut self,
         id: u64,
@@ -172,7 +173,7 @@ impl Region {
         }
     }
 
-    /// An item is removed before its row is changed.
+    /// Removes an item before its row is changed.
     fn remove(&mut self, id: u64) -> Reply
         ensures answer { result ≡ Rattle.hib_engines.specs.Region.remove self.old id }
         ensures state { self.new ≡ Rattle.hib_engines.specs.Region.after_remove self.old id }
@@ -189,7 +190,7 @@ impl Region {
         }
     }
 
-    /// An item is evicted at the wish of somebody outside.
+    /// Evicts an item at the wish of somebody outside.
     fn evict(&mut self, id: u64, now: Tick) -> Evicted
         ensures answer { result ≡ Rattle.hib_engines.specs.Region.evict self.old id }
         ensures state { self.new ≡ Rattle.hib_engines.specs.Region.after_evict self.old id now }
@@ -236,8 +237,8 @@ impl Region {
         }
     }
 
-    /// What an act of a region comes to at this tick. An act that isn't a region's is answered Done, and changes
-    /// nothing. At an error nothing has changed.
+    /// Has the region do an act, at this tick. An act that isn't a region's is answered Done, and changes nothing. At
+    /// an error nothing has changed.
     fn act_on(&mut self, alloc: Global, act: &Act, now: Tick) -> Result<Reply, AllocError>
         requires { now ≤ 2 ^ 62 }
         ensures answer { IfOk result (λ r. r ≡ answer_in self.old now act.now) }

@@ -1,4 +1,4 @@
-// The regions of a script's entities, one for each.
+// The regions of a script's entities, one for each, at the place of the entity's number.
 ghost use Rattle.std.specs.Prelude.{◌≡◌, ◌≤◌, ◌<◌, ◌^◌, Some, map, true, false, IfOk, OnOk, OnErr, Option, ℕ};
 ghost use Rattle.hib_base.specs.declared.scripts.Script.{Script as Said};
 ghost use Rattle.hib_journal.specs.Types.{Part, Strategy};
@@ -27,7 +27,7 @@ pub fn open_regions(alloc: Global, script: &Script) -> Result<Vec<Region>, Alloc
     Ok(regions)
 }
 
-/// Each region drops all that it holds. It takes no memory.
+/// Has each region drop all that it holds. It takes no memory.
 pub fn restart_regions(regions: &mut Vec<Region>)
     ensures { AreEmptied regions.old.items regions.new.items }
 {
@@ -36,8 +36,8 @@ pub fn restart_regions(regions: &mut Vec<Region>)
     }
 }
 
-/// The answer of the region of an entity; one that has no region is uncached. A read leaves the regions as they are,
-/// and so does want of memory.
+/// Has the region of an entity answer an act. An entity that has no region is uncached. A read leaves the regions as
+/// they are, and so does want of memory.
 pub fn serve_region(
     alloc: Global,
     regions: &mut Vec<Region>,
@@ -65,8 +65,8 @@ pub fn serve_region(
     Ok(Reply::Done)
 }
 
-/// A fence of a key in the region of its entity, at this tick and the next one. One that has no region isn't fenced:
-/// that is answered as if memory ran out. At an error nothing has changed.
+/// Fences a key in the region of its entity, at this tick and the next one. If there is no such region, it fails as if
+/// memory ran out. At an error nothing has changed.
 pub fn fence_region(
     regions: &mut Vec<Region>,
     key: Key,

@@ -1,4 +1,4 @@
-// The engine of the registry: which sessions have a transaction open.
+// The engine of the registry: which sessions have a transaction open, since when, and so the floor.
 ghost use Rattle.std.specs.Prelude.{◌≡◌, ◌↔◌, ◌∷◌, ◌++◌, ◌<◌, ◌==◌, [], ℕ, nat_eq, IsTrue, None, Some, OnErr, OnOk, IfOk, false};
 ghost use Rattle.std.specs.List.{list_any, IsDistinct};
 ghost use Rattle.hib_base.specs.declared.entries.Act.{Act};
@@ -39,7 +39,7 @@ impl Model for Registry {
 }
 
 impl Registry {
-    /// No session is open.
+    /// The registry in which no session is open.
     pub fn new(alloc: Global) -> Registry
         ensures { result ≡ [] }
     {
@@ -49,7 +49,7 @@ impl Registry {
         }
     }
 
-    /// The least time among the open sessions and one that begins now.
+    /// The floor for a session that begins now: the least time among the open sessions and its own.
     pub fn floor(&self, now: Tick) -> Tick
         ensures { result ≡ floor_in self.now now }
     {
@@ -69,14 +69,14 @@ impl Registry {
         }
     }
 
-    /// The least time of the open sessions; none exactly if none is open.
+    /// The least time of the open sessions; none if and only if none is open.
     pub fn least(&self) -> Option<Tick>
         ensures { (l : Journal) → IsRegistry self.now l → IsLeast result l }
     {
         self.oldest()
     }
 
-    /// Whether all open sessions began before this tick.
+    /// Whether all open sessions began before this tick. A session begins only if they did.
     fn is_after_all(&self, now: Tick) -> bool
         ensures { IsTrue result ↔ Each (λ t. t < now) self.now }
     {
@@ -86,7 +86,8 @@ impl Registry {
         }
     }
 
-    /// A session is open from this tick on, and no more from an earlier one. At an error nothing has changed.
+    /// Notes that a session is open from this tick on, and no more from an earlier one. All open sessions must have
+    /// begun before it. At an error nothing has changed.
     fn open_at(&mut self, session: SessionNo, now: Tick) -> Result<(), AllocError>
         requires { Each (λ t. t < now) self.old }
         ensures ok { OnOk result (self.new ≡ without session self.old ++ (session, now) ∷ []) }
@@ -100,7 +101,7 @@ impl Registry {
         Ok(())
     }
 
-    /// A session begins: the least time among the open sessions is its floor. At an error nothing has changed.
+    /// Begins a session: the least time among the open sessions is its floor. At an error nothing has changed.
     fn begin(&mut self, session: SessionNo, now: Tick) -> Result<Reply, AllocError>
         ensures reply { IfOk result (λ r. Each (λ t. t < now) self.old
             → r ≡ Reply.Began (floor_in self.old now)) }
@@ -157,7 +158,7 @@ impl Registry {
         self.times.keys().as_slice()
     }
 
-    /// A session ends. It takes no memory.
+    /// Ends a session, which isn't open any more. It takes no memory.
     pub fn end(&mut self, session: SessionNo)
         ensures gone { self.new ≡ without session self.old }
         ensures stands { (l : Journal) (now : ℕ) (r : Reply) → IsRegistry self.old l
@@ -169,7 +170,7 @@ impl Registry {
         }
     }
 
-    /// A session was killed. It takes no memory.
+    /// Does a kill: the session isn't open any more. It takes no memory.
     pub fn kill(&mut self, session: SessionNo)
         ensures gone { self.new ≡ without session self.old }
         ensures stands { (l : Journal) (now : ℕ) → IsRegistry self.old l

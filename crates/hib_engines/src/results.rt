@@ -1,4 +1,4 @@
-// The engine of the results of queries.
+// The engine of the kept results of queries.
 ghost use Rattle.std.specs.Prelude.{◌≡◌, ◌<◌, ◌∷◌, ℕ, [], Option, None, false, true, IfOk, OnOk, OnErr, unwrap_or};
 ghost use Rattle.std.specs.Option.{option_map_or};
 ghost use Rattle.hib_base.specs.declared.entries.Act.{Act};
@@ -18,7 +18,7 @@ use hib_query_cache::Results;
 use std::alloc::{AllocError, Global};
 use std::marker::Model;
 
-/// A query's result is the most recently used one now, if it is kept.
+/// Makes a query's result the most recently used one, if it is kept.
 fn use_result(results: &mut Results, query: QueryNo)
     ensures { results.new ≡ record results.old { kept = used query results.old.kept } }
 {
@@ -40,7 +40,7 @@ impl Model for ResultsEngine {
 }
 
 impl ResultsEngine {
-    /// No result is kept. The capacity is at least 1. Fails for want of memory alone.
+    /// The engine in which no result is kept. The capacity must be at least 1. Fails for want of memory alone.
     pub fn open(alloc: Global, capacity: u32) -> Result<ResultsEngine, AllocError>
         requires { 0 < capacity }
         ensures { IfOk result (λ r. r ≡ record { capacity = capacity; kept = [] }) }
@@ -49,7 +49,7 @@ impl ResultsEngine {
         Ok(ResultsEngine { results })
     }
 
-    /// What is kept of a query.
+    /// Looks for what is kept of a query, as a reply.
     fn look(&mut self, alloc: Global, query: QueryNo) -> Result<Reply, AllocError>
         ensures reply { IfOk result (λ r. r
             ≡ option_map_or (λ k. Reply.Found k.0 k.1)
@@ -69,7 +69,7 @@ impl ResultsEngine {
         Ok(reply)
     }
 
-    /// A list is kept as the result of a query.
+    /// Keeps a list as the result of a query.
     fn keep(
         &mut self,
         alloc: Global,

@@ -1,4 +1,4 @@
-// The engine of the stamps of tables.
+// The engine of the stamps of tables, by which a kept result is checked for freshness.
 ghost use Rattle.std.specs.Prelude.{◌≡◌, ◌<◌, ◌≤◌, ◌^◌, ◌+◌, ◌∷◌, ℕ, Option, None, length, false, true, IfOk, OnErr, unwrap_or};
 ghost use Rattle.std.specs.List.{All};
 ghost use Rattle.hib_base.specs.declared.entries.Act.{Act};
@@ -35,7 +35,7 @@ impl Model for StampsEngine {
 }
 
 impl StampsEngine {
-    /// No table has a stamp. Fails for want of memory alone.
+    /// The engine in which no table has a stamp. Fails for want of memory alone.
     pub fn open(alloc: Global, tables: u16) -> Result<StampsEngine, AllocError>
         ensures { IfOk result (λ s. s ≡ unstamped tables) }
     {
@@ -43,7 +43,8 @@ impl StampsEngine {
         Ok(StampsEngine { stamps })
     }
 
-    /// Tables that are about to change are stamped.
+    /// Stamps tables that are about to change, with a tick ahead, so that no result of them is fresh meanwhile. The
+    /// tables must be the script's.
     fn pre(&mut self, tables: &Names, timeout: u32, now: Tick) -> Reply
         requires tables { All (λ t. t < length self.old) tables.now }
         requires now { now ≤ 2 ^ 62 }
@@ -54,7 +55,7 @@ impl StampsEngine {
         Reply::Stamped { value }
     }
 
-    /// Tables that have changed are stamped.
+    /// Stamps tables that have changed. They must be the script's.
     fn stamp(&mut self, tables: &Names, now: Tick) -> Reply
         requires tables { All (λ t. t < length self.old) tables.now }
         requires now { now ≤ 2 ^ 62 }
@@ -65,7 +66,7 @@ impl StampsEngine {
         Reply::Stamped { value }
     }
 
-    /// Whether a result of that time of a query is fresh.
+    /// Whether a query's result of that time is fresh, as a reply.
     fn check(
         &self,
         alloc: Global,

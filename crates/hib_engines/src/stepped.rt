@@ -1,4 +1,4 @@
-// What a step did.
+// What a step of a session did, in every kind of run: whoever steps one goes on by it.
 
 /// What a step of a session did.
 #[derive(Clone, Copy, Debug, PartialEq, Eq)]

@@ -1,4 +1,4 @@
-// The engine of the store.
+// The engine of the store: it makes replies of what hib_store answers.
 ghost use Rattle.std.specs.Prelude.{◌≡◌, ◌≢◌, ◌≤◌, ◌∷◌, ℕ, [], Option, None, false, true, map, is_some, Ok, IfOk, IfErr, IfSome, OnOk, OnErr, if◌then◌else◌};
 ghost use Rattle.std.specs.Option.{option_map};
 ghost use Rattle.hib_base.specs.Start.{start};
@@ -96,7 +96,7 @@ impl<K: Keeper> StoreEngine<K> {
         store.close()
     }
 
-    /// The session's view of a key.
+    /// Loads a key as the session sees it.
     fn load(&mut self, alloc: Global, session: SessionNo, key: Key) -> Result<Reply, AllocError>
         ensures answered { IfOk result
             (λ r. (script : Said) (told : Option Tables) (l : Journal) (now : ℕ)
@@ -115,7 +115,7 @@ impl<K: Keeper> StoreEngine<K> {
         Ok(loaded_reply(loaded))
     }
 
-    /// What a query gives over the session's view.
+    /// Lists what a query gives over the session's view.
     fn list(
         &mut self,
         alloc: Global,
@@ -143,7 +143,7 @@ impl<K: Keeper> StoreEngine<K> {
         Ok(listed_reply(listed))
     }
 
-    /// A change is written, for the session alone.
+    /// Writes a change, which the session alone sees.
     fn write(
         &mut self,
         alloc: Global,
@@ -165,7 +165,7 @@ impl<K: Keeper> StoreEngine<K> {
         Ok(Reply::Written)
     }
 
-    /// A session's changes are applied, all or none.
+    /// Applies a session's changes, all or none.
     fn commit(&mut self, alloc: Global, session: SessionNo) -> Result<Reply, AllocError>
         ensures answered { IfOk result
             (λ r. (script : Said) (told : Option Tables) (l : Journal) (now : ℕ)
@@ -184,7 +184,7 @@ impl<K: Keeper> StoreEngine<K> {
         Ok(Reply::Commit(commit))
     }
 
-    /// A session's changes are dropped.
+    /// Drops a session's changes.
     fn rollback(&mut self, session: SessionNo) -> Reply
         ensures answered { (script : Said) (told : Option Tables) (l : Journal) (now : ℕ)
             → IsStored told l self.old → IsStoreServed script told l now session Act.Rollback result
@@ -239,7 +239,8 @@ impl<K: Keeper> StoreEngine<K> {
     }
 
     /// Makes the index of the committed rows of the first entities, unless it stands. False only if the keeper failed;
-    /// if the answer is true the index stands. Nothing else changes, but for the keeper's counts.
+    /// if the answer is true the index stands. Nothing else changes, but for the keeper's counts. A bulk line asks for
+    /// it.
     pub fn ready_index(&mut self, alloc: Global) -> Result<bool, AllocError>
         ensures indexed { IfOk result (λ b. b ≡ self.new.indexed) }
         ensures fault { result ≡ Ok false → Rose self.old.faults self.new.faults }
@@ -250,8 +251,8 @@ impl<K: Keeper> StoreEngine<K> {
     }
 
     /// The committed rows of an entity that meet a condition, if there is one, in order of keys. The entity, and those
-    /// to which the condition steps, are among the first. None exactly if the index of their rows doesn't stand. Fails
-    /// for want of memory alone.
+    /// to which the condition steps, must be among the first. None if and only if the index of their rows doesn't
+    /// stand. Fails for want of memory alone.
     pub fn rows_met(
         &self,
         alloc: Global,
@@ -267,9 +268,9 @@ impl<K: Keeper> StoreEngine<K> {
         self.store.rows_met(alloc, entity, condition)
     }
 
-    /// Applies changes that no session has written to the committed rows, all of them or none. What sessions have
-    /// written stays. Committed changes the rows, and any other answer leaves them. A fault is answered only if the
-    /// keeper failed in this call.
+    /// Applies changes of a bulk line to the committed rows, all of them or none; no session has written them. What
+    /// sessions have written stays. Committed changes the rows, and any other answer leaves them. A fault is answered
+    /// only if the keeper failed in this call.
     pub fn apply(&mut self, alloc: Global, changes: &[Change]) -> Result<Commit, AllocError>
         ensures answer { IfOk result (λ answer. answer ≢ Commit.Fault → IfSome self.old.tables
             (λ m. answer ≡ commit_answer changes.now m)) }
@@ -283,7 +284,7 @@ impl<K: Keeper> StoreEngine<K> {
         self.store.apply(alloc, changes)
     }
 
-    /// A session was killed: what it has written and not committed is dropped. It takes no memory.
+    /// Does a kill: what the session has written and not committed is dropped. It takes no memory.
     pub fn kill(&mut self, killed: SessionNo)
         ensures stands { (told : Option Tables) (l : Journal) (now : ℕ) → IsStored told l self.old
             → IsStored told (entry_at now None (Act.Kill killed) Reply.Done ∷ l) self.new }

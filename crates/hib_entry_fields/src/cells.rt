@@ -1,4 +1,4 @@
-// Cells and rows.
+// The cells and rows that bytes look like. `x_at` gives what stands at the front of some bytes, and what follows it.
 ghost use Rattle.hib_entry_fields.specs.Fields as format;
 ghost use Rattle.std.specs.Prelude.{◌≡◌, IfOk, false, option_map};
 
@@ -6,7 +6,7 @@ use crate::fields::{after_one, is, next, piece, signed_of, version_of};
 use hib_base::{Cell, Cells, Row, Seq, Text};
 use std::alloc::{AllocError, Global};
 
-/// The text up to its closing mark, and what follows.
+/// The text up to its closing mark, without backslashes, and what follows.
 #[tactic(auto, using(crate::proofs::Loops::quoted_escaped, crate::proofs::Loops::quoted_plain, crate::proofs::Loops::quoted_escapes, crate::proofs::Loops::quoted_closes, crate::proofs::Loops::quoted_open))]
 fn quoted(alloc: Global, bytes: &[u8]) -> Result<(Text, &[u8]), AllocError>
     ensures { IfOk result (λ x. (x.0, x.1.now) ≡ format.quoted false bytes.now) }
@@ -29,6 +29,7 @@ fn quoted(alloc: Global, bytes: &[u8]) -> Result<(Text, &[u8]), AllocError>
     Ok((Seq::from_vec(text), &bytes[bytes.len()..]))
 }
 
+/// Whether a piece begins as a number does.
 fn begins_number(piece: &[u8]) -> bool
     ensures { result ≡ format.begins_number piece.now }
 {
@@ -38,7 +39,7 @@ fn begins_number(piece: &[u8]) -> bool
     }
 }
 
-/// The cell that a piece looks like, if it is no text.
+/// The cell that a piece looks like, if it looks like a number, `true` or `false`.
 #[tactic(auto, unfolding(crate::specs::Fields::bare_cell))]
 fn bare_cell(piece: &[u8]) -> Option<Cell>
     ensures { result ≡ format.bare_cell piece.now }
@@ -54,7 +55,7 @@ fn bare_cell(piece: &[u8]) -> Option<Cell>
     }
 }
 
-/// The cell at the front and what follows it, or none.
+/// The cell at the front and what follows it; none if there is no cell.
 #[tactic(auto, unfolding(crate::specs::Fields::cell_at))]
 pub fn cell_at(alloc: Global, bytes: &[u8]) -> Result<Option<(Cell, &[u8])>, AllocError>
     ensures { IfOk result (λ o. option_map (λ x. (x.0, x.1.now)) o ≡ format.cell_at bytes.now) }
@@ -75,7 +76,7 @@ pub fn cell_at(alloc: Global, bytes: &[u8]) -> Result<Option<(Cell, &[u8])>, All
     }
 }
 
-/// Cells, each after one byte, and what follows them. Fails for want of memory alone.
+/// The cells at the front, each after one byte, and what follows them. Fails for want of memory alone.
 #[tactic(auto, using(crate::proofs::Loops::cells_go_on, crate::proofs::Loops::cells_stop_at, crate::proofs::Loops::cells_end), unfolding(crate::specs::Fields::cells_at))]
 pub fn cells_at(alloc: Global, bytes: &[u8]) -> Result<(Cells, &[u8]), AllocError>
     ensures { IfOk result (λ x. (x.0, x.1.now) ≡ format.cells_at bytes.now) }

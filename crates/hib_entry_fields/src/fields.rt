@@ -4,7 +4,7 @@ ghost use Rattle.hib_entry_fields.specs.Fields as format;
 ghost use Rattle.hib_lex.specs.Tokens.{size_of};
 ghost use Rattle.std.specs.Prelude.{◌≡◌, ◌^◌, ◌<◌, SomeIff, drop, bytes_eq, codes};
 
-/// The bytes but the first.
+/// The bytes without the first.
 pub fn after_one(bytes: &[u8]) -> &[u8]
     ensures { result.now ≡ drop 1 bytes.now }
 {
@@ -14,12 +14,14 @@ pub fn after_one(bytes: &[u8]) -> &[u8]
     }
 }
 
+/// Whether a byte ends a piece.
 fn is_stop(byte: u8) -> bool
     ensures { result ≡ format.is_stop byte }
 {
     byte == b' ' || byte == b']'
 }
 
+/// How many bytes the piece at the front has.
 #[tactic(auto, using(crate::proofs::Scans::piece_next, crate::proofs::Scans::piece_done, crate::proofs::Scans::piece_fits))]
 fn piece_len(bytes: &[u8]) -> usize
     ensures { result ≡ format.piece_len bytes.now }
@@ -31,7 +33,7 @@ fn piece_len(bytes: &[u8]) -> usize
     len
 }
 
-/// The piece at the front, and what follows it.
+/// The piece at the front, up to a space or a bracket, and what follows it.
 #[tactic(auto, using(crate::proofs::Scans::piece_fits), unfolding(crate::specs::Fields::piece, crate::specs::Fields::behind))]
 pub fn piece(bytes: &[u8]) -> (&[u8], &[u8])
     ensures piece { result.0.now ≡ format.piece bytes.now }
@@ -74,13 +76,14 @@ pub fn number_of(piece: &[u8]) -> u64
     }
 }
 
-/// A number, if it has 32 bits; else 0.
+/// A number, if it has 32 bits at most; else 0.
 pub fn small(n: u64) -> u32
     ensures { result ≡ format.small (2 ^ 32) n }
 {
     if n < 1 << 32 { n as u32 } else { 0 }
 }
 
+/// The number of this size below 0; 0 if there is none.
 fn below_zero(n: u64) -> i64
     ensures { result ≡ format.below_zero n }
 {
@@ -93,7 +96,7 @@ fn below_zero(n: u64) -> i64
     }
 }
 
-/// The number with its sign that a piece looks like.
+/// The number that a piece looks like, which may have a sign; 0 if it is too large.
 pub fn signed_of(piece: &[u8]) -> i64
     ensures { result ≡ format.signed_of piece.now }
 {

@@ -1,4 +1,5 @@
-// Which fields are well formed.
+// Which fields are well formed: within their ranges, and of the script. hib_entry_texts tests acts and replies by
+// these.
 ghost use Rattle.hib_base.specs.Fits as fits;
 ghost use Rattle.hib_base.specs.declared.rows.Cell.TheVariants.{Int};
 ghost use Rattle.hib_entry_fields.specs.Known as known;
@@ -49,7 +50,7 @@ pub fn is_tick(tick: Tick) -> bool
     tick.0 <= 1 << 62
 }
 
-/// Whether a version is one: each that the type holds is.
+/// Whether a version is within its range: each that the type holds is.
 pub fn is_version(version: Option<u32>) -> bool
     ensures { result ≡ known.is_version version }
 {
@@ -72,14 +73,14 @@ fn is_text(bytes: &[u8]) -> bool
     bytes.len() <= 200 && is_printable(bytes)
 }
 
-// Each number that the type holds is a cell's.
+// Whether a number is within the range of a cell's: each that the type holds is.
 fn is_wide(n: i64) -> bool
     ensures { result ≡ known.is_cell (Int n) }
 {
     n >= i64::MIN && n <= i64::MAX
 }
 
-/// Whether a cell is one.
+/// Whether a cell is well formed.
 pub fn is_cell(cell: &Cell) -> bool
     ensures { result ≡ known.is_cell cell.now }
 {
@@ -90,14 +91,14 @@ pub fn is_cell(cell: &Cell) -> bool
     }
 }
 
-/// Whether cells are such.
+/// Whether all cells are well formed.
 pub fn are_cells(cells: &[Cell]) -> bool
     ensures { result ≡ known.are_cells cells.now }
 {
     cells.iter().all(|cell| is_cell(cell))
 }
 
-/// Whether a row is one.
+/// Whether a row is well formed.
 pub fn is_row(row: &Row) -> bool
     ensures { result ≡ known.is_row row.now }
 {
@@ -110,7 +111,7 @@ fn are_known(tables: &[EntityNo], count: usize) -> bool
     tables.iter().all(|table| (table.0 as usize) < count)
 }
 
-/// Whether tables are the script's, and at least one.
+/// Whether all tables are the script's, and there is one at least.
 pub fn are_tables(script: &Script, tables: &Names) -> bool
     ensures { result ≡ known.are_tables script.now tables.now }
 {
@@ -134,7 +135,7 @@ fn are_set(sets: &[(u16, Cell)], count: usize) -> bool
         .all(|set| (set.0 as usize) < count && is_cell(&set.1))
 }
 
-/// Whether columns are the entity's, and at least one, with cells.
+/// Whether all columns are the entity's, all cells are well formed, and there is a column at least.
 pub fn are_sets(script: &Script, entity: EntityNo, sets: &Sets) -> bool
     ensures { result ≡ known.are_sets script.now entity sets.now }
 {

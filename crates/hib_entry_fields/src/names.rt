@@ -1,4 +1,4 @@
-// What names stand for.
+// The numbers of the names that bytes look like. A name that the script doesn't have looks like the first one.
 ghost use Rattle.hib_entry_fields.specs.Fields as format;
 ghost use Rattle.std.specs.Prelude.{◌≡◌, ◌^◌, IfOk, bytes_eq, length, position};
 
@@ -6,6 +6,7 @@ use crate::fields::{next, number_of};
 use hib_base::{ColumnDef, EntityDef, EntityNo, Key, Names, Query, QueryNo, Script, Seq};
 use std::alloc::{AllocError, Global};
 
+/// A place, if it has 16 bits at most; else 0.
 fn small16(place: Option<usize>) -> u16
     ensures { result ≡ format.place (2 ^ 16) place }
 {
@@ -33,7 +34,7 @@ fn column_place(columns: &[ColumnDef], name: &[u8]) -> Option<usize>
     columns.iter().position(|d| d.name.as_slice() == name)
 }
 
-/// The entity that a name looks like.
+/// The entity that a name looks like, by its number.
 #[tactic(auto, unfolding(crate::specs::Fields::entity_of))]
 pub fn entity_of(script: &Script, name: &[u8]) -> EntityNo
     ensures { result ≡ format.entity_of script.now name.now }
@@ -41,7 +42,7 @@ pub fn entity_of(script: &Script, name: &[u8]) -> EntityNo
     EntityNo(small16(entity_place(script.mapping.as_slice(), name)))
 }
 
-/// The query that a name looks like.
+/// The query that a name looks like, by its number.
 #[tactic(auto, unfolding(crate::specs::Fields::query_of))]
 pub fn query_of(script: &Script, name: &[u8]) -> QueryNo
     ensures { result ≡ format.query_of script.now name.now }
@@ -49,7 +50,7 @@ pub fn query_of(script: &Script, name: &[u8]) -> QueryNo
     QueryNo(small16(query_place(script.queries.as_slice(), name)))
 }
 
-/// The column of an entity that a name looks like.
+/// The column of an entity that a name looks like, by its place.
 #[tactic(auto, unfolding(crate::specs::Fields::column_of))]
 pub fn column_of(script: &Script, entity: EntityNo, name: &[u8]) -> u16
     ensures { result ≡ format.column_of script.now entity name.now }
@@ -77,7 +78,7 @@ pub fn key_at<'a>(script: &Script, bytes: &'a [u8]) -> (Key, &'a [u8])
     )
 }
 
-/// Entities, each after a space. Fails for want of memory alone.
+/// The entities whose names stand here, each after a space. Fails for want of memory alone.
 #[tactic(auto, using(crate::proofs::Loops::names_go_on, crate::proofs::Loops::names_stop, crate::proofs::Loops::names_end))]
 pub fn names_of(alloc: Global, script: &Script, bytes: &[u8]) -> Result<Names, AllocError>
     ensures { IfOk result (λ n. n ≡ format.names_from script.now (length bytes.now) bytes.now) }

@@ -1,4 +1,4 @@
-// The sessions of a script by their names.
+// The sessions of a script by their names, for the reader of journals, who looks one up for each entry.
 ghost use Rattle.hib_base.specs.Valid.{is_valid};
 ghost use Rattle.hib_entry_fields.specs.Fields as format;
 ghost use Rattle.std.specs.Prelude.{◌≡◌, ◌^◌, bytes_eq, position, slice_get, true};
@@ -15,7 +15,7 @@ pub struct SessionNames<'a> {
 }
 
 impl<'a> SessionNames<'a> {
-    /// The sessions of a script. Fails for want of memory alone.
+    /// The map for the sessions of a script. Fails for want of memory alone.
     pub fn of(alloc: Global, script: &'a Script) -> Result<SessionNames<'a>, AllocError> {
         let mut places = IndexMap::new(alloc);
         for (place, session) in script.sessions.as_slice().iter().enumerate() {
@@ -24,7 +24,8 @@ impl<'a> SessionNames<'a> {
         Ok(SessionNames { places })
     }
 
-    // Where a session of this name may stand. What is found is tried, so nothing is claimed of it.
+    // Where a session of this name may stand; 0 if the map has none. What is found is tried, so nothing is claimed of
+    // it.
     fn place(&self, name: &[u8]) -> usize {
         match self.places.get(name) {
             Some(place) => *place,
@@ -33,7 +34,7 @@ impl<'a> SessionNames<'a> {
     }
 }
 
-// A place, if it has 32 bits; else 0.
+// A place, if it has 32 bits at most; else 0.
 fn small32(place: Option<usize>) -> u32
     ensures { result ≡ format.place (2 ^ 32) place }
 {
@@ -49,7 +50,7 @@ fn session_place(sessions: &[SessionDef], name: &[u8]) -> Option<usize>
     sessions.iter().position(|d| d.name.as_slice() == name)
 }
 
-// Whether the session at a place has a name.
+// Whether the session at a place has this name.
 fn is_called(script: &Script, place: usize, name: &[u8]) -> bool
     ensures { result ≡ format.is_called (slice_get script.now.sessions place) name.now }
 {
@@ -59,7 +60,7 @@ fn is_called(script: &Script, place: usize, name: &[u8]) -> bool
     }
 }
 
-// The session of a name that none of the names stands for.
+// The session of a name that wasn't found by the map: it is searched for.
 #[tactic(auto, unfolding(crate::specs::Fields::session_of))]
 fn other_session(script: &Script, name: &[u8]) -> SessionNo
     ensures { result ≡ format.session_of script.now name.now }
@@ -67,7 +68,7 @@ fn other_session(script: &Script, name: &[u8]) -> SessionNo
     SessionNo(small32(session_place(script.sessions.as_slice(), name)))
 }
 
-/// The session of a valid script that a name looks like. One that is the script's is found by the names.
+/// The session of a valid script that a name looks like. If the script has it, it is found by the map.
 #[tactic(auto, using(crate::proofs::NameLaws::called_session))]
 pub fn session_of(script: &Script, names: &SessionNames, name: &[u8]) -> SessionNo
     requires { is_valid script.now ≡ true }

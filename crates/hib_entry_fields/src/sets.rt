@@ -1,4 +1,4 @@
-// Columns with their cells.
+// The columns with their cells that bytes look like, as the act of a set has them.
 ghost use Rattle.hib_entry_fields.specs.Fields as format;
 ghost use Rattle.std.specs.Prelude.{◌≡◌, IfOk, length, option_map};
 
@@ -8,7 +8,7 @@ use crate::names::column_of;
 use hib_base::{Cell, EntityNo, Script, Seq, Sets};
 use std::alloc::{AllocError, Global};
 
-// The column and the cell at the front, and what follows them, or none.
+// The column and the cell at the front, and what follows them; none if there is no cell.
 #[tactic(auto, unfolding(crate::specs::Fields::set_at))]
 fn set_at<'a>(
     alloc: Global,
@@ -26,7 +26,7 @@ fn set_at<'a>(
     }
 }
 
-/// Columns of an entity with their cells, one after the other. Fails for want of memory alone.
+/// The columns of an entity with their cells, one after the other. Fails for want of memory alone.
 pub fn sets_of(
     alloc: Global,
     script: &Script,

@@ -1,4 +1,5 @@
-// The act that bytes look like.
+// The act that bytes look like, for the reader of journals. `x_act` and `x_of` make an act of the bytes after its word,
+// whether or not they have its form: a wrong guess is found out when it is written again.
 ghost use Rattle.hib_entry_texts.specs.Acts as format;
 ghost use Rattle.hib_base.specs.Valid.{is_valid};
 ghost use Rattle.std.specs.Prelude.{◌≡◌, IfOk, true};
@@ -82,7 +83,8 @@ fn results_act(alloc: Global, script: &Script, word: &[u8], bytes: &[u8]) -> Res
     }
 }
 
-/// The act of a valid script that bytes look like, on the part of a word. Fails for want of memory alone.
+/// The act of a valid script that bytes look like; `part` is the word of the part that it is on. Fails for want of
+/// memory alone.
 #[tactic(auto, unfolding(crate::specs::Acts::act_of))]
 pub fn act_of(
     alloc: Global,

@@ -1,4 +1,5 @@
-// Which replies answer an act, and are well formed.
+// Which replies may answer an act, with numbers and names that the script has. Each `is_...` below tests a reply, or a
+// part of one, of the kind that it is named by.
 ghost use Rattle.hib_entry_texts.specs.WellFormed as format;
 ghost use Rattle.std.specs.Prelude.{◌≡◌};
 
@@ -47,7 +48,7 @@ fn is_dropped_query(script: &Script, dropped: Option<QueryNo>) -> bool
     }
 }
 
-// Each number that the type holds is a count.
+// Whether a number is a count: each that the type holds is.
 fn is_count(n: u64) -> bool
     ensures { result ≡ format.is_count n }
 {
@@ -313,7 +314,8 @@ fn is_evicted(reply: &Reply) -> bool
     matches!(reply, Reply::Evicted(_))
 }
 
-/// Whether a reply answers an act, and is the script's.
+/// Whether a reply is of a kind that may answer this act, and has the script's names and numbers in their ranges alone.
+/// The reader of journals refuses any other.
 pub fn is_reply(script: &Script, act: &Act, reply: &Reply) -> bool
     ensures { result ≡ format.is_reply script.now act.now reply.now }
 {

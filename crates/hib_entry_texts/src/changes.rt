@@ -1,4 +1,4 @@
-// The acts on what is a session's own, and on the store, that bytes look like.
+// The acts on the store and on what is a session's own, that bytes look like; for `acts`.
 ghost use Rattle.hib_entry_texts.specs.Acts as format;
 ghost use Rattle.std.specs.Prelude.{◌≡◌, IfOk};
 
@@ -22,7 +22,7 @@ fn set_of(alloc: Global, script: &Script, bytes: &[u8]) -> Result<Act, AllocErro
     Ok(Act::Set { key, cells })
 }
 
-/// The act on what is a session's own, by its word and what follows.
+/// The act on what is a session's own that bytes look like, by its word and what follows.
 pub fn own_act(alloc: Global, script: &Script, word: &[u8], bytes: &[u8]) -> Result<Act, AllocError>
     ensures { IfOk result (λ a. a ≡ format.own_act script.now word.now bytes.now) }
 {
@@ -75,7 +75,7 @@ fn delete_of(script: &Script, bytes: &[u8]) -> Act
     })
 }
 
-/// The act on the store, by its word and what follows.
+/// The act on the store that bytes look like, by its word and what follows.
 pub fn store_act(
     alloc: Global,
     script: &Script,

@@ -1,4 +1,4 @@
-// The acts on regions that bytes look like.
+// The acts on regions that bytes look like; for `acts`.
 ghost use Rattle.hib_entry_fields.specs.Fields.{key_at};
 ghost use Rattle.hib_entry_texts.specs.Acts as format;
 ghost use Rattle.std.specs.Prelude.{◌≡◌, IfOk};
@@ -7,7 +7,7 @@ use hib_base::{Act, Key, Script, Tick};
 use hib_entry_fields::{is, key_at, next, number_of, row_at, version_of};
 use std::alloc::{AllocError, Global};
 
-// A key, and the number after a label.
+// A key, and the number after a label, at the front of some bytes.
 fn marked(script: &Script, bytes: &[u8]) -> (Key, Tick)
     ensures key { result.0 ≡ key_at script.now bytes.now }
     ensures number { result.1 ≡ format.marked bytes.now }
@@ -91,7 +91,7 @@ fn after_update_of(alloc: Global, script: &Script, bytes: &[u8]) -> Result<Act, 
     })
 }
 
-/// The act on a region, by its word and what follows.
+/// The act on a region that bytes look like, by its word and what follows.
 pub fn region_act(
     alloc: Global,
     script: &Script,

@@ -1,4 +1,5 @@
-// The reply that bytes look like.
+// The reply that bytes look like, for the reader of journals. `x_of` makes one kind of reply, or a part of one, of its
+// word and of the bytes after it, whether or not they have its form.
 ghost use Rattle.hib_entry_texts.specs.Replies as format;
 ghost use Rattle.std.specs.Prelude.{◌≡◌, IfOk};
 
@@ -321,7 +322,7 @@ fn evicted_of(word: &[u8]) -> Evicted
     }
 }
 
-/// The reply that bytes look like, to an act. Fails for want of memory alone.
+/// The reply to this act that bytes look like. Fails for want of memory alone.
 #[tactic(auto, unfolding(crate::specs::Replies::reply_of))]
 pub fn reply_of(
     alloc: Global,

@@ -1,4 +1,4 @@
-// Which acts are well formed, and on which part they are.
+// Which acts are well formed, and on which part they are. The reader of journals asks it of an act that it has guessed.
 ghost use Rattle.hib_entry_texts.specs.WellFormed as format;
 ghost use Rattle.std.specs.Prelude.{◌≡◌};
 
@@ -19,7 +19,7 @@ fn is_change(script: &Script, change: &Change) -> bool
     }
 }
 
-/// Whether an act is the script's.
+/// Whether an act has the script's names and numbers in their ranges alone.
 pub fn is_act(script: &Script, act: &Act) -> bool
     ensures { result ≡ format.is_act script.now act.now }
 {
@@ -71,7 +71,7 @@ fn own_part(session: Option<SessionNo>) -> Option<Part>
     }
 }
 
-/// The part that an act of a session is on; none if it is a session's own and has no session.
+/// The part that an act of a session is on; none if it is a session's own, and no session is given.
 pub fn part_of(act: &Act, session: Option<SessionNo>) -> Option<Part>
     ensures { result ≡ format.part_of act.now session }
 {

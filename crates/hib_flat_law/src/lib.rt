@@ -1,7 +1,8 @@
 //! The law of flat data: the line of an entry is JSON, and is read again as this entry.
 //!
-//! The crate has no code. Each function has an empty body, and its `ensures` is a theorem over all scripts and all entries.
-//! `specs/Objects` says which object a line is, `specs/Reading` which entry an object looks like, and `proofs/` has the proofs.
+//! The crate has no code. Each function has an empty body, and its `ensures` is a theorem over all scripts and all
+//! entries. `specs/Objects` says which object a line is, `specs/Reading` which entry an object looks like, and
+//! `proofs/` has the proofs.
 #![tactic(auto)]
 
 ghost use Rattle.hib_base.specs.Valid.{is_valid};

@@ -1,4 +1,4 @@
-// What a plan stands for, over the journal.
+// What a plan stands for, over the journal; for proofs.
 ghost use Rattle.std.specs.Prelude.{◌≡◌};
 ghost use Rattle.hib_journal.specs.Sessions.{Journal};
 ghost use Rattle.hib_journal.specs.Held.{removed, pending};

@@ -1,4 +1,4 @@
-// The pending changes of all instances: inserts, then updates, then deletes.
+// The pending changes of all instances, in the order in which a flush writes them: inserts, then updates, then deletes.
 ghost use Rattle.std.specs.Prelude.{◌≡◌, ◌++◌, IfOk, OnOk};
 ghost use Rattle.hib_flush.specs.Planned.{listed, inserts_in, updates_in, delete_held, deletes_in, planned};
 ghost use Rattle.hib_identity_map.specs.Identity.{look_in};
@@ -20,7 +20,7 @@ pub fn plan(alloc: Global, map: &IdentityMap) -> Result<Changes, AllocError>
     Ok(changes)
 }
 
-/// Adds a change to a plan, if an instance asks for one.
+/// Adds a change to a plan, if there is one.
 fn add(changes: &mut Changes, change: Option<Change>) -> Result<(), AllocError>
     ensures { OnOk result (changes.new ≡ changes.old ++ listed change) }
 {
@@ -30,6 +30,7 @@ fn add(changes: &mut Changes, change: Option<Change>) -> Result<(), AllocError>
     }
 }
 
+/// Adds the inserts that are pending, in order of arrival.
 fn add_inserts(alloc: Global, map: &IdentityMap, changes: &mut Changes) -> Result<(), AllocError>
     ensures { OnOk result (changes.new ≡ changes.old ++ inserts_in map.now.held) }
 {
@@ -41,6 +42,7 @@ fn add_inserts(alloc: Global, map: &IdentityMap, changes: &mut Changes) -> Resul
     Ok(())
 }
 
+/// Adds the updates that are pending, in order of arrival.
 fn add_updates(alloc: Global, map: &IdentityMap, changes: &mut Changes) -> Result<(), AllocError>
     ensures { OnOk result (changes.new ≡ changes.old ++ updates_in map.now.held) }
 {
@@ -52,12 +54,14 @@ fn add_updates(alloc: Global, map: &IdentityMap, changes: &mut Changes) -> Resul
     Ok(())
 }
 
+/// The delete that is pending of a key, if there is one.
 fn delete_at(map: &IdentityMap, key: Key) -> Option<Change>
     ensures { result ≡ delete_held key (look_in map.now.held key) }
 {
     delete(key, map.look(key)?)
 }
 
+/// Adds the deletes that are pending, in order of removal.
 fn add_deletes(map: &IdentityMap, changes: &mut Changes) -> Result<(), AllocError>
     ensures { OnOk result (changes.new ≡ changes.old ++ deletes_in map.now.held map.now.removals) }
 {

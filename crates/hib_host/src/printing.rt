@@ -1,4 +1,4 @@
-// Texts on standard output.
+// Texts on standard output, such as the help.
 ghost use Rattle.std.specs.Prelude.{◌≡◌, ◌⊎◌, IfOk, IfErr};
 
 use hib_call::Status;

@@ -1,4 +1,4 @@
-// The words of the command line.
+// The words of the command line, as the system gives them.
 use hib_call::Status;
 use std::{env, io};
 

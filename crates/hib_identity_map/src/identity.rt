@@ -1,4 +1,4 @@
-// Instances by key, in order of arrival.
+// The instances of a session by key, in order of arrival, and the order of removals: a flush goes by these.
 ghost use Rattle.std.specs.Prelude.{◌≡◌, ◌↔◌, ◌≢◌, ◌<◌, [], None, Some, false, IsTrue, OnOk, OnErr, length, slice_get, option_copied};
 ghost use Rattle.hib_identity_map.specs.Identity.{empty, faced, look_in, put_in, drop_in, add_in, change_in, written, as_removed, with_sets, remove_last};
 
@@ -49,7 +49,7 @@ impl IdentityMap {
         look_at(&self.entries, self.turned, key)
     }
 
-    /// Adds the instance of a key that has none, after the others. At an error nothing has changed.
+    /// Adds the instance of a key, after the others. The key must have none. At an error nothing has changed.
     pub fn add(&mut self, key: Key, held: Held) -> Result<(), AllocError>
         requires { look_in self.old.held key ≡ None }
         ensures ok { OnOk result (self.new
@@ -60,8 +60,7 @@ impl IdentityMap {
         insert_new(&mut self.entries, key, held)
     }
 
-    /// The instance of a key comes after the others, and the one that the key had leaves. At an error nothing has
-    /// changed.
+    /// Puts the instance of a key after the others. The one that the key had leaves. At an error nothing has changed.
     pub fn arrive(&mut self, key: &Key, held: Held) -> Result<(), AllocError>
         ensures ok { OnOk result (self.new
             ≡ record self.old { held = add_in key.now held (drop_in key.now self.old.held) }) }
@@ -71,7 +70,7 @@ impl IdentityMap {
         arrive_at(&mut self.entries, key, held)
     }
 
-    /// Another instance in the place of that of a key. It takes no memory.
+    /// Puts another instance in the place of that of a key. The key must have one. It takes no memory.
     pub fn put(&mut self, key: Key, held: Held)
         requires { look_in self.old.held key ≢ None }
         ensures { self.new ≡ record self.old { held = put_in key held self.old.held } }
@@ -80,14 +79,14 @@ impl IdentityMap {
         replace(&mut self.entries, key, held);
     }
 
-    /// The instance of a key leaves, if there is one; the others keep their order. It takes no memory.
+    /// Drops the instance of a key, if there is one; the others keep their order. It takes no memory.
     pub fn drop(&mut self, key: Key)
         ensures { self.new ≡ record self.old { held = drop_in key self.old.held } }
     {
         leave(&mut self.entries, &mut self.turned, key);
     }
 
-    /// All instances leave. The removals stay. It takes no memory.
+    /// Drops all instances. The removals stay. It takes no memory.
     pub fn clear(&mut self)
         ensures { self.new ≡ record self.old { held = [] } }
     {
@@ -95,7 +94,7 @@ impl IdentityMap {
         self.turned = false;
     }
 
-    /// The instance of a key, if there is one, stands for a row that was written. It takes no memory.
+    /// Notes that the row of a key was written: its instance, if there is one, stands for that row. It takes no memory.
     pub fn set_base(&mut self, key: Key, base: Row)
         ensures { self.new ≡ record self.old { held = change_in key (written base) self.old.held } }
     {
@@ -161,7 +160,7 @@ impl IdentityMap {
     }
 }
 
-// The instances stand in order of arrival.
+// Brings the instances into the order of arrival, if they stand the other way round.
 fn straighten(entries: &mut IndexMap<Key, Held>, turned: &mut bool)
     ensures entries { entries.new.entries ≡ faced turned.old entries.old.entries }
     ensures turned { turned.new ≡ false }
@@ -173,7 +172,7 @@ fn straighten(entries: &mut IndexMap<Key, Held>, turned: &mut bool)
     *turned = false;
 }
 
-// The instances stand the other way round.
+// Turns the order of the instances round.
 #[tactic(auto, using(crate::proofs::Faced::faced_turned))]
 fn turn(entries: &mut IndexMap<Key, Held>, turned: &mut bool)
     ensures { faced turned.new entries.new.entries ≡ faced turned.old entries.old.entries }
@@ -182,6 +181,7 @@ fn turn(entries: &mut IndexMap<Key, Held>, turned: &mut bool)
     *turned = !*turned;
 }
 
+/// The instance of a key.
 #[tactic(auto, using(crate::proofs::Faced::look_faced))]
 fn look_at(entries: &IndexMap<Key, Held>, turned: bool, key: Key) -> Option<&Held>
     ensures { option_copied result ≡ look_in (faced turned entries.now.entries) key }
@@ -200,7 +200,7 @@ fn insert_new(entries: &mut IndexMap<Key, Held>, key: Key, held: Held) -> Result
     Ok(())
 }
 
-// Puts a key at the end, in place of where it was.
+// Puts a key at the end, and takes it from where it was.
 fn arrive_at(entries: &mut IndexMap<Key, Held>, key: &Key, held: Held) -> Result<(), AllocError>
     ensures ok { OnOk result (entries.new.entries
         ≡ add_in key.now held (drop_in key.now entries.old.entries)) }
@@ -212,7 +212,7 @@ fn arrive_at(entries: &mut IndexMap<Key, Held>, key: &Key, held: Held) -> Result
     Ok(())
 }
 
-// Gives a key that is there another instance.
+// Gives a key another instance. It must have one.
 fn replace(entries: &mut IndexMap<Key, Held>, key: Key, held: Held)
     requires { look_in entries.old.entries key ≢ None }
     ensures { entries.new.entries ≡ put_in key held entries.old.entries }
@@ -241,7 +241,7 @@ fn remove_key(entries: &mut IndexMap<Key, Held>, turned: bool, key: Key)
     entries.shift_remove(&key);
 }
 
-// The instance of a key leaves; if many stand behind it, they are turned round before.
+// Drops the instance of a key; if many stand behind it, they are turned round before.
 fn leave(entries: &mut IndexMap<Key, Held>, turned: &mut bool, key: Key)
     ensures { faced turned.new entries.new.entries
         ≡ drop_in key (faced turned.old entries.old.entries) }
@@ -260,6 +260,7 @@ fn clear_all(entries: &mut IndexMap<Key, Held>)
     entries.clear();
 }
 
+/// The key and the instance at a place, as they stand.
 fn pair_in(entries: &IndexMap<Key, Held>, i: usize) -> (Key, &Held)
     requires { i < length entries.now.entries }
     ensures { slice_get entries.now.entries i ≡ Some (result.0, result.1.now) }
@@ -268,6 +269,7 @@ fn pair_in(entries: &IndexMap<Key, Held>, i: usize) -> (Key, &Held)
     (*key, held)
 }
 
+/// The key and the instance at a place in the order of arrival.
 #[tactic(auto, using(crate::proofs::Faced::length_faced, crate::proofs::Faced::got_turned))]
 fn pair_at(entries: &IndexMap<Key, Held>, turned: bool, i: usize) -> (Key, &Held)
     requires { i < length (faced turned entries.now.entries) }
@@ -279,7 +281,7 @@ fn pair_at(entries: &IndexMap<Key, Held>, turned: bool, i: usize) -> (Key, &Held
     pair_in(entries, i)
 }
 
-// Puts a key after the others, in place of where it was.
+// Puts a key after the others, and takes it from where it was.
 fn move_last(keys: &mut IndexSet<Key>, key: Key) -> Result<(), AllocError>
     ensures ok { OnOk result (keys.new.keys ≡ remove_last key keys.old.keys) }
     ensures err { OnErr result (keys.new.keys ≡ keys.old.keys) }
@@ -290,6 +292,7 @@ fn move_last(keys: &mut IndexSet<Key>, key: Key) -> Result<(), AllocError>
     Ok(())
 }
 
+/// Lets the instance of a key, if there is one, stand for a row that was written.
 fn base_at(entries: &mut IndexMap<Key, Held>, key: Key, base: Row)
     ensures { entries.new.entries ≡ change_in key (written base) entries.old.entries }
 {
@@ -300,6 +303,7 @@ fn base_at(entries: &mut IndexMap<Key, Held>, key: Key, base: Row)
     set_base(held, base);
 }
 
+/// Sets cells of the instance of a key, if there is one.
 fn cells_at(
     alloc: Global,
     entries: &mut IndexMap<Key, Held>,
@@ -317,6 +321,7 @@ fn cells_at(
     set_cells(alloc, held, sets)
 }
 
+/// Marks the instance of a key, if there is one, as removed.
 fn mark_at(entries: &mut IndexMap<Key, Held>, key: Key)
     ensures { entries.new.entries ≡ change_in key as_removed entries.old.entries }
 {

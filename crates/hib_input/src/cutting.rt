@@ -1,4 +1,4 @@
-// Where a line cuts a text.
+// Where a line cuts a text: a script from the journal or the section that comes after it.
 ghost use Rattle.std.specs.Prelude.{◌≡◌, ◌≤◌, ◌+◌, IfOk, IfErr, length, take, drop, Some, None};
 ghost use Rattle.hib_lex.specs.Lines.{lines_of};
 ghost use Rattle.hib_input.specs.Cut.{is_mark, cut};
@@ -16,14 +16,14 @@ pub struct Cut {
     pub lines: usize,
 }
 
-/// Whether a line is exactly this word.
+/// Whether a line is this word and no more.
 fn is_mark(word: &[u8], line: &[u8]) -> bool
     ensures { result ≡ is_mark word.now line.now }
 {
     line == word
 }
 
-/// Where the first line that is exactly this word cuts a text; or the number of lines, if there is none.
+/// Where the first line that is this word and no more cuts a text; or the number of lines, if there is none.
 #[tactic(auto, using(hib_lex::proofs::Texts::length_fits))]
 pub fn cut_of(text: &[u8], word: &[u8]) -> Result<Cut, usize>
     ensures within { IfOk result (λ c. (c.before ≤ c.behind)

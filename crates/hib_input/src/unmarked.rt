@@ -1,4 +1,4 @@
-// A text in which the line after the script is missing.
+// What is said of a text in which the line is missing that ends the script.
 ghost use Rattle.std.specs.Prelude.{◌≡◌, ◌<◌, ◌≤◌, ◌+◌, ◌^◌, length};
 ghost use Rattle.hib_lex.specs.Lines.{lines_of};
 ghost use Rattle.hib_input.specs.Cut.{IsFault, script_of_lines, unmarked};
@@ -7,8 +7,8 @@ use hib_base::{Kind, Refused};
 use hib_script::ScriptError;
 use std::alloc::Global;
 
-/// Why a text of so many lines is refused in which the line after the script is missing: its first bad line as a
-/// script, or else this kind at the number of lines.
+/// Why a text is refused in which the line after the script is missing: its first bad line as a script, or else this
+/// kind at its last line. `lines` is how many lines it has.
 pub fn without_mark(alloc: Global, text: &[u8], lines: usize, kind: Kind) -> ScriptError
     requires small { length text.now < 2 ^ 31 }
     requires few { lines ≤ length text.now + 1 }

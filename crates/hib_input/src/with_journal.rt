@@ -1,4 +1,4 @@
-// The script and the journal of a text.
+// The script and the journal of a text, as `audit` and the tools read them.
 ghost use Rattle.std.specs.Prelude.{◌≡◌, ◌<◌, ◌≤◌, ◌+◌, ◌^◌, length, true, Ok, None, IfOk, IfErr};
 ghost use Rattle.hib_base.specs.Valid.{is_valid};
 ghost use Rattle.hib_lex.specs.Lines.{lines_of};
@@ -25,7 +25,7 @@ pub struct WithJournal {
     pub journal: Journal,
 }
 
-/// The journal after a script, whose lines begin with this number.
+/// The journal after a script. Its first line has the number `first`.
 fn read_behind(
     alloc: Global,
     script: Script,
@@ -44,7 +44,7 @@ fn read_behind(
     }
 }
 
-/// The script before a line `journal`, and the journal after it; so many lines stand before it.
+/// The script before a line `journal`, and the journal after it. `lines` is how many lines stand before that line.
 fn read_cut(
     alloc: Global,
     before: &[u8],

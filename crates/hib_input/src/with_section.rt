@@ -1,4 +1,5 @@
-// The script of a text, and the section after it.
+// The script of a text, and the section after it, as `collect`, `bulk` and `nodes` read them. Its word is the line
+// between.
 ghost use Rattle.std.specs.Prelude.{◌≡◌, ◌<◌, ◌≤◌, ◌+◌, ◌^◌, length, true, Ok, IfOk, IfErr};
 ghost use Rattle.hib_base.specs.Valid.{is_valid};
 ghost use Rattle.hib_lex.specs.Lines.{lex_after, lines_of};
@@ -24,7 +25,7 @@ pub struct WithSection {
     pub behind: Lines,
 }
 
-/// The lines of a text before which so many others stand.
+/// The lines of a text, with their tokens. So many others stand before it.
 fn lexed(alloc: Global, before: u32, text: &[u8]) -> Result<Lines, ScriptError>
     requires { before + length text.now < 2 ^ 31 }
     ensures lines { IfOk result (λ l. lex_after before text.now ≡ Ok l) }
@@ -37,7 +38,7 @@ fn lexed(alloc: Global, before: u32, text: &[u8]) -> Result<Lines, ScriptError>
     }
 }
 
-/// The script before the section, and the section; so many lines stand before the word.
+/// The script before the section's word, and the section. `lines` is how many lines stand before that word.
 fn read_cut(
     alloc: Global,
     before: &[u8],

@@ -1,4 +1,4 @@
-// The lists of a run joined into one journal.
+// The lists that a run over parts left, joined into one journal.
 ghost use Rattle.std.specs.Prelude.{◌≢◌, map, IfSome};
 ghost use Rattle.hib_base.specs.declared.entries.Part.{Part};
 ghost use Rattle.hib_journal.specs.Kept.{past};
@@ -23,7 +23,7 @@ pub enum Joined {
     NoMemory,
 }
 
-/// The one journal of lists that fit together, or what is torn.
+/// Merges the lists of parts into one journal, and checks that those of sessions agree with it.
 fn join(alloc: Global, lists: &Lists, mine: &Lists) -> Joined
     requires apart { (p : Part) → IsInOne p (map past lists.now) }
     requires rising { AreRising (map past lists.now) }
@@ -40,7 +40,8 @@ fn join(alloc: Global, lists: &Lists, mine: &Lists) -> Joined
     }
 }
 
-/// The same of a run, unless a lock gave another region than the one that was asked for, or memory ran out.
+/// Joins the lists of a run as `join` does, unless a lock gave another region than the one that was asked for, or
+/// memory ran out in the run.
 pub fn join_unless(
     alloc: Global,
     strange: &Option<(EntityNo, EntityNo)>,

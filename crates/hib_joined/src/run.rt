@@ -1,4 +1,4 @@
-// The run of a script over parts under locks of their own, to its one journal.
+// The run of a script over parts under locks of their own, to its one journal. hib_top calls it for `work --split`.
 ghost use Rattle.std.specs.Prelude.{◌≡◌, ◌≤◌, true, map, IfOk, IfErr};
 ghost use Rattle.hib_base.specs.Valid.{is_valid};
 ghost use Rattle.hib_journal.specs.Kept.{past};

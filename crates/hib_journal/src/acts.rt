@@ -1,10 +1,10 @@
-// The part of an act.
+// The part that answers an act, by which a step finds it.
 ghost use Rattle.std.specs.Prelude.{◌≡◌};
 ghost use Rattle.hib_journal.specs.Legal;
 
 use hib_base::{Act, Part, SessionNo};
 
-/// The part of an act of a session.
+/// The part that answers an act of this session.
 pub fn part_of(act: &Act, session: SessionNo) -> Part
     ensures { result ≡ Legal.part_of act.now session }
 {

@@ -1,4 +1,5 @@
-// The entry whose JSON line a text is: it is guessed from the members, tested, and written again.
+// The entry whose JSON line a text is: it is guessed from the members, tested, and written again. A line is here a JSON
+// line of a journal, with five members.
 ghost use Rattle.hib_base.specs.Valid.{is_valid};
 ghost use Rattle.hib_entry_fields.specs.Fields as fields;
 ghost use Rattle.hib_journal.specs.Types.{Entry};
@@ -19,6 +20,7 @@ use hib_texts::put_session;
 use std::alloc::{AllocError, Global};
 use std::str;
 
+/// Whether the session of an entry, if it has one, is the script's.
 fn is_actor(script: &Script, session: Option<SessionNo>) -> bool
     ensures { result ≡ entries.is_actor script.now session }
 {
@@ -28,6 +30,7 @@ fn is_actor(script: &Script, session: Option<SessionNo>) -> bool
     }
 }
 
+/// Whether an entry is well formed, but for its part.
 fn is_known(script: &Script, entry: &Entry) -> bool
     ensures { result ≡ entries.is_known script.now entry.now }
 {
@@ -44,6 +47,7 @@ pub fn is_entry(script: &Script, entry: &Entry) -> bool
     is_known(script, entry) && part_of(&entry.act, entry.session) == Some(entry.part)
 }
 
+/// The session that a name looks like, if there is a name.
 fn session_named(script: &Script, names: &SessionNames, name: &Option<String>) -> Option<SessionNo>
     requires { is_valid script.now ≡ true }
     ensures { result ≡ option_map (fields.session_of script.now)
@@ -55,6 +59,7 @@ fn session_named(script: &Script, names: &SessionNames, name: &Option<String>) -
     }
 }
 
+/// The entry of this act, with the reply that the line's text looks like.
 fn entry_with(
     alloc: Global,
     script: &Script,
@@ -75,6 +80,7 @@ fn entry_with(
     })
 }
 
+/// The entry that the texts of a line look like; none if it would have no part.
 fn guess(
     alloc: Global,
     script: &Script,
@@ -93,6 +99,7 @@ fn guess(
     Ok(Some(entry_with(alloc, script, line, session, part, act)?))
 }
 
+/// Whether an act's text is this one.
 fn is_act_text(alloc: Global, script: &Script, act: &Act, bytes: &[u8]) -> Result<bool, AllocError>
     ensures { IfOk result (λ b. b ≡ bytes_eq (act_text script.now act.now) bytes.now) }
 {
@@ -101,6 +108,7 @@ fn is_act_text(alloc: Global, script: &Script, act: &Act, bytes: &[u8]) -> Resul
     Ok(text.as_slice() == bytes)
 }
 
+/// Whether a reply's text is this one.
 fn is_reply_text(
     alloc: Global,
     script: &Script,
@@ -114,6 +122,7 @@ fn is_reply_text(
     Ok(text.as_slice() == bytes)
 }
 
+/// Whether a part's word is this one.
 fn is_part_text(alloc: Global, part: Part, bytes: &[u8]) -> Result<bool, AllocError>
     ensures { IfOk result (λ b. b ≡ bytes_eq (part_text part) bytes.now) }
 {
@@ -122,6 +131,7 @@ fn is_part_text(alloc: Global, part: Part, bytes: &[u8]) -> Result<bool, AllocEr
     Ok(text.as_slice() == bytes)
 }
 
+/// Whether a session's name is this one; without a session there must be no name.
 fn is_session_name(
     alloc: Global,
     script: &Script,
@@ -142,6 +152,7 @@ fn is_session_name(
     }
 }
 
+/// Whether the members of a line are the texts of an entry.
 fn is_texts_of(
     alloc: Global,
     script: &Script,
@@ -159,7 +170,7 @@ fn is_texts_of(
     )
 }
 
-// Whether an entry is the script's, and the members are its texts.
+// Whether an entry is well formed for the script, and the members of the line are its texts.
 fn is_entry_of(
     alloc: Global,
     script: &Script,
@@ -176,7 +187,7 @@ fn is_entry_of(
     }
 }
 
-// The entry whose object has these members, or none.
+// The entry whose line has these members; none if they are no well-formed entry's.
 fn entry_of(
     alloc: Global,
     script: &Script,
@@ -202,7 +213,7 @@ fn entry_of(
     }
 }
 
-// The entry whose JSON line a text is, or none.
+// The entry whose JSON line a text is; none if it is no well-formed entry's.
 #[tactic(auto, using(crate::proofs::Guesses::found_line, crate::proofs::Guesses::bad_members, crate::proofs::Guesses::bad_entry))]
 fn read_entry(
     alloc: Global,
@@ -220,8 +231,7 @@ fn read_entry(
     entry_of(alloc, script, names, &line)
 }
 
-/// The entry whose JSON line some bytes are, or none if they are no well-formed entry's. Fails for want of memory
-/// alone.
+/// The entry whose JSON line some bytes are; none if they are no well-formed entry's. Fails for want of memory alone.
 pub fn line_entry(
     alloc: Global,
     script: &Script,

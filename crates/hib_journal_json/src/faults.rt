@@ -1,4 +1,4 @@
-// Why lines are no journal.
+// Why lines are no journal, for the readers of inputs.
 ghost use Rattle.hib_journal_json.specs.declared.faults.JournalFault.TheVariants.{NoMemory};
 ghost use Rattle.std.specs.Prelude.{◌≡◌};
 

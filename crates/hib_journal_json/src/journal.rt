@@ -1,4 +1,4 @@
-// A journal is read from lines, one entry for each.
+// A journal is read from JSON lines, one entry for each, as `audit` and the tools take it.
 ghost use Rattle.hib_base.specs.Valid.{is_valid};
 ghost use Rattle.hib_journal.specs.Types.{Entry};
 ghost use Rattle.hib_journal_json.specs.Entries.{AreEntries, AreLines, IsFirstBad, IsRefused, IsRefusedAs, refused_at};
@@ -15,7 +15,7 @@ use hib_journal::Journal;
 use hib_lex::line_length;
 use std::alloc::Global;
 
-// The refusal of the line after some lines.
+// The refusal of the line that comes after so many, the first of which has the number `first`.
 fn refused(first: u32, before: usize) -> Refused
     requires { before ≤ 2 ^ 62 }
     ensures { result ≡ refused_at first before }
@@ -31,7 +31,7 @@ fn refused(first: u32, before: usize) -> Refused
     }
 }
 
-// Adds an entry for each line to an empty journal.
+// Adds an entry for each line to a journal, which must be empty.
 #[tactic(auto, using(hib_lex::proofs::Texts::length_fits, crate::proofs::Journals::at_start, crate::proofs::Journals::at_end))]
 fn read_named(
     alloc: Global,
@@ -58,7 +58,7 @@ fn read_named(
     Ok(())
 }
 
-// The same, with the names of the script's sessions made for it.
+// Adds an entry for each line to a journal, which must be empty. The map of the script's session names is made for it.
 fn read_lines(
     alloc: Global,
     script: &Script,
@@ -75,7 +75,8 @@ fn read_lines(
     read_named(alloc, script, &names, text, first, journal)
 }
 
-/// Whether all entries of a journal are well formed: then its JSON lines are read back as this journal.
+/// Whether all entries of a journal are well formed: then its JSON lines are read back as this journal. It is asked
+/// before they are written.
 pub fn are_entries(script: &Script, journal: &Journal) -> bool
     ensures { IsTrue result ↔ AreEntries script.now journal.now.list }
 {

@@ -95,7 +95,8 @@ fn put_session_member(
 }
 
 /// The JSON line of an entry, with its line feed: the members act, part, reply, session and tick, byte for byte as
-/// `serde_json` writes their object. A number that the script doesn't know prints as nothing. Fails for want of memory alone.
+/// `serde_json` writes their object. A number that the script doesn't know prints as nothing. Fails for want of memory
+/// alone.
 pub fn put_line(
     alloc: Global,
     out: &mut Vec<u8>,

@@ -187,8 +187,8 @@ fn files(alloc: Global, of_log: bool, calls: u64) -> Files<Disk> {
     }
 }
 
-/// Stops the log or the database file at each call in turn, up to a run that ends before. Whether each time the rows
-/// are those after one step, and none before one that was answered.
+/// Stops the log or the database file at each call in turn, up to a run that ends before. Answers whether each time the
+/// rows are those after one step, and none before one that was answered.
 pub fn holds_at_each_stop(alloc: Global, of_log: bool) -> bool {
     for calls in 0..MOST_CALLS {
         match after_stop(alloc, files(alloc, of_log, calls)) {

@@ -1,5 +1,5 @@
-//! Tries the keepers over SQLite: a line of standard input is a call of one in memory, in the form that the head of the file
-//! `stdin` describes, and what is answered is printed. At the end a disk is stopped at each of its calls.
+//! Tries the keepers over SQLite: a line of standard input is a call of one in memory, in the form that the head of the
+//! file `stdin` describes, and what is answered is printed. At the end a disk is stopped at each of its calls.
 #![tactic(auto)]
 
 mod calls;

@@ -78,8 +78,9 @@ pub fn read_only_items_were_given()
         → (h : Journal) → IsLegal script (Some start) h → AtEachPrefix (IsItemGiven start k) h }
 {}
 
-/// At every entry at which a read-write key is sound, its lock counts the sessions that hold it, killed ones among them.
-/// Each of them was told the identifier of the lock. A session that gives this lock back isn't answered `Expired`.
+/// At every entry at which a read-write key is sound, its lock counts the sessions that hold it, killed ones among
+/// them. Each of them was told the identifier of the lock. A session that gives this lock back isn't answered
+/// `Expired`.
 pub fn locks_are_kept()
     ensures locks { (script : Script) (start : Tables) (k : Key)
         → strategy script k.entity ≡ Strategy.ReadWrite

@@ -1,4 +1,4 @@
-// Why a text has no lines.
+// Why a text has no lines of tokens, for the reader of scripts.
 ghost use Rattle.hib_lex.specs.declared.errors.LexError.TheVariants.{NoMemory};
 ghost use Rattle.std.specs.Prelude.{◌≡◌};
 

@@ -1,4 +1,4 @@
-// The tokens of a line, and which lines are skipped.
+// The tokens of a line, and which lines are skipped. A mark is here a quotation mark.
 ghost use Rattle.std.specs.List.{list_all};
 ghost use Rattle.std.specs.Prelude.{◌≡◌, ◌==◌, ◌^◌, ◌<◌, ◌≤◌, true, pos, neg_ℤ, length, IfOk, SomeIff, position};
 ghost use Rattle.hib_base.specs.Fits.{is_printable};
@@ -37,7 +37,7 @@ pub enum Token {
 /// The tokens of a line, in order.
 pub type Tokens = Seq<Token>;
 
-/// Whether a line has printable bytes alone, and not too many of them. Skipped lines have to be so too.
+/// Whether a line has printable bytes alone, and not too many of them. Skipped lines must be so too.
 pub fn is_lexical(line: &[u8]) -> bool
     ensures { result ≡ lines.is_lexical line.now }
 {
@@ -64,8 +64,8 @@ pub fn is_skipped(line: &[u8]) -> bool
     true
 }
 
-/// The tokens of a line, or none if a byte, its length or a part of it is against the rules. A comment isn't told
-/// from other lines here: ask `is_skipped` first. Fails for want of memory alone.
+/// The tokens of a line, or none if a byte, its length or a part of it is against the rules. A comment isn't told from
+/// other lines here: `is_skipped` must be asked first. Fails for want of memory alone.
 pub fn tokens(alloc: Global, line: &[u8]) -> Result<Option<Tokens>, AllocError>
     ensures { IfOk result (λ t. t ≡ lines.tokens_of line.now) }
 {
@@ -75,7 +75,8 @@ pub fn tokens(alloc: Global, line: &[u8]) -> Result<Option<Tokens>, AllocError>
     tokens_of_lexical(alloc, line)
 }
 
-/// The tokens of a line whose bytes and length are known to keep the rules.
+/// The tokens of a line whose bytes and length keep the rules, as the caller must know; none if a part of it is no
+/// token.
 pub(crate) fn tokens_of_lexical(alloc: Global, line: &[u8]) -> Result<Option<Tokens>, AllocError>
     requires { lines.is_lexical line.now ≡ true }
     ensures { IfOk result (λ t. t ≡ lines.tokens_of line.now) }
@@ -91,8 +92,8 @@ pub(crate) fn tokens_of_lexical(alloc: Global, line: &[u8]) -> Result<Option<Tok
     Ok(Some(tokens))
 }
 
-/// Adds the token at the front of some bytes, or passes a space. Gives how many bytes that takes; none if they begin
-/// with no token.
+/// Adds the token at the front of some bytes, or passes a space. There must be a byte. Answers how many bytes that
+/// takes; none if they begin with no token.
 fn add_part(alloc: Global, tokens: &mut Tokens, bytes: &[u8]) -> Result<Option<usize>, AllocError>
     requires { 0 < length bytes.now }
     ensures { IfOk result (parts.ReadsPart tokens.old tokens.new bytes.now) }
@@ -112,7 +113,7 @@ fn add_part(alloc: Global, tokens: &mut Tokens, bytes: &[u8]) -> Result<Option<u
     }
 }
 
-/// Adds the word, path or number at the front of some bytes.
+/// Adds the word, path or number at the front of some bytes; none if they begin with no such token.
 fn add_bare(alloc: Global, tokens: &mut Tokens, bytes: &[u8]) -> Result<Option<usize>, AllocError>
     requires { parts.begins_bare bytes.now ≡ true }
     ensures { IfOk result (parts.ReadsPart tokens.old tokens.new bytes.now) }
@@ -141,7 +142,7 @@ fn bare_length(bytes: &[u8]) -> usize
     bytes.len()
 }
 
-/// Adds the quoted text at the front of some bytes, which begin with its mark.
+/// Adds the quoted text at the front of some bytes, which must begin with its mark; none if it has not the form of one.
 fn add_quoted(alloc: Global, tokens: &mut Tokens, bytes: &[u8]) -> Result<Option<usize>, AllocError>
     requires { parts.begins_quoted bytes.now ≡ true }
     ensures { IfOk result (parts.ReadsPart tokens.old tokens.new bytes.now) }
@@ -159,7 +160,7 @@ fn add_quoted(alloc: Global, tokens: &mut Tokens, bytes: &[u8]) -> Result<Option
     Ok(Some(size + 1))
 }
 
-/// Whether a quoted text may stand before these bytes.
+/// Whether a quoted text may end before these bytes: at the end of the line, or before a byte that ends a token.
 fn may_close(bytes: &[u8]) -> bool
     ensures { result ≡ parts.may_close bytes.now }
 {
@@ -219,7 +220,7 @@ fn is_end(byte: u8) -> bool
     byte == b' ' || byte == b'(' || byte == b')'
 }
 
-/// The word, path or number of these bytes.
+/// The word, path or number that these bytes are, if they are one.
 fn bare(alloc: Global, bytes: &[u8]) -> Result<Option<Token>, AllocError>
     ensures { IfOk result (λ t. t ≡ lines.bare_of bytes.now) }
 {
@@ -232,7 +233,7 @@ fn bare(alloc: Global, bytes: &[u8]) -> Result<Option<Token>, AllocError>
     }
 }
 
-/// The path of these bytes.
+/// The path that these bytes are, if they are one.
 fn path(alloc: Global, bytes: &[u8]) -> Result<Option<Token>, AllocError>
     ensures { IfOk result (λ t. t ≡ lines.path_of bytes.now) }
 {
@@ -283,7 +284,7 @@ fn is_word_byte(byte: u8) -> bool
     is_letter(byte) || byte.is_ascii_digit() || byte == b'_' || byte == b'-'
 }
 
-/// The number of these bytes.
+/// The number that these bytes are, if they are one.
 fn number(bytes: &[u8]) -> Option<i64>
     ensures { result ≡ lines.number_of bytes.now }
 {
@@ -293,7 +294,7 @@ fn number(bytes: &[u8]) -> Option<i64>
     }
 }
 
-/// The number that digits stand for: `0`, or digits that don't begin with 0.
+/// The number that digits stand for, if they are `0`, or don't begin with 0.
 fn natural(digits: &[u8]) -> Option<i64>
     ensures { result ≡ lines.natural_of digits.now }
 {
@@ -308,7 +309,7 @@ fn natural(digits: &[u8]) -> Option<i64>
     }
 }
 
-/// The number that digits stand for after a minus: they don't begin with 0.
+/// The number that digits stand for after a minus. They must not begin with 0.
 #[tactic(auto, using(crate::proofs::Scans::positive_size))]
 fn negative(digits: &[u8]) -> Option<i64>
     ensures { result ≡ lines.negative_of digits.now }

@@ -1,4 +1,5 @@
-// The lines of a text that say something, with their tokens.
+// The lines of a text that say something, with their tokens. The readers of scripts and of what follows them take
+// these.
 ghost use Rattle.hib_lex.specs.Lines as format;
 ghost use Rattle.std.specs.Prelude.{◌≡◌, ◌+◌, ◌^◌, ◌<◌, length, IfOk, IfErr};
 

@@ -1,4 +1,4 @@
-// Tokens that are a given word, and lines that begin with one.
+// Tokens that are a given word, and lines that begin with one, as all readers of lines ask.
 ghost use Rattle.hib_lex.specs.Words as words;
 ghost use Rattle.std.specs.Prelude.{◌≡◌};
 

@@ -1,4 +1,4 @@
-// Counts, and one entry more of them.
+// What a run's entries come to in numbers, for each region, the store and the queries.
 ghost use Rattle.std.specs.Prelude.{◌≡◌, ◌+◌, ◌<◌, ◌^◌, true};
 ghost use Rattle.hib_listeners.specs.Counts.{is_in};
 ghost use Rattle.hib_listeners.specs.Statistics.{one_if, noted_region, noted_store, noted_queries, IsRegionBelow, IsStoreBelow, AreQueriesBelow};
@@ -55,7 +55,7 @@ pub struct QueryCounts {
     pub dropped: u64,
 }
 
-// One more, if so.
+// Raises a count by one, if the entry counts.
 fn raise(count: &mut u64, counts: bool)
     requires { count.old < 2 ^ 62 }
     ensures { count.new ≡ count.old + one_if counts }
@@ -66,7 +66,7 @@ fn raise(count: &mut u64, counts: bool)
 }
 
 impl RegionCounts {
-    /// An entry of this region is counted.
+    /// Counts an entry, which must be of this region.
     pub fn note(&mut self, entry: &Entry)
         requires below { IsRegionBelow (2 ^ 62) self.old }
         requires here { is_in self.old.entity entry.now.act ≡ true }
@@ -85,7 +85,7 @@ impl RegionCounts {
 }
 
 impl StoreCounts {
-    /// An entry is counted.
+    /// Counts an entry, if it is one of the store's.
     pub fn note(&mut self, entry: &Entry)
         requires { IsStoreBelow (2 ^ 62) self.old }
         ensures { self.new ≡ noted_store entry.now self.old }
@@ -99,7 +99,7 @@ impl StoreCounts {
 }
 
 impl QueryCounts {
-    /// An entry is counted.
+    /// Counts an entry, if it is one of the kept results' or of the stamps'.
     pub fn note(&mut self, entry: &Entry)
         requires { AreQueriesBelow (2 ^ 62) self.old }
         ensures { self.new ≡ noted_queries entry.now self.old }

@@ -1,4 +1,4 @@
-// Listeners that keep what they hear.
+// Listeners that keep what they hear, for callers of the library and for checks.
 ghost use Rattle.std.specs.Prelude.{◌≡◌, ◌≤◌, ◌++◌, ◌∷◌, [], OnOk, OnErr};
 ghost use Rattle.std.specs.declared.option.Option.TheVariants.{Some, None};
 
@@ -6,7 +6,7 @@ use hib_base::Entry;
 use hib_outside::{Heard, Listener};
 use std::alloc::{AllocError, Global};
 
-// A copy of an entry comes to the end.
+// Adds a copy of an entry at the end.
 fn add(alloc: Global, entries: &mut Vec<Entry>, entry: &Entry) -> Result<(), AllocError>
     ensures ok { OnOk result (entries.new.items ≡ entries.old.items ++ entry.now ∷ []) }
     ensures err { OnErr result (entries.new.items ≡ entries.old.items) }
@@ -24,7 +24,7 @@ pub struct Recorder {
 }
 
 impl Recorder {
-    /// It has heard nothing.
+    /// The recorder that has heard nothing.
     pub fn new(alloc: Global) -> Recorder
         ensures { result.entries.items ≡ [] }
     {
@@ -61,7 +61,7 @@ pub struct Limited {
 }
 
 impl Limited {
-    /// It has heard nothing, and is to hear `left` entries.
+    /// The listener that has heard nothing, and is to hear `left` entries. It must be one at least.
     pub fn new(alloc: Global, left: u32) -> Limited
         requires { 1 ≤ left }
         ensures entries { result.entries.items ≡ [] }

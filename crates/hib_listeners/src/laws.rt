@@ -1,4 +1,4 @@
-// What noting and telling entries comes to.
+// What noting and telling entries comes to; for proofs.
 ghost use Rattle.std.specs.Prelude.{◌≡◌, ◌<◌, ℕ, Bool, false, not, List, [], ◌∷◌, ◌++◌, length};
 ghost use Rattle.hib_journal.specs.Types.{Script, Entry};
 ghost use Rattle.hib_listeners.specs.Told.{Told, AreTold};

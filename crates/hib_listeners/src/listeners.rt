@@ -1,4 +1,4 @@
-// Several listeners, which are told each entry.
+// Several listeners, which a factory tells each entry.
 ghost use Rattle.std.specs.Prelude.{◌≡◌, ◌+◌, ◌≤◌, ◌<◌, ◌++◌, ◌∷◌, [], false, is_ok, drop, take, length, slice_index_or};
 ghost use Rattle.hib_outside.specs.Hears.{heard_after, left_after, IsDue};
 ghost use Rattle.hib_listeners.specs.Told.{tells, AreTold};
@@ -23,7 +23,7 @@ impl<L> Model for Listeners<L> {
     ghost view = { λ s. s.list.items };
 }
 
-// A listener is told an entry, unless one before it had no memory.
+// Tells a listener an entry, unless one before it had no memory.
 fn ask<L: Listener>(listener: &mut L, is_told: bool, alloc: Global, entry: &Entry) -> Heard
     ensures heard { L.heard listener.new ≡ heard_after result entry.now (L.heard listener.old) }
     ensures left { L.left listener.new ≡ left_after result (L.left listener.old) }
@@ -36,7 +36,7 @@ fn ask<L: Listener>(listener: &mut L, is_told: bool, alloc: Global, entry: &Entr
     listener.hear(alloc, entry)
 }
 
-// The listener at a place comes after the first ones that are kept; how many these are then.
+// Puts the listener at a place behind the first ones that are kept. Answers how many are kept then.
 fn keep<L>(list: &mut Vec<L>, kept: usize, at: usize) -> usize
     requires order { kept ≤ at }
     requires within { at < length list.old.items }
@@ -50,7 +50,7 @@ fn keep<L>(list: &mut Vec<L>, kept: usize, at: usize) -> usize
     kept + 1
 }
 
-// All are told in order, until one has no memory; those that leave are dropped. Whether all have heard the entry.
+// Tells all listeners in order, until one has no memory; those that leave are dropped. Answers whether all have heard.
 fn tell_all<L: Listener>(list: &mut Vec<L>, alloc: Global, entry: &Entry) -> bool
     ensures { AreTold entry.now result (tells L.heard L.left list.old.items)
         (tells L.heard L.left list.new.items) }

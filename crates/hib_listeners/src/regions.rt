@@ -1,4 +1,4 @@
-// The counts of the regions, found by their entities.
+// The counts of the regions, found by their entities without a search.
 ghost use Rattle.std.specs.Prelude.{◌≡◌, ◌+◌, ◌^◌, ◌++◌, if◌then◌else◌, [], ◌∷◌, length, map, IfOk, OnOk};
 ghost use Rattle.std.specs.List.{All};
 ghost use Rattle.hib_journal.specs.Slot.{key_in};
@@ -16,7 +16,7 @@ use std::marker::Model;
 #[derive(Drop)]
 pub struct RegionList {
     places: Vec<RegionCounts>,
-    // Of each entity of the mapping its place, if it is cached.
+    // For each entity of the mapping the place of its counts, if it is cached.
     index: Vec<Option<usize>>,
 }
 
@@ -32,7 +32,7 @@ impl Model for RegionList {
     ghost invariant = { λ r. IsIndex r.index.items (entities r.places.items) };
 }
 
-// The counts of a region of which no entry was noted.
+// The counts of a region before any entry.
 fn none_of(entity: EntityNo) -> RegionCounts
     ensures { result ≡ region_counts entity [] }
 {
@@ -48,7 +48,7 @@ fn none_of(entity: EntityNo) -> RegionCounts
     }
 }
 
-// The place of the entity that an act of a region is on.
+// The place of the counts of the entity that an act of a region is on; none for any other act.
 fn place_in(index: &[Option<usize>], act: &Act) -> Option<usize>
     ensures { result ≡ place_in index.now (key_in act.now) }
 {
@@ -56,7 +56,7 @@ fn place_in(index: &[Option<usize>], act: &Act) -> Option<usize>
     *index.get(key.entity.0 as usize)?
 }
 
-// An entity more has an index, and a place if it is cached.
+// Adds an entity of the mapping. It has counts if it is cached.
 fn declare(
     places: &mut Vec<RegionCounts>,
     index: &mut Vec<Option<usize>>,
@@ -82,8 +82,8 @@ fn declare(
 }
 
 impl RegionList {
-    /// All counts are 0. A mapping of more than 65,536 entities, for which there are no numbers, is answered as want
-    /// of memory.
+    /// The counts before any entry. A mapping of more than 65,536 entities, for which there are no numbers, is answered
+    /// as want of memory.
     pub fn open(alloc: Global, mapping: &[EntityDef]) -> Result<RegionList, AllocError>
         ensures { IfOk result (λ r. r ≡ regions_counts [] 0 mapping.now) }
     {
@@ -102,7 +102,7 @@ impl RegionList {
         self.places.as_slice()
     }
 
-    /// An entry is counted. It costs the same however many regions there are.
+    /// Counts an entry, if it is one of a region. It costs the same however many regions there are.
     pub fn note(&mut self, entry: &Entry)
         requires { All (IsRegionBelow (2 ^ 62)) self.old }
         ensures { self.new ≡ map (noted_region entry.now) self.old }

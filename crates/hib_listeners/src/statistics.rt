@@ -1,4 +1,4 @@
-// All counts.
+// All counts of a run, which its report prints at the end.
 ghost use Rattle.std.specs.Prelude.{◌≡◌, ◌^◌, [], IfOk};
 ghost use Rattle.hib_listeners.specs.Statistics.{counted, noted, AreBelow};
 

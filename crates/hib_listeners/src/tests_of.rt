@@ -1,4 +1,4 @@
-// Tests of one entry: whether it is counted.
+// Tests of one entry: whether it counts, and as what. `counts` asks them.
 ghost use Rattle.std.specs.Prelude.{◌≡◌, ◌&&◌};
 ghost use Rattle.hib_journal.specs.Slot.{key_in};
 ghost use Rattle.hib_listeners.specs.Counts.{is_get, is_hit_reply, is_miss_reply, stores, refuses, locks, evicts, is_expired_reply, loads, lists, writes, is_committed, is_fault_reply, is_query_hit, lacks, keeps, is_drop};

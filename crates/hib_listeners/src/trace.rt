@@ -1,4 +1,4 @@
-// A listener that writes a line for each entry.
+// A listener that writes a line for each entry: that of `--trace`.
 ghost use Rattle.std.specs.Prelude.{◌≡◌, ◌++◌, codes};
 ghost use Rattle.std.specs.Fmt.{decimal};
 ghost use Rattle.std.specs.Io.KnownBytes.{Appends};
@@ -22,7 +22,7 @@ pub struct Trace<W> {
 }
 
 impl<W> Trace<W> {
-    /// It has heard nothing.
+    /// The trace that has heard nothing.
     pub fn new(sink: W) -> Trace<W>
         ensures sink { result.sink ≡ sink }
         ensures count { result.count ≡ 0 }

@@ -1,4 +1,4 @@
-// Numbers that are drawn one after another.
+// Numbers that are drawn one after another, by which a made script gets its rows, sessions and schedule.
 ghost use Rattle.std.specs.Prelude.{◌≡◌, ◌<◌};
 ghost use Rattle.hib_make.specs.Draws.{after_draw, drawn, seeded};
 
@@ -28,7 +28,7 @@ impl Draws {
         }
     }
 
-    /// The next number, one of the first `count`, from 0.
+    /// The next number, one of the first `count`, from 0. There must be one.
     pub fn draw(&mut self, count: u32) -> u32
         requires { 0 < count }
         ensures below { result < count }
@@ -40,6 +40,7 @@ impl Draws {
     }
 }
 
+/// The state after one more draw, by shifts and exclusive ors.
 #[tactic(auto, unfolding(crate::specs::Draws::after_draw))]
 fn after_draw(state: u64) -> u64
     ensures { result ≡ after_draw state }

@@ -1,4 +1,4 @@
-// The entities of a made script.
+// The entities of a made script: each strategy has one at least.
 ghost use Rattle.std.specs.Prelude.{◌≡◌, IfOk};
 ghost use Rattle.hib_make.specs.Entities.{author, book, customer, order, shelf, column, entity, author_entity, book_entity, customer_entity, order_entity, shelf_entity, note_entity, made_mapping};
 

@@ -7,7 +7,7 @@ use crate::entities::{AUTHOR, BOOK, CUSTOMER, ORDER};
 use hib_base::{Cell, Cond, EntityNo, Op, Path, Queries, Query, Select, Seq, Sort, Target};
 use std::alloc::{AllocError, Global};
 
-/// A query by the limits of one that names none.
+/// A query with the offset and the limit of one that names none.
 fn query(
     alloc: Global,
     name: &[u8],

@@ -1,4 +1,4 @@
-// The first rows of a made script.
+// The first rows of a made script. `push_...` adds a row, or all of an entity; `place` is its number, from 1.
 ghost use Rattle.std.specs.Prelude.{◌≡◌, ◌++◌, IfOk, OnOk};
 ghost use Rattle.hib_make.specs.Draws.{many};
 ghost use Rattle.hib_make.specs.Rows.{key, numbered, row, number, truth, author_row, book_row, customer_row, shelf_row, made_rows};
@@ -8,7 +8,7 @@ use crate::entities::{AUTHOR, BOOK, CUSTOMER, SHELF};
 use hib_base::{Cell, Cells, EntityNo, Key, Row, Rows, Seq, Text};
 use std::alloc::{AllocError, Global};
 
-/// A word and a number after it.
+/// A name of a word and a number.
 pub fn numbered(alloc: Global, word: &[u8], number: u32) -> Result<Text, AllocError>
     ensures { IfOk result (λ t. t ≡ numbered word.now number) }
 {
@@ -35,7 +35,7 @@ pub fn number(n: u32) -> Cell
     Cell::Int(i64::from(n))
 }
 
-/// Whether a draw of two numbers answered the second.
+/// The cell for a draw of two numbers: true if it was the second.
 pub fn truth(answer: u32) -> Cell
     ensures { result ≡ truth answer }
 {
@@ -191,7 +191,7 @@ fn push_shelves(
     Ok(())
 }
 
-/// The rows, and the draws after them.
+/// The rows. Their cells are drawn.
 #[tactic(auto, unfolding(crate::specs::Rows::made_rows))]
 pub fn rows(alloc: Global, draws: &mut Draws) -> Result<Rows, AllocError>
     ensures made { IfOk result (λ r. r ≡ (made_rows draws.old).made) }

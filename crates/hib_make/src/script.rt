@@ -1,4 +1,4 @@
-// The script of a seed.
+// The script of a seed, as `make` runs it.
 ghost use Rattle.std.specs.Prelude.{◌≡◌, true, IfOk};
 ghost use Rattle.hib_base.specs.Valid.{is_valid};
 ghost use Rattle.hib_make.specs.Made.{made};
@@ -11,8 +11,8 @@ use crate::sessions::{schedule, sessions};
 use hib_base::Script;
 use std::alloc::{AllocError, Global};
 
-/// The script that is made of a seed: six entities, 112 rows, four queries, 40 sessions and 400 orders. It keeps
-/// the rules of the format. Fails for want of memory alone.
+/// The script that is made of a seed: six entities, 112 rows, four queries, 40 sessions and 400 orders. It is valid.
+/// Fails for want of memory alone.
 #[tactic(auto, unfolding(crate::specs::Made::made))]
 pub fn make(alloc: Global, seed: u32) -> Result<Script, AllocError>
     ensures made { IfOk result (λ s. s ≡ made seed) }

@@ -1,4 +1,5 @@
-// The sessions of a made script, and its schedule.
+// The sessions of a made script, and its schedule. `push_...` adds statements of one kind, a session or an order, as
+// they are drawn.
 ghost use Rattle.std.specs.Prelude.{◌≡◌, ◌<◌, ◌++◌, IfOk, OnOk};
 ghost use Rattle.hib_make.specs.Draws.{many};
 ghost use Rattle.hib_make.specs.Sessions.{changed, one_found, stock_set, credit_set, order_placed, one_listed, full_set, step_by, step, ending, session, made_sessions, run, made_schedule};
@@ -237,7 +238,7 @@ fn push_sessions(
     Ok(())
 }
 
-/// The sessions, and the draws after them.
+/// The sessions. Their statements are drawn.
 #[tactic(auto, unfolding(crate::specs::Sessions::made_sessions))]
 pub fn sessions(alloc: Global, draws: &mut Draws) -> Result<Sessions, AllocError>
     ensures made { IfOk result (λ s. s ≡ (made_sessions draws.old).made) }
@@ -268,7 +269,7 @@ fn push_runs(draws: &mut Draws, orders: &mut Vec<Order>) -> Result<(), AllocErro
     Ok(())
 }
 
-/// The orders.
+/// The orders. They are drawn, and only run sessions.
 #[tactic(auto, unfolding(crate::specs::Sessions::made_schedule))]
 pub fn schedule(alloc: Global, draws: &mut Draws) -> Result<Orders, AllocError>
     ensures { IfOk result (λ o. o ≡ (made_schedule draws.old).made) }

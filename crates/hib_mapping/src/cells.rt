@@ -1,4 +1,4 @@
-// The cells that tokens are, and the types that cells have.
+// The cells that tokens are, and whether they have the type of a column. Rows, statements, conditions and defaults ask.
 ghost use Rattle.hib_mapping.specs.Cells as cells;
 ghost use Rattle.std.specs.Prelude.{◌≡◌, IfOk};
 

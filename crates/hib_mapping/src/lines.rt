@@ -1,4 +1,4 @@
-// The entity and column lines: their forms, the first thing that is wrong with one, and what it declares.
+// The entity and column lines: their forms, the first thing that is wrong with one (`..._kind`), and what it declares.
 ghost use Rattle.hib_mapping.specs.Declarations as lines;
 ghost use Rattle.hib_mapping.specs.Parts.{word_of};
 ghost use Rattle.hib_mapping.specs.Cells.{cell_of};
@@ -47,6 +47,7 @@ fn is_versioning(token: &Token) -> bool
     is_versioned(token) || is_the_word(token, b"plain")
 }
 
+/// The strategy that a word names.
 fn strategy(token: &Token) -> Option<Strategy>
     ensures { result ≡ lines.strategy_of token.now }
 {
@@ -63,6 +64,7 @@ fn strategy(token: &Token) -> Option<Strategy>
     }
 }
 
+/// Whether a token is a capacity that an entity of this strategy may have.
 fn is_capacity(strategy: Strategy, token: &Token) -> bool
     ensures { result ≡ lines.is_capacity strategy token.now }
 {
@@ -72,6 +74,7 @@ fn is_capacity(strategy: Strategy, token: &Token) -> bool
     }
 }
 
+/// What is wrong with the strategy or the capacity of an entity line.
 fn strategy_kind(strategy: Option<Strategy>, capacity: &Token) -> Option<Kind>
     ensures { result ≡ lines.strategy_kind strategy capacity.now }
 {
@@ -93,7 +96,8 @@ pub fn entity_kind(mapping: &[EntityDef], followed: bool, tokens: &[Token]) -> O
     }
 }
 
-/// What is wrong with an entity line that has its form, `followed` or not by a line of a column.
+/// The first thing that is wrong with an entity line that has its form; `followed` says whether a column's line
+/// follows.
 fn parts_kind(
     mapping: &[EntityDef],
     followed: bool,
@@ -113,6 +117,7 @@ fn parts_kind(
     or_no_columns(followed, strategy_kind(strategy(strategy_word), capacity))
 }
 
+/// This fault of an entity line, or else that no column's line follows.
 fn or_no_columns(followed: bool, kind: Option<Kind>) -> Option<Kind>
     ensures { result ≡ lines.or_no_columns followed kind }
 {
@@ -151,6 +156,7 @@ pub fn is_column_line(tokens: &[Token]) -> bool
     }
 }
 
+/// Whether tokens have the form of what stands after a column's name.
 fn is_described(tokens: &[Token]) -> bool
     ensures { result ≡ lines.is_described tokens.now }
 {
@@ -188,14 +194,15 @@ fn is_reference(kind: &Token, target: &Token) -> bool
     is_the_word(kind, b"ref") && is_word(target)
 }
 
+/// Whether two tokens have the form of a default: its word and a cell.
 fn is_default(word: &Token, cell: &Token) -> bool
     ensures { result ≡ lines.is_default word.now cell.now }
 {
     is_the_word(word, b"default") && is_a_cell(cell)
 }
 
-/// Of the tokens after a column's name, those of its type: one, or `ref` and an entity. The word `default` and a cell
-/// may follow.
+/// The tokens of a column's type, among those after its name: one, or `ref` and an entity. The word `default` and a
+/// cell may follow.
 #[tactic(auto, using(crate::proofs::Columns::type_of_three, crate::proofs::Columns::type_of_four, crate::proofs::Columns::type_of_others))]
 fn type_tokens(tokens: &[Token]) -> &[Token]
     ensures { result.now ≡ lines.type_in tokens.now }
@@ -207,7 +214,7 @@ fn type_tokens(tokens: &[Token]) -> &[Token]
     }
 }
 
-/// Of the tokens after a column's name, the one that is its default, if it has one.
+/// The token that is a column's default, among those after its name, if it has one.
 fn default_token(tokens: &[Token]) -> Option<&Token>
     ensures { option_copied result ≡ lines.default_in tokens.now }
 {
@@ -218,6 +225,7 @@ fn default_token(tokens: &[Token]) -> Option<&Token>
     }
 }
 
+/// The type that a word names, if it isn't a reference.
 fn plain_type(token: &Token) -> Option<ColumnType>
     ensures { result ≡ lines.type_of token.now }
 {
@@ -249,6 +257,7 @@ fn is_name_of(entity: &EntityDef, token: &Token) -> bool
     entity.name.as_slice() == word_bytes(token)
 }
 
+/// What is wrong with the tokens of a column's type.
 fn type_kind(mapping: &[EntityDef], entity: &EntityDef, tokens: &[Token]) -> Option<Kind>
     ensures { result ≡ lines.type_kind mapping.now entity.now tokens.now }
 {
@@ -259,7 +268,7 @@ fn type_kind(mapping: &[EntityDef], entity: &EntityDef, tokens: &[Token]) -> Opt
     }
 }
 
-/// What is wrong with a column line, if no type was found.
+/// The fault of a column line in which no type was found.
 fn kind_unless_type(found: Option<ColumnType>) -> Option<Kind>
     ensures { result ≡ lines.kind_unless Kind.ColumnType found }
 {
@@ -269,7 +278,7 @@ fn kind_unless_type(found: Option<ColumnType>) -> Option<Kind>
     }
 }
 
-/// What is wrong with a column line, if the entity to which it refers was not found.
+/// The fault of a column line in which the entity that it refers to wasn't found.
 fn kind_unless_target(found: Option<EntityNo>) -> Option<Kind>
     ensures { result ≡ lines.kind_unless Kind.RefUnknown found }
 {
@@ -279,6 +288,7 @@ fn kind_unless_target(found: Option<EntityNo>) -> Option<Kind>
     }
 }
 
+/// The type that tokens name. If they name none, the line has a fault, and this is any type.
 fn type_from(mapping: &[EntityDef], entity: &EntityDef, tokens: &[Token]) -> ColumnType
     ensures { result ≡ lines.type_from mapping.now entity.now tokens.now }
 {
@@ -289,12 +299,14 @@ fn type_from(mapping: &[EntityDef], entity: &EntityDef, tokens: &[Token]) -> Col
     }
 }
 
+/// The fault of a column's default, unless it is fine.
 fn default_unless(fine: bool) -> Option<Kind>
     ensures { result ≡ lines.default_unless fine }
 {
     if fine { None } else { Some(Kind::Default) }
 }
 
+/// What is wrong with a column's default: it must have the column's type, and may not be missing behind another.
 fn default_kind(columns: &[ColumnDef], kind: ColumnType, default: Option<&Token>) -> Option<Kind>
     ensures { result ≡ lines.default_kind columns.now kind (option_copied default.entry) }
 {
@@ -304,7 +316,8 @@ fn default_kind(columns: &[ColumnDef], kind: ColumnType, default: Option<&Token>
     }
 }
 
-/// The first thing that is wrong with a column line of this form after these entities, for the columns of this one.
+/// The first thing that is wrong with a column line of this form, for one more column of this entity, after the
+/// entities of `mapping`.
 pub fn column_kind(mapping: &[EntityDef], entity: &EntityDef, tokens: &[Token]) -> Option<Kind>
     ensures { result ≡ lines.column_kind mapping.now entity.now tokens.now }
 {
@@ -335,6 +348,7 @@ fn rest_kind(mapping: &[EntityDef], entity: &EntityDef, tokens: &[Token]) -> Opt
     }
 }
 
+/// The cell that is a column's default, if it has one.
 fn default_cell(alloc: Global, token: Option<&Token>) -> Result<Option<Cell>, AllocError>
     ensures { IfOk result (λ c. c ≡ option_and_then cell_of (option_copied token.entry)) }
 {
@@ -344,6 +358,7 @@ fn default_cell(alloc: Global, token: Option<&Token>) -> Result<Option<Cell>, Al
     }
 }
 
+/// The column that a line declares.
 fn column(
     alloc: Global,
     mapping: &[EntityDef],
@@ -360,7 +375,7 @@ fn column(
     })
 }
 
-/// The entity with the column of a column line. Fails for want of memory alone.
+/// The entity with the column of this line. Fails for want of memory alone.
 pub fn with_column(
     alloc: Global,
     mapping: &[EntityDef],

@@ -1,4 +1,4 @@
-// What names stand for, and which words are no names.
+// What names stand for: the number of an entity, the place of a column; and which words may be no names.
 ghost use Rattle.hib_mapping.specs.Parts as parts;
 ghost use Rattle.std.specs.Prelude.{◌≡◌, bytes_eq, position};
 
@@ -37,7 +37,7 @@ pub fn entity_number(mapping: &[EntityDef], name: &[u8]) -> Option<EntityNo>
     entity_no(entity_position(mapping, name)?)
 }
 
-/// A place as an entity, if it is small enough.
+/// The entity at a place of the mapping, if the place is small enough.
 pub fn entity_no(place: usize) -> Option<EntityNo>
     ensures { result ≡ parts.small place }
 {

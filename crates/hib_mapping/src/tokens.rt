@@ -1,4 +1,4 @@
-// What single tokens are.
+// What single tokens are, for all readers of lines.
 ghost use Rattle.hib_mapping.specs.Parts as parts;
 ghost use Rattle.std.specs.Prelude.{◌≡◌, IfOk};
 
@@ -50,7 +50,7 @@ pub fn word_bytes(token: &Token) -> &[u8]
     }
 }
 
-/// The same as a text of its own. Fails for want of memory alone.
+/// The bytes of a word as a text of its own; no bytes of another token. Fails for want of memory alone.
 pub fn word(alloc: Global, token: &Token) -> Result<Text, AllocError>
     ensures { IfOk result (λ w. w ≡ parts.word_of token.now) }
 {

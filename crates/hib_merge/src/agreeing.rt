@@ -1,4 +1,5 @@
-// Whether the lists of sessions agree with a merged list, and whether its ticks are those that are due.
+// Whether the lists of sessions agree with a merged list, and whether its ticks are those that are due. hib_joined asks
+// it before it takes the merged list for the journal of a run.
 ghost use Rattle.std.specs.Prelude.{◌≡◌, ◌↔◌, true, length, IfOk, IsNone, MatchOption};
 ghost use Rattle.std.specs.List.{list_all};
 ghost use Rattle.hib_merge.specs.Tearing.{AreSameBelow, IsFirstUnknown, IsSessionTorn, IsTorn, IsWhole};
@@ -12,7 +13,8 @@ use hib_base::Entry;
 use hib_journal::Journal;
 use std::alloc::{AllocError, Global};
 
-/// The first place of the first session at which its list and its entries differ, or none.
+/// In the first session whose list differs from its entries: what each has at the first place where they do. None if no
+/// list differs.
 fn torn_lists(
     alloc: Global,
     mine: &[Journal],
@@ -42,7 +44,7 @@ fn is_known(count: usize, entry: &Entry) -> bool
     }
 }
 
-/// The first entry that is of none of the first sessions, or none.
+/// The first entry that is of none of the first `count` sessions, or none.
 fn first_unknown(count: usize, entries: &[Entry]) -> Option<&Entry>
     ensures { MatchOption result (list_all
         (Rattle.hib_merge.specs.Tearing.is_known count) entries.now ≡ true)
@@ -56,7 +58,7 @@ fn first_unknown(count: usize, entries: &[Entry]) -> Option<&Entry>
     None
 }
 
-/// Where the lists part, or the first entry with another tick.
+/// The first thing that is wrong, for `agree`.
 fn first_torn(alloc: Global, merged: &Journal, mine: &Lists) -> Result<Option<Torn>, AllocError>
     ensures { IfOk result (λ o. MatchOption o (IsWhole mine.now merged.now)
         (IsTorn mine.now merged.now)) }
@@ -77,11 +79,11 @@ fn first_torn(alloc: Global, merged: &Journal, mine: &Lists) -> Result<Option<To
     torn_tick(alloc, entries)
 }
 
-/// Checks a merged list against the lists that came out of the sessions' locks, of which only the type is known. None if
-/// all is well: each session's list, at the place of its number, is its entries in the merged list, each entry is of one
-/// of these sessions, and each tick is the one that is due. Else the first thing that is wrong: of the first session
-/// that differs, what each list has at the first place where they do; or the first entry of none of the sessions; or
-/// the first entry with another tick. Fails for want of memory alone.
+/// Checks a merged list against the lists of the sessions. These came out of locks, of which only the type is known.
+/// None if all is well: each session's list, which stands at the place of its number, is its entries in the merged
+/// list; each entry is of one of these sessions; each tick is the one that is due. Else the first thing that is wrong,
+/// looked for in this order: in the first session whose list differs, what each has at the first place where they do;
+/// the first entry of none of the sessions; the first entry with another tick. Fails for want of memory alone.
 pub fn agree(alloc: Global, merged: &Journal, mine: &Lists) -> Result<Option<Torn>, AllocError>
     ensures torn { IfOk result (λ o. MatchOption o (IsWhole mine.now merged.now)
         (IsTorn mine.now merged.now)) }

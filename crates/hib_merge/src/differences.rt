@@ -1,4 +1,4 @@
-// Where two lists of entries part.
+// Where a session's list and its entries in the merged list differ.
 ghost use Rattle.std.specs.Prelude.{◌≡◌, ◌↔◌, IsTrue, slice_get, IfOk, MatchOption};
 ghost use Rattle.hib_merge.specs.Tearing.{PartAt};
 
@@ -33,7 +33,7 @@ fn is_same(entry: &Entry, other: &Entry) -> bool
         && is_same_reply(&entry.reply, &other.reply)
 }
 
-/// The first place at which two lists differ, or none if they are the same.
+/// The first place at which a session's list differs from its entries in the merged list, or none if they are the same.
 pub fn difference(entries: &[Entry], others: &Pointed<'_>) -> Option<usize>
     ensures { MatchOption result (entries.now ≡ others.now)
         (λ place. PartAt entries.now others.now place) }
@@ -54,7 +54,7 @@ pub fn difference(entries: &[Entry], others: &Pointed<'_>) -> Option<usize>
     None
 }
 
-/// An equal entry to the one at a place, or none past the last.
+/// An equal entry to the one at a place, or none past the last. It is told of lists that differ.
 pub fn copy_at(alloc: Global, entries: &[Entry], place: usize) -> Result<Option<Entry>, AllocError>
     ensures { IfOk result (λ e. e ≡ slice_get entries.now place) }
 {

@@ -1,4 +1,5 @@
-// The last tick of each of some numbers.
+// The last tick of each of some numbers: of regions, or of sessions. `ticks` checks by it that each tick is the one
+// due.
 ghost use Rattle.std.specs.Prelude.{◌≡◌, ◌==◌, ℕ, [], if◌then◌else◌, OnOk};
 ghost use Rattle.hib_merge.specs.LastTicks.{tick_in};
 
@@ -22,7 +23,7 @@ impl Model for LastTicks {
 }
 
 impl LastTicks {
-    /// No number has a tick. It takes no memory.
+    /// No number has a tick yet. It takes no memory.
     pub fn new(alloc: Global) -> LastTicks
         ensures { result ≡ [] }
     {
@@ -38,7 +39,7 @@ impl LastTicks {
         self.ticks.get(&number).copied().unwrap_or(Tick(0))
     }
 
-    /// Another tick of a number.
+    /// Notes another tick of a number.
     pub fn set(&mut self, number: u32, tick: Tick) -> Result<(), AllocError>
         ensures { OnOk result ((n : ℕ)
             → tick_in self.new n ≡ (if n == number then tick else tick_in self.old n)) }

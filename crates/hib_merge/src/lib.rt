@@ -2,7 +2,7 @@
 //!
 //! If each part stands behind a lock of its own, each keeps a list of its entries, and so does each session. `merge`
 //! makes one list of those of the parts. `agree` says whether the lists of the sessions are those of their entries in
-//! it, and whether each tick is the one that is due; else where they part. Both take time by the number of entries;
+//! it, and whether each tick is the one that is due; else where they differ. Both take time by the number of entries;
 //! `merge` compares an entry once for each halving of the lists, and copies it once.
 #![tactic(auto)]
 

@@ -1,10 +1,10 @@
-// The order of entries: by tick, and then by part.
+// The order of entries in a merged list: by tick, and then by part.
 ghost use Rattle.std.specs.Prelude.{◌≡◌};
 ghost use Rattle.hib_split_law.specs.Merged.{part_kind, part_number, is_part_before, comes_before};
 
 use hib_base::{Entry, Part};
 
-/// The place of a part's kind in the order of parts.
+/// The place of a part's kind in the order of parts; for `is_earlier`.
 fn kind_of(part: &Part) -> u8
     ensures { result ≡ part_kind part.now }
 {
@@ -18,7 +18,7 @@ fn kind_of(part: &Part) -> u8
     }
 }
 
-/// The place of a part among those of its kind.
+/// The place of a part among those of its kind; for `is_earlier`.
 fn number_of(part: &Part) -> u32
     ensures { result ≡ part_number part.now }
 {

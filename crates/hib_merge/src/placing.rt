@@ -1,4 +1,4 @@
-// The entries of each session in a list.
+// The entries of each session in a merged list, to compare them with the list that the session left.
 ghost use Rattle.std.specs.Prelude.{◌≡◌, ◌<◌, ◌++◌, ◌∷◌, ◌==◌, ℕ, [], if◌then◌else◌, length, IfOk, OnOk};
 ghost use Rattle.hib_journal.specs.Sessions.{own, is_by};
 ghost use Rattle.hib_split_law.specs.Merged.{list_of};
@@ -7,7 +7,7 @@ use crate::pointed::Pointed;
 use hib_base::Entry;
 use std::alloc::{AllocError, Global};
 
-/// Some empty lists.
+/// This many empty lists.
 fn empty_lists<'a>(alloc: Global, count: usize) -> Result<Vec<Pointed<'a>>, AllocError>
     ensures all { IfOk result (λ v. length v.items ≡ count) }
     ensures empty { IfOk result (λ v. (s : ℕ) → list_of s v.items ≡ []) }
@@ -19,7 +19,7 @@ fn empty_lists<'a>(alloc: Global, count: usize) -> Result<Vec<Pointed<'a>>, Allo
     Ok(lists)
 }
 
-/// Adds an entry to the list at a place, if there is one.
+/// Adds an entry to the list at this place, if there is such a list.
 fn place_at<'a>(lists: &mut Vec<Pointed<'a>>, at: usize, entry: &'a Entry) -> Result<(), AllocError>
     ensures all { OnOk result (length lists.new.items ≡ length lists.old.items) }
     ensures placed { OnOk result ((s : ℕ) → s < length lists.old.items
@@ -32,7 +32,7 @@ fn place_at<'a>(lists: &mut Vec<Pointed<'a>>, at: usize, entry: &'a Entry) -> Re
     lists[at].push(entry)
 }
 
-/// Adds an entry to the list of its session, if there is one.
+/// Adds an entry to the list of its session, if there is such a list.
 fn place<'a>(lists: &mut Vec<Pointed<'a>>, entry: &'a Entry) -> Result<(), AllocError>
     ensures all { OnOk result (length lists.new.items ≡ length lists.old.items) }
     ensures placed { OnOk result ((s : ℕ) → s < length lists.old.items
@@ -45,7 +45,7 @@ fn place<'a>(lists: &mut Vec<Pointed<'a>>, entry: &'a Entry) -> Result<(), Alloc
     }
 }
 
-/// Of each of the first `count` sessions its entries.
+/// For each of the first `count` sessions the list of its entries.
 pub fn own_lists<'a>(
     alloc: Global,
     entries: &'a [Entry],

@@ -1,4 +1,4 @@
-// Entries of other lists.
+// Entries of other lists in a new order, without copies of them. Merging and comparing work on these.
 ghost use Rattle.std.specs.Prelude.{◌≡◌, ◌<◌, ◌^◌, ◌++◌, ◌∷◌, [], length, slice_get, IfOk, IfSome, OnOk, MatchOption, Some, None};
 
 use hib_base::Entry;
@@ -31,7 +31,7 @@ impl<'a> Pointed<'a> {
         }
     }
 
-    /// Those of a list.
+    /// The entries of a list, in its order.
     pub fn of(alloc: Global, entries: &'a [Entry]) -> Result<Pointed<'a>, AllocError>
         ensures { IfOk result (λ p. p ≡ entries.now) }
     {

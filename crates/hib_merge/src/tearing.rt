@@ -1,4 +1,4 @@
-// What is torn.
+// What is wrong with the lists of a run that don't fit together; such a run is torn, and has no journal.
 use hib_base::{EntityNo, Entry, Tick};
 
 /// Lists or ticks that don't fit together.

@@ -1,4 +1,5 @@
-// The last ticks of the parts and of the sessions, and the first entry whose tick isn't the one that is due.
+// The last ticks of the parts and of the sessions, by which `agree` finds the first entry whose tick isn't the one that
+// is due: one more than the greater of the last ticks of its part and of its session.
 ghost use Rattle.std.specs.Prelude.{◌≡◌, ◌∷◌, ◌≤◌, ◌<◌, ◌^◌, [], if◌then◌else◌, length, reverse, IfOk, OnOk, MatchOption, Option, ℕ};
 ghost use Rattle.hib_base.specs.declared.entries.Part.{Part as AnyPart};
 ghost use Rattle.hib_clock.specs.Due.{due};
@@ -58,6 +59,7 @@ impl Ticks {
         }
     }
 
+    /// The last tick of a part, or 0.
     fn of_part(&self, part: Part) -> Tick
         ensures { result ≡ part_last self.now part }
     {
@@ -71,6 +73,7 @@ impl Ticks {
         }
     }
 
+    /// The last tick of a session, or 0.
     fn of_session(&self, session: Option<SessionNo>) -> Tick
         ensures { result ≡ session_last self.now session }
     {
@@ -94,6 +97,7 @@ impl Ticks {
         }
     }
 
+    /// Notes a tick as the last one of a part.
     fn note_part(&mut self, part: Part, tick: Tick) -> Result<(), AllocError>
         ensures parts { OnOk result ((p : AnyPart)
             → part_last self.new p ≡ (if same_part p part then tick else part_last self.old p)) }
@@ -110,6 +114,7 @@ impl Ticks {
         Ok(())
     }
 
+    /// Notes a tick as the last one of a session, if there is one.
     fn note_session(&mut self, session: Option<SessionNo>, tick: Tick) -> Result<(), AllocError>
         ensures parts { (p : AnyPart) → part_last self.new p ≡ part_last self.old p }
         ensures sessions { OnOk result ((s : Option ℕ)
@@ -123,7 +128,7 @@ impl Ticks {
         }
     }
 
-    /// Takes the tick of an entry.
+    /// Notes the tick of an entry as the last one of its part and of its session.
     fn note(&mut self, entry: &Entry) -> Result<(), AllocError>
         ensures { OnOk result ((h : Journal) → AreLast self.old h
             → AreLast self.new (entry.now ∷ h)) }
@@ -133,7 +138,7 @@ impl Ticks {
     }
 }
 
-/// The first entry whose tick isn't the one that is due, with that one; or none if each is.
+/// The first entry whose tick isn't the one that is due, with the tick that is; none if each tick is due.
 pub fn torn_tick(alloc: Global, entries: &[Entry]) -> Result<Option<Torn>, AllocError>
     requires { length entries.now ≤ 2 ^ 62 }
     ensures { IfOk result (λ o. MatchOption o (AreDue (reverse entries.now))

@@ -1,4 +1,5 @@
-// What waits for a node is delivered to it.
+// What waits for a node is delivered to it: the key of another node's commit is fenced here, so that no older row is
+// kept.
 ghost use Rattle.std.specs.Prelude.{◌≡◌, ◌≢◌, ◌∷◌, length, OnErr, Ok, true, false};
 ghost use Rattle.hib_nodes.specs.Kept.{past};
 ghost use Rattle.hib_nodes.specs.Run.{HasDelivered, IsDelivered};
@@ -12,8 +13,8 @@ use hib_nodes_law::{NodeEntry, apart_is_legal, parts_tell};
 use hib_outside::Keeper;
 use std::alloc::AllocError;
 
-/// The first pair that waits for a node is delivered, by a fence of its key, whose two entries are added; false if none
-/// waits. If memory runs out nothing has changed.
+/// Delivers the first key that waits for a node, by a fence of it, whose two entries are added. False if none waits. If
+/// memory runs out nothing has changed.
 pub fn deliver<K: Keeper, N: Name>(
     node: u8,
     shared: &mut NodesShared<K>,

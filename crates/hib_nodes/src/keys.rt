@@ -1,4 +1,4 @@
-// The keys that a commit tells the other node of.
+// The keys that a commit tells the other node of: those of read-write regions, each once.
 ghost use Rattle.std.specs.Prelude.{◌≡◌, ◌==◌, IfOk, OnOk, length};
 ghost use Rattle.std.specs.Map.{keys_of as keys_in};
 ghost use Rattle.hib_journal.specs.Next.{keys_of, strategy};
@@ -9,7 +9,7 @@ use hib_base::{Change, Key, Script, Strategy, strategy_of};
 use indexmap::IndexMap;
 use std::alloc::{AllocError, Global};
 
-/// A key is among the keys, unless it is there already.
+/// Adds a key to the keys, unless it is there already.
 fn note(keys: &mut IndexMap<Key, ()>, key: Key) -> Result<(), AllocError>
     ensures { OnOk result (keys_in keys.new.entries ≡ with_key key (keys_in keys.old.entries)) }
 {
@@ -30,7 +30,7 @@ fn changed_keys(alloc: Global, changes: &[Change]) -> Result<IndexMap<Key, ()>, 
     Ok(keys)
 }
 
-/// Whether a key is of a read-write region.
+/// Whether a key is of a read-write region. Others aren't told to the other node.
 fn is_shared(script: &Script, key: &Key) -> bool
     ensures { result ≡ is_read_write (strategy script.now key.now.entity) }
 {

@@ -1,4 +1,4 @@
-// Which run of two nodes it is.
+// What a run of two nodes was opened with, for contracts.
 use std::marker::Brand;
 
 /// Which run of two nodes it is: what it was opened with. Contracts alone see it.

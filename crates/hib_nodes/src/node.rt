@@ -1,4 +1,4 @@
-// What a node has for itself.
+// What a node has for itself, beside what both nodes share.
 ghost use Rattle.std.specs.Prelude.{◌≡◌, ◌≤◌, ◌<◌, ◌^◌, [], ℕ, Option, Some, true, false, map, IfOk, OnOk, OnErr};
 ghost use Rattle.hib_base.specs.declared.entries.Act.{Act as Did};
 ghost use Rattle.hib_journal.specs.Types.{Part, Script as Said, Strategy};
@@ -49,7 +49,7 @@ impl Node {
         })
     }
 
-    /// What an act of a session's own does: End closes the session.
+    /// What an act that a session answers itself does to its node: End closes the session.
     pub fn note_own(&mut self, session: SessionNo, act: &Act)
         ensures { self.new ≡ record self.old
             { registry = own_after session act.now self.old.registry } }
@@ -60,7 +60,7 @@ impl Node {
         }
     }
 
-    /// The answer of the registry to the Begin of a session. At an error nothing has changed.
+    /// Has the registry answer the Begin of a session. At an error nothing has changed.
     pub fn begin(&mut self, session: SessionNo, act: &Act, now: Tick) -> Result<Reply, AllocError>
         ensures served { IfOk result (λ r. (script : Said) (l : Journal)
             → IsRegistry self.old.registry l → IsLate Part.Registry now l
@@ -73,7 +73,7 @@ impl Node {
         self.registry.serve(session, act, now)
     }
 
-    /// The answer of the region of an entity. A read leaves the node as it is, and so does want of memory.
+    /// Has the region of an entity answer an act. A read leaves the node as it is, and so does want of memory.
     pub fn ask_region(
         &mut self,
         alloc: Global,
@@ -97,8 +97,8 @@ impl Node {
         serve_region(alloc, &mut self.regions, entity, act, now)
     }
 
-    /// A fence of a key of a read-write region, at this tick and the next one: its two entries. The floor is the least
-    /// time of the open sessions, or the tick if none is open. At an error nothing has changed.
+    /// Fences a key of a read-write region, at this tick and the next one. Gives the two entries. The floor is the
+    /// least time of the open sessions, or this tick if none is open. At an error nothing has changed.
     pub fn fence(&mut self, key: Key, now: Tick) -> Result<(Entry, Entry), AllocError>
         requires { now < 2 ^ 62 }
         ensures fenced { IfOk result (λ f. (script : Said) (g : Journal)

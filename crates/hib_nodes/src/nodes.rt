@@ -1,4 +1,5 @@
-// Two nodes over one store: sessions at each, and the journal of both.
+// The factory of `nodes`, which hib_section_calls opens and plays: two nodes over one store, sessions at each, and the
+// journal of both. A pair that waits is a node and a key of which the node isn't told yet.
 ghost use Rattle.std.specs.Prelude.{◌≡◌, ◌≢◌, ◌<◌, ◌≤◌, ◌^◌, ℕ, [], ◌∷◌, length, slice_get, Some, OnOk, OnErr, IfOk};
 ghost use Rattle.std.specs.Prelude.{IfErr, Ok, Option, true, false};
 ghost use Rattle.hib_base.specs.Tables.{Tables};
@@ -74,7 +75,7 @@ impl<K: Keeper, N: Name> Model for Nodes<K, N> {
 }
 
 impl<K: Keeper, N: Name> Nodes<K, N> {
-    /// Opens the run of this name, in which no session has begun. The rows that the keeper keeps are widened to the
+    /// Opens the factory of this name, in which no session has begun. The rows that the keeper keeps are widened to the
     /// script's mapping, and each of the script's rows whose key has none is added. At an error the keeper is handed
     /// back, with the rows that it had.
     pub fn open(
@@ -117,7 +118,7 @@ impl<K: Keeper, N: Name> Nodes<K, N> {
 
     /// One step of a session: the act that is due in it, if one is, at its node. A commit that applies comes into the
     /// other node's queue in the same step. If memory runs out no entry is added and nothing has changed, but the
-    /// answer of `refused` and the keeper's counts; so a later call may succeed.
+    /// answer of `refused` and the keeper's counts; so a later call may succeed. The session must be the script's.
     pub fn step(&mut self, alloc: Global, number: SessionNo) -> Result<Stepped, AllocError>
         requires known { number < length N.script.sessions }
         ensures did { result ≡ Ok Stepped.Did → HasStepped N.script N.places number
@@ -140,9 +141,9 @@ impl<K: Keeper, N: Name> Nodes<K, N> {
         stepped
     }
 
-    /// The first pair that waits for a node is delivered to it, by a fence of its key: two entries, at this tick and
-    /// the next one. False exactly if none waits, and then nothing is done. If memory runs out neither entry is added
-    /// and nothing has changed, but the answer of `refused`.
+    /// Delivers the first pair that waits for a node, by a fence of its key: two entries, at this tick and the next
+    /// one. False if and only if none waits; then nothing is done. If memory runs out neither entry is added and
+    /// nothing has changed, but the answer of `refused`.
     pub fn deliver(&mut self, node: u8) -> Result<bool, AllocError>
         requires node { is_node node ≡ true }
         ensures delivered { result ≡ Ok true
@@ -163,8 +164,8 @@ impl<K: Keeper, N: Name> Nodes<K, N> {
         delivered
     }
 
-    /// One step of a session. If memory runs out nothing has changed but the answer of `refused` and the keeper's
-    /// counts.
+    /// One step of a session, for `step`. If memory runs out nothing has changed but the answer of `refused` and the
+    /// keeper's counts.
     fn take_step(&mut self, alloc: Global, number: SessionNo) -> Result<Stepped, AllocError>
         requires known { number < length N.script.sessions }
         ensures did { result ≡ Ok Stepped.Did → HasStepped N.script N.places number
@@ -198,7 +199,7 @@ impl<K: Keeper, N: Name> Nodes<K, N> {
         }
     }
 
-    /// One delivery. If memory runs out nothing has changed but the answer of `refused`.
+    /// One delivery, for `deliver`. If memory runs out nothing has changed but the answer of `refused`.
     fn take_pair(&mut self, node: u8) -> Result<bool, AllocError>
         requires node { is_node node ≡ true }
         ensures delivered { result ≡ Ok true
@@ -222,8 +223,8 @@ impl<K: Keeper, N: Name> Nodes<K, N> {
         }
     }
 
-    /// The journal obeys the law of two nodes, and the list of the store tells its committed rows and its counts. It
-    /// does nothing.
+    /// Says to proofs that the journal obeys the law of two nodes, and that the list of the store tells its committed
+    /// rows and its counts. It does nothing.
     pub fn lawful(&self)
         ensures law { Obeys N.script N.places N.from.tables (past self.now.journal) }
         ensures told { AreOfParts (past self.now.journal) }
@@ -274,7 +275,7 @@ impl<K: Keeper, N: Name> Nodes<K, N> {
         *self.places.orders.at(at)
     }
 
-    /// The journal is short, so that no tick runs over. It does nothing.
+    /// Says to proofs that the journal is short, so that no tick runs over. It does nothing.
     pub fn short(&self)
         ensures { length (past self.now.journal) ≤ 2 ^ 62 }
     {
@@ -288,7 +289,7 @@ impl<K: Keeper, N: Name> Nodes<K, N> {
         self.refused
     }
 
-    /// The keeper, the script, the places and the journal, with what the run promises of them.
+    /// Takes the factory apart: the keeper, the script, the places and the journal, with what the run promises of them.
     pub fn close(self) -> (K, Script, Places, Noded)
         ensures script { result.1 ≡ N.script }
         ensures places { result.2.nodes ≡ N.places }

@@ -1,4 +1,4 @@
-// What a run of two nodes begins with.
+// What a run of two nodes begins with: the parts of both nodes, and queues in which nothing waits.
 ghost use Rattle.std.specs.Prelude.{◌≡◌, ◌≤◌, ◌<◌, ◌^◌, [], true, length, IfOk, IfErr};
 ghost use Rattle.hib_outside.specs.Causes.{Rose};
 ghost use Rattle.hib_store.specs.Stores.{handed_back, is_store_fault};
@@ -59,7 +59,7 @@ impl<K: Keeper> NodesParts<K> {
         })
     }
 
-    /// The parts are let go, and the keeper is handed back.
+    /// Lets the parts go, and hands back the keeper.
     pub fn close(self) -> K
         ensures tables { K.tables result ≡ self.store.tables }
         ensures faults { K.faults result ≡ self.store.faults }

@@ -1,4 +1,4 @@
-// The parts of a run of two nodes, and what they answer.
+// The parts of a run of two nodes, and what they answer. What both nodes share is asked here; the rest at the node.
 ghost use Rattle.std.specs.Prelude.{◌≡◌, ◌≤◌, ◌<◌, ◌^◌, ◌==◌, ◌∷◌, ℕ, List, length, cond, true, false, IfOk, OnOk};
 ghost use Rattle.std.specs.Prelude.{OnErr, Option, Some, None};
 ghost use Rattle.hib_base.specs.Tables.{Tables};
@@ -62,7 +62,7 @@ impl<K: Keeper> Model for NodesParts<K> {
 }
 
 impl<K: Keeper> NodesParts<K> {
-    /// What an act of a session's own does to the parts: End closes the session at its node.
+    /// What an act that a session answers itself does to the parts: End closes the session at its node.
     fn note_own(&mut self, node: u8, session: SessionNo, act: &Act)
         ensures { self.new ≡ with_node node (record (node_in self.old node)
             { registry = own_after session act.now (node_in self.old node).registry }) self.old }
@@ -74,7 +74,7 @@ impl<K: Keeper> NodesParts<K> {
         }
     }
 
-    /// The answer of a node's registry to the Begin of a session. At an error nothing has changed.
+    /// Has a node's registry answer the Begin of a session. At an error nothing has changed.
     fn begin(
         &mut self,
         node: u8,
@@ -99,7 +99,7 @@ impl<K: Keeper> NodesParts<K> {
         }
     }
 
-    /// The answer of a region of a node. A read leaves the parts as they are, and so does want of memory.
+    /// Has a region of a node answer an act. A read leaves the parts as they are, and so does want of memory.
     fn ask_region(
         &mut self,
         alloc: Global,
@@ -132,7 +132,7 @@ impl<K: Keeper> NodesParts<K> {
         }
     }
 
-    /// The answer of a part to an act of a session at a node, which isn't the session's own. A fault is answered only
+    /// Has a part answer an act of a session at a node, which must not be the session's own. A fault is answered only
     /// if the keeper failed in this call. At an error the parts are as before, but for the keeper's counts.
     fn serve(
         &mut self,
@@ -171,9 +171,9 @@ impl<K: Keeper> NodesParts<K> {
         }
     }
 
-    /// The answer to an act that is due in a session at a node, at this tick: the session's own, or that of a part. A
-    /// fault is answered only if the keeper failed in this call, and the keeper is asked once at most. At an error the
-    /// parts are as before, but for the keeper's counts, and so they are if the act brings something to the session.
+    /// Answers the act that is due in a session at a node, at this tick, by the session itself or by a part. A fault is
+    /// answered only if the keeper failed in this call, and the keeper is asked once at most. At an error the parts are
+    /// as before, but for the keeper's counts. So they are if the act brings something to the session.
     pub fn answer(
         &mut self,
         alloc: Global,
@@ -203,7 +203,7 @@ impl<K: Keeper> NodesParts<K> {
         self.serve(alloc, script, node, number, act, now)
     }
 
-    /// A fence of a key of a read-write region at a node, at this tick and the next one: its two entries. At an error
+    /// Fences a key of a read-write region at a node, at this tick and the next one. Gives the two entries. At an error
     /// nothing has changed.
     pub fn fence(&mut self, node: u8, key: Key, now: Tick) -> Result<(Entry, Entry), AllocError>
         requires { now < 2 ^ 62 }

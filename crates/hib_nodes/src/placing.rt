@@ -1,12 +1,12 @@
-// The node of each session.
+// The node of each session, by the section of `nodes`.
 ghost use Rattle.std.specs.Prelude.{◌<◌, ◌≤◌, ◌^◌, IfOk};
 ghost use Rattle.hib_nodes.specs.Placed.{ArePlaced};
 
 use hib_base::SessionNo;
 use std::alloc::{AllocError, Global};
 
-/// The node of each of the first `sessions` sessions, by its number: the first that is named for it, or 1. Fails for
-/// want of memory alone.
+/// The node of each of the first `sessions` sessions, by its number: the first node that is named for it, or 1. Fails
+/// for want of memory alone.
 pub fn nodes_of(
     alloc: Global,
     places: &[(SessionNo, u8)],

@@ -1,4 +1,5 @@
-// What waits for a node.
+// What waits for a node: the keys that were committed at the other one, of which it isn't told yet. A pair is a node
+// and such a key.
 ghost use Rattle.std.specs.Prelude.{◌≡◌, ◌+◌, ◌<◌, ◌≤◌, [], ◌++◌, length, slice_get, OnOk};
 ghost use Rattle.hib_nodes.specs.Queue.{other_node as other};
 
@@ -6,7 +7,7 @@ use hib_base::Key;
 use std::alloc::{AllocError, Global};
 use std::marker::Model;
 
-/// The keys of the pairs that ever came to a node, the oldest first, of which the first ones are delivered.
+/// The keys of the pairs that ever came to a node, the oldest first. The first `taken` ones are delivered.
 #[derive(Drop)]
 pub struct KeyQueue {
     pairs: Vec<Key>,
@@ -31,7 +32,7 @@ impl Model for KeyQueue {
 impl KeyQueue {
     ghost use Rattle.hib_nodes.specs.Queue.{waiting};
 
-    /// Nothing waits.
+    /// The queue in which nothing waits.
     pub fn open(alloc: Global) -> KeyQueue
         ensures pairs { result.pairs ≡ [] }
         ensures taken { result.taken ≡ 0 }
@@ -49,7 +50,7 @@ impl KeyQueue {
         self.pairs.get(self.taken).copied()
     }
 
-    /// The first pair that waits is delivered.
+    /// Notes that the first pair that waits is delivered. One must wait.
     pub fn take(&mut self)
         requires { self.old.taken < length self.old.pairs }
         ensures { self.new ≡ record self.old { taken = self.old.taken + 1 } }
@@ -66,7 +67,7 @@ impl KeyQueue {
         self.pairs.reserve(count)
     }
 
-    /// Adds keys at the end, for which there is room. It takes no memory.
+    /// Adds keys at the end. There must be room for them. It takes no memory.
     pub fn append(&mut self, keys: &[Key])
         requires { length keys.now ≤ self.old.spare }
         ensures pairs { self.new.pairs ≡ self.old.pairs ++ keys.now }
@@ -103,7 +104,7 @@ pub fn other_node(node: u8) -> u8
 impl Queues {
     ghost use Rattle.hib_nodes.specs.Queue.{AreWaiting, other_node, queue_in, waiting, with_queue};
 
-    /// Nothing waits for a node.
+    /// The queues in which nothing waits for a node.
     pub fn open(alloc: Global) -> Queues
         ensures first_pairs { result.first.pairs ≡ [] }
         ensures first_taken { result.first.taken ≡ 0 }
@@ -127,7 +128,7 @@ impl Queues {
         }
     }
 
-    /// The first pair that waits for a node is delivered.
+    /// Notes that the first pair that waits for a node is delivered. One must wait.
     pub fn take(&mut self, node: u8)
         requires { (queue_in self.old node).taken < length (queue_in self.old node).pairs }
         ensures { self.new ≡ with_queue node (record (queue_in self.old node)
@@ -152,7 +153,7 @@ impl Queues {
         }
     }
 
-    /// Keys come to a node, for which there is room. It takes no memory.
+    /// Adds keys that wait for a node. There must be room for them. It takes no memory.
     pub fn append(&mut self, node: u8, keys: &[Key])
         requires { length keys.now ≤ (queue_in self.old node).spare }
         ensures pairs { (queue_in self.new node).pairs ≡ (queue_in self.old node).pairs ++ keys.now }

@@ -1,4 +1,4 @@
-// A run of two nodes plays its orders, its sessions run to their ends, and what waits is delivered.
+// `nodes` plays the orders of its section, runs the sessions to their ends, and delivers what waits.
 ghost use Rattle.std.specs.Prelude.{◌≡◌, ◌<◌, ◌==◌, ℕ, [], length, OnOk, OnErr, true, false};
 ghost use Rattle.hib_playing.specs.Playing.{GoesOn, Leads, play_all, play_each, play_steps, play_then, played};
 ghost use Rattle.hib_nodes_law.specs.Nodes.{queue};
@@ -17,8 +17,8 @@ use hib_outside::Keeper;
 use std::alloc::{AllocError, Global};
 
 impl<K: Keeper, N: Name> Nodes<K, N> {
-    /// Runs a session for `steps` steps, or to its end if that comes before; one that isn't there has none. If memory
-    /// runs out the steps so far stand.
+    /// Runs a session for `steps` steps, or to its end if that comes before. A session that isn't there has none. If
+    /// memory runs out the steps so far stand.
     fn run_steps(&mut self, alloc: Global, number: SessionNo, steps: u32) -> Result<(), AllocError>
         ensures played { OnOk result (Leads (play_steps (has_next N.script) is_by number steps) played
             (past self.old.journal) (past self.new.journal)) }
@@ -37,7 +37,7 @@ impl<K: Keeper, N: Name> Nodes<K, N> {
         Ok(())
     }
 
-    /// Runs a session to its end. If memory runs out the steps so far stand.
+    /// Runs a session to its end. It must be the script's. If memory runs out the steps so far stand.
     fn run_session(&mut self, alloc: Global, number: SessionNo) -> Result<(), AllocError>
         requires known { number < length N.script.sessions }
         ensures played { OnOk result (Leads (play_all (has_next N.script) is_by number) played
@@ -140,7 +140,7 @@ impl<K: Keeper, N: Name> Nodes<K, N> {
         self.deliver_all(2)
     }
 
-    /// The orders, then the sessions, and then what waits.
+    /// Plays the orders, runs the sessions, and delivers what waits.
     fn run_all(&mut self, alloc: Global) -> Result<(), AllocError>
         ensures leads { OnOk result (Leads (play_script N.script N.orders) played
             (past self.old.journal) (past self.new.journal)) }

@@ -1,4 +1,4 @@
-// What the sessions of a run share.
+// What the sessions of `nodes` share.
 use crate::journal::Noded;
 use crate::parts::NodesParts;
 use crate::queue::Queues;

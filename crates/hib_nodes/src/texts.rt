@@ -1,4 +1,4 @@
-// The text of a journal of two nodes.
+// The text of a journal of two nodes, which `nodes` prints.
 ghost use Rattle.std.specs.Prelude.{◌≡◌, ◌++◌, OnOk, IfOk, flat_map};
 ghost use Rattle.hib_report.specs.Lines.{actor_text};
 ghost use Rattle.hib_nodes.specs.Text.{body_text, entry_text, head_text, noded_text};
@@ -10,6 +10,7 @@ use hib_report::{put_act, put_part, put_reply};
 use hib_texts::{put_labelled, put_number, put_session};
 use std::alloc::{AllocError, Global};
 
+/// Adds the session that did it, or a dash for a fence, which is no session's.
 fn put_actor(
     out: &mut Vec<u8>,
     script: &Script,
@@ -23,7 +24,7 @@ fn put_actor(
     }
 }
 
-/// When it was, at which node, who did it, and where.
+/// Adds when it was, at which node, who did it, and where.
 fn put_head(
     alloc: Global,
     out: &mut Vec<u8>,
@@ -43,7 +44,7 @@ fn put_head(
     out.extend_from_slice(b" ")
 }
 
-/// What was done and answered.
+/// Adds what was done and answered.
 fn put_body(
     alloc: Global,
     out: &mut Vec<u8>,
@@ -57,7 +58,7 @@ fn put_body(
     put_reply(alloc, out, script, &entry.reply)
 }
 
-/// The line of an entry, and its end.
+/// Adds the line of an entry, and its end.
 #[tactic(auto, unfolding(crate::specs::Text::entry_text))]
 fn put_entry(
     alloc: Global,
@@ -72,6 +73,7 @@ fn put_entry(
     out.extend_from_slice(b"\n")
 }
 
+/// Adds a line for each entry.
 fn put_entries(
     alloc: Global,
     out: &mut Vec<u8>,

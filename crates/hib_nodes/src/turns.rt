@@ -1,5 +1,5 @@
-// One turn of a session: the act that is due is answered by the session or by a part, and its entry is added. What it
-// commits comes into the other node's queue in the same step.
+// One turn of a session in `nodes`: the act that is due is answered by the session or by a part, and its entry is
+// added. The keys that it commits come into the other node's queue in the same step.
 ghost use Rattle.std.specs.Prelude.{◌≡◌, ◌≢◌, ◌≤◌, ◌<◌, ◌+◌, ◌++◌, ◌^◌, [], length, IfOk, IfSome, OnOk, OnErr, Some};
 ghost use Rattle.std.specs.Prelude.{None, Ok, true, if◌then◌else◌};
 ghost use Rattle.hib_journal.specs.Sessions.{Journal, own};
@@ -58,8 +58,8 @@ fn prepare(
     Ok(Tick(journal.len() as u64 + 1))
 }
 
-/// What comes into the other node's queue if this act of a session is a commit that applies, with room for it there. At
-/// an error what waits is as before.
+/// The keys that come into the other node's queue if this act of a session is a commit that applies. Room is made for
+/// them there. At an error what waits is as before.
 fn keys_due(
     alloc: Global,
     script: &Script,
@@ -91,8 +91,7 @@ fn is_committed(reply: &Reply) -> bool
     }
 }
 
-/// The keys come into the other node's queue, where there is room for them, if the reply says that the commit was
-/// applied.
+/// Adds the keys to the other node's queue, if the reply says that the commit was applied. There must be room for them.
 fn note_commit(node: u8, reply: &Reply, keys: &[Key], queues: &mut Queues)
     requires { length keys.now ≤ (queue_in queues.old (other_node node)).spare }
     ensures pairs { (queue_in queues.new (other_node node)).pairs
@@ -108,8 +107,7 @@ fn note_commit(node: u8, reply: &Reply, keys: &[Key], queues: &mut Queues)
     }
 }
 
-/// The act that is due is answered, taken by its session, and its entry added: all of it, or if memory runs out
-/// nothing.
+/// Answers the act that is due, lets its session take it, and adds its entry: all of it, or if memory runs out nothing.
 fn serve<K: Keeper, N: Name>(
     alloc: Global,
     script: &Script,

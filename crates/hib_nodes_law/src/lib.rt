@@ -1,9 +1,9 @@
 //! The law of two nodes over one store: what holds of every legal journal of both.
 //!
-//! The crate has no code. Each function has an empty body, and its `ensures` is a theorem over all scripts, all places of
-//! sessions, all rows at the start and all journals. `specs/Nodes` counts, `specs/Legal` says which journals are legal,
-//! `specs/Law` what is claimed of the items, `specs/Apart` how the lists of parts make a legal journal, and `proofs/` has the
-//! proofs.
+//! The crate has no code. Each function has an empty body, and its `ensures` is a theorem over all scripts, all places
+//! of sessions, all rows at the start and all journals. `specs/Nodes` counts, `specs/Legal` says which journals are
+//! legal, `specs/Law` what is claimed of the items, `specs/Apart` how the lists of parts make a legal journal, and
+//! `proofs/` has the proofs.
 #![tactic(auto)]
 
 mod nodes;

@@ -1,9 +1,10 @@
 //! The law of orders: what an order of steps makes of a script, and that a search of orders misses none and tries none
 //! twice.
 //!
-//! Beside `Step`, `Turn` and `Verdicts` the crate has no code. Each other function has an empty body, and its `ensures` is a theorem over
-//! all scripts, all rows at the start and all journals. `specs/Orders` says what an order is, what its switches are and what its kills,
-//! `specs/Search` what a search of them has tried, `specs/Judged` what ends badly, and `proofs/` has the proofs.
+//! Beside `Step`, `Turn` and `Verdicts` the crate has no code. Each other function has an empty body, and its `ensures`
+//! is a theorem over all scripts, all rows at the start and all journals. `specs/Orders` says what an order is, what
+//! its switches are and what its kills, `specs/Search` what a search of them has tried, `specs/Judged` what ends badly,
+//! and `proofs/` has the proofs.
 #![tactic(auto)]
 
 ghost use Rattle.hib_base.specs.Tables.{Tables, row_at};

@@ -1,4 +1,4 @@
-// A step of an order.
+// A step of an order of the search, and what it does to its session.
 ghost use Rattle.hib_order_law.specs.Orders.{whose};
 ghost use Rattle.std.specs.Prelude.{◌≡◌};
 

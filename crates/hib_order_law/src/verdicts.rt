@@ -1,4 +1,4 @@
-// What may end badly in a run.
+// What may end badly in a run, as the judge of orders finds it.
 
 /// What is judged of a run.
 #[derive(Clone, Copy, Debug, PartialEq, Eq)]

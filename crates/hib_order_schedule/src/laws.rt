@@ -1,4 +1,4 @@
-// What a script plays with the schedule of an order.
+// What a script plays with the schedule of an order; for the proofs of the tools. These functions do nothing.
 ghost use Rattle.hib_base.specs.Tables.{Tables};
 ghost use Rattle.hib_base.specs.Valid.{max_orders, max_steps};
 ghost use Rattle.hib_base.specs.declared.entries.Entry.{Entry};

@@ -1,4 +1,5 @@
-// The runs and kills of an order of sessions.
+// The runs and kills of an order of sessions, which are the lines of its schedule. A run is a number of steps that one
+// session makes in a row.
 ghost use Rattle.hib_order_schedule.specs.Schedules.{before_tail, in_row, rises, runs_of, shown};
 ghost use Rattle.std.specs.Prelude.{◌≡◌, ◌<◌, ◌≤◌, ◌^◌, ◌∷◌, IfOk, drop, length, take, true};
 
@@ -6,7 +7,7 @@ use hib_base::{Order, SessionNo};
 use hib_order_law::Step;
 use std::alloc::{AllocError, Global};
 
-/// How many steps a session makes first in a row.
+/// How many steps this session makes in a row at the front of an order.
 fn steps_in_row(session: u32, order: &[Step]) -> usize
     ensures row { result ≡ in_row session order.now }
     ensures inside { result ≤ length order.now }
@@ -48,7 +49,8 @@ pub fn runs_of(alloc: Global, order: &[Step]) -> Result<Vec<Order>, AllocError>
     Ok(runs)
 }
 
-/// Whether a step may stand before a tail that rises.
+/// Whether a step may stand before this tail, which must rise: in such a tail each session goes on to its end, in order
+/// of number.
 fn may_rise(step: Step, tail: &[Step]) -> bool
     requires { rises tail.now ≡ true }
     ensures { result ≡ rises (step ∷ tail.now) }
@@ -59,7 +61,8 @@ fn may_rise(step: Step, tail: &[Step]) -> bool
     }
 }
 
-/// Where the longest tail of an order begins that brings each session to its end in order of number.
+/// Where the longest tail of an order begins that rises. The schedule needn't say it: after its orders `hib play` does
+/// the same.
 fn tail_place(order: &[Step]) -> usize
     ensures front { take result order.now ≡ before_tail order.now }
     ensures inside { result ≤ length order.now }

@@ -1,4 +1,4 @@
-// A script with another schedule.
+// A script with another schedule: the one that plays a finding, or that repeats a journal.
 ghost use Rattle.hib_base.specs.Valid.{is_order_in, is_valid};
 ghost use Rattle.hib_order_schedule.specs.Schedules.{is_run_or_kill, may_be_schedule, with_schedule};
 ghost use Rattle.std.specs.Prelude.{◌≡◌, ◌&&◌, length, true};
@@ -11,7 +11,7 @@ const MOST_ORDERS: usize = 20_000;
 /// The most steps of a run.
 const MOST_STEPS: u32 = 1_000_000;
 
-/// Whether an order is a run or a kill that a schedule of so many sessions may have.
+/// Whether an order is a run or a kill that the schedule of a script with so many sessions may have.
 fn may_be_run_or_kill(sessions: usize, order: Order) -> bool
     ensures { result ≡ (is_run_or_kill order && is_order_in sessions order) }
 {

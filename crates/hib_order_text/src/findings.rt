@@ -1,4 +1,4 @@
-// What may be found, by number and name.
+// What may be found of orders, by number and name, and the text of each finding.
 ghost use Rattle.hib_order_text.specs.Texts.{finding_text, first_text, found_of, name_of, number_of};
 ghost use Rattle.std.specs.Prelude.{◌≡◌, ◌++◌, OnOk};
 
@@ -51,7 +51,7 @@ impl Finding {
     }
 }
 
-/// What was found of one kind.
+/// What was found of one kind: in how many orders it is, and a first one of these.
 pub fn found_of<'a>(findings: &'a Findings, finding: Finding) -> &'a Found
     ensures { result.now ≡ found_of findings.now finding }
 {
@@ -64,6 +64,7 @@ pub fn found_of<'a>(findings: &'a Findings, finding: Finding) -> &'a Found
     }
 }
 
+/// Adds with how many switches the first order comes, and its schedule, if there is such an order.
 fn put_first(
     alloc: Global,
     out: &mut Vec<u8>,
@@ -82,7 +83,8 @@ fn put_first(
     }
 }
 
-/// The number and the name of a finding, in how many orders it is, and the schedule of one with the fewest switches.
+/// Adds the number and the name of a finding, in how many orders it is, and the schedule of one with the fewest
+/// switches.
 pub fn put_finding(
     alloc: Global,
     out: &mut Vec<u8>,

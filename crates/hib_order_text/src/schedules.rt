@@ -1,4 +1,5 @@
-// The schedule of an order, as lines to be pasted into its script.
+// The schedule of an order, as lines to be pasted into its script. An order is here a list of steps; a line is one of a
+// schedule.
 ghost use Rattle.hib_base.specs.declared.scripts.Order.{Order};
 ghost use Rattle.hib_order_text.specs.Texts.{line_text, order_text, schedule_text};
 ghost use Rattle.std.specs.Prelude.{◌≡◌, ◌++◌, ◌<◌, ◌^◌, OnOk, codes, flat_map, length};
@@ -34,7 +35,7 @@ fn put_kill(out: &mut Vec<u8>, script: &Script, session: SessionNo) -> Result<()
     out.extend_from_slice(b"\n")
 }
 
-/// An order, if it is a run or a kill.
+/// Adds a line of a schedule, if it is a run or a kill.
 fn put_line(
     alloc: Global,
     out: &mut Vec<u8>,
@@ -81,7 +82,7 @@ fn put_schedule(
     out.extend_from_slice(b"end\n")
 }
 
-/// The schedule of an order, if it needs one. An order of 2^32 steps or more is answered as want of memory.
+/// Adds the schedule of an order, if it needs one. An order of 2^32 steps or more is answered as want of memory.
 pub fn put_order(
     alloc: Global,
     out: &mut Vec<u8>,

@@ -1,4 +1,4 @@
-// The whole text.
+// The whole text of a search of orders, which `hib_tools orders` prints. A level is a number of switches.
 ghost use Rattle.hib_order_text.specs.Texts.{comma, ending_text, endings_text, findings_text, kills_text, level_text, levels_text, never_text, nevers_text, outcome_text_of, outcomes_text, said_text, text, tried_text};
 ghost use Rattle.hib_order_tries.specs.declared.endings.Ending.{Ending};
 ghost use Rattle.std.specs.Prelude.{◌≡◌, ◌++◌, IfOk, OnOk, flat_map, slice_get};
@@ -10,7 +10,7 @@ use hib_report::put_reply;
 use hib_texts::{put_labelled, put_number};
 use std::alloc::{AllocError, Global};
 
-/// The bound of kills, if there may be some.
+/// Adds how many kills an order may have, if it may have some.
 fn put_kills(alloc: Global, out: &mut Vec<u8>, most_kills: u32) -> Result<(), AllocError>
     ensures { OnOk result (out.new.items ≡ out.old.items ++ kills_text most_kills) }
 {
@@ -20,7 +20,7 @@ fn put_kills(alloc: Global, out: &mut Vec<u8>, most_kills: u32) -> Result<(), Al
     put_labelled(alloc, out, b" kills ", u64::from(most_kills))
 }
 
-/// How many orders were tried, within which numbers of switches and of kills, and whether these are all.
+/// Adds how many orders were tried, within which numbers of switches and of kills, and whether these are all.
 fn put_tried(
     alloc: Global,
     out: &mut Vec<u8>,
@@ -40,6 +40,7 @@ fn put_tried(
     out.extend_from_slice(b"\n")
 }
 
+/// Adds how many orders make this number of switches.
 fn put_level(
     alloc: Global,
     out: &mut Vec<u8>,
@@ -53,7 +54,7 @@ fn put_level(
     out.extend_from_slice(b"\n")
 }
 
-/// A line for each number of switches.
+/// Adds a line for each number of switches: how many orders make as many.
 fn put_levels(alloc: Global, out: &mut Vec<u8>, levels: &[u64]) -> Result<(), AllocError>
     ensures { OnOk result (out.new.items ≡ out.old.items ++ levels_text 0 levels.now) }
 {
@@ -70,7 +71,7 @@ fn outcome_at(outcomes: &[Outcome], session: usize) -> Option<Outcome>
     outcomes.get(session).copied()
 }
 
-/// An outcome, if there is one.
+/// Adds an outcome, if there is one.
 fn put_said(
     alloc: Global,
     out: &mut Vec<u8>,
@@ -85,7 +86,7 @@ fn put_said(
     }
 }
 
-/// A comma before each session but the first one.
+/// Adds a comma before each session but the first one.
 fn put_comma(out: &mut Vec<u8>, session: usize) -> Result<(), AllocError>
     ensures { OnOk result (out.new.items ≡ out.old.items ++ comma session) }
 {
@@ -95,7 +96,7 @@ fn put_comma(out: &mut Vec<u8>, session: usize) -> Result<(), AllocError>
     out.extend_from_slice(b",")
 }
 
-/// How a session has ended.
+/// Adds how a session has ended, by its name.
 fn put_outcome(
     alloc: Global,
     out: &mut Vec<u8>,
@@ -114,7 +115,7 @@ fn put_outcome(
     put_said(alloc, out, script, outcome)
 }
 
-/// How each session has ended, by its name.
+/// Adds how each session has ended, by its name.
 fn put_outcomes(
     alloc: Global,
     out: &mut Vec<u8>,
@@ -132,6 +133,7 @@ fn put_outcomes(
     Ok(())
 }
 
+/// Adds in how many orders the sessions end so, and how each has ended.
 fn put_ending(
     alloc: Global,
     out: &mut Vec<u8>,
@@ -151,7 +153,7 @@ fn put_ending(
     out.extend_from_slice(b"\n")
 }
 
-/// A line for each ending.
+/// Adds a line for each ending.
 fn put_each_ending(
     alloc: Global,
     out: &mut Vec<u8>,
@@ -197,6 +199,7 @@ fn put_findings(
     put_finding(alloc, out, script, findings, Finding::RefusedCommit)
 }
 
+/// Adds that no sound key of an entity has a stale hit, if it is a read-write one.
 fn put_never(out: &mut Vec<u8>, entity: &EntityDef) -> Result<(), AllocError>
     ensures { OnOk result (out.new.items ≡ out.old.items ++ never_text entity.now) }
 {
@@ -208,7 +211,8 @@ fn put_never(out: &mut Vec<u8>, entity: &EntityDef) -> Result<(), AllocError>
     out.extend_from_slice(b"\n")
 }
 
-/// A line for each entity of which no sound key has a stale hit in any order.
+/// Adds a line for each entity of which no sound key has a stale hit in any order: those are the read-write ones, by
+/// the law.
 fn put_nevers(out: &mut Vec<u8>, mapping: &[EntityDef]) -> Result<(), AllocError>
     ensures { OnOk result (out.new.items ≡ out.old.items ++ nevers_text mapping.now) }
 {

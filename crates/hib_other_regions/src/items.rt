@@ -1,4 +1,4 @@
-// Items by identifier, in order of insertion: what both kinds of region are made of.
+// Items by identifier, in order of insertion: what read-only and nonstrict regions are made of.
 ghost use Rattle.std.specs.Prelude.{◌≡◌, ◌++◌, [], ◌∷◌, None, IfOk, OnOk, OnErr, drop, nat_eq, option_copied, is_some};
 ghost use Rattle.std.specs.Map.{lookup, remove_entry};
 ghost use Rattle.hib_room_laws.specs.Order.{first_key};
@@ -64,8 +64,8 @@ impl Items {
         first_of(&self.front, &self.back)
     }
 
-    /// Adds an item of a new identifier; the oldest leaves a full region, and is answered. At an error nothing has
-    /// changed.
+    /// Adds an item. Its identifier must be a new one. The oldest leaves a full region, and is answered. At an error
+    /// nothing has changed.
     pub fn add(&mut self, id: u64, row: Row, now: Tick) -> Result<Option<u64>, AllocError>
         requires { item_in self.old id ≡ None }
         ensures ok { OnOk result (self.new ≡ with_new id row now self.old) }
@@ -80,7 +80,7 @@ impl Items {
         Ok(oldest)
     }
 
-    /// Removes an identifier; the others keep their order. Answers whether it was there.
+    /// Takes the item of an identifier out; the others keep their order. Answers whether there was one.
     pub fn remove(&mut self, id: u64) -> bool
         ensures answer { result ≡ is_some (item_in self.old id) }
         ensures state { self.new ≡ after_remove id self.old }
@@ -88,7 +88,7 @@ impl Items {
         remove_key(&mut self.front, &mut self.back, id)
     }
 
-    /// Removes all items. It takes no memory.
+    /// Takes all items out. It takes no memory.
     pub fn clear(&mut self)
         ensures { self.new ≡ after_clear self.old }
     {
@@ -97,7 +97,7 @@ impl Items {
     }
 }
 
-// The item of an identifier.
+// The item of an identifier, in either list.
 #[tactic(auto, using(hib_room_laws::proofs::Queued::lookup_queued))]
 fn look_up<'a>(
     front: &'a IndexMap<u64, (Row, Tick)>,
@@ -114,7 +114,7 @@ fn look_up<'a>(
     }
 }
 
-// The oldest identifier, if there is one.
+// The identifier of the oldest item, if there is one.
 #[tactic(auto, using(hib_room_laws::proofs::Queued::queued_first, hib_room_laws::proofs::Queued::queued_none))]
 fn first_of(front: &IndexMap<u64, (Row, Tick)>, back: &IndexMap<u64, (Row, Tick)>) -> Option<u64>
     ensures { result ≡ first_key (queued front.now.entries back.now.entries) }
@@ -128,7 +128,7 @@ fn first_of(front: &IndexMap<u64, (Row, Tick)>, back: &IndexMap<u64, (Row, Tick)
     }
 }
 
-// Puts a new key at the end.
+// Puts an item at the end. Its key must be new.
 fn insert_new(
     front: &IndexMap<u64, (Row, Tick)>,
     back: &mut IndexMap<u64, (Row, Tick)>,
@@ -146,7 +146,7 @@ fn insert_new(
     Ok(())
 }
 
-// The oldest key leaves, if there is one.
+// Takes the oldest item out, if there is one.
 fn drop_first(front: &mut IndexMap<u64, (Row, Tick)>, back: &mut IndexMap<u64, (Row, Tick)>)
     ensures { queued front.new.entries back.new.entries
         ≡ drop 1 (queued front.old.entries back.old.entries) }
@@ -159,7 +159,7 @@ fn drop_first(front: &mut IndexMap<u64, (Row, Tick)>, back: &mut IndexMap<u64, (
     }
 }
 
-// The last of the older ones leaves, if there is one. Unless there is one, there are no newer ones.
+// Takes the last of the older ones out, if there is one. If there is none, there must be no newer ones either.
 #[tactic(auto, using(hib_room_laws::proofs::Queued::queued_popped))]
 fn pop_first(front: &mut IndexMap<u64, (Row, Tick)>, back: &IndexMap<u64, (Row, Tick)>)
     requires { front.old.entries ≡ [] → back.now.entries ≡ [] }
@@ -169,7 +169,7 @@ fn pop_first(front: &mut IndexMap<u64, (Row, Tick)>, back: &IndexMap<u64, (Row, 
     front.pop();
 }
 
-// All become older ones.
+// Makes all items older ones. There must be none among these before.
 #[tactic(auto, using(hib_room_laws::proofs::Queued::queued_turned))]
 fn turn(front: &mut IndexMap<u64, (Row, Tick)>, back: &mut IndexMap<u64, (Row, Tick)>)
     requires { front.old.entries ≡ [] }
@@ -180,7 +180,7 @@ fn turn(front: &mut IndexMap<u64, (Row, Tick)>, back: &mut IndexMap<u64, (Row, T
     front.reverse();
 }
 
-// Removes a key; the others keep their order.
+// Takes a key out; the others keep their order. Answers whether it was there.
 #[tactic(auto, using(hib_room_laws::proofs::Queued::lookup_queued, hib_room_laws::proofs::Queued::removed_front, hib_room_laws::proofs::Queued::removed_back))]
 fn remove_key(
     front: &mut IndexMap<u64, (Row, Tick)>,

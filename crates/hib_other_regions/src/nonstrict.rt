@@ -1,4 +1,4 @@
-// Regions that may answer a stale row now and then.
+// Regions of nonstrict entities, which may answer a stale row now and then.
 ghost use Rattle.std.specs.Prelude.{◌≡◌, IfOk, OnOk, OnErr, false, is_some, if◌then◌else◌};
 ghost use Rattle.hib_journal.specs.Regions.{got_item, put_item};
 ghost use Rattle.hib_journal.specs.Types.{Reply, Evicted};
@@ -45,8 +45,8 @@ impl NonstrictRegion {
         }
     }
 
-    /// Stores a loaded row with the stamp `now`, unless there is one. The oldest item leaves a full region. At an
-    /// error nothing has changed.
+    /// Stores a loaded row with the stamp `now`, unless its key has an item. The oldest item leaves a full region. At
+    /// an error nothing has changed.
     pub fn put(&mut self, id: u64, row: Row, now: Tick) -> Result<Put, AllocError>
         ensures answer { IfOk result (λ put. put
             ≡ put_item (oldest_in self.old) (item_in self.old id)) }
@@ -65,7 +65,7 @@ impl NonstrictRegion {
         })
     }
 
-    /// Removes an identifier, and answers whether it was there. It takes no memory.
+    /// Takes the item of an identifier out, and answers whether there was one. It takes no memory.
     pub fn remove(&mut self, id: u64) -> bool
         ensures answer { removed_reply result
             ≡ (if is_some (item_in self.old id) then Reply.Dropped else Reply.Absent) }
@@ -74,7 +74,7 @@ impl NonstrictRegion {
         self.items.remove(id)
     }
 
-    /// Removes an identifier at the wish of somebody outside. It takes no memory.
+    /// Takes the item of an identifier out at the wish of somebody outside. It takes no memory.
     pub fn evict(&mut self, id: u64) -> Evicted
         ensures answer { result ≡ (if is_some (item_in self.old id) then Evicted.Gone else Evicted.Absent) }
         ensures state { self.new ≡ after_remove id self.old }

@@ -1,4 +1,4 @@
-// Regions of rows that never change.
+// Regions of read-only entities, whose rows never change.
 ghost use Rattle.std.specs.Prelude.{◌≡◌, IfOk, OnOk, OnErr, true, is_some, if◌then◌else◌};
 ghost use Rattle.hib_journal.specs.Regions.{got_item, put_item};
 ghost use Rattle.hib_journal.specs.Types.{Inserted, Reply, Evicted};
@@ -35,7 +35,7 @@ impl ReadOnlyRegion {
         }
     }
 
-    /// The row of an identifier, for a reader that began at `time`: one that was stored before.
+    /// The row of an identifier, for a reader that began at `time`, if it was stored before that.
     pub fn get(&self, id: u64, time: Tick) -> Got<'_>
         ensures { got_reply result ≡ got_item true time (item_in self.now id) }
     {
@@ -46,8 +46,8 @@ impl ReadOnlyRegion {
         }
     }
 
-    /// Stores a loaded row with the stamp `now`, unless there is one. The oldest item leaves a full region. At an
-    /// error nothing has changed.
+    /// Stores a loaded row with the stamp `now`, unless its key has an item. The oldest item leaves a full region. At
+    /// an error nothing has changed.
     pub fn put(&mut self, id: u64, row: Row, now: Tick) -> Result<Put, AllocError>
         ensures answer { IfOk result (λ put. put
             ≡ put_item (oldest_in self.old) (item_in self.old id)) }
@@ -66,8 +66,8 @@ impl ReadOnlyRegion {
         })
     }
 
-    /// Stores a row whose insert was committed, with the stamp `now`, unless there is one. The oldest item leaves a
-    /// full region. At an error nothing has changed.
+    /// Stores a row whose insert was committed, with the stamp `now`, unless its key has an item. The oldest item
+    /// leaves a full region. At an error nothing has changed.
     pub fn after_insert(&mut self, id: u64, row: Row, now: Tick) -> Result<Inserted, AllocError>
         ensures answer { IfOk result (λ put. put
             ≡ (if is_some (item_in self.old id) then Inserted.Present
@@ -82,7 +82,7 @@ impl ReadOnlyRegion {
         Ok(Inserted::Stored { evicted })
     }
 
-    /// Removes an identifier, and answers whether it was there. It takes no memory.
+    /// Takes the item of an identifier out, and answers whether there was one. It takes no memory.
     pub fn remove(&mut self, id: u64) -> bool
         ensures answer { removed_reply result
             ≡ (if is_some (item_in self.old id) then Reply.Dropped else Reply.Absent) }
@@ -91,7 +91,7 @@ impl ReadOnlyRegion {
         self.items.remove(id)
     }
 
-    /// Removes an identifier at the wish of somebody outside. It takes no memory.
+    /// Takes the item of an identifier out at the wish of somebody outside. It takes no memory.
     pub fn evict(&mut self, id: u64) -> Evicted
         ensures answer { result ≡ (if is_some (item_in self.old id) then Evicted.Gone else Evicted.Absent) }
         ensures state { self.new ≡ after_remove id self.old }

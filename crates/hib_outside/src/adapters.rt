@@ -1,4 +1,5 @@
-// The source and the sink over std's reader and writer. They count their failures and tell nothing.
+// The source and the sink over std's reader and writer, which the programs read standard input and write standard
+// output by. They count their failures and tell nothing.
 ghost use Rattle.hib_outside.specs.Causes.{HasCause, one_more};
 ghost use Rattle.std.specs.Io.{ReadsAtMost, WritesAtMost};
 ghost use Rattle.std.specs.Io.KnownBytes.{ReadConsumes, WriteAppends};
@@ -18,7 +19,7 @@ pub struct StdSource<R> {
 }
 
 impl<R> StdSource<R> {
-    /// The source over a reader that hasn't failed yet.
+    /// The source over a reader. It has counted no failure yet.
     pub fn new(inner: R) -> StdSource<R>
         ensures inner { result.inner ≡ inner }
         ensures faults { result.faults ≡ 0 }
@@ -60,7 +61,7 @@ pub struct StdSink<W> {
 }
 
 impl<W> StdSink<W> {
-    /// The sink over a writer that hasn't failed yet.
+    /// The sink over a writer. It has counted no failure yet.
     pub fn new(inner: W) -> StdSink<W>
         ensures inner { result.inner ≡ inner }
         ensures faults { result.faults ≡ 0 }

@@ -1,4 +1,5 @@
-// The calls of an object in memory that are to fail, by their numbers.
+// The calls of a keeper, source or sink in memory that are to fail, by their numbers: for checks of what comes of a
+// failure.
 ghost use Rattle.std.specs.Prelude.{◌≡◌, ◌+◌, if◌then◌else◌};
 ghost use Rattle.hib_outside.specs.Causes.{failed_calls, is_due, next_call};
 
@@ -17,7 +18,7 @@ pub struct Failing {
 }
 
 impl Failing {
-    /// No calls so far.
+    /// No call came so far, and these are to fail.
     pub fn new(fail: Numbers) -> Failing
         ensures calls { result.calls ≡ 0 }
         ensures fail { result.fail ≡ fail }

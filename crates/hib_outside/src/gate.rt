@@ -1,4 +1,4 @@
-// A gate before each step of a worker.
+// A gate before each step of a worker, for checks that hold a thread at a place. The program's is open.
 use hib_base::SessionNo;
 
 /// Holds a worker before a step.

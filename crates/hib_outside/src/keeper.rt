@@ -1,4 +1,4 @@
-// A keeper of tables.
+// What a keeper of tables is: the store asks one for rows, and has it apply batches of changes.
 ghost use Rattle.std.specs.Prelude.{◌≡◌, ◌+◌, ◌≤◌, ◌<◌, ℕ, length, true, IfOk, IfSome};
 ghost use Rattle.std.specs.declared.option.Option.{Option};
 ghost use Rattle.hib_base.specs.Tables.{Tables, row_at, in_order};

@@ -1,4 +1,5 @@
-//! Rows in order of keys: where a key's row stands, and how it is put there or taken out.
+//! Rows in order of keys: where a key's row stands, and how it is put there or taken out. A shelf and an index are such
+//! rows.
 ghost use Rattle.std.specs.Prelude.{◌≡◌, ◌+◌, ◌≤◌, ◌<◌, true, length, Ok, Err, MatchResult, vec_len, vec_capacity, option_copied};
 ghost use Rattle.hib_base.specs.Keys.{same_key, is_before};
 ghost use Rattle.hib_base.specs.Tables.{in_order, row_at, with_row, without_row};
@@ -20,7 +21,7 @@ pub fn comes_before(a: &Key, b: &Key) -> bool
     a.entity.0 < b.entity.0 || (a.entity.0 == b.entity.0 && a.id < b.id)
 }
 
-/// Whether the last row's key comes before a key, which then belongs behind all rows.
+/// Whether a key comes after the last row's, and so belongs behind all rows.
 fn belongs_last(rows: &[(Key, Row)], key: &Key) -> bool
     requires { in_order rows.now ≡ true }
     ensures { result ≡ true → place_in rows.now key.now ≡ Err (length rows.now) }
@@ -36,8 +37,8 @@ fn belongs_first(rows: &[(Key, Row)], key: &Key) -> bool
     !rows.is_empty() && comes_before(key, &rows[0].0)
 }
 
-/// Where a key's row stands if the identifiers of its entity follow one another without a gap. What is found doesn't
-/// depend on it.
+/// Where a key's row stands if the identifiers of its entity follow one another without a gap. It is tried before a
+/// search. What is found doesn't depend on it.
 fn likely_place(rows: &[(Key, Row)], key: &Key) -> usize {
     let mut from = 0;
     let mut to = rows.len();
@@ -56,7 +57,7 @@ fn likely_place(rows: &[(Key, Row)], key: &Key) -> usize {
     rows.len()
 }
 
-/// Whether the row at a place, if there is one, is that of a key.
+/// Whether there is a row at this place, and it is that of the key.
 fn stands_at(rows: &[(Key, Row)], key: &Key, at: usize) -> bool
     requires { in_order rows.now ≡ true }
     ensures place { result ≡ true → place_in rows.now key.now ≡ Ok at }
@@ -65,8 +66,8 @@ fn stands_at(rows: &[(Key, Row)], key: &Key, at: usize) -> bool
     at < rows.len() && is_same(&rows[at].0, key)
 }
 
-/// The place of a key's row, or else the place where it belongs. A search by halves, unless the key belongs before or
-/// behind all rows, or the identifiers of its entity follow one another.
+/// The place of a key's row, or else the place where it belongs. The rows must stand in order of keys. It is a search
+/// by halves, unless the key belongs before or behind all rows, or the identifiers of its entity follow one another.
 pub fn find(rows: &[(Key, Row)], key: &Key) -> Result<usize, usize>
     requires { in_order rows.now ≡ true }
     ensures place { result ≡ place_in rows.now key.now }
@@ -99,7 +100,7 @@ pub fn find(rows: &[(Key, Row)], key: &Key) -> Result<usize, usize>
     Err(low)
 }
 
-/// The row of a key.
+/// The row of a key, if it has one. The rows must stand in order of keys.
 pub fn row_of<'a>(rows: &'a [(Key, Row)], key: &Key) -> Option<&'a Row>
     requires { in_order rows.now ≡ true }
     ensures { option_copied result ≡ row_at rows.now key.now }
@@ -110,7 +111,7 @@ pub fn row_of<'a>(rows: &'a [(Key, Row)], key: &Key) -> Option<&'a Row>
     }
 }
 
-/// Gives a key a row. There is room for one more.
+/// Gives a key a row. There must be room for one more.
 pub fn put(rows: &mut Vec<(Key, Row)>, key: Key, row: Row)
     requires ordered { in_order rows.old.items ≡ true }
     requires room { vec_len rows.old < vec_capacity rows.old }
@@ -128,7 +129,7 @@ pub fn put(rows: &mut Vec<(Key, Row)>, key: Key, row: Row)
     }
 }
 
-/// Takes a key's row out.
+/// Takes a key's row out, if it has one.
 pub fn take_out(rows: &mut Vec<(Key, Row)>, key: &Key)
     requires { in_order rows.old.items ≡ true }
     ensures rows { rows.new.items ≡ without_row rows.old.items key.now }

@@ -1,4 +1,4 @@
-// Listeners, which are told each entry.
+// What a listener is: it is told each entry of a run.
 ghost use Rattle.std.specs.Prelude.{◌≡◌, ◌+◌, ◌-◌, ◌<◌, ℕ, List, option_copied};
 ghost use Rattle.std.specs.declared.option.Option.{Option};
 ghost use Rattle.hib_outside.specs.Types.{Entry};

@@ -1,4 +1,4 @@
-// A lock that another thread gives back soon.
+// How a lock of std is taken that another thread gives back soon, as the workers' locks are.
 use std::hint::spin_loop;
 use std::sync::{Mutex, MutexGuard, Wait};
 

@@ -1,4 +1,4 @@
-// A keeper in memory.
+// A keeper in memory: the program's own, if no file is named, and the checks'.
 ghost use Rattle.std.specs.Prelude.{◌≡◌, ◌↔◌, ◌+◌, ◌≤◌, ◌<◌, [], if◌then◌else◌, true, length, IfOk};
 ghost use Rattle.std.specs.declared.option.Option.TheVariants.{Some, None};
 ghost use Rattle.std.specs.declared.result.Result.TheVariants.{Err};

@@ -1,4 +1,4 @@
-// A source and a sink in memory, with the numbers of the calls that are to fail.
+// A source and a sink in memory, with the numbers of the calls that are to fail, for checks.
 ghost use Rattle.std.specs.Prelude.{◌≡◌, ◌↔◌, ◌⊎◌, ◌+◌, ◌≤◌, ◌<◌, [], min, if◌then◌else◌, true, is_err, length, drop, IfOk, IsErr, OnErr, vec_len, vec_capacity};
 ghost use Rattle.std.specs.declared.option.Option.TheVariants.{Some};
 ghost use Rattle.std.specs.Io.{ReadsAtMost, WritesAtMost};

@@ -29,7 +29,7 @@ fn is_last_behind(rows: &[(Key, Row)], key: &Key) -> bool
     count > 0 && !is_last_before(rows, key)
 }
 
-/// The last row of the one list becomes that of the other. There is room for it.
+/// Moves the last row of the one list to the end of the other. There must be one, and room for it.
 fn move_last(from: &mut Vec<(Key, Row)>, to: &mut Vec<(Key, Row)>)
     requires some { 0 < vec_len from.old }
     requires room { vec_len to.old < vec_capacity to.old }
@@ -47,7 +47,8 @@ fn move_last(from: &mut Vec<(Key, Row)>, to: &mut Vec<(Key, Row)>)
     to.push_reserved(entry);
 }
 
-/// Rows whose keys come before a key move from behind the place before it.
+/// Moves the rows before the place whose keys come before this key, and that stand behind it. There must be room for
+/// them.
 fn gather_before(front: &mut Vec<(Key, Row)>, back: &mut Vec<(Key, Row)>, key: &Key)
     requires room { vec_len front.old + vec_len back.old ≤ vec_capacity front.old }
     ensures rows { joined front.new.items back.new.items ≡ joined front.old.items back.old.items }
@@ -61,7 +62,8 @@ fn gather_before(front: &mut Vec<(Key, Row)>, back: &mut Vec<(Key, Row)>, key: &
     }
 }
 
-/// Rows whose keys don't come before a key move from before the place behind it.
+/// Moves the rows behind the place whose keys don't come before this key, and that stand before it. There must be room
+/// for them.
 fn give_behind(front: &mut Vec<(Key, Row)>, back: &mut Vec<(Key, Row)>, key: &Key)
     requires ordered { in_order (joined front.old.items back.old.items) ≡ true }
     requires next { ends_before back.old.items key.now ≡ false }
@@ -86,7 +88,7 @@ fn is_last_same(rows: &[(Key, Row)], key: &Key) -> bool
     count > 0 && is_same(&rows[count - 1].0, key)
 }
 
-/// The row behind the place leaves, if it is that of a key.
+/// Drops the row just behind the place, if it is that of this key.
 fn drop_same(back: &mut Vec<(Key, Row)>, key: &Key)
     ensures rows { reverse back.new.items ≡ unless_first key.now (reverse back.old.items) }
     ensures len { vec_len back.new ≤ vec_len back.old }
@@ -99,8 +101,8 @@ fn drop_same(back: &mut Vec<(Key, Row)>, key: &Key)
     }
 }
 
-/// Gives a key this row, or takes its row out if there is none; then the rows are parted there. There is room for one
-/// row more.
+/// Gives a key this row, or takes its row out if no row is given. The rows are parted there afterwards. There must be
+/// room for one row more.
 pub fn set(front: &mut Vec<(Key, Row)>, back: &mut Vec<(Key, Row)>, key: Key, row: Option<Row>)
     requires ordered { in_order (joined front.old.items back.old.items) ≡ true }
     requires front_room { vec_len front.old + vec_len back.old < vec_capacity front.old }
@@ -119,7 +121,7 @@ pub fn set(front: &mut Vec<(Key, Row)>, back: &mut Vec<(Key, Row)>, key: Key, ro
     }
 }
 
-/// All rows come before the place. There is room for them.
+/// Moves all rows before the place. There must be room for them.
 pub fn join(front: &mut Vec<(Key, Row)>, back: &mut Vec<(Key, Row)>)
     requires room { vec_len front.old + vec_len back.old ≤ vec_capacity front.old }
     ensures { front.new.items ≡ joined front.old.items back.old.items }

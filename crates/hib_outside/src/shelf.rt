@@ -1,5 +1,5 @@
 // What is done to a shelf, which is rows in order of keys, as a keeper in memory has them: changes, one by one and in
-// batches, and copies. A batch is the changes of a commit.
+// batches, and copies.
 ghost use Rattle.std.specs.Map.{lookup};
 ghost use Rattle.std.specs.Prelude.{◌≡◌, ◌+◌, ◌≤◌, ◌<◌, ℕ, true, length, take, [], if◌then◌else◌, Some, None, IfOk, IfSome, OnOk, OnErr, vec_len, vec_capacity, option_copied};
 ghost use Rattle.hib_base.specs.Keys.{same_key};
@@ -16,7 +16,7 @@ use hib_base::{Change, EntityDef, EntityNo, Key, Row, Rows, Seq, entity_columns}
 use indexmap::IndexMap;
 use std::alloc::{AllocError, Global};
 
-/// The change at the place that a key has, if it has one.
+/// The last change of a key among the first ones of a batch, if it has one there; for `row_after`.
 fn last_change<'a>(
     batch: &'a [Change],
     lasts: &IndexMap<Key, usize>,
@@ -28,7 +28,7 @@ fn last_change<'a>(
     batch.get(*lasts.get(key)?)
 }
 
-/// A key has its last change at this place, so far.
+/// Notes that a key has its last change at this place, so far.
 fn note_last(lasts: &mut IndexMap<Key, usize>, key: Key, at: usize) -> Result<(), AllocError>
     ensures { OnOk result ((k : KeyOf) → lookup (same_key k) lasts.new.entries
         ≡ (if same_key key k then Some at else lookup (same_key k) lasts.old.entries)) }
@@ -37,8 +37,8 @@ fn note_last(lasts: &mut IndexMap<Key, usize>, key: Key, at: usize) -> Result<()
     Ok(())
 }
 
-/// The row that a key would have after the first changes of a batch, to judge the next one. By key, `lasts` has the
-/// place of its last change among them.
+/// The row that a key would have after the first changes of a batch, to judge the next one. `lasts` has for each key
+/// the place of its last change among them.
 fn row_after<'a>(
     rows: &'a [(Key, Row)],
     batch: &'a [Change],
@@ -55,7 +55,7 @@ fn row_after<'a>(
     }
 }
 
-/// The answer to a change that meets this row and doesn't apply; none if it applies.
+/// The answer to a change that doesn't apply to this row; none if it applies.
 fn refused(at: usize, change: &Change, found: Option<&Row>) -> Option<Applied>
     ensures value { result ≡ refused_at at change.now (option_copied found.entry) }
     ensures place { (n : ℕ) → at < n → IfSome result (λ a. IsPlace a n) }
@@ -74,7 +74,7 @@ fn refused(at: usize, change: &Change, found: Option<&Row>) -> Option<Applied>
     }
 }
 
-/// The answer to a change that expects another version than the row has.
+/// The answer to a change that expects another version than the row has; none if it expects this one.
 fn unless_expected(at: usize, expected: Option<u32>, found: Option<u32>) -> Option<Applied>
     ensures value { result ≡ (if same_version expected found then None
         else Some (Applied.Stale at found true)) }
@@ -91,7 +91,7 @@ fn unless_expected(at: usize, expected: Option<u32>, found: Option<u32>) -> Opti
     }
 }
 
-/// What is answered to a batch: the first change that doesn't apply decides.
+/// What is answered to a batch: the first change that doesn't apply decides. The rows stay.
 pub fn judge(alloc: Global, rows: &[(Key, Row)], batch: &[Change]) -> Result<Applied, AllocError>
     requires { in_order rows.now ≡ true }
     ensures value { IfOk result (λ a. a ≡ verdict rows.now batch.now 0) }
@@ -184,7 +184,7 @@ fn is_of(key: &Key, entities: &[EntityNo]) -> bool
     entities.contains(&key.entity)
 }
 
-/// The row that a change leaves, without its change.
+/// The row that a change leaves, taken out of it.
 fn into_row(change: Change) -> Option<Row>
     ensures { result ≡ row_left change }
 {
@@ -194,7 +194,7 @@ fn into_row(change: Change) -> Option<Row>
     }
 }
 
-/// Does a change. There is room for one row more.
+/// Does a change. There must be room for one row more.
 fn change_one(rows: &mut Vec<(Key, Row)>, change: Change)
     requires ordered { in_order rows.old.items ≡ true }
     requires room { vec_len rows.old < vec_capacity rows.old }
@@ -209,7 +209,7 @@ fn change_one(rows: &mut Vec<(Key, Row)>, change: Change)
     }
 }
 
-/// Does changes one after another. There is room for as many rows more.
+/// Does changes one after another. There must be room for as many rows more.
 #[tactic(auto, using(crate::proofs::Commits::after_changes_push, crate::proofs::Orders::in_order_change))]
 pub fn change_all(rows: &mut Vec<(Key, Row)>, changes: Vec<Change>)
     requires ordered { in_order rows.old.items ≡ true }
@@ -221,8 +221,8 @@ pub fn change_all(rows: &mut Vec<(Key, Row)>, changes: Vec<Change>)
     }
 }
 
-/// Whether changes are many beside the number of rows, and their keys rise or fall all along: from one to the next few
-/// rows are passed then.
+/// Whether `sweep` is the quicker way: the changes are many beside the number of rows, and their keys rise or fall all
+/// along. Then few rows are passed from one to the next.
 fn is_sweep(changes: &[Change], rows: usize) -> bool {
     if changes.len() < rows / 8 {
         return false;
@@ -238,8 +238,8 @@ fn is_sweep(changes: &[Change], rows: usize) -> bool {
     rises || falls
 }
 
-/// Does changes one after another, each where the rows were parted for it. There is room for as many rows more, also
-/// behind the place.
+/// Does changes one after another, each where the rows were parted for it. `back` has the rows behind the place. There
+/// must be room for as many rows more, also there.
 #[tactic(auto, using(crate::proofs::Commits::after_changes_push, crate::proofs::Orders::in_order_change))]
 fn sweep(rows: &mut Vec<(Key, Row)>, back: &mut Vec<(Key, Row)>, changes: Vec<Change>)
     requires ordered { in_order rows.old.items ≡ true }
@@ -276,7 +276,7 @@ pub fn change(
     Ok(())
 }
 
-/// Adds a row, unless its key has one. There is room for one row more.
+/// Adds a row, unless its key has one. There must be room for one row more.
 fn add_one(rows: &mut Vec<(Key, Row)>, key: Key, row: Row)
     requires ordered { in_order rows.old.items ≡ true }
     requires room { vec_len rows.old < vec_capacity rows.old }
@@ -290,8 +290,8 @@ fn add_one(rows: &mut Vec<(Key, Row)>, key: Key, row: Row)
     }
 }
 
-/// Adds each row whose key has none, one after another, as a keeper takes the first rows of a script. There is room for
-/// as many rows more.
+/// Adds each row whose key has none, one after another, as a keeper takes the first rows of a script. There must be
+/// room for as many rows more.
 #[tactic(auto, using(crate::proofs::Commits::with_absent_push, crate::proofs::Orders::in_order_unless_there))]
 pub fn add_all(rows: &mut Vec<(Key, Row)>, more: Vec<(Key, Row)>)
     requires ordered { in_order rows.old.items ≡ true }
@@ -303,8 +303,8 @@ pub fn add_all(rows: &mut Vec<(Key, Row)>, more: Vec<(Key, Row)>)
     }
 }
 
-/// Rows with changes done to them one after another, in order of keys. The rows may come in any order; of those of one
-/// key the first counts. At an error the rows are dropped.
+/// Rows in order of keys, with changes done to them one after another. The given rows may come in any order; if a key
+/// has several, its first counts. At an error the rows are dropped.
 #[tactic(auto, using(crate::proofs::Orders::in_order_with_absent, crate::proofs::Orders::in_order_changes))]
 pub fn laid_over(alloc: Global, rows: Rows, changes: &[Change]) -> Result<Rows, AllocError>
     ensures rows { IfOk result (λ r. r ≡ after_changes changes.now (with_absent [] rows)) }

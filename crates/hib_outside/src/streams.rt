@@ -1,4 +1,4 @@
-// A source of bytes and a sink for bytes, each with a count of its faults.
+// What a source of bytes and a sink for bytes are. Each counts its faults.
 ghost use Rattle.std.specs.Prelude.{◌<◌, ℕ, List, length, IfOk};
 ghost use Rattle.std.specs.declared.option.Option.{Option};
 ghost use Rattle.std.specs.Io.{ReadsAtMost, WritesAtMost};

@@ -1,11 +1,11 @@
-// Replies in two copies.
+// A reply goes to two lists, that of its part and that of its session, so it is copied here.
 ghost use Rattle.std.specs.Prelude.{◌≡◌, if◌then◌else◌, true, IfOk, IsOk, Some, None};
 ghost use Rattle.hib_parts.specs.Copied.{is_small};
 
 use hib_base::Reply;
 use std::alloc::{AllocError, Global};
 
-/// An equal reply, if the reply owns no memory.
+/// An equal reply, if the reply owns no memory; else none. So most replies are copied without taking memory.
 fn small_copy(reply: &Reply) -> Option<Reply>
     ensures { result ≡ (if is_small reply.now then Some reply.now else None) }
 {

@@ -1,4 +1,5 @@
-// One entry goes to the list of a part and to that of a session.
+// One entry goes to the list of a part and to that of a session. Every part's `serve` makes room for it first, has its
+// engine answer, and then adds it to both.
 ghost use Rattle.std.specs.Prelude.{◌≡◌, ◌<◌, ◌≤◌, ◌∷◌, true, false, IfOk, IsOk, IsSome, OnOk, OnErr, Some};
 ghost use Rattle.hib_journal.specs.Kept.{past};
 ghost use Rattle.hib_journal.specs.Lists.{entry_at};
@@ -14,8 +15,8 @@ use hib_engines::Name;
 use hib_journal::Journal;
 use std::alloc::{AllocError, Global};
 
-/// The act that is due, twice. Both lists have room for its entry then, and the session is ready for it. The lists stay
-/// as they are.
+/// The act that is due, twice: once for each list. An act must be due. Room is made in both lists for its entry, and
+/// the session is made ready for it. What the lists have stays.
 pub fn prepared<N: Name>(
     alloc: Global,
     script: &Script,
@@ -40,8 +41,8 @@ pub fn prepared<N: Name>(
     Ok((act, twin))
 }
 
-/// Adds the entry of the act that is due to both lists, which have room for it, or to neither. Of a session that is
-/// ready it answers Ok, unless the act brings something to the session.
+/// Adds the entry of the act that is due to both lists, or to neither. Both must have room for it. It answers Ok if the
+/// session is ready, unless the act brings something to the session: then memory may run out.
 pub fn enter_both<N: Name>(
     alloc: Global,
     script: &Script,
@@ -76,8 +77,9 @@ pub fn enter_both<N: Name>(
     Ok(())
 }
 
-/// The same, with the reply once. Of a session that is ready it answers Ok for a reply that owns no memory, unless the
-/// act brings something to the session.
+/// Adds the entry of the act that is due to both lists, or to neither, and copies the reply for that. Both must have
+/// room for it. It answers Ok if the session is ready and the reply owns no memory, unless the act brings something to
+/// the session.
 pub fn enter_answer<N: Name>(
     alloc: Global,
     script: &Script,

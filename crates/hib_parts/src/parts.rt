@@ -1,4 +1,5 @@
-// The parts of a factory, each by itself.
+// The parts of a factory, each by itself. hib_split runs sessions over them, by the caller alone or with a lock for
+// each.
 ghost use Rattle.std.specs.Prelude.{◌≡◌, ◌≤◌, [], true, false, IfOk, IfErr};
 ghost use Rattle.std.specs.List.{All};
 ghost use Rattle.hib_base.specs.Valid.{is_valid};
@@ -34,7 +35,7 @@ pub struct Parts<K: Keeper, N: Name> {
     pub regions: Vec<RegionPart<N>>,
 }
 
-/// A valid script is one that parts take. It does nothing.
+/// Says to proofs that a valid script is one that parts take. It does nothing.
 fn built()
     ensures { (script : Said) → is_valid script ≡ true → IsBuilt script }
 {}

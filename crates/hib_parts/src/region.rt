@@ -1,4 +1,4 @@
-// The region of an entity, with the list of its entries.
+// The region of an entity as a part, with the list of its entries.
 ghost use Rattle.std.specs.Prelude.{◌≡◌, ◌<◌, ◌≤◌, ◌^◌, [], length, OnOk, OnErr};
 ghost use Rattle.hib_base.specs.declared.entries.Part.{Part};
 ghost use Rattle.hib_base.specs.declared.scripts.Strategy.{Strategy};
@@ -43,7 +43,7 @@ impl<N: Name> Model for RegionPart<N> {
 }
 
 impl<N: Name> RegionPart<N> {
-    /// The region of an entity of the script, which holds nothing. It takes no memory.
+    /// The region of an entity of the script, which holds nothing. The entity must be there. It takes no memory.
     pub fn open(alloc: Global, script: &Script, entity: EntityNo) -> RegionPart<N>
         requires script { script.now ≡ N.script }
         requires built { IsBuilt N.script }
@@ -85,7 +85,7 @@ impl<N: Name> RegionPart<N> {
         &self.list
     }
 
-    /// One act of a session: the act that is due in it, which is on this region, is answered at this tick, which is
+    /// One act of a session. The act must be due in it, and on this region. It is answered at this tick, which must be
     /// after the last ticks of both. Its entry goes to both lists. If memory runs out both lists are as before.
     pub fn serve(
         &mut self,
@@ -111,8 +111,9 @@ impl<N: Name> RegionPart<N> {
         Ok(())
     }
 
-    /// A fence of a key of this region: its lock is taken at this tick, which is after the last one, for no session,
-    /// and given back at the next one. Both entries are added, or if memory runs out none is, and nothing has changed.
+    /// A fence of a key of this region: its lock is taken at this tick, which must be after the last one, for no
+    /// session, and given back at the next one. Both entries are added, or if memory runs out none is, and nothing has
+    /// changed. It is there for whoever runs parts at nodes; `nodes` itself stands on the engines.
     pub fn fence(&mut self, key: Key, floor: Tick, now: Tick) -> Result<(), AllocError>
         requires entity { key.entity ≡ self.old.entity }
         requires strategy { strategy N.script key.entity ≡ Strategy.ReadWrite }

@@ -1,4 +1,4 @@
-// Which sessions are open, with the list of its entries.
+// The registry as a part: which sessions are open, with the list of its entries.
 ghost use Rattle.std.specs.Prelude.{◌≡◌, ◌≤◌, ◌^◌, [], OnOk, OnErr, Some};
 ghost use Rattle.hib_base.specs.declared.entries.Act.{Act};
 ghost use Rattle.hib_base.specs.declared.entries.Part.{Part};
@@ -44,7 +44,7 @@ impl<N: Name> Model for RegistryPart<N> {
 }
 
 impl<N: Name> RegistryPart<N> {
-    /// No session is open. It takes no memory.
+    /// The registry in which no session is open. It takes no memory.
     pub fn open(alloc: Global) -> RegistryPart<N>
         requires { IsBuilt N.script }
         ensures { result ≡ [] }
@@ -73,23 +73,23 @@ impl<N: Name> RegistryPart<N> {
         &self.list
     }
 
-    /// The least time of its open sessions; none exactly if none is open.
+    /// The least time of its open sessions, which a fence needs as its floor; none if and only if none is open.
     pub fn least(&self) -> Option<Tick>
         ensures { IsLeast result self.now }
     {
         self.registry.least()
     }
 
-    /// The script is one that parts take. It does nothing.
+    /// Says to proofs that the script is one that parts take. It does nothing.
     pub fn built(&self)
         ensures { IsBuilt N.script }
     {
         let _ = &self.list;
     }
 
-    /// One act of a session: the Begin or the End that is due in it is answered at this tick, which is after the last
-    /// ticks of both. Its entry goes to both lists. A session that is open in the list, by another worker of its
-    /// number, begins anew. If memory runs out both lists are as before.
+    /// One act of a session. A Begin or an End must be due in it. It is answered at this tick, which must be after the
+    /// last ticks of both. Its entry goes to both lists. If a session is open in the list already, by another worker of
+    /// its number, it begins anew. If memory runs out both lists are as before.
     pub fn serve(
         &mut self,
         alloc: Global,
@@ -113,7 +113,7 @@ impl<N: Name> RegistryPart<N> {
         }
     }
 
-    /// The End of a session, with its own reply.
+    /// The End of a session, with the session's own reply; for `serve`.
     fn end(
         &mut self,
         alloc: Global,
@@ -139,7 +139,7 @@ impl<N: Name> RegistryPart<N> {
         Ok(())
     }
 
-    /// The Begin of a session.
+    /// The Begin of a session, which the registry answers; for `serve`.
     fn begin(
         &mut self,
         alloc: Global,

@@ -1,4 +1,4 @@
-// The results of queries, with the list of their entries.
+// The kept results of queries as a part, with the list of their entries.
 ghost use Rattle.std.specs.Prelude.{◌≡◌, ◌≤◌, ◌^◌, ℕ, Option, [], true, IfOk, OnOk, OnErr, unwrap_or};
 ghost use Rattle.std.specs.Option.{option_map_or};
 ghost use Rattle.hib_base.specs.declared.entries.Part.{Part};
@@ -22,8 +22,8 @@ use hib_query_cache::Results;
 use std::alloc::{AllocError, Global};
 use std::marker::{Model, PhantomData};
 
-/// The results of queries, with the list of their entries, which is legal by itself. They are kept here and not in
-/// their engine: a look changes the order of use, so its reply has to be there for both lists before that.
+/// The results of queries, with the list of their entries, which is legal by itself. They stand here without their
+/// engine of hib_engines: a look changes the order of use, so both copies of its reply must be there before it.
 #[derive(Drop)]
 pub struct ResultsPart<N: Name> {
     results: Results,
@@ -49,7 +49,7 @@ impl<N: Name> Model for ResultsPart<N> {
         × AreResults N.script (past p.list) p.results };
 }
 
-/// What a look is answered.
+/// The reply to a look for a query's result. The order of use stays.
 fn found_reply(alloc: Global, results: &Results, query: QueryNo) -> Result<Reply, AllocError>
     ensures { IfOk result (λ r. r ≡ option_map_or (λ k. Reply.Found k.0 k.1)
         (result_of query results.now.kept) Reply.Absent) }
@@ -63,14 +63,14 @@ fn found_reply(alloc: Global, results: &Results, query: QueryNo) -> Result<Reply
     }
 }
 
-/// A query's result is the most recently used one now, if it is kept.
+/// Makes a query's result the most recently used one, if it is kept.
 fn use_result(results: &mut Results, query: QueryNo)
     ensures { results.new ≡ record results.old { kept = used query results.old.kept } }
 {
     let _ = results.look(query);
 }
 
-/// A look for a kept result, with its reply twice: for the list of the part and for that of the session.
+/// Looks for a kept result. The reply comes twice: for the list of the part and for that of the session.
 fn look_twice(
     alloc: Global,
     results: &mut Results,
@@ -90,14 +90,14 @@ fn look_twice(
     Ok((reply, twin))
 }
 
-/// What a keep is answered.
+/// The reply to a keep; `dropped` is the query whose result left for it.
 fn kept_reply(dropped: &Option<QueryNo>) -> Reply
     ensures { result ≡ Reply.Kept dropped.now }
 {
     Reply::Kept { dropped: *dropped }
 }
 
-/// A keep, with its reply twice.
+/// Keeps a result. The reply comes twice.
 fn keep_twice(
     alloc: Global,
     results: &mut Results,
@@ -116,7 +116,7 @@ fn keep_twice(
     Ok((kept_reply(&dropped), kept_reply(&dropped)))
 }
 
-/// Answers an act that is asked of the results, with its reply twice. At an error nothing has changed.
+/// Answers an act that is asked of the results. The reply comes twice. At an error nothing has changed.
 fn answer_twice(
     alloc: Global,
     results: &mut Results,
@@ -139,7 +139,7 @@ fn answer_twice(
 }
 
 impl<N: Name> ResultsPart<N> {
-    /// No result is kept.
+    /// The part in which no result is kept.
     pub fn open(alloc: Global, script: &Script) -> Result<ResultsPart<N>, AllocError>
         requires script { script.now ≡ N.script }
         requires built { IsBuilt N.script }
@@ -171,7 +171,7 @@ impl<N: Name> ResultsPart<N> {
         &self.list
     }
 
-    /// One act of a session: the act that is due in it, which is on the results, is answered at this tick, which is
+    /// One act of a session. The act must be due in it, and on the results. It is answered at this tick, which must be
     /// after the last ticks of both. Its entry goes to both lists. If memory runs out both lists are as before.
     pub fn serve(
         &mut self,

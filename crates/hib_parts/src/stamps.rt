@@ -1,4 +1,4 @@
-// The stamps of tables, with the list of their entries.
+// The stamps of tables as a part, with the list of their entries.
 ghost use Rattle.std.specs.Prelude.{◌≡◌, ◌≤◌, ◌^◌, [], IfOk, OnOk, OnErr};
 ghost use Rattle.hib_base.specs.declared.entries.Part.{Part};
 ghost use Rattle.hib_journal.specs.Kept.{past};
@@ -41,7 +41,7 @@ impl<N: Name> Model for StampsPart<N> {
 }
 
 impl<N: Name> StampsPart<N> {
-    /// No table has a stamp.
+    /// The part in which no table has a stamp.
     pub fn open(alloc: Global, script: &Script) -> Result<StampsPart<N>, AllocError>
         requires script { script.now ≡ N.script }
         requires built { IsBuilt N.script }
@@ -73,7 +73,7 @@ impl<N: Name> StampsPart<N> {
         &self.list
     }
 
-    /// One act of a session: the act that is due in it, which is on the stamps, is answered at this tick, which is
+    /// One act of a session. The act must be due in it, and on the stamps. It is answered at this tick, which must be
     /// after the last ticks of both. Its entry goes to both lists. If memory runs out both lists are as before.
     pub fn serve(
         &mut self,

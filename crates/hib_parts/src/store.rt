@@ -1,4 +1,4 @@
-// The store, with the list of its entries.
+// The store as a part, with the list of its entries.
 ghost use Rattle.std.specs.Prelude.{◌≡◌, ◌≤◌, ◌^◌, [], ◌∷◌, true, false, IfOk, IfErr, OnOk, OnErr};
 ghost use Rattle.std.specs.Option.{option_map};
 ghost use Rattle.hib_base.specs.declared.entries.Entry.{Entry};
@@ -31,7 +31,7 @@ pub struct StorePart<K: Keeper, N: Name> {
     store: StoreEngine<K>,
     last: Tick,
     list: Journal,
-    /// Whether memory ran out in a call.
+    /// Whether memory ran out in a call of `serve`.
     refused: bool,
     of: PhantomData<N>,
 }
@@ -58,7 +58,8 @@ impl<K: Keeper, N: Name> Model for StorePart<K, N> {
         × IsKeeping N.from (past p.list) p.store p.refused };
 }
 
-/// One act of a session on the store: its entry goes to both lists, or if memory runs out to neither.
+/// One act of a session on the store: its entry goes to both lists, or if memory runs out to neither. It is what
+/// `serve` does, before that notes whether memory ran out.
 fn serve_store<K: Keeper, N: Name>(
     alloc: Global,
     script: &Script,
@@ -142,9 +143,9 @@ impl<K: Keeper, N: Name> StorePart<K, N> {
         self.refused
     }
 
-    /// One act of a session: the act that is due in it, which is on the store, is answered at this tick, which is after
-    /// the last ticks of both. Its entry goes to both lists, with a fault only if the keeper failed. If memory runs out
-    /// both lists are as before, the keeper was asked once at most, and `refused` says so from then on.
+    /// One act of a session. The act must be due in it, and on the store. It is answered at this tick, which must be
+    /// after the last ticks of both. Its entry goes to both lists, with a fault only if the keeper failed. If memory
+    /// runs out both lists are as before, the keeper was asked once at most, and `refused` says so from then on.
     pub fn serve(
         &mut self,
         alloc: Global,
@@ -178,8 +179,9 @@ impl<K: Keeper, N: Name> StorePart<K, N> {
         }
     }
 
-    /// The keeper, and the entries, which are legal by themselves. What the keeper tells is what the entries leave, it
-    /// has failed as often as they say, and unless memory ran out in a call it was asked no more often than they say.
+    /// Takes the part apart: the keeper, and the entries, which are legal by themselves. What the keeper tells is what
+    /// the entries leave. It has failed as often as they say. Unless memory ran out in a call, it was asked no more
+    /// often than they say.
     pub fn close(self) -> (K, Journal)
         ensures list { past result.1 ≡ self.list }
         ensures legal { IsPartLegal N.script N.from.tables (past result.1) }

@@ -1,4 +1,5 @@
-// The steps of one session after the other, with no thread and no lock.
+// A step of a session over the parts: on each of them by itself, as hib_split makes it under the lock of the part; or
+// over all of them, as a caller alone does without a lock.
 ghost use Rattle.std.specs.Prelude.{◌≡◌, ◌<◌, ◌≤◌, ◌^◌, None, Ok, Some, IfOk, IfSome, OnOk, OnErr, [], ◌∷◌, true, length, slice_get};
 ghost use Rattle.hib_base.specs.declared.entries.Entry.{Entry};
 ghost use Rattle.hib_base.specs.declared.entries.Part.{Part};
@@ -23,8 +24,8 @@ use hib_journal::part_of;
 use hib_outside::Keeper;
 use std::alloc::{AllocError, Global};
 
-/// The tick of a step: one more than the greater of the last ticks of its part and of its session. If there is none
-/// after that, want of memory is answered: no memory holds as many entries as that.
+/// The tick of a step: one more than the greater of the last ticks of its part and of its session. If no tick comes
+/// after these, it fails as if memory had run out: no memory holds as many entries as that.
 fn tick_of(part: Tick, session: Tick) -> Result<Tick, AllocError>
     requires part { part ≤ 2 ^ 62 }
     requires session { session ≤ 2 ^ 62 }
@@ -37,9 +38,8 @@ fn tick_of(part: Tick, session: Tick) -> Result<Tick, AllocError>
     }
 }
 
-/// One act of a session on the registry: the act that is due in it is answered at the tick that is due, one more than
-/// the greater of the last ticks of both, and its entry goes to both lists. If memory runs out, or no tick is left,
-/// both lists are as before.
+/// One act of a session on the registry. It must be due in it. It is answered at the tick that is due, and its entry
+/// goes to both lists. If memory runs out, or no tick is left, both lists are as before.
 pub fn step_registry<N: Name>(
     alloc: Global,
     script: &Script,
@@ -59,7 +59,8 @@ pub fn step_registry<N: Name>(
     Ok(())
 }
 
-/// The same on the store. At an error the keeper may have been asked all the same.
+/// One act of a session on the store, which must be due in it, at the tick that is due; its entry goes to both lists.
+/// At an error both lists are as before, though the keeper may have been asked.
 pub fn step_store<K: Keeper, N: Name>(
     alloc: Global,
     script: &Script,
@@ -83,7 +84,8 @@ pub fn step_store<K: Keeper, N: Name>(
     Ok(())
 }
 
-/// The same on the stamps.
+/// One act of a session on the stamps, which must be due in it, at the tick that is due; its entry goes to both lists.
+/// At an error both lists are as before.
 pub fn step_stamps<N: Name>(
     alloc: Global,
     script: &Script,
@@ -103,7 +105,8 @@ pub fn step_stamps<N: Name>(
     Ok(())
 }
 
-/// The same on the results.
+/// One act of a session on the kept results, which must be due in it, at the tick that is due; its entry goes to both
+/// lists. At an error both lists are as before.
 pub fn step_results<N: Name>(
     alloc: Global,
     script: &Script,
@@ -123,7 +126,8 @@ pub fn step_results<N: Name>(
     Ok(())
 }
 
-/// The same on this region.
+/// One act of a session on this region, which must be due in it, at the tick that is due; its entry goes to both lists.
+/// At an error both lists are as before.
 pub fn step_region<N: Name>(
     alloc: Global,
     script: &Script,
@@ -145,8 +149,8 @@ pub fn step_region<N: Name>(
     Ok(())
 }
 
-/// One act of a session that is its own: the session answers it at the tick after its last one. At an error its list is
-/// as before.
+/// One act of a session that it answers itself, at the tick after its last one. It must be due in it. At an error its
+/// list is as before.
 pub fn step_own<N: Name>(
     alloc: Global,
     script: &Script,
@@ -165,7 +169,7 @@ pub fn step_own<N: Name>(
     Ok(())
 }
 
-/// The place of an entity's region, the first one if there are more, or none.
+/// The place of an entity's region in the list of regions, or none.
 fn place_of<N: Name>(regions: &[RegionPart<N>], entity: EntityNo) -> Option<usize>
     ensures there { IfSome result (λ i. i < length regions.now) }
     ensures entity { IfSome result (λ i. (x : RegionState) → slice_get regions.now i ≡ Some x
@@ -180,7 +184,7 @@ fn place_of<N: Name>(regions: &[RegionPart<N>], entity: EntityNo) -> Option<usiz
     None
 }
 
-/// One act of a session on the region of this entity.
+/// One act of a session, which must be due on the region of this entity; for `step_on`.
 fn step_regions<N: Name>(
     alloc: Global,
     script: &Script,
@@ -206,7 +210,7 @@ fn step_regions<N: Name>(
 }
 
 impl<K: Keeper, N: Name> Parts<K, N> {
-    /// The act that is due in a session, which is on this part, is answered, at the tick that is due.
+    /// Answers the act that is due in a session, at the tick that is due. It must be on this part.
     fn step_on(
         &mut self,
         alloc: Global,
@@ -236,9 +240,9 @@ impl<K: Keeper, N: Name> Parts<K, N> {
         }
     }
 
-    /// One step of a session, which is made ready first: the act that is due in it, if one is, at the tick that is due.
-    /// If memory runs out no list has an entry more. The lists of parts and of sessions are those of one journal, if
-    /// they were before; and if sessions came one after the other in it, they still do.
+    /// One step of a session: the act that is due in it, if one is, at the tick that is due. The session is made ready
+    /// first. If memory runs out no list has an entry more. If the lists of parts and of sessions were those of one
+    /// journal before, they still are; and if sessions came one after the other in it, they still do.
     pub fn step(
         &mut self,
         alloc: Global,
@@ -266,8 +270,9 @@ impl<K: Keeper, N: Name> Parts<K, N> {
         Ok(Stepped::Did)
     }
 
-    /// Steps a session to its end. If memory runs out the steps so far stand. Else the lists of parts and of sessions
-    /// are those of one journal, if they were before; and if sessions came one after the other in it, they still do.
+    /// Steps a session to its end. If memory runs out the steps so far stand. Else, if the lists of parts and of
+    /// sessions were those of one journal before, they still are; and if sessions came one after the other in it, they
+    /// still do.
     pub fn finish(
         &mut self,
         alloc: Global,

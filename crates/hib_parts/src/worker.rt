@@ -1,4 +1,4 @@
-// A session with the list of its own entries.
+// A session with the list of its own entries, which a thread, or the caller alone, steps over the parts.
 ghost use Rattle.std.specs.Prelude.{◌≡◌, ◌+◌, ◌<◌, ◌≤◌, ◌^◌, [], ◌∷◌, Some, true, false, IfOk, IfSome, IsSome, IsOk, OnOk, OnErr};
 ghost use Rattle.std.specs.Option.{option_map};
 ghost use Rattle.hib_base.specs.declared.entries.Part.{Part};
@@ -18,7 +18,7 @@ use hib_session::Session;
 use std::alloc::{AllocError, Global};
 use std::marker::{Model, PhantomData};
 
-/// Adds an entry to a list that has room for it. It takes no memory.
+/// Adds an entry to a list, which must have room for it. It takes no memory.
 pub fn add(list: &mut Journal, entry: Entry)
     requires { 0 < list.old.spare }
     ensures past { past list.new ≡ entry ∷ past list.old }
@@ -106,7 +106,7 @@ impl<N: Name> Worker<N> {
         &self.list
     }
 
-    /// Its entries are its own, and legal by themselves. It does nothing.
+    /// Says to proofs that its entries are its own, and legal by themselves. It does nothing.
     pub(crate) fn legal(&self)
         ensures legal { IsOwnLegal N.script self.now.number self.now.list }
         ensures by { AreBy self.now.number self.now.list }
@@ -124,7 +124,7 @@ impl<N: Name> Worker<N> {
         Ok(act)
     }
 
-    /// The part that the act is on which is due; none exactly if none is, after the last end of the session.
+    /// The part that the due act is on. None if no act is due, which is so only at the end of the session.
     pub fn part(&self, alloc: Global, script: &Script) -> Result<Option<Part>, AllocError>
         requires { script.now ≡ N.script }
         ensures { IfOk result (λ p. p ≡ option_map (λ a. Legal.part_of a self.now.number)
@@ -136,7 +136,7 @@ impl<N: Name> Worker<N> {
         }
     }
 
-    /// The act that is due, if there is one.
+    /// The act that is due. There must be one.
     pub fn due(&self, alloc: Global, script: &Script) -> Result<Act, AllocError>
         requires script { script.now ≡ N.script }
         requires due { IsSome (next N.script self.now.number self.now.list) }
@@ -162,8 +162,8 @@ impl<N: Name> Worker<N> {
         Ok(reply)
     }
 
-    /// Makes the session ready for its next act, with room for one more entry. Then `enter` takes memory for an entry
-    /// alone that brings something to the session. Its entries stay as they are.
+    /// Makes the session ready for its next act, with room for one more entry. After that `enter` takes memory only for
+    /// an entry that brings something to the session. Its entries stay as they are.
     pub fn ready(&mut self, alloc: Global, script: &Script) -> Result<(), AllocError>
         requires { script.now ≡ N.script }
         ensures kept { IsKept self.old self.new }
@@ -176,8 +176,8 @@ impl<N: Name> Worker<N> {
         Ok(())
     }
 
-    /// Takes the entry of the act that is due, for which there is room. Of a session that is ready it answers Ok,
-    /// unless the act brings something to the session. At an error its entries are as before.
+    /// Takes the entry of the act that is due. There must be room for it. It answers Ok if the session is ready, unless
+    /// the act brings something to the session. At an error its entries are as before.
     pub fn enter(&mut self, alloc: Global, script: &Script, entry: Entry) -> Result<(), AllocError>
         requires script { script.now ≡ N.script }
         requires room { 0 < self.old.spare }
@@ -194,7 +194,8 @@ impl<N: Name> Worker<N> {
         Ok(())
     }
 
-    /// Takes the entry of the act that is due. If memory runs out its entries are as before.
+    /// Makes ready, and takes the entry, which must be that of the act that is due. If memory runs out its entries are
+    /// as before.
     pub fn take(&mut self, alloc: Global, script: &Script, entry: Entry) -> Result<(), AllocError>
         requires script { script.now ≡ N.script }
         requires due { IsDueEntry N.script self.old.number self.old.list entry }
@@ -207,7 +208,7 @@ impl<N: Name> Worker<N> {
         self.enter(alloc, script, entry)
     }
 
-    /// The session's own reply to an act of its own.
+    /// The session's own reply to an act, which must be its own.
     fn own_answer(&self, alloc: Global, script: &Script, act: &Act) -> Result<Reply, AllocError>
         requires script { script.now ≡ N.script }
         requires own { Legal.part_of act.now self.now.number ≡ Part.Own self.now.number }
@@ -220,8 +221,8 @@ impl<N: Name> Worker<N> {
         }
     }
 
-    /// The act that is due, which is the session's own, is answered by the session at this tick, which is after its
-    /// last one. If memory runs out its entries are as before.
+    /// Does the act that is due, which must be the session's own. The session answers it at this tick, which must be
+    /// after its last one. If memory runs out its entries are as before.
     pub fn own(&mut self, alloc: Global, script: &Script, now: Tick) -> Result<(), AllocError>
         requires script { script.now ≡ N.script }
         requires due { IsDueOn N.script (Part.Own self.old.number) self.old }
@@ -238,7 +239,7 @@ impl<N: Name> Worker<N> {
         Ok(())
     }
 
-    /// The entries of the session, which are legal by themselves.
+    /// Takes the worker apart: the number of the session, and its entries, which are legal by themselves.
     pub fn close(self) -> (SessionNo, Journal)
         ensures number { result.0 ≡ self.number }
         ensures list { past result.1 ≡ self.list }

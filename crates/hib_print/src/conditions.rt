@@ -1,4 +1,4 @@
-// The conditions of queries, in tokens.
+// The conditions of queries, in tokens, as `queries` prints them. `print_...` adds to the printer's text.
 ghost use Rattle.std.specs.Prelude.{◌≡◌, [], ◌∷◌, OnOk};
 ghost use Rattle.hib_lex.specs.declared.lexer.Token.{Token};
 ghost use Rattle.hib_print.specs.Lines.{op_text, subject, condition_tokens};
@@ -37,7 +37,7 @@ fn print_subject(
     }
 }
 
-// What a condition begins with, up to the column that it tests.
+// Adds what a condition begins with that tests a column, up to the column.
 fn print_test(
     printer: &mut Printer,
     script: &Script,
@@ -86,7 +86,7 @@ fn print_among(
     printer.right()
 }
 
-// What a condition that joins others begins with.
+// Adds what a condition that joins others begins with.
 fn print_joint(printer: &mut Printer, word: &[u8]) -> Result<(), AllocError>
     ensures { OnOk result (Adds printer.old printer.new (Token.Left ∷ Token.Word word.now ∷ [])) }
 {
@@ -94,7 +94,7 @@ fn print_joint(printer: &mut Printer, word: &[u8]) -> Result<(), AllocError>
     printer.word(word)
 }
 
-/// The tokens of a condition, of a query over an entity.
+/// Adds the tokens of a condition. Its query is over this entity.
 pub fn print_condition(
     alloc: Global,
     printer: &mut Printer,

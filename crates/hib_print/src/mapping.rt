@@ -1,4 +1,4 @@
-// The lines of entities and of rows.
+// The lines of entities and of first rows, as `script` prints them. `print_...` adds to the printer's text.
 ghost use Rattle.std.specs.Prelude.{◌≡◌, [], ◌∷◌, map, flat_map, OnOk};
 ghost use Rattle.hib_print.specs.Lines.{strategy_text, versioning_text, type_tokens, default_tokens, column_line, entity_line, entity_lines, version_tokens, row_line};
 ghost use Rattle.hib_print.specs.Steps.{Adds, AddsLines};
@@ -95,7 +95,7 @@ fn print_columns(
     Ok(())
 }
 
-/// The lines of each entity, and of its columns.
+/// Adds the lines of each entity, and of its columns.
 pub fn print_mapping(
     alloc: Global,
     printer: &mut Printer,
@@ -138,7 +138,7 @@ fn print_row(
     printer.end_line()
 }
 
-/// The lines of the first rows.
+/// Adds the lines of the first rows.
 pub fn print_rows(alloc: Global, printer: &mut Printer, script: &Script) -> Result<(), AllocError>
     ensures { OnOk result (AddsLines printer.old printer.new
         (map (λ x. row_line script.now x) script.now.rows)) }

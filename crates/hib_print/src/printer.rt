@@ -1,4 +1,4 @@
-// Tokens, appended to a text with a space if one stands between them.
+// The printer of scripts: tokens are appended to a text, with a space if one stands between them.
 ghost use Rattle.std.specs.Prelude.{◌≡◌, ◌+◌, ◌++◌, [], ◌∷◌, OnOk, if◌then◌else◌, true, false, codes, Some};
 ghost use Rattle.hib_lex.specs.declared.lexer.Token.{Token};
 ghost use Rattle.hib_print.specs.Lines.{natural, cell_token, cell_tokens, key_tokens};
@@ -19,7 +19,7 @@ pub struct Printer {
 }
 
 impl Printer {
-    /// No text, and the first line begins.
+    /// The printer without text, at the beginning of the first line.
     pub fn new(alloc: Global) -> Self
         ensures text { result.text.items ≡ [] }
         ensures glued { result.glued ≡ true }
@@ -30,7 +30,7 @@ impl Printer {
         }
     }
 
-    // The space before a token that isn't a closing parenthesis.
+    // Adds the space before a token that isn't a closing parenthesis.
     fn space(&mut self) -> Result<(), AllocError>
         ensures text { OnOk result (self.new.text.items
             ≡ self.old.text.items ++ (if self.old.glued then [] else codes " ")) }
@@ -43,7 +43,7 @@ impl Printer {
         Ok(())
     }
 
-    /// A word.
+    /// Adds a word.
     pub fn word(&mut self, word: &[u8]) -> Result<(), AllocError>
         ensures { OnOk result (Adds self.old self.new (Token.Word word.now ∷ [])) }
     {
@@ -51,7 +51,7 @@ impl Printer {
         self.text.extend_from_slice(word)
     }
 
-    /// Two words that a dot joins.
+    /// Adds two words that a dot joins.
     pub fn path(&mut self, first: &[u8], second: &[u8]) -> Result<(), AllocError>
         ensures { OnOk result (Adds self.old self.new (Token.Path first.now second.now ∷ [])) }
     {
@@ -61,7 +61,7 @@ impl Printer {
         self.text.extend_from_slice(second)
     }
 
-    /// A number.
+    /// Adds a number.
     pub fn natural(&mut self, alloc: Global, n: u64) -> Result<(), AllocError>
         ensures { OnOk result (Adds self.old self.new (natural n ∷ [])) }
     {
@@ -76,7 +76,7 @@ impl Printer {
         put_signed(alloc, &mut self.text, n)
     }
 
-    /// The version of a row, as a word.
+    /// Adds the version of a row, as a word.
     pub fn version(&mut self, alloc: Global, version: u32) -> Result<(), AllocError>
         ensures { OnOk result (Adds self.old self.new
             (Token.Word (version_text (Some version)) ∷ [])) }
@@ -92,7 +92,7 @@ impl Printer {
         put_text(&mut self.text, bytes)
     }
 
-    /// An opening parenthesis.
+    /// Adds an opening parenthesis.
     pub fn left(&mut self) -> Result<(), AllocError>
         ensures { OnOk result (Adds self.old self.new (Token.Left ∷ [])) }
     {
@@ -102,7 +102,7 @@ impl Printer {
         Ok(())
     }
 
-    /// A closing parenthesis.
+    /// Adds a closing parenthesis.
     pub fn right(&mut self) -> Result<(), AllocError>
         ensures { OnOk result (Adds self.old self.new (Token.Right ∷ [])) }
     {
@@ -111,7 +111,7 @@ impl Printer {
         Ok(())
     }
 
-    /// The end of a line.
+    /// Adds the end of a line.
     pub fn end_line(&mut self) -> Result<(), AllocError>
         ensures text { OnOk result (self.new.text.items ≡ self.old.text.items ++ codes "\n") }
         ensures glued { OnOk result (self.new.glued ≡ true) }
@@ -121,7 +121,7 @@ impl Printer {
         Ok(())
     }
 
-    /// A cell.
+    /// Adds a cell.
     pub fn cell(&mut self, alloc: Global, cell: &Cell) -> Result<(), AllocError>
         ensures { OnOk result (Adds self.old self.new (cell_token cell.now ∷ [])) }
     {
@@ -133,7 +133,7 @@ impl Printer {
         }
     }
 
-    /// Cells, in order.
+    /// Adds cells, in order.
     pub fn cells(&mut self, alloc: Global, cells: &[Cell]) -> Result<(), AllocError>
         ensures { OnOk result (Adds self.old self.new (cell_tokens cells.now)) }
     {
@@ -143,7 +143,7 @@ impl Printer {
         Ok(())
     }
 
-    /// A word, and the key that it is about.
+    /// Adds a word, and the key that it is about.
     pub fn keyed(
         &mut self,
         alloc: Global,
@@ -159,7 +159,7 @@ impl Printer {
         self.natural(alloc, key.id)
     }
 
-    /// A word, and what it is about.
+    /// Adds a word, and the name that it is about.
     pub fn words(&mut self, word: &[u8], name: &[u8]) -> Result<(), AllocError>
         ensures { OnOk result (Adds self.old self.new
             (Token.Word word.now ∷ Token.Word name.now ∷ [])) }
@@ -168,7 +168,7 @@ impl Printer {
         self.word(name)
     }
 
-    /// A word, and a number.
+    /// Adds a word, and a number.
     pub fn counted(&mut self, alloc: Global, word: &[u8], n: u64) -> Result<(), AllocError>
         ensures { OnOk result (Adds self.old self.new (Token.Word word.now ∷ natural n ∷ [])) }
     {
@@ -176,7 +176,7 @@ impl Printer {
         self.natural(alloc, n)
     }
 
-    /// A line of one word.
+    /// Adds a line of one word.
     pub fn word_line(&mut self, word: &[u8]) -> Result<(), AllocError>
         ensures { OnOk result (AddsLines self.old self.new ((Token.Word word.now ∷ []) ∷ [])) }
     {

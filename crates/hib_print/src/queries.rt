@@ -1,4 +1,4 @@
-// The lines of queries.
+// The lines of queries, as `script` prints them. `print_...` adds to the printer's text.
 ghost use Rattle.std.specs.Prelude.{◌≡◌, [], ◌∷◌, ◌++◌, map, flat_map, OnOk};
 ghost use Rattle.hib_print.specs.Lines.{cached_tokens, from_tokens, where_tokens, sort_tokens, order_tokens, page_tokens, selected, query_line};
 ghost use Rattle.hib_print.specs.Steps.{Adds, AddsLines};
@@ -9,7 +9,7 @@ use hib_base::{Cond, EntityNo, Query, Script, Select, Sort};
 use hib_texts::{column_name, entity_name};
 use std::alloc::{AllocError, Global};
 
-// Where it reads from.
+// Adds which entity a query reads, and whether its results are kept.
 fn print_from(
     printer: &mut Printer,
     script: &Script,
@@ -136,7 +136,7 @@ fn print_query(
     printer.end_line()
 }
 
-/// The lines of the queries.
+/// Adds the lines of the queries.
 pub fn print_queries(
     alloc: Global,
     printer: &mut Printer,

@@ -1,4 +1,4 @@
-// The text of a script.
+// The text of a script, as `make --text` and the tools print it.
 ghost use Rattle.std.specs.Prelude.{◌≡◌, ◌∷◌, [], IfOk, OnOk};
 ghost use Rattle.hib_print.specs.Lines.{natural};
 ghost use Rattle.hib_print.specs.Printed.{head_lines, printed, printed_rows};
@@ -12,7 +12,7 @@ use crate::sessions::{print_schedule, print_sessions};
 use hib_base::{Bytes, Script, Seq};
 use std::alloc::{AllocError, Global};
 
-// A word, and a number.
+// Adds a line of a word and a number.
 fn print_counted(
     alloc: Global,
     printer: &mut Printer,

@@ -1,4 +1,4 @@
-// The lines of sessions and of the schedule.
+// The lines of sessions and of the schedule, as `script` prints them. `print_...` adds to the printer's text.
 ghost use Rattle.std.specs.Prelude.{◌≡◌, List, map, flat_map, OnOk};
 ghost use Rattle.hib_print.specs.Lines.{set_tokens, mode_text, statement_line, end_line, session_lines, order_line, schedule_lines};
 ghost use Rattle.hib_print.specs.Steps.{Adds, AddsLines};
@@ -124,7 +124,7 @@ fn print_session(
     printer.word_line(b"end")
 }
 
-/// The lines of the sessions.
+/// Adds the lines of the sessions.
 pub fn print_sessions(
     alloc: Global,
     printer: &mut Printer,
@@ -174,7 +174,7 @@ fn print_orders(
     Ok(())
 }
 
-/// The lines of the schedule, if it has orders.
+/// Adds the lines of the schedule, if it has orders.
 pub fn print_schedule(
     alloc: Global,
     printer: &mut Printer,

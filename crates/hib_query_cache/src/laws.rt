@@ -1,4 +1,4 @@
-// Results that stand for a journal.
+// What kept results that stand for a journal promise; for proofs. These functions do nothing.
 ghost use Rattle.std.specs.Prelude.{◌≡◌, ◌<◌, ℕ, [], ◌∷◌, false};
 ghost use Rattle.hib_journal.specs.Types.{Part, Entry};
 ghost use Rattle.hib_journal.specs.Sessions.{Journal, is_restart, same_part};

@@ -1,4 +1,4 @@
-// The kept results of queries.
+// The kept results of queries, for their engine in hib_engines.
 ghost use Rattle.std.specs.Prelude.{◌≡◌, ◌<◌, [], IfOk, OnOk, OnErr};
 ghost use Rattle.std.specs.Option.{option_map};
 ghost use Rattle.std.specs.Borrow.{sem};
@@ -27,7 +27,7 @@ impl Model for Results {
 }
 
 impl Results {
-    /// No result is kept. The capacity is at least 1. Fails for want of memory alone.
+    /// The results before any is kept. The capacity must be at least 1. Fails for want of memory alone.
     pub fn open(alloc: Global, capacity: u32) -> Result<Results, AllocError>
         requires { 0 < capacity }
         ensures { IfOk result (λ r. r ≡ record { capacity = capacity; kept = [] }) }
@@ -38,7 +38,7 @@ impl Results {
         })
     }
 
-    /// The time and the list that are kept of a query, or none. If one is kept, it is the most recently used now.
+    /// The time and the list that are kept of a query, or none. If one is kept, it becomes the most recently used.
     pub fn look(&mut self, query: QueryNo) -> Option<(&Tick, &Listing)>
         ensures* order { sem 𝓛 (EndsAs self.entry
             (record self.old { kept = used query self.old.kept })) }
@@ -79,7 +79,7 @@ impl Results {
         Ok(out.map(|pair| QueryNo(pair.0)))
     }
 
-    /// No result is kept any more.
+    /// Drops all results.
     pub fn clear(&mut self)
         ensures { self.new ≡ record self.old { kept = [] } }
     {

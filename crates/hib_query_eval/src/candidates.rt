@@ -1,4 +1,4 @@
-// Which rows may meet a condition, by the places of cells.
+// Which rows may meet a condition, found by the places of cells and not by a look at each row.
 ghost use Rattle.std.specs.Prelude.{◌≡◌, ◌⊎◌, ℕ, ◌<◌, ◌^◌, ◌++◌, true, false, Some, IfOk, IfSome, OnOk, MatchOption};
 ghost use Rattle.std.specs.List.{list_any};
 ghost use Rattle.std.specs.Ordering.{is_le, is_lt};
@@ -16,7 +16,7 @@ use hib_base::{Cell, Cond, EntityNo, Op, Path};
 use std::alloc::{AllocError, Global};
 use std::collections::BTreeSet;
 
-/// The first value of the types above a cell's.
+/// The first value of the types that are ordered above a cell's.
 fn above_kind(alloc: Global, cell: &Cell) -> Value
     ensures { (v : ValueSpec) → kind (Some cell.now) < kind (cell_in v)
         → is_le (value_cmp result v) ≡ true }
@@ -28,7 +28,7 @@ fn above_kind(alloc: Global, cell: &Cell) -> Value
     }
 }
 
-/// A value that is above all of the types below a cell's.
+/// A value that is above all of the types that are ordered below a cell's.
 fn below_kind(alloc: Global, cell: &Cell) -> Value
     ensures { (v : ValueSpec) → 0 < kind (cell_in v) → kind (cell_in v) < kind (Some cell.now)
         → is_lt (value_cmp result v) ≡ false }
@@ -130,8 +130,8 @@ fn add_not_below(
     places::add_between(places, Value::Least, last, ids)
 }
 
-/// The identifiers of the rows whose cell stands to a cell as a comparison says, and perhaps of others. None if
-/// an index doesn't narrow the comparison.
+/// The identifiers of the rows whose cell in a column compares so with this cell, and perhaps of others. None if an
+/// index doesn't narrow the comparison.
 fn compared(
     alloc: Global,
     places: &BTreeSet<Place>,
@@ -167,7 +167,8 @@ fn among(alloc: Global, places: &BTreeSet<Place>, cells: &[Cell]) -> Result<Vec<
     Ok(ids)
 }
 
-/// The shorter list, if there are two; else the one that there is.
+/// The shorter list, if there are two; else the one that there is. Of two conditions that must both hold, one list is
+/// enough.
 fn shorter(first: Option<Vec<u64>>, second: Option<Vec<u64>>) -> Option<Vec<u64>>
     ensures { IfSome result (λ ids. (first ≡ Some ids) ⊎ (second ≡ Some ids)) }
 {
@@ -180,7 +181,8 @@ fn shorter(first: Option<Vec<u64>>, second: Option<Vec<u64>>) -> Option<Vec<u64>
     }
 }
 
-/// The identifiers of both lists, if there are two.
+/// The identifiers of both lists, if there are two; else none. Of two conditions of which one must hold, both lists are
+/// needed.
 fn joined(first: Option<Vec<u64>>, second: Option<Vec<u64>>) -> Result<Option<Vec<u64>>, AllocError>
     ensures { IfOk result (λ o. IfSome o
         (λ ids. MatchOption first ⊥ (λ a. MatchOption second ⊥

@@ -1,4 +1,4 @@
-// How cells compare.
+// How cells compare, for conditions and orders.
 ghost use Rattle.std.specs.Prelude.{◌≡◌};
 ghost use Rattle.hib_journal.specs.Query.{is_below_text, is_below_cell, same_cell, passes};
 
@@ -42,7 +42,7 @@ pub fn is_same(a: &Cell, b: &Cell) -> bool
     }
 }
 
-/// Whether a cell stands to another as the comparison says.
+/// Whether a cell compares so with another.
 #[inline(always)]
 pub fn is_passed(op: Op, a: &Cell, b: &Cell) -> bool
     ensures { result ≡ passes op a.now b.now }

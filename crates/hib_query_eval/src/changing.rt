@@ -1,4 +1,4 @@
-// Rows and the places of their cells, as changes are done to them.
+// Rows and the places of their cells, as changes are done to them: by a commit, or in what a session sees.
 ghost use Rattle.std.specs.Prelude.{◌≡◌, true, is_none, IfOk, OnOk, option_copied};
 ghost use Rattle.hib_base.specs.Tables.{in_order, same_version, refusal, tables_with, after_change};
 ghost use Rattle.hib_query_eval.specs.Applies.{applies};
@@ -9,6 +9,7 @@ use hib_base::{Change, Key, Row};
 use hib_outside::keyed;
 use std::alloc::{AllocError, Global};
 
+/// Whether the version that a change expects is the one that was found.
 fn is_same_version(expected: Option<u32>, found: Option<u32>) -> bool
     ensures { result ≡ same_version expected found }
 {
@@ -31,7 +32,7 @@ fn applies(change: &Change, found: Option<&Row>) -> bool
     }
 }
 
-/// Gives a key a copy of a row, or none.
+/// Gives a key a copy of a row, or takes its row away.
 fn set_row(
     alloc: Global,
     rows: &mut Vec<(Key, Row)>,
@@ -56,7 +57,7 @@ fn set_row(
     }
 }
 
-/// Does a change to rows and to the places of their cells, if it applies; says whether it does.
+/// Does a change to rows and to the places of their cells, if it applies. Answers whether it does.
 pub fn change_one(
     alloc: Global,
     rows: &mut Vec<(Key, Row)>,

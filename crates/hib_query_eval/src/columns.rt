@@ -115,7 +115,7 @@ fn add_cell(
 }
 
 /// Does a change to the places of a column's cells: the cell that its key had leaves, and the one that it has then
-/// comes. The row that is there before the change is given.
+/// comes. `found` is the row that is there before the change.
 fn lay_over(
     alloc: Global,
     one: &mut Column,

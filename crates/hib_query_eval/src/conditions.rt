@@ -1,4 +1,4 @@
-// Whether a row meets a condition.
+// Whether a row meets a condition, which is tested over a view.
 ghost use Rattle.std.specs.Prelude.{◌≡◌, option_copied, slice_get, true, false};
 ghost use Rattle.std.specs.Option.{option_map_or};
 ghost use Rattle.std.specs.List.{list_any};
@@ -66,7 +66,7 @@ fn holds<'a>(view: &'a View<'_>, row: &'a Row, cond: &Cond) -> bool
     }
 }
 
-/// Whether a row's own cell stands to a cell as a comparison says.
+/// Whether a row's own cell in a column compares so with a cell.
 #[inline(always)]
 fn is_passed_here(row: &Row, column: u16, op: Op, cell: &Cell) -> bool
     ensures { result ≡ option_map_or (λ found. passes op found cell.now)

@@ -1,4 +1,5 @@
-// The rows that come first in a query's order, without the order of all.
+// The rows that come first in a query's order, found by a walk along the places of the ordered column, without putting
+// all rows in order.
 ghost use Rattle.std.specs.Prelude.{◌≡◌, ◌≢◌, ◌+◌, ◌∷◌, not, ◌&&◌, true, map, take, List, IfOk, IfSome, option_copied};
 ghost use Rattle.std.specs.List.{filter, list_all};
 ghost use Rattle.hib_journal.specs.Types.{Sort as SortSpec, Select as SelectSpec};
@@ -64,8 +65,8 @@ fn is_near<'a>(
     !is_behind(sort, bound, row) && listing::is_listed(query, view, row)
 }
 
-/// The rows that a query lists of some rows, but those that are behind a cell in the first column of its order. None if
-/// the rows don't all have a cell of its type there.
+/// Of some rows those that a query lists, without those that are behind a cell in the first column of its order. None
+/// if the rows don't all have a cell of its type there.
 fn not_behind<'a>(
     alloc: Global,
     query: &Query,
@@ -130,7 +131,7 @@ struct Reach {
     is_sure: bool,
 }
 
-/// The places of a column from where a walk along its order begins, up to the column's end.
+/// The part of a column's places along which a walk goes: from where it begins up to the column's end.
 fn ahead<'a>(
     query: &Query,
     sort: &Sort,
@@ -153,7 +154,7 @@ fn next_id(found: &mut Range<'_, Place>, is_down: bool) -> Option<u64> {
     Some(found.next()?.id)
 }
 
-/// The row at which a walk along a column ends. None if it doesn't come so far.
+/// The row at which a walk along a column ends; none if it doesn't come so far.
 fn reached<'a>(
     query: &Query,
     view: &'a View<'_>,
@@ -177,8 +178,8 @@ fn reached<'a>(
     None
 }
 
-/// A row behind which, in the first column of a query's order, no row stands that is asked for. None if the places
-/// don't tell one quickly. What is given doesn't depend on it.
+/// A row behind which, in the first column of a query's order, no row stands that is asked for; likely so. None if the
+/// places don't tell one quickly. What the query gives doesn't depend on it.
 fn likely_last<'a>(
     alloc: Global,
     query: &Query,
@@ -206,7 +207,7 @@ fn likely_last<'a>(
     Ok(reached(query, view, found, sort.desc, &reach))
 }
 
-/// Whether the places tell that no more rows than a number meet a query's condition.
+/// Whether the places tell that no more rows than this meet a query's condition.
 fn are_few(
     alloc: Global,
     query: &Query,
@@ -219,8 +220,8 @@ fn are_few(
     }
 }
 
-/// Rows among which are those that come first in a query's order, as many as are asked for, of those that it lists of
-/// some rows. None if the order of all is as quick.
+/// Of some rows those that a query lists and that come first in its order: as many as are asked for, and perhaps more.
+/// None if putting all in order is as quick.
 pub fn foremost<'a>(
     alloc: Global,
     query: &Query,

@@ -1,4 +1,5 @@
-// Rows, found by their cells.
+// Rows, found by their keys and by their cells. There is an index of the committed rows in hib_store, and one of the
+// rows that a session's own changes leave.
 ghost use Rattle.std.specs.Prelude.{◌≡◌, ◌≢◌, [], true, map, IfOk, MatchOption};
 ghost use Rattle.hib_base.specs.Tables.{in_order, after_change, after_changes, commit_answer};
 ghost use Rattle.hib_journal.specs.Query.{gives};
@@ -38,7 +39,7 @@ impl Model for Index {
 }
 
 impl Index {
-    /// The index of rows in order of keys. Fails for want of memory alone.
+    /// The index of these rows, which must stand in order of keys. Fails for want of memory alone.
     pub fn build(alloc: Global, rows: Rows) -> Result<Index, AllocError>
         requires { in_order rows ≡ true }
         ensures { IfOk result (λ index. index ≡ rows) }
@@ -67,7 +68,7 @@ impl Index {
         self.rows.as_slice()
     }
 
-    /// The columns by whose cells rows are found.
+    /// The columns by whose cells rows are found so far.
     pub(crate) fn columns(&self) -> &[Column]
         ensures { AreIndexes result.now self.now }
     {
@@ -91,7 +92,7 @@ impl Index {
         }
     }
 
-    /// The index after a change, whether or not it applies. At an error the index is dropped.
+    /// The index after one more change of a session, whether or not it applies. At an error the index is dropped.
     pub(crate) fn with_change(self, alloc: Global, change: &Change) -> Result<Index, AllocError>
         ensures { IfOk result (λ index. index ≡ after_change change.now self) }
     {
@@ -103,8 +104,8 @@ impl Index {
         Ok(Index { rows, columns })
     }
 
-    /// The index after changes one after the other; none exactly if they don't apply so. At none and at an error the
-    /// index is dropped.
+    /// The index after changes one after the other; none if and only if they don't apply so. At none and at an error
+    /// the index is dropped.
     pub fn apply(self, alloc: Global, changes: &[Change]) -> Result<Option<Index>, AllocError>
         ensures { IfOk result (λ applied. MatchOption applied
             (commit_answer changes.now self ≢ Commit.Committed)

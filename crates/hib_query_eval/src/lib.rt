@@ -1,4 +1,4 @@
-//! What a query gives over rows.
+//! What a query gives over rows. hib_store asks it for lists, and for the rows that a bulk line changes.
 #![tactic(auto)]
 
 mod candidates;

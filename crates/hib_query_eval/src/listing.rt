@@ -1,4 +1,4 @@
-// What a query gives.
+// What a query gives: the rows that it lists are found, put in order, cut, and what it selects of them is taken.
 ghost use Rattle.std.specs.Prelude.{◌≡◌, ◌∷◌, ◌+◌, pos, take, drop, map, true, slice_get, ◌<◌, ◌^◌, [], IfOk, unwrap_or, false};
 ghost use Rattle.std.specs.List.{filter};
 ghost use Rattle.hib_base.specs.Tables.{in_order};
@@ -11,9 +11,9 @@ use crate::{conditions, orders};
 use hib_base::{Cell, Key, Listing, Query, Row, Rows, Select};
 use std::alloc::{AllocError, Global};
 
-/// What a query gives over rows in order of keys: of the rows of its entity that meet its condition the count; or else,
-/// in its order and cut by its offset and limit, their identifiers or the cells of a column. An identifier of 2^63 or
-/// more, which no cell holds, finds no memory either.
+/// What a query gives over rows, which must stand in order of keys: of the rows of its entity that meet its condition
+/// the count; or else, in its order and cut by its offset and limit, their identifiers or the cells of a column. An
+/// identifier of 2^63 or more, which no cell holds, is answered as want of memory.
 #[tactic(auto, unfolding(hib_journal::specs::Query::gives))]
 pub fn gives(alloc: Global, query: &Query, rows: &Rows) -> Result<Listing, AllocError>
     requires { in_order rows.now ≡ true }
@@ -24,8 +24,8 @@ pub fn gives(alloc: Global, query: &Query, rows: &Rows) -> Result<Listing, Alloc
     selected(alloc, query, met)
 }
 
-/// How many of the rows that a query lists are enough for what it gives, since they stand in its order already. None if
-/// all are needed.
+/// How many rows are enough for what a query gives, if it has no order, so that the first that it lists are those. None
+/// if all are needed.
 pub fn enough(query: &Query) -> Option<usize>
     ensures { result ≡ enough query.now }
 {
@@ -42,7 +42,7 @@ pub fn last_place(query: &Query) -> usize
     query.offset as usize + query.limit as usize
 }
 
-/// Whether a number of rows is enough.
+/// Whether so many rows are enough.
 pub fn is_enough(count: usize, most: Option<usize>) -> bool
     ensures { result ≡ is_enough count most }
 {
@@ -74,7 +74,7 @@ pub fn selected(alloc: Global, query: &Query, met: Vec<&(Key, Row)>) -> Result<L
     }
 }
 
-/// The first of some rows in a query's order, up to its limit.
+/// Rows in a query's order, the first ones up to its limit.
 fn placed<'a>(
     alloc: Global,
     query: &Query,
@@ -87,7 +87,7 @@ fn placed<'a>(
     orders::first_sorted(alloc, query.order.as_slice(), met, last_place(query))
 }
 
-/// The rows that a query lists of a view, of some of its rows. Where a number is enough, no more than that.
+/// Of these rows of a view those that a query lists. If a number is enough, no more than that.
 pub fn listed<'a>(
     alloc: Global,
     query: &Query,
@@ -118,7 +118,7 @@ pub fn is_listed<'a>(query: &Query, view: &'a View<'_>, row: &'a (Key, Row)) -> 
     row.0.entity == query.entity && conditions::meets(view, &row.1, &query.condition)
 }
 
-/// The rows from `offset` on, `limit` at most.
+/// Of these rows the ones from `offset` on, `limit` at most.
 fn cut<'a, 'b>(rows: &'a [&'b (Key, Row)], offset: u32, limit: u32) -> &'a [&'b (Key, Row)]
     ensures { result.now ≡ take limit (drop offset rows.now) }
 {
@@ -126,6 +126,7 @@ fn cut<'a, 'b>(rows: &'a [&'b (Key, Row)], offset: u32, limit: u32) -> &'a [&'b 
     &rest[..rest.len().min(limit as usize)]
 }
 
+/// What a query that counts gives: one cell.
 fn count(alloc: Global, rows: usize) -> Result<Listing, AllocError>
     ensures { rows < 2 ^ 63 → IfOk result (λ l. l ≡ Cell.Int (pos rows) ∷ []) }
 {
@@ -134,6 +135,7 @@ fn count(alloc: Global, rows: usize) -> Result<Listing, AllocError>
     Listing::from_vec(list)
 }
 
+/// The identifiers of rows, as cells.
 fn identifiers(alloc: Global, rows: &[&(Key, Row)]) -> Result<Listing, AllocError>
     ensures { IfOk result (λ l. l ≡ map (λ a. Cell.Int (pos a.now.0.id)) rows.now) }
 {

@@ -1,4 +1,4 @@
-// Which rows of an entity meet a condition.
+// Which rows of an entity meet a condition: the rows that a bulk line changes.
 ghost use Rattle.std.specs.Prelude.{◌≡◌, map, true, IfOk};
 ghost use Rattle.std.specs.List.{filter};
 ghost use Rattle.hib_base.specs.Tables.{in_order};
@@ -17,7 +17,7 @@ fn is_met(entity: EntityNo, condition: &Option<Cond>, view: &View<'_>, row: &(Ke
     row.0.entity == entity && conditions::meets(view, &row.1, condition)
 }
 
-/// The rows of an entity that meet a condition over a view, of some of its rows.
+/// Of some rows of a view those that are of this entity and meet a condition.
 fn met_of<'a>(
     alloc: Global,
     entity: EntityNo,
@@ -37,8 +37,8 @@ fn met_of<'a>(
     Ok(met)
 }
 
-/// The rows of an entity that meet a condition, if there is one, of rows in order of keys. Fails for want of memory
-/// alone.
+/// Of rows, which must stand in order of keys, those of an entity that meet a condition, if there is one. Fails for
+/// want of memory alone.
 pub fn rows_met<'a>(
     alloc: Global,
     entity: EntityNo,

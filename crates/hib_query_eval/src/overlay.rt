@@ -1,4 +1,4 @@
-// What a query gives over indexed rows with changes laid over them.
+// What a query gives over indexed rows, with a session's own changes laid over them. It picks the quickest way.
 ghost use Rattle.std.specs.Prelude.{◌≡◌, true, IfOk};
 ghost use Rattle.hib_base.specs.Tables.{in_order, after_changes};
 ghost use Rattle.hib_journal.specs.Query.{gives};
@@ -30,7 +30,7 @@ pub fn gives(
     given(alloc, query, rows, columns)
 }
 
-/// What a query gives over rows with a session's own changes laid over them.
+/// What a query gives over rows with changes laid over them, if the changes touch a table that it reads.
 fn given_laid(
     alloc: Global,
     query: &Query,
@@ -50,7 +50,7 @@ fn given_laid(
     given_over(alloc, query, rows, columns, changes, &laid)
 }
 
-/// What a query gives over rows as they are.
+/// What a query gives over rows as they are: no change touches a table that it reads.
 fn given(
     alloc: Global,
     query: &Query,
@@ -87,7 +87,7 @@ fn given_of_all(
     listing::selected(alloc, query, met)
 }
 
-/// What a query gives over rows with changes laid over them, of which it is known what they leave.
+/// What a query gives over rows with changes laid over them; `laid` is what the changes leave.
 fn given_over(
     alloc: Global,
     query: &Query,

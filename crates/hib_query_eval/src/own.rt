@@ -1,4 +1,4 @@
-// A session's own changes, and what they leave.
+// A session's own changes, and what they leave: its view of the store is made of these and of the committed rows.
 ghost use Rattle.std.specs.Prelude.{◌≡◌, ◌∷◌, ◌++◌, List, [], true, if◌then◌else◌, is_some, IfOk, IfSome, OnOk, OnErr, option_copied};
 ghost use Rattle.hib_base.specs.Tables.{in_order, row_at, row_left, key_of};
 ghost use Rattle.hib_journal.specs.Types.{Change as ChangeSpec, Key as KeySpec};
@@ -12,8 +12,8 @@ use std::alloc::{AllocError, Global};
 use std::collections::BTreeSet;
 use std::marker::Model;
 
-/// What changes leave of no rows: the index of the rows, and the keys that were deleted. Each key that they change is
-/// one of these, or has a row here.
+/// What changes leave if they are done to no rows: an index of the rows that they leave, and the keys that were deleted
+/// last. Each key that they change is one of these, or has a row here.
 #[derive(Drop)]
 pub struct Laid {
     pub gone: BTreeSet<Key>,
@@ -94,8 +94,8 @@ impl Own {
     }
 }
 
-/// What changes leave once there is one more; none if it isn't known, or if there is no memory for it. It is then made
-/// of all changes by the next query that needs it.
+/// What changes leave once there is one more; none if it wasn't known before, or if there is no memory for it. Then the
+/// next query that needs it makes it of all changes.
 fn with_change(alloc: Global, laid: Option<Laid>, change: &Change) -> Option<Laid>
     ensures { (cs : List ChangeSpec) → IfSome laid (Lays cs)
         → IfSome result (Lays (cs ++ change.now ∷ [])) }
@@ -131,7 +131,7 @@ pub fn all_laid(alloc: Global, changes: &[Change]) -> Result<Laid, AllocError>
     Ok(laid)
 }
 
-/// Whether a key is one of those that changes change.
+/// Whether these changes change a key.
 #[inline]
 pub fn is_changed(laid: &Laid, key: &Key) -> bool
     ensures { result ≡ has_changed laid.now key.now }
@@ -148,7 +148,7 @@ fn has_row(rows: &[(Key, Row)], key: &Key) -> bool
     keyed::row_of(rows, key).is_some()
 }
 
-/// Whether a key is one of some.
+/// Whether a key is one of these.
 #[inline]
 fn is_in(keys: &BTreeSet<Key>, key: &Key) -> bool
     ensures { result ≡ has_key keys.now.keys key.now }
@@ -168,6 +168,7 @@ fn note_gone(keys: &mut BTreeSet<Key>, change: &Change) -> Result<(), AllocError
     }
 }
 
+/// Adds a key to a set.
 fn add_key(keys: &mut BTreeSet<Key>, key: Key) -> Result<(), AllocError>
     ensures { OnOk result ((k : KeySpec)
         → has_key keys.new.keys k ≡ has_key (key ∷ keys.old.keys) k) }

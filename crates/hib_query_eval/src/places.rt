@@ -1,4 +1,4 @@
-// The places of cells, in order.
+// The places of cells, in order: rows are found by them, by their cells' values.
 ghost use Rattle.std.specs.Prelude.{◌≡◌, ◌<◌, ◌^◌, ℕ, ◌&&◌, ◌||◌, not, ◌++◌, false, map, Some, IfOk, OnOk};
 ghost use Rattle.std.specs.List.{filter};
 ghost use Rattle.std.specs.Ordering.{is_gt};
@@ -12,7 +12,7 @@ use std::collections::BTreeSet;
 use std::collections::btree_set::Range;
 use std::ops::Bound;
 
-/// A cell as an index orders it, or a bound of a search.
+/// A cell as an index orders it, or an end of a search.
 #[derive(PartialEq, Eq, PartialOrd, Ord, Drop)]
 pub enum Value {
     /// Below each cell.
@@ -47,7 +47,7 @@ pub fn value_of(alloc: Global, cell: &Cell) -> Result<Value, AllocError>
     }
 }
 
-/// The place of a cell of the row of an identifier.
+/// The place of a cell. Its row has this identifier.
 pub fn place_of(alloc: Global, id: u64, cell: &Cell) -> Result<Place, AllocError>
     ensures cell { IfOk result (λ p. cell_in p.value ≡ Some cell.now) }
     ensures id { IfOk result (λ p. p.id ≡ id) }

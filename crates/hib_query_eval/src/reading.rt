@@ -1,4 +1,4 @@
-// Which tables a query reads.
+// Which tables a query reads, to know whether a session's own changes matter to it.
 ghost use Rattle.std.specs.Prelude.{◌≡◌, ◌||◌, ◌==◌, ℕ, false};
 ghost use Rattle.std.specs.Option.{option_map_or};
 ghost use Rattle.std.specs.List.{list_any};
@@ -7,6 +7,7 @@ ghost use Rattle.hib_journal.specs.Query.{mentions, reads, gives};
 
 use hib_base::{Change, Cond, EntityNo, Query, Target};
 
+/// Whether a path steps to an entity.
 fn steps_to(entity: EntityNo, target: Option<Target>) -> bool
     ensures { result ≡ option_map_or (λ g. g.entity == entity) target false }
 {

@@ -1,4 +1,4 @@
-// The rows that a query lists, by an index and with changes laid over.
+// The rows that a query lists, found by an index or by a walk over all rows, with changes laid over them or without.
 ghost use Rattle.std.specs.Prelude.{◌≡◌, ◌<◌, ◌≤◌, ℕ, true, false, length, IfOk, IfSome, OnOk, map, take, drop, option_copied};
 ghost use Rattle.std.specs.List.Sorted.{IsStrictlyIncreasing};
 ghost use Rattle.hib_base.specs.Tables.{Tables, in_order, after_changes};
@@ -21,7 +21,7 @@ use hib_base::{Change, EntityNo, Key, Query, Row};
 use hib_outside::keyed;
 use std::alloc::{AllocError, Global};
 
-/// The row of an identifier, if it meets a query's condition.
+/// The row at an identifier, if it meets a query's condition.
 pub fn met_at<'a>(query: &Query, view: &'a View<'_>, id: u64) -> Option<&'a (Key, Row)>
     ensures { option_copied result
         ≡ if_met query.now view.now (row_in view.now (key_at query.now.entity id)) }
@@ -37,7 +37,7 @@ pub fn met_at<'a>(query: &Query, view: &'a View<'_>, id: u64) -> Option<&'a (Key
     }
 }
 
-/// The rows that a query lists, which are all of these identifiers. The identifiers rise.
+/// The rows that a query lists. They must all be among these identifiers, which must rise.
 fn found<'a>(
     alloc: Global,
     query: &Query,
@@ -58,7 +58,7 @@ fn found<'a>(
     Ok(met)
 }
 
-/// Adds the identifiers of the rows of an entity that are changed.
+/// Adds the identifiers of the rows of an entity that the changes change.
 fn add_changed(ids: &mut Vec<u64>, entity: EntityNo, changes: &[Change]) -> Result<(), AllocError>
     ensures kept { OnOk result ((i : ℕ) → has_id i ids.old.items ≡ true
         → has_id i ids.new.items ≡ true) }
@@ -101,8 +101,8 @@ fn narrowed(
     }
 }
 
-/// Adds the identifiers of the rows that changes leave and that meet a query's condition, and perhaps of others whose
-/// keys are changed.
+/// Adds the identifiers of the rows that changes leave and that meet a query's condition, and perhaps of other changed
+/// keys.
 fn add_left(
     alloc: Global,
     ids: &mut Vec<u64>,
@@ -126,7 +126,8 @@ fn add_left(
 }
 
 /// Identifiers among which are those of all rows that meet a query's condition once changes are laid over the rows of
-/// these places. None if the places don't narrow it much, or if the changes touch a table to which the condition steps.
+/// these columns. None if the places don't narrow it much, or if the changes touch a table to which the condition
+/// steps.
 fn narrowed_over(
     alloc: Global,
     query: &Query,
@@ -176,7 +177,7 @@ fn listed_early<'a>(
     Ok(Some(met))
 }
 
-/// The place of a key's row, or where it belongs.
+/// The place of a key's row, or where it belongs, among rows that must stand in order of keys.
 fn place(rows: &[(Key, Row)], key: Key) -> usize
     requires { in_order rows.now ≡ true }
     ensures within { result ≤ length rows.now }
@@ -221,7 +222,8 @@ pub fn of_entity(rows: &[(Key, Row)], entity: EntityNo) -> &[(Key, Row)]
     }
 }
 
-/// The rows that a query lists of rows in order. Where a number is enough, perhaps no more than that.
+/// Of rows, which must stand in order of keys, those that a query lists. If a number is enough, perhaps no more than
+/// that.
 pub fn listed<'a>(
     alloc: Global,
     query: &Query,
@@ -250,7 +252,7 @@ pub fn listed<'a>(
     }
 }
 
-/// Whether of the rows that are left in two lists the second list's comes first.
+/// Whether, of what is left of two lists, the next row comes from the second one.
 fn is_second(rows: &[(Key, Row)], at: usize, left: &[(Key, Row)], behind: usize) -> bool
     ensures first { result ≡ comes_first (drop at rows.now) (drop behind left.now) }
     ensures second { result ≡ true → behind < length left.now }
@@ -265,8 +267,8 @@ fn is_second(rows: &[(Key, Row)], at: usize, left: &[(Key, Row)], behind: usize)
     keyed::comes_before(&left[behind].0, &rows[at].0)
 }
 
-/// The rows that a query lists of a view, in order: of some rows, but those of changed keys, and of the rows that
-/// changes leave. Where a number is enough, no more than that.
+/// The rows that a query lists of a view, in order: of `rows` those whose keys aren't changed, and of `left` those that
+/// the changes leave. If a number is enough, no more than that.
 fn walked<'a>(
     alloc: Global,
     query: &Query,
@@ -303,7 +305,7 @@ fn walked<'a>(
     Ok(met)
 }
 
-/// From how many rows on that meet a condition a walk over all rows is likely to be shorter.
+/// From how many rows on that may meet a condition a walk over all rows is likely to be quicker.
 fn many(rows: usize, most: Option<usize>) -> usize {
     let many = rows / 8;
     match most {
@@ -312,8 +314,8 @@ fn many(rows: usize, most: Option<usize>) -> usize {
     }
 }
 
-/// The rows that a query lists of a view, which is that of rows with changes laid over them. Where a number is enough,
-/// perhaps no more than that.
+/// The rows that a query lists of a view, which must be that of `rows` with these changes laid over them. If a number
+/// is enough, perhaps no more than that.
 pub fn listed_over<'a>(
     alloc: Global,
     query: &Query,

@@ -1,4 +1,4 @@
-// Rows with changes laid over them, without a copy of the rows.
+// Rows with changes laid over them, without a copy of the rows: conditions are tested over a view.
 ghost use Rattle.std.specs.Prelude.{◌≡◌, true, option_copied};
 ghost use Rattle.hib_base.specs.Tables.{in_order, row_at, after_changes};
 ghost use Rattle.hib_query_eval.specs.Found.{row_in};
@@ -32,7 +32,7 @@ impl<'a> Model for View<'a> {
 }
 
 impl<'a> View<'a> {
-    /// Rows in order of keys, with changes laid over them, of which it is known what they leave.
+    /// The view of rows, which must be in order of keys, with changes laid over them; `laid` is what the changes leave.
     pub fn over(rows: &'a [(Key, Row)], changes: &'a [Change], laid: &'a Laid) -> View<'a>
         requires ordered { in_order rows.now ≡ true }
         requires laid { Lays changes.now laid.now }
@@ -46,7 +46,7 @@ impl<'a> View<'a> {
         }
     }
 
-    /// Rows in order of keys, as they are.
+    /// The view of rows, which must be in order of keys, as they are.
     pub fn of(rows: &'a [(Key, Row)]) -> View<'a>
         requires { in_order rows.now ≡ true }
         ensures { result ≡ rows.now }
@@ -58,7 +58,7 @@ impl<'a> View<'a> {
         }
     }
 
-    /// The rows among which a key's row stands.
+    /// The rows among which a key's row stands: those that the changes leave, or the rows as they are.
     fn part(&self, key: &Key) -> &[(Key, Row)]
         ensures ordered { in_order result.now ≡ true }
         ensures row { row_at result.now key.now ≡ row_at self.now key.now }

@@ -21,7 +21,7 @@ use std::mem::swap;
 /// One of the two parts.
 type Part = IndexMap<u64, Slot>;
 
-// Whether a key has a slot among the older ones.
+// Whether a key has its slot in the first part, among the older ones.
 fn is_older(front: &Part, id: u64) -> bool
     ensures there { result ≡ is_some (lookup (nat_eq id) front.now.entries) }
     ensures distinct { IsDistinct nat_eq (keys_of front.now.entries) }
@@ -30,7 +30,7 @@ fn is_older(front: &Part, id: u64) -> bool
     front.get(&id).is_some()
 }
 
-/// The slot of a key.
+/// The slot of a key, in either part.
 pub fn look<'a>(front: &'a Part, back: &'a Part, id: u64) -> Option<&'a Slot>
     ensures { option_copied result
         ≡ lookup (nat_eq id) (queued front.now.entries back.now.entries) }
@@ -42,7 +42,7 @@ pub fn look<'a>(front: &'a Part, back: &'a Part, id: u64) -> Option<&'a Slot>
     }
 }
 
-/// The first key in order that may leave, if the oldest open session began at `floor`.
+/// The first key in order that may leave, if the oldest open session began at `floor`; none if no key may.
 #[tactic(auto, using(crate::proofs::Queues::victim_joined))]
 pub fn victim(front: &Part, back: &Part, floor: Tick) -> Option<u64>
     ensures { result ≡ victim_in floor (queued front.now.entries back.now.entries) }
@@ -53,7 +53,7 @@ pub fn victim(front: &Part, back: &Part, floor: Tick) -> Option<u64>
     }
 }
 
-/// Gives a key this slot: one that has a slot keeps its place, a new one comes last. Only a new key needs memory.
+/// Gives a key this slot. A key that has a slot keeps its place, a new one comes last. Only a new key needs memory.
 pub fn set(front: &mut Part, back: &mut Part, id: u64, slot: Slot) -> Result<(), AllocError>
     ensures ok { OnOk result (queued front.new.entries back.new.entries
         ≡ insert_entry nat_eq (queued front.old.entries back.old.entries) id slot) }
@@ -69,7 +69,7 @@ pub fn set(front: &mut Part, back: &mut Part, id: u64, slot: Slot) -> Result<(),
     }
 }
 
-/// Removes a key; the others keep their order.
+/// Takes a key out; the others keep their order.
 pub fn remove(front: &mut Part, back: &mut Part, id: u64)
     ensures { queued front.new.entries back.new.entries
         ≡ remove_entry (nat_eq id) (queued front.old.entries back.old.entries) }
@@ -82,7 +82,7 @@ pub fn remove(front: &mut Part, back: &mut Part, id: u64)
     }
 }
 
-// All become older ones.
+// Makes all slots older ones. There must be none among these before.
 #[tactic(auto, using(hib_room_laws::proofs::Queued::queued_turned))]
 fn turn(front: &mut Part, back: &mut Part)
     requires { front.old.entries ≡ [] }
@@ -92,6 +92,7 @@ fn turn(front: &mut Part, back: &mut Part)
     front.reverse();
 }
 
+/// Takes a key out of the part that has it.
 #[tactic(auto, using(hib_room_laws::proofs::Queued::removed_front, hib_room_laws::proofs::Queued::removed_back))]
 fn remove_in(front: &mut Part, back: &mut Part, id: u64)
     ensures { queued front.new.entries back.new.entries
@@ -104,7 +105,7 @@ fn remove_in(front: &mut Part, back: &mut Part, id: u64)
     }
 }
 
-/// Removes all keys. It takes no memory.
+/// Takes all keys out. It takes no memory.
 pub fn clear(front: &mut Part, back: &mut Part)
     ensures { queued front.new.entries back.new.entries ≡ [] }
 {
@@ -112,7 +113,7 @@ pub fn clear(front: &mut Part, back: &mut Part)
     slots::clear(back);
 }
 
-/// Takes the lock of a key that has a slot, and answers its number; or none, if the key has no slot.
+/// Takes the lock of a key that has a slot, and answers its number; none if the key has no slot.
 pub fn lock(front: &mut Part, back: &mut Part, id: u64, now: Tick, timeout: u32) -> Option<Tick>
     requires late { now ≤ 2 ^ 62 }
     requires few { holders_in (shown_in (lookup (nat_eq id)
@@ -131,7 +132,7 @@ pub fn lock(front: &mut Part, back: &mut Part, id: u64, now: Tick, timeout: u32)
     }
 }
 
-/// One holder of a held lock lets go.
+/// Lets one holder of a lock go. Somebody must hold it.
 pub fn release(front: &mut Part, back: &mut Part, id: u64, now: Tick)
     requires { is_held (shown_in (lookup (nat_eq id)
         (queued front.old.entries back.old.entries))) ≡ true }
@@ -145,7 +146,7 @@ pub fn release(front: &mut Part, back: &mut Part, id: u64, now: Tick)
     }
 }
 
-// Gives a key that has a slot another one. It takes no memory.
+// Gives a key another slot. It must have one. It takes no memory.
 fn replace(front: &mut Part, back: &mut Part, id: u64, slot: Slot)
     requires { is_some (lookup (nat_eq id) (queued front.old.entries back.old.entries)) ≡ true }
     ensures { queued front.new.entries back.new.entries
@@ -158,7 +159,7 @@ fn replace(front: &mut Part, back: &mut Part, id: u64, slot: Slot)
     }
 }
 
-/// Evicts a key that isn't held: a lock without holder stays in its place.
+/// Evicts a key, if it isn't held: a lock without holder stays in its place.
 pub fn evict(front: &mut Part, back: &mut Part, id: u64, now: Tick) -> Evicted
     ensures answer { result ≡ Regions.evict (shown_in (lookup (nat_eq id)
         (queued front.old.entries back.old.entries))) }

@@ -1,4 +1,4 @@
-// The read-write region.
+// The read-write region, which hib_engines asks for a read-write entity.
 ghost use Rattle.std.specs.Prelude.{◌≡◌, ◌+◌, ◌≤◌, ◌<◌, ◌^◌, ℕ, None, Some, true, false, IsOk, IfOk, OnOk, OnErr, ◌==◌};
 ghost use Rattle.std.specs.Option.{option_flatten, option_map_or};
 ghost use Rattle.hib_journal.specs.Regions as Regions;
@@ -16,8 +16,8 @@ use std::alloc::{AllocError, Global};
 use std::marker::Model;
 
 /// The region of a read-write entity. Contracts see the capacity, the timeout, and the slots in order of insertion.
-/// Each `now` is greater than every tick that the region was given before. No call asks this: if it doesn't hold, a
-/// lock that has as many holders as `now` has ticks takes no more.
+/// Each `now` should be greater than every tick that the region was given before, yet no call requires it: if it isn't,
+/// a lock that has as many holders as `now` has ticks takes no more.
 #[derive(Drop)]
 pub struct RwRegion {
     front: IndexMap<u64, Slot>,
@@ -85,7 +85,7 @@ impl RwRegion {
         }
     }
 
-    // The room for a new key: none, or with the key that leaves for it, if one has to.
+    // The room for a new key: the key that has to leave for it, if one has to; the outer none if no key may.
     fn room(&self, floor: Tick) -> Option<Option<u64>>
         ensures room { result ≡ room_in self.now floor }
         ensures apart { (id : ℕ) → kept_in self.now id ≡ None
@@ -98,7 +98,7 @@ impl RwRegion {
         Some(Some(victim))
     }
 
-    // Places a slot on a new key, and then lets another leave.
+    // Places a slot on a new key, and then lets the other leave, if one has to. That must be another key.
     fn place(&mut self, id: u64, slot: Slot, evicted: Option<u64>) -> Result<(), AllocError>
         requires { option_map_or (λ v. v == id) evicted false ≡ false }
         ensures ok { OnOk result (self.new ≡ with_slot id slot (without evicted self.old)) }
@@ -111,7 +111,7 @@ impl RwRegion {
         Ok(())
     }
 
-    // Places an item on a new key, if there is room. Answers the room.
+    // Places an item on a key, which must have no slot, if there is room. Answers the room.
     fn place_item(
         &mut self,
         id: u64,
@@ -132,8 +132,8 @@ impl RwRegion {
         Ok(room)
     }
 
-    /// Puts a row that a reader which began at `time` has loaded; `floor` is the least time of the open sessions.
-    /// On a key that has a slot, that decides; a new key needs room. At an error nothing has changed.
+    /// Offers a row as the item, which a reader that began at `time` has loaded; `floor` is the least time of the open
+    /// sessions. If the key has a slot, that decides; a new key needs room. At an error nothing has changed.
     pub fn put(
         &mut self,
         id: u64,
@@ -213,7 +213,7 @@ impl RwRegion {
         })
     }
 
-    // A lock was to be given back that isn't there: for as long as it was good, nothing is put.
+    // Bars a key of which a lock was to be given back that isn't there: for as long as it was good, nothing is put.
     fn expire(&mut self, id: u64, now: Tick) -> Result<(), AllocError>
         requires { now ≤ 2 ^ 62 }
         ensures ok { OnOk result (self.new
@@ -225,8 +225,8 @@ impl RwRegion {
         queue::set(&mut self.front, &mut self.back, id, slots::bar(now, until))
     }
 
-    /// Gives a lock back. If the key has no lock of this number that is held, it gets one without holder that is
-    /// good for the timeout. At an error nothing has changed; there is none if the key has a slot.
+    /// Gives a lock back. If the key has no lock of this number that is held, it gets one without holder that is good
+    /// for the timeout. At an error nothing has changed. If the key has a slot, there is no error.
     pub fn unlock(&mut self, id: u64, lock: Tick, now: Tick) -> Result<Unlocked, AllocError>
         requires { now ≤ 2 ^ 62 }
         ensures answer { IfOk result (λ unlocked. unlocked
@@ -243,8 +243,8 @@ impl RwRegion {
         Ok(answer)
     }
 
-    /// Stores a row whose update was committed under a lock, unless others have locked the key too, and gives the
-    /// lock back. If the key has no lock of this number that is held, as `unlock`. At an error nothing has changed.
+    /// Stores a row whose update was committed under a lock, unless others have locked the key too, and gives the lock
+    /// back. If the key has no lock of this number that is held, it does as `unlock`. At an error nothing has changed.
     pub fn after_update(
         &mut self,
         id: u64,
@@ -273,7 +273,7 @@ impl RwRegion {
         Ok(answer)
     }
 
-    /// Stores a row whose insert was committed, on a key without slot, if there is room. At an error nothing has
+    /// Stores a row whose insert was committed, if its key has no slot and there is room. At an error nothing has
     /// changed.
     pub fn after_insert(
         &mut self,

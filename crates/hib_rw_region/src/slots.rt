@@ -1,4 +1,5 @@
-// Slots by identifier, in order of insertion.
+// Slots by identifier, in order of insertion: one of the two parts of `queue`. To leave is to make room for another
+// key.
 ghost use Rattle.std.specs.Prelude.{◌≡◌, ◌≤◌, ◌<◌, ◌^◌, ℕ, None, Some, true, false, [], reverse, length, slice_get, IsOk, OnOk, OnErr, nat_eq, is_some, option_copied};
 ghost use Rattle.std.specs.Map.{lookup, remove_entry};
 ghost use Rattle.indexmap.specs.IndexMap.{insert_entry};
@@ -29,6 +30,8 @@ pub fn bar(now: Tick, until: Tick) -> Slot
     }
 }
 
+/// Whether a key with this slot may leave: nobody holds it, and it was stored or let go before the oldest open session
+/// began, which was at `floor`.
 fn may_leave(slot: &Slot, floor: Tick) -> bool
     ensures { result ≡ may_go floor (shown slot.now) }
 {
@@ -50,7 +53,7 @@ fn pair_at(slots: &IndexMap<u64, Slot>, at: usize) -> (u64, &Slot)
     (*id, slot)
 }
 
-/// The last key in order that may leave, if the oldest open session began at `floor`.
+/// The last key in order that may leave, if the oldest open session began at `floor`; none if no key may.
 pub fn last_victim(slots: &IndexMap<u64, Slot>, floor: Tick) -> Option<u64>
     ensures { result ≡ victim_in floor (reverse slots.now.entries) }
 {
@@ -65,7 +68,7 @@ pub fn last_victim(slots: &IndexMap<u64, Slot>, floor: Tick) -> Option<u64>
     None
 }
 
-/// The first key in order that may leave, if the oldest open session began at `floor`.
+/// The first key in order that may leave, if the oldest open session began at `floor`; none if no key may.
 pub fn victim(slots: &IndexMap<u64, Slot>, floor: Tick) -> Option<u64>
     ensures { result ≡ victim_in floor slots.now.entries }
 {
@@ -87,7 +90,7 @@ pub fn set(slots: &mut IndexMap<u64, Slot>, id: u64, slot: Slot) -> Result<(), A
     Ok(())
 }
 
-/// Gives a key that has a slot another one. It takes no memory.
+/// Gives a key another slot. It must have one. It takes no memory.
 pub fn replace(slots: &mut IndexMap<u64, Slot>, id: u64, slot: Slot)
     requires { is_some (lookup (nat_eq id) slots.old.entries) ≡ true }
     ensures { slots.new.entries ≡ insert_entry nat_eq slots.old.entries id slot }
@@ -98,21 +101,21 @@ pub fn replace(slots: &mut IndexMap<u64, Slot>, id: u64, slot: Slot)
     slots[index] = slot;
 }
 
-/// Removes a key; the others keep their order.
+/// Takes a key out; the others keep their order.
 pub fn remove(slots: &mut IndexMap<u64, Slot>, id: u64)
     ensures { slots.new.entries ≡ remove_entry (nat_eq id) slots.old.entries }
 {
     slots.shift_remove(&id);
 }
 
-/// Removes all keys. It takes no memory.
+/// Takes all keys out. It takes no memory.
 pub fn clear(slots: &mut IndexMap<u64, Slot>)
     ensures { slots.new.entries ≡ [] }
 {
     slots.clear();
 }
 
-/// Takes the lock of a key that has a slot, and answers its number; or none, if the key has no slot.
+/// Takes the lock of a key that has a slot, and answers its number; none if the key has no slot.
 pub fn lock(slots: &mut IndexMap<u64, Slot>, id: u64, now: Tick, timeout: u32) -> Option<Tick>
     requires late { now ≤ 2 ^ 62 }
     requires few { holders_in (shown_in (lookup (nat_eq id) slots.old.entries)) < now }
@@ -126,7 +129,7 @@ pub fn lock(slots: &mut IndexMap<u64, Slot>, id: u64, now: Tick, timeout: u32) -
     Some(slot.lock(now, timeout))
 }
 
-/// One holder of a held lock lets go.
+/// Lets one holder of a lock go. Somebody must hold it.
 pub fn release(slots: &mut IndexMap<u64, Slot>, id: u64, now: Tick)
     requires { is_held (shown_in (lookup (nat_eq id) slots.old.entries)) ≡ true }
     ensures { slots.new.entries ≡ changed id (released now) slots.old.entries }
@@ -138,7 +141,7 @@ pub fn release(slots: &mut IndexMap<u64, Slot>, id: u64, now: Tick)
     slot.release(now);
 }
 
-/// What a holder that gives its lock back is answered, by the slot of the key.
+/// What a holder that gives its lock back is to be answered, by the slot of the key.
 pub fn unlocked(slot: Option<&Slot>, lock: Tick) -> Unlocked
     ensures { result ≡ Regions.unlock (shown_in (option_copied slot.entry)) lock }
 {
@@ -156,7 +159,7 @@ pub fn unlocked(slot: Option<&Slot>, lock: Tick) -> Unlocked
     }
 }
 
-/// What a holder that has committed an update is answered, by the slot of the key.
+/// What a holder that has committed an update is to be answered, by the slot of the key.
 pub fn updated(slot: Option<&Slot>, lock: Tick) -> Updated
     ensures { result ≡ Regions.after_update (shown_in (option_copied slot.entry)) lock }
 {

@@ -1,4 +1,5 @@
-// The lines before the sessions: header, settings, entities with their columns, rows and queries.
+// The lines before the sessions: header, settings, entities with their columns, rows and queries. `..._line` takes one
+// line into the draft; `with_...` and `new_...` put in what it declares, or say what is wrong.
 ghost use Rattle.hib_script.specs.Drafts.{reader_of};
 ghost use Rattle.hib_script.specs.Lines as lines;
 ghost use Rattle.hib_criteria.specs.Query.{said};
@@ -108,7 +109,7 @@ fn or_reserved(name: &[u8], kind: Option<Kind>) -> Option<Kind>
     }
 }
 
-/// An entity's line; `followed` says whether the next line is a column's.
+/// Takes an entity's line; `followed` says whether the next line is a column's.
 pub fn entity_line(
     alloc: Global,
     draft: &mut Draft,
@@ -127,6 +128,7 @@ pub fn entity_line(
     new_entity(alloc, draft, tokens, or_reserved(name_in(tokens), kind))
 }
 
+/// Begins an entity, whose columns come next, unless its line has this fault.
 fn new_entity(
     alloc: Global,
     draft: &mut Draft,
@@ -146,7 +148,7 @@ fn new_entity(
     Ok(())
 }
 
-/// A column's line, of the entity whose columns are read.
+/// Takes a column's line. It is of the entity whose columns are being read.
 pub fn column_line(alloc: Global, draft: &mut Draft, tokens: &[Token]) -> Result<(), LineError>
     ensures step { OnOk result (lines.column_line (reader_of draft.old) draft.old.entity tokens.now
         ≡ Ok (reader_of draft.new)) }
@@ -161,7 +163,7 @@ pub fn column_line(alloc: Global, draft: &mut Draft, tokens: &[Token]) -> Result
     Ok(())
 }
 
-/// The entity with the column of a line.
+/// The entity with the column of this line.
 fn more_columns(
     alloc: Global,
     mapping: &[EntityDef],
@@ -237,7 +239,8 @@ fn has_query(queries: &[Query], name: &[u8]) -> bool
     queries.iter().any(|query| query.name.as_slice() == name)
 }
 
-/// What is wrong with a line of a query whose name is taken, or isn't.
+/// What is wrong with a query's line: this fault, or else that its name is taken. A fault of the line's form comes
+/// first.
 fn or_taken(is_taken: bool, kind: Kind) -> Kind
     ensures { result ≡ lines.or_taken is_taken kind }
 {
@@ -248,6 +251,7 @@ fn or_taken(is_taken: bool, kind: Kind) -> Kind
     }
 }
 
+/// Whether a fault is one of a line's form, which is told before that its name is taken.
 fn is_of_form(kind: Kind) -> bool
     ensures { result ≡ lines.is_of_form kind }
 {

@@ -48,21 +48,21 @@ pub fn start(alloc: Global) -> Draft
     }
 }
 
-/// Puts a draft after a line of a part.
+/// Notes that the reader stands after a line of this part of a script.
 pub fn behind(part: Part, draft: &mut Draft)
     ensures { reader_of draft.new ≡ lines.behind part (reader_of draft.old) }
 {
     draft.place = Place::Behind(part);
 }
 
-/// Puts a draft at a place.
+/// Notes that the reader stands at this place.
 pub fn at(place: Place, draft: &mut Draft)
     ensures { reader_of draft.new ≡ lines.at place (reader_of draft.old) }
 {
     draft.place = place;
 }
 
-/// Puts the entity whose columns were read among the finished ones.
+/// Puts the entity whose columns were read among the finished ones, if there is one.
 pub fn close(draft: &mut Draft) -> Result<(), AllocError>
     ensures { OnOk result (reader_of draft.new ≡ lines.closed (reader_of draft.old)) }
 {
@@ -72,7 +72,7 @@ pub fn close(draft: &mut Draft) -> Result<(), AllocError>
     }
 }
 
-/// Whether there is room for one more beside `count`.
+/// Whether one more may come beside `count`, if `most` are the limit.
 pub fn has_room(count: usize, most: usize) -> bool
     ensures { result ≡ nat_lt count most }
 {

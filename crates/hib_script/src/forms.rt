@@ -1,4 +1,4 @@
-// The forms of lines that are no declarations, and the names in lines.
+// The forms of lines that are no declarations, and the names that lines declare.
 ghost use Rattle.hib_script.specs.Lines as lines;
 ghost use Rattle.std.specs.Prelude.{◌≡◌};
 
@@ -16,7 +16,7 @@ pub fn name_in(tokens: &[Token]) -> &[u8]
     }
 }
 
-/// Whether a line has one token alone.
+/// Whether a line has one token and no more.
 pub fn is_alone(tokens: &[Token]) -> bool
     ensures { result ≡ lines.is_alone tokens.now }
 {
@@ -43,6 +43,7 @@ pub fn number_line(most: u32, tokens: &[Token]) -> Result<u32, Kind>
     }
 }
 
+/// The number that a token is, from 1 to `most`.
 fn number_within(most: u32, token: &Token) -> Result<u32, Kind>
     ensures { result ≡ lines.number_within most token.now }
 {

@@ -1,4 +1,4 @@
-// What one line adds to a script, by where it stands.
+// What one line adds to a draft of a script, by where the reader stands.
 ghost use Rattle.hib_script.specs.Drafts.{reader_of};
 ghost use Rattle.hib_script.specs.Lines as lines;
 ghost use Rattle.std.specs.Prelude.{◌≡◌, IfErr, OnOk, Ok};
@@ -15,7 +15,8 @@ use hib_lex::{Token, begins};
 use std::alloc::Global;
 use std::mem;
 
-/// The draft after one more line, or what is wrong with that; `followed` says whether the line after it is a column's.
+/// Takes one more line into the draft, or says what is wrong with it; `followed` says whether the line after it is a
+/// column's.
 pub fn after_line(
     alloc: Global,
     draft: &mut Draft,
@@ -42,7 +43,7 @@ pub fn after_line(
     }
 }
 
-/// A line after the line of a part.
+/// Takes a line after the line of a part: of the same part, of a later one, or of a column.
 fn behind_part(
     alloc: Global,
     draft: &mut Draft,
@@ -67,7 +68,7 @@ fn behind_part(
     }
 }
 
-/// The line of a part, or the first line of one.
+/// Takes the line of a part.
 fn part_line(
     alloc: Global,
     draft: &mut Draft,

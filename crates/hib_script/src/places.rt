@@ -1,4 +1,4 @@
-// Where a reader of a script stands.
+// Where a reader of a script stands. A part is here a part of a script's text, and parts come in a fixed order.
 ghost use Rattle.hib_script.specs.Places as places;
 ghost use Rattle.std.specs.Prelude.{◌≡◌};
 
@@ -39,7 +39,7 @@ pub enum Place {
     Schedule,
 }
 
-/// The place of a part among the parts, from 0.
+/// Where a part stands in the order of parts, from 0.
 fn rank(part: Part) -> u8
     ensures { result ≡ places.rank part }
 {
@@ -65,14 +65,14 @@ fn repeats(part: Part) -> bool
     )
 }
 
-/// Whether a part may stand after another.
+/// Whether a line of a part may come after a line of another.
 pub fn may_follow(last: Part, next: Part) -> bool
     ensures { result ≡ places.may_follow last next }
 {
     rank(last) < rank(next) || (repeats(next) && rank(last) == rank(next))
 }
 
-/// The part that the first word of a line begins.
+/// The part to which a line belongs by its first word.
 pub fn part_of(tokens: &[Token]) -> Option<Part>
     ensures { result ≡ places.part_of tokens.now }
 {

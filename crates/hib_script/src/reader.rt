@@ -1,4 +1,4 @@
-// The script of a text.
+// The script of a text. A line is taken one line late, since an entity's line must know whether a column follows.
 ghost use Rattle.hib_base.specs.Valid.{is_valid};
 ghost use Rattle.hib_base.specs.declared.refusals.Refused.{Refused};
 ghost use Rattle.hib_lex.specs.Lines.{lines_of, lex_after as lex_after_in, line_of as line_in};
@@ -38,7 +38,7 @@ pub fn read(alloc: Global, text: &[u8]) -> Result<Script, ScriptError>
     }
 }
 
-/// Reads a text into a draft that is new, and gives the number of its lines.
+/// Reads a text into a draft, which must be new, and gives the number of its lines.
 #[tactic(auto, using(hib_lex::proofs::Texts::length_fits))]
 fn read_text(alloc: Global, draft: &mut Draft, text: &[u8]) -> Result<u32, ScriptError>
     requires small { length text.now < 2 ^ 31 }
@@ -61,8 +61,9 @@ fn read_text(alloc: Global, draft: &mut Draft, text: &[u8]) -> Result<u32, Scrip
     Ok(count)
 }
 
-/// Reads one more line of a text: takes the one before it that said something, and gives the one that does so
-/// now. What is left of the text is read for its first bad line if the line that is taken has a fault.
+/// Reads one more line of a text. Takes the one before it that said something, and gives the one that does so now. If
+/// the line that is taken has a fault, what is left of the text is read for a line that breaks a rule of bytes, length
+/// or tokens: that one is told first.
 fn pass(
     alloc: Global,
     draft: &mut Draft,
@@ -86,8 +87,8 @@ fn pass(
     }
 }
 
-/// Takes the line before this one into a draft, if there is one, and gives this one. It has this number, and a text is
-/// left after it.
+/// Takes the line before this one into a draft, if there is one, and gives this one. `number` is this one's, and `rest`
+/// is what is left of the text after it.
 fn follow(
     alloc: Global,
     draft: &mut Draft,
@@ -115,7 +116,7 @@ fn follow(
     }
 }
 
-/// The line of this number that has these bytes, or none if it is skipped.
+/// The line of these bytes with its tokens, or none if it is skipped.
 fn line_said(alloc: Global, number: u32, line: &[u8]) -> Result<Option<Line>, ScriptError>
     ensures line { IfOk result (λ l. line_in number line.now ≡ Ok l) }
     ensures refused { IfErr result (order.IsWhere (line_in number line.now)) }
@@ -127,7 +128,7 @@ fn line_said(alloc: Global, number: u32, line: &[u8]) -> Result<Option<Line>, Sc
     }
 }
 
-/// Takes a line into a draft. If the line has a fault, what is left of the text is read for its first bad line.
+/// Takes a line into a draft. If the line has a fault, what is left of the text is read first, as `pass` says.
 fn take(
     alloc: Global,
     draft: &mut Draft,
@@ -150,7 +151,8 @@ fn take(
     }
 }
 
-/// The first bad line of a text that has `before` lines before it; or else this fault, of a line before it.
+/// The first line of a text that breaks a rule of bytes, length or tokens, if there is one; else this fault, of a line
+/// before the text. `before` is how many lines come before the text.
 fn first_bad(alloc: Global, fault: Refused, before: u32, text: &[u8]) -> ScriptError
     requires { before + length text.now < 2 ^ 31 }
     ensures { order.IsWhere (unless_bad fault (lex_after_in before text.now)) result }
@@ -235,7 +237,7 @@ fn step(alloc: Global, draft: &mut Draft, followed: bool, line: &Line) -> Result
     }
 }
 
-/// The script of a draft at the end of a text of `count` lines.
+/// The script of a draft at the end of a text of `count` lines, or why the text can't end there.
 fn ended(count: u32, draft: Draft) -> Result<Script, ScriptError>
     ensures script { IfOk result (λ s. order.ended_at count (reader_of draft) draft.place
         ≡ Ok (outline_of s)) }
@@ -265,7 +267,7 @@ fn finished(mut draft: Draft) -> Result<Script, AllocError>
     Ok(script)
 }
 
-/// What is said if a text of `count` lines ends within a session or a schedule.
+/// What is said of a text of `count` lines that ends within a session or a schedule.
 fn unfinished(count: u32) -> ScriptError
     ensures { result ≡ ScriptError.Refused (order.refused_at count Kind.NoEnd) }
 {

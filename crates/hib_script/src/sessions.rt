@@ -1,4 +1,5 @@
-// The lines of sessions and of the schedule.
+// The lines of sessions and of the schedule. `..._line` takes one line into the draft; `with_...` and `new_...` put in
+// what it says, or say what is wrong.
 ghost use Rattle.hib_base.specs.Scripts.{ends, are_over};
 ghost use Rattle.hib_base.specs.declared.refusals.Kind.{Kind};
 ghost use Rattle.hib_mapping.specs.Parts.{is_a_word, word_of};
@@ -77,7 +78,7 @@ fn new_session(alloc: Global, draft: &mut Draft, name: &Token) -> Result<(), Lin
     Ok(())
 }
 
-/// A line within a session: a statement or `end`.
+/// Takes a line within a session: a statement or `end`.
 pub fn in_session(
     alloc: Global,
     draft: &mut Draft,
@@ -141,7 +142,7 @@ fn ends_one(statement: &Statement) -> bool
     matches!(statement, Statement::Commit | Statement::Rollback)
 }
 
-/// Whether the last statement ends a transaction.
+/// Whether the last statement ends a transaction. A session's must.
 #[tactic(auto, using(crate::proofs::Statements::over_last))]
 fn are_over(statements: &[Statement]) -> bool
     ensures { result ≡ are_over statements.now }
@@ -152,7 +153,7 @@ fn are_over(statements: &[Statement]) -> bool
     }
 }
 
-/// The `end` of a session.
+/// Takes the `end` of a session.
 fn end_line(
     alloc: Global,
     draft: &mut Draft,
@@ -201,7 +202,7 @@ pub fn schedule_line(draft: &mut Draft, tokens: &[Token]) -> Result<(), LineErro
     }
 }
 
-/// A line within the schedule: an order or `end`.
+/// Takes a line within the schedule: an order or `end`.
 pub fn in_schedule(draft: &mut Draft, tokens: &[Token]) -> Result<(), LineError>
     ensures step { OnOk result (lines.in_schedule (reader_of draft.old) tokens.now
         ≡ Ok (reader_of draft.new)) }

@@ -1,4 +1,4 @@
-// The run of a script with bulk changes.
+// The call of `bulk`: a script is run with bulk changes.
 ghost use Rattle.std.specs.Prelude.{◌≡◌};
 ghost use Rattle.hib_bulk.specs.Run.{AreSet};
 ghost use Rattle.hib_call.specs.Called.{IsCalled};

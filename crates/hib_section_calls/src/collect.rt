@@ -1,4 +1,4 @@
-// The run of a script with collections.
+// The call of `collect`: a script is run with collections.
 ghost use Rattle.std.specs.Prelude.{◌≡◌};
 ghost use Rattle.hib_call.specs.Called.{IsCalled};
 ghost use Rattle.hib_call.specs.Ends.{Comes};

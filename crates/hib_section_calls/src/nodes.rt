@@ -1,4 +1,4 @@
-// The run of a script at two nodes.
+// The call of `nodes`: a script is run at two nodes.
 ghost use Rattle.std.specs.Prelude.{◌≡◌};
 ghost use Rattle.hib_call.specs.Called.{IsCalled};
 ghost use Rattle.hib_call.specs.Ends.{Comes};

@@ -222,9 +222,9 @@ fn take_line(
 ///
 /// There are at most 64, each of an entity whose rows have versions.
 ///
-/// Errors: `Refused` exactly if the lines are no such section, with the first bad line of both and the first kind that it has of
-/// order, line, words, reserved, taken, unknown, number, plain and many. An order other than `run` stands in the script's schedule.
-/// `NoMemory` if there is none left. Nothing is changed.
+/// Errors: `Refused` exactly if the lines are no such section, with the first bad line of both and the first kind that
+/// it has of order, line, words, reserved, taken, unknown, number, plain and many. An order other than `run` stands in
+/// the script's schedule. `NoMemory` if there is none left. Nothing is changed.
 pub fn read_collections(
     alloc: Global,
     mapping: &Mapping,

@@ -287,9 +287,10 @@ fn ended(count: u32, reading: Reading) -> Result<Places, ScriptError>
 /// Each place is of a session of the script, no session has two, and each node is 1 or 2. There are at most 20,000
 /// orders. Entities that are cached are read-write.
 ///
-/// Errors: `Refused` exactly if the lines are no such section, with the first bad line of both and the first kind that it has of
-/// order, strategy, cached, line, words, taken, unknown, number, many and no-end. A schedule, an entity of another strategy than
-/// `none` and `read-write` and a cached query stand in the script's own lines. `NoMemory` if there is none left. Nothing is changed.
+/// Errors: `Refused` exactly if the lines are no such section, with the first bad line of both and the first kind that
+/// it has of order, strategy, cached, line, words, taken, unknown, number, many and no-end. A schedule, an entity of
+/// another strategy than `none` and `read-write` and a cached query stand in the script's own lines. `NoMemory` if
+/// there is none left. Nothing is changed.
 pub fn read_nodes(
     alloc: Global,
     mapping: &Mapping,

@@ -1,4 +1,5 @@
-// What is made ready before the act that is due is done: the acts that complete a transaction, however it ends.
+// The acts that complete a transaction, made before its end is due, so that the end itself takes no memory. They are
+// made for a commit that is applied, and changed if it ends otherwise.
 ghost use Rattle.std.specs.Prelude.{◌≡◌, filter, map, if◌then◌else◌};
 ghost use Rattle.hib_session.specs.Ahead.{refused_act, is_kept, refused_of};
 
@@ -11,8 +12,7 @@ pub struct Ending {
     pub acts: Acts,
 }
 
-/// What is done in place of an act after a commit that was applied, if the transaction ends otherwise: a lock is given
-/// back without a row.
+/// Turns an act for a commit that was applied into the one for another end: a lock is given back without a row.
 fn refuse(act: &mut Act)
     ensures { act.new ≡ refused_act act.old }
 {
@@ -22,6 +22,7 @@ fn refuse(act: &mut Act)
     }
 }
 
+/// Turns all acts for a commit that was applied into those for another end.
 fn refuse_all(acts: &mut [Act])
     ensures { acts.new ≡ map refused_act acts.old }
 {
@@ -30,14 +31,14 @@ fn refuse_all(acts: &mut [Act])
     }
 }
 
-/// Whether an act after a commit that was applied has one in its place if the transaction ends otherwise: no new row is
-/// put.
+/// Whether an act for a commit that was applied has one in its place at another end. Else a new row would be put.
 fn is_kept_act(act: &Act) -> bool
     ensures { result ≡ is_kept act.now }
 {
     !matches!(act, Act::AfterInsert { .. })
 }
 
+/// Takes out the acts that have none in their place at another end.
 fn retain_kept(acts: &mut Vec<Act>)
     ensures { acts.new.items ≡ filter is_kept acts.old.items }
 {
@@ -45,7 +46,7 @@ fn retain_kept(acts: &mut Vec<Act>)
 }
 
 impl Ending {
-    /// The acts after an end. It takes no memory.
+    /// The acts after an end: `committed` says whether a commit was applied. It takes no memory.
     pub fn pick(self, committed: bool) -> Acts
         ensures { result ≡ (if committed then self.acts else refused_of self.acts) }
     {

@@ -1,4 +1,4 @@
-// How many entries a session has at most.
+// How many entries a session has at most, so that runs are short.
 ghost use Rattle.std.specs.Prelude.{◌≤◌, ℕ, length, slice_get, []};
 ghost use Rattle.std.specs.Option.{option_map_or};
 ghost use Rattle.hib_journal.specs.Types.{Script};
@@ -7,7 +7,8 @@ ghost use Rattle.hib_journal.specs.Plan.{InOrder};
 ghost use Rattle.hib_journal.specs.Next.{plan_of};
 ghost use Rattle.hib_session.specs.Bound.{most_entries};
 
-/// A session that does the acts of its plan, each once and in order, has few entries, whatever it is answered.
+/// A session that does each act that is due, once and in order, has few entries, whatever it is answered. It does
+/// nothing; hib_core bounds its runs by it.
 #[tactic(auto, using(crate::proofs::Few::entries_few))]
 pub fn entries_are_few()
     ensures { (script : Script) (s : ℕ) (mine : Journal) → InOrder (plan_of script s) mine

@@ -1,4 +1,4 @@
-// The changes of a transaction, and which keys they are of.
+// The changes that a session has written in its transaction, with their keys, so that one is found without a search.
 ghost use Rattle.std.specs.Prelude.{◌≡◌, ◌∷◌, [], ◌++◌, IsOk, OnOk, true};
 ghost use Rattle.hib_journal.specs.Next.{is_in};
 ghost use Rattle.hib_session.specs.Changed.{ChangedState};
@@ -78,7 +78,7 @@ impl Changed {
         Ok(())
     }
 
-    /// A change was written. It takes no memory.
+    /// Notes a change that was written. There must be room for it. It takes no memory.
     pub fn push(&mut self, change: Change)
         requires { self.old.room ≡ true }
         ensures { self.new.list ≡ self.old.list ++ change ∷ [] }

@@ -1,4 +1,5 @@
-// The control of a session: which act is due.
+// The control of a session: which act is due, by its statements and by what its acts were answered. A mode says whether
+// regions and results are read and filled (a statement of the script sets it).
 ghost use Rattle.std.specs.Prelude.{◌≡◌, ◌∷◌, [], ◌+◌, ◌*◌, ◌<◌, ◌≤◌, length, slice_get, IfOk, IsOk, is_some, OnOk, OnErr, List, true, false, Some, drop, IsTrue, ◌↔◌};
 ghost use Rattle.std.specs.Option.{option_map_or};
 ghost use Rattle.hib_base.specs.declared.entries.Entry.{Entry};
@@ -62,6 +63,7 @@ pub struct Control {
     pub stage: Stage,
 }
 
+/// The mode after a statement.
 fn mode_from(statement: &Statement, mode: Mode) -> Mode
     ensures { result ≡ mode_after statement.now mode }
 {
@@ -71,6 +73,7 @@ fn mode_from(statement: &Statement, mode: Mode) -> Mode
     }
 }
 
+/// Whether a statement ends the transaction: then another one begins before the next statement.
 fn is_end(statement: &Statement) -> bool
     ensures { result ≡ ends statement.now }
 {
@@ -101,6 +104,7 @@ fn is_over(list: &[Statement], place: usize) -> bool
     }
 }
 
+/// The stage in which a query is answered: the results are looked through if it may use them, else the store is asked.
 fn answering(script: &Script, memory: &Memory, mode: Mode, stage: Stage) -> Stage
     ensures decided { (mine : Journal) → Recalls memory.now mine
         → result ≡ decided script.now mode mine stage }
@@ -118,6 +122,7 @@ fn answering(script: &Script, memory: &Memory, mode: Mode, stage: Stage) -> Stag
     }
 }
 
+/// Whether it isn't decided yet how a query is answered.
 fn is_answering_stage(stage: Stage) -> bool
     ensures { result ≡ is_answering stage }
 {
@@ -127,6 +132,7 @@ fn is_answering_stage(stage: Stage) -> bool
     }
 }
 
+/// Whether nothing is left of a block but the acts that are queued.
 fn is_idle(stage: Stage) -> bool
     ensures { result ≡ is_resting stage }
 {
@@ -155,7 +161,7 @@ fn act_of(memory: &Memory, stage: Stage) -> Option<Act>
     }
 }
 
-/// Whether there are copies for an act that is a write.
+/// Whether the copies that a write needs are there; another act needs none.
 fn are_there(act: &Act, copies: &Option<Written>) -> bool
     ensures { result ≡ has_copies copies.now act.now }
 {
@@ -165,14 +171,14 @@ fn are_there(act: &Act, copies: &Option<Written>) -> bool
     }
 }
 
-/// Whether an act is one whose entry must find room.
+/// Whether the entry of this act must find room in the session's memory.
 pub fn takes_room(act: &Act) -> bool
     ensures { result ≡ takes_room_of act.now }
 {
     matches!(act, Act::Write(_) | Act::Lock { .. })
 }
 
-/// Copies for an act that is a write.
+/// Copies for the entry of a write, for the session's memory; none for another act.
 fn copies_of(alloc: Global, act: &Act) -> Result<Option<Written>, AllocError>
     ensures fit { IfOk result (λ w. Fits w act.now) }
     ensures made { IfOk result (λ w. has_copies w act.now ≡ true) }
@@ -235,7 +241,8 @@ impl Control {
         }
     }
 
-    /// Takes the next statement.
+    /// Takes the next statement: its first acts are queued, and its stage is set. No act may be queued, and a
+    /// transaction must have begun.
     fn take(&mut self, alloc: Global, script: &Script, memory: &Memory) -> Result<(), AllocError>
         requires empty { self.old.queue ≡ [] }
         requires idle { self.old.stage ≡ Stage.Idle }
@@ -260,7 +267,7 @@ impl Control {
         Ok(())
     }
 
-    /// One step towards an act that is due.
+    /// One step towards an act that is due: the next statement is taken, or it is decided how a query is answered.
     fn go_on(&mut self, alloc: Global, script: &Script, memory: &Memory) -> Result<(), AllocError>
         requires { Rattle.hib_session.specs.Control.is_settled script.now self.old ≡ false }
         ensures number { self.new.number ≡ self.old.number }
@@ -318,8 +325,8 @@ impl Control {
         Ok(act_of(memory, self.stage))
     }
 
-    /// An equal control, of one that has no act queued: a statement is expanded in it to see what is due, and this one
-    /// stays as it is. It takes no memory.
+    /// An equal control. It must have no act queued. A statement is expanded in the new one to see what is due, and
+    /// this one stays as it is. It takes no memory.
     pub fn reopened(&self, alloc: Global) -> Control
         requires { self.now.queue ≡ [] }
         ensures { result ≡ self.now }
@@ -334,14 +341,14 @@ impl Control {
         }
     }
 
-    /// Whether the entry of the next act must find room.
+    /// Whether the entry of the next act must find room in the session's memory.
     pub fn needs_room(&self) -> bool
         ensures { result ≡ needs_room_in self.now.queue }
     {
         !self.queue.is_empty() && takes_room(self.queue.first())
     }
 
-    /// Whether what the entry of the next act needs is there: copies for a write, and for an end of the transaction the
+    /// Whether what the entry of the next act needs was made: copies for a write, and for an end of the transaction the
     /// acts that follow.
     pub fn is_made(&self, copies: &Option<Written>, ending: &Option<Ending>) -> bool
         ensures { result ≡ Rattle.hib_session.specs.Ahead.is_made self.now.queue self.now.stage
@@ -392,9 +399,9 @@ impl Control {
         }
     }
 
-    /// The acts and the stage that follow an entry of the act of the stage, by what is remembered without that entry.
-    /// Of an end of the transaction the acts may be there. It takes no memory but for rows and lists that were
-    /// answered, and for an end whose acts aren't there.
+    /// The acts and the stage that follow an entry of the act that is due, by what is remembered without that entry.
+    /// For an end of the transaction `ending` may have the acts. It takes no memory but for rows and lists that were
+    /// answered, and for an end without `ending`.
     pub fn prepared(
         &self,
         alloc: Global,
@@ -420,8 +427,8 @@ impl Control {
         answered(alloc, script, memory, self.mode, self.stage, entry, ending)
     }
 
-    /// Takes one more entry, of which these acts and this stage follow if nothing is queued and a stage has its act.
-    /// It takes no memory.
+    /// Takes one more entry. If nothing was queued and a stage had its act, these acts and this stage follow. It takes
+    /// no memory.
     pub fn step(&mut self, queue: Acts, stage: Stage)
         ensures number { self.new.number ≡ self.old.number }
         ensures stands { (script : Script) (entry : Entry) (done : Journal)

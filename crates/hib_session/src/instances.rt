@@ -1,4 +1,4 @@
-// The instances of a session, and which of them may have a change that is pending.
+// The instances of a session, and which of them may have a change that is pending: a flush would write it.
 ghost use Rattle.std.specs.Prelude.{◌≡◌, ◌&&◌, [], false, IfSome, IsTrue, None, OnErr, OnOk, Some, nat_lt, option_copied};
 ghost use Rattle.std.specs.List.{list_any};
 ghost use Rattle.hib_journal.specs.Held.{same_cells};
@@ -17,10 +17,10 @@ use indexmap::IndexSet;
 use std::alloc::{AllocError, Global};
 use std::marker::Model;
 
-/// The instances of a session. Contracts see the identity map alone. Beside it stand the keys of those of which a
-/// change may be pending, so that nothing is asked of the others. The write of another row than the one that was
-/// pending may leave a key for which there is no room among them; from then on they say nothing, until all instances
-/// leave. No plan has such a write.
+/// The instances of a session. Contracts see the identity map alone. Beside it stand the keys of those that may have a
+/// change pending, so that a flush asks nothing of the others. If another row is written than the one that was pending,
+/// there may be no room for its key among these; from then on they say nothing, until all instances leave. No flush
+/// plans such a write.
 #[derive(Drop)]
 pub struct Instances {
     map: IdentityMap,
@@ -112,8 +112,8 @@ impl Instances {
         &self.map
     }
 
-    /// An instance of which nothing is pending arrives, in the place of one of the same key. At an error nothing has
-    /// changed.
+    /// An instance arrives, in the place of one of the same key. It must have nothing pending, and not be marked. At an
+    /// error nothing has changed.
     pub fn arrive(&mut self, key: &Key, held: Held) -> Result<(), AllocError>
         requires clean { is_pending (Some held) ≡ false }
         requires there { is_gone (Some held) ≡ false }
@@ -125,7 +125,8 @@ impl Instances {
         Ok(())
     }
 
-    /// An instance arrives, in the place of one of the same key. At an error nothing has changed.
+    /// An instance arrives, in the place of one of the same key. It must not be marked. At an error nothing has
+    /// changed.
     pub fn make(&mut self, key: &Key, held: Held) -> Result<(), AllocError>
         requires { is_gone (Some held) ≡ false }
         ensures ok { OnOk result (self.new
@@ -137,7 +138,8 @@ impl Instances {
         Ok(())
     }
 
-    /// The instance of a key, if there is one, stands for a row that was written. It takes no memory.
+    /// Notes that the row of a key was written: its instance, if there is one, has that row as its base now. It takes
+    /// no memory.
     pub fn set_base(&mut self, key: &Key, base: Row)
         ensures { self.new ≡ with_pairs self.old (change_in key.now (written base) self.old.held) }
     {
@@ -163,8 +165,8 @@ impl Instances {
         Ok(())
     }
 
-    /// The row of a key was removed: its instance leaves if it was never written, and else is marked. At an error
-    /// nothing has changed.
+    /// Notes that the row of a key was removed: its instance leaves if it was never written, and else is marked. At an
+    /// error nothing has changed.
     pub fn remove(&mut self, key: &Key, unwritten: bool) -> Result<(), AllocError>
         ensures ok { OnOk result (self.new
             ≡ record {

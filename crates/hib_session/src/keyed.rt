@@ -1,4 +1,4 @@
-// Sets and maps of keys that have room for one key more.
+// Sets and maps of keys with room for one key more, so that a session's memory takes an entry without memory.
 ghost use Rattle.std.specs.Prelude.{◌≡◌, ◌<◌, nat_lt};
 ghost use Rattle.indexmap.specs.IndexMap.{insert_entry, spare as spare_of};
 ghost use Rattle.indexmap.specs.IndexSet.{insert_key, spare};
@@ -29,7 +29,7 @@ pub fn is_among(keys: &IndexSet<Key>, key: Key) -> bool
     keys.contains(&key)
 }
 
-/// Gives a key of a map a value in place of the one that it has. It takes no memory.
+/// Gives a key of a map a value in place of the one that it has. There must be room for the key. It takes no memory.
 pub fn put<V: Drop>(map: &mut IndexMap<Key, V>, key: Key, value: V)
     requires { 0 < spare_of map.old }
     ensures { map.new.entries ≡ insert_entry same_key map.old.entries key value }
@@ -37,7 +37,7 @@ pub fn put<V: Drop>(map: &mut IndexMap<Key, V>, key: Key, value: V)
     map.insert(key, value).unwrap();
 }
 
-/// Adds a key to a set. It takes no memory.
+/// Adds a key to a set. There must be room for it. It takes no memory.
 pub fn add(keys: &mut IndexSet<Key>, key: Key)
     requires { 0 < spare keys.old }
     ensures { keys.new.keys ≡ insert_key same_key keys.old.keys key }

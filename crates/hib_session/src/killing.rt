@@ -1,4 +1,4 @@
-// Sessions that are killed by their places.
+// Kills of sessions, for a factory and for an audit: a killed session has no act due any more.
 ghost use Rattle.std.specs.Prelude.{◌==◌};
 ghost use Rattle.std.specs.List.{list_any};
 ghost use Rattle.hib_session.specs.Killed.{AreKilled};
@@ -6,7 +6,7 @@ ghost use Rattle.hib_session.specs.Killed.{AreKilled};
 use crate::session::Session;
 use hib_base::SessionNo;
 
-/// Kills the session at a place, if there is one. It takes no memory.
+/// Kills the session at a place among the sessions, if there is one. It takes no memory.
 pub fn kill_at(sessions: &mut Vec<Session>, place: usize)
     ensures { AreKilled (λ s. place == s) sessions.old.items sessions.new.items }
 {

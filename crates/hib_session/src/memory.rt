@@ -66,7 +66,7 @@ impl Model for Memory {
     } };
 }
 
-/// Whether a key is marked.
+/// Whether a key's instance was made and never written.
 pub fn is_marked(marks: &IndexMap<Key, bool>, key: Key) -> bool
     ensures { result ≡ marked_in key marks.now.entries }
 {
@@ -76,7 +76,7 @@ pub fn is_marked(marks: &IndexMap<Key, bool>, key: Key) -> bool
     }
 }
 
-/// What comes before the first write of a key: a lock, or the removal of its item.
+/// The act that comes before the first write of a key: a lock, or the removal of its item.
 fn before_first(strategy: Strategy, key: Key, version: Option<u32>, floor: Tick) -> Option<Act>
     ensures { acts_of result ≡ before_cached strategy key version floor }
 {
@@ -134,7 +134,7 @@ impl Memory {
         Ok(())
     }
 
-    /// What is held of a key.
+    /// The instance that is held of a key.
     pub fn find(&self, key: Key) -> Option<&Held>
         ensures { MatchOption result (held_in self.now.instances.held key ≡ None)
             (λ h. held_in self.now.instances.held key ≡ Some (shown_of key h.now)) }
@@ -142,21 +142,21 @@ impl Memory {
         self.instances.look(key)
     }
 
-    /// Whether a key is held.
+    /// Whether an instance of a key is held.
     pub fn holds(&self, key: Key) -> bool
         ensures { result ≡ is_some (held_in self.now.instances.held key) }
     {
         self.find(key).is_some()
     }
 
-    /// Whether a key is in the changes.
+    /// Whether a key is among the changes of the transaction.
     pub fn has_changed(&self, key: Key) -> bool
         ensures { result ≡ is_in key self.now.changes }
     {
         self.changes.has(key)
     }
 
-    /// Whether a key is held or in the changes.
+    /// Whether a key is held or among the changes. A persist of such a key is refused.
     pub fn knows(&self, key: Key) -> bool
         ensures { result ≡ (is_some (held_in self.now.instances.held key) || is_in key
             self.now.changes) }
@@ -166,7 +166,7 @@ impl Memory {
         self.holds(Key { entity, id }) || self.has_changed(Key { entity, id })
     }
 
-    /// Whether the region of a key is asked for it.
+    /// Whether the region of a key is asked before the store.
     pub fn reads(&self, script: &Script, mode: Mode, key: Key) -> bool
         ensures { (mine : Journal) → Knows self.now mine
             → result ≡ may_read script.now mode key mine }
@@ -182,7 +182,8 @@ impl Memory {
         is_cached(script.mapping.as_slice(), key.entity) && mode.puts() && !self.has_changed(key)
     }
 
-    /// Whether a query may use its results.
+    /// Whether a query may use its kept results: it keeps some, the mode allows it, and the session has changed no
+    /// table that it reads.
     pub fn frees(&self, script: &Script, query: QueryNo, by_mode: bool) -> bool
         ensures { (mine : Journal) → Recalls self.now mine
             → result ≡ is_free script.now query by_mode mine }
@@ -190,7 +191,7 @@ impl Memory {
         is_kept(script, query) && by_mode && !is_touched(script, query, self.changes.as_slice())
     }
 
-    /// Whether a change of one of a query's tables is pending; none if that isn't known without a plan.
+    /// Whether a change of one of a query's tables is pending; none if only a plan of a flush tells that.
     fn touches(&self, script: &Script, query: QueryNo) -> Option<bool>
         ensures { IfSome result (λ b. b
             ≡ is_in_tables (tables_of script.now query) (planned self.now.instances)) }
@@ -218,7 +219,8 @@ impl Memory {
         Ok(is_touched(script, query, changes.as_slice()))
     }
 
-    /// The version that a lock on a key is to have: that of its base, if the base is fresh.
+    /// The version that a lock on a key is to have: that of its base, if the base was read or written in this
+    /// transaction.
     fn lock_version(&self, key: &Key, version: Option<u32>) -> Option<u32>
         ensures { result ≡ (if is_key_in key.now self.now.fresh then version else None) }
     {
@@ -264,7 +266,7 @@ impl Memory {
         acts.push(Act::Write(change))
     }
 
-    /// The acts of a flush of these changes.
+    /// The acts of a flush that writes these changes.
     fn flush_acts(
         &self,
         alloc: Global,
@@ -285,7 +287,7 @@ impl Memory {
         Ok(acts)
     }
 
-    /// The acts of a flush.
+    /// The acts of a flush: it writes what is pending.
     pub fn flush(&self, alloc: Global, script: &Script) -> Result<Acts, AllocError>
         ensures { IfOk result (λ q. (mine : Journal) → Knows self.now mine
             → q ≡ flush_of script.now mine (pending mine)) }

@@ -1,4 +1,4 @@
-// How a memory takes one more entry.
+// How a session's memory takes one more entry.
 ghost use Rattle.std.specs.Prelude.{◌≡◌, ◌∷◌, [], ◌++◌, OnOk, OnErr, IfOk, IsOk, is_some, true, false, not, ◌||◌, Some, None};
 ghost use Rattle.hib_journal.specs.Sessions.{floor_after};
 ghost use Rattle.hib_journal.specs.Held.{is_break};
@@ -105,7 +105,7 @@ impl Memory {
         self.fresh = IndexSet::new(alloc);
     }
 
-    /// The identity map is emptied. It takes no memory.
+    /// Empties the identity map. It takes no memory.
     fn clear(&mut self, alloc: Global)
         ensures { self.new ≡ record self.old {
           instances = with_pairs self.old.instances [];
@@ -117,7 +117,7 @@ impl Memory {
         self.marks = IndexMap::new(alloc);
     }
 
-    /// A commit was answered. It takes no memory.
+    /// Notes how a commit was answered. It takes no memory.
     fn commit(&mut self, alloc: Global, reply: &Reply)
         ensures { self.new ≡ record self.old {
           instances = with_pairs self.old.instances
@@ -140,7 +140,8 @@ impl Memory {
         self.clear(alloc);
     }
 
-    /// An insert was written: the instance stands for the written row from now on. It takes no memory.
+    /// Notes an insert that was written: the instance stands for the written row from now on. There must be room for
+    /// it. It takes no memory.
     fn insert(&mut self, change: Change, key: &Key, base: Row)
         requires { self.old.room ≡ true }
         ensures { self.new ≡ record self.old {
@@ -158,7 +159,8 @@ impl Memory {
         self.instances.set_base(key, base);
     }
 
-    /// An update was written: the instance stands for the written row from now on. It takes no memory.
+    /// Notes an update that was written: the instance stands for the written row from now on. There must be room for
+    /// it. It takes no memory.
     fn update(&mut self, change: Change, key: &Key, base: Row)
         requires { self.old.room ≡ true }
         ensures { self.new ≡ record self.old {
@@ -174,7 +176,7 @@ impl Memory {
         self.instances.set_base(key, base);
     }
 
-    /// A delete was written: the instance leaves. It takes no memory.
+    /// Notes a delete that was written: the instance leaves. There must be room for it. It takes no memory.
     fn delete(&mut self, change: Change, key: &Key)
         requires { self.old.room ≡ true }
         ensures { self.new ≡ record self.old {
@@ -187,7 +189,7 @@ impl Memory {
         self.instances.drop(key);
     }
 
-    /// A change was written. It takes no memory.
+    /// Notes a change that was written. There must be room for it. It takes no memory.
     fn write(&mut self, written: Written)
         requires { self.old.room ≡ true }
         ensures { written.base ≡ row_left written.change → self.new ≡ record self.old {
@@ -207,7 +209,7 @@ impl Memory {
         }
     }
 
-    /// A row was removed: its instance leaves if it was never written, and else is marked.
+    /// Notes that a row was removed: its instance leaves if it was never written, and else is marked.
     fn remove(&mut self, key: &Key) -> Result<(), AllocError>
         ensures ok { OnOk result (self.new
             ≡ record self.old {
@@ -222,7 +224,7 @@ impl Memory {
         self.instances.remove(key, is_marked(&self.marks, *key))
     }
 
-    /// Cells of a row were set.
+    /// Sets cells of a row in its instance.
     fn set(&mut self, alloc: Global, key: &Key, sets: &Sets) -> Result<(), AllocError>
         ensures ok { OnOk result (self.new
             ≡ record self.old {
@@ -235,7 +237,7 @@ impl Memory {
         self.instances.set_cells(alloc, key, sets)
     }
 
-    /// A lock was given.
+    /// Notes a lock that was given. There must be room for it.
     fn lock(&mut self, key: Key, lock: Tick)
         requires { self.old.room ≡ true }
         ensures { self.new ≡ record self.old {
@@ -246,7 +248,7 @@ impl Memory {
         put(&mut self.locks, key, lock);
     }
 
-    /// A change was written, of which there may be copies.
+    /// Notes a change that was written. There must be room for it. If its copies are there, it takes no memory.
     fn write_copied(
         &mut self,
         alloc: Global,
@@ -272,7 +274,8 @@ impl Memory {
         Ok(())
     }
 
-    /// Takes one more entry, if there is room for one that must find it. At an error nothing has changed but the room.
+    /// Takes one more entry. If it must find room, the room must be there. At an error nothing has changed but the
+    /// room.
     fn take(
         &mut self,
         alloc: Global,
@@ -292,7 +295,7 @@ impl Memory {
         }
     }
 
-    /// Takes an entry that is no write. At an error nothing has changed but the room.
+    /// Takes an entry, which must be no write. At an error nothing has changed but the room.
     fn take_other(&mut self, alloc: Global, entry: &Entry) -> Result<(), AllocError>
         requires room { (not (takes_room_of entry.now.act) || self.old.room) ≡ true }
         requires other { is_write entry.now.act ≡ false }
@@ -331,8 +334,8 @@ impl Memory {
         }
     }
 
-    /// Takes one more entry, which may be that of a write of which there are copies. If there is room, or the entry
-    /// needs none, it takes memory for what the entry brings alone. At an error nothing has changed but the room.
+    /// Takes one more entry. `copies` are those of a write, if they were made. If there is room, or the entry needs
+    /// none, it takes memory only for what the entry brings. At an error nothing has changed but the room.
     pub fn note(
         &mut self,
         alloc: Global,

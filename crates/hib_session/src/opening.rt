@@ -1,4 +1,4 @@
-// The sessions of a script.
+// The sessions of a script, for whoever plays or audits it.
 ghost use Rattle.std.specs.Prelude.{◌<◌, ◌^◌, [], length, IfOk};
 ghost use Rattle.hib_session.specs.Sessions.{AreSessions};
 

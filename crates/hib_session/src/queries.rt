@@ -1,4 +1,4 @@
-// Which tables a query reads.
+// Which tables a query reads, to know whether it must be preceded by a flush, and whether kept results may answer it.
 ghost use Rattle.std.specs.Prelude.{◌≡◌, length, slice_get, ◌==◌, false, option_copied};
 ghost use Rattle.std.specs.Option.{option_map_or};
 ghost use Rattle.hib_journal.specs.Query.{mentions as mentioned, reads as is_read, mentions};
@@ -7,6 +7,7 @@ ghost use Rattle.hib_session.specs.Queries.{touches as touching, touching_in};
 
 use hib_base::{Change, Cond, EntityNo, Query, QueryNo, Script, Target};
 
+/// Whether a reference leads to an entity.
 fn is_target(target: Option<Target>, entity: EntityNo) -> bool
     ensures { result ≡ option_map_or (λ g. g.entity == entity) target false }
 {
@@ -28,6 +29,7 @@ fn mentions(condition: &Cond, entity: EntityNo) -> bool
     }
 }
 
+/// Whether a query's condition, if it has one, follows a reference to an entity.
 fn conditions_on(condition: &Option<Cond>, entity: EntityNo) -> bool
     ensures { result ≡ option_map_or (mentions entity) condition.now false }
 {
@@ -64,7 +66,7 @@ pub fn query_of(script: &Script, query: QueryNo) -> Option<&Query>
     script.queries.as_slice().get(query.0 as usize)
 }
 
-// By a test of each change.
+// For `is_touched`, by a test of each change.
 fn touches_named(script: &Script, query: QueryNo, changes: &[Change]) -> bool
     ensures { result ≡ touching_in (length script.now.mapping)
         (slice_get script.now.queries query) changes.now }

@@ -1,4 +1,4 @@
-// The acts that are due one after another.
+// The acts of a session's block that are due one after another.
 ghost use Rattle.std.specs.Prelude.{◌≡◌, ◌↔◌, ◌<◌, [], ◌∷◌, IsTrue, length, slice_get, Some};
 
 use hib_base::{Act, Acts};
@@ -22,7 +22,7 @@ impl Model for Queue {
 }
 
 impl Queue {
-    /// No act is due. It takes no memory.
+    /// The queue in which no act is due. It takes no memory.
     pub fn new(alloc: Global) -> Queue
         ensures { result ≡ [] }
     {
@@ -31,7 +31,7 @@ impl Queue {
         }
     }
 
-    /// These acts are due. It takes no memory.
+    /// The queue in which these acts are due. It takes no memory.
     pub fn of(acts: Acts) -> Queue
         ensures { result ≡ acts }
     {
@@ -54,7 +54,7 @@ impl Queue {
         self.acts.is_empty()
     }
 
-    /// The first act.
+    /// The first act. There must be one.
     pub fn first(&self) -> &Act
         requires { 0 < length self.now }
         ensures { slice_get self.now 0 ≡ Some result.now }
@@ -62,7 +62,8 @@ impl Queue {
         &self.acts[0]
     }
 
-    /// Takes the first act out. After the last one the memory of all is given back. It takes no memory.
+    /// Takes the first act out. There must be one. After the last one the memory of all is given back. It takes no
+    /// memory.
     pub fn take_first(&mut self) -> Act
         requires { 0 < length self.old }
         ensures { self.old ≡ result ∷ self.new }

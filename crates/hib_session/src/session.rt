@@ -1,4 +1,4 @@
-// A session of a script.
+// A session of a script. It says which act is due, answers what is its own, and is told each of its entries.
 ghost use Rattle.std.specs.Prelude.{◌≡◌, ◌∷◌, ◌<◌, ◌≤◌, ◌||◌, if◌then◌else◌, [], true, false, None, IfOk, IsOk, IfSome, OnOk, OnErr, Some, is_some, option_and_then};
 ghost use Rattle.std.specs.Option.{option_copied};
 ghost use Rattle.hib_base.specs.declared.replies.Reply.{Reply};
@@ -28,9 +28,9 @@ use std::mem;
 pub struct Session {
     control: Control,
     memory: Memory,
-    // Copies for the entry of the write that is due.
+    // Copies of the change that is due to be written, for its entry.
     copies: Option<Written>,
-    // The acts after the end of the transaction that is due.
+    // The acts after the end of the transaction, if its end is due.
     ending: Option<Ending>,
     killed: bool,
 }
@@ -58,7 +58,7 @@ fn is_shown(held: &Held) -> bool
     }
 }
 
-/// The answer to a persist, by whether the key is known.
+/// The answer to a persist, by whether the session knows the key.
 fn persist_reply(known: bool) -> Reply
     ensures { result ≡ (if known then Reply.Known else Reply.New) }
 {
@@ -140,7 +140,7 @@ impl Session {
         }
     }
 
-    /// No act of the session is due from now on. It takes no memory.
+    /// Kills the session: no act of it is due from now on. It takes no memory.
     pub fn kill(&mut self)
         ensures number { number_of self.new ≡ number_of self.old }
         ensures killed { is_killed self.new ≡ true }
@@ -185,7 +185,7 @@ impl Session {
         Ok(())
     }
 
-    /// The act that is due of a session that was not killed.
+    /// The act that is due. The session must not have been killed.
     fn due(&self, alloc: Global, script: &Script) -> Result<Option<Act>, AllocError>
         ensures { IfOk result (λ a. (mine : Journal) → Knows self.now.memory mine
             → Stands script.now self.now.control mine
@@ -222,7 +222,7 @@ impl Session {
         Ok(act)
     }
 
-    /// The answer to a find of what is held.
+    /// The answer to a find: the row of the instance that is held.
     fn found(&self, alloc: Global, key: Key) -> Result<Reply, AllocError>
         ensures { IfOk result (λ r. (mine : Journal) → Knows self.now.memory mine
             → r ≡ Reply.Row (Rattle.hib_journal.specs.Legal.row_of (held mine key))) }
@@ -322,7 +322,7 @@ impl Session {
         }
     }
 
-    /// Takes the entry of the act that was due. It makes the session ready first. Of a session that is ready it answers
+    /// Takes the entry of the act that was due. It makes the session ready first. If the session was ready, it answers
     /// Ok, unless the act is Persist, Load, List, Get, Set or Remove. If memory runs out the session follows the same
     /// entries as before.
     pub fn advance(

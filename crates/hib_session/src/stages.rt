@@ -1,4 +1,4 @@
-// How a statement begins, and what follows the reply to one of its acts.
+// How the block of a statement begins, and what follows the reply to one of its acts. `control` has the stages.
 ghost use Rattle.std.specs.Prelude.{◌≡◌, ◌∷◌, [], ◌*◌, ◌<◌, slice_get, IfOk, IsOk, is_some, List, true, false, Some};
 ghost use Rattle.std.specs.Option.{option_map_or};
 ghost use Rattle.hib_base.specs.declared.entries.Entry.{Entry};
@@ -43,7 +43,7 @@ fn got(key: Key, reply: &Reply) -> Stage
     }
 }
 
-/// The put of a row that was loaded, if it may come.
+/// The put of a row that was loaded, if its region may be asked to take it.
 fn put_row(
     alloc: Global,
     script: &Script,
@@ -69,7 +69,7 @@ fn put_row(
     only(alloc, act)
 }
 
-/// What follows the answer to a Load.
+/// The acts that follow the answer to a Load.
 fn loaded(
     alloc: Global,
     script: &Script,
@@ -87,7 +87,7 @@ fn loaded(
     }
 }
 
-/// What follows the answer to a Look.
+/// The stage that follows the answer to a Look.
 fn looked(query: QueryNo, reply: &Reply) -> Stage
     ensures follows { (script : Script) (mode : Mode) (done : Journal) (go : Journal → Plan) →
         staged script mode result done go ≡ check_found script mode query reply.now done go }
@@ -99,7 +99,7 @@ fn looked(query: QueryNo, reply: &Reply) -> Stage
     }
 }
 
-/// What follows the answer to a Check.
+/// The stage that follows the answer to a Check.
 fn checked(query: QueryNo, reply: &Reply) -> Stage
     ensures follows { (script : Script) (mode : Mode) (done : Journal) (go : Journal → Plan) →
         staged script mode result done go ≡ list_unless_fresh script mode query reply.now done go }
@@ -111,7 +111,7 @@ fn checked(query: QueryNo, reply: &Reply) -> Stage
     }
 }
 
-/// What follows the answer to a List.
+/// The acts that follow the answer to a List.
 fn listed(
     alloc: Global,
     script: &Script,
@@ -146,7 +146,7 @@ fn is_committed(reply: &Reply) -> bool
     }
 }
 
-/// The acts that complete a transaction, which may be there.
+/// The acts that complete a transaction: those that were made ready, or else they are made now.
 fn completed(
     alloc: Global,
     script: &Script,
@@ -165,7 +165,7 @@ fn completed(
     }
 }
 
-/// What follows an entry of the act that a stage has.
+/// The acts and the stage that follow an entry of the act that this stage has.
 pub fn answered(
     alloc: Global,
     script: &Script,
@@ -217,6 +217,7 @@ fn is_versioned(script: &Script, entity: EntityNo) -> bool
     }
 }
 
+/// The version that a new row of an entity has, if its rows have versions.
 fn version_at_first(script: &Script, entity: EntityNo) -> Option<u32>
     ensures { result ≡ first_version script.now entity }
 {
@@ -227,7 +228,8 @@ fn version_at_first(script: &Script, entity: EntityNo) -> Option<u32>
     }
 }
 
-/// The acts and the stage of a find.
+/// The acts and the stage with which a find begins: what is held is answered by the session, else a region or the store
+/// is asked.
 fn find_taken(
     alloc: Global,
     script: &Script,
@@ -247,7 +249,7 @@ fn find_taken(
     Ok((Seq::new(alloc), Stage::Loading(key)))
 }
 
-/// The acts and the stage of a list.
+/// The acts and the stage with which a list begins: a flush comes first, if a change of its tables is pending.
 fn list_taken(
     alloc: Global,
     script: &Script,
@@ -264,7 +266,7 @@ fn list_taken(
     Ok((Seq::new(alloc), Stage::Answering(query)))
 }
 
-/// The act of a persist.
+/// The act with which a persist begins.
 fn persist_taken(
     alloc: Global,
     script: &Script,
@@ -282,7 +284,7 @@ fn persist_taken(
     only(alloc, Act::Persist { key, row })
 }
 
-/// The acts and the stage of a statement.
+/// The acts and the stage with which the block of a statement begins.
 pub fn taken(
     alloc: Global,
     script: &Script,

@@ -1,4 +1,4 @@
-// What is made ready for the entry of a write.
+// Copies for the entry of a write, which are made before the write, so that its entry takes no memory.
 ghost use Rattle.std.specs.Prelude.{◌≡◌, IfOk};
 ghost use Rattle.hib_base.specs.Tables.{row_left};
 

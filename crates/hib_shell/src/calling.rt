@@ -1,4 +1,4 @@
-// The top call over the host's streams.
+// The top call over standard input and output, with the listeners that the words ask for.
 ghost use Rattle.std.specs.Prelude.{◌≡◌, ◌≢◌, ◌↔◌, if◌then◌else◌, false, length, IfOk, None};
 ghost use Rattle.std.specs.Option.{option_map_or};
 ghost use Rattle.hib_outside.specs.Causes.{Rose};

@@ -1,4 +1,4 @@
-// What is told the user of the program itself.
+// What the program itself prints: its help or its version.
 use hib_call::Status;
 use hib_host::{print_made, print_text};
 use hib_words::{Topic, VERSION, help};

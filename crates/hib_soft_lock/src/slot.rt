@@ -1,4 +1,4 @@
-// What a key of a read-write region holds.
+// What a key of a read-write region holds. A soft lock is one on a key, and no lock of std's.
 ghost use Rattle.std.specs.Prelude.{◌≡◌, ◌≤◌, ◌<◌, ◌^◌, ℕ, None, Option, true};
 ghost use Rattle.hib_journal.specs.Regions as Regions;
 ghost use Rattle.hib_soft_lock.specs.Shown.{shown, verdict_put};
@@ -63,6 +63,7 @@ pub enum Verdict {
     },
 }
 
+/// Whether a version is older than another, if there are both.
 fn is_below(old: Option<u32>, new: Option<u32>) -> bool
     ensures { result ≡ Regions.is_below old new }
 {
@@ -88,7 +89,7 @@ impl Slot {
         }
     }
 
-    /// Why it isn't read, if it isn't.
+    /// Why its row isn't given to a reader, if it isn't.
     pub fn miss(&self) -> Miss
         ensures { result ≡ Regions.miss (shown self.now) }
     {
@@ -174,7 +175,7 @@ impl Slot {
         }
     }
 
-    /// One holder lets go; if none is left, the lock is free from now on. Answers how many are left.
+    /// One holder lets go. There must be one. If none is left, the lock is free from now on. Answers how many are left.
     pub fn release(&mut self, now: Tick) -> u64
         requires { is_held (shown self.old) ≡ true }
         ensures slot { self.new ≡ released now self.old }

@@ -1,4 +1,5 @@
-// A run in which the caller makes the steps of one session after the other, with no thread and no lock.
+// A run in which the caller makes the steps of one session after the other, with no thread and no lock. It is what
+// `work --split` does with one worker.
 ghost use Rattle.std.specs.Prelude.{◌≡◌, ◌≤◌, ◌+◌, [], length, map, true, false, None, vec_len, vec_capacity, IfOk};
 ghost use Rattle.std.specs.List.{All};
 ghost use Rattle.hib_base.specs.Valid.{is_valid};
@@ -19,7 +20,8 @@ use hib_outside::Keeper;
 use hib_parts::Parts;
 use std::alloc::{AllocError, Global};
 
-/// Room for the lists of the shared parts, and for those of sessions.
+/// Room for the lists of the shared parts, and for those of sessions. It is taken before the run, so that no list is
+/// lost at its end.
 pub fn rooms(
     alloc: Global,
     regions: usize,
@@ -36,7 +38,7 @@ pub fn rooms(
     Ok((room_for(alloc, count)?, room_for(alloc, sessions)?))
 }
 
-/// The run for which there is no room.
+/// What comes of a run for which there was no room: the keeper alone, and that memory ran out.
 pub fn without_room<K: Keeper, N: Name>(alloc: Global, parts: Parts<K, N>) -> Split<K>
     requires { parts.store.list ≡ [] }
     ensures listed { AreListed N.script N.from.tables (map past result.lists)

@@ -1,4 +1,4 @@
-// What is left of a session that is at its end.
+// What a thread leaves of a session that is at its end: its entries alone, so that its memory is given back.
 ghost use Rattle.std.specs.Prelude.{◌≡◌, [], None, IfSome};
 ghost use Rattle.hib_journal.specs.Kept.{past};
 ghost use Rattle.hib_journal.specs.Next.{next};
@@ -38,7 +38,7 @@ impl<N: Name> Model for Ended<N> {
 }
 
 impl<N: Name> Ended<N> {
-    /// What a worker leaves of a session that is at its end.
+    /// What is left of a worker. Its session must be at its end.
     pub fn of(worker: Worker<N>) -> Ended<N>
         requires { next N.script worker.number worker.list ≡ None }
         ensures number { result.number ≡ worker.number }
@@ -59,7 +59,7 @@ impl<N: Name> Ended<N> {
         self.number
     }
 
-    /// The session's entries, if it has this number. What stood behind a lock is known by its type alone.
+    /// The session's entries, if it has this number; else none. What stood behind a lock is known by its type alone.
     fn list_as(self, number: SessionNo) -> Option<Journal>
         ensures legal { IfSome result (λ l. IsOwnLegal N.script number (past l)) }
         ensures over { IfSome result (λ l. next N.script number (past l) ≡ None) }

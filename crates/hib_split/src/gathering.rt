@@ -1,4 +1,4 @@
-// The lists of parts put together, in the order of parts.
+// At the end of a run: the lists of the parts are put together, in the order of parts, for the merge in hib_joined.
 ghost use Rattle.std.specs.Prelude.{◌≡◌, ◌≤◌, ◌+◌, ◌==◌, ◌∷◌, ◌++◌, ℕ, [], if◌then◌else◌, map, reverse, false, vec_len};
 ghost use Rattle.std.specs.Prelude.{vec_capacity, IfOk, OnOk};
 ghost use Rattle.hib_base.specs.declared.entries.Part.{Part};
@@ -29,7 +29,7 @@ pub fn room_for(alloc: Global, count: usize) -> Result<Vec<Journal>, AllocError>
     Ok(lists)
 }
 
-/// Adds the lists of the four parts that no entity has. There is room for them.
+/// Adds the lists of the four parts of which there is one each. There must be room for them.
 fn add_four<N: Name>(
     lists: &mut Vec<Journal>,
     registry: Journal,
@@ -60,7 +60,7 @@ fn add_four<N: Name>(
     lists.push_reserved(results);
 }
 
-/// Adds the lists of regions, of which the last comes first. There is room for them.
+/// Adds the lists of regions, the last region first. There must be room for them.
 fn add_regions<N: Name>(lists: &mut Vec<Journal>, regions: Vec<RegionPart<N>>)
     requires room { vec_len lists.old + vec_len regions ≤ vec_capacity lists.old }
     requires ascend { AscendFrom 0 (entities_of (reverse regions.items)) }
@@ -77,7 +77,8 @@ fn add_regions<N: Name>(lists: &mut Vec<Journal>, regions: Vec<RegionPart<N>>)
     }
 }
 
-/// The keeper. The lists of the shared parts are added in their order. There is room for them.
+/// Takes the shared parts apart: adds their lists in their order, and answers the keeper. There must be room for the
+/// lists.
 pub fn add_shared<K: Keeper, N: Name>(lists: &mut Vec<Journal>, parts: Parts<K, N>) -> K
     requires empty { lists.old.items ≡ [] }
     requires room { vec_len lists.old + (vec_len parts.regions + 4) ≤ vec_capacity lists.old }
@@ -119,7 +120,7 @@ fn is_number(number: usize, session: SessionNo) -> bool
     number == session.0 as usize
 }
 
-/// Adds an equal entry, if it is a session's own.
+/// Adds an equal entry, if it is this session's own.
 fn add_own(alloc: Global, own: &mut Journal, number: usize, entry: &Entry) -> Result<(), AllocError>
     ensures { OnOk result
         (past own.new
@@ -132,7 +133,7 @@ fn add_own(alloc: Global, own: &mut Journal, number: usize, entry: &Entry) -> Re
     }
 }
 
-/// The entries of a session that are its own, in order.
+/// Equal entries to those that a session answered itself, in order.
 fn own_entries(alloc: Global, number: usize, list: &[Entry]) -> Result<Journal, AllocError>
     ensures { IfOk result (λ l. past l ≡ of_part (Part.Own number) (reverse list.now)) }
 {
@@ -143,7 +144,8 @@ fn own_entries(alloc: Global, number: usize, list: &[Entry]) -> Result<Journal, 
     Ok(own)
 }
 
-/// Adds the own entries of each session, in the order of sessions, as far as memory goes.
+/// Adds for each session the list of the entries that it answered itself, in the order of sessions, as far as memory
+/// goes.
 pub fn add_own_lists<N: Name>(
     alloc: Global,
     lists: &mut Vec<Journal>,

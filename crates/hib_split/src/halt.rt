@@ -1,10 +1,10 @@
-// Why a worker stops.
+// Why a thread stops before its session is at its end.
 ghost use Rattle.std.specs.Prelude.{◌≡◌};
 
 use crate::strange::Strange;
 use std::alloc::AllocError;
 
-/// Why a worker stops before its session is at its end.
+/// Why a thread stops before its session is at its end.
 #[derive(Drop)]
 pub enum Halt {
     /// Memory ran out, or no tick is left.

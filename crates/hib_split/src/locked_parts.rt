@@ -1,4 +1,4 @@
-// What workers share: each part behind a lock of its own.
+// What the threads of a run share: each part behind a lock of its own, and what they leave for the caller.
 ghost use Rattle.std.specs.Prelude.{◌≡◌, ◌<◌, ◌≤◌, ◌+◌, ◌^◌, [], map, vec_len, vec_capacity, None, Ok, IfNone, IfOk, IsOk};
 ghost use Rattle.hib_journal.specs.Next.{next};
 ghost use Rattle.hib_parts.specs.Listed.{IsDueOn};
@@ -20,7 +20,7 @@ use std::alloc::{AllocError, Global};
 use std::sync::atomic::{AtomicBool, AtomicUsize, Ordering};
 use std::sync::{Mutex, Wait};
 
-/// What workers share: each part behind a lock of its own, the number of the next session that nobody has taken, and
+/// What threads share: each part behind a lock of its own, the number of the next session that nobody has taken, and
 /// what they leave.
 pub struct LockedParts<K: Keeper, N: Name> {
     registry: Mutex<RegistryPart<N>>,
@@ -30,17 +30,17 @@ pub struct LockedParts<K: Keeper, N: Name> {
     regions: Vec<LockedRegion<N>>,
     next: AtomicUsize,
     sessions: usize,
-    /// The workers that were put aside, each at the place of its session.
+    /// The workers whose sessions aren't at their ends, each at the place of its session.
     aside: Mutex<Vec<Option<Worker<N>>>>,
     /// What is left of the sessions that are at their ends, each at its place.
     ended: Mutex<Vec<Option<Ended<N>>>>,
     strange: Mutex<Option<Strange>>,
-    /// Whether memory ran out in a worker.
+    /// Whether memory ran out in a thread.
     refused: AtomicBool,
     ghost few: { sessions < 2 ^ 32 },
 }
 
-/// What workers leave, when they have ended.
+/// What threads leave, when they have ended.
 pub struct Left<K: Keeper, N: Name> {
     /// The parts, out of their locks.
     pub parts: Parts<K, N>,
@@ -48,26 +48,26 @@ pub struct Left<K: Keeper, N: Name> {
     pub aside: Vec<Option<Worker<N>>>,
     /// What is left of the sessions that are at their ends, each at its place.
     pub ended: Vec<Option<Ended<N>>>,
-    /// The entity that was asked for and the one that was found, if a lock gave another region. Then regions may be
+    /// If a lock gave another region: the entity that was asked for, and the one that was found. Then regions may be
     /// missing.
     pub strange: Option<Strange>,
-    /// Whether memory ran out in a worker.
+    /// Whether memory ran out in a thread.
     pub refused: bool,
 }
 
-/// Room for what a run on threads needs beside the lists.
+/// Room for what a run on threads needs beside the lists. It is taken before the run.
 pub struct Room<N: Name> {
     /// For the locks of regions.
     pub locks: Vec<LockedRegion<N>>,
     /// For the regions, when they come out of their locks.
     pub regions: Vec<RegionPart<N>>,
-    /// A place for the worker of each session.
+    /// A place for the worker of each session whose end isn't reached.
     pub aside: Vec<Option<Worker<N>>>,
-    /// A place for what is left of each session.
+    /// A place for what is left of each session that is at its end.
     pub ended: Vec<Option<Ended<N>>>,
 }
 
-/// A place for each session, and nothing is there.
+/// A place for each session, and nothing is there yet.
 fn places_for<T: Drop>(alloc: Global, sessions: usize) -> Result<Vec<Option<T>>, AllocError> {
     let mut places = Vec::with_capacity(alloc, sessions)?;
     for _ in 0..sessions {
@@ -99,7 +99,8 @@ pub fn room_for_threads<N: Name>(
     })
 }
 
-/// The region that isn't the one that was asked for, if there is one: found by the caller, or before by a worker.
+/// What `Left` says of strange regions: the one that was found while regions were unlocked, or else the one that a
+/// thread noted.
 fn first_strange(unlocked: Result<(), Strange>, found: Option<Strange>) -> Option<Strange>
     ensures { IfNone result (IsOk unlocked) }
 {
@@ -110,7 +111,7 @@ fn first_strange(unlocked: Result<(), Strange>, found: Option<Strange>) -> Optio
 }
 
 impl<K: Keeper, N: Name> LockedParts<K, N> {
-    /// Each part behind a lock of its own. There is room for the locks of regions.
+    /// Puts each part behind a lock of its own. There must be room for the locks of regions.
     pub fn open(
         parts: Parts<K, N>,
         script: &Script,
@@ -150,7 +151,7 @@ impl<K: Keeper, N: Name> LockedParts<K, N> {
         }
     }
 
-    /// What workers leave, when they have ended. There is room for the regions.
+    /// Takes the parts out of their locks, when the threads have ended. There must be room for the regions.
     pub fn close(self, room: Vec<RegionPart<N>>) -> Left<K, N>
         requires empty { room.items ≡ [] }
         requires room { vec_len room + vec_len self.regions ≤ vec_capacity room }
@@ -199,12 +200,12 @@ impl<K: Keeper, N: Name> LockedParts<K, N> {
         Some(SessionNo(number as u32))
     }
 
-    /// Whether memory ran out in a worker.
+    /// Whether memory ran out in a thread.
     pub fn refused(&self) -> bool {
         self.refused.load(Ordering::SeqCst)
     }
 
-    /// Notes why a worker stopped.
+    /// Notes why a thread stopped.
     pub fn note<R: Wait>(&self, rt: &R, halt: Halt) {
         match halt {
             Halt::NoMemory => self.refused.store(true, Ordering::SeqCst),
@@ -215,7 +216,8 @@ impl<K: Keeper, N: Name> LockedParts<K, N> {
         }
     }
 
-    /// Puts a worker at the place of its session, for the caller to go on with.
+    /// Puts a worker whose session isn't at its end at the session's place, where the caller finds it when the threads
+    /// have ended.
     pub fn put_aside<R: Wait>(&self, rt: &R, worker: Worker<N>) {
         let mut held = lock_soon(rt, &self.aside);
         let aside = &mut *held;
@@ -259,7 +261,7 @@ impl<K: Keeper, N: Name> LockedParts<K, N> {
         Ok(Stepped::Did)
     }
 
-    /// The act that is due in a session, which is on this part, is answered under the part's lock.
+    /// Answers the act that is due in a session under the lock of this part. The act must be on it.
     fn step_on<R: Wait>(
         &self,
         rt: &R,

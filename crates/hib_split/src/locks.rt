@@ -1,4 +1,4 @@
-// Regions, each behind a lock of its own.
+// Regions, each behind a lock of its own. A lock is here one of std's, not one on a key of a region.
 ghost use Rattle.std.specs.Prelude.{◌≡◌, ◌<◌, ◌≤◌, ◌+◌, [], length, map, vec_len, vec_capacity, IfSome, OnOk};
 ghost use Rattle.hib_base.specs.declared.entries.Part.{Part};
 ghost use Rattle.hib_parts.specs.Listed.{IsDueOn};
@@ -21,7 +21,7 @@ pub struct LockedRegion<N: Name> {
     region: Mutex<RegionPart<N>>,
 }
 
-/// Puts each region behind a lock, in order. There is room for the locks.
+/// Puts each region behind a lock, in order. There must be room for the locks.
 pub fn lock_regions<N: Name>(regions: Vec<RegionPart<N>>, locks: &mut Vec<LockedRegion<N>>)
     requires empty { locks.old.items ≡ [] }
     requires room { vec_len locks.old + vec_len regions ≤ vec_capacity locks.old }
@@ -38,8 +38,8 @@ pub fn lock_regions<N: Name>(regions: Vec<RegionPart<N>>, locks: &mut Vec<Locked
     }
 }
 
-/// Takes each region out of its lock, in order, and compares it with the one that was put there. There is room for the
-/// regions.
+/// Takes each region out of its lock, in order. Each is compared with the one that was put there; at the first that is
+/// another it stops. There must be room for the regions.
 pub fn unlock_regions<N: Name>(
     locks: Vec<LockedRegion<N>>,
     regions: &mut Vec<RegionPart<N>>,
@@ -73,7 +73,7 @@ fn place_of<N: Name>(regions: &[LockedRegion<N>], entity: EntityNo) -> Option<us
     None
 }
 
-/// One act of a session on the region of this entity, under the region's lock.
+/// One act of a session, which must be due on the region of this entity, under the region's lock.
 pub fn step_under_lock<R: Wait, N: Name>(
     rt: &R,
     alloc: Global,

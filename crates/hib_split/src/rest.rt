@@ -1,5 +1,5 @@
-// What comes of a run: the caller steps the sessions to their ends from where workers left them, and puts the lists
-// together.
+// The end of a run, on the caller's thread: it steps the sessions to their ends from where threads left them, if there
+// were any, and puts the lists together.
 ghost use Rattle.std.specs.Prelude.{◌≡◌, ◌≢◌, ◌<◌, ◌≤◌, ◌+◌, [], length, map, true, false, None, vec_len, vec_capacity};
 ghost use Rattle.std.specs.Prelude.{IfSome, IsSome};
 ghost use Rattle.hib_base.specs.Valid.{is_valid};
@@ -39,7 +39,7 @@ pub struct Split<K: Keeper> {
     pub out_of_memory: bool,
 }
 
-/// The worker of a session, or if none was put aside one that has done nothing.
+/// The worker of a session: the one that was put aside, or if none was, one that has done nothing.
 fn taken<N: Name>(alloc: Global, aside: &mut Vec<Option<Worker<N>>>, number: SessionNo) -> Worker<N>
     ensures number { result.number ≡ number }
     ensures none { aside.old.items ≡ [] → aside.new.items ≡ [] }
@@ -60,7 +60,7 @@ fn taken<N: Name>(alloc: Global, aside: &mut Vec<Option<Worker<N>>>, number: Ses
     }
 }
 
-/// Steps a session to its end, unless memory had run out before. Whether it has run out.
+/// Steps a session to its end, unless memory had run out before. Answers whether it has run out.
 fn step_to_end<K: Keeper, N: Name>(
     alloc: Global,
     script: &Script,
@@ -127,8 +127,8 @@ fn end_session<K: Keeper, N: Name>(
     refused
 }
 
-/// Brings a session to its end, unless memory had run out before: it may be there already. Its list is added to those of
-/// the sessions before it. There is room for it. Whether memory has run out.
+/// Brings a session to its end, unless memory had run out before: a thread may have done so already. Its list is added
+/// to those of the sessions before it, where there must be room. Answers whether memory has run out.
 fn end_next<K: Keeper, N: Name>(
     alloc: Global,
     script: &Script,
@@ -171,8 +171,8 @@ fn end_next<K: Keeper, N: Name>(
     }
 }
 
-/// Steps each session to its end, the first one first, unless memory runs out or had run out before. The list of each
-/// session is added to `mine`, where there is room for them. Whether memory has run out.
+/// Steps each session to its end, the first one first, unless memory runs out or had run out before. Adds the list of
+/// each session to `mine`, which must have room for them. Answers whether memory has run out.
 fn end_sessions<K: Keeper, N: Name>(
     alloc: Global,
     script: &Script,
@@ -207,7 +207,7 @@ fn end_sessions<K: Keeper, N: Name>(
     refused
 }
 
-/// Whether memory ran out in a worker, or in a call of the store.
+/// Whether memory ran out in a thread, or in a call of the store.
 fn has_run_out<K: Keeper, N: Name>(refused: bool, store: &StorePart<K, N>) -> bool
     ensures { result ≡ false → store.now.refused ≡ false }
 {
@@ -215,7 +215,7 @@ fn has_run_out<K: Keeper, N: Name>(refused: bool, store: &StorePart<K, N>) -> bo
 }
 
 /// Steps the sessions that aren't at their ends to these, from where the workers that were put aside left them, unless
-/// memory ran out in one. The lists are put together. There is room for them.
+/// memory has run out. Puts the lists together. There must be room for them.
 pub fn go_on<K: Keeper, N: Name>(
     alloc: Global,
     script: &Script,
@@ -269,7 +269,7 @@ pub fn go_on<K: Keeper, N: Name>(
     }
 }
 
-/// The keeper, and no list: a lock gave another region than the one that was asked for.
+/// What comes of a run in which a lock gave another region than the one that was asked for: the keeper, and no list.
 #[tactic(auto, using(crate::proofs::Failed::none_fewer))]
 pub fn stop<K: Keeper, N: Name>(
     alloc: Global,

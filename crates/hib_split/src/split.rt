@@ -1,4 +1,5 @@
-// A run of the sessions on several threads, over parts under locks of their own.
+// A run of the sessions on several threads, over parts under locks of their own: what `work --split` does, for
+// hib_joined.
 ghost use Rattle.std.specs.Prelude.{◌≡◌, ◌≢◌, ◌≤◌, [], length, map, true, false, None, IfSome};
 ghost use Rattle.std.specs.List.{All};
 ghost use Rattle.hib_base.specs.Valid.{is_valid};

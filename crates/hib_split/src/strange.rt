@@ -1,4 +1,5 @@
-// A lock that gave another region than the one that was asked for.
+// A lock that gave another region than the one that was asked for. What stands behind a lock is known by its type
+// alone, so proofs can't exclude it, and it is checked.
 ghost use Rattle.std.specs.Prelude.{◌≡◌, ◌≢◌, ◌==◌, false, OnOk};
 
 use hib_base::EntityNo;

@@ -1,4 +1,4 @@
-// Workers: threads that step sessions over parts behind locks, each a session at a time.
+// Threads that step sessions over parts behind locks, each a session at a time.
 ghost use Rattle.std.specs.Prelude.{◌≡◌, ◌≤◌, ◌+◌, [], vec_len, vec_capacity, None, IfNone, OnOk};
 ghost use denote.Param.Send.{IsSync};
 ghost use Rattle.hib_journal.specs.Next.{next};
@@ -16,7 +16,8 @@ use std::sync::Wait;
 use std::thread;
 use std::thread::Threads;
 
-/// Puts each part behind a lock of its own, for as long as the workers take. There is room for what that needs.
+/// Puts each part behind a lock of its own, has the threads step the sessions, and takes the parts out again. There
+/// must be room for what that needs.
 pub fn on_threads<R: Threads + Wait + Sync, K: Keeper, N: Name + Send + Sync, G: Gate>(
     rt: &R,
     alloc: Global,
@@ -46,12 +47,12 @@ pub fn on_threads<R: Threads + Wait + Sync, K: Keeper, N: Name + Send + Sync, G:
     locked.close(regions)
 }
 
-/// What threads may share, proofs may say so of.
+/// Says to proofs that a type's values may be shared by threads. It does nothing.
 fn may_be_shared<T: Sync>()
     ensures { IsSync T.row }
 {}
 
-/// Has the workers take turns.
+/// Has `workers` threads step the sessions.
 fn take_turns<R: Threads + Wait + Sync, K: Keeper, N: Name + Send + Sync, G: Gate>(
     rt: &R,
     alloc: Global,
@@ -82,7 +83,8 @@ fn spread<R: Threads + Wait + Sync, F: Fn() + Sync>(rt: &R, workers: u32, work: 
     });
 }
 
-/// A worker: takes sessions until none is left, or it has to stop. Of a session at its end it leaves the entries alone.
+/// What a thread does: it takes sessions until none is left, or it has to stop. Of a session at its end it leaves the
+/// entries alone.
 fn serve<R: Wait, K: Keeper, N: Name, G: Gate>(
     rt: &R,
     alloc: Global,
@@ -108,8 +110,8 @@ fn serve<R: Wait, K: Keeper, N: Name, G: Gate>(
     }
 }
 
-/// Steps a session to its end. No lock is held before a step, nor while the gate holds the worker. Once memory has run
-/// out in another worker, no further step is made.
+/// Steps a session to its end. No lock is held before a step, nor while the gate holds the thread. Once memory has run
+/// out in another thread, no further step is made.
 fn run_session<R: Wait, K: Keeper, N: Name, G: Gate>(
     rt: &R,
     alloc: Global,

@@ -1,7 +1,7 @@
 //! The law behind locks for each part: what is legal by its parts and by its sessions is legal.
 //!
-//! The crate has no code. Each function has an empty body, and its `ensures` is a theorem over all scripts, all rows at the
-//! start and all journals. `specs/Apart` says when the list of a part, and that of a session, is legal by itself,
+//! The crate has no code. Each function has an empty body, and its `ensures` is a theorem over all scripts, all rows at
+//! the start and all journals. `specs/Apart` says when the list of a part, and that of a session, is legal by itself,
 //! `specs/Merged` what it is to merge the lists of parts, and `proofs/` has the proofs.
 #![tactic(auto)]
 

@@ -1,4 +1,4 @@
-// Why a line is no statement and no row.
+// Why a line is no statement and no row, for the reader of scripts.
 ghost use Rattle.hib_statements.specs.declared.errors.StatementError.TheVariants.{NoMemory};
 ghost use Rattle.std.specs.Prelude.{◌≡◌};
 

@@ -1,4 +1,4 @@
-// The rows that a script gives.
+// The first rows that a script gives, as its reader has them so far.
 ghost use Rattle.hib_statements.specs.Rows.{has_key};
 ghost use Rattle.std.specs.Prelude.{◌≡◌, ◌∷◌, [], ◌++◌, OnOk, OnErr, length};
 
@@ -55,7 +55,7 @@ impl Given {
         self.keys.contains(&key)
     }
 
-    /// Gives a row. At an error nothing has changed.
+    /// Adds a row. At an error nothing has changed.
     pub fn push(&mut self, row: (Key, Row)) -> Result<(), AllocError>
         ensures ok { OnOk result (self.new ≡ self.old ++ row ∷ []) }
         ensures err { OnErr result (self.new ≡ self.old) }

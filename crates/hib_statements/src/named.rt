@@ -1,4 +1,4 @@
-// The sessions that a script declares.
+// The sessions that a script declares, as its reader has them so far: an order names its session.
 ghost use Rattle.hib_statements.specs.Places.{or_place, place_of};
 ghost use Rattle.std.specs.List.{list_any};
 ghost use Rattle.std.specs.Prelude.{◌≡◌, ◌<◌, ◌∷◌, [], ◌++◌, OnOk, OnErr, bytes_eq, length, position, ℕ, List, if◌then◌else◌, Some, None};
@@ -29,7 +29,7 @@ impl Model for NamedSessions {
         → place_of w n.places.entries ≡ position (λ s. bytes_eq s.name w) n.sessions };
 }
 
-/// A name has this place. It takes no memory.
+/// Notes the place of a name's session. There must be room for it. It takes no memory.
 fn put(places: &mut IndexMap<Vec<u8>, usize>, name: Vec<u8>, place: usize)
     requires { 0 < spare places.old }
     ensures { places.new.entries ≡ insert_entry
@@ -38,7 +38,7 @@ fn put(places: &mut IndexMap<Vec<u8>, usize>, name: Vec<u8>, place: usize)
     places.insert(name, place).unwrap();
 }
 
-/// A name has its session at this place, unless it has one before. It takes no memory.
+/// Notes the place of a name's session, unless the name has one before. There must be room for it. It takes no memory.
 fn note(places: &mut IndexMap<Vec<u8>, usize>, name: Vec<u8>, place: usize)
     requires { 0 < spare places.old }
     ensures { (w : List ℕ) → place_of w places.new.entries
@@ -68,21 +68,21 @@ impl NamedSessions {
         self.sessions.len()
     }
 
-    /// The place of the first session of a name, if there is one.
+    /// The place of the first session of this name, if there is one.
     pub fn place(&self, name: &[u8]) -> Option<usize>
         ensures { result ≡ position (λ s. bytes_eq s.name name.now) self.now }
     {
         self.places.get(name).copied()
     }
 
-    /// Whether a session has a name.
+    /// Whether a session has this name.
     pub fn has(&self, name: &[u8]) -> bool
         ensures { result ≡ list_any (λ s. bytes_eq s.name name.now) self.now }
     {
         self.place(name).is_some()
     }
 
-    /// Declares a session. At an error nothing has changed.
+    /// Adds a session. At an error nothing has changed.
     pub fn push(&mut self, alloc: Global, session: SessionDef) -> Result<(), AllocError>
         ensures ok { OnOk result (self.new ≡ self.old ++ session ∷ []) }
         ensures err { OnErr result (self.new ≡ self.old) }

@@ -1,4 +1,5 @@
-// The order of a schedule that a line is.
+// The order of a schedule that a line is, or its first fault. Each kind of line has a function that looks at its form,
+// and one that finds what it names.
 ghost use Rattle.hib_statements.specs.Orders as orders;
 ghost use Rattle.std.specs.Prelude.{◌≡◌};
 

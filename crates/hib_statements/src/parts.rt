@@ -1,4 +1,4 @@
-// Keys, cells and pairs of columns and cells, from tokens.
+// What several kinds of lines have: keys, cells, and pairs of a column and a cell, from their tokens.
 ghost use Rattle.hib_statements.specs.Parts as parts;
 ghost use Rattle.std.specs.Prelude.{◌≡◌, IfOk, length};
 
@@ -32,7 +32,7 @@ pub fn key(mapping: &[EntityDef], name: &Token, id: &Token) -> Result<Key, Kind>
     }
 }
 
-/// The number that a token is, if it is none below 0; else 0.
+/// The identifier that a token is; 0 if it is none.
 fn size(token: &Token) -> u64
     ensures { result ≡ parts.size_in token.now }
 {
@@ -57,7 +57,7 @@ pub fn cells(alloc: Global, tokens: &[Token]) -> Result<Option<Cells>, AllocErro
     Ok(Some(Cells::from_vec(cells)?))
 }
 
-/// Whether each cell has the type of its column.
+/// Whether each cell has the type of its column. There must be as many cells as columns.
 #[tactic(auto, using(crate::proofs::Cells::typed_next, crate::proofs::Cells::typed_done))]
 pub fn are_typed(columns: &[ColumnDef], cells: &[Cell]) -> bool
     requires { length columns.now ≡ length cells.now }
@@ -71,7 +71,7 @@ pub fn are_typed(columns: &[ColumnDef], cells: &[Cell]) -> bool
     true
 }
 
-/// Pairs of a column and a cell.
+/// Pairs of a column and a cell, as `set` and a bulk line have them, with what is wrong with them.
 #[derive(Drop)]
 pub struct Pairs {
     /// The cells by the places of their columns.
@@ -95,7 +95,7 @@ pub enum Awaited {
     Value(Option<Found>),
 }
 
-/// Pairs as far as they were read.
+/// Pairs as far as they were read. The draft is of pairs, not of a script.
 #[derive(Drop)]
 pub struct Draft {
     /// The pairs so far, with their faults.
@@ -104,7 +104,7 @@ pub struct Draft {
     pub awaited: Awaited,
 }
 
-/// The pairs that tokens are; none if they are no pairs, or if there is none.
+/// The pairs that tokens are; none if their form isn't that of pairs, or if there is no pair.
 #[tactic(auto, using(crate::proofs::Cells::pairs_next, crate::proofs::Cells::pairs_done))]
 pub fn read_pairs(
     alloc: Global,
@@ -126,7 +126,7 @@ pub fn read_pairs(
     Ok(ended(draft))
 }
 
-/// No pairs, with room for so many.
+/// No pairs yet, with room for so many.
 fn no_pairs(alloc: Global, count: usize) -> Result<Pairs, AllocError>
     ensures { IfOk result (λ p. p ≡ parts.no_pairs) }
 {
@@ -139,6 +139,7 @@ fn no_pairs(alloc: Global, count: usize) -> Result<Pairs, AllocError>
     })
 }
 
+/// The pairs, if there is one and each column has its cell.
 fn ended(draft: Draft) -> Option<Pairs>
     ensures { result ≡ parts.ended draft }
 {
@@ -150,12 +151,14 @@ fn ended(draft: Draft) -> Option<Pairs>
     }
 }
 
+/// Whether a column's name may come next, so that no pair is half read.
 fn is_name(awaited: Awaited) -> bool
     ensures { result ≡ parts.is_name awaited }
 {
     matches!(awaited, Awaited::Name)
 }
 
+/// What was read of pairs after one more token; none if it can't stand there.
 fn with_token(
     alloc: Global,
     columns: &[ColumnDef],
@@ -171,6 +174,7 @@ fn with_token(
     }
 }
 
+/// What was read of pairs after a column's name, whose cell comes next.
 fn with_column(
     alloc: Global,
     columns: &[ColumnDef],
@@ -191,12 +195,14 @@ fn with_column(
     Ok(Some(Draft { pairs, awaited }))
 }
 
+/// Whether a name is among those that have come.
 fn has_name(names: &[Text], name: &[u8]) -> bool
     ensures { result ≡ parts.has_name names.now name.now }
 {
     names.iter().any(|other| other.as_slice() == name)
 }
 
+/// What was read of pairs after the cell of this column; none if the token was no cell.
 fn with_cell(
     pairs: Pairs,
     found: Option<Found>,
@@ -216,6 +222,7 @@ fn with_cell(
     }
 }
 
+/// The pairs with one more. If the cell isn't of its column's type, that is noted.
 fn with_pair(mut pairs: Pairs, found: Option<Found>, cell: Cell) -> Result<Pairs, AllocError>
     ensures { IfOk result (λ p. p ≡ parts.with_pair pairs found cell) }
 {
@@ -225,6 +232,7 @@ fn with_pair(mut pairs: Pairs, found: Option<Found>, cell: Cell) -> Result<Pairs
     Ok(pairs)
 }
 
+/// Whether a cell has the type of its column. If the column isn't known, any cell will do.
 fn is_found(found: &Option<Found>, cell: &Cell) -> bool
     ensures { result ≡ parts.is_found found.now cell.now }
 {

@@ -1,4 +1,4 @@
-// The row that a line gives.
+// The row that a line gives, or its first fault. What is told of a row is what stands after its key.
 ghost use Rattle.hib_lex.specs.Tokens as digits_of;
 ghost use Rattle.hib_mapping.specs.Parts.{entity_at, word_of};
 ghost use Rattle.hib_statements.specs.Rows as told_rows;
@@ -46,6 +46,7 @@ pub fn row(
     }
 }
 
+/// The row of an entity's name, an identifier and what stands after them.
 fn row_parts(
     alloc: Global,
     mapping: &[EntityDef],
@@ -67,6 +68,7 @@ fn row_parts(
     judged(row_told(columns, rows, key(mapping, name, id), told))
 }
 
+/// A row, or the fault of its line as this crate answers it.
 fn judged(row: Result<(Key, Row), Kind>) -> Result<(Key, Row), StatementError>
     ensures said { IfOk result (λ x. row ≡ Ok x) }
     ensures fault { IfErr result (told_rows.IsWhyNot row) }
@@ -77,7 +79,7 @@ fn judged(row: Result<(Key, Row), Kind>) -> Result<(Key, Row), StatementError>
     }
 }
 
-/// Whether the entity of a name is versioned, if there is one.
+/// Whether the entity of this name is versioned; none if there is no such entity.
 fn versioning(mapping: &[EntityDef], name: &Token) -> Option<bool>
     ensures { result ≡ told_rows.versioning_in mapping.now
         (entity_at mapping.now (word_of name.now)) }
@@ -88,6 +90,7 @@ fn versioning(mapping: &[EntityDef], name: &Token) -> Option<bool>
     }
 }
 
+/// Whether an entity is versioned; none if it isn't declared.
 fn entity_versioning(mapping: &[EntityDef], entity: EntityNo) -> Option<bool>
     ensures { result ≡ told_rows.versioning_at mapping.now entity }
 {
@@ -97,7 +100,7 @@ fn entity_versioning(mapping: &[EntityDef], entity: EntityNo) -> Option<bool>
     }
 }
 
-/// What these tokens tell of a row of a versioned entity, of a plain one, or of one that isn't known.
+/// What these tokens tell of a row, by whether its entity is versioned; if the entity isn't known, either form will do.
 fn told_in(
     alloc: Global,
     versioned: Option<bool>,
@@ -112,6 +115,7 @@ fn told_in(
     }
 }
 
+/// What tokens tell of a row whose entity isn't known: with a version, or without one.
 fn told_of_unknown(alloc: Global, tokens: &[Token]) -> Result<Option<Told>, AllocError>
     ensures { IfOk result (λ t. t ≡ told_rows.or_plain tokens.now
         (told_rows.versioned_told tokens.now)) }
@@ -122,12 +126,14 @@ fn told_of_unknown(alloc: Global, tokens: &[Token]) -> Result<Option<Told>, Allo
     }
 }
 
+/// What tokens tell of a row without a version: its cells.
 fn plain_told(alloc: Global, tokens: &[Token]) -> Result<Option<Told>, AllocError>
     ensures { IfOk result (λ t. t ≡ told_rows.plain_told tokens.now) }
 {
     Ok(with_version(None, cells(alloc, tokens)?))
 }
 
+/// What tokens tell of a row with a version: this first, then its cells.
 fn versioned_told(alloc: Global, tokens: &[Token]) -> Result<Option<Told>, AllocError>
     ensures { IfOk result (λ t. t ≡ told_rows.versioned_told tokens.now) }
 {
@@ -137,6 +143,7 @@ fn versioned_told(alloc: Global, tokens: &[Token]) -> Result<Option<Told>, Alloc
     }
 }
 
+/// What is told by a version, if there is one, and the cells behind it.
 fn behind_version(
     alloc: Global,
     version: Option<u32>,
@@ -150,6 +157,7 @@ fn behind_version(
     }
 }
 
+/// What is told by a version and cells, if there are cells.
 fn with_version(version: Option<u32>, cells: Option<Cells>) -> Option<Told>
     ensures { result ≡ told_rows.with_version version cells }
 {
@@ -159,7 +167,7 @@ fn with_version(version: Option<u32>, cells: Option<Cells>) -> Option<Told>
     }
 }
 
-/// The version of a word `vN`.
+/// The version that a word `vN` is.
 fn version(token: &Token) -> Option<u32>
     ensures { result ≡ told_rows.version_of token.now }
 {
@@ -169,6 +177,7 @@ fn version(token: &Token) -> Option<u32>
     }
 }
 
+/// The version that the bytes of a word `vN` are.
 fn version_word(word: &[u8]) -> Option<u32>
     ensures { result ≡ told_rows.version_word word.now }
 {
@@ -178,6 +187,7 @@ fn version_word(word: &[u8]) -> Option<u32>
     }
 }
 
+/// The version that digits are, if they stand after a `v`.
 fn version_digits(is_version: bool, digits: &[u8]) -> Option<u32>
     ensures { result ≡ (if is_version then told_rows.size_named digits.now else None) }
 {
@@ -210,7 +220,7 @@ fn are_digits(bytes: &[u8]) -> bool
     bytes.iter().all(|byte| byte.is_ascii_digit())
 }
 
-/// What digits come to; what is above the greatest version counts as the number after that.
+/// The version that digits are; one above the greatest counts as the number after that.
 #[tactic(auto, using(crate::proofs::Digits::digit_next, crate::proofs::Digits::size_grows, crate::proofs::Digits::size_done, crate::proofs::Digits::capped_above, crate::proofs::Digits::capped_within))]
 fn size(digits: &[u8]) -> u32
     ensures { result ≡ told_rows.capped (digits_of.size_of digits.now) }
@@ -225,7 +235,7 @@ fn size(digits: &[u8]) -> u32
     size
 }
 
-/// The row of a key and what is told after it.
+/// The row of a key and of what is told after it, or the first thing that is wrong.
 fn row_told(
     columns: &[ColumnDef],
     rows: &Given,
@@ -240,6 +250,7 @@ fn row_told(
     }
 }
 
+/// The row of a key, if the key has none yet, and of what is told.
 fn row_from(
     columns: &[ColumnDef],
     rows: &Given,
@@ -255,6 +266,7 @@ fn row_from(
     }
 }
 
+/// The row, if its version is small enough and its cells fit the columns.
 fn fitted_row(columns: &[ColumnDef], key: Key, told: Told) -> Result<(Key, Row), Kind>
     ensures { result ≡ told_rows.fitted_row columns.now key told }
 {

@@ -1,4 +1,5 @@
-// The statement that a line is.
+// The statement that a line is, or its first fault. Each kind of line has a function that looks at its form, and one
+// that finds what it names.
 ghost use Rattle.hib_statements.specs.Statements as lines;
 ghost use Rattle.hib_mapping.specs.Parts as names;
 ghost use Rattle.std.specs.Prelude.{◌≡◌, IfOk, IfErr, position, bytes_eq};
@@ -130,6 +131,7 @@ fn query_number(queries: &[Query], name: &[u8]) -> Option<QueryNo>
     query_no(query_position(queries, name)?)
 }
 
+/// The query at a place, if the place is small enough.
 fn query_no(place: usize) -> Option<QueryNo>
     ensures { result ≡ names.small place }
 {
@@ -140,6 +142,7 @@ fn query_no(place: usize) -> Option<QueryNo>
     }
 }
 
+/// The place of the query of this name.
 fn query_position(queries: &[Query], name: &[u8]) -> Option<usize>
     ensures { result ≡ position (λ q. bytes_eq q.name name.now) queries.now }
 {
@@ -173,7 +176,7 @@ fn named_mode(word: &Token) -> Result<Statement, Kind>
     }
 }
 
-/// A statement of one word.
+/// The statement, if the line has one word and no more.
 fn alone(statement: Statement, line: &[Token]) -> Result<Statement, Kind>
     ensures { result ≡ lines.alone statement line.now }
 {
@@ -225,6 +228,7 @@ fn persist_parts(
     judged(persisted(columns, key(mapping, name, id), cells))
 }
 
+/// A statement, or the fault of its line as this crate answers it.
 fn judged(statement: Result<Statement, Kind>) -> Result<Statement, StatementError>
     ensures said { IfOk result (λ s. statement ≡ Ok s) }
     ensures fault { IfErr result (lines.IsWhy statement) }
@@ -235,6 +239,7 @@ fn judged(statement: Result<Statement, Kind>) -> Result<Statement, StatementErro
     }
 }
 
+/// The persist of a key and its cells, if both are there.
 fn persisted(
     columns: &[ColumnDef],
     key: Result<Key, Kind>,
@@ -251,6 +256,7 @@ fn persisted(
     }
 }
 
+/// The persist, if its cells fit the columns.
 fn fitted(columns: &[ColumnDef], key: Key, cells: Cells) -> Result<Statement, Kind>
     ensures { result ≡ lines.fitted columns.now key cells }
 {
@@ -292,6 +298,7 @@ fn set_parts(
     judged(set_from(key(mapping, name, id), pairs))
 }
 
+/// The set of a key by these pairs, unless a column stands twice in them or isn't known.
 fn set_from(key: Result<Key, Kind>, pairs: Option<Pairs>) -> Result<Statement, Kind>
     ensures { result ≡ lines.set_from key pairs }
 {
@@ -309,6 +316,7 @@ fn set_from(key: Result<Key, Kind>, pairs: Option<Pairs>) -> Result<Statement, K
     }
 }
 
+/// The set, if each cell has the type of its column.
 fn set_at(key: Result<Key, Kind>, pairs: Pairs) -> Result<Statement, Kind>
     ensures { result ≡ lines.set_at key pairs }
 {

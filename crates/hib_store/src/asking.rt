@@ -1,4 +1,4 @@
-// What the store asks its keeper.
+// What the store asks its keeper, and what it makes of the keeper's answers.
 ghost use Rattle.std.specs.Prelude.{◌≡◌, ◌≢◌, ◌+◌, ◌≤◌, length, true, [], Ok, None, IfOk, IfSome, IsSome, OnOk};
 ghost use Rattle.hib_base.specs.Tables.{commit_answer};
 ghost use Rattle.hib_outside.specs.Causes.{Rose};
@@ -39,7 +39,7 @@ pub fn read<K: Keeper>(alloc: Global, keeper: &mut K, key: Key) -> Result<Loaded
     }
 }
 
-/// Asks a keeper for the rows of the tables that a query reads; none if it failed.
+/// Asks a keeper for the rows of the tables that a query reads. None if the keeper failed.
 pub fn list<K: Keeper>(
     alloc: Global,
     keeper: &mut K,
@@ -61,7 +61,7 @@ pub fn list<K: Keeper>(
     }
 }
 
-/// Asks a keeper for the rows of the first entities, for an index of them; none if it failed.
+/// Asks a keeper for the rows of the first entities, and makes an index of them. None if the keeper failed.
 fn index<K: Keeper>(
     alloc: Global,
     keeper: &mut K,
@@ -85,8 +85,8 @@ fn index<K: Keeper>(
     }
 }
 
-/// Makes an index of the rows of the first entities, unless it stands. The keeper isn't asked if it stands. There is
-/// none only if the keeper failed.
+/// Makes an index of the rows of the first entities, unless it stands; then the keeper isn't asked. There is none
+/// afterwards only if the keeper failed.
 pub fn make_index<K: Keeper>(
     alloc: Global,
     keeper: &mut K,
@@ -109,7 +109,7 @@ pub fn make_index<K: Keeper>(
     Ok(())
 }
 
-/// Applies changes to a keeper's rows.
+/// Has a keeper apply changes to its rows.
 #[tactic(auto, using(crate::proofs::Answers::answer_told))]
 pub fn apply<K: Keeper>(
     alloc: Global,
@@ -132,7 +132,7 @@ pub fn apply<K: Keeper>(
     }
 }
 
-/// The answer to a commit that the keeper's answer makes.
+/// The answer to a commit, by what the keeper has answered.
 fn answer(changes: &[Change], applied: Applied) -> Commit
     requires { IsPlace applied (length changes.now) }
     ensures value { result ≡ commit_of changes.now applied }

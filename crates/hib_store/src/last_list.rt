@@ -1,4 +1,5 @@
-// The last list that a session with changes of its own was given.
+// The last list that a session with changes of its own was given, kept so that the same query isn't looked up again if
+// it is asked again before anything is written.
 ghost use Rattle.std.specs.Prelude.{◌≡◌, true, IfOk, IfSome, Option};
 ghost use Rattle.hib_base.specs.Tables.{Tables};
 ghost use Rattle.hib_store.specs.Last.{Asks, Stands};
@@ -55,7 +56,7 @@ fn is_same_path(a: &Path, b: &Path) -> bool
     a == b
 }
 
-/// Whether a query asks the same as the one whose list is kept. It may say no though it does.
+/// Whether a query asks the same as the one whose list is kept. It may say no even if the query does.
 fn asks(bare: &BareQuery, query: &Query) -> bool
     ensures { result ≡ true → Asks bare.now query.now }
 {
@@ -72,7 +73,8 @@ fn asks(bare: &BareQuery, query: &Query) -> bool
         && is_equal(cell, &bare.cell)
 }
 
-/// A query as far as its answer depends on it. None if it is in an order, or if its condition isn't one comparison.
+/// What a query's answer depends on. None if the query is in an order, or if its condition isn't one comparison: of
+/// such a query no list is kept.
 fn bare(alloc: Global, query: &Query) -> Result<Option<BareQuery>, AllocError>
     ensures { IfOk result (λ o. IfSome o (λ b. Asks b query.now)) }
 {
@@ -90,7 +92,8 @@ fn bare(alloc: Global, query: &Query) -> Result<Option<BareQuery>, AllocError>
     }
 }
 
-/// The list that was given last, if the same session asks the same again. Fails only if there is no memory.
+/// A copy of the list that was given last, if the same session asks the same again; else none. Fails only if there is
+/// no memory.
 pub fn again(
     alloc: Global,
     last: &Option<LastList>,
@@ -110,7 +113,7 @@ pub fn again(
     }
 }
 
-/// What is kept of a list that a session is given. None after a fault, and if the query isn't bare.
+/// What is to be kept of a list that a session is given. None after a fault, and if the query isn't bare.
 #[tactic(auto, using(crate::proofs::Last::listed_alike))]
 pub fn kept(
     alloc: Global,

@@ -1,4 +1,4 @@
-// Which tables a query reads.
+// Which tables a query reads, for the keeper and for the index.
 ghost use Rattle.std.specs.Prelude.{◌≡◌, ◌<◌, ◌||◌, ℕ, true, nat_lt, IfOk, OnOk, ◌==◌, false};
 ghost use Rattle.std.specs.Option.{option_map_or};
 ghost use Rattle.hib_journal.specs.Query.{mentions, reads};
@@ -51,6 +51,7 @@ fn add_target(tables: &mut Vec<EntityNo>, target: Option<Target>) -> Result<(), 
     Ok(())
 }
 
+/// Whether a path steps to no other entity than the first ones.
 fn steps_below(target: Option<Target>, entities: u16) -> bool
     ensures only { result ≡ true → (n : ℕ) → option_map_or (λ g. g.entity == n) target false ≡ true
         → n < entities }
@@ -77,7 +78,7 @@ fn mentions_below(condition: &Cond, entities: u16) -> bool
     }
 }
 
-/// Whether a query reads only the first entities.
+/// Whether a query reads only the first entities. Then it is answered from the index.
 pub fn reads_below(query: &Query, entities: u16) -> bool
     ensures only { result ≡ true → ReadsBelow entities query.now }
     ensures others { ReadsBelow entities query.now → result ≡ true }
@@ -89,7 +90,7 @@ pub fn reads_below(query: &Query, entities: u16) -> bool
         }
 }
 
-/// The first entities.
+/// The first entities, as a list for the keeper.
 pub fn entities_below(alloc: Global, entities: u16) -> Result<Vec<EntityNo>, AllocError>
     ensures { IfOk result (λ v. (n : ℕ) → is_listed n v.items ≡ nat_lt n entities) }
 {

@@ -1,4 +1,4 @@
-// The store over a keeper.
+// The store over a keeper: committed rows, and what each session has written. hib_engines answers acts by it.
 ghost use Rattle.std.specs.Prelude.{◌≡◌, ◌≢◌, ◌+◌, ◌≤◌, ℕ, [], ◌∷◌, ◌++◌, true, false, map, is_some, Ok, IfOk, IfErr, IfSome, OnOk, OnErr};
 ghost use Rattle.std.specs.Option.{option_map};
 ghost use Rattle.hib_base.specs.Start.{start};
@@ -38,7 +38,7 @@ pub enum OpenFault<K> {
 pub struct Store<K: Keeper> {
     keeper: K,
     written: Written,
-    // How many entities the index is of.
+    // How many entities the index is of: the first ones.
     entities: u16,
     // The committed rows of the first entities, once a list was asked of them.
     index: Option<Index>,
@@ -251,8 +251,8 @@ impl<K: Keeper> Store<K> {
     }
 
     /// The committed rows of an entity that meet a condition, if there is one, in order of keys. The entity, and those
-    /// to which the condition steps, are among the first. None exactly if the index of their rows doesn't stand. Fails
-    /// for want of memory alone.
+    /// to which the condition steps, must be among the first. None if and only if the index of their rows doesn't
+    /// stand. Fails for want of memory alone.
     pub fn rows_met(
         &self,
         alloc: Global,
@@ -268,7 +268,7 @@ impl<K: Keeper> Store<K> {
         views::rows_met(alloc, &self.index, entity, condition)
     }
 
-    /// Adds a change to a session's, which no other session sees. At an error nothing has changed.
+    /// Adds a change to those of a session, which no other session sees. At an error nothing has changed.
     pub fn write(
         &mut self,
         alloc: Global,

@@ -1,4 +1,4 @@
-// What a query gives over a session's view.
+// What a query gives over a session's view, and what becomes of the index at a commit.
 ghost use Rattle.std.specs.Prelude.{◌≡◌, ◌≢◌, ◌<◌, ℕ, true, map, Option, None, Some, Ok, IfOk, IfSome, IsSome, is_some, MatchOption, MatchResult};
 ghost use Rattle.hib_base.specs.Tables.{Tables, after_changes, in_order};
 ghost use Rattle.hib_journal.specs.Query.{gives, reads};
@@ -27,7 +27,7 @@ pub fn listed(
     hib_query_eval::gives(alloc, query, &view)
 }
 
-/// Makes an index ready for a query, if there is one. Fails for want of memory alone.
+/// Makes an index ready for a query, if there is an index. Fails for want of memory alone.
 pub fn ready(alloc: Global, index: &mut Option<Index>, query: &Query) -> Result<(), AllocError>
     ensures { index.new ≡ index.old }
 {
@@ -37,7 +37,8 @@ pub fn ready(alloc: Global, index: &mut Option<Index>, query: &Query) -> Result<
     }
 }
 
-/// What a query gives over the rows of an index with changes laid over them; a fault if there is no index.
+/// What a query gives over the rows of an index with a session's own changes laid over them; a fault if there is no
+/// index.
 pub fn answered(
     alloc: Global,
     index: &Option<Index>,
@@ -56,7 +57,7 @@ pub fn answered(
     }
 }
 
-/// The rows of an entity that meet a condition, of those of an index; none if there is no index.
+/// The rows of an index that are of this entity and meet a condition; none if there is no index.
 pub fn rows_met<'a>(
     alloc: Global,
     index: &'a Option<Index>,
@@ -75,8 +76,8 @@ pub fn rows_met<'a>(
     }
 }
 
-/// An index after an answer to a commit of changes. None after a fault, and if its rows don't have what the changes
-/// change.
+/// The index after the changes of a commit that was answered so, for `left`. None after a fault, and if its rows don't
+/// have what the changes change.
 fn after(
     alloc: Global,
     index: Index,

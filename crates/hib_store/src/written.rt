@@ -1,4 +1,4 @@
-// The changes that sessions have written, by session.
+// The changes that sessions have written and not committed, by session.
 ghost use Rattle.std.specs.Prelude.{◌≡◌, ◌<◌, ◌++◌, ◌∷◌, ◌==◌, if◌then◌else◌, ℕ, [], IfOk, OnOk, OnErr, option_copied};
 ghost use Rattle.hib_base.specs.Keys.{same_key};
 ghost use Rattle.hib_base.specs.Tables.{last_on, row_left};
@@ -29,7 +29,7 @@ pub fn own_of(written: &Written, session: SessionNo) -> Option<&Own>
     written.get(&session)
 }
 
-/// Makes a session's changes ready for a query.
+/// Makes what a session's changes leave ready for a query, if the session has changes.
 pub fn lay(
     alloc: Global,
     written: &mut Written,
@@ -44,7 +44,7 @@ pub fn lay(
     written[index].lay(alloc, query)
 }
 
-/// Adds the first change of a session that has none.
+/// Adds the first change of a session, which must have none.
 fn add_first(
     alloc: Global,
     written: &mut Written,
@@ -64,7 +64,7 @@ fn add_first(
     Ok(())
 }
 
-/// Adds a change to a session's.
+/// Adds a change to those of a session.
 pub fn add_change(
     alloc: Global,
     written: &mut Written,

@@ -147,12 +147,13 @@ fn serve<R: Threads + Wait + Sync, S: Source, W: Sink, K: Keeper, G: Gate, L: Li
 /// script at two nodes and writes its journal. If the words have no form, nothing is read. What was run is handed back
 /// with its journal.
 ///
-/// Whatever the status, the journal of a run is legal for the script, from the keeper's tables as they were handed in and the
-/// script's rows beside them; its k-th entry has tick k, and the keeper's tables are those that its commits and its bulk changes gave.
-/// That of `play` and `make` obeys the law; if such a run came to its end, and the keeper tells tables that fit the script's mapping,
-/// each of its entries is well formed. That of `collect` obeys the law of collections if the keeper tells such tables, and that of
-/// `bulk` the law of bulk changes, and that of `nodes` the law of two nodes. The listeners hear of each entry in the step that adds
-/// it, but for those at collections; a hit there they hear as the list that it stands for. Of `bulk` and `nodes` they hear nothing.
+/// Whatever the status, the journal of a run is legal for the script, from the keeper's tables as they were handed in
+/// and the script's rows beside them; its k-th entry has tick k, and the keeper's tables are those that its commits and
+/// its bulk changes gave. That of `play` and `make` obeys the law; if such a run came to its end, and the keeper tells
+/// tables that fit the script's mapping, each of its entries is well formed. That of `collect` obeys the law of
+/// collections if the keeper tells such tables, and that of `bulk` the law of bulk changes, and that of `nodes` the law
+/// of two nodes. The listeners hear of each entry in the step that adds it, but for those at collections; a hit there
+/// they hear as the list that it stands for. Of `bulk` and `nodes` they hear nothing.
 pub fn play_words<S: Source, W: Sink, K: Keeper, L: Listener>(
     alloc: Global,
     words: &[String],

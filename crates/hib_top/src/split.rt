@@ -28,7 +28,7 @@ use std::marker::Brand;
 use std::sync::Wait;
 use std::thread::Threads;
 
-/// The listeners hear of each entry, in order, until one has no memory. Whether all have heard all.
+/// The listeners hear of each entry, in order, until one has no memory. Answers whether all have heard all.
 fn hear_all<L: Listener>(alloc: Global, entries: &[Entry], listeners: &mut Listeners<L>) -> bool
     ensures { result ≡ true → HaveHeard false entries.now
         (tells L.heard L.left listeners.old) (tells L.heard L.left listeners.new) }

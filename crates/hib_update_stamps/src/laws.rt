@@ -1,4 +1,4 @@
-// Stamps that stand for a journal.
+// What stamps that stand for a journal promise; for proofs. These functions do nothing.
 ghost use Rattle.std.specs.Prelude.{◌≡◌, ◌<◌, ℕ, List, [], ◌∷◌, length, false};
 ghost use Rattle.std.specs.List.{All};
 ghost use Rattle.hib_journal.specs.Types.{Part, Entry};

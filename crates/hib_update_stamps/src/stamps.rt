@@ -1,4 +1,4 @@
-// The stamps of tables.
+// The stamps of tables, for their engine in hib_engines.
 ghost use Rattle.std.specs.Prelude.{◌≡◌, ◌+◌, ◌<◌, ◌≤◌, ◌^◌, length, nat_lt, IfOk};
 ghost use Rattle.std.specs.List.{All};
 ghost use Rattle.hib_update_stamps.specs.Stamped.{unstamped, stamped, checked};
@@ -23,7 +23,7 @@ impl Model for Stamps {
 }
 
 impl Stamps {
-    /// No table has a stamp. It is the one call that takes memory.
+    /// The stamps before any update: no table has one. It is the one call that takes memory.
     pub fn open(alloc: Global, tables: u16) -> Result<Stamps, AllocError>
         ensures { IfOk result (λ s. s ≡ unstamped tables) }
     {
@@ -32,8 +32,8 @@ impl Stamps {
         })
     }
 
-    /// Stamps tables that are about to change with a time that the change will not outlast: the present tick and
-    /// the timeout. Answers that stamp.
+    /// Stamps tables that are about to change with a time that the change will not outlast: the present tick and the
+    /// timeout. The tables must be among those that it was opened for. Answers that stamp.
     pub fn pre(&mut self, tables: &[EntityNo], timeout: u32, now: Tick) -> Tick
         requires tables { All (λ t. t < length self.old) tables.now }
         requires now { now ≤ 2 ^ 62 }
@@ -45,7 +45,8 @@ impl Stamps {
         time
     }
 
-    /// Stamps tables that have changed with the present tick. Answers that stamp.
+    /// Stamps tables that have changed with the present tick. They must be among those that it was opened for. Answers
+    /// that stamp.
     pub fn stamp(&mut self, tables: &[EntityNo], now: Tick) -> Tick
         requires tables { All (λ t. t < length self.old) tables.now }
         requires now { now ≤ 2 ^ 62 }
@@ -75,13 +76,14 @@ impl Stamps {
         Checked::Fresh
     }
 
-    /// No table has a stamp any more.
+    /// Takes the stamp from each table.
     pub fn clear(&mut self)
         ensures { self.new ≡ unstamped (length self.old) }
     {
         self.stamps.fill(None);
     }
 
+    /// Gives tables this stamp.
     fn set(&mut self, tables: &[EntityNo], time: Tick)
         requires { All (λ t. t < length self.old) tables.now }
         ensures { self.new ≡ stamped tables.now time self.old }

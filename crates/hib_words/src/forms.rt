@@ -1,4 +1,4 @@
-// The commands with their options, and the commands of clap that read them.
+// The commands with their options, and the commands of clap that read them. A verb is the first word.
 ghost use Rattle.std.specs.Prelude.{◌≡◌, false, is_some, IfOk};
 ghost use Rattle.clap.specs.Words.{app_of, rule_of};
 ghost use Rattle.hib_words.specs.Clap.{app_for, rule_for};

@@ -1,4 +1,4 @@
-// The options that the words after the first give, by clap.
+// The options that the words after the first give, read by clap.
 ghost use Rattle.std.specs.Prelude.{option_map, ◌≡◌, IfOk, drop, map, string_bytes};
 ghost use Rattle.std.specs.List.{list_all};
 ghost use Rattle.hib_words.specs.Given.{options_in};
@@ -41,8 +41,8 @@ pub struct Found<'a> {
     pub jaeger: bool,
 }
 
-/// Whether clap reads the word as the definition does: it begins with no hyphen, or with two before something more. No
-/// other word has a form after the first.
+/// Whether clap reads a word as our definition does: the word begins with no hyphen, or with two before something more.
+/// A command line with any other word after the first has no form.
 fn is_fit(word: &str) -> bool
     ensures { result ≡ is_fit word.now }
 {
@@ -59,7 +59,7 @@ fn all_fit_after_first(words: &[String]) -> bool
     words.iter().skip(1).all(|word| is_fit(word.as_str()))
 }
 
-/// What clap matches, of which the first word is the verb's own; none if the words have no form.
+/// What clap finds in the words, the first of which is the verb; none if they have no form.
 fn matches_for<'a>(
     alloc: Global,
     verb: Verb,

@@ -1,4 +1,4 @@
-// What `--help` and `--version` print.
+// What `--help` and `--version` print. The texts of commands and options are clap's.
 use crate::forms::{OptionName, Verb};
 use clap::{Arg, ArgAction, Command};
 use std::alloc::{AllocError, Global};
@@ -138,7 +138,7 @@ docs/ORDERS.md tells what an order, a switch and each finding are, docs/DATA.md 
 ";
 
 impl Verb {
-    /// The program's name and its word.
+    /// The name of the program with its command, as the help of a command begins.
     fn full_name<'a>(self) -> &'a str {
         match self {
             Verb::Play => "hib play",
@@ -183,7 +183,7 @@ impl Verb {
 }
 
 impl OptionName {
-    /// This command has no form without it.
+    /// Whether this command has no form without the option.
     fn is_required(self, verb: Verb) -> bool {
         match self {
             OptionName::Workers | OptionName::Seed => true,
@@ -230,7 +230,7 @@ fn lone_word<'a>(alloc: Global, name: &'a str, help: &'a str) -> Arg<'a> {
         .help(help)
 }
 
-/// A program as the help shows it, without its commands.
+/// A program with its options, as the help shows it, yet without its commands.
 fn program<'a>(
     alloc: Global,
     name: &'a str,
@@ -248,7 +248,7 @@ fn program<'a>(
         .arg(version)
 }
 
-/// The program with one command more.
+/// The program with one command more, for the help.
 fn with_command<'a>(
     alloc: Global,
     program: Command<'a>,
@@ -258,7 +258,7 @@ fn with_command<'a>(
     program.subcommand(command.about(verb.about()))
 }
 
-/// What clap says of a command alone.
+/// The help of a command alone, as clap renders it.
 fn section(alloc: Global, verb: Verb) -> Result<String, AllocError> {
     let mut command = shown(alloc, verb, verb.full_name())?;
     command.render_help()
@@ -270,7 +270,7 @@ fn add_section(alloc: Global, text: &mut String, verb: Verb) -> Result<(), Alloc
     text.push_str(section.as_str())
 }
 
-/// What clap says of a program, its commands and their options, and then a text.
+/// The help of a program: what clap says of it, of its commands and their options, and then a text.
 fn help_of<'a>(
     alloc: Global,
     program: Command<'a>,
@@ -296,7 +296,7 @@ pub fn help(alloc: Global) -> Result<String, AllocError> {
     help_of(alloc, program, &VERBS, AFTER_HELP)
 }
 
-/// The same text of the tools. The only error is want of memory.
+/// The text of `--help` of the tools. The only error is want of memory.
 pub fn tools_help(alloc: Global) -> Result<String, AllocError> {
     let program = program(
         alloc,

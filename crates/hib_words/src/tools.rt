@@ -1,4 +1,4 @@
-// What the words ask of the tools.
+// What the words ask of the tools. hib_tools and hib_toolbox read them here.
 ghost use Rattle.std.specs.Prelude.{option_map, ◌≡◌, IfOk, map, string_bytes};
 ghost use Rattle.hib_words.specs.Matched.{chosen_of};
 ghost use Rattle.hib_words.specs.Tools.{file_in, number_if_any, tool_asked, tool_command};
@@ -48,7 +48,7 @@ pub enum Tool {
     Rows,
 }
 
-/// A number that need not be given; none if it is out of its range.
+/// The number that a text is, if the text is there; the outer none if it is out of its range.
 fn number_if_any(text: Option<&str>, low: u32, high: u32) -> Option<Option<u32>>
     ensures { result ≡ number_if_any low high (option_map (λ s. s.now) text.entry) }
 {
@@ -61,6 +61,7 @@ fn number_if_any(text: Option<&str>, low: u32, high: u32) -> Option<Option<u32>>
     }
 }
 
+/// The search of orders that the options ask for; none if a number is out of its range.
 fn orders(found: &Found<'_>) -> Option<Tool>
     ensures { result ≡ tool_asked Verb.Orders (chosen_of found.now) }
 {
@@ -99,6 +100,7 @@ fn rows(found: &Found<'_>) -> Option<Tool>
     }
 }
 
+/// What a command with these options asks of the tools; none if it is one of the program.
 fn tool_from(verb: Verb, found: &Found<'_>) -> Option<Tool>
     ensures { result ≡ tool_asked verb (chosen_of found.now) }
 {
@@ -116,8 +118,8 @@ fn tool_from(verb: Verb, found: &Found<'_>) -> Option<Tool>
     }
 }
 
-/// What these words ask of the tools, without the program's own name before them; none exactly if they have no form.
-/// The only error is want of memory.
+/// What these words ask of the tools, without the program's own name before them; none if and only if they have no
+/// form. The only error is want of memory.
 pub fn read_tool(alloc: Global, words: &[String]) -> Result<Option<Tool>, AllocError>
     ensures { IfOk result (λ r. r ≡ tool_command (map string_bytes words.now)) }
 {
@@ -133,7 +135,7 @@ pub fn read_tool(alloc: Global, words: &[String]) -> Result<Option<Tool>, AllocE
     Ok(tool_from(verb, &found))
 }
 
-/// The path of the file that these words name, if they name one. The only error is want of memory.
+/// The path of the file that these words name, if they name one; hib_tools opens it. The only error is want of memory.
 pub fn file_of_tool<'a>(alloc: Global, words: &'a [String]) -> Result<Option<&'a str>, AllocError>
     ensures { IfOk result (λ r. option_map (λ s. s.now) r
         ≡ file_in (map string_bytes words.entry.now)) }

@@ -1,4 +1,4 @@
-// What the words ask of main itself.
+// What the words ask of main itself, before any call: the help or the version.
 ghost use Rattle.std.specs.Prelude.{◌≡◌, map, string_bytes};
 ghost use Rattle.hib_words.specs.Topics.{topic_of, topic_named};
 

@@ -1,4 +1,4 @@
-// What the words ask for.
+// What the words ask of the program: the command that they are.
 ghost use Rattle.std.specs.Prelude.{option_map, ◌≡◌, IfOk, map, string_bytes};
 ghost use Rattle.std.specs.Char.{is_ascii_digit};
 ghost use Rattle.std.specs.List.{list_all};
@@ -75,7 +75,7 @@ impl Command {
         }
     }
 
-    /// Its steps are told on standard error.
+    /// Whether its steps are told on standard error.
     pub fn is_traced(&self) -> bool
         ensures { result ≡ is_traced (asked_of self.now) }
     {
@@ -102,7 +102,7 @@ impl Options {
     }
 }
 
-/// The text isn't empty and begins with no hyphen.
+/// Whether a text may be an option's value: it isn't empty and begins with no hyphen.
 pub fn is_value(text: &str) -> bool
     ensures { result ≡ is_value text.now }
 {
@@ -110,7 +110,7 @@ pub fn is_value(text: &str) -> bool
     !bytes.is_empty() && bytes[0] != b'-'
 }
 
-/// The text is decimal digits, with no sign and no leading zero.
+/// Whether a text is decimal digits, with no sign and no leading zero.
 fn is_numeral(text: &str) -> bool
     ensures { result ≡ is_numeral text.now }
 {
@@ -127,7 +127,7 @@ fn all_digits(bytes: &[u8]) -> bool
     bytes.iter().all(|byte| byte.is_ascii_digit())
 }
 
-/// The number that the text writes, if it lies from low to high.
+/// The number that a text is, if it lies from low to high.
 pub fn number_between(text: &str, low: u32, high: u32) -> Option<u32>
     ensures { result ≡ number_between low high text.now }
 {
@@ -150,6 +150,7 @@ fn in_range(number: u32, low: u32, high: u32) -> Option<u32>
     }
 }
 
+/// The options of `play` and `work`; none if the path of a file can't be one.
 fn options_from(alloc: Global, found: &Found<'_>) -> Result<Option<Options>, AllocError>
     ensures { IfOk result (λ r. option_map settings_of r ≡ settings_in (chosen_of found.now)) }
 {
@@ -207,6 +208,7 @@ fn play(alloc: Global, found: &Found<'_>) -> Result<Option<Command>, AllocError>
     Ok(Some(Command::Play { options }))
 }
 
+/// The command that a verb with these options is; none if it is a tool's, or if an option is wrong or missing.
 fn command_from(alloc: Global, verb: Verb, found: &Found<'_>) -> Result<Option<Command>, AllocError>
     ensures { IfOk result (λ r. option_map asked_of r ≡ asked verb (chosen_of found.now)) }
 {
@@ -228,8 +230,8 @@ fn command_from(alloc: Global, verb: Verb, found: &Found<'_>) -> Result<Option<C
     }
 }
 
-/// The command that these words are, without the program's own name before them; none exactly if they have no form. The
-/// only error is want of memory.
+/// The command that these words are, without the program's own name before them; none if and only if they have no form.
+/// The only error is want of memory.
 pub fn read(alloc: Global, words: &[String]) -> Result<Option<Command>, AllocError>
     ensures { IfOk result (λ r. option_map asked_of r ≡ command (map string_bytes words.now)) }
 {

@@ -1,4 +1,5 @@
-// The factory behind the lock: whoever takes the lock finds it as it was left, with all that its type keeps.
+// The desk is the factory behind the lock, at which threads take turns. Whoever takes the lock finds it as it was left,
+// with all that its type keeps.
 ghost use Rattle.std.specs.Prelude.{◌≡◌, ◌<◌, ◌^◌, false, length};
 ghost use Rattle.hib_journal.specs.Kept.{past};
 ghost use Rattle.hib_session.specs.Bound.{outside_count};
@@ -12,7 +13,7 @@ use hib_outside::{Keeper, Listener};
 use std::alloc::{AllocError, Global};
 use std::marker::{Brand, Model, PhantomData};
 
-/// What workers were handed. Contracts alone see it.
+/// A type that stands, in contracts alone, for the factory that threads were handed.
 pub trait Handed {
     ghost use Rattle.hib_core.specs.Factory.{FactoryState};
 
@@ -44,7 +45,7 @@ impl<K: Keeper, N: Name, L: Listener, H: Handed> Model for Desk<K, N, L, H> {
     ghost invariant = { λ d. IsWorked N.script N.from H.factory d.factory };
 }
 
-/// How many of these entries are the session's, or 4294967295 if there are more.
+/// How many of these entries are the session's, or 4294967295 if there are more; for `place_of`.
 fn count_of(entries: &[Entry], number: SessionNo) -> u32 {
     let count = entries
         .iter()
@@ -54,7 +55,7 @@ fn count_of(entries: &[Entry], number: SessionNo) -> u32 {
 }
 
 impl<K: Keeper, N: Name, L: Listener, H: Handed> Desk<K, N, L, H> {
-    /// No step was made yet.
+    /// The desk at which no step was made yet.
     pub fn open(factory: Factory<K, N, L>) -> Desk<K, N, L, H>
         requires handed { factory ≡ H.factory }
         requires inside { outside_count (past factory.journal) ≡ 0 }
@@ -77,7 +78,8 @@ impl<K: Keeper, N: Name, L: Listener, H: Handed> Desk<K, N, L, H> {
         self.factory.sessions()
     }
 
-    /// How many entries a session has before its worker's first step, or 4294967295 if there are more.
+    /// How many entries a session had before the threads' first step, or 4294967295 if there are more. The gate is told
+    /// how far a session is, and counts on from this.
     pub fn place_of(&self, number: SessionNo) -> u32 {
         let entries = self.factory.journal().as_slice();
         let before = self.before.min(entries.len());
@@ -94,7 +96,7 @@ impl<K: Keeper, N: Name, L: Listener, H: Handed> Desk<K, N, L, H> {
         self.factory.step(alloc, number)
     }
 
-    /// Runs each session to its end, unless memory has run out.
+    /// Runs each session to its end, unless memory has run out. The caller does it when the threads have ended.
     pub fn finish(&mut self, alloc: Global)
         ensures { self.new.refused ≡ false → AreOver N.script (past self.new.journal) }
     {

@@ -1,4 +1,4 @@
-// Workers: threads that step the sessions of a factory, each a session at a time.
+// Workers step the sessions of a factory, each a session at a time. It is what `work` does.
 ghost use Rattle.std.specs.Prelude.{◌≡◌, ◌≤◌, ◌<◌, ◌^◌, false, length, IfSome};
 ghost use denote.Param.Send.{IsSend};
 ghost use Rattle.hib_journal.specs.Kept.{past};
@@ -53,7 +53,7 @@ pub fn work<R: Threads + Wait + Sync, K: Keeper, N: Name + Send + Sync, L: Liste
     work_from::<Brand, R, K, N, L, G>(rt, alloc, factory, workers, gate)
 }
 
-/// The same, of the factory that was handed in.
+/// The same as `work`, of the factory that was handed in, which `H` stands for in contracts.
 fn work_from<
     H: Handed + Send + Sync,
     R: Threads + Wait + Sync,
@@ -104,7 +104,7 @@ impl<K: Keeper, N: Name, L: Listener, H: Handed> Bench<K, N, L, H> {
     }
 }
 
-/// Puts the factory behind a lock, for as long as the workers take.
+/// Puts the factory behind a lock, has the workers step its sessions, and takes it out again.
 fn on_threads<
     H: Handed + Send + Sync,
     R: Threads + Wait + Sync,
@@ -133,7 +133,7 @@ fn may_be_sent<T: Send>()
     ensures { IsSend T.row }
 {}
 
-/// Has the workers take turns.
+/// Has `workers` threads step the sessions.
 fn take_turns<
     H: Handed + Send + Sync,
     R: Threads + Wait + Sync,
@@ -159,7 +159,7 @@ fn spread<R: Threads + Wait + Sync, F: Fn() + Sync>(rt: &R, workers: u32, work: 
     });
 }
 
-/// A worker: takes sessions until none is left, or memory runs out.
+/// What a worker does: it takes sessions until none is left, or memory runs out.
 fn serve<H: Handed, R: Wait, K: Keeper, N: Name, L: Listener, G: Gate>(
     rt: &R,
     alloc: Global,
@@ -199,7 +199,7 @@ fn run_session<H: Handed, R: Wait, K: Keeper, N: Name, L: Listener, G: Gate>(
     Ok(())
 }
 
-/// What was made of a session.
+/// What a worker has made of a session while it held the lock.
 enum Made {
     /// A number of steps, and more may follow.
     Steps(u32),
@@ -207,7 +207,7 @@ enum Made {
     All,
 }
 
-/// Makes `most` steps of a session, or fewer to its end.
+/// Makes `most` steps of a session, or fewer to its end, under the lock.
 fn make_steps<H: Handed, K: Keeper, N: Name, L: Listener>(
     alloc: Global,
     desk: &mut Desk<K, N, L, H>,
