@@ -257,7 +257,7 @@ fn is_name_of(entity: &EntityDef, token: &Token) -> bool
     entity.name.as_slice() == word_bytes(token)
 }
 
-/// What is wrong with the tokens of a column's type.
+/// What is wrong with the tokens of a column's type. There are one or two of them, as was looked at before.
 fn type_kind(mapping: &[EntityDef], entity: &EntityDef, tokens: &[Token]) -> Option<Kind>
     ensures { result ≡ lines.type_kind mapping.now entity.now tokens.now }
 {

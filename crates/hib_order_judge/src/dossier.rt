@@ -19,7 +19,8 @@ use std::alloc::{AllocError, Global};
 pub struct Dossier<'a> {
     /// The changes that it has written since its last Begin.
     pub written: Vec<&'a Change>,
-    /// The list that its last entry has found, or none.
+    /// The kept result that its last entry has found, or the empty list. If its next entry, a check, says that it is
+    /// fresh, it is judged whether it is old.
     pub found: &'a [Cell],
     /// On what its instances rest.
     pub footings: Footings,
@@ -27,7 +28,7 @@ pub struct Dossier<'a> {
     pub rests: Rests,
 }
 
-/// The list that a reply has found, or none.
+/// The cells of the kept result that a reply to a look has found. Empty if it is another reply.
 fn found_in(reply: &Reply) -> &[Cell]
     ensures { result.now ≡ found_in reply.now }
 {

@@ -76,7 +76,8 @@ pub fn is_marked(marks: &IndexMap<Key, bool>, key: Key) -> bool
     }
 }
 
-/// The act that comes before the first write of a key: a lock, or the removal of its item.
+/// The act that comes before the first write of a key: a lock, or the removal of its item. None if no region has the
+/// entity's keys.
 fn before_first(strategy: Strategy, key: Key, version: Option<u32>, floor: Tick) -> Option<Act>
     ensures { acts_of result ≡ before_cached strategy key version floor }
 {
