@@ -6,7 +6,7 @@ use hib_base::{Change, EntityNo, Key, Mapping, Row, Rows, Seq};
 use hib_outside::{Applied, KeepFault, Keeper, MemKeeper};
 use std::alloc::Global;
 
-/// A keeper in memory that never fails: its calls end otherwise for want of memory alone. It tells its tables.
+/// A keeper in memory that never fails. Its calls have no error but that memory ran out. It tells its tables.
 #[derive(Drop)]
 pub struct SureKeeper {
     keeper: MemKeeper,

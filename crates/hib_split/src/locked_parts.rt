@@ -200,7 +200,7 @@ impl<K: Keeper, N: Name> LockedParts<K, N> {
         Some(SessionNo(number as u32))
     }
 
-    /// Whether memory ran out in a thread.
+    /// Whether memory ran out in a thread. The other threads ask this before each step, and stop.
     pub fn refused(&self) -> bool {
         self.refused.load(Ordering::SeqCst)
     }
