@@ -189,10 +189,10 @@ impl<K: Keeper> BulkParts<K> {
         }
     }
 
-    /// Answers the act that is due in a session, at this tick, by the session itself or by a part. An item that the act
-    /// meets must not be old: the caller sweeps it first. A fault is answered only if the keeper failed in this call. At
-    /// an error the parts are as before, but for the keeper's counts. So they are if the act brings something to the
-    /// session.
+    /// Answers the act that is due in a session, at this tick, by the session itself or by a part. An item that the
+    /// act meets must not be old: the caller sweeps it first. A fault is answered only if the keeper failed in this
+    /// call. At an error the parts are as before, but for the keeper's counts. So they are if the act brings something
+    /// to the session.
     pub fn answer(
         &mut self,
         alloc: Global,
