@@ -1,5 +1,6 @@
 // One turn of a bulk line: its next act is answered by a part, and the entry added. Its acts are at most five: it
-// begins, locks the region, changes the rows, gives the region back, and ends.
+// begins, locks the region, changes the rows, gives the region back, and ends. `laws` and the functions of `wide` tell
+// proofs what engines and regions with lines do; they do nothing.
 ghost use Rattle.std.specs.Prelude.{◌≡◌, ◌≢◌, ◌≤◌, ◌<◌, ◌+◌, ◌^◌, ◌||◌, ℕ, Bool, true, false, slice_get, length};
 ghost use Rattle.std.specs.Prelude.{nat_lt, Ok, None, Some, Option, List, IfOk, OnErr};
 ghost use Rattle.hib_base.specs.Tables.{Tables};
@@ -195,7 +196,8 @@ impl<K: Keeper> BulkParts<K> {
         }
     }
 
-    /// Has a region answer the lock of a line.
+    /// Has a region answer the lock of a line: it does what `lock_all` does, and says that this is the answer that is due.
+    /// The number and the tick are for the contract alone.
     fn lock_line(&mut self, entity: EntityNo, number: SessionNo, now: Tick) -> BulkReply
         requires { held_by (region_of self.old.regions entity) < 2 ^ 62 }
         ensures answered { (script : Said) (lines : List LineSpec)
@@ -212,7 +214,8 @@ impl<K: Keeper> BulkParts<K> {
         self.lock_all(entity)
     }
 
-    /// Has a region answer a line that gives it back.
+    /// Has a region answer a line that gives it back: it does what `unlock_all` does, and says that this is the answer
+    /// that is due. The number is for the contract alone.
     fn unlock_line(&mut self, entity: EntityNo, number: SessionNo, now: Tick) -> BulkReply
         requires { 1 ≤ held_by (region_of self.old.regions entity) }
         ensures answered { (script : Said) (lines : List LineSpec)

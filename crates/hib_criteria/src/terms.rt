@@ -1,5 +1,6 @@
 // The conditions of a query line, token by token. A `step_...` takes one token at its place and answers where the line
-// goes on; none if the token can't stand there. Frames are the open parentheses.
+// goes on; none if the token can't stand there. Frames are the open parentheses: each says what its own still awaits,
+// which is two conditions, one, or its closing.
 ghost use Rattle.hib_criteria.specs.Form as lines;
 ghost use Rattle.std.specs.Prelude.{◌≡◌, ◌∷◌, IfOk};
 

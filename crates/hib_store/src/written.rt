@@ -112,7 +112,8 @@ pub fn last_change<'a>(changes: &'a [Change], key: &Key) -> Option<&'a Change>
     None
 }
 
-/// A copy of the row that a change leaves.
+/// A copy of the row that a change leaves, which a session that has made it reads from then on. None if it deletes
+/// the row.
 pub fn copy_left(alloc: Global, change: &Change) -> Result<Option<Row>, AllocError>
     ensures { IfOk result (λ row. row ≡ row_left change.now) }
 {
