@@ -44,6 +44,7 @@ pub fn put_quoted(out: &mut Vec<u8>, name: &[u8]) -> Result<(), AllocError>
     out.extend_from_slice(b"\"")
 }
 
+/// Adds a word as a value. A word has no byte that a form would have to escape.
 fn put_word(out: &mut Vec<u8>, form: Form, text: &[u8]) -> Result<(), AllocError>
     ensures { OnOk result (out.new.items ≡ out.old.items ++ word_as form text.now) }
 {

@@ -170,8 +170,8 @@ fn may_close(bytes: &[u8]) -> bool
     }
 }
 
-/// The text of these bytes up to its closing mark, and how many bytes that takes with the mark; none if nothing closes
-/// it, or if a backslash stands before another byte than a mark or a backslash.
+/// The text of these bytes, which follow its opening mark, up to its closing one, and how many bytes that takes with the
+/// mark. None if nothing closes it, or if a backslash stands before another byte than a mark or a backslash.
 fn quoted(alloc: Global, bytes: &[u8]) -> Result<Option<(Text, usize)>, AllocError>
     ensures { IfOk result (parts.ReadsQuoted bytes.now) }
 {

@@ -154,7 +154,7 @@ fn compared(
     Ok(Some(ids))
 }
 
-/// The identifiers of the rows whose cell is one of some cells.
+/// The identifiers of the rows whose cell is one of some cells, and perhaps of others.
 fn among(alloc: Global, places: &BTreeSet<Place>, cells: &[Cell]) -> Result<Vec<u64>, AllocError>
     ensures { IfOk result (λ ids. (i : ℕ) (d : CellSpec) → i < 2 ^ 64
         → has_place places.now.keys i d ≡ true
@@ -270,8 +270,9 @@ fn among_at(
     referring(alloc, places, found.as_slice())
 }
 
-/// The identifiers of the rows of an entity that meet a condition, and perhaps of others, in any order. None if the
-/// columns don't narrow the condition.
+/// The identifiers of the rows of an entity that meet a condition, and perhaps of others, in any order, and some perhaps
+/// more than once. None if the columns don't narrow the condition, or if a comparison by order finds more than `most`
+/// rows.
 pub fn candidates(
     alloc: Global,
     columns: &[Column],

@@ -111,7 +111,8 @@ fn checked(query: QueryNo, reply: &Reply) -> Stage
     }
 }
 
-/// The acts that follow the answer to a List.
+/// The acts that follow the answer to a List. The list is kept if the query's results may be used: the query keeps
+/// results, the mode lets the session put, and no change in its transaction is of a table of the query.
 fn listed(
     alloc: Global,
     script: &Script,

@@ -109,7 +109,9 @@ impl Slot {
         }
     }
 
-    /// Whether a row of this version, loaded by a reader that began at this time, may be put here.
+    /// Whether a row of this version, loaded by a reader that began at this time, may be put here. A lock names the
+    /// version that its first holder had read. If it was taken once more, a later row may have come, so then the time
+    /// decides and not the version.
     pub fn writable(&self, time: Tick, version: Option<u32>) -> Verdict
         ensures { (room : Option (Option ℕ))
             → verdict_put result ≡ Regions.put (shown self.now) room time version }
