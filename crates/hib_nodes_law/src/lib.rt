@@ -39,7 +39,8 @@ pub fn steps_are_in_order()
 {}
 
 /// A journal is legal if each entry comes in its turn, and the list of each part and that of each session is legal by
-/// itself.
+/// itself. In its turn is what the lists can't say: its tick is the next one, it is at the node of its session, and one
+/// of no session is due there.
 pub fn apart_is_legal()
     ensures legal { (script : Script) (told : Option Tables) (places : Nodings) (h : Noded)
         → AreInTurn script places h → AreNodesApart script told h
@@ -47,7 +48,7 @@ pub fn apart_is_legal()
 {}
 
 /// Of a legal journal each entry comes in its turn, and the list of each part and that of each session is legal by
-/// itself.
+/// itself. So `apart_is_legal` asks no more than is needed.
 pub fn legal_is_apart()
     ensures turns { (script : Script) (told : Option Tables) (places : Nodings) (h : Noded)
         → AreNodesLegal script told places h → AreInTurn script places h }

@@ -104,7 +104,9 @@ fn is_over(list: &[Statement], place: usize) -> bool
     }
 }
 
-/// The stage in which a query is answered: the results are looked through if it may use them, else the store is asked.
+/// Decides how a query is answered, if that isn't decided yet; any other stage stays. The kept results are asked if the
+/// session may use them: the query keeps results, the mode lets the session read, and it has written no change of a
+/// table of the query. Else the store is asked.
 fn answering(script: &Script, memory: &Memory, mode: Mode, stage: Stage) -> Stage
     ensures decided { (mine : Journal) → Recalls memory.now mine
         → result ≡ decided script.now mode mine stage }
