@@ -1,5 +1,6 @@
 // The line of each fact: a JSON object with the number of an entry, from 1, what is told, and what is so after it (or
-// was before it, if that is why it was refused).
+// was before it, if that is why it was refused). In the line of a cause, `since` is the number of the entry that touched
+// the key, stamped the table or kept a result of the query last; it is none if none has since the restart.
 ghost use Rattle.std.specs.Prelude.{◌≡◌, ◌++◌, ℕ, true, false, None, Some, OnOk, option_copied};
 ghost use Rattle.hib_follow.specs.Shelves.{kept_slot};
 ghost use Rattle.hib_journal.specs.Types.{Script};
@@ -293,7 +294,7 @@ pub fn put_key_cause(
     out.extend_from_slice(b"}\n")
 }
 
-/// Why a kept result was refused.
+/// Why a kept result was refused: the stamp of this table, which isn't before the result's time.
 #[tactic(auto, unfolding(crate::specs::Texts::fact_line))]
 pub fn put_table_cause(
     alloc: Global,
