@@ -35,6 +35,8 @@ pub fn entities(alloc: Global, bytes: &[u8]) -> Result<Vec<EntityNo>, AllocError
     Ok(entities)
 }
 
+/// A column with this default, and of its type; of `int` if there is none. A keeper looks at neither its name nor its
+/// type.
 fn column(alloc: Global, default: Option<Cell>) -> ColumnDef {
     let kind = match &default {
         Some(Cell::Text(_)) => ColumnType::Text,

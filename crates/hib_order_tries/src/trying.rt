@@ -115,8 +115,8 @@ impl Searching {
     }
 }
 
-/// Tries the orders within a number of switches and a number of kills, those with the fewest switches first, each once,
-/// and `limit` of them at most. All are tried unless there are more than that, or 2^64 - 1 runs were played. What is
+/// Tries the orders within `most` switches and `most_kills` kills, those with the fewest switches first, each once, and
+/// `limit` of them at most. All are tried unless there are more than that, or 2^64 - 1 runs were played. What is
 /// kept grows with the script and with the endings that are told, and not with the orders. An error is want of memory,
 /// and then nothing is told.
 pub fn search<P: Player>(
