@@ -321,7 +321,8 @@ pub fn released_in(reply: &Reply) -> Option<u64>
     }
 }
 
-/// When the item was stored that is too young.
+/// When the item was stored that a get misses, if it is too young for the session: if it wasn't stored before the
+/// session began.
 pub fn stored_in(reply: &Reply) -> Option<u64>
     ensures { result ≡ parts.stored_in reply.now }
 {

@@ -72,7 +72,7 @@ fn widen_entity<T: RowTable>(
     widen_rows(table, alloc, columns, rows.as_slice())
 }
 
-/// Does so with each row of an entity of this mapping.
+/// Gives each row of an entity of this mapping the defaults of the columns that it lacks, if each of these has one.
 pub fn widen<T: RowTable>(table: &mut T, alloc: Global, mapping: &[EntityDef]) -> Result<(), Error>
     requires few { length mapping.now ≤ 2 ^ 16 }
     requires inside { IfSome (T.told table.old) (λ t. t.in_transaction ≡ true) }

@@ -160,7 +160,7 @@ impl Findings {
             .note(alloc, verdicts.unsound_key, order, total)
     }
 
-    /// Takes one more order, which makes `total` switches.
+    /// Takes one more order, which makes `total` switches. At an error a part of it may be noted.
     pub fn note(&mut self, alloc: Global, run: Played, total: usize) -> Result<(), AllocError>
         requires room { self.old.tried < 2 ^ 64 - 1 }
         requires counts { AreCounted self.old }
