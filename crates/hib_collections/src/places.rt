@@ -33,7 +33,7 @@ impl OwnerPlace {
         EntityNo(self.collection)
     }
 
-    /// The owner as a key: its collection is taken for an entity, by its place.
+    /// The owner as a key, for the regions of collections alone: its collection is taken for an entity, by its place.
     pub fn key(self) -> Key
         ensures { result ≡ key self.0 self.1 }
     {

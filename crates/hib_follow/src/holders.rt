@@ -61,7 +61,7 @@ fn leave(sessions: &mut Vec<SessionNo>, session: SessionNo)
     }
 }
 
-/// A session takes the lock of a key.
+/// A session takes the lock of a key. At an error its holders are lost.
 fn note_lock(
     alloc: Global,
     lines: &mut Lines,

@@ -1,5 +1,5 @@
 // What an entry has changed, by what is known after it (`Known` of hib_follow): each thing that it may have changed is
-// a function of its own, which adds no line if another act came.
+// a function of its own, which adds no line if another act came. `number` is the entry's, from 1; each line has it.
 ghost use Rattle.std.specs.Prelude.{◌≡◌, ◌++◌, true, None, OnOk, flat_map, map, option_and_then, option_to_list};
 ghost use Rattle.std.specs.Borrow.{Bor};
 ghost use Rattle.hib_base.specs.Tables.{key_of, row_left};
@@ -130,6 +130,7 @@ fn put_touched(
 
 // ---- tables
 
+/// The stamp of a table, or that it has none.
 fn put_stamp(
     alloc: Global,
     out: &mut Vec<u8>,
