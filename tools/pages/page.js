@@ -103,6 +103,7 @@ function start(runs, names) {
     picture.style.cssText = `height:${layout.height + 8}px;width:${pixels(layout.width)}px`;
     picture.innerHTML = drawPicture();
     element('top').innerHTML = drawTop();
+    element('account').innerHTML = run.told ? TOLD_ACCOUNT : UNPROVED_ACCOUNT;
     showPanel();
   }
 
@@ -278,8 +279,8 @@ if (typeof document !== 'undefined') {
   try {
     const meanings = readMeanings(textOf('meanings'));
     const runOf = (script, n) => {
-      const run = analyse(script, readJournal(textOf(`report${n}`), script));
-      return { ...run, meanings, told: readTold(textOf(`states${n}`), run.entries) };
+      const journal = readJournal(textOf(`report${n}`), script), states = textOf(`states${n}`);
+      return { ...analyse(script, journal, readTold(states, journal.entries)), verdict: readVerdict(states), meanings };
     };
     const runs = scripts.map(({ textContent }, n) => runOf(readScript(textContent), n));
     start(runs, scripts.map(script => script.dataset.name));

@@ -95,21 +95,16 @@ function drawTable({ head, rows }, before, isFirst) {
   return `<h2>${escaped(head)}</h2><table aria-label="${escaped(head)}">${drawn.join('')}${gone.join('')}</table>${more}`;
 }
 
-// The state after an entry, worked out from the one that was shown last if that is before it.
+// The state after an entry, from the one that was shown last if that is before it.
 function walkTo(run, at) {
-  if (!run.walk || run.walk.at > at) run.walk = { state: startState(run.script), at: NEVER };
-  while (run.walk.at < at) step(run.script, run.walk.state, run.entries[++run.walk.at], run.walk.at);
+  if (!run.walk || run.walk.at > at) run.walk = { state: atStart(run), at: NEVER };
+  while (run.walk.at < at) goOn(run, run.walk.state, ++run.walk.at);
   return run.walk.state;
 }
 
-// The tables of the state after an entry: as they are told, or else as this page works them out.
-function tablesAfter(run, place, at, shown) {
-  return run.told ? toldTables(run, toldAt(run, place), at, shown) : tablesOf(run, walkTo(run, place), at, shown);
-}
-
 function drawState(run, at, shown) {
-  const before = tablesAfter(run, at - 1, at, shown);
-  return tablesAfter(run, at, at, shown).map((table, n) => drawTable(table, before[n], at === NEVER)).join('');
+  const before = tablesOf(run, walkTo(run, at - 1), at, shown);
+  return tablesOf(run, walkTo(run, at), at, shown).map((table, n) => drawTable(table, before[n], at === NEVER)).join('');
 }
 
 // ---- the panel ----
@@ -131,13 +126,18 @@ function drawEntry(run, at) {
   const parts = [`<p class="line mono">${escaped(lineOf(entry))}</p>`];
   if (run.said[at]) parts.push(`<p>${sentence(run, run.said[at])}</p>`);
   if (story) parts.push(`<p>${sentence(run, story.why)}</p>`);
-  if (run.told) for (const cause of toldCauses(run, at)) parts.push(`<p>The cause, by the definitions: ${cause}.</p>`);
   if (odd) parts.push(`<p class="bad">By the entries before, ${whyOdd(odd)}.</p>`);
   return parts.join('') + drawMeanings(run, entry);
 }
 
 const TOLD_NOTE = 'as <code>hib_tools states</code> tells it, by the definitions of the journal, which is proved.';
 const UNPROVED_NOTE = 'as this page works it out: an unproved account.';
+
+// The same for the whole page.
+const TOLD_ACCOUNT = 'Which rows are stale, why an entry was refused, and since when, is drawn from the states that <code>hib_tools states</code> ' +
+  'tells by the definitions of the journal, which is proved. What a query gives is worked out in this page, and the words are its own.';
+const UNPROVED_ACCOUNT = "This is an unproved account: how a read came about is worked out in this page; tests compare its rules with the program. " +
+  '<code>hib audit</code> says by proved rules whether a journal is legal.';
 
 function drawPanel(run, at, shown) {
   const what = at === NEVER ? '<p><b>Before the first entry.</b> Pick an entry, or step with the arrow keys, to see what it means and the state after it.</p>' :
@@ -167,6 +167,10 @@ function badges(run) {
 // What is wrong with the journal, before anything is believed of it.
 function drawWarnings(run) {
   const out = [], warn = text => out.push(`<p class="note bad">${text}</p>`), open = run.transactions.filter(({ to }) => to === null);
+  if (run.verdict && run.entries[run.verdict.at]) {
+    warn(`The journal isn't legal: the first entry that isn't is at tick ${linkTo(run, run.verdict.at)}, by its ${run.verdict.rule}. ` +
+      'So says <code>hib_tools states</code>, by proved rules.');
+  }
   if (run.journal.cut) warn(`The journal is cut short: ${sentence(run, run.journal.cut)}.`);
   if (run.odd.length) {
     warn(`${count(run.odd.length, "entry doesn't", "entries don't")} follow from those before, the first at tick ${linkTo(run, run.odd[0].at)}. ` +

@@ -132,7 +132,7 @@ function checkReport(file) {
   const misread = journal.entries.find((entry, at) => page.lineOf(entry) !== lines[at + 1]);
   if (journal.cut) fail(file, `is cut short: ${journal.cut}`);
   if (isReport && misread) fail(file, `a line is read as ${page.lineOf(misread)}`);
-  const end = checkEntries(file, script, journal), run = page.analyse(script, journal), unsound = [...end.nodes[0].unsound.keys()].sort().join();
+  const end = checkEntries(file, script, journal), run = page.analyse(script, journal, null), unsound = [...end.nodes[0].unsound.keys()].sort().join();
   run.meanings = meanings;
   for (const { number, queue } of end.nodes) if (queue.length) fail(file, `${queue.length} changes wait for ${page.nodeName(number)} at the end`);
   if (journal.unsound && unsound !== journal.unsound.slice().sort().join()) fail(file, `unsound by the rules: ${unsound}; by the report: ${journal.unsound}`);
