@@ -83,14 +83,19 @@ function tablesOf(run, state, at, shown) {
   ];
 }
 
+// A row of a table; a mark, as `changed`, is read out before it.
+function drawRowOf(name, html, mark) {
+  const front = mark ? `<span>${mark}: </span>` : '';
+  return `<tr${mark ? ' class="new"' : ''}><th scope="row">${front}${escaped(name)}</th><td>${html}</td></tr>`;
+}
+
 // A table with what has changed since the entry before marked and on top.
 function drawTable({ head, rows }, before, isFirst) {
   const now = new Map(rows), old = new Map(before.rows), lost = [...old].filter(([name]) => !now.has(name));
   if (!now.size && !lost.length) return '';
   const isNew = name => !isFirst && old.get(name) !== now.get(name), order = rows.slice().sort(([one], [other]) => isNew(other) - isNew(one));
-  const drawRow = (name, html, isMarked) => `<tr${isMarked ? ' class="new"' : ''}><th scope="row">${escaped(name)}</th><td>${html}</td></tr>`;
-  const drawn = order.slice(0, SHOWN).map(([name, html]) => drawRow(name, html, isNew(name)));
-  const gone = lost.map(([name, html]) => drawRow(name, `<del>${html}</del>`, true));
+  const drawn = order.slice(0, SHOWN).map(([name, html]) => drawRowOf(name, html, isNew(name) ? 'changed' : ''));
+  const gone = lost.map(([name, html]) => drawRowOf(name, `<del>${html}</del>`, 'gone'));
   const more = order.length > SHOWN ? `<p>${order.length - SHOWN} more</p>` : '';
   return `<h2>${escaped(head)}</h2><table aria-label="${escaped(head)}">${drawn.join('')}${gone.join('')}</table>${more}`;
 }
