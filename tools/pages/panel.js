@@ -121,7 +121,8 @@ function drawMeanings(run, entry) {
   return drawn.length ? `<dl aria-label="what docs/JOURNAL.md says">${drawn.join('')}</dl>` : '';
 }
 
-function whyOdd({ due, isReply }) {
+function whyOdd({ due, isOnTime, isReply }) {
+  if (!isOnTime) return "the tick can't come here: it is to be above those of its part and of its session";
   if (isReply) return "this can't be an act of the session: it says another time, floor, lock, row, list or version than the session's";
   return due === null ? "this can't come here" : `the reply was to be ${codeHtml(due)}`;
 }

@@ -267,7 +267,7 @@ function touch(run, state, entry, at) {
 function goOn({ script, entries, told }, state, at) {
   if (!told) return step(script, state, entries[at], at);
   takeTold(script, state, entries[at], at, told[at]);
-  return { due: null, isReply: true, follows: true };
+  return { due: null, isOnTime: true, isReply: true, follows: true };
 }
 
 const atStart = ({ script, told }) => told ? toldAtStart(script) : startState(script);
@@ -297,8 +297,8 @@ function analyse(script, journal, told) {
     const changed = keysChangedBy(run, state, entry);
     run.marks.push(judge(run, contextOf(script, state, entry, at)));
     run.said.push(explain(script, state, entry, at));
-    const { due, isReply, follows } = goOn(run, state, at);
-    if (!follows) run.odd.push({ at, due, isReply });
+    const { due, isOnTime, isReply, follows } = goOn(run, state, at);
+    if (!follows) run.odd.push({ at, due, isOnTime, isReply });
     noteTransaction(run, entry, at);
     noteLock(run, entry, at);
     for (const key of [...noteUnsound(run, state, at), ...noteCommit(run, state, entry, at)]) changed.add(key);

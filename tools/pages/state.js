@@ -1,6 +1,6 @@
 'use strict';
 // The state of a run between two entries, and what stands around an entry in it. It goes on by what is told of an entry (told.js), or by the
-// rules of this page (steps.js).
+// rules of this page (steps.js), which also know the last ticks.
 //
 // A state has the committed rows by key, the stamps of tables, the kept results from the one that was used least recently on, the sessions,
 // and when a key was deleted. Each node has of its own each region with its slots by key, and what explains a later reply: why a key isn't
@@ -16,7 +16,7 @@ function nodeAtStart(script, number) {
 function startState(script) {
   const state = {
     committed: new Map(), stamps: new Map(), kept: new Map(), sessions: new Map(), deleted: new Map(), restarted: NEVER,
-    collections: script.collections, members: new Map(), reused: new Map(),
+    collections: script.collections, members: new Map(), reused: new Map(), ticks: new Map(),
     nodes: nodesOf(script).map(number => nodeAtStart(script, number)),
   };
   for (const [key, row] of script.rows) {

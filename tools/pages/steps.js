@@ -81,13 +81,22 @@ function isOwnAct(context) {
   return entry.node === nodeOfSession(script, session.name) && session.open === (entry.verb !== 'begin') && (!says || Boolean(says(context)));
 }
 
-// Takes one entry, and answers whether its act and its reply follow from the state; `due` is the reply that was.
+// Whether a tick can come here: none is below the one before, and each is above all those of its part and of its session before.
+function isTimely({ ticks }, { tick, node, session, part, entity }) {
+  const own = part === 'own' ? [] : [`${node} ${part} ${part === 'region' ? entity : ''}`], lanes = session === null ? own : [...own, session];
+  const isRight = tick > 0 && tick >= (ticks.get('') || 0) && lanes.every(lane => tick > (ticks.get(lane) || 0));
+  for (const lane of ['', ...lanes]) ticks.set(lane, tick);
+  return isRight;
+}
+
+// Takes one entry, and answers whether its tick, its act and its reply follow from the state; `due` is the reply that was.
 function step(script, state, entry, at) {
-  const context = contextOf(script, state, entry, at), isAct = isOwnAct(context), due = dueReply(context), isReply = due === entry.reply || isFault(entry);
+  const context = contextOf(script, state, entry, at), isOnTime = isTimely(state, entry), isAct = isOwnAct(context), due = dueReply(context);
+  const isReply = due === entry.reply || isFault(entry);
   if (!isReply) believe(context);
   rememberRow(context);
   rememberLock(context);
   rememberSources(context);
   noteExpired(context);
-  return { due, isAct, isReply, follows: isAct && isReply };
+  return { due, isOnTime, isAct, isReply, follows: isOnTime && isAct && isReply };
 }

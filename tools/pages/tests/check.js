@@ -2,7 +2,7 @@
 //
 //   node tools/pages/tests/check.js [--kinds] FOLDER ..        each FOLDER has scripts NAME.hib, each with NAME.report
 //
-// Of each entry: its act and its reply follow by the rules from the entries before; it has a sentence, which names as many holders as the
+// Of each entry: its tick, its act and its reply follow by the rules from the entries before; it has a sentence, which names as many holders as the
 // reply counts; and docs/JOURNAL.md has a row for its act and its reply. Of each run: the unsound keys are those that the report names;
 // the states by step and from the start are the same; nothing waits for a node at the end; the committed members of an owner are those that
 // the store lists; each stale read has a story with its load, put, commit and hit, which says what is old; as many hits and lists are stale as tools/stale names,
@@ -64,7 +64,8 @@ function checkEntries(file, script, journal) {
     kinds.set(kindOf(entry), (kinds.get(kindOf(entry)) || 0) + 1);
     if (entry.part === 'store' && entry.reply === 'fault') totals.faults++;
     checkEntry(file, script, state, entry, at);
-    const { due, isAct, isReply } = page.step(script, state, entry, at);
+    const { due, isOnTime, isAct, isReply } = page.step(script, state, entry, at);
+    if (!isOnTime) fail(file, `${page.lineOf(entry)}   by the rules the tick can't come here`);
     if (!isReply) fail(file, `${page.lineOf(entry)}   by the rules the reply is: ${due}`);
     if (!isAct) fail(file, `${page.lineOf(entry)}   by the rules this is no act of the session`);
   });

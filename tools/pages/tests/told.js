@@ -38,7 +38,7 @@ function same(file, what, own, told) {
 
 // ---- states ----
 
-const FORGOTTEN = ['members', 'reused', 'collections', 'holding']; // what there is of one kind of state alone, or of sections
+const FORGOTTEN = ['members', 'reused', 'collections', 'ticks', 'holding']; // what there is of one kind of state alone, or of sections
 
 function wholeOf(state) {
   return Object.fromEntries(Object.entries(state).filter(([part]) => !FORGOTTEN.includes(part)));
