@@ -211,7 +211,7 @@ const REGION = {
     }
     if (entity.strategy !== 'read-write') return 'present ' + slot.row.version;
     const verdict = verdictOn(slot, numberBehind(entry, 'at'), item.row.version);
-    if (verdict.startsWith('stored')) region.set(entry.key, { ...item, over: slot });
+    if (verdict.startsWith('stored')) region.set(entry.key, putOver(item, slot));
     return verdict;
   },
   lock(context) {

@@ -117,6 +117,9 @@ const isGuarded = (script, key) => script.entities.get(entityOf(key)).strategy =
 const itemOf = ({ entry, at }, row, loadedAt) => ({ kind: 'item', row, tick: entry.tick, at, by: entry.session, how: entry.verb, loadedAt, over: null });
 const lockOf = ({ entry, at }, version, until) => ({ kind: 'lock', id: entry.tick, version, until, holders: [], shared: false, at, release: null });
 
+// An item over what was there before it, of which only that much is kept.
+const putOver = (item, slot) => ({ ...item, over: slot ? { ...slot, over: null } : null });
+
 const isHeld = slot => slot.kind === 'lock' && slot.holders.length > 0;
 const tickOfSlot = slot => slot.kind === 'item' ? slot.tick : slot.release.tick;
 

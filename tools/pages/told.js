@@ -44,7 +44,7 @@ const holdersOfLock = ({ holding }, key, id) => (holding.get(key) || []).filter(
 
 function toldItem(context, fact, before) {
   const isPut = context.entry.verb === 'put', item = itemOf(context, fact.row, isPut ? loadBehind(context) : NEVER);
-  return { ...item, tick: Number(fact.stored), over: (isPut && before) || null };
+  return putOver({ ...item, tick: Number(fact.stored) }, isPut ? before : null);
 }
 
 // How a lock that nobody holds came to be so.

@@ -22,9 +22,8 @@ function fail(file, text) {
   if (wrong <= 20) console.log(`${file}: ${text.replace(/[\u0001\u0002]/g, '#')}`);
 }
 
-// A value as a text. Of what an item was stored over only that is looked at, and not what was there before.
-const isPlain = value => value instanceof Map || value instanceof Set;
-const textOf = value => JSON.stringify(value, (name, part) => isPlain(part) ? [...part] : name === 'over' && part ? { ...part, over: null } : part);
+// A value as a text.
+const textOf = value => JSON.stringify(value, (name, part) => part instanceof Map || part instanceof Set ? [...part] : part);
 
 // Says where two runs differ.
 function same(file, what, own, told) {
