@@ -10,7 +10,7 @@ function start(runs, names) {
   let run = runs[0];
   const element = id => document.getElementById(id), main = element('main'), picture = element('picture');
   const shown = {
-    pick: NEVER, story: null, only: null, areAllTold: false, filter: [], from: 0, isPrinting: false, // what is asked for
+    pick: NEVER, story: null, only: null, areAllTold: false, filter: [], from: 0, isPrinting: false, wasLegendOpen: true, // what is asked for
     all: [], visible: [], names: [], layout: null, // what is drawn for it
   };
 
@@ -215,6 +215,15 @@ function start(runs, names) {
     draw();
   }
 
+  // On paper the legend is open.
+  function print(isPrinting) {
+    const legend = element('legend');
+    if (isPrinting) shown.wasLegendOpen = legend.open;
+    shown.isPrinting = isPrinting;
+    legend.open = isPrinting || shown.wasLegendOpen;
+    draw();
+  }
+
   // ---- clicks and keys ----
 
   const CLICKS = {
@@ -263,8 +272,8 @@ function start(runs, names) {
     KEYS[event.key]();
   });
   addEventListener('resize', draw);
-  addEventListener('beforeprint', () => { shown.isPrinting = true; draw(); });
-  addEventListener('afterprint', () => { shown.isPrinting = false; draw(); });
+  addEventListener('beforeprint', () => print(true));
+  addEventListener('afterprint', () => print(false));
 
   widthOfText = measuring();
   if (innerWidth <= NARROW) element('legend').open = false;
