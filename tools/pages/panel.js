@@ -146,8 +146,10 @@ const UNPROVED_ACCOUNT = "This is an unproved account: how a read came about is 
   '<code>hib audit</code> says by proved rules whether a journal is legal.';
 
 function drawPanel(run, at, shown) {
-  const what = at === NEVER ? '<p><b>Before the first entry.</b> Pick an entry, or step with the arrow keys, to see what it means and the state after it.</p>' :
-    `${drawEntry(run, at)}<p class="note">The state after this entry, ${run.told ? TOLD_NOTE : UNPROVED_NOTE} What the entry changed is marked.</p>`;
+  const note = run.told ? TOLD_NOTE : UNPROVED_NOTE;
+  const front = '<p><b>Before the first entry.</b> Pick an entry, or step with the arrow keys, to see what it means and the state after it.</p>';
+  const what = at === NEVER ? `${front}<p class="note">Each state here is ${note}</p>` :
+    `${drawEntry(run, at)}<p class="note">The state after this entry, ${note} What the entry changed is marked.</p>`;
   return what + drawState(run, at, shown);
 }
 
